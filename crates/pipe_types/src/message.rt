@@ -41,6 +41,14 @@ pub enum BatchEnd {
     Crashed,
 }
 
+/// What a handler answers to a batch: an outcome for each message and the text to be written, or one reason for all.
+#[derive(Clone, Drop, Debug)]
+pub enum BatchReply {
+    Answered(OutcomeList, Bytes),
+    Raised(Reason),
+    Crashed,
+}
+
 /// Why a batch was closed.
 #[derive(Clone, Copy, PartialEq, Eq, Debug)]
 pub enum Trigger {
