@@ -1,0 +1,14 @@
+pub mod History
+pub mod Posts
+pub mod Lives
+pub mod Content
+pub mod Batches
+pub mod Flow
+pub mod Ledger
+pub mod Work
+pub mod Legal
+pub mod Moves
+pub mod Acknowledgements
+pub mod Outside
+pub mod Begins
+pub mod Claims
