@@ -6,3 +6,4 @@ pub mod Dispatchers
 pub mod Restarts
 pub mod Children
 pub mod Handlers
+pub mod Sound
