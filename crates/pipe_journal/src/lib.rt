@@ -8,3 +8,6 @@
 pub mod journal;
 
 pub use journal::Journal;
+
+#[cfg(test)]
+mod tests;
