@@ -12,3 +12,4 @@ pub mod Acknowledgements
 pub mod Outside
 pub mod Begins
 pub mod Claims
+pub mod Places
