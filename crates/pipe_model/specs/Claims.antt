@@ -1,6 +1,6 @@
 -- What holds of every legal journal of a sound topology.
-use Rattle.std.specs.Prelude.{◌≡◌, ℕ, ◌≤◌, ◌++◌, Bool, true, false, List, IsTrue, IsSome, ◌↔◌, ◌||◌, ◌&&◌, count_by, Option, Some, None, slice_get}
-use Rattle.std.specs.List.{list_any}
+use Rattle.std.specs.Prelude.{◌≡◌, ℕ, ◌≤◌, ◌++◌, Bool, true, false, List, IsTrue, IsSome, ◌↔◌, if◌then◌else◌, ◌||◌, ◌&&◌, count_by, Option, Some, None, slice_get}
+use Rattle.std.specs.List.{list_any, flat_map}
 use Rattle.pipe_types.specs.declared.numbers.StageNo.{StageNo}
 use Rattle.pipe_types.specs.declared.numbers.SubNo.{SubNo}
 use Rattle.pipe_types.specs.declared.topology.Topology.{Topology}
@@ -72,12 +72,16 @@ StaysSettled topology later before n =
 
 -- Acknowledged once
 
--- how many entries of the producer have the number on that side
-abbrev pub times_on : (side : Acknowledgement → List ℕ) → List Acknowledgement → StageNo → ℕ → ℕ
-times_on side entries p n = count_by (λ a. same_stage a.producer p && among (side a) n) entries
+abbrev pub side_of : (side : Acknowledgement → List ℕ) → StageNo → Acknowledgement → List ℕ
+side_of side p a = if same_stage a.producer p then side a else []
 
+-- how often the number stands on that side of the producer's entries
+abbrev pub times_on : (side : Acknowledgement → List ℕ) → List Acknowledgement → StageNo → ℕ → ℕ
+times_on side entries p n = count_by (λ m. m == n) (flat_map (side_of side p) entries)
+
+-- how often the number stands in the entries, on either side
 abbrev pub times_in_all : List Acknowledgement → ℕ → ℕ
-times_in_all entries n = count_by (λ a. among a.successful n || among a.failed n) entries
+times_in_all entries n = count_by (λ m. m == n) (flat_map (λ a. a.successful ++ a.failed) entries)
 
 -- an acknowledged message stands once under its producer, on the side of its outcome, and no other message stands there
 pub record IsAcknowledgedOnce (topology : Topology) (before : History) (n : ℕ) : Type 0 where
