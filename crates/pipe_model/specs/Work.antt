@@ -1,5 +1,5 @@
 -- What a stage works on, and what its handlers answer to that.
-use Rattle.std.specs.Prelude.{ℕ, ◌+◌, Bool, true, false, if◌then◌else◌, List, [], ◌∷◌, ◌++◌, length, take, map, nat_lt, ◌==◌, ◌&&◌, ◌||◌, not, Option, Some, None, codes}
+use Rattle.std.specs.Prelude.{ℕ, ◌+◌, Bool, true, false, if◌then◌else◌, List, [], ◌∷◌, ◌++◌, length, take, map, nat_lt, ◌==◌, ◌&&◌, ◌||◌, not, Option, Some, None, codes, is_some}
 use Rattle.std.specs.List.{list_any, filter_map}
 use Rattle.std.specs.Str.{bytes_eq}
 use Rattle.pipe_types.specs.declared.numbers.StageNo.{StageNo}
@@ -108,13 +108,13 @@ same_end _ _ = false
 
 -- Chunks
 
+abbrev pub are_replies_by : Kind → StageSpec → (count : ℕ) → List Message → List Reply → Bool
+are_replies_by Own spec count messages replies = are_own_replies spec.batchers messages replies
+are_replies_by _ spec count messages replies = same_replies replies (chunk_replies spec count messages)
+
 -- the replies are the handlers': the built-in one's, or of the form that an own handler keeps
 abbrev pub are_replies_of : StageSpec → (count : ℕ) → List Message → List Reply → Bool
-are_replies_of spec count messages replies = by_kind spec.kind
-  where
-    by_kind : Kind → Bool
-    by_kind Own = are_own_replies spec.batchers messages replies
-    by_kind _ = same_replies replies (chunk_replies spec count messages)
+are_replies_of spec count messages replies = are_replies_by spec.kind spec count messages replies
 
 abbrev pub are_handled : Option StageSpec → (count : ℕ) → List Message → List Reply → Bool
 are_handled None count messages replies = false
@@ -171,22 +171,16 @@ before_sink (Outcomes outcomes) = Outcomes (map undo outcomes)
     undo : Outcome → Outcome
     undo o = if is_failed_by_sink o then Successful else o
 
+abbrev pub is_end_by : Kind → (has_sink : Bool) → StageSpec → (count : ℕ) → List Message → (bytes : ℕ) → BatchEnd → Bool
+is_end_by Own has_sink spec count messages bytes end =
+    (is_own_end messages end && is_write_end has_sink end (own_text messages end) bytes end)
+    || (is_own_end messages (before_sink end) && is_write_end has_sink (before_sink end) (own_text messages (before_sink end)) bytes end)
+is_end_by _ has_sink spec count messages bytes end =
+    is_write_end has_sink (batch_end spec count messages) (batch_text spec count messages) bytes end
+
 -- the end and the bytes are the handler's and the sink's
 abbrev pub is_end_of : StageSpec → (count : ℕ) → List Message → (bytes : ℕ) → BatchEnd → Bool
-is_end_of spec count messages bytes end = by_kind spec.kind
-  where
-    has_sink : Bool
-    has_sink = has_some spec.edge
-      where
-        has_some : Option (List ℕ) → Bool
-        has_some None = false
-        has_some (Some name) = true
-
-    by_kind : Kind → Bool
-    by_kind Own =
-        (is_own_end messages end && is_write_end has_sink end (own_text messages end) bytes end)
-        || (is_own_end messages (before_sink end) && is_write_end has_sink (before_sink end) (own_text messages (before_sink end)) bytes end)
-    by_kind _ = is_write_end has_sink (batch_end spec count messages) (batch_text spec count messages) bytes end
+is_end_of spec count messages bytes end = is_end_by spec.kind (is_some spec.edge) spec count messages bytes end
 
 abbrev pub is_batch_handled : Option StageSpec → (count : ℕ) → List Message → (bytes : ℕ) → BatchEnd → Bool
 is_batch_handled None count messages bytes end = false
