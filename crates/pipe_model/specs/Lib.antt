@@ -7,6 +7,7 @@ pub mod Flow
 pub mod Ledger
 pub mod Work
 pub mod Legal
+pub mod Jobs
 pub mod Moves
 pub mod Acknowledgements
 pub mod Outside
