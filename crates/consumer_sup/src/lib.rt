@@ -67,8 +67,8 @@ impl Children {
         })
     }
 
-    #[tactic(auto, using(crate::proofs::FreeSlots::full_without_free, crate::proofs::FreeSlots::free_below))]
     /// Starts a child for this message in a free slot, which is the answer.
+    #[tactic(auto, using(crate::proofs::FreeSlots::full_without_free, crate::proofs::FreeSlots::free_below))]
     pub fn start(&mut self, no: MsgNo) -> Result<u16, StartFault>
         ensures free { IfOk result (λ slot. (slot < length self.old.slots) × (child_in self.old.slots slot ≡ None)) }
         ensures started { IfOk result (λ slot. self.new ≡ record self.old {

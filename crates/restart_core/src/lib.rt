@@ -45,8 +45,8 @@ impl Restarts {
         })
     }
 
-    #[tactic(auto, using(crate::proofs::LastRestarts::may_with_room))]
     /// Whether a restart may be made now: fewer than `max` restarts count whose window has not passed.
+    #[tactic(auto, using(crate::proofs::LastRestarts::may_with_room))]
     pub fn may(&self, now: u64) -> bool
         ensures { (made : List ℕ) → Remembers self.now made →
             result ≡ may_restart_at self.now.max self.now.window now made }
