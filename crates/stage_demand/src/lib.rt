@@ -26,8 +26,7 @@ pub struct Demand {
 }
 
 impl Demand {
-    ghost use Rattle.pipe_types.specs.Demand.{due_ask};
-    ghost use Rattle.stage_demand.specs.Demand.{counts_of};
+    ghost use Rattle.stage_demand.specs.Demand.{counts_of, due_of};
 
     /// A subscription on which nothing was asked for yet.
     pub fn new(min: u32, max: u32) -> Self
@@ -46,8 +45,7 @@ impl Demand {
 
     /// The size of the ask that is due, in units, or 0 where none is.
     pub fn due(&self) -> u32
-        ensures { let counts = counts_of self.now in
-            result ≡ due_ask counts.min counts.max counts.asked counts.handled }
+        ensures { result ≡ due_of (counts_of self.now) }
     {
         let pending = (self.asked - self.handled) as u32;
         if pending <= self.min {
