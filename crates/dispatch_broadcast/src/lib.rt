@@ -9,8 +9,8 @@ ghost use Rattle.pipe_types.specs.Dispatchers.{on_each, sends_by_place};
 ghost use Rattle.pipe_types.specs.Rooms.{AreAscending};
 ghost use Rattle.dispatch_broadcast.specs.Least.{least_left};
 
-use pipe_types::topology::Dispatch;
 use pipe_types::room::{Room, Sent, SentList};
+use pipe_types::topology::Dispatch;
 use std::alloc::{AllocError, Global};
 
 /// Sends every unit to every subscription.
@@ -66,3 +66,6 @@ fn send_to_each(sent: &mut Vec<Sent>, unit: u32, room: &[Room]) -> Result<(), Al
     }
     Ok(())
 }
+
+#[cfg(test)]
+mod tests;

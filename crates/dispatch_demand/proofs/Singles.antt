@@ -21,7 +21,7 @@ module _ {X : Type 0} where
   sum_of_front f g (x ∷ xs) (suc k) e front back =
       let here : f x ≡ g x = front 0 (omega arith) (omega arith) in
       let rest : sum_by f xs ≡ sum_by g (take k xs) =
-          sum_of_front f g xs k e (λ i within below. front (suc i) (omega arith) (omega arith)) (λ i within past. back (suc i) (omega arith) (omega arith)) in
+      sum_of_front f g xs k e (λ i within below. front (suc i) (omega arith) (omega arith)) (λ i within past. back (suc i) (omega arith) (omega arith)) in
       rw (sum_by-cons f x xs, sum_by-cons g x (take k xs)) (omega arith)
 
   count_none : (test : X → Bool) (xs : List X) (e : X) → ((i : ℕ) → i < length xs → test (get_or xs i e) ≡ false) → count_by test xs ≡ 0
