@@ -1,5 +1,5 @@
 -- What the demand rule sends of one unit, and of the units that one room takes.
-use Rattle.std.proofs.Common.{◌≡◌, ◌≢◌, ℕ, ◌+◌, ◌-◌, ◌<◌, ◌≤◌, ◌⊎◌, ⊎_elim, inl, inr, List, [], ◌∷◌, ◌++◌, length, get_or, take, min, suc, zero, refl, ap, sym, ◌∙◌, arith, append_assoc}
+use Rattle.std.proofs.Common.{◌≡◌, ℕ, ◌+◌, ◌-◌, ◌<◌, ◌≤◌, ◌⊎◌, ⊎_elim, inl, inr, List, [], ◌∷◌, ◌++◌, length, get_or, take, min, suc, zero, ap, sym, ◌∙◌, arith, append_assoc}
 use Rattle.std.specs.Prelude.{Bool, true, false, filter, sum_by, nat_lt, nat_le, ◌&&◌, if◌then◌else◌}
 use Rattle.std.specs.List.Sorted.{IsPermutation, IsSortedBy}
 use Rattle.std.proofs.lemmas.Bool.{cases_lt}

@@ -1,4 +1,4 @@
-use Rattle.std.proofs.Common.{◌≡◌, ◌≤◌, List, length, take, sym, subst, ap, ◌∙◌, min, arith}
+use Rattle.std.proofs.Common.{◌≡◌, List, take, sym, subst, ap, ◌∙◌, min}
 use Rattle.std.proofs.lemmas.List.{take_all}
 use Rattle.pipe_types.specs.declared.room.Room.{Room}
 use Rattle.dispatch_demand.proofs.Units.{Serves, demand, demand_more, one_served, all_served}
