@@ -1,5 +1,5 @@
 -- What the broadcast rule sends of one unit.
-use Rattle.std.proofs.Common.{◌≡◌, ℕ, ◌+◌, ◌<◌, ◌≤◌, ◌-◌, ◌⊎◌, ⊎_elim, List, [], ◌∷◌, ◌++◌, length, refl, ap, sym, ◌∙◌, subst, arith, min, take}
+use Rattle.std.proofs.Common.{◌≡◌, ℕ, ◌+◌, ◌<◌, ◌≤◌, ◌-◌, ⊎_elim, List, [], ◌∷◌, ◌++◌, refl, ap, sym, ◌∙◌, arith, min}
 use Rattle.std.specs.Prelude.{Bool, true, false, filter, fold, nat_lt, ◌&&◌, if◌then◌else◌}
 use Rattle.std.specs.List.{list_all}
 use Rattle.std.proofs.lemmas.Bool.{cases_lt}
@@ -8,7 +8,7 @@ use Rattle.pipe_types.specs.declared.room.Room.{Room}
 use Rattle.pipe_types.specs.declared.room.Sent.{Sent}
 use Rattle.pipe_types.specs.declared.topology.Dispatch.TheVariants.{Broadcast}
 use Rattle.pipe_types.specs.Dispatchers.{on_each}
-use Rattle.pipe_types.proofs.Sends.{sends_of, sends_of_unit, sends_of_more, sends_of_stop, turned, length-turned_places}
+use Rattle.pipe_types.proofs.Sends.{sends_of, sends_of_unit, sends_of_more, sends_of_stop, length-turned_places}
 use Rattle.dispatch_broadcast.specs.Least.{least_left}
 
 all_or_none : (b : Bool) (rooms : List Room) → filter (λ _. b) rooms ≡ (if b then rooms else [])

@@ -25,9 +25,9 @@ impl BroadcastDispatch {
         BroadcastDispatch { alloc }
     }
 
-    #[tactic(auto, using(crate::proofs::Units::one_more, crate::proofs::Units::all_sent))]
     /// What is sent of so many waiting units in these rooms: by unit, then by subscription. The rooms stand in order of
     /// their subscriptions. In time for the rooms and for what is sent.
+    #[tactic(auto, using(crate::proofs::Units::one_more, crate::proofs::Units::all_sent))]
     pub fn deliver(&mut self, waiting: u32, room: &[Room]) -> Result<SentList, AllocError>
         requires { AreAscending room.now }
         // exactly what the broadcast rule sends of the waiting units

@@ -1,16 +1,16 @@
 -- What the partition rule sends of one unit.
-use Rattle.std.proofs.Common.{◌≡◌, ◌≢◌, ℕ, ◌+◌, ◌-◌, ◌<◌, ◌≤◌, ◌⊎◌, ⊎_elim, inl, inr, List, [], ◌∷◌, ◌++◌, length, get_or, take, suc, zero, refl, ap, sym, ◌∙◌, subst, arith, map, add-one}
-use Rattle.std.specs.Prelude.{Bool, true, false, cond, filter, find, count_by, nat_eq, nat_lt, ◌==◌, ◌&&◌, if◌then◌else◌, Option, None, Some}
+use Rattle.std.proofs.Common.{◌≡◌, ◌≢◌, ℕ, ◌+◌, ◌-◌, ◌<◌, ◌≤◌, ⊎_elim, List, [], ◌∷◌, ◌++◌, length, get_or, take, suc, zero, refl, ap, sym, ◌∙◌, arith, map, add-one}
+use Rattle.std.specs.Prelude.{Bool, true, false, filter, find, count_by, nat_lt, ◌==◌, ◌&&◌, if◌then◌else◌, Option, None, Some}
 use Rattle.std.specs.Option.{option_map, option_to_list}
 use Rattle.std.proofs.lemmas.Bool.{cases_lt}
 use Rattle.std.proofs.lemmas.Bool.Decides.{nat_tests}
-use Rattle.std.proofs.lemmas.List.{append-nil, take_more, length-take-le}
+use Rattle.std.proofs.lemmas.List.{take_more, length-take-le}
 use Rattle.std.proofs.lemmas.List.Sums.{count_by_more_yes, count_by_more_no}
 use Rattle.pipe_types.specs.declared.numbers.SubNo.{SubNo}
 use Rattle.pipe_types.specs.declared.room.Room.{Room}
 use Rattle.pipe_types.specs.declared.room.Sent.{Sent}
 use Rattle.pipe_types.specs.declared.topology.Dispatch.TheVariants.{Partition}
-use Rattle.pipe_types.specs.Dispatchers.{goes, on_each, sends_by_place}
+use Rattle.pipe_types.specs.Dispatchers.{on_each, sends_by_place}
 use Rattle.pipe_types.specs.Rooms.{PartsDiffer}
 use Rattle.pipe_types.proofs.Sends.{sends_push, sends_at, turned, count-turned}
 use Rattle.dispatch_partition.specs.Left.{next_sub, one_less}

@@ -1,5 +1,5 @@
 -- What is left of a room's open demand.
-use Rattle.std.specs.Prelude.{ℕ, ◌-◌, ◌==◌, Option, None, Some, if◌then◌else◌}
+use Rattle.std.specs.Prelude.{◌-◌, ◌==◌, Option, None, Some, if◌then◌else◌}
 use Rattle.pipe_types.specs.declared.numbers.SubNo.{SubNo}
 use Rattle.pipe_types.specs.declared.room.Room.{Room}
 

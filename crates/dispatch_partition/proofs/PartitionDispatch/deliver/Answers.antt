@@ -1,4 +1,4 @@
-use Rattle.std.proofs.Common.{◌≡◌, ℕ, sym, ap, ◌∙◌, refl}
+use Rattle.std.proofs.Common.{sym, ap, ◌∙◌, refl}
 use Rattle.std.proofs.lemmas.List.{append-nil}
 use Rattle.dispatch_partition.proofs.Units.{left_step, one_unit}
 use Rattle.dispatch_partition.proofs.PartitionDispatch.deliver.Goals as goal
