@@ -7,3 +7,4 @@ pub mod Restarts
 pub mod Children
 pub mod Handlers
 pub mod Sound
+pub mod Rooms

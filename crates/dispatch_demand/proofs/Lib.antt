@@ -1,0 +1,3 @@
+pub mod Order
+pub mod Singles
+pub mod Units

@@ -1,0 +1,117 @@
+-- The order in which rooms are served.
+use Rattle.std.proofs.Common.{◌≡◌, ℕ, ◌+◌, ◌<◌, List, length, get_or, map, ap, sym, ◌∙◌, subst, arith, Ordering}
+use Rattle.std.specs.Prelude.{Bool, true, false, nat_lt, ◌==◌, ◌&&◌, ◌||◌}
+use Rattle.std.specs.Cmp.{IsTotalOrder, IsStrictWeakOrder}
+use Rattle.std.specs.List.{AllPairs, IsDistinct}
+use Rattle.std.specs.List.Sorted.{IsPermutation, IsSortedBy, IsSortedByKey}
+use Rattle.std.specs.Fn.{ComputesKey, Called}
+use Rattle.std.specs.declared.cmp.Reverse.{Reverse}
+use Rattle.std.proofs.lemmas.Fn.{always_returns_same}
+use denote.Param.Members.{Mut}
+use denote.Ref.{Bor}
+use Rattle.std.specs.Ordering.{nat_cmp, ordering_then, is_lt}
+use Rattle.std.proofs.lemmas.Bool.Decides.{nat_tests}
+use Rattle.std.proofs.lemmas.Cmp.{nat_cmp_total, on_total, then_total, back_total}
+use Rattle.std.proofs.lemmas.List.{get_or-map, length-map}
+use Rattle.std.proofs.lemmas.List.Sorted.{ranks_by, sorted_far, IsPermutation-map}
+use Rattle.std.proofs.lemmas.Map.Keys.{IsDistinct-from_apart, IsDistinct-IsPermutation, apart_from_distinct}
+use Rattle.pipe_types.specs.declared.numbers.SubNo.{SubNo}
+use Rattle.pipe_types.specs.declared.room.Room.{Room}
+use Rattle.pipe_types.specs.Dispatchers.{is_served_before}
+use Rattle.pipe_types.specs.Numbers.{same_sub, sub_before}
+use Rattle.pipe_types.specs.Rooms.{AreAscending}
+
+-- the order of subscriptions, as a comparison
+abbrev pub sub_cmp : SubNo → SubNo → Ordering
+sub_cmp u v = ordering_then (nat_cmp u.consumer.0 v.consumer.0) (ordering_then (nat_cmp u.producer.0 v.producer.0) (nat_cmp u.generation v.generation))
+
+abbrev pub serving_cmp : Room → Room → Ordering
+serving_cmp v u = ordering_then (nat_cmp u.left v.left) (sub_cmp v.sub u.sub)
+
+sub_cmp_total : IsTotalOrder sub_cmp
+sub_cmp_total =
+    then_total (on_total (λ (u : SubNo). u.consumer.0) nat_cmp_total)
+    (then_total (on_total (λ (u : SubNo). u.producer.0) nat_cmp_total) (on_total (λ (u : SubNo). u.generation) nat_cmp_total))
+
+serving_cmp_total : IsTotalOrder serving_cmp
+serving_cmp_total = then_total (on_total (λ (u : Room). u.left) (back_total nat_cmp_total)) (on_total (λ (u : Room). u.sub) sub_cmp_total)
+
+first_less : (a b : ℕ) (o : Ordering) → is_lt (ordering_then (nat_cmp a b) o) ≡ (nat_lt a b || (a == b && is_lt o))
+first_less a b o = grind (arith, nat_tests)
+
+last_less : (a b : ℕ) → is_lt (nat_cmp a b) ≡ nat_lt a b
+last_less a b = grind (arith, nat_tests)
+
+sub_cmp_is : (u v : SubNo) → is_lt (sub_cmp u v) ≡ sub_before u v
+sub_cmp_is u v =
+    first_less u.consumer.0 v.consumer.0 (ordering_then (nat_cmp u.producer.0 v.producer.0) (nat_cmp u.generation v.generation))
+    ∙ ap (λ (b : Bool). nat_lt u.consumer.0 v.consumer.0 || (u.consumer.0 == v.consumer.0 && b))
+    (first_less u.producer.0 v.producer.0 (nat_cmp u.generation v.generation)
+    ∙ ap (λ (b : Bool). nat_lt u.producer.0 v.producer.0 || (u.producer.0 == v.producer.0 && b)) (last_less u.generation v.generation))
+
+-- the comparison answers less exactly where a room is served before another
+pub serving_cmp_is : (v u : Room) → is_lt (serving_cmp v u) ≡ is_served_before v u
+serving_cmp_is v u =
+    first_less u.left v.left (sub_cmp v.sub u.sub)
+    ∙ ap (λ (b : Bool). nat_lt u.left v.left || (u.left == v.left && b)) (sub_cmp_is v.sub u.sub)
+
+pub is_served_before_ranks : IsStrictWeakOrder is_served_before
+is_served_before_ranks =
+    let ranks : IsStrictWeakOrder (λ (v : Room) (u : Room). is_lt (serving_cmp v u)) = ranks_by serving_cmp_total (λ (u : Room). u) in
+    record {
+      one_way = λ v u h. sym (serving_cmp_is u v) ∙ ranks.one_way v u (serving_cmp_is v u ∙ h);
+      chain = λ v u w h k. sym (serving_cmp_is v w) ∙ ranks.chain v u w (serving_cmp_is v u ∙ h) (serving_cmp_is u w ∙ k);
+    }
+
+-- what a sort by the open demand, the greatest first, and then by the subscription gives
+abbrev pub serving_key : Room → Reverse ℕ × SubNo
+serving_key u = (record { 0 = u.left }, u.sub)
+
+abbrev pub key_cmp : Reverse ℕ × SubNo → Reverse ℕ × SubNo → Ordering
+key_cmp x y = ordering_then (nat_cmp y.0.0 x.0.0) (sub_cmp x.1 y.1)
+
+pub in_serving_order : {F : Type 0} {g : Mut F (Bor Room × Unit {0}) (Reverse ℕ × SubNo)} {f : F} (xs : List Room) → ((key : Room → Reverse ℕ × SubNo) → ComputesKey g key f → IsSortedByKey key key_cmp xs) → ((a : Bor Room × Unit {0}) (r : Reverse ℕ × SubNo) (f' : F) → Called g f a r f' → (r ≡ serving_key a.0.now) × (f' ≡ f)) → IsSortedBy is_served_before xs
+in_serving_order {g = g} {f = f} xs sorted answers k d low within =
+    sym (serving_cmp_is (get_or xs (k + 1) d) (get_or xs k d))
+    ∙ sorted serving_key (always_returns_same g (λ a r. r ≡ serving_key a.0.now) f answers) k d low within
+
+-- of two rooms with different subscriptions one is served before the other
+turned_round : (a b : ℕ) (p q : Bool) → (nat_lt a b || (a == b && p)) ≡ false → (a ≡ b → p ≡ false → q ≡ true) → (nat_lt b a || (b == a && q)) ≡ true
+turned_round a b p q h k = grind (arith, nat_tests)
+
+one_is_before : (u v : SubNo) → sub_before v u ≡ false → same_sub u v ≡ false → sub_before u v ≡ true
+one_is_before u v h apart =
+    turned_round v.consumer.0 u.consumer.0 _ _ h (λ c h2. turned_round v.producer.0 u.producer.0 _ _ h2 (λ p h3. grind (arith, nat_tests)))
+
+one_is_served_before : (v u : Room) → is_served_before u v ≡ false → same_sub v.sub u.sub ≡ false → is_served_before v u ≡ true
+one_is_served_before v u h apart = turned_round v.left u.left (sub_before u.sub v.sub) (sub_before v.sub u.sub) h (λ _ k. one_is_before v.sub u.sub k apart)
+
+same_sub_flips : (u v : SubNo) → same_sub u v ≡ same_sub v u
+same_sub_flips u v = grind (arith, nat_tests)
+
+before_is_apart : (u v : SubNo) → sub_before u v ≡ true → same_sub u v ≡ false
+before_is_apart u v h = grind (arith, nat_tests)
+
+-- in the order of serving, each room is served before the later ones
+pub served_in_turn : (rooms order : List Room) → AreAscending rooms → IsPermutation rooms order → IsSortedBy is_served_before order → AllPairs (λ v u. is_served_before v u ≡ true) order
+served_in_turn rooms order ascending same sorted i j d lt within =
+    one_is_served_before (get_or order i d) (get_or order j d)
+    (sorted_far is_served_before is_served_before_ranks order sorted i j d (omega arith) within)
+    (subst (λ (u : SubNo). same_sub u (get_or order j d).sub ≡ false) (get_or-map sub_of order i d d.sub (omega arith))
+    (subst (λ (u : SubNo). same_sub (get_or (map sub_of order) i d.sub) u ≡ false) (get_or-map sub_of order j d d.sub within)
+    (apart_from_distinct same_sub (map sub_of order) i j d.sub distinct lt (rw length-map within))))
+  where
+    sub_of : Room → SubNo
+    sub_of u = u.sub
+
+    distinct : IsDistinct same_sub (map sub_of order)
+    distinct =
+        IsDistinct-IsPermutation same_sub same_sub_flips (map sub_of rooms) (map sub_of order) (IsPermutation-map sub_of rooms order same)
+        (IsDistinct-from_apart same_sub (map sub_of rooms) apart)
+      where
+        apart : (a b : ℕ) (e : SubNo) → a < b → b < length (map sub_of rooms) → same_sub (get_or (map sub_of rooms) a e) (get_or (map sub_of rooms) b e) ≡ false
+        apart a b e less inside =
+            let inside' : b < length rooms = rw length-map at inside in
+            let inside'' : a < length rooms = omega arith in
+            rw (get_or-map sub_of rooms a d e inside'', get_or-map sub_of rooms b d e inside')
+            (before_is_apart (get_or rooms a d).sub (get_or rooms b d).sub (ascending a b d less inside'))

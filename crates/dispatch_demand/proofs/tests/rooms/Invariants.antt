@@ -1,0 +1,10 @@
+use Rattle.std.proofs.Common.{◌<◌}
+use Rattle.std.specs.List.{All}
+use Rattle.pipe_types.specs.Rooms.{AreAscending}
+use Rattle.dispatch_demand.proofs.tests.rooms.Given as goal
+
+abbrev pub invariant-loop-place : goal.invariant-loop-place
+invariant-loop-place l = record {
+  ascending : AreAscending l.rooms.items;
+  below : All (λ u. u.sub.consumer.0 < l.place) l.rooms.items;
+}

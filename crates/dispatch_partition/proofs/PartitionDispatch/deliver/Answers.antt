@@ -1,0 +1,18 @@
+use Rattle.std.proofs.Common.{sym, ap, ◌∙◌, refl}
+use Rattle.std.proofs.lemmas.List.{append-nil}
+use Rattle.dispatch_partition.proofs.Units.{left_step, one_unit}
+use Rattle.dispatch_partition.proofs.PartitionDispatch.deliver.Goals as goal
+use Rattle.dispatch_partition.proofs.PartitionDispatch.deliver.Goals.{in-Some+in_ok-push, in_default}
+
+pub loop-place-preserved : goal.loop-place-preserved
+loop-place-preserved c = record {
+  left = λ q. left_step c.args.room.now c.args.parts.now _ _ c.loop-place-test.true refl q _ _ (c.loop-place.invariant.left q) (c.take_one.ensures.rest q);
+  sent = elim c.match-take_one.branch [
+    | in-Some+in_ok-push w ↦
+        one_unit _ _ _ _ c.requires.parts_differ c.loop-place-test.true refl _ (c.loop-place.invariant.left _) _ w.in-Some.ensures.taken _ _
+        c.loop-place.invariant.sent (ap (λ v. v.items) w.sent-is ∙ w.in_ok-push.ensures.items)
+    | in_default w ↦
+        one_unit _ _ _ _ c.requires.parts_differ c.loop-place-test.true refl _ (c.loop-place.invariant.left _) _ w.in_default.ensures.taken _ _
+        c.loop-place.invariant.sent (ap (λ v. v.items) w.sent-is ∙ sym (append-nil _))
+  ];
+}
