@@ -1,3 +1,11 @@
 mod Base
+mod Broadcast
+mod Children
+mod Crash
+mod Dispatchers
+mod Keys
+mod Kills
+mod Late
 mod OneLine
+mod Triggers
 mod TwoProcessors
