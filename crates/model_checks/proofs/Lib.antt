@@ -4,6 +4,7 @@ mod Broadcast
 mod Children
 mod ControlLines
 mod Crash
+mod DispatchRows
 mod Dispatchers
 mod FetchRows
 mod HandlerRules
@@ -15,5 +16,6 @@ mod LinesOfBytes
 mod OneLine
 mod RestartWindow
 mod Sinks
+mod TakeRows
 mod Triggers
 mod TwoProcessors
