@@ -1,6 +1,8 @@
 mod Base
 mod AskRows
+mod BatchRows
 mod Broadcast
+mod ChildRows
 mod Children
 mod ControlLines
 mod Crash

@@ -1,6 +1,6 @@
 -- Rows: a take, and the replies to it.
 use Rattle.std.proofs.Common.{◌≡◌, refl}
-use Rattle.std.specs.Prelude.{ℕ, true, List, [], ◌∷◌, ◌++◌, map, codes, replicate, Some}
+use Rattle.std.specs.Prelude.{true, List, [], ◌∷◌, ◌++◌, map, codes, replicate, Some}
 use Rattle.pipe_types.specs.declared.topology.Topology.{Topology}
 use Rattle.pipe_types.specs.declared.topology.StageSpec.{StageSpec}
 use Rattle.pipe_types.specs.declared.topology.Rule.TheVariants.{Require, Crash as CrashRule}
@@ -177,7 +177,7 @@ done_producer : is_refused_after one_each taken_one (Done (stage 2) (Pass (recor
 done_producer = refl
 
 -- a failure and a raise carry the stage's own reason, and are not each other
-abbrev renamed : (StageSpec → StageSpec)
+abbrev renamed : StageSpec → StageSpec
 renamed spec = record spec { failed = Some (codes "mine") }
 
 abbrev requiring : Topology
@@ -233,57 +233,57 @@ done_by_a_batch_processor = refl
 -- An own handler's replies
 
 -- any payload, key, flush mode and batcher of the stage, but the number and the producer of the message
-abbrev own : ℕ → Topology
-own batchers = with_stages (producer 1 (codes "p") 0 ∷ record (processor 2 (codes "processors.0") 0 []) { kind = Own; batchers = batchers } ∷ [])
+abbrev own : Topology
+own = with_stages (producer 1 (codes "p") 0 ∷ record (processor 2 (codes "processors.0") 0 []) { kind = Own } ∷ [])
 
-own_pass : may_come_after (own 0) taken_one (Done (stage 2) (Pass (record (keyed 1 (codes "other")) { flush = true }) ∷ [])) ≡ true
+own_pass : may_come_after own taken_one (Done (stage 2) (Pass (record (keyed 1 (codes "other")) { flush = true }) ∷ [])) ≡ true
 own_pass = refl
 
-own_number : is_refused_after (own 0) taken_one (Done (stage 2) (passes 2 (codes "x" ∷ []))) ≡ true
+own_number : is_refused_after own taken_one (Done (stage 2) (passes 2 (codes "x" ∷ []))) ≡ true
 own_number = refl
 
-own_producer : is_refused_after (own 0) taken_one (Done (stage 2) (Pass (record (msg 1 (codes "x")) { producer = stage 2 }) ∷ [])) ≡ true
+own_producer : is_refused_after own taken_one (Done (stage 2) (Pass (record (msg 1 (codes "x")) { producer = stage 2 }) ∷ [])) ≡ true
 own_producer = refl
 
-own_batcher_too_great : is_refused_after (own 0) taken_one (Done (stage 2) (Pass (record (msg 1 (codes "x")) { batcher = 1 }) ∷ [])) ≡ true
+own_batcher_too_great : is_refused_after own taken_one (Done (stage 2) (Pass (record (msg 1 (codes "x")) { batcher = 1 }) ∷ [])) ≡ true
 own_batcher_too_great = refl
 
-own_failed : may_come_after (own 0) taken_one (Done (stage 2) (FailedReply (codes "no") ∷ [])) ≡ true
+own_failed : may_come_after own taken_one (Done (stage 2) (FailedReply (codes "no") ∷ [])) ≡ true
 own_failed = refl
 
-own_raised : may_come_after (own 0) taken_one (Done (stage 2) (Raised (codes "no") ∷ [])) ≡ true
+own_raised : may_come_after own taken_one (Done (stage 2) (Raised (codes "no") ∷ [])) ≡ true
 own_raised = refl
 
 -- the reason `sink` is the sink's alone
-own_failed_by_sink : is_refused_after (own 0) taken_one (Done (stage 2) (FailedReply (codes "sink") ∷ [])) ≡ true
+own_failed_by_sink : is_refused_after own taken_one (Done (stage 2) (FailedReply (codes "sink") ∷ [])) ≡ true
 own_failed_by_sink = refl
 
-own_raised_by_sink : is_refused_after (own 0) taken_one (Done (stage 2) (Raised (codes "sink") ∷ [])) ≡ true
+own_raised_by_sink : is_refused_after own taken_one (Done (stage 2) (Raised (codes "sink") ∷ [])) ≡ true
 own_raised_by_sink = refl
 
 -- one reply a message, or no more, of which the last alone is a crash
-own_all : may_come_after (own 0) taken_three (Done (stage 2) (passes 1 (codes "a" ∷ codes "b" ∷ codes "c" ∷ []))) ≡ true
+own_all : may_come_after own taken_three (Done (stage 2) (passes 1 (codes "a" ∷ codes "b" ∷ codes "c" ∷ []))) ≡ true
 own_all = refl
 
-own_too_few : is_refused_after (own 0) taken_three (Done (stage 2) (passes 1 (codes "a" ∷ codes "b" ∷ []))) ≡ true
+own_too_few : is_refused_after own taken_three (Done (stage 2) (passes 1 (codes "a" ∷ codes "b" ∷ []))) ≡ true
 own_too_few = refl
 
-own_too_many : is_refused_after (own 0) taken_three (Done (stage 2) (passes 1 (replicate 4 (codes "a")))) ≡ true
+own_too_many : is_refused_after own taken_three (Done (stage 2) (passes 1 (replicate 4 (codes "a")))) ≡ true
 own_too_many = refl
 
-own_crash_at_once : may_come_after (own 0) taken_three (Done (stage 2) (Crashed ∷ [])) ≡ true
+own_crash_at_once : may_come_after own taken_three (Done (stage 2) (Crashed ∷ [])) ≡ true
 own_crash_at_once = refl
 
-own_crash_at_last : may_come_after (own 0) taken_three (Done (stage 2) (passes 1 (codes "a" ∷ codes "b" ∷ []) ++ Crashed ∷ [])) ≡ true
+own_crash_at_last : may_come_after own taken_three (Done (stage 2) (passes 1 (codes "a" ∷ codes "b" ∷ []) ++ Crashed ∷ [])) ≡ true
 own_crash_at_last = refl
 
-own_past_the_crash : is_refused_after (own 0) taken_three (Done (stage 2) (Crashed ∷ passes 2 (codes "b" ∷ codes "c" ∷ []))) ≡ true
+own_past_the_crash : is_refused_after own taken_three (Done (stage 2) (Crashed ∷ passes 2 (codes "b" ∷ codes "c" ∷ []))) ≡ true
 own_past_the_crash = refl
 
-own_two_crashes : is_refused_after (own 0) taken_three (Done (stage 2) (Crashed ∷ Crashed ∷ [])) ≡ true
+own_two_crashes : is_refused_after own taken_three (Done (stage 2) (Crashed ∷ Crashed ∷ [])) ≡ true
 own_two_crashes = refl
 
-own_crash_behind_all : is_refused_after (own 0) taken_three (Done (stage 2) (passes 1 (replicate 3 (codes "a")) ++ Crashed ∷ [])) ≡ true
+own_crash_behind_all : is_refused_after own taken_three (Done (stage 2) (passes 1 (replicate 3 (codes "a")) ++ Crashed ∷ [])) ≡ true
 own_crash_behind_all = refl
 
 -- with two batchers a message may name the second
