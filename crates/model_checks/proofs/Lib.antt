@@ -8,13 +8,16 @@ mod ControlLines
 mod Crash
 mod DispatchRows
 mod Dispatchers
+mod DrainRows
 mod FetchRows
 mod HandlerRules
 mod Keys
+mod KillRows
 mod Kills
 mod Late
 mod Limits
 mod LinesOfBytes
+mod LongRows
 mod OneLine
 mod RestartWindow
 mod Sinks
