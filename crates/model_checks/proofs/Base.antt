@@ -1,5 +1,6 @@
 -- Small pipelines, their subscriptions and messages, and the tests that the rows use.
-use Rattle.std.specs.Prelude.{ℕ, ◌+◌, Bool, true, false, not, ◌&&◌, List, [], ◌∷◌, ◌++◌, codes, Option, Some, None}
+use Rattle.std.specs.Prelude.{ℕ, ◌+◌, Bool, true, false, not, nat_le, length, ◌&&◌, List, [], ◌∷◌, ◌++◌, codes, Option, Some, None}
+use Rattle.std.specs.List.{list_all}
 use Rattle.pipe_types.specs.declared.numbers.SubNo.{SubNo}
 use Rattle.pipe_types.specs.declared.topology.Topology.{Topology}
 use Rattle.pipe_types.specs.declared.topology.StageSpec.{StageSpec}
@@ -17,6 +18,7 @@ use Rattle.pipe_types.specs.declared.message.Reply.{Reply}
 use Rattle.pipe_types.specs.declared.message.Reply.TheVariants.{Pass}
 use Rattle.pipe_types.specs.declared.step.Step.{Step}
 use Rattle.pipe_types.specs.Numbers.{stage, subscription}
+use Rattle.pipe_types.specs.Sound.{is_ordered, is_named, are_distinct, producers, batchers, has_fields, is_reached, are_settings}
 use Rattle.pipe_model.specs.History.{History, history}
 use Rattle.pipe_model.specs.Content.{new_message}
 use Rattle.pipe_model.specs.Legal.{allows, is_legal}
@@ -34,6 +36,15 @@ may_come_after topology steps step = is_legal topology (step ∷ history steps)
 -- the steps are legal one after another, and then this one may not come
 abbrev pub is_refused_after : Topology → List Step → Step → Bool
 is_refused_after topology steps step = is_legal topology (history steps) && not (allows topology (history steps) step)
+
+-- what makes a topology sound
+abbrev pub is_sound : Topology → Bool
+is_sound topology =
+    (nat_le (length topology.stages) 64 && is_ordered topology.stages)
+    && (list_all (is_named topology.stages) topology.stages
+    && (are_distinct (producers topology.stages ++ batchers topology.stages)
+    && (list_all (has_fields topology.stages) topology.stages
+    && (list_all (is_reached topology.stages) (batchers topology.stages) && are_settings topology))))
 
 -- Stages
 

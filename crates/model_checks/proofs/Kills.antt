@@ -1,6 +1,7 @@
 -- Kills, cascades and restarts.
 use Rattle.std.proofs.Common.{◌≡◌, refl}
 use Rattle.std.specs.Prelude.{true, false, List, [], ◌∷◌, ◌++◌, map, codes, take, replicate, Some}
+use Rattle.std.specs.Fmt.{digits}
 use Rattle.pipe_types.specs.declared.topology.Topology.{Topology}
 use Rattle.pipe_types.specs.declared.topology.CancelMode.{CancelMode}
 use Rattle.pipe_types.specs.declared.topology.CancelMode.TheVariants.{Temporary, Transient, Permanent}
@@ -19,7 +20,7 @@ use Rattle.pipe_model.specs.Flow.{place, open_demand}
 use Rattle.pipe_model.specs.Ledger.{handled}
 use Rattle.pipe_model.specs.Moves.{Halted, StepMove, move}
 use Rattle.pipe_model.specs.Acknowledgements.{acknowledgements, is_lossless}
-use Rattle.model_checks.proofs.Base.{is_run, producer, processor, with_stages, sub, passes, feeding, batcher, batch_processor, strict}
+use Rattle.model_checks.proofs.Base.{is_run, is_sound, producer, processor, with_stages, sub, passes, feeding, batcher, batch_processor, strict}
 
 -- A kill of a producer takes the processor with it
 
@@ -148,8 +149,8 @@ temporary_at_a_kill = refl
 abbrev strict_pair : Topology
 strict_pair =
     with_stages
-    (producer 1 (codes "p") 0 ∷ record (processor 2 (codes "processors.0") 0 []) { mode = Permanent }
-    ∷ record (processor 3 (codes "processors.1") 1 []) { mode = Permanent } ∷ record (batcher 4 (codes "b") 0) { mode = Permanent } ∷ [])
+    (producer 1 (codes "p") 0 ∷ record (feeding 1 (processor 2 (codes "processors.0") 0 [])) { mode = Permanent }
+    ∷ record (feeding 1 (processor 3 (codes "processors.1") 1 [])) { mode = Permanent } ∷ record (batcher 4 (codes "b") 0) { mode = Permanent } ∷ batch_processor 5 (codes "b.0") 0 0 ∷ [])
 
 least_sub : kill_set strict_pair [] (Kill (stage 1) ByKill)
     ≡ record { stage = stage 1; why = ByKill } ∷ record { stage = stage 2; why = Cancelled (sub 2 1 1) }
@@ -191,3 +192,8 @@ then_has_halted = refl
 -- a halt kills the live stages by the limit, and leaves a dead one its own reason
 halt_reasons : map (death once_only (history halted)) (stage 1 ∷ stage 2 ∷ []) ≡ Some ByLimit ∷ Some (Cancelled (sub 2 1 1)) ∷ []
 halt_reasons = refl
+
+-- these pipelines are sound
+all_sound : map is_sound (strict_push ∷ temporary_push ∷ four_levels Permanent Transient Temporary ∷ strict_pair ∷ once_only ∷ []) ≡ replicate 5 true
+unfolding digits
+all_sound = refl

@@ -10,6 +10,7 @@ mod DispatchRows
 mod Dispatchers
 mod DrainRows
 mod FetchRows
+mod Flows
 mod HandlerRules
 mod Keys
 mod KillRows
@@ -18,9 +19,12 @@ mod Late
 mod Limits
 mod LinesOfBytes
 mod LongRows
+mod MoveOrder
+mod Obeyed
 mod OneLine
 mod RestartWindow
 mod Sinks
+mod SoundRows
 mod TakeRows
 mod Triggers
 mod TwoProcessors

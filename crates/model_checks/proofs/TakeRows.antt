@@ -290,7 +290,8 @@ own_crash_behind_all = refl
 abbrev own_feeding : Topology
 own_feeding =
     with_stages
-    (producer 1 (codes "p") 0 ∷ record (feeding 2 (processor 2 (codes "processors.0") 0 [])) { kind = Own } ∷ batcher 3 (codes "b") 0 ∷ batcher 4 (codes "c") 1 ∷ [])
+    (producer 1 (codes "p") 0 ∷ record (feeding 2 (processor 2 (codes "processors.0") 0 [])) { kind = Own } ∷ batcher 3 (codes "b") 0 ∷ batcher 4 (codes "c") 1
+    ∷ batch_processor 5 (codes "b.0") 0 0 ∷ batch_processor 6 (codes "c.0") 1 0 ∷ [])
 
 abbrev taken_to_feed : List Step
 taken_to_feed = Ask (sub 3 2 1) 3 ∷ taken_one
