@@ -87,6 +87,10 @@ partition_of_a = refl
 partition_of_two : partition_of (codes "ab") 1000 ≡ 105
 partition_of_two = refl
 
+-- the hash is kept below 2 ^ 32
+partition_of_many : partition_of (codes "zzzzzzzz") 1000 ≡ 384
+partition_of_many = refl
+
 -- In a journal
 
 -- lines `a` go to the second of two processors by their whole payload, as many as it asked for

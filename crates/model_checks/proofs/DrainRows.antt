@@ -11,7 +11,7 @@ use Rattle.pipe_types.specs.declared.step.SourceHow.TheVariants.{End, Fault, Too
 use Rattle.pipe_types.specs.declared.step.DrainCause.TheVariants.{Sources, Control, Limit as LimitCause, Idle}
 use Rattle.pipe_types.specs.Numbers.{stage}
 use Rattle.pipe_model.specs.Moves.{StepMove, move}
-use Rattle.model_checks.proofs.Base.{may_come_after, is_refused_after, one_each, sub, one_ruled, two_producers}
+use Rattle.model_checks.proofs.Base.{may_come_after, is_refused_after, one_each, sub, one_ruled, two_processors, two_producers}
 
 abbrev fetched : List Step
 fetched = Ask (sub 2 1 1) 10 ∷ Fetch (stage 1) 10 ∷ []
@@ -80,9 +80,12 @@ drain_by_less_idling = refl
 drain_by_no_idling : is_refused_after one_each [] (Drain Idle) ≡ true
 drain_by_no_idling = refl
 
--- an ask, or a restart, between the quiet answers begins the row anew
-drain_after_work : is_refused_after (record one_each { idle_limit = 1 }) (fetched ++ Quiet (stage 1) ∷ Kill (stage 2) ByKill ∷ []) (Drain Idle) ≡ true
-drain_after_work = refl
+-- any other step behind the quiet answers begins the row anew: a kill, an ask
+drain_after_a_kill : is_refused_after (record one_each { idle_limit = 1 }) (fetched ++ Quiet (stage 1) ∷ Kill (stage 2) ByKill ∷ []) (Drain Idle) ≡ true
+drain_after_a_kill = refl
+
+drain_after_an_ask : is_refused_after (record two_processors { idle_limit = 1 }) (fetched ++ Quiet (stage 1) ∷ Ask (sub 3 1 1) 10 ∷ []) (Drain Idle) ≡ true
+drain_after_an_ask = refl
 
 -- once only, whatever the cause
 drain_twice : is_refused_after one_each (Drain Control ∷ []) (Drain Control) ≡ true

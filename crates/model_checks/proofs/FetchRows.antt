@@ -150,6 +150,10 @@ accept_of_a_processor = refl
 accept_while_dead : is_refused_after one_each (fetched ++ Kill (stage 1) ByKill ∷ []) (Accept (stage 1) (codes "x" ∷ [])) ≡ true
 accept_while_dead = refl
 
+-- after the drain a fetch that is out still answers
+accept_after_the_drain : may_come_after one_each (fetched ++ Drain Control ∷ []) (Accept (stage 1) (codes "x" ∷ [])) ≡ true
+accept_after_the_drain = refl
+
 -- Quiet
 
 quiet_answer : may_come_after one_each fetched (Quiet (stage 1)) ≡ true

@@ -1,6 +1,6 @@
 -- What reaches a sink.
 use Rattle.std.proofs.Common.{◌≡◌, refl}
-use Rattle.std.specs.Prelude.{true, List, [], ◌∷◌, ◌++◌, map, codes, replicate, Some, None}
+use Rattle.std.specs.Prelude.{true, List, [], ◌∷◌, ◌++◌, map, codes, drop, take, replicate, Some, None}
 use Rattle.pipe_types.specs.declared.topology.Topology.{Topology}
 use Rattle.pipe_types.specs.declared.topology.StageSpec.{StageSpec}
 use Rattle.pipe_types.specs.declared.topology.Rule.TheVariants.{Prefix, Require, Raise as RaiseRule, Crash as CrashRule}
@@ -16,6 +16,7 @@ use Rattle.pipe_types.specs.declared.step.Step.TheVariants.{Ask, Fetch, Accept, 
 use Rattle.pipe_types.specs.Numbers.{stage, message_no}
 use Rattle.pipe_model.specs.History.{history}
 use Rattle.pipe_model.specs.Flow.{place}
+use Rattle.pipe_model.specs.Ledger.{handled}
 use Rattle.pipe_model.specs.Acknowledgements.{acknowledgements}
 use Rattle.pipe_model.specs.Outside.{sink_text}
 use Rattle.model_checks.proofs.Base.{is_run, producer, processor, with_stages, sub, passes, feeding, batcher, batch_processor}
@@ -109,6 +110,28 @@ crashed_legal = refl
 
 crashed_places : map (place crashing (history crashed)) (1 ∷ 2 ∷ []) ≡ replicate 2 (Some (Lost (Killed (stage 4) 1 ByCrash)))
 crashed_places = refl
+
+-- and it does not count as handled
+crashed_handled : handled crashing (history crashed) (sub 4 3 1) ≡ 0
+crashed_handled = refl
+
+-- the batch has the messages as the processor passed them on
+abbrev renaming : Topology
+renaming =
+    with_stages
+    (producer 1 (codes "p") 0 ∷ feeding 1 (processor 2 (codes "processors.0") 0 (Prefix (codes "dear ") ∷ [])) ∷ record (batcher 3 (codes "b") 0) { batch_size = 2 }
+    ∷ batch_processor 4 (codes "b.0") 0 0 ∷ [])
+
+abbrev renamed : List Step
+renamed =
+    take 7 until_taken ++ Done (stage 2) (passes 1 (codes "dear hello" ∷ codes "dear you" ∷ [])) ∷ drop 8 until_taken
+    ++ Wrote (stage 4) 20 (Outcomes (replicate 2 Successful)) ∷ []
+
+renamed_legal : is_run renaming renamed ≡ true
+renamed_legal = refl
+
+renamed_text : sink_text renaming (history renamed) (stage 4) ≡ codes "dear hello" ++ 10 ∷ codes "dear you" ++ 10 ∷ []
+renamed_text = refl
 
 -- without a sink nothing is written, and the messages are successful
 abbrev no_sink : Topology

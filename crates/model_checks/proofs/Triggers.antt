@@ -2,7 +2,7 @@
 use Rattle.std.proofs.Common.{◌≡◌, refl}
 use Rattle.std.specs.Prelude.{true, List, [], ◌∷◌, ◌++◌, map, codes, replicate}
 use Rattle.pipe_types.specs.declared.topology.Topology.{Topology}
-use Rattle.pipe_types.specs.declared.topology.Rule.TheVariants.{Flush as FlushRule}
+use Rattle.pipe_types.specs.declared.topology.Rule.TheVariants.{Route, Key, Flush as FlushRule}
 use Rattle.pipe_types.specs.declared.message.Reply.TheVariants.{Pass}
 use Rattle.pipe_types.specs.declared.message.Outcome.TheVariants.{Successful}
 use Rattle.pipe_types.specs.declared.message.BatchEnd.TheVariants.{Outcomes}
@@ -95,6 +95,41 @@ not_while_waiting = refl
 
 not_while_to_be_gathered : is_refused_after by_key (another_line ++ Take (stage 2) (sub 2 1 1) 1 ∷ Done (stage 2) (Pass (keyed 2 (codes "y")) ∷ []) ∷ Dispatch (stage 2) ∷ []) (Close (stage 3) (message_no 1) Flush) ≡ true
 not_while_to_be_gathered = refl
+
+-- not while a message waits in a producer
+abbrev pushing : Topology
+pushing =
+    with_stages
+    (record (producer 1 (codes "p") 0) { push = true } ∷ record (feeding 1 (processor 2 (codes "processors.0") 0 (Key 0 ∷ []))) { min = 0; max = 1 }
+    ∷ batcher 3 (codes "b") 0 ∷ batch_processor 4 (codes "b.0") 0 0 ∷ [])
+
+abbrev one_left_behind : List Step
+one_left_behind =
+    Ask (sub 2 1 1) 1 ∷ Ask (sub 3 2 1) 3 ∷ Ask (sub 4 3 1) 1 ∷ Fetch (stage 1) 1000 ∷ Accept (stage 1) (codes "x" ∷ codes "y" ∷ []) ∷ Dispatch (stage 1)
+    ∷ Take (stage 2) (sub 2 1 1) 1 ∷ Done (stage 2) (Pass (keyed 1 (codes "x")) ∷ []) ∷ Dispatch (stage 2) ∷ Gather (stage 3) (message_no 1) ∷ Drain Control ∷ []
+
+not_while_in_a_producer : is_refused_after pushing one_left_behind (Close (stage 3) (message_no 1) Flush) ≡ true
+not_while_in_a_producer = refl
+
+-- what was lost does not count
+closes_after_a_loss : may_come_after pushing (one_left_behind ++ Kill (stage 1) ByKill ∷ []) (Close (stage 3) (message_no 1) Flush) ≡ true
+closes_after_a_loss = refl
+
+-- what stands in another batcher does not count
+abbrev two_batchers : Topology
+two_batchers =
+    with_stages
+    (producer 1 (codes "p") 0 ∷ feeding 2 (processor 2 (codes "processors.0") 0 (Route 0 1 (codes "cold") ∷ [])) ∷ batcher 3 (codes "hot") 0
+    ∷ batcher 4 (codes "cold") 1 ∷ batch_processor 5 (codes "hot.0") 0 0 ∷ batch_processor 6 (codes "cold.0") 1 0 ∷ [])
+
+abbrev one_in_each : List Step
+one_in_each =
+    Ask (sub 2 1 1) 10 ∷ Ask (sub 3 2 1) 3 ∷ Ask (sub 4 2 1) 3 ∷ Ask (sub 5 3 1) 1 ∷ Fetch (stage 1) 10 ∷ Accept (stage 1) (codes "x" ∷ codes "cold" ∷ []) ∷ Dispatch (stage 1)
+    ∷ Take (stage 2) (sub 2 1 1) 2 ∷ Done (stage 2) (Pass (msg 1 (codes "x")) ∷ Pass (record (msg 2 (codes "cold")) { batcher = 1 }) ∷ []) ∷ Dispatch (stage 2)
+    ∷ Gather (stage 3) (message_no 1) ∷ Drain Control ∷ []
+
+closes_beside_another : may_come_after two_batchers one_in_each (Close (stage 3) (message_no 1) Flush) ≡ true
+closes_beside_another = refl
 
 -- then both keys' batches close, in the order of their first messages
 abbrev both_gathered : List Step
