@@ -10,6 +10,7 @@ use Rattle.pipe_types.specs.declared.step.LateAnswer.TheVariants.{Source}
 use Rattle.pipe_types.specs.declared.step.SourceHow.TheVariants.{End, Fault, TooLong}
 use Rattle.pipe_types.specs.declared.step.DrainCause.TheVariants.{Sources, Control, Limit as LimitCause, Idle}
 use Rattle.pipe_types.specs.Numbers.{stage}
+use Rattle.pipe_model.specs.History.{history}
 use Rattle.pipe_model.specs.Moves.{StepMove, move}
 use Rattle.model_checks.proofs.Base.{may_come_after, is_refused_after, one_each, sub, one_ruled, two_processors, two_producers}
 
@@ -94,9 +95,16 @@ drain_twice = refl
 drain_for_another_cause : is_refused_after one_each (fetched ++ SourceEnd (stage 1) End ∷ Drain Control ∷ []) (Drain Sources) ≡ true
 drain_for_another_cause = refl
 
--- the first cause that holds: sources, the limit, idling
-first_cause : move (record one_each { record_limit = 0; idle_limit = 1 }) [] ≡ StepMove (Drain LimitCause)
-first_cause = refl
+-- of the causes that hold the pipeline takes the limit before idling
+abbrev limit_and_end : List Step
+limit_and_end =
+    Ask (sub 3 1 1) 10 ∷ Ask (sub 3 2 1) 10 ∷ Fetch (stage 1) 10 ∷ Fetch (stage 2) 10 ∷ Accept (stage 1) (codes "xyz" ∷ []) ∷ Dispatch (stage 1) ∷ Quiet (stage 2) ∷ []
+
+limit_before_idling : move (record two_producers { byte_limit = 3; idle_limit = 1 }) (history limit_and_end) ≡ StepMove (Drain LimitCause)
+limit_before_idling = refl
+
+idling_without_the_limit : move (record two_producers { byte_limit = 4; idle_limit = 1 }) (history limit_and_end) ≡ StepMove (Drain Idle)
+idling_without_the_limit = refl
 
 -- Refuse
 

@@ -1,6 +1,6 @@
 -- Rows that need long records or long journals.
 use Rattle.std.proofs.Common.{◌≡◌, refl}
-use Rattle.std.specs.Prelude.{ℕ, zero, suc, Bool, true, false, List, [], ◌∷◌, map, codes, replicate, bytes_eq}
+use Rattle.std.specs.Prelude.{ℕ, zero, suc, Bool, true, false, List, [], ◌∷◌, ◌++◌, map, codes, length, replicate, bytes_eq}
 use Rattle.pipe_types.specs.declared.topology.Rule.TheVariants.{Prefix}
 use Rattle.pipe_types.specs.declared.message.Reply.{Reply}
 use Rattle.pipe_types.specs.declared.message.Reply.TheVariants.{Failed as FailedReply}
@@ -11,6 +11,7 @@ use Rattle.pipe_types.specs.declared.step.LateAnswer.TheVariants.{Records}
 use Rattle.pipe_types.specs.declared.step.SourceHow.TheVariants.{End, Limit as LimitHow}
 use Rattle.pipe_types.specs.declared.step.DrainCause.TheVariants.{Control}
 use Rattle.pipe_types.specs.Numbers.{stage}
+use Rattle.pipe_types.specs.Lines.{lines, lines_of_pieces, pieces}
 use Rattle.pipe_types.specs.Handlers.{rule_reply, may_pass}
 use Rattle.pipe_model.specs.Legal.{allows}
 use Rattle.model_checks.proofs.Base.{one_each, sub, msg, keyed}
@@ -83,3 +84,14 @@ not_before = refl
 
 ends_before : allows one_each (refused_lines 9999) (SourceEnd (stage 0) End) ≡ true
 ends_before = refl
+
+-- Lines
+
+-- a line of 65,536 bytes is one, also as a last piece; the list stops before a longer one, whatever follows
+up_to_the_limit : map (λ n. length (lines (codes "a" ++ 10 ∷ replicate n 97))) (65536 ∷ 65537 ∷ []) ≡ 2 ∷ 1 ∷ []
+unfolding lines lines_of_pieces pieces
+up_to_the_limit = refl
+
+stops_at_the_limit : map (λ n. length (lines (replicate n 97 ++ 10 ∷ codes "a" ++ 10 ∷ []))) (65536 ∷ 65537 ∷ []) ≡ 2 ∷ 0 ∷ []
+unfolding lines lines_of_pieces pieces
+stops_at_the_limit = refl
