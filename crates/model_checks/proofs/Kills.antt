@@ -20,7 +20,7 @@ use Rattle.pipe_model.specs.Flow.{place, open_demand}
 use Rattle.pipe_model.specs.Ledger.{handled}
 use Rattle.pipe_model.specs.Moves.{Halted, StepMove, move}
 use Rattle.pipe_model.specs.Acknowledgements.{acknowledgements, is_lossless}
-use Rattle.model_checks.proofs.Base.{is_run, is_sound, producer, processor, with_stages, sub, passes, feeding, batcher, batch_processor, strict}
+use Rattle.model_checks.proofs.Base.{is_run, is_sound, producer, processor, with_stages, one_each, sub, passes, feeding, batcher, batch_processor, strict}
 
 -- A kill of a producer takes the processor with it
 
@@ -112,6 +112,9 @@ closed_counts = refl
 
 closed_demand : map (open_demand temporary_push (history handled_after_the_kill)) (sub 2 1 1 ∷ sub 2 1 2 ∷ []) ≡ 0 ∷ 10 ∷ []
 closed_demand = refl
+
+closed_with_demand_left : map (λ s. open_demand one_each (history (Ask (sub 2 1 1) 10 ∷ Kill (stage s) ByKill ∷ [])) (sub 2 1 1)) (1 ∷ 2 ∷ []) ≡ 0 ∷ 0 ∷ []
+closed_with_demand_left = refl
 
 -- A cascade goes level by level, as far as the modes exit for the first reason
 

@@ -79,6 +79,10 @@ drain_at_the_bytes = refl
 no_fetch_at_the_bytes : is_refused_after four_bytes four_bytes_came (Fetch (stage 1) 6) ≡ true
 no_fetch_at_the_bytes = refl
 
+-- late bytes count too
+late_bytes_count : may_come_after four_bytes (Ask (sub 2 1 1) 10 ∷ Fetch (stage 1) 10 ∷ Kill (stage 1) ByKill ∷ Late (stage 1) 0 1 (Records (codes "abcd" ∷ [])) ∷ []) (Drain LimitCause) ≡ true
+late_bytes_count = refl
+
 -- Overflow
 
 -- a pushing producer without a buffer, and a processor that asks for two

@@ -17,6 +17,7 @@ use Rattle.pipe_types.specs.Numbers.{stage, message_no}
 use Rattle.pipe_model.specs.History.{history}
 use Rattle.pipe_model.specs.Flow.{place}
 use Rattle.pipe_model.specs.Ledger.{handled}
+use Rattle.pipe_model.specs.Work.{count}
 use Rattle.pipe_model.specs.Acknowledgements.{acknowledgements}
 use Rattle.pipe_model.specs.Outside.{sink_text}
 use Rattle.model_checks.proofs.Base.{is_run, producer, processor, with_stages, sub, passes, feeding, batcher, batch_processor}
@@ -97,6 +98,13 @@ raised_legal = refl
 
 raised_text : sink_text raising (history raised) (stage 4) ≡ []
 raised_text = refl
+
+-- the messages behind the one that raised are not evaluated, and do not count
+abbrev raising_at_once : Topology
+raising_at_once = pairs (λ spec. record spec { rules = RaiseRule (codes "h") ∷ [] })
+
+raised_count : map (λ topology. count topology (history raised) (stage 4)) (raising ∷ raising_at_once ∷ []) ≡ 2 ∷ 1 ∷ []
+raised_count = refl
 
 -- a batch that crashes writes nothing, and the kill loses its messages
 abbrev crashing : Topology
