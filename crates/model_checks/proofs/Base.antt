@@ -1,5 +1,5 @@
 -- Small pipelines, their subscriptions and messages, and the tests that the rows use.
-use Rattle.std.specs.Prelude.{ℕ, ◌+◌, Bool, true, false, not, nat_le, length, ◌&&◌, List, [], ◌∷◌, ◌++◌, codes, Option, Some, None}
+use Rattle.std.specs.Prelude.{ℕ, ◌+◌, Bool, false, not, nat_le, length, ◌&&◌, List, [], ◌∷◌, ◌++◌, codes, Some, None}
 use Rattle.std.specs.List.{list_all}
 use Rattle.pipe_types.specs.declared.numbers.SubNo.{SubNo}
 use Rattle.pipe_types.specs.declared.topology.Topology.{Topology}
@@ -8,7 +8,7 @@ use Rattle.pipe_types.specs.declared.topology.Rule.{Rule}
 use Rattle.pipe_types.specs.declared.topology.Rule.TheVariants.{Key, Crash as CrashRule}
 use Rattle.pipe_types.specs.declared.topology.Role.{Role}
 use Rattle.pipe_types.specs.declared.topology.Role.TheVariants.{Producer, Processor, Supervisor, Batcher, BatchProcessor}
-use Rattle.pipe_types.specs.declared.topology.Dispatch.TheVariants.{Demand, Broadcast, Partition}
+use Rattle.pipe_types.specs.declared.topology.Dispatch.TheVariants.{Demand, Partition}
 use Rattle.pipe_types.specs.declared.topology.Keep.TheVariants.{Last}
 use Rattle.pipe_types.specs.declared.topology.CancelMode.TheVariants.{Temporary, Permanent}
 use Rattle.pipe_types.specs.declared.topology.Kind.TheVariants.{Steps, Lines}
@@ -19,7 +19,7 @@ use Rattle.pipe_types.specs.declared.message.Reply.TheVariants.{Pass}
 use Rattle.pipe_types.specs.declared.step.Step.{Step}
 use Rattle.pipe_types.specs.Numbers.{stage, subscription}
 use Rattle.pipe_types.specs.Sound.{is_ordered, is_named, are_distinct, producers, batchers, has_fields, is_reached, are_settings}
-use Rattle.pipe_model.specs.History.{History, history}
+use Rattle.pipe_model.specs.History.{history}
 use Rattle.pipe_model.specs.Content.{new_message}
 use Rattle.pipe_model.specs.Legal.{allows, is_legal}
 

@@ -18,7 +18,7 @@ use Rattle.pipe_model.specs.Flow.{place}
 use Rattle.pipe_model.specs.Ledger.{handled}
 use Rattle.pipe_model.specs.Work.{count}
 use Rattle.pipe_model.specs.Acknowledgements.{acknowledgements}
-use Rattle.model_checks.proofs.Base.{is_run, is_refused_after, producer, sub, passes, one_ruled}
+use Rattle.model_checks.proofs.Base.{is_run, is_refused_after, sub, passes, one_ruled}
 
 abbrev ruled : Topology
 ruled = one_ruled (CrashRule (codes "!") ∷ FailEvery 4 ∷ [])

@@ -12,7 +12,6 @@ use Rattle.pipe_types.specs.declared.step.Step.{Step}
 use Rattle.pipe_types.specs.declared.step.Step.TheVariants.{Ask, Fetch, Accept, Dispatch, Take, Done}
 use Rattle.pipe_types.specs.Numbers.{stage}
 use Rattle.pipe_types.specs.Dispatchers.{sends_by_place, partition_of}
-use Rattle.pipe_types.specs.Handlers.{field}
 use Rattle.pipe_model.specs.History.{history}
 use Rattle.pipe_model.specs.Flow.{place}
 use Rattle.model_checks.proofs.Base.{is_run, producer, processor, with_stages, sub, msg, feeding, batcher, batch_processor}

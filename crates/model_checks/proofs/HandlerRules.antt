@@ -11,7 +11,7 @@ use Rattle.pipe_types.specs.declared.message.Outcome.TheVariants.{Successful, Fa
 use Rattle.pipe_types.specs.declared.message.BatchEnd.TheVariants.{Outcomes, Crashed as CrashedEnd}
 use Rattle.pipe_types.specs.Handlers.{field, eval, chunk_replies, batch_end, batch_text}
 use Rattle.pipe_model.specs.Work.{count}
-use Rattle.model_checks.proofs.Base.{processor, msg, batcher}
+use Rattle.model_checks.proofs.Base.{processor, msg}
 
 -- the reply of a handler with these rules to message 1 with this payload, where it has seen so many messages before
 abbrev replies : (count : ℕ) → List Rule → (payload : List ℕ) → Reply

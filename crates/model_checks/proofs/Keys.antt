@@ -16,7 +16,7 @@ use Rattle.pipe_model.specs.Flow.{place}
 use Rattle.pipe_model.specs.Moves.{Drained, StepMove, Job, move}
 use Rattle.pipe_model.specs.Acknowledgements.{acknowledgements, is_lossless}
 use Rattle.pipe_model.specs.Outside.{fed, sink_text}
-use Rattle.model_checks.proofs.Base.{is_run, producer, sub, keyed, by_key}
+use Rattle.model_checks.proofs.Base.{is_run, sub, keyed, by_key}
 
 -- the processor makes the payload the key; the batches of a key go to the sink in the order in which they closed
 abbrev two_keys : List Step

@@ -13,7 +13,7 @@ use Rattle.pipe_model.specs.History.{history}
 use Rattle.pipe_model.specs.Flow.{place}
 use Rattle.pipe_model.specs.Moves.{is_drained}
 use Rattle.pipe_model.specs.Acknowledgements.{acknowledgements, is_lossless}
-use Rattle.model_checks.proofs.Base.{is_run, producer, one_each, sub, msg}
+use Rattle.model_checks.proofs.Base.{is_run, one_each, sub, msg}
 
 abbrev one_line : List Step
 one_line =

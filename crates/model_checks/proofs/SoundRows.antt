@@ -10,7 +10,6 @@ use Rattle.pipe_types.specs.declared.topology.Keep.TheVariants.{First}
 use Rattle.pipe_types.specs.declared.topology.CancelMode.TheVariants.{Transient, Permanent}
 use Rattle.pipe_types.specs.declared.topology.Kind.TheVariants.{Steps, Lines, Own}
 use Rattle.pipe_types.specs.declared.topology.ChildMode.TheVariants.{Temporary as TemporaryChild, Transient as TransientChild}
-use Rattle.pipe_types.specs.Handlers.{field}
 use Rattle.model_checks.proofs.Base.{is_sound, producer, processor, with_stages, one_each, feeding, batcher, batch_processor, supervisor, one_ruled, strict, two_processors, two_producers, by_key, supervised}
 
 -- The small pipelines

@@ -12,7 +12,7 @@ use Rattle.pipe_model.specs.History.{history}
 use Rattle.pipe_model.specs.Flow.{place}
 use Rattle.pipe_model.specs.Moves.{Drained, StepMove, Job, JobsOut, move}
 use Rattle.pipe_model.specs.Acknowledgements.{acknowledgements}
-use Rattle.model_checks.proofs.Base.{is_run, producer, sub, passes, two_processors}
+use Rattle.model_checks.proofs.Base.{is_run, sub, passes, two_processors}
 
 abbrev xs : ℕ → List (List ℕ)
 xs n = replicate n (codes "x")
