@@ -23,7 +23,8 @@ use Rattle.model_checks.proofs.Base.{may_come_after, is_refused_after, producer,
 -- so many lines `x`, and then one `y`, stand in the inbox of the batcher
 abbrev lines_to_the_batcher : ℕ → List Step
 lines_to_the_batcher n =
-    Ask (sub 2 1 1) 10 ∷ Ask (sub 3 2 1) 3 ∷ Ask (sub 4 3 1) 1 ∷ Fetch (stage 1) 10 ∷ Accept (stage 1) (replicate n (codes "x") ++ codes "y" ∷ []) ∷ Dispatch (stage 1)
+    Ask (sub 2 1 1) 10 ∷ Ask (sub 3 2 1) 3 ∷ Ask (sub 4 3 1) 1 ∷ Fetch (stage 1) 10
+    ∷ Accept (stage 1) (replicate n (codes "x") ++ codes "y" ∷ []) ∷ Dispatch (stage 1)
     ∷ Take (stage 2) (sub 2 1 1) (n + 1) ∷ Done (stage 2) (keyed_from 1 n) ∷ Dispatch (stage 2) ∷ []
   where
     keyed_from : ℕ → ℕ → List Reply
@@ -67,14 +68,17 @@ gather_without_room = refl
 abbrev of_one : Topology
 of_one =
     with_stages
-    (producer 1 (codes "p") 0 ∷ feeding 1 (processor 2 (codes "processors.0") 0 (Key 0 ∷ [])) ∷ record (batcher 3 (codes "b") 0) { batch_size = 1 }
+    (producer 1 (codes "p") 0 ∷ feeding 1 (processor 2 (codes "processors.0") 0 (Key 0 ∷ []))
+    ∷ record (batcher 3 (codes "b") 0) { batch_size = 1 }
     ∷ batch_processor 4 (codes "b.0") 0 0 ∷ [])
 
-gather_over_what_waits : is_refused_after of_one (two_sent ++ Gather (stage 3) (message_no 1) ∷ Close (stage 3) (message_no 1) Size ∷ []) (Gather (stage 3) (message_no 2)) ≡ true
+gather_over_what_waits : is_refused_after of_one (two_sent ++ Gather (stage 3) (message_no 1) ∷ Close (stage 3) (message_no 1) Size ∷ [])
+    (Gather (stage 3) (message_no 2)) ≡ true
 gather_over_what_waits = refl
 
 -- not into a full batch of its key, and into another key's all the same
-gather_into_a_full : is_refused_after of_one (lines_to_the_batcher 2 ++ Gather (stage 3) (message_no 1) ∷ []) (Gather (stage 3) (message_no 2)) ≡ true
+gather_into_a_full : is_refused_after of_one (lines_to_the_batcher 2 ++ Gather (stage 3) (message_no 1) ∷ [])
+    (Gather (stage 3) (message_no 2)) ≡ true
 gather_into_a_full = refl
 
 gather_beside_a_full : may_come_after of_one (two_sent ++ Gather (stage 3) (message_no 1) ∷ []) (Gather (stage 3) (message_no 2)) ≡ true
@@ -89,7 +93,8 @@ flushing =
 
 abbrev flush_first : List Step
 flush_first =
-    take 7 two_sent ++ Done (stage 2) (Pass (record (msg 1 (codes "x")) { flush = true }) ∷ Pass (msg 2 (codes "y")) ∷ []) ∷ Dispatch (stage 2)
+    take 7 two_sent ++ Done (stage 2) (Pass (record (msg 1 (codes "x")) { flush = true }) ∷ Pass (msg 2 (codes "y")) ∷ [])
+    ∷ Dispatch (stage 2)
     ∷ Gather (stage 3) (message_no 1) ∷ []
 
 gather_behind_a_flush : is_refused_after flushing flush_first (Gather (stage 3) (message_no 2)) ≡ true
@@ -139,7 +144,8 @@ close_by_the_later = refl
 close_full_by_flush : is_refused_after of_one (gathered_two ++ Drain Control ∷ []) (Close (stage 3) (message_no 1) Flush) ≡ true
 close_full_by_flush = refl
 
-close_dry_by_timeout : is_refused_after by_key (gathered_two ++ Drain Control ∷ Tick 1000 ∷ []) (Close (stage 3) (message_no 1) Timeout) ≡ true
+close_dry_by_timeout : is_refused_after by_key (gathered_two ++ Drain Control ∷ Tick 1000 ∷ []) (Close (stage 3) (message_no 1) Timeout)
+    ≡ true
 close_dry_by_timeout = refl
 
 -- named by the first message of the batch
@@ -153,7 +159,8 @@ close_of_what_is_not_gathered = refl
 close_of_nothing : is_refused_after of_one two_sent (Close (stage 3) (message_no 0) Size) ≡ true
 close_of_nothing = refl
 
-close_again : is_refused_after of_one (gathered_two ++ Close (stage 3) (message_no 1) Size ∷ []) (Close (stage 3) (message_no 1) Size) ≡ true
+close_again : is_refused_after of_one (gathered_two ++ Close (stage 3) (message_no 1) Size ∷ []) (Close (stage 3) (message_no 1) Size)
+    ≡ true
 close_again = refl
 
 -- by its own batcher, which lives
@@ -164,7 +171,8 @@ close_while_dead : is_refused_after of_one (gathered_two ++ Kill (stage 3) ByKil
 close_while_dead = refl
 
 -- what was gathered in a killed batcher is lost
-gathered_is_lost : map (place of_one (history (gathered_two ++ Kill (stage 3) ByStop ∷ []))) (1 ∷ 2 ∷ []) ≡ replicate 2 (Some (Lost (Killed (stage 3) 1 ByStop)))
+gathered_is_lost : map (place of_one (history (gathered_two ++ Kill (stage 3) ByStop ∷ []))) (1 ∷ 2 ∷ [])
+    ≡ replicate 2 (Some (Lost (Killed (stage 3) 1 ByStop)))
 gathered_is_lost = refl
 
 -- Wrote
@@ -210,7 +218,8 @@ wrote_a_crash = refl
 abbrev crashing : Topology
 crashing =
     with_stages
-    (producer 1 (codes "p") 0 ∷ feeding 1 (processor 2 (codes "processors.0") 0 (Key 0 ∷ [])) ∷ record (batcher 3 (codes "b") 0) { batch_size = 1 }
+    (producer 1 (codes "p") 0 ∷ feeding 1 (processor 2 (codes "processors.0") 0 (Key 0 ∷ []))
+    ∷ record (batcher 3 (codes "b") 0) { batch_size = 1 }
     ∷ record (batch_processor 4 (codes "b.0") 0 0) { rules = CrashRule (codes "x") ∷ [] } ∷ [])
 
 crash_without_bytes : may_come_after crashing taken_batch (Wrote (stage 4) 0 CrashedEnd) ≡ true
@@ -232,7 +241,8 @@ crash_owes_it_now = refl
 abbrev no_sink : Topology
 no_sink =
     with_stages
-    (producer 1 (codes "p") 0 ∷ feeding 1 (processor 2 (codes "processors.0") 0 (Key 0 ∷ [])) ∷ record (batcher 3 (codes "b") 0) { batch_size = 1 }
+    (producer 1 (codes "p") 0 ∷ feeding 1 (processor 2 (codes "processors.0") 0 (Key 0 ∷ []))
+    ∷ record (batcher 3 (codes "b") 0) { batch_size = 1 }
     ∷ record (batch_processor 4 (codes "b.0") 0 0) { edge = None } ∷ [])
 
 no_sink_no_bytes : may_come_after no_sink taken_batch (Wrote (stage 4) 0 (Outcomes (Successful ∷ []))) ≡ true
@@ -248,12 +258,14 @@ no_sink_to_fail = refl
 abbrev every_second : Topology
 every_second =
     with_stages
-    (producer 1 (codes "p") 0 ∷ feeding 1 (processor 2 (codes "processors.0") 0 (Key 0 ∷ [])) ∷ record (batcher 3 (codes "b") 0) { batch_size = 1 }
+    (producer 1 (codes "p") 0 ∷ feeding 1 (processor 2 (codes "processors.0") 0 (Key 0 ∷ []))
+    ∷ record (batcher 3 (codes "b") 0) { batch_size = 1 }
     ∷ record (batch_processor 4 (codes "b.0") 0 0) { rules = FailEvery 2 ∷ [] } ∷ [])
 
 abbrev second_batch : List Step
 second_batch =
-    taken_batch ++ Wrote (stage 4) 2 (Outcomes (Successful ∷ [])) ∷ Ask (sub 4 3 1) 1 ∷ Close (stage 3) (message_no 2) Size ∷ Dispatch (stage 3)
+    taken_batch ++ Wrote (stage 4) 2 (Outcomes (Successful ∷ [])) ∷ Ask (sub 4 3 1) 1 ∷ Close (stage 3) (message_no 2) Size
+    ∷ Dispatch (stage 3)
     ∷ Take (stage 4) (sub 4 3 1) 1 ∷ []
 
 second_fails : may_come_after every_second second_batch (Wrote (stage 4) 0 (Outcomes (Failed (codes "every") ∷ []))) ≡ true
@@ -263,13 +275,16 @@ second_passes_not : is_refused_after every_second second_batch (Wrote (stage 4) 
 second_passes_not = refl
 
 -- only while the take is out, by a batch processor that lives
-wrote_untaken : is_refused_after of_one (gathered_two ++ Close (stage 3) (message_no 1) Size ∷ Dispatch (stage 3) ∷ []) (Wrote (stage 4) 2 (Outcomes (Successful ∷ []))) ≡ true
+wrote_untaken : is_refused_after of_one (gathered_two ++ Close (stage 3) (message_no 1) Size ∷ Dispatch (stage 3) ∷ [])
+    (Wrote (stage 4) 2 (Outcomes (Successful ∷ []))) ≡ true
 wrote_untaken = refl
 
-wrote_twice : is_refused_after of_one (taken_batch ++ Wrote (stage 4) 2 (Outcomes (Successful ∷ [])) ∷ []) (Wrote (stage 4) 2 (Outcomes (Successful ∷ []))) ≡ true
+wrote_twice : is_refused_after of_one (taken_batch ++ Wrote (stage 4) 2 (Outcomes (Successful ∷ [])) ∷ [])
+    (Wrote (stage 4) 2 (Outcomes (Successful ∷ []))) ≡ true
 wrote_twice = refl
 
-wrote_while_dead : is_refused_after of_one (taken_batch ++ Kill (stage 4) ByKill ∷ []) (Wrote (stage 4) 2 (Outcomes (Successful ∷ []))) ≡ true
+wrote_while_dead : is_refused_after of_one (taken_batch ++ Kill (stage 4) ByKill ∷ []) (Wrote (stage 4) 2 (Outcomes (Successful ∷ [])))
+    ≡ true
 wrote_while_dead = refl
 
 wrote_by_a_processor : is_refused_after of_one (take 7 two_sent) (Wrote (stage 2) 0 (Outcomes [])) ≡ true
@@ -285,7 +300,8 @@ own sink =
 
 abbrev taken_pair : List Step
 taken_pair =
-    take 7 two_sent ++ Done (stage 2) (passes 1 (codes "x" ∷ codes "y" ∷ [])) ∷ Dispatch (stage 2) ∷ Gather (stage 3) (message_no 1) ∷ Gather (stage 3) (message_no 2)
+    take 7 two_sent ++ Done (stage 2) (passes 1 (codes "x" ∷ codes "y" ∷ [])) ∷ Dispatch (stage 2) ∷ Gather (stage 3) (message_no 1)
+    ∷ Gather (stage 3) (message_no 2)
     ∷ Close (stage 3) (message_no 1) Size ∷ Dispatch (stage 3) ∷ Take (stage 4) (sub 4 3 1) 1 ∷ []
 
 abbrev sink : Option (List ℕ)
@@ -308,10 +324,12 @@ own_less_with_success = refl
 own_less : may_come_after (own sink) taken_pair (Wrote (stage 4) 3 (Outcomes (Failed (codes "sink") ∷ Failed (codes "sink") ∷ []))) ≡ true
 own_less = refl
 
-own_less_of_one : is_refused_after (own sink) taken_pair (Wrote (stage 4) 2 (Outcomes (Failed (codes "sink") ∷ Failed (codes "no") ∷ []))) ≡ true
+own_less_of_one : is_refused_after (own sink) taken_pair (Wrote (stage 4) 2 (Outcomes (Failed (codes "sink") ∷ Failed (codes "no") ∷ [])))
+    ≡ true
 own_less_of_one = refl
 
-own_less_of_both : is_refused_after (own sink) taken_pair (Wrote (stage 4) 4 (Outcomes (Failed (codes "sink") ∷ Failed (codes "sink") ∷ []))) ≡ true
+own_less_of_both : is_refused_after (own sink) taken_pair (Wrote (stage 4) 4
+    (Outcomes (Failed (codes "sink") ∷ Failed (codes "sink") ∷ []))) ≡ true
 own_less_of_both = refl
 
 -- a failure of the sink beside a success is none of the three ends
@@ -339,5 +357,6 @@ own_no_sink = refl
 own_no_sink_with_bytes : is_refused_after (own None) taken_pair (Wrote (stage 4) 4 (Outcomes (Successful ∷ Successful ∷ []))) ≡ true
 own_no_sink_with_bytes = refl
 
-own_no_sink_failed : is_refused_after (own None) taken_pair (Wrote (stage 4) 0 (Outcomes (Failed (codes "sink") ∷ Failed (codes "sink") ∷ []))) ≡ true
+own_no_sink_failed : is_refused_after (own None) taken_pair (Wrote (stage 4) 0
+    (Outcomes (Failed (codes "sink") ∷ Failed (codes "sink") ∷ []))) ≡ true
 own_no_sink_failed = refl

@@ -24,7 +24,8 @@ use Rattle.model_checks.proofs.Base.{is_run, producer, processor, with_stages, s
 abbrev to_both : (first second : StageSpec → StageSpec) → Topology
 to_both first second =
     with_stages
-    (producer 1 (codes "p") 0 ∷ feeding 1 (processor 2 (codes "processors.0") 0 []) ∷ record (batcher 3 (codes "b") 0) { dispatch = Broadcast; batch_size = 2 }
+    (producer 1 (codes "p") 0 ∷ feeding 1 (processor 2 (codes "processors.0") 0 [])
+    ∷ record (batcher 3 (codes "b") 0) { dispatch = Broadcast; batch_size = 2 }
     ∷ first (batch_processor 4 (codes "b.0") 0 0) ∷ second (batch_processor 5 (codes "b.1") 0 1) ∷ [])
 
 abbrev same : StageSpec → StageSpec
@@ -35,9 +36,12 @@ both = to_both same same
 
 abbrev until_taken : List Step
 until_taken =
-    Ask (sub 2 1 1) 10 ∷ Ask (sub 3 2 1) 3 ∷ Ask (sub 4 3 1) 1 ∷ Ask (sub 5 3 1) 1 ∷ Fetch (stage 1) 10 ∷ Accept (stage 1) (codes "x" ∷ codes "y" ∷ []) ∷ Dispatch (stage 1)
-    ∷ Take (stage 2) (sub 2 1 1) 2 ∷ Done (stage 2) (passes 1 (codes "x" ∷ codes "y" ∷ [])) ∷ Dispatch (stage 2) ∷ Gather (stage 3) (message_no 1)
-    ∷ Gather (stage 3) (message_no 2) ∷ Close (stage 3) (message_no 1) Size ∷ Dispatch (stage 3) ∷ Take (stage 4) (sub 4 3 1) 1 ∷ Take (stage 5) (sub 5 3 1) 1 ∷ []
+    Ask (sub 2 1 1) 10 ∷ Ask (sub 3 2 1) 3 ∷ Ask (sub 4 3 1) 1 ∷ Ask (sub 5 3 1) 1 ∷ Fetch (stage 1) 10
+    ∷ Accept (stage 1) (codes "x" ∷ codes "y" ∷ []) ∷ Dispatch (stage 1)
+    ∷ Take (stage 2) (sub 2 1 1) 2 ∷ Done (stage 2) (passes 1 (codes "x" ∷ codes "y" ∷ [])) ∷ Dispatch (stage 2)
+    ∷ Gather (stage 3) (message_no 1)
+    ∷ Gather (stage 3) (message_no 2) ∷ Close (stage 3) (message_no 1) Size ∷ Dispatch (stage 3) ∷ Take (stage 4) (sub 4 3 1) 1
+    ∷ Take (stage 5) (sub 5 3 1) 1 ∷ []
 
 -- One leg answered, and one lost
 
@@ -48,7 +52,8 @@ is_legal_lost : is_run both one_leg_lost ≡ true
 is_legal_lost = refl
 
 -- one answer settles nothing
-not_settled_yet : map (place both (history (take 17 one_leg_lost))) (1 ∷ 2 ∷ []) ≡ Some (InBatch (batch_no 1)) ∷ Some (InBatch (batch_no 1)) ∷ []
+not_settled_yet : map (place both (history (take 17 one_leg_lost))) (1 ∷ 2 ∷ []) ≡ Some (InBatch (batch_no 1)) ∷ Some (InBatch (batch_no 1))
+    ∷ []
 not_settled_yet = refl
 
 -- the lost leg loses both messages, with its stage, incarnation and reason
@@ -96,7 +101,8 @@ is_legal_fail : is_run failing both_fail ≡ true
 is_legal_fail = refl
 
 -- a message fails where a leg failed it, with the reason of the least such leg
-is_failed : map (place failing (history both_fail)) (1 ∷ 2 ∷ []) ≡ Some (Acked (Failed (codes "second"))) ∷ Some (Acked (Failed (codes "first"))) ∷ []
+is_failed : map (place failing (history both_fail)) (1 ∷ 2 ∷ []) ≡ Some (Acked (Failed (codes "second")))
+    ∷ Some (Acked (Failed (codes "first"))) ∷ []
 is_failed = refl
 
 is_acknowledged : acknowledgements failing (history both_fail) ≡ record { producer = stage 1; successful = []; failed = 1 ∷ 2 ∷ [] } ∷ []
@@ -105,7 +111,8 @@ is_acknowledged = refl
 -- where both succeed, both sinks have the text
 abbrev both_succeed : List Step
 both_succeed =
-    until_taken ++ Wrote (stage 5) 4 (Outcomes (Successful ∷ Successful ∷ [])) ∷ Wrote (stage 4) 4 (Outcomes (Successful ∷ Successful ∷ [])) ∷ []
+    until_taken ++ Wrote (stage 5) 4 (Outcomes (Successful ∷ Successful ∷ [])) ∷ Wrote (stage 4) 4 (Outcomes (Successful ∷ Successful ∷ []))
+    ∷ []
 
 is_legal_succeed : is_run both both_succeed ≡ true
 is_legal_succeed = refl
@@ -113,7 +120,8 @@ is_legal_succeed = refl
 is_acked : map (place both (history both_succeed)) (1 ∷ 2 ∷ []) ≡ replicate 2 (Some (Acked Successful))
 is_acked = refl
 
-is_written_twice : map (sink_text both (history both_succeed)) (stage 4 ∷ stage 5 ∷ []) ≡ replicate 2 (codes "x" ++ 10 ∷ codes "y" ++ 10 ∷ [])
+is_written_twice : map (sink_text both (history both_succeed)) (stage 4 ∷ stage 5 ∷ [])
+    ≡ replicate 2 (codes "x" ++ 10 ∷ codes "y" ++ 10 ∷ [])
 is_written_twice = refl
 
 -- A batch is sent to those that are live, and waits where one of them has no demand
@@ -121,7 +129,8 @@ is_written_twice = refl
 abbrev until_closed : List Step
 until_closed = take 13 until_taken
 
-sent_to_the_live : place both (history (until_closed ++ Kill (stage 5) ByKill ∷ Dispatch (stage 3) ∷ Take (stage 4) (sub 4 3 1) 1 ∷ Wrote (stage 4) 4 (Outcomes (Successful ∷ Successful ∷ [])) ∷ [])) 1 ≡ Some (Acked Successful)
+sent_to_the_live : place both (history (until_closed ++ Kill (stage 5) ByKill ∷ Dispatch (stage 3) ∷ Take (stage 4) (sub 4 3 1) 1
+    ∷ Wrote (stage 4) 4 (Outcomes (Successful ∷ Successful ∷ [])) ∷ [])) 1 ≡ Some (Acked Successful)
 sent_to_the_live = refl
 
 -- a kill of the batcher loses the batch that waits in it, and not one that was sent

@@ -45,12 +45,14 @@ child_beside_it : may_come_after supervised first_runs (Child (stage 2) (message
 child_beside_it = refl
 
 -- in a slot whose message was answered
-child_after_another : may_come_after supervised (first_runs ++ ChildEnd (stage 2) 0 (Pass (msg 1 (codes "a"))) ∷ []) (Child (stage 2) (message_no 2) 0) ≡ true
+child_after_another : may_come_after supervised (first_runs ++ ChildEnd (stage 2) 0 (Pass (msg 1 (codes "a"))) ∷ [])
+    (Child (stage 2) (message_no 2) 0) ≡ true
 child_after_another = refl
 
 -- a message that crashed runs again in its own slot, and no other has that slot meanwhile
 abbrev crashed_once : List Step
-crashed_once = sent_two ++ Child (stage 2) (message_no 1) 0 ∷ ChildEnd (stage 2) 0 (Pass (msg 1 (codes "a"))) ∷ Child (stage 2) (message_no 2) 0 ∷ ChildEnd (stage 2) 0 Crashed ∷ []
+crashed_once = sent_two ++ Child (stage 2) (message_no 1) 0 ∷ ChildEnd (stage 2) 0 (Pass (msg 1 (codes "a")))
+    ∷ Child (stage 2) (message_no 2) 0 ∷ ChildEnd (stage 2) 0 Crashed ∷ []
 
 child_again : may_come_after supervised crashed_once (Child (stage 2) (message_no 2) 0) ≡ true
 child_again = refl
@@ -58,12 +60,14 @@ child_again = refl
 child_again_elsewhere : is_refused_after supervised crashed_once (Child (stage 2) (message_no 2) 1) ≡ true
 child_again_elsewhere = refl
 
-child_again_while_out : is_refused_after supervised (crashed_once ++ Child (stage 2) (message_no 2) 0 ∷ []) (Child (stage 2) (message_no 2) 0) ≡ true
+child_again_while_out : is_refused_after supervised (crashed_once ++ Child (stage 2) (message_no 2) 0 ∷ [])
+    (Child (stage 2) (message_no 2) 0) ≡ true
 child_again_while_out = refl
 
 abbrev crashed_beside : List Step
 crashed_beside =
-    Ask (sub 2 1 1) 2 ∷ Fetch (stage 1) 2 ∷ Accept (stage 1) (codes "!" ∷ codes "a" ∷ []) ∷ Dispatch (stage 1) ∷ Child (stage 2) (message_no 1) 0 ∷ ChildEnd (stage 2) 0 Crashed ∷ []
+    Ask (sub 2 1 1) 2 ∷ Fetch (stage 1) 2 ∷ Accept (stage 1) (codes "!" ∷ codes "a" ∷ []) ∷ Dispatch (stage 1)
+    ∷ Child (stage 2) (message_no 1) 0 ∷ ChildEnd (stage 2) 0 Crashed ∷ []
 
 child_in_a_held_slot : is_refused_after supervised crashed_beside (Child (stage 2) (message_no 2) 0) ≡ true
 child_in_a_held_slot = refl
@@ -72,11 +76,14 @@ child_in_the_free_slot : may_come_after supervised crashed_beside (Child (stage 
 child_in_the_free_slot = refl
 
 -- a temporary child's slot is free after its crash
-child_after_a_loss : may_come_after (with_stages (producer 1 (codes "p") 0 ∷ record (supervisor 2 (CrashRule (codes "!") ∷ [])) { child = TemporaryChild } ∷ [])) crashed_beside (Child (stage 2) (message_no 2) 0) ≡ true
+child_after_a_loss : may_come_after (with_stages (producer 1 (codes "p") 0
+    ∷ record (supervisor 2 (CrashRule (codes "!") ∷ [])) { child = TemporaryChild } ∷ [])) crashed_beside (Child (stage 2) (message_no 2) 0)
+    ≡ true
 child_after_a_loss = refl
 
 -- only a supervisor, which lives
-child_of_a_processor : is_refused_after one_each (Ask (sub 2 1 1) 10 ∷ Fetch (stage 1) 10 ∷ Accept (stage 1) (codes "x" ∷ []) ∷ Dispatch (stage 1) ∷ []) (Child (stage 2) (message_no 1) 0) ≡ true
+child_of_a_processor : is_refused_after one_each (Ask (sub 2 1 1) 10 ∷ Fetch (stage 1) 10 ∷ Accept (stage 1) (codes "x" ∷ [])
+    ∷ Dispatch (stage 1) ∷ []) (Child (stage 2) (message_no 1) 0) ≡ true
 child_of_a_processor = refl
 
 child_while_dead : is_refused_after supervised (sent_two ++ Kill (stage 2) ByKill ∷ []) (Child (stage 2) (message_no 1) 0) ≡ true
@@ -113,18 +120,21 @@ end_of_the_crashing_by_pass = refl
 end_of_a_free_slot : is_refused_after supervised first_runs (ChildEnd (stage 2) 1 (Pass (msg 1 (codes "a")))) ≡ true
 end_of_a_free_slot = refl
 
-end_twice : is_refused_after supervised (first_runs ++ ChildEnd (stage 2) 0 (Pass (msg 1 (codes "a"))) ∷ []) (ChildEnd (stage 2) 0 (Pass (msg 1 (codes "a")))) ≡ true
+end_twice : is_refused_after supervised (first_runs ++ ChildEnd (stage 2) 0 (Pass (msg 1 (codes "a"))) ∷ [])
+    (ChildEnd (stage 2) 0 (Pass (msg 1 (codes "a")))) ≡ true
 end_twice = refl
 
 end_between_runs : is_refused_after supervised crashed_once (ChildEnd (stage 2) 0 Crashed) ≡ true
 end_between_runs = refl
 
 -- not from a killed incarnation
-end_while_dead : is_refused_after supervised (first_runs ++ Kill (stage 2) ByKill ∷ []) (ChildEnd (stage 2) 0 (Pass (msg 1 (codes "a")))) ≡ true
+end_while_dead : is_refused_after supervised (first_runs ++ Kill (stage 2) ByKill ∷ []) (ChildEnd (stage 2) 0 (Pass (msg 1 (codes "a"))))
+    ≡ true
 end_while_dead = refl
 
 -- not by a processor
-end_by_a_processor : is_refused_after one_each (Ask (sub 2 1 1) 10 ∷ Fetch (stage 1) 10 ∷ Accept (stage 1) (codes "x" ∷ []) ∷ Dispatch (stage 1) ∷ Take (stage 2) (sub 2 1 1) 1 ∷ []) (ChildEnd (stage 2) 0 (Pass (msg 1 (codes "x")))) ≡ true
+end_by_a_processor : is_refused_after one_each (Ask (sub 2 1 1) 10 ∷ Fetch (stage 1) 10 ∷ Accept (stage 1) (codes "x" ∷ [])
+    ∷ Dispatch (stage 1) ∷ Take (stage 2) (sub 2 1 1) 1 ∷ []) (ChildEnd (stage 2) 0 (Pass (msg 1 (codes "x")))) ≡ true
 end_by_a_processor = refl
 
 -- a crash of a child owes no kill

@@ -26,10 +26,12 @@ use Rattle.model_checks.proofs.Base.{is_run, is_refused_after, producer, with_st
 
 abbrev four_runs : List Step
 four_runs =
-    Ask (sub 2 1 1) 2 ∷ Fetch (stage 1) 2 ∷ Accept (stage 1) (codes "a" ∷ codes "!" ∷ []) ∷ Dispatch (stage 1) ∷ Child (stage 2) (message_no 1) 0
+    Ask (sub 2 1 1) 2 ∷ Fetch (stage 1) 2 ∷ Accept (stage 1) (codes "a" ∷ codes "!" ∷ []) ∷ Dispatch (stage 1)
+    ∷ Child (stage 2) (message_no 1) 0
     ∷ Child (stage 2) (message_no 2) 1 ∷ ChildEnd (stage 2) 1 Crashed ∷ ChildEnd (stage 2) 0 (Pass (msg 1 (codes "a"))) ∷ Ask (sub 2 1 1) 1
     ∷ Child (stage 2) (message_no 2) 1 ∷ ChildEnd (stage 2) 1 Crashed ∷ Child (stage 2) (message_no 2) 1 ∷ ChildEnd (stage 2) 1 Crashed
-    ∷ Child (stage 2) (message_no 2) 1 ∷ ChildEnd (stage 2) 1 Crashed ∷ Ask (sub 2 1 1) 1 ∷ Fetch (stage 1) 2 ∷ SourceEnd (stage 1) End ∷ Drain Sources ∷ []
+    ∷ Child (stage 2) (message_no 2) 1 ∷ ChildEnd (stage 2) 1 Crashed ∷ Ask (sub 2 1 1) 1 ∷ Fetch (stage 1) 2 ∷ SourceEnd (stage 1) End
+    ∷ Drain Sources ∷ []
 
 is_legal_whole : is_run supervised four_runs ≡ true
 is_legal_whole = refl
@@ -99,7 +101,8 @@ counts_from_zero = refl
 -- A child that fails or raises
 
 abbrev failing_children : Topology
-failing_children = with_stages (producer 1 (codes "p") 0 ∷ record (supervisor 2 (Require (codes "a") ∷ RaiseRule (codes "a") ∷ [])) { failed = Some (codes "no") } ∷ [])
+failing_children = with_stages (producer 1 (codes "p") 0 ∷ record
+    (supervisor 2 (Require (codes "a") ∷ RaiseRule (codes "a") ∷ [])) { failed = Some (codes "no") } ∷ [])
 
 abbrev failed_children : List Step
 failed_children = take 6 four_runs ++ ChildEnd (stage 2) 0 (Raised (codes "no")) ∷ ChildEnd (stage 2) 1 (FailedReply (codes "no")) ∷ []

@@ -26,7 +26,8 @@ ruled = one_ruled (CrashRule (codes "!") ∷ FailEvery 4 ∷ [])
 abbrev crash_in_chunk : List Step
 crash_in_chunk =
     Ask (sub 2 1 1) 10 ∷ Fetch (stage 1) 10
-    ∷ Accept (stage 1) (codes "r1" ∷ codes "r2" ∷ codes "!3" ∷ codes "r4" ∷ codes "r5" ∷ codes "r6" ∷ codes "r7" ∷ codes "r8" ∷ codes "r9" ∷ codes "r10" ∷ [])
+    ∷ Accept (stage 1) (codes "r1" ∷ codes "r2" ∷ codes "!3" ∷ codes "r4" ∷ codes "r5" ∷ codes "r6" ∷ codes "r7" ∷ codes "r8" ∷ codes "r9"
+    ∷ codes "r10" ∷ [])
     ∷ Dispatch (stage 1) ∷ Take (stage 2) (sub 2 1 1) 5 ∷ Done (stage 2) (passes 1 (codes "r1" ∷ codes "r2" ∷ []) ++ Crashed ∷ [])
     ∷ Kill (stage 2) ByCrash ∷ []
 
@@ -41,7 +42,8 @@ is_legal_whole : is_run ruled crash_and_on ≡ true
 is_legal_whole = refl
 
 -- the answer itself moves nothing: what ran still runs, and what was passed before the crash too
-nothing_moves_yet : map (place ruled (history (take 6 crash_in_chunk))) (1 ∷ 3 ∷ 5 ∷ 6 ∷ []) ≡ Some (Running (stage 2)) ∷ Some (Running (stage 2)) ∷ Some (Running (stage 2)) ∷ Some (Inbox (sub 2 1 1)) ∷ []
+nothing_moves_yet : map (place ruled (history (take 6 crash_in_chunk))) (1 ∷ 3 ∷ 5 ∷ 6 ∷ []) ≡ Some (Running (stage 2))
+    ∷ Some (Running (stage 2)) ∷ Some (Running (stage 2)) ∷ Some (Inbox (sub 2 1 1)) ∷ []
 nothing_moves_yet = refl
 
 -- then only the kill may come, and it loses all that the stage holds
@@ -79,8 +81,11 @@ every_fourth =
 every_fourth_legal : is_run ruled every_fourth ≡ true
 every_fourth_legal = refl
 
-every_fourth_fails : map (place ruled (history every_fourth)) (3 ∷ 4 ∷ 5 ∷ 7 ∷ 8 ∷ []) ≡ Some (Acked Successful) ∷ Some (Acked (Failed (codes "every"))) ∷ Some (Acked Successful) ∷ Some (Acked Successful) ∷ Some (Acked (Failed (codes "every"))) ∷ []
+every_fourth_fails : map (place ruled (history every_fourth)) (3 ∷ 4 ∷ 5 ∷ 7 ∷ 8 ∷ []) ≡ Some (Acked Successful)
+    ∷ Some (Acked (Failed (codes "every"))) ∷ Some (Acked Successful) ∷ Some (Acked Successful) ∷ Some (Acked (Failed (codes "every"))) ∷ []
 every_fourth_fails = refl
 
-every_fourth_acknowledged : acknowledgements ruled (history every_fourth) ≡ record { producer = stage 1; successful = 1 ∷ 2 ∷ 3 ∷ 5 ∷ []; failed = 4 ∷ [] } ∷ record { producer = stage 1; successful = 6 ∷ 7 ∷ []; failed = 8 ∷ [] } ∷ []
+every_fourth_acknowledged : acknowledgements ruled (history every_fourth)
+    ≡ record { producer = stage 1; successful = 1 ∷ 2 ∷ 3 ∷ 5 ∷ []; failed = 4 ∷ [] }
+    ∷ record { producer = stage 1; successful = 6 ∷ 7 ∷ []; failed = 8 ∷ [] } ∷ []
 every_fourth_acknowledged = refl

@@ -16,7 +16,8 @@ abbrev accepted_one : List Step
 accepted_one = Ask (sub 2 1 1) 10 ∷ Fetch (stage 1) 10 ∷ Accept (stage 1) (codes "x" ∷ []) ∷ []
 
 abbrev pushing : ℕ → Topology
-pushing size = with_stages (record (producer 1 (codes "p") 0) { push = true; size = Some size } ∷ processor 2 (codes "processors.0") 0 [] ∷ [])
+pushing size = with_stages (record (producer 1 (codes "p") 0) { push = true; size = Some size } ∷ processor 2 (codes "processors.0") 0 []
+    ∷ [])
 
 abbrev pushed_two : List Step
 pushed_two = Fetch (stage 1) 1000 ∷ Accept (stage 1) (codes "x" ∷ codes "y" ∷ []) ∷ []
@@ -65,13 +66,16 @@ unknown_stage = refl
 abbrev both : Topology
 both =
     with_stages
-    (producer 1 (codes "p") 0 ∷ feeding 1 (processor 2 (codes "processors.0") 0 []) ∷ record (batcher 3 (codes "b") 0) { dispatch = Broadcast; batch_size = 1 }
+    (producer 1 (codes "p") 0 ∷ feeding 1 (processor 2 (codes "processors.0") 0 [])
+    ∷ record (batcher 3 (codes "b") 0) { dispatch = Broadcast; batch_size = 1 }
     ∷ batch_processor 4 (codes "b.0") 0 0 ∷ batch_processor 5 (codes "b.1") 0 1 ∷ [])
 
 abbrev one_closed : List Step
 one_closed =
-    Ask (sub 2 1 1) 10 ∷ Ask (sub 3 2 1) 3 ∷ Ask (sub 4 3 1) 1 ∷ Fetch (stage 1) 10 ∷ Accept (stage 1) (codes "x" ∷ []) ∷ Dispatch (stage 1) ∷ Take (stage 2) (sub 2 1 1) 1
-    ∷ Done (stage 2) (passes 1 (codes "x" ∷ [])) ∷ Dispatch (stage 2) ∷ Gather (stage 3) (message_no 1) ∷ Close (stage 3) (message_no 1) Size ∷ []
+    Ask (sub 2 1 1) 10 ∷ Ask (sub 3 2 1) 3 ∷ Ask (sub 4 3 1) 1 ∷ Fetch (stage 1) 10 ∷ Accept (stage 1) (codes "x" ∷ []) ∷ Dispatch (stage 1)
+    ∷ Take (stage 2) (sub 2 1 1) 1
+    ∷ Done (stage 2) (passes 1 (codes "x" ∷ [])) ∷ Dispatch (stage 2) ∷ Gather (stage 3) (message_no 1)
+    ∷ Close (stage 3) (message_no 1) Size ∷ []
 
 waits_for_the_least : is_refused_after both one_closed (Dispatch (stage 3)) ≡ true
 waits_for_the_least = refl
@@ -89,7 +93,8 @@ sends_to_the_live = refl
 owed_dispatch : is_refused_after one_each accepted_one (Tick 0) ≡ true
 owed_dispatch = refl
 
-owed_to_the_stage : is_refused_after two_producers (Ask (sub 3 1 1) 10 ∷ Ask (sub 3 2 1) 10 ∷ Fetch (stage 1) 10 ∷ Fetch (stage 2) 10 ∷ Accept (stage 1) (codes "x" ∷ []) ∷ []) (Dispatch (stage 2)) ≡ true
+owed_to_the_stage : is_refused_after two_producers (Ask (sub 3 1 1) 10 ∷ Ask (sub 3 2 1) 10 ∷ Fetch (stage 1) 10 ∷ Fetch (stage 2) 10
+    ∷ Accept (stage 1) (codes "x" ∷ []) ∷ []) (Dispatch (stage 2)) ≡ true
 owed_to_the_stage = refl
 
 owed_before_a_kill : is_refused_after one_each accepted_one (Kill (stage 1) ByKill) ≡ true

@@ -36,11 +36,13 @@ greatest_first : sends_by_place Demand (room_of 2 0 10 ∷ room_of 3 1 7 ∷ [])
 greatest_first = refl
 
 -- the greatest is first though it stands second
-greatest_first_anywhere : sends_by_place Demand (room_of 2 0 2 ∷ room_of 3 1 4 ∷ []) (units 5) ≡ to 0 3 ∷ to 1 3 ∷ to 2 3 ∷ to 3 3 ∷ to 4 2 ∷ []
+greatest_first_anywhere : sends_by_place Demand (room_of 2 0 2 ∷ room_of 3 1 4 ∷ []) (units 5) ≡ to 0 3 ∷ to 1 3 ∷ to 2 3 ∷ to 3 3 ∷ to 4 2
+    ∷ []
 greatest_first_anywhere = refl
 
 -- six units to equal rooms of 5: the smaller subscription comes first
-ties_by_number : sends_by_place Demand (room_of 2 0 5 ∷ room_of 3 1 5 ∷ []) (units 6) ≡ to 0 2 ∷ to 1 2 ∷ to 2 2 ∷ to 3 2 ∷ to 4 2 ∷ to 5 3 ∷ []
+ties_by_number : sends_by_place Demand (room_of 2 0 5 ∷ room_of 3 1 5 ∷ []) (units 6) ≡ to 0 2 ∷ to 1 2 ∷ to 2 2 ∷ to 3 2 ∷ to 4 2 ∷ to 5 3
+    ∷ []
 ties_by_number = refl
 
 -- what nobody asked for stays
@@ -71,7 +73,8 @@ as_many_as_wait = refl
 -- Partition
 
 -- each unit to the consumer of its partition; one without demand holds back no other
-by_partition : sends_by_place Partition (room_of 2 0 1 ∷ room_of 3 1 0 ∷ room_of 4 2 2 ∷ []) (0 ∷ 1 ∷ 0 ∷ 2 ∷ 1 ∷ 2 ∷ 2 ∷ []) ≡ to 0 2 ∷ to 3 4 ∷ to 5 4 ∷ []
+by_partition : sends_by_place Partition (room_of 2 0 1 ∷ room_of 3 1 0 ∷ room_of 4 2 2 ∷ []) (0 ∷ 1 ∷ 0 ∷ 2 ∷ 1 ∷ 2 ∷ 2 ∷ []) ≡ to 0 2
+    ∷ to 3 4 ∷ to 5 4 ∷ []
 by_partition = refl
 
 -- a partition whose consumer is not there stays
@@ -101,12 +104,14 @@ by_payload =
 
 abbrev mixed : List Step
 mixed =
-    Ask (sub 2 1 1) 10 ∷ Ask (sub 3 1 1) 10 ∷ Fetch (stage 1) 20 ∷ Accept (stage 1) (replicate 12 (codes "a") ++ codes "b" ∷ []) ∷ Dispatch (stage 1) ∷ []
+    Ask (sub 2 1 1) 10 ∷ Ask (sub 3 1 1) 10 ∷ Fetch (stage 1) 20 ∷ Accept (stage 1) (replicate 12 (codes "a") ++ codes "b" ∷ [])
+    ∷ Dispatch (stage 1) ∷ []
 
 mixed_legal : is_run by_payload mixed ≡ true
 mixed_legal = refl
 
-mixed_places : map (place by_payload (history mixed)) (1 ∷ 10 ∷ 11 ∷ 12 ∷ 13 ∷ []) ≡ Some (Inbox (sub 3 1 1)) ∷ Some (Inbox (sub 3 1 1)) ∷ Some (Waiting (stage 1)) ∷ Some (Waiting (stage 1)) ∷ Some (Inbox (sub 2 1 1)) ∷ []
+mixed_places : map (place by_payload (history mixed)) (1 ∷ 10 ∷ 11 ∷ 12 ∷ 13 ∷ []) ≡ Some (Inbox (sub 3 1 1)) ∷ Some (Inbox (sub 3 1 1))
+    ∷ Some (Waiting (stage 1)) ∷ Some (Waiting (stage 1)) ∷ Some (Inbox (sub 2 1 1)) ∷ []
 mixed_places = refl
 
 -- by the second field of the payload, where a missing field is empty
@@ -118,9 +123,11 @@ by_field =
 
 abbrev fields_journal : List Step
 fields_journal =
-    Ask (sub 2 1 1) 10 ∷ Ask (sub 3 1 1) 10 ∷ Fetch (stage 1) 20 ∷ Accept (stage 1) (codes "b a" ∷ codes "a b" ∷ codes "a" ∷ codes "x a b" ∷ codes "x  a" ∷ []) ∷ Dispatch (stage 1) ∷ []
+    Ask (sub 2 1 1) 10 ∷ Ask (sub 3 1 1) 10 ∷ Fetch (stage 1) 20
+    ∷ Accept (stage 1) (codes "b a" ∷ codes "a b" ∷ codes "a" ∷ codes "x a b" ∷ codes "x  a" ∷ []) ∷ Dispatch (stage 1) ∷ []
 
-fields_places : map (place by_field (history fields_journal)) (1 ∷ 2 ∷ 3 ∷ 4 ∷ 5 ∷ []) ≡ Some (Inbox (sub 3 1 1)) ∷ Some (Inbox (sub 2 1 1)) ∷ Some (Inbox (sub 2 1 1)) ∷ Some (Inbox (sub 3 1 1)) ∷ Some (Inbox (sub 2 1 1)) ∷ []
+fields_places : map (place by_field (history fields_journal)) (1 ∷ 2 ∷ 3 ∷ 4 ∷ 5 ∷ []) ≡ Some (Inbox (sub 3 1 1)) ∷ Some (Inbox (sub 2 1 1))
+    ∷ Some (Inbox (sub 2 1 1)) ∷ Some (Inbox (sub 3 1 1)) ∷ Some (Inbox (sub 2 1 1)) ∷ []
 fields_places = refl
 
 -- a processor sends each message to the batcher that the message names
@@ -132,13 +139,16 @@ two_batchers =
 
 abbrev routed : List Step
 routed =
-    Ask (sub 2 1 1) 10 ∷ Ask (sub 3 2 1) 3 ∷ Ask (sub 4 2 1) 3 ∷ Fetch (stage 1) 10 ∷ Accept (stage 1) (codes "hot 1" ∷ codes "cold 2" ∷ codes "coldest 3" ∷ []) ∷ Dispatch (stage 1)
+    Ask (sub 2 1 1) 10 ∷ Ask (sub 3 2 1) 3 ∷ Ask (sub 4 2 1) 3 ∷ Fetch (stage 1) 10
+    ∷ Accept (stage 1) (codes "hot 1" ∷ codes "cold 2" ∷ codes "coldest 3" ∷ []) ∷ Dispatch (stage 1)
     ∷ Take (stage 2) (sub 2 1 1) 3
-    ∷ Done (stage 2) (Pass (msg 1 (codes "hot 1")) ∷ Pass (record (msg 2 (codes "cold 2")) { batcher = 1 }) ∷ Pass (msg 3 (codes "coldest 3")) ∷ [])
+    ∷ Done (stage 2) (Pass (msg 1 (codes "hot 1")) ∷ Pass (record (msg 2 (codes "cold 2")) { batcher = 1 })
+    ∷ Pass (msg 3 (codes "coldest 3")) ∷ [])
     ∷ Dispatch (stage 2) ∷ []
 
 routed_legal : is_run two_batchers routed ≡ true
 routed_legal = refl
 
-routed_places : map (place two_batchers (history routed)) (1 ∷ 2 ∷ 3 ∷ []) ≡ Some (Inbox (sub 3 2 1)) ∷ Some (Inbox (sub 4 2 1)) ∷ Some (Inbox (sub 3 2 1)) ∷ []
+routed_places : map (place two_batchers (history routed)) (1 ∷ 2 ∷ 3 ∷ []) ≡ Some (Inbox (sub 3 2 1)) ∷ Some (Inbox (sub 4 2 1))
+    ∷ Some (Inbox (sub 3 2 1)) ∷ []
 routed_places = refl

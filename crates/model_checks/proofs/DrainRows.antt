@@ -38,17 +38,20 @@ tick_first = refl
 drain_at_the_end : may_come_after one_each (fetched ++ SourceEnd (stage 1) Fault ∷ []) (Drain Sources) ≡ true
 drain_at_the_end = refl
 
-drain_at_a_late_end : may_come_after one_each (fetched ++ Kill (stage 1) ByKill ∷ Late (stage 1) 0 1 (Source TooLong) ∷ []) (Drain Sources) ≡ true
+drain_at_a_late_end : may_come_after one_each (fetched ++ Kill (stage 1) ByKill ∷ Late (stage 1) 0 1 (Source TooLong) ∷ []) (Drain Sources)
+    ≡ true
 drain_at_a_late_end = refl
 
 drain_before_the_end : is_refused_after one_each fetched (Drain Sources) ≡ true
 drain_before_the_end = refl
 
 -- not where one of two has
-drain_at_one_end : is_refused_after two_producers (Ask (sub 3 1 1) 10 ∷ Fetch (stage 1) 10 ∷ SourceEnd (stage 1) End ∷ []) (Drain Sources) ≡ true
+drain_at_one_end : is_refused_after two_producers (Ask (sub 3 1 1) 10 ∷ Fetch (stage 1) 10 ∷ SourceEnd (stage 1) End ∷ []) (Drain Sources)
+    ≡ true
 drain_at_one_end = refl
 
-drain_at_both_ends : may_come_after two_producers (Ask (sub 3 1 1) 10 ∷ Fetch (stage 1) 10 ∷ SourceEnd (stage 1) End ∷ Ask (sub 3 2 1) 10 ∷ Fetch (stage 2) 10 ∷ SourceEnd (stage 2) End ∷ []) (Drain Sources) ≡ true
+drain_at_both_ends : may_come_after two_producers (Ask (sub 3 1 1) 10 ∷ Fetch (stage 1) 10 ∷ SourceEnd (stage 1) End ∷ Ask (sub 3 2 1) 10
+    ∷ Fetch (stage 2) 10 ∷ SourceEnd (stage 2) End ∷ []) (Drain Sources) ≡ true
 drain_at_both_ends = refl
 
 -- by a control line, while lines are read
@@ -59,16 +62,22 @@ drain_after_the_lines : is_refused_after one_each (SourceEnd (stage 0) End ∷ [
 drain_after_the_lines = refl
 
 -- by the limit of records or of bytes
-drain_by_records : may_come_after (record one_each { record_limit = 2 }) (Ask (sub 2 1 1) 10 ∷ Fetch (stage 1) 2 ∷ Accept (stage 1) (codes "x" ∷ codes "y" ∷ []) ∷ Dispatch (stage 1) ∷ []) (Drain LimitCause) ≡ true
+drain_by_records : may_come_after (record one_each { record_limit = 2 })
+    (Ask (sub 2 1 1) 10 ∷ Fetch (stage 1) 2 ∷ Accept (stage 1) (codes "x" ∷ codes "y" ∷ []) ∷ Dispatch (stage 1) ∷ []) (Drain LimitCause)
+    ≡ true
 drain_by_records = refl
 
-drain_by_fewer_records : is_refused_after (record one_each { record_limit = 3 }) (Ask (sub 2 1 1) 10 ∷ Fetch (stage 1) 3 ∷ Accept (stage 1) (codes "x" ∷ codes "y" ∷ []) ∷ Dispatch (stage 1) ∷ []) (Drain LimitCause) ≡ true
+drain_by_fewer_records : is_refused_after (record one_each { record_limit = 3 })
+    (Ask (sub 2 1 1) 10 ∷ Fetch (stage 1) 3 ∷ Accept (stage 1) (codes "x" ∷ codes "y" ∷ []) ∷ Dispatch (stage 1) ∷ []) (Drain LimitCause)
+    ≡ true
 drain_by_fewer_records = refl
 
-drain_by_bytes : may_come_after (record one_each { byte_limit = 3 }) (fetched ++ Accept (stage 1) (codes "xyz" ∷ []) ∷ Dispatch (stage 1) ∷ []) (Drain LimitCause) ≡ true
+drain_by_bytes : may_come_after (record one_each { byte_limit = 3 })
+    (fetched ++ Accept (stage 1) (codes "xyz" ∷ []) ∷ Dispatch (stage 1) ∷ []) (Drain LimitCause) ≡ true
 drain_by_bytes = refl
 
-drain_by_fewer_bytes : is_refused_after (record one_each { byte_limit = 4 }) (fetched ++ Accept (stage 1) (codes "xyz" ∷ []) ∷ Dispatch (stage 1) ∷ []) (Drain LimitCause) ≡ true
+drain_by_fewer_bytes : is_refused_after (record one_each { byte_limit = 4 })
+    (fetched ++ Accept (stage 1) (codes "xyz" ∷ []) ∷ Dispatch (stage 1) ∷ []) (Drain LimitCause) ≡ true
 drain_by_fewer_bytes = refl
 
 -- by idling
@@ -82,10 +91,12 @@ drain_by_no_idling : is_refused_after one_each [] (Drain Idle) ≡ true
 drain_by_no_idling = refl
 
 -- any other step behind the quiet answers begins the row anew: a kill, an ask
-drain_after_a_kill : is_refused_after (record one_each { idle_limit = 1 }) (fetched ++ Quiet (stage 1) ∷ Kill (stage 2) ByKill ∷ []) (Drain Idle) ≡ true
+drain_after_a_kill : is_refused_after (record one_each { idle_limit = 1 }) (fetched ++ Quiet (stage 1) ∷ Kill (stage 2) ByKill ∷ [])
+    (Drain Idle) ≡ true
 drain_after_a_kill = refl
 
-drain_after_an_ask : is_refused_after (record two_processors { idle_limit = 1 }) (fetched ++ Quiet (stage 1) ∷ Ask (sub 3 1 1) 10 ∷ []) (Drain Idle) ≡ true
+drain_after_an_ask : is_refused_after (record two_processors { idle_limit = 1 }) (fetched ++ Quiet (stage 1) ∷ Ask (sub 3 1 1) 10 ∷ [])
+    (Drain Idle) ≡ true
 drain_after_an_ask = refl
 
 -- once only, whatever the cause
@@ -98,7 +109,8 @@ drain_for_another_cause = refl
 -- of the causes that hold the pipeline takes the limit before idling
 abbrev limit_and_end : List Step
 limit_and_end =
-    Ask (sub 3 1 1) 10 ∷ Ask (sub 3 2 1) 10 ∷ Fetch (stage 1) 10 ∷ Fetch (stage 2) 10 ∷ Accept (stage 1) (codes "xyz" ∷ []) ∷ Dispatch (stage 1) ∷ Quiet (stage 2) ∷ []
+    Ask (sub 3 1 1) 10 ∷ Ask (sub 3 2 1) 10 ∷ Fetch (stage 1) 10 ∷ Fetch (stage 2) 10 ∷ Accept (stage 1) (codes "xyz" ∷ [])
+    ∷ Dispatch (stage 1) ∷ Quiet (stage 2) ∷ []
 
 limit_before_idling : move (record two_producers { byte_limit = 3; idle_limit = 1 }) (history limit_and_end) ≡ StepMove (Drain LimitCause)
 limit_before_idling = refl
@@ -122,7 +134,9 @@ refuse_fourth : may_come_after one_each (Kill (stage 2) ByStop ∷ Refuse 2 ∷ 
 refuse_fourth = refl
 
 -- a crash's kill and another drain are no lines
-refuse_after_a_crash : may_come_after (one_ruled (CrashRule [] ∷ [])) (fetched ++ Accept (stage 1) (codes "x" ∷ []) ∷ Dispatch (stage 1) ∷ Take (stage 2) (sub 2 1 1) 1 ∷ Done (stage 2) (Crashed ∷ []) ∷ Kill (stage 2) ByCrash ∷ []) (Refuse 1) ≡ true
+refuse_after_a_crash : may_come_after (one_ruled (CrashRule [] ∷ []))
+    (fetched ++ Accept (stage 1) (codes "x" ∷ []) ∷ Dispatch (stage 1) ∷ Take (stage 2) (sub 2 1 1) 1 ∷ Done (stage 2) (Crashed ∷ [])
+    ∷ Kill (stage 2) ByCrash ∷ []) (Refuse 1) ≡ true
 refuse_after_a_crash = refl
 
 refuse_after_a_drain : may_come_after one_each (fetched ++ SourceEnd (stage 1) End ∷ Drain Sources ∷ []) (Refuse 1) ≡ true

@@ -82,11 +82,13 @@ fetch_after_a_tick : may_come_after one_each (fetched ++ Quiet (stage 1) ∷ Tic
 fetch_after_a_tick = refl
 
 -- a rest outlives a kill and a restart
-fetch_after_a_restart : is_refused_after one_each (fetched ++ Quiet (stage 1) ∷ Kill (stage 1) ByKill ∷ Restart (stage 1) ∷ Ask (sub 2 1 2) 10 ∷ []) (Fetch (stage 1) 10) ≡ true
+fetch_after_a_restart : is_refused_after one_each (fetched ++ Quiet (stage 1) ∷ Kill (stage 1) ByKill ∷ Restart (stage 1)
+    ∷ Ask (sub 2 1 2) 10 ∷ []) (Fetch (stage 1) 10) ≡ true
 fetch_after_a_restart = refl
 
 -- one producer's rest is not another's
-fetch_of_the_other : may_come_after two_producers (Ask (sub 3 1 1) 10 ∷ Ask (sub 3 2 1) 10 ∷ Fetch (stage 1) 10 ∷ Quiet (stage 1) ∷ []) (Fetch (stage 2) 10) ≡ true
+fetch_of_the_other : may_come_after two_producers (Ask (sub 3 1 1) 10 ∷ Ask (sub 3 2 1) 10 ∷ Fetch (stage 1) 10 ∷ Quiet (stage 1) ∷ [])
+    (Fetch (stage 2) 10) ≡ true
 fetch_of_the_other = refl
 
 -- not once its source has ended
@@ -98,14 +100,17 @@ fetch_after_the_drain : is_refused_after one_each (asked_ten ++ Drain Control �
 fetch_after_the_drain = refl
 
 -- not once the bytes have reached their limit
-fetch_at_the_bytes : is_refused_after (record pushing { byte_limit = 1 }) (Fetch (stage 1) 1000 ∷ Accept (stage 1) (codes "x" ∷ []) ∷ []) (Fetch (stage 1) 1000) ≡ true
+fetch_at_the_bytes : is_refused_after (record pushing { byte_limit = 1 }) (Fetch (stage 1) 1000 ∷ Accept (stage 1) (codes "x" ∷ []) ∷ [])
+    (Fetch (stage 1) 1000) ≡ true
 fetch_at_the_bytes = refl
 
 -- no more than the records that are left
-fetch_what_is_left : may_come_after (record pushing { record_limit = 3 }) (Fetch (stage 1) 3 ∷ Accept (stage 1) (codes "x" ∷ []) ∷ []) (Fetch (stage 1) 2) ≡ true
+fetch_what_is_left : may_come_after (record pushing { record_limit = 3 }) (Fetch (stage 1) 3 ∷ Accept (stage 1) (codes "x" ∷ []) ∷ [])
+    (Fetch (stage 1) 2) ≡ true
 fetch_what_is_left = refl
 
-fetch_over_what_is_left : is_refused_after (record pushing { record_limit = 3 }) (Fetch (stage 1) 3 ∷ Accept (stage 1) (codes "x" ∷ []) ∷ []) (Fetch (stage 1) 3) ≡ true
+fetch_over_what_is_left : is_refused_after (record pushing { record_limit = 3 })
+    (Fetch (stage 1) 3 ∷ Accept (stage 1) (codes "x" ∷ []) ∷ []) (Fetch (stage 1) 3) ≡ true
 fetch_over_what_is_left = refl
 
 -- not by a dead producer
@@ -135,15 +140,18 @@ accept_empty = refl
 accept_unfetched : is_refused_after one_each asked_ten (Accept (stage 1) (codes "x" ∷ [])) ≡ true
 accept_unfetched = refl
 
-accept_twice : is_refused_after one_each (fetched ++ Accept (stage 1) (codes "x" ∷ []) ∷ Dispatch (stage 1) ∷ []) (Accept (stage 1) (codes "x" ∷ [])) ≡ true
+accept_twice : is_refused_after one_each (fetched ++ Accept (stage 1) (codes "x" ∷ []) ∷ Dispatch (stage 1) ∷ [])
+    (Accept (stage 1) (codes "x" ∷ [])) ≡ true
 accept_twice = refl
 
 -- the fetch of another is not enough
-accept_of_the_other : is_refused_after two_producers (Ask (sub 3 1 1) 10 ∷ Fetch (stage 1) 10 ∷ []) (Accept (stage 2) (codes "x" ∷ [])) ≡ true
+accept_of_the_other : is_refused_after two_producers (Ask (sub 3 1 1) 10 ∷ Fetch (stage 1) 10 ∷ []) (Accept (stage 2) (codes "x" ∷ []))
+    ≡ true
 accept_of_the_other = refl
 
 -- nor what a processor has out
-accept_of_a_processor : is_refused_after one_each (fetched ++ Accept (stage 1) (codes "x" ∷ []) ∷ Dispatch (stage 1) ∷ Take (stage 2) (sub 2 1 1) 1 ∷ []) (Accept (stage 2) (codes "x" ∷ [])) ≡ true
+accept_of_a_processor : is_refused_after one_each (fetched ++ Accept (stage 1) (codes "x" ∷ []) ∷ Dispatch (stage 1)
+    ∷ Take (stage 2) (sub 2 1 1) 1 ∷ []) (Accept (stage 2) (codes "x" ∷ [])) ≡ true
 accept_of_a_processor = refl
 
 -- not from a killed incarnation
@@ -165,7 +173,8 @@ quiet_unfetched = refl
 quiet_while_dead : is_refused_after one_each (fetched ++ Kill (stage 1) ByKill ∷ []) (Quiet (stage 1)) ≡ true
 quiet_while_dead = refl
 
-quiet_of_a_processor : is_refused_after one_each (fetched ++ Accept (stage 1) (codes "x" ∷ []) ∷ Dispatch (stage 1) ∷ Take (stage 2) (sub 2 1 1) 1 ∷ []) (Quiet (stage 2)) ≡ true
+quiet_of_a_processor : is_refused_after one_each (fetched ++ Accept (stage 1) (codes "x" ∷ []) ∷ Dispatch (stage 1)
+    ∷ Take (stage 2) (sub 2 1 1) 1 ∷ []) (Quiet (stage 2)) ≡ true
 quiet_of_a_processor = refl
 
 -- after the drain a fetch that is out still answers
@@ -193,7 +202,8 @@ end_unfetched = refl
 end_while_dead : is_refused_after one_each (fetched ++ Kill (stage 1) ByKill ∷ []) (SourceEnd (stage 1) End) ≡ true
 end_while_dead = refl
 
-end_of_a_processor : is_refused_after one_each (fetched ++ Accept (stage 1) (codes "x" ∷ []) ∷ Dispatch (stage 1) ∷ Take (stage 2) (sub 2 1 1) 1 ∷ []) (SourceEnd (stage 2) End) ≡ true
+end_of_a_processor : is_refused_after one_each (fetched ++ Accept (stage 1) (codes "x" ∷ []) ∷ Dispatch (stage 1)
+    ∷ Take (stage 2) (sub 2 1 1) 1 ∷ []) (SourceEnd (stage 2) End) ≡ true
 end_of_a_processor = refl
 
 -- the control source ends once, with no fetch, and by the limit only after ten thousand lines

@@ -20,7 +20,8 @@ replies count rules payload = eval (processor 2 (codes "processors.0") 0 rules) 
 -- Fields
 
 -- split at each single space, from 1; field 0 is the payload, and a missing one is empty
-fields_of_text : map (λ n. field n (codes "a bc  d")) (0 ∷ 1 ∷ 2 ∷ 3 ∷ 4 ∷ 5 ∷ []) ≡ codes "a bc  d" ∷ codes "a" ∷ codes "bc" ∷ [] ∷ codes "d" ∷ [] ∷ []
+fields_of_text : map (λ n. field n (codes "a bc  d")) (0 ∷ 1 ∷ 2 ∷ 3 ∷ 4 ∷ 5 ∷ []) ≡ codes "a bc  d" ∷ codes "a" ∷ codes "bc" ∷ []
+    ∷ codes "d" ∷ [] ∷ []
 fields_of_text = refl
 
 field_before_a_space : map (λ n. field n (codes " a")) (1 ∷ 2 ∷ 3 ∷ []) ≡ [] ∷ codes "a" ∷ [] ∷ []
@@ -81,17 +82,20 @@ crashes_not = refl
 
 -- every third message, counted from 1
 fails_every_third : map (λ count. replies count (FailEvery 3 ∷ []) (codes "x")) (0 ∷ 1 ∷ 2 ∷ 3 ∷ 5 ∷ [])
-    ≡ Pass (msg 1 (codes "x")) ∷ Pass (msg 1 (codes "x")) ∷ FailedReply (codes "every") ∷ Pass (msg 1 (codes "x")) ∷ FailedReply (codes "every") ∷ []
+    ≡ Pass (msg 1 (codes "x")) ∷ Pass (msg 1 (codes "x")) ∷ FailedReply (codes "every") ∷ Pass (msg 1 (codes "x"))
+    ∷ FailedReply (codes "every") ∷ []
 fails_every_third = refl
 
 -- In order
 
 -- each rule sees the message as the rules before it left it
-sees_the_new_payload : replies 0 (Prefix (codes "k ") ∷ Key 1 ∷ Require (codes "k x") ∷ []) (codes "x") ≡ Pass (record (msg 1 (codes "k x")) { key = codes "k" })
+sees_the_new_payload : replies 0 (Prefix (codes "k ") ∷ Key 1 ∷ Require (codes "k x") ∷ []) (codes "x")
+    ≡ Pass (record (msg 1 (codes "k x")) { key = codes "k" })
 sees_the_new_payload = refl
 
 -- the last route that fits counts
-last_route : replies 0 (Route 0 1 (codes "x") ∷ Route 0 2 (codes "x") ∷ Route 0 3 (codes "y") ∷ []) (codes "x") ≡ Pass (record (msg 1 (codes "x")) { batcher = 2 })
+last_route : replies 0 (Route 0 1 (codes "x") ∷ Route 0 2 (codes "x") ∷ Route 0 3 (codes "y") ∷ []) (codes "x")
+    ≡ Pass (record (msg 1 (codes "x")) { batcher = 2 })
 last_route = refl
 
 -- the first that does not pass is the reply
@@ -105,17 +109,21 @@ first_crash = refl
 
 -- a stage's own reason stands in place of each, also of a raise
 abbrev renaming : StageSpec
-renaming = record (processor 2 (codes "processors.0") 0 (RaiseRule (codes "r") ∷ Require (codes "x") ∷ CrashRule (codes "xc") ∷ [])) { failed = Some (codes "mine") }
+renaming = record (processor 2 (codes "processors.0") 0 (RaiseRule (codes "r") ∷ Require (codes "x") ∷ CrashRule (codes "xc")
+    ∷ [])) { failed = Some (codes "mine") }
 
-chunk_with_reasons : chunk_replies renaming 0 (msg 1 (codes "r") ∷ msg 2 (codes "y") ∷ msg 3 (codes "x") ∷ []) ≡ Raised (codes "mine") ∷ FailedReply (codes "mine") ∷ Pass (msg 3 (codes "x")) ∷ []
+chunk_with_reasons : chunk_replies renaming 0 (msg 1 (codes "r") ∷ msg 2 (codes "y") ∷ msg 3 (codes "x") ∷ []) ≡ Raised (codes "mine")
+    ∷ FailedReply (codes "mine") ∷ Pass (msg 3 (codes "x")) ∷ []
 chunk_with_reasons = refl
 
 -- a raise does not end a chunk, and a crash does
-chunk_to_the_crash : chunk_replies renaming 0 (msg 1 (codes "r") ∷ msg 2 (codes "xc") ∷ msg 3 (codes "x") ∷ []) ≡ Raised (codes "mine") ∷ Crashed ∷ []
+chunk_to_the_crash : chunk_replies renaming 0 (msg 1 (codes "r") ∷ msg 2 (codes "xc") ∷ msg 3 (codes "x") ∷ []) ≡ Raised (codes "mine")
+    ∷ Crashed ∷ []
 chunk_to_the_crash = refl
 
 -- a batch ends at its first raise, which fails every message
-batch_that_raises : batch_end renaming 0 (msg 1 (codes "x") ∷ msg 2 (codes "r") ∷ msg 3 (codes "xc") ∷ []) ≡ Outcomes (replicate 3 (Failed (codes "mine")))
+batch_that_raises : batch_end renaming 0 (msg 1 (codes "x") ∷ msg 2 (codes "r") ∷ msg 3 (codes "xc") ∷ [])
+    ≡ Outcomes (replicate 3 (Failed (codes "mine")))
 batch_that_raises = refl
 
 batch_that_crashes : batch_end renaming 0 (msg 1 (codes "x") ∷ msg 2 (codes "xc") ∷ msg 3 (codes "r") ∷ []) ≡ CrashedEnd
@@ -125,7 +133,8 @@ batch_of_both : batch_end renaming 0 (msg 1 (codes "x") ∷ msg 2 (codes "y") �
 batch_of_both = refl
 
 -- the text of lines is of those that passed; that of steps is empty
-text_of_lines : batch_text (record renaming { kind = Lines }) 0 (msg 1 (codes "x1") ∷ msg 2 (codes "y") ∷ msg 3 (codes "x2") ∷ []) ≡ codes "x1" ++ 10 ∷ codes "x2" ++ 10 ∷ []
+text_of_lines : batch_text (record renaming { kind = Lines }) 0 (msg 1 (codes "x1") ∷ msg 2 (codes "y") ∷ msg 3 (codes "x2") ∷ [])
+    ≡ codes "x1" ++ 10 ∷ codes "x2" ++ 10 ∷ []
 text_of_lines = refl
 
 text_of_steps : batch_text renaming 0 (msg 1 (codes "x1") ∷ []) ≡ []

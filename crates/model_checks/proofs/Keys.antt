@@ -23,9 +23,11 @@ abbrev two_keys : List Step
 two_keys =
     Ask (sub 2 1 1) 10 ∷ Ask (sub 3 2 1) 3 ∷ Ask (sub 4 3 1) 1 ∷ Fetch (stage 1) 10
     ∷ Accept (stage 1) (codes "x" ∷ codes "y" ∷ codes "x" ∷ codes "x" ∷ []) ∷ Dispatch (stage 1) ∷ Take (stage 2) (sub 2 1 1) 4
-    ∷ Done (stage 2) (Pass (keyed 1 (codes "x")) ∷ Pass (keyed 2 (codes "y")) ∷ Pass (keyed 3 (codes "x")) ∷ Pass (keyed 4 (codes "x")) ∷ [])
+    ∷ Done (stage 2) (Pass (keyed 1 (codes "x")) ∷ Pass (keyed 2 (codes "y")) ∷ Pass (keyed 3 (codes "x")) ∷ Pass (keyed 4 (codes "x"))
+    ∷ [])
     ∷ Dispatch (stage 2) ∷ Gather (stage 3) (message_no 1) ∷ Gather (stage 3) (message_no 2) ∷ Ask (sub 3 2 1) 2 ∷ Dispatch (stage 2)
-    ∷ Gather (stage 3) (message_no 3) ∷ Gather (stage 3) (message_no 4) ∷ Ask (sub 3 2 1) 2 ∷ Close (stage 3) (message_no 1) Size ∷ Dispatch (stage 3)
+    ∷ Gather (stage 3) (message_no 3) ∷ Gather (stage 3) (message_no 4) ∷ Ask (sub 3 2 1) 2 ∷ Close (stage 3) (message_no 1) Size
+    ∷ Dispatch (stage 3)
     ∷ Take (stage 4) (sub 4 3 1) 1 ∷ Wrote (stage 4) 6 (Outcomes (replicate 3 Successful)) ∷ Ask (sub 4 3 1) 1
     ∷ Fetch (stage 1) 6 ∷ SourceEnd (stage 1) End ∷ Drain Sources ∷ Close (stage 3) (message_no 2) Flush
     ∷ Dispatch (stage 3) ∷ Take (stage 4) (sub 4 3 1) 1 ∷ Wrote (stage 4) 2 (Outcomes (Successful ∷ [])) ∷ []
@@ -34,17 +36,21 @@ is_legal_whole : is_run by_key two_keys ≡ true
 is_legal_whole = refl
 
 -- only three go to the batcher at first, since it asked for three
-sent_at_first : map (place by_key (history (take 9 two_keys))) (1 ∷ 2 ∷ 3 ∷ 4 ∷ []) ≡ Some (Inbox (sub 3 2 1)) ∷ Some (Inbox (sub 3 2 1)) ∷ Some (Inbox (sub 3 2 1)) ∷ Some (Waiting (stage 2)) ∷ []
+sent_at_first : map (place by_key (history (take 9 two_keys))) (1 ∷ 2 ∷ 3 ∷ 4 ∷ []) ≡ Some (Inbox (sub 3 2 1)) ∷ Some (Inbox (sub 3 2 1))
+    ∷ Some (Inbox (sub 3 2 1)) ∷ Some (Waiting (stage 2)) ∷ []
 sent_at_first = refl
 
 -- the batch of three of one key is batch 1, and the other key's message is still gathered
-in_a_batch : map (place by_key (history (take 17 two_keys))) (1 ∷ 2 ∷ 3 ∷ 4 ∷ []) ≡ Some (InBatch (batch_no 1)) ∷ Some (Gathered (stage 3)) ∷ Some (InBatch (batch_no 1)) ∷ Some (InBatch (batch_no 1)) ∷ []
+in_a_batch : map (place by_key (history (take 17 two_keys))) (1 ∷ 2 ∷ 3 ∷ 4 ∷ []) ≡ Some (InBatch (batch_no 1)) ∷ Some (Gathered (stage 3))
+    ∷ Some (InBatch (batch_no 1)) ∷ Some (InBatch (batch_no 1)) ∷ []
 in_a_batch = refl
 
-is_acked : map (place by_key (history two_keys)) (1 ∷ 2 ∷ 3 ∷ 4 ∷ 5 ∷ []) ≡ Some (Acked Successful) ∷ Some (Acked Successful) ∷ Some (Acked Successful) ∷ Some (Acked Successful) ∷ None ∷ []
+is_acked : map (place by_key (history two_keys)) (1 ∷ 2 ∷ 3 ∷ 4 ∷ 5 ∷ []) ≡ Some (Acked Successful) ∷ Some (Acked Successful)
+    ∷ Some (Acked Successful) ∷ Some (Acked Successful) ∷ None ∷ []
 is_acked = refl
 
-is_acknowledged : acknowledgements by_key (history two_keys) ≡ record { producer = stage 1; successful = 1 ∷ 3 ∷ 4 ∷ []; failed = [] } ∷ record { producer = stage 1; successful = 2 ∷ []; failed = [] } ∷ []
+is_acknowledged : acknowledgements by_key (history two_keys) ≡ record { producer = stage 1; successful = 1 ∷ 3 ∷ 4 ∷ []; failed = [] }
+    ∷ record { producer = stage 1; successful = 2 ∷ []; failed = [] } ∷ []
 is_acknowledged = refl
 
 is_written : sink_text by_key (history two_keys) (stage 4) ≡ codes "x" ++ 10 ∷ codes "x" ++ 10 ∷ codes "x" ++ 10 ∷ codes "y" ++ 10 ∷ []

@@ -131,7 +131,8 @@ late_of_none : is_refused_after one_each late_fetch (Late (stage 1) 0 0 LateQuie
 late_of_none = refl
 
 -- the second incarnation's
-late_of_the_second : may_come_after one_each (Kill (stage 1) ByKill ∷ Restart (stage 1) ∷ Ask (sub 2 1 2) 10 ∷ Fetch (stage 1) 10 ∷ Kill (stage 1) ByKill ∷ []) (Late (stage 1) 0 2 LateQuiet) ≡ true
+late_of_the_second : may_come_after one_each (Kill (stage 1) ByKill ∷ Restart (stage 1) ∷ Ask (sub 2 1 2) 10 ∷ Fetch (stage 1) 10
+    ∷ Kill (stage 1) ByKill ∷ []) (Late (stage 1) 0 2 LateQuiet) ≡ true
 late_of_the_second = refl
 
 -- nothing for a chunk
@@ -144,16 +145,19 @@ late_quiet_of_a_chunk = refl
 late_end_of_a_chunk : is_refused_after one_each (taken_one ++ Kill (stage 2) ByKill ∷ []) (Late (stage 2) 0 1 (Source End)) ≡ true
 late_end_of_a_chunk = refl
 
-late_records_of_a_chunk : is_refused_after one_each (taken_one ++ Kill (stage 2) ByKill ∷ []) (Late (stage 2) 0 1 (Records (codes "x" ∷ []))) ≡ true
+late_records_of_a_chunk : is_refused_after one_each (taken_one ++ Kill (stage 2) ByKill ∷ [])
+    (Late (stage 2) 0 1 (Records (codes "x" ∷ []))) ≡ true
 late_records_of_a_chunk = refl
 
-late_write_of_a_chunk : is_refused_after one_each (taken_one ++ Kill (stage 2) ByKill ∷ []) (Late (stage 2) 0 1 (LateWrote 0 (Outcomes (Successful ∷ [])))) ≡ true
+late_write_of_a_chunk : is_refused_after one_each (taken_one ++ Kill (stage 2) ByKill ∷ [])
+    (Late (stage 2) 0 1 (LateWrote 0 (Outcomes (Successful ∷ [])))) ≡ true
 late_write_of_a_chunk = refl
 
 -- nothing for a child, by its slot
 abbrev late_child : List Step
 late_child =
-    Ask (sub 2 1 1) 2 ∷ Fetch (stage 1) 2 ∷ Accept (stage 1) (codes "a" ∷ []) ∷ Dispatch (stage 1) ∷ Child (stage 2) (message_no 1) 1 ∷ Kill (stage 2) ByKill ∷ []
+    Ask (sub 2 1 1) 2 ∷ Fetch (stage 1) 2 ∷ Accept (stage 1) (codes "a" ∷ []) ∷ Dispatch (stage 1) ∷ Child (stage 2) (message_no 1) 1
+    ∷ Kill (stage 2) ByKill ∷ []
 
 late_in_its_slot : may_come_after supervised late_child (Late (stage 2) 1 1 Nothing) ≡ true
 late_in_its_slot = refl
@@ -202,7 +206,8 @@ late_crash_of_a_crashing = refl
 late_crash_with_bytes : is_refused_after crashing late_batch (Late (stage 4) 0 1 (LateWrote 1 CrashedEnd)) ≡ true
 late_crash_with_bytes = refl
 
-late_crash_owes_nothing : may_come_after crashing (late_batch ++ Late (stage 4) 0 1 (LateWrote 0 CrashedEnd) ∷ []) (Restart (stage 4)) ≡ true
+late_crash_owes_nothing : may_come_after crashing (late_batch ++ Late (stage 4) 0 1 (LateWrote 0 CrashedEnd) ∷ []) (Restart (stage 4))
+    ≡ true
 late_crash_owes_nothing = refl
 
 -- Restart
@@ -231,7 +236,8 @@ restart_beside_a_fetch : may_come_after one_each (fetched ++ Kill (stage 2) ByKi
 restart_beside_a_fetch = refl
 
 -- not a producer whose source has ended, by an answer or a late one
-restart_after_the_end : is_refused_after one_each (fetched ++ SourceEnd (stage 1) End ∷ Kill (stage 1) ByKill ∷ []) (Restart (stage 1)) ≡ true
+restart_after_the_end : is_refused_after one_each (fetched ++ SourceEnd (stage 1) End ∷ Kill (stage 1) ByKill ∷ []) (Restart (stage 1))
+    ≡ true
 restart_after_the_end = refl
 
 restart_after_a_late_end : is_refused_after one_each (late_fetch ++ Late (stage 1) 0 1 (Source Fault) ∷ []) (Restart (stage 1)) ≡ true
@@ -288,7 +294,8 @@ halted = fetched ++ Kill (stage 2) ByKill ∷ Halt ∷ []
 late_after_a_halt : may_come_after none_allowed halted (Late (stage 1) 0 1 (Records (codes "x" ∷ []))) ≡ true
 late_after_a_halt = refl
 
-lost_by_the_halt : place none_allowed (history (halted ++ Late (stage 1) 0 1 (Records (codes "x" ∷ [])) ∷ [])) 1 ≡ Some (Lost (Killed (stage 1) 1 ByLimit))
+lost_by_the_halt : place none_allowed (history (halted ++ Late (stage 1) 0 1 (Records (codes "x" ∷ [])) ∷ [])) 1
+    ≡ Some (Lost (Killed (stage 1) 1 ByLimit))
 lost_by_the_halt = refl
 
 tick_after_a_halt : is_refused_after none_allowed halted (Tick 5) ≡ true

@@ -29,8 +29,10 @@ both_killed = Ask (sub 2 1 1) 10 ∷ Kill (stage 1) ByKill ∷ []
 
 abbrev both_restarted : List Step
 both_restarted =
-    both_killed ++ Restart (stage 1) ∷ Restart (stage 2) ∷ Ask (sub 2 1 2) 10 ∷ Refuse 2 ∷ Fetch (stage 1) 10 ∷ Accept (stage 1) (codes "x" ∷ [])
-    ∷ Dispatch (stage 1) ∷ Take (stage 2) (sub 2 1 2) 1 ∷ Done (stage 2) (passes 1 (codes "x" ∷ [])) ∷ Fetch (stage 1) 9 ∷ SourceEnd (stage 1) End
+    both_killed ++ Restart (stage 1) ∷ Restart (stage 2) ∷ Ask (sub 2 1 2) 10 ∷ Refuse 2 ∷ Fetch (stage 1) 10
+    ∷ Accept (stage 1) (codes "x" ∷ [])
+    ∷ Dispatch (stage 1) ∷ Take (stage 2) (sub 2 1 2) 1 ∷ Done (stage 2) (passes 1 (codes "x" ∷ [])) ∷ Fetch (stage 1) 9
+    ∷ SourceEnd (stage 1) End
     ∷ Drain Sources ∷ []
 
 is_legal_whole : is_run strict both_restarted ≡ true
@@ -77,14 +79,17 @@ strict_push =
 
 abbrev killed_while_busy : List Step
 killed_while_busy =
-    Ask (sub 2 1 1) 10 ∷ Fetch (stage 1) 1000 ∷ Accept (stage 1) (replicate 12 (codes "x")) ∷ Dispatch (stage 1) ∷ Take (stage 2) (sub 2 1 1) 5
+    Ask (sub 2 1 1) 10 ∷ Fetch (stage 1) 1000 ∷ Accept (stage 1) (replicate 12 (codes "x")) ∷ Dispatch (stage 1)
+    ∷ Take (stage 2) (sub 2 1 1) 5
     ∷ Kill (stage 1) ByStop ∷ []
 
 is_legal_busy : is_run strict_push killed_while_busy ≡ true
 is_legal_busy = refl
 
 -- message 1 ran, message 6 stood in the inbox, and message 11 waited in the producer
-lost_with_the_stages : map (place strict_push (history killed_while_busy)) (1 ∷ 6 ∷ 11 ∷ []) ≡ Some (Lost (Killed (stage 2) 1 (Cancelled (sub 2 1 1)))) ∷ Some (Lost (Killed (stage 2) 1 (Cancelled (sub 2 1 1)))) ∷ Some (Lost (Killed (stage 1) 1 ByStop)) ∷ []
+lost_with_the_stages : map (place strict_push (history killed_while_busy)) (1 ∷ 6 ∷ 11 ∷ [])
+    ≡ Some (Lost (Killed (stage 2) 1 (Cancelled (sub 2 1 1)))) ∷ Some (Lost (Killed (stage 2) 1 (Cancelled (sub 2 1 1))))
+    ∷ Some (Lost (Killed (stage 1) 1 ByStop)) ∷ []
 lost_with_the_stages = refl
 
 nothing_acknowledged : acknowledgements strict_push (history killed_while_busy) ≡ []
@@ -103,7 +108,8 @@ handled_after_the_kill =
 is_legal_temporary : is_run temporary_push handled_after_the_kill ≡ true
 is_legal_temporary = refl
 
-handled_on : map (place temporary_push (history handled_after_the_kill)) (1 ∷ 6 ∷ 11 ∷ []) ≡ Some (Acked Successful) ∷ Some (Acked Successful) ∷ Some (Lost (Killed (stage 1) 1 ByStop)) ∷ []
+handled_on : map (place temporary_push (history handled_after_the_kill)) (1 ∷ 6 ∷ 11 ∷ []) ≡ Some (Acked Successful)
+    ∷ Some (Acked Successful) ∷ Some (Lost (Killed (stage 1) 1 ByStop)) ∷ []
 handled_on = refl
 
 -- the closed subscription still counts what is handled, and has no open demand
@@ -113,7 +119,8 @@ closed_counts = refl
 closed_demand : map (open_demand temporary_push (history handled_after_the_kill)) (sub 2 1 1 ∷ sub 2 1 2 ∷ []) ≡ 0 ∷ 10 ∷ []
 closed_demand = refl
 
-closed_with_demand_left : map (λ s. open_demand one_each (history (Ask (sub 2 1 1) 10 ∷ Kill (stage s) ByKill ∷ [])) (sub 2 1 1)) (1 ∷ 2 ∷ []) ≡ 0 ∷ 0 ∷ []
+closed_with_demand_left : map (λ s. open_demand one_each (history (Ask (sub 2 1 1) 10 ∷ Kill (stage s) ByKill ∷ [])) (sub 2 1 1))
+    (1 ∷ 2 ∷ []) ≡ 0 ∷ 0 ∷ []
 closed_with_demand_left = refl
 
 -- A cascade goes level by level, as far as the modes exit for the first reason
@@ -145,7 +152,8 @@ transient_at_a_stop : kill_set (four_levels Permanent Transient Permanent) [] (K
 transient_at_a_stop = refl
 
 -- a temporary stage stops the cascade
-temporary_at_a_kill : kill_set (four_levels Temporary Permanent Permanent) [] (Kill (stage 1) ByKill) ≡ record { stage = stage 1; why = ByKill } ∷ []
+temporary_at_a_kill : kill_set (four_levels Temporary Permanent Permanent) [] (Kill (stage 1) ByKill)
+    ≡ record { stage = stage 1; why = ByKill } ∷ []
 temporary_at_a_kill = refl
 
 -- the recorded reason names the least of the subscriptions that closed
@@ -153,7 +161,8 @@ abbrev strict_pair : Topology
 strict_pair =
     with_stages
     (producer 1 (codes "p") 0 ∷ record (feeding 1 (processor 2 (codes "processors.0") 0 [])) { mode = Permanent }
-    ∷ record (feeding 1 (processor 3 (codes "processors.1") 1 [])) { mode = Permanent } ∷ record (batcher 4 (codes "b") 0) { mode = Permanent } ∷ batch_processor 5 (codes "b.0") 0 0 ∷ [])
+    ∷ record (feeding 1 (processor 3 (codes "processors.1") 1 [])) { mode = Permanent }
+    ∷ record (batcher 4 (codes "b") 0) { mode = Permanent } ∷ batch_processor 5 (codes "b.0") 0 0 ∷ [])
 
 least_sub : kill_set strict_pair [] (Kill (stage 1) ByKill)
     ≡ record { stage = stage 1; why = ByKill } ∷ record { stage = stage 2; why = Cancelled (sub 2 1 1) }
@@ -197,6 +206,7 @@ halt_reasons : map (death once_only (history halted)) (stage 1 ∷ stage 2 ∷ [
 halt_reasons = refl
 
 -- these pipelines are sound
-all_sound : map is_sound (strict_push ∷ temporary_push ∷ four_levels Permanent Transient Temporary ∷ strict_pair ∷ once_only ∷ []) ≡ replicate 5 true
+all_sound : map is_sound (strict_push ∷ temporary_push ∷ four_levels Permanent Transient Temporary ∷ strict_pair ∷ once_only ∷ [])
+    ≡ replicate 5 true
 unfolding digits
 all_sound = refl

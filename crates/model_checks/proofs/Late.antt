@@ -69,13 +69,15 @@ is_written_short = refl
 -- A fetch
 
 abbrev late_records : List Step
-late_records = Ask (sub 2 1 1) 10 ∷ Fetch (stage 1) 10 ∷ Kill (stage 1) ByStop ∷ Late (stage 1) 0 1 (Records (codes "x" ∷ codes "y" ∷ [])) ∷ []
+late_records = Ask (sub 2 1 1) 10 ∷ Fetch (stage 1) 10 ∷ Kill (stage 1) ByStop ∷ Late (stage 1) 0 1 (Records (codes "x" ∷ codes "y" ∷ []))
+    ∷ []
 
 is_legal_records : is_run one_each late_records ≡ true
 is_legal_records = refl
 
 -- the records are accepted and lost in that step
-records_are_lost : map (place one_each (history late_records)) (1 ∷ 2 ∷ 3 ∷ []) ≡ Some (Lost (Killed (stage 1) 1 ByStop)) ∷ Some (Lost (Killed (stage 1) 1 ByStop)) ∷ None ∷ []
+records_are_lost : map (place one_each (history late_records)) (1 ∷ 2 ∷ 3 ∷ []) ≡ Some (Lost (Killed (stage 1) 1 ByStop))
+    ∷ Some (Lost (Killed (stage 1) 1 ByStop)) ∷ None ∷ []
 records_are_lost = refl
 
 records_count : accepted (history late_records) ≡ 2
@@ -92,7 +94,8 @@ after_late_records =
 is_legal_after : is_run one_each after_late_records ≡ true
 is_legal_after = refl
 
-next_number : map (place one_each (history after_late_records)) (2 ∷ 3 ∷ 4 ∷ []) ≡ Some (Lost (Killed (stage 1) 1 ByStop)) ∷ Some (Waiting (stage 1)) ∷ None ∷ []
+next_number : map (place one_each (history after_late_records)) (2 ∷ 3 ∷ 4 ∷ []) ≡ Some (Lost (Killed (stage 1) 1 ByStop))
+    ∷ Some (Waiting (stage 1)) ∷ None ∷ []
 next_number = refl
 
 -- a late end of the source ends it, and the stage is not restarted
@@ -128,7 +131,8 @@ chunk_is_lost = refl
 
 abbrev late_child : List Step
 late_child =
-    Ask (sub 2 1 1) 2 ∷ Fetch (stage 1) 2 ∷ Accept (stage 1) (codes "x" ∷ codes "y" ∷ []) ∷ Dispatch (stage 1) ∷ Child (stage 2) (message_no 1) 0
+    Ask (sub 2 1 1) 2 ∷ Fetch (stage 1) 2 ∷ Accept (stage 1) (codes "x" ∷ codes "y" ∷ []) ∷ Dispatch (stage 1)
+    ∷ Child (stage 2) (message_no 1) 0
     ∷ Child (stage 2) (message_no 2) 1 ∷ Kill (stage 2) ByKill ∷ Late (stage 2) 1 1 Nothing ∷ Late (stage 2) 0 1 Nothing ∷ []
 
 is_legal_child : is_run supervised late_child ≡ true

@@ -52,7 +52,8 @@ drains_by_itself : move five_records (history all_came) ≡ StepMove (Drain Limi
 drains_by_itself = refl
 
 -- late records count too
-late_records_count : may_come_after five_records (both_fetch ++ Kill (stage 2) ByKill ∷ Late (stage 2) 0 1 (Records (replicate 5 (codes "x"))) ∷ []) (Drain LimitCause) ≡ true
+late_records_count : may_come_after five_records (both_fetch ++ Kill (stage 2) ByKill
+    ∷ Late (stage 2) 0 1 (Records (replicate 5 (codes "x"))) ∷ []) (Drain LimitCause) ≡ true
 late_records_count = refl
 
 -- Bytes
@@ -80,7 +81,8 @@ no_fetch_at_the_bytes : is_refused_after four_bytes four_bytes_came (Fetch (stag
 no_fetch_at_the_bytes = refl
 
 -- late bytes count too
-late_bytes_count : may_come_after four_bytes (Ask (sub 2 1 1) 10 ∷ Fetch (stage 1) 10 ∷ Kill (stage 1) ByKill ∷ Late (stage 1) 0 1 (Records (codes "abcd" ∷ [])) ∷ []) (Drain LimitCause) ≡ true
+late_bytes_count : may_come_after four_bytes (Ask (sub 2 1 1) 10 ∷ Fetch (stage 1) 10 ∷ Kill (stage 1) ByKill
+    ∷ Late (stage 1) 0 1 (Records (codes "abcd" ∷ [])) ∷ []) (Drain LimitCause) ≡ true
 late_bytes_count = refl
 
 -- Overflow
@@ -93,12 +95,14 @@ no_buffer keep size =
     ∷ record (processor 2 (codes "processors.0") 0 []) { min = 1; max = 2 } ∷ [])
 
 abbrev three_pushed : List Step
-three_pushed = Ask (sub 2 1 1) 2 ∷ Fetch (stage 1) 1000 ∷ Accept (stage 1) (codes "a" ∷ codes "b" ∷ codes "c" ∷ []) ∷ Dispatch (stage 1) ∷ []
+three_pushed = Ask (sub 2 1 1) 2 ∷ Fetch (stage 1) 1000 ∷ Accept (stage 1) (codes "a" ∷ codes "b" ∷ codes "c" ∷ []) ∷ Dispatch (stage 1)
+    ∷ []
 
 three_pushed_legal : is_run (no_buffer Last 0) three_pushed ≡ true
 three_pushed_legal = refl
 
-third_is_lost : map (place (no_buffer Last 0) (history three_pushed)) (1 ∷ 2 ∷ 3 ∷ []) ≡ Some (Inbox (sub 2 1 1)) ∷ Some (Inbox (sub 2 1 1)) ∷ Some (Lost (Overflow (stage 1))) ∷ []
+third_is_lost : map (place (no_buffer Last 0) (history three_pushed)) (1 ∷ 2 ∷ 3 ∷ []) ≡ Some (Inbox (sub 2 1 1)) ∷ Some (Inbox (sub 2 1 1))
+    ∷ Some (Lost (Overflow (stage 1))) ∷ []
 third_is_lost = refl
 
 is_not_lossless : is_lossless (no_buffer Last 0) (history three_pushed) ≡ false
@@ -111,10 +115,12 @@ five_pushed = Fetch (stage 1) 1000 ∷ Accept (stage 1) (replicate 5 (codes "a")
 five_pushed_legal : is_run (no_buffer Last 3) five_pushed ≡ true
 five_pushed_legal = refl
 
-keeps_the_last : map (place (no_buffer Last 3) (history five_pushed)) (1 ∷ 2 ∷ 3 ∷ 4 ∷ 5 ∷ []) ≡ Some (Lost (Overflow (stage 1))) ∷ Some (Lost (Overflow (stage 1))) ∷ Some (Waiting (stage 1)) ∷ Some (Waiting (stage 1)) ∷ Some (Waiting (stage 1)) ∷ []
+keeps_the_last : map (place (no_buffer Last 3) (history five_pushed)) (1 ∷ 2 ∷ 3 ∷ 4 ∷ 5 ∷ []) ≡ Some (Lost (Overflow (stage 1)))
+    ∷ Some (Lost (Overflow (stage 1))) ∷ Some (Waiting (stage 1)) ∷ Some (Waiting (stage 1)) ∷ Some (Waiting (stage 1)) ∷ []
 keeps_the_last = refl
 
-keeps_the_first : map (place (no_buffer First 3) (history five_pushed)) (1 ∷ 2 ∷ 3 ∷ 4 ∷ 5 ∷ []) ≡ Some (Waiting (stage 1)) ∷ Some (Waiting (stage 1)) ∷ Some (Waiting (stage 1)) ∷ Some (Lost (Overflow (stage 1))) ∷ Some (Lost (Overflow (stage 1))) ∷ []
+keeps_the_first : map (place (no_buffer First 3) (history five_pushed)) (1 ∷ 2 ∷ 3 ∷ 4 ∷ 5 ∷ []) ≡ Some (Waiting (stage 1))
+    ∷ Some (Waiting (stage 1)) ∷ Some (Waiting (stage 1)) ∷ Some (Lost (Overflow (stage 1))) ∷ Some (Lost (Overflow (stage 1))) ∷ []
 keeps_the_first = refl
 
 -- a buffer that is just full loses nothing
@@ -151,7 +157,8 @@ after_three : may_come_after idle (two_quiets ++ Tick 1 ∷ Fetch (stage 1) 10 �
 after_three = refl
 
 -- a late quiet answer is none of the row, and breaks it
-late_quiet_breaks : is_refused_after idle (two_quiets ++ Tick 1 ∷ Fetch (stage 1) 10 ∷ Kill (stage 1) ByKill ∷ Late (stage 1) 0 1 LateQuiet ∷ []) (Drain Idle) ≡ true
+late_quiet_breaks : is_refused_after idle (two_quiets ++ Tick 1 ∷ Fetch (stage 1) 10 ∷ Kill (stage 1) ByKill ∷ Late (stage 1) 0 1 LateQuiet
+    ∷ []) (Drain Idle) ≡ true
 late_quiet_breaks = refl
 
 -- without an idle limit there is no idle end

@@ -46,5 +46,6 @@ no_halt_past_the_end : is_refused_after once_only (killed_again ++ Tick 5011 ∷
 no_halt_past_the_end = refl
 
 -- one limit serves all stages
-other_stage_counts : is_refused_after once_only (Kill (stage 1) ByKill ∷ Restart (stage 1) ∷ Kill (stage 2) ByKill ∷ []) (Restart (stage 2)) ≡ true
+other_stage_counts : is_refused_after once_only (Kill (stage 1) ByKill ∷ Restart (stage 1) ∷ Kill (stage 2) ByKill ∷ []) (Restart (stage 2))
+    ≡ true
 other_stage_counts = refl

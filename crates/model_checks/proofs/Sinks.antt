@@ -34,8 +34,10 @@ plain = pairs (λ spec. spec)
 
 abbrev until_taken : List Step
 until_taken =
-    Ask (sub 2 1 1) 10 ∷ Ask (sub 3 2 1) 3 ∷ Ask (sub 4 3 1) 1 ∷ Fetch (stage 1) 10 ∷ Accept (stage 1) (codes "hello" ∷ codes "you" ∷ []) ∷ Dispatch (stage 1)
-    ∷ Take (stage 2) (sub 2 1 1) 2 ∷ Done (stage 2) (passes 1 (codes "hello" ∷ codes "you" ∷ [])) ∷ Dispatch (stage 2) ∷ Gather (stage 3) (message_no 1)
+    Ask (sub 2 1 1) 10 ∷ Ask (sub 3 2 1) 3 ∷ Ask (sub 4 3 1) 1 ∷ Fetch (stage 1) 10 ∷ Accept (stage 1) (codes "hello" ∷ codes "you" ∷ [])
+    ∷ Dispatch (stage 1)
+    ∷ Take (stage 2) (sub 2 1 1) 2 ∷ Done (stage 2) (passes 1 (codes "hello" ∷ codes "you" ∷ [])) ∷ Dispatch (stage 2)
+    ∷ Gather (stage 3) (message_no 1)
     ∷ Gather (stage 3) (message_no 2) ∷ Close (stage 3) (message_no 1) Size ∷ Dispatch (stage 3) ∷ Take (stage 4) (sub 4 3 1) 1 ∷ []
 
 -- the sink took seven of ten bytes: both messages fail, and the seven bytes are there
@@ -127,7 +129,8 @@ crashed_handled = refl
 abbrev renaming : Topology
 renaming =
     with_stages
-    (producer 1 (codes "p") 0 ∷ feeding 1 (processor 2 (codes "processors.0") 0 (Prefix (codes "dear ") ∷ [])) ∷ record (batcher 3 (codes "b") 0) { batch_size = 2 }
+    (producer 1 (codes "p") 0 ∷ feeding 1 (processor 2 (codes "processors.0") 0 (Prefix (codes "dear ") ∷ []))
+    ∷ record (batcher 3 (codes "b") 0) { batch_size = 2 }
     ∷ batch_processor 4 (codes "b.0") 0 0 ∷ [])
 
 abbrev renamed : List Step
@@ -155,8 +158,10 @@ unwritten_legal = refl
 abbrev own : Topology
 own = pairs (λ spec. record spec { kind = Own })
 
-own_whole : sink_text own (history (until_taken ++ Wrote (stage 4) 4 (Outcomes (Failed (codes "no") ∷ Successful ∷ [])) ∷ [])) (stage 4) ≡ codes "you" ++ 10 ∷ []
+own_whole : sink_text own (history (until_taken ++ Wrote (stage 4) 4 (Outcomes (Failed (codes "no") ∷ Successful ∷ [])) ∷ [])) (stage 4)
+    ≡ codes "you" ++ 10 ∷ []
 own_whole = refl
 
-own_short : sink_text own (history (until_taken ++ Wrote (stage 4) 2 (Outcomes (Failed (codes "no") ∷ Failed (codes "sink") ∷ [])) ∷ [])) (stage 4) ≡ codes "yo"
+own_short : sink_text own (history (until_taken ++ Wrote (stage 4) 2 (Outcomes (Failed (codes "no") ∷ Failed (codes "sink") ∷ [])) ∷ []))
+    (stage 4) ≡ codes "yo"
 own_short = refl

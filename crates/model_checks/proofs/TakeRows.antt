@@ -54,7 +54,8 @@ take_none = refl
 -- from the subscription of the first unit, and of that alone: one of the second producer came first, then two of the first
 abbrev from_two : List Step
 from_two =
-    Ask (sub 3 1 1) 10 ∷ Ask (sub 3 2 1) 10 ∷ Fetch (stage 1) 10 ∷ Fetch (stage 2) 10 ∷ Accept (stage 2) (codes "x" ∷ []) ∷ Dispatch (stage 2)
+    Ask (sub 3 1 1) 10 ∷ Ask (sub 3 2 1) 10 ∷ Fetch (stage 1) 10 ∷ Fetch (stage 2) 10 ∷ Accept (stage 2) (codes "x" ∷ [])
+    ∷ Dispatch (stage 2)
     ∷ Accept (stage 1) (codes "y" ∷ codes "z" ∷ []) ∷ Dispatch (stage 1) ∷ []
 
 take_of_the_first : may_come_after two_producers from_two (Take (stage 3) (sub 3 2 1) 1) ≡ true
@@ -73,7 +74,8 @@ between = from_two ++ Fetch (stage 2) 9 ∷ Accept (stage 2) (codes "w" ∷ []) 
 take_around : may_come_after two_producers between (Take (stage 3) (sub 3 2 1) 2) ≡ true
 take_around = refl
 
-runs_around : map (place two_producers (history (between ++ Take (stage 3) (sub 3 2 1) 2 ∷ []))) (1 ∷ 2 ∷ 3 ∷ 4 ∷ []) ≡ Some (Running (stage 3)) ∷ Some (Inbox (sub 3 1 1)) ∷ Some (Inbox (sub 3 1 1)) ∷ Some (Running (stage 3)) ∷ []
+runs_around : map (place two_producers (history (between ++ Take (stage 3) (sub 3 2 1) 2 ∷ []))) (1 ∷ 2 ∷ 3 ∷ 4 ∷ [])
+    ≡ Some (Running (stage 3)) ∷ Some (Inbox (sub 3 1 1)) ∷ Some (Inbox (sub 3 1 1)) ∷ Some (Running (stage 3)) ∷ []
 runs_around = refl
 
 -- a closed subscription's units are taken like others
@@ -95,12 +97,14 @@ take_while_dead = refl
 take_by_a_producer : is_refused_after one_each sent_one (Take (stage 1) (sub 2 1 1) 1) ≡ true
 take_by_a_producer = refl
 
-take_by_a_supervisor : is_refused_after supervised (Ask (sub 2 1 1) 2 ∷ Fetch (stage 1) 2 ∷ Accept (stage 1) (codes "x" ∷ []) ∷ Dispatch (stage 1) ∷ []) (Take (stage 2) (sub 2 1 1) 1) ≡ true
+take_by_a_supervisor : is_refused_after supervised (Ask (sub 2 1 1) 2 ∷ Fetch (stage 1) 2 ∷ Accept (stage 1) (codes "x" ∷ [])
+    ∷ Dispatch (stage 1) ∷ []) (Take (stage 2) (sub 2 1 1) 1) ≡ true
 take_by_a_supervisor = refl
 
 abbrev to_the_batcher : List Step
 to_the_batcher =
-    Ask (sub 2 1 1) 10 ∷ Ask (sub 3 2 1) 3 ∷ Ask (sub 4 3 1) 1 ∷ Fetch (stage 1) 10 ∷ Accept (stage 1) (codes "x" ∷ []) ∷ Dispatch (stage 1) ∷ Take (stage 2) (sub 2 1 1) 1
+    Ask (sub 2 1 1) 10 ∷ Ask (sub 3 2 1) 3 ∷ Ask (sub 4 3 1) 1 ∷ Fetch (stage 1) 10 ∷ Accept (stage 1) (codes "x" ∷ []) ∷ Dispatch (stage 1)
+    ∷ Take (stage 2) (sub 2 1 1) 1
     ∷ Done (stage 2) (Pass (keyed 1 (codes "x")) ∷ []) ∷ Dispatch (stage 2) ∷ []
 
 take_by_a_batcher : is_refused_after by_key to_the_batcher (Take (stage 3) (sub 3 2 1) 1) ≡ true
@@ -117,7 +121,8 @@ take_with_room = refl
 abbrev two_batchers : Topology
 two_batchers =
     with_stages
-    (producer 1 (codes "p") 0 ∷ feeding 2 (record (processor 2 (codes "processors.0") 0 []) { min = 7 }) ∷ batcher 3 (codes "b") 0 ∷ batcher 4 (codes "c") 1
+    (producer 1 (codes "p") 0 ∷ feeding 2 (record (processor 2 (codes "processors.0") 0 []) { min = 7 }) ∷ batcher 3 (codes "b") 0
+    ∷ batcher 4 (codes "c") 1
     ∷ batch_processor 5 (codes "b.0") 0 0 ∷ batch_processor 6 (codes "c.0") 1 0 ∷ [])
 
 abbrev three_wait : List Step
@@ -195,7 +200,8 @@ done_raised_for_failed = refl
 -- a crash ends the list, and nothing follows it
 abbrev taken_three : List Step
 taken_three =
-    Ask (sub 2 1 1) 10 ∷ Fetch (stage 1) 10 ∷ Accept (stage 1) (codes "a" ∷ codes "!" ∷ codes "b" ∷ []) ∷ Dispatch (stage 1) ∷ Take (stage 2) (sub 2 1 1) 3 ∷ []
+    Ask (sub 2 1 1) 10 ∷ Fetch (stage 1) 10 ∷ Accept (stage 1) (codes "a" ∷ codes "!" ∷ codes "b" ∷ []) ∷ Dispatch (stage 1)
+    ∷ Take (stage 2) (sub 2 1 1) 3 ∷ []
 
 abbrev crashing : Topology
 crashing = one_ruled (CrashRule (codes "!") ∷ [])
@@ -203,7 +209,8 @@ crashing = one_ruled (CrashRule (codes "!") ∷ [])
 done_to_the_crash : may_come_after crashing taken_three (Done (stage 2) (Pass (msg 1 (codes "a")) ∷ Crashed ∷ [])) ≡ true
 done_to_the_crash = refl
 
-done_past_the_crash : is_refused_after crashing taken_three (Done (stage 2) (Pass (msg 1 (codes "a")) ∷ Crashed ∷ Pass (msg 3 (codes "b")) ∷ [])) ≡ true
+done_past_the_crash : is_refused_after crashing taken_three (Done (stage 2)
+    (Pass (msg 1 (codes "a")) ∷ Crashed ∷ Pass (msg 3 (codes "b")) ∷ [])) ≡ true
 done_past_the_crash = refl
 
 done_before_the_crash : is_refused_after crashing taken_three (Done (stage 2) (Pass (msg 1 (codes "a")) ∷ [])) ≡ true
@@ -216,7 +223,8 @@ done_at_once_crashed = refl
 done_untaken : is_refused_after one_each sent_one (Done (stage 2) (passes 1 (codes "x" ∷ []))) ≡ true
 done_untaken = refl
 
-done_twice : is_refused_after one_each (taken_one ++ Done (stage 2) (passes 1 (codes "x" ∷ [])) ∷ []) (Done (stage 2) (passes 1 (codes "x" ∷ []))) ≡ true
+done_twice : is_refused_after one_each (taken_one ++ Done (stage 2) (passes 1 (codes "x" ∷ [])) ∷ [])
+    (Done (stage 2) (passes 1 (codes "x" ∷ []))) ≡ true
 done_twice = refl
 
 -- not from a killed incarnation
@@ -227,7 +235,8 @@ done_while_dead = refl
 done_by_a_producer : is_refused_after one_each (Ask (sub 2 1 1) 10 ∷ Fetch (stage 1) 10 ∷ []) (Done (stage 1) []) ≡ true
 done_by_a_producer = refl
 
-done_by_a_batch_processor : is_refused_after by_key (two_batches ++ Take (stage 4) (sub 4 3 1) 1 ∷ []) (Done (stage 4) (Pass (keyed 1 (codes "x")) ∷ [])) ≡ true
+done_by_a_batch_processor : is_refused_after by_key (two_batches ++ Take (stage 4) (sub 4 3 1) 1 ∷ [])
+    (Done (stage 4) (Pass (keyed 1 (codes "x")) ∷ [])) ≡ true
 done_by_a_batch_processor = refl
 
 -- An own handler's replies
@@ -290,14 +299,17 @@ own_crash_behind_all = refl
 abbrev own_feeding : Topology
 own_feeding =
     with_stages
-    (producer 1 (codes "p") 0 ∷ record (feeding 2 (processor 2 (codes "processors.0") 0 [])) { kind = Own } ∷ batcher 3 (codes "b") 0 ∷ batcher 4 (codes "c") 1
+    (producer 1 (codes "p") 0 ∷ record (feeding 2 (processor 2 (codes "processors.0") 0 [])) { kind = Own } ∷ batcher 3 (codes "b") 0
+    ∷ batcher 4 (codes "c") 1
     ∷ batch_processor 5 (codes "b.0") 0 0 ∷ batch_processor 6 (codes "c.0") 1 0 ∷ [])
 
 abbrev taken_to_feed : List Step
 taken_to_feed = Ask (sub 3 2 1) 3 ∷ taken_one
 
-own_second_batcher : may_come_after own_feeding taken_to_feed (Done (stage 2) (Pass (record (msg 1 (codes "x")) { batcher = 1 }) ∷ [])) ≡ true
+own_second_batcher : may_come_after own_feeding taken_to_feed (Done (stage 2) (Pass (record (msg 1 (codes "x")) { batcher = 1 }) ∷ []))
+    ≡ true
 own_second_batcher = refl
 
-own_third_batcher : is_refused_after own_feeding taken_to_feed (Done (stage 2) (Pass (record (msg 1 (codes "x")) { batcher = 2 }) ∷ [])) ≡ true
+own_third_batcher : is_refused_after own_feeding taken_to_feed (Done (stage 2) (Pass (record (msg 1 (codes "x")) { batcher = 2 }) ∷ []))
+    ≡ true
 own_third_batcher = refl

@@ -21,8 +21,10 @@ use Rattle.model_checks.proofs.Base.{may_come_after, is_refused_after, producer,
 -- one message is gathered at 100
 abbrev gathered_at_100 : List Step
 gathered_at_100 =
-    Tick 100 ∷ Ask (sub 2 1 1) 10 ∷ Ask (sub 3 2 1) 3 ∷ Ask (sub 4 3 1) 1 ∷ Fetch (stage 1) 10 ∷ Accept (stage 1) (codes "x" ∷ []) ∷ Dispatch (stage 1)
-    ∷ Take (stage 2) (sub 2 1 1) 1 ∷ Done (stage 2) (Pass (keyed 1 (codes "x")) ∷ []) ∷ Dispatch (stage 2) ∷ Gather (stage 3) (message_no 1) ∷ []
+    Tick 100 ∷ Ask (sub 2 1 1) 10 ∷ Ask (sub 3 2 1) 3 ∷ Ask (sub 4 3 1) 1 ∷ Fetch (stage 1) 10 ∷ Accept (stage 1) (codes "x" ∷ [])
+    ∷ Dispatch (stage 1)
+    ∷ Take (stage 2) (sub 2 1 1) 1 ∷ Done (stage 2) (Pass (keyed 1 (codes "x")) ∷ []) ∷ Dispatch (stage 2) ∷ Gather (stage 3) (message_no 1)
+    ∷ []
 
 -- at 1099 it does not close yet, and at 1100 it does
 too_early : is_refused_after by_key (gathered_at_100 ++ Tick 1099 ∷ []) (Close (stage 3) (message_no 1) Timeout) ≡ true
@@ -31,7 +33,8 @@ too_early = refl
 in_time : may_come_after by_key (gathered_at_100 ++ Tick 1100 ∷ []) (Close (stage 3) (message_no 1) Timeout) ≡ true
 in_time = refl
 
-moves_in_time : map (λ t. move by_key (history (gathered_at_100 ++ Tick t ∷ []))) (1099 ∷ 1100 ∷ []) ≡ Job (stage 1) ∷ StepMove (Close (stage 3) (message_no 1) Timeout) ∷ []
+moves_in_time : map (λ t. move by_key (history (gathered_at_100 ++ Tick t ∷ []))) (1099 ∷ 1100 ∷ []) ≡ Job (stage 1)
+    ∷ StepMove (Close (stage 3) (message_no 1) Timeout) ∷ []
 moves_in_time = refl
 
 -- Flush
@@ -45,7 +48,8 @@ flushing =
 
 abbrev flush_mode : List Step
 flush_mode =
-    Ask (sub 2 1 1) 10 ∷ Ask (sub 3 2 1) 3 ∷ Ask (sub 4 3 1) 1 ∷ Fetch (stage 1) 10 ∷ Accept (stage 1) (codes "x" ∷ codes "!" ∷ codes "y" ∷ []) ∷ Dispatch (stage 1)
+    Ask (sub 2 1 1) 10 ∷ Ask (sub 3 2 1) 3 ∷ Ask (sub 4 3 1) 1 ∷ Fetch (stage 1) 10
+    ∷ Accept (stage 1) (codes "x" ∷ codes "!" ∷ codes "y" ∷ []) ∷ Dispatch (stage 1)
     ∷ Take (stage 2) (sub 2 1 1) 3
     ∷ Done (stage 2) (Pass (msg 1 (codes "x")) ∷ Pass (record (msg 2 (codes "!")) { flush = true }) ∷ Pass (msg 3 (codes "y")) ∷ [])
     ∷ Dispatch (stage 2) ∷ Gather (stage 3) (message_no 1) ∷ Gather (stage 3) (message_no 2) ∷ []
@@ -73,11 +77,13 @@ closes_when_dry : may_come_after by_key draining (Close (stage 3) (message_no 1)
 closes_when_dry = refl
 
 -- not while a fetch is out
-not_while_fetching : is_refused_after by_key (gathered_at_100 ++ Fetch (stage 1) 9 ∷ Drain Control ∷ []) (Close (stage 3) (message_no 1) Flush) ≡ true
+not_while_fetching : is_refused_after by_key (gathered_at_100 ++ Fetch (stage 1) 9 ∷ Drain Control ∷ [])
+    (Close (stage 3) (message_no 1) Flush) ≡ true
 not_while_fetching = refl
 
 -- not while the fetch of a killed producer is out
-not_while_late : is_refused_after by_key (gathered_at_100 ++ Fetch (stage 1) 9 ∷ Kill (stage 1) ByKill ∷ Drain Control ∷ []) (Close (stage 3) (message_no 1) Flush) ≡ true
+not_while_late : is_refused_after by_key (gathered_at_100 ++ Fetch (stage 1) 9 ∷ Kill (stage 1) ByKill ∷ Drain Control ∷ [])
+    (Close (stage 3) (message_no 1) Flush) ≡ true
 not_while_late = refl
 
 -- not while a message stands in the inbox of the processor, runs there, waits there, or stands in the inbox of the batcher
@@ -87,26 +93,32 @@ another_line = gathered_at_100 ++ Fetch (stage 1) 9 ∷ Accept (stage 1) (codes 
 not_while_in_an_inbox : is_refused_after by_key another_line (Close (stage 3) (message_no 1) Flush) ≡ true
 not_while_in_an_inbox = refl
 
-not_while_running : is_refused_after by_key (another_line ++ Take (stage 2) (sub 2 1 1) 1 ∷ []) (Close (stage 3) (message_no 1) Flush) ≡ true
+not_while_running : is_refused_after by_key (another_line ++ Take (stage 2) (sub 2 1 1) 1 ∷ []) (Close (stage 3) (message_no 1) Flush)
+    ≡ true
 not_while_running = refl
 
-not_while_waiting : is_refused_after by_key (another_line ++ Take (stage 2) (sub 2 1 1) 1 ∷ Done (stage 2) (Pass (keyed 2 (codes "y")) ∷ []) ∷ []) (Close (stage 3) (message_no 1) Flush) ≡ true
+not_while_waiting : is_refused_after by_key (another_line ++ Take (stage 2) (sub 2 1 1) 1 ∷ Done (stage 2) (Pass (keyed 2 (codes "y")) ∷ [])
+    ∷ []) (Close (stage 3) (message_no 1) Flush) ≡ true
 not_while_waiting = refl
 
-not_while_to_be_gathered : is_refused_after by_key (another_line ++ Take (stage 2) (sub 2 1 1) 1 ∷ Done (stage 2) (Pass (keyed 2 (codes "y")) ∷ []) ∷ Dispatch (stage 2) ∷ []) (Close (stage 3) (message_no 1) Flush) ≡ true
+not_while_to_be_gathered : is_refused_after by_key (another_line ++ Take (stage 2) (sub 2 1 1) 1
+    ∷ Done (stage 2) (Pass (keyed 2 (codes "y")) ∷ []) ∷ Dispatch (stage 2) ∷ []) (Close (stage 3) (message_no 1) Flush) ≡ true
 not_while_to_be_gathered = refl
 
 -- not while a message waits in a producer
 abbrev pushing : Topology
 pushing =
     with_stages
-    (record (producer 1 (codes "p") 0) { push = true } ∷ record (feeding 1 (processor 2 (codes "processors.0") 0 (Key 0 ∷ []))) { min = 0; max = 1 }
+    (record (producer 1 (codes "p") 0) { push = true } ∷ record
+    (feeding 1 (processor 2 (codes "processors.0") 0 (Key 0 ∷ []))) { min = 0; max = 1 }
     ∷ batcher 3 (codes "b") 0 ∷ batch_processor 4 (codes "b.0") 0 0 ∷ [])
 
 abbrev one_left_behind : List Step
 one_left_behind =
-    Ask (sub 2 1 1) 1 ∷ Ask (sub 3 2 1) 3 ∷ Ask (sub 4 3 1) 1 ∷ Fetch (stage 1) 1000 ∷ Accept (stage 1) (codes "x" ∷ codes "y" ∷ []) ∷ Dispatch (stage 1)
-    ∷ Take (stage 2) (sub 2 1 1) 1 ∷ Done (stage 2) (Pass (keyed 1 (codes "x")) ∷ []) ∷ Dispatch (stage 2) ∷ Gather (stage 3) (message_no 1) ∷ Drain Control ∷ []
+    Ask (sub 2 1 1) 1 ∷ Ask (sub 3 2 1) 3 ∷ Ask (sub 4 3 1) 1 ∷ Fetch (stage 1) 1000 ∷ Accept (stage 1) (codes "x" ∷ codes "y" ∷ [])
+    ∷ Dispatch (stage 1)
+    ∷ Take (stage 2) (sub 2 1 1) 1 ∷ Done (stage 2) (Pass (keyed 1 (codes "x")) ∷ []) ∷ Dispatch (stage 2) ∷ Gather (stage 3) (message_no 1)
+    ∷ Drain Control ∷ []
 
 not_while_in_a_producer : is_refused_after pushing one_left_behind (Close (stage 3) (message_no 1) Flush) ≡ true
 not_while_in_a_producer = refl
@@ -124,8 +136,10 @@ two_batchers =
 
 abbrev one_in_each : List Step
 one_in_each =
-    Ask (sub 2 1 1) 10 ∷ Ask (sub 3 2 1) 3 ∷ Ask (sub 4 2 1) 3 ∷ Ask (sub 5 3 1) 1 ∷ Fetch (stage 1) 10 ∷ Accept (stage 1) (codes "x" ∷ codes "cold" ∷ []) ∷ Dispatch (stage 1)
-    ∷ Take (stage 2) (sub 2 1 1) 2 ∷ Done (stage 2) (Pass (msg 1 (codes "x")) ∷ Pass (record (msg 2 (codes "cold")) { batcher = 1 }) ∷ []) ∷ Dispatch (stage 2)
+    Ask (sub 2 1 1) 10 ∷ Ask (sub 3 2 1) 3 ∷ Ask (sub 4 2 1) 3 ∷ Ask (sub 5 3 1) 1 ∷ Fetch (stage 1) 10
+    ∷ Accept (stage 1) (codes "x" ∷ codes "cold" ∷ []) ∷ Dispatch (stage 1)
+    ∷ Take (stage 2) (sub 2 1 1) 2 ∷ Done (stage 2) (Pass (msg 1 (codes "x")) ∷ Pass (record (msg 2 (codes "cold")) { batcher = 1 }) ∷ [])
+    ∷ Dispatch (stage 2)
     ∷ Gather (stage 3) (message_no 1) ∷ Drain Control ∷ []
 
 closes_beside_another : may_come_after two_batchers one_in_each (Close (stage 3) (message_no 1) Flush) ≡ true
@@ -134,7 +148,8 @@ closes_beside_another = refl
 -- then both keys' batches close, in the order of their first messages
 abbrev both_gathered : List Step
 both_gathered =
-    another_line ++ Take (stage 2) (sub 2 1 1) 1 ∷ Done (stage 2) (Pass (keyed 2 (codes "y")) ∷ []) ∷ Dispatch (stage 2) ∷ Gather (stage 3) (message_no 2) ∷ Ask (sub 3 2 1) 2 ∷ []
+    another_line ++ Take (stage 2) (sub 2 1 1) 1 ∷ Done (stage 2) (Pass (keyed 2 (codes "y")) ∷ []) ∷ Dispatch (stage 2)
+    ∷ Gather (stage 3) (message_no 2) ∷ Ask (sub 3 2 1) 2 ∷ []
 
 first_closes_first : move by_key (history both_gathered) ≡ StepMove (Close (stage 3) (message_no 1) Flush)
 first_closes_first = refl
@@ -148,8 +163,10 @@ any_may_close = refl
 -- a full batch closes by its size, though its time has passed too
 abbrev three_of_a_key : List Step
 three_of_a_key =
-    Ask (sub 2 1 1) 10 ∷ Ask (sub 3 2 1) 3 ∷ Ask (sub 4 3 1) 1 ∷ Fetch (stage 1) 10 ∷ Accept (stage 1) (replicate 3 (codes "x")) ∷ Dispatch (stage 1)
-    ∷ Take (stage 2) (sub 2 1 1) 3 ∷ Done (stage 2) (Pass (keyed 1 (codes "x")) ∷ Pass (keyed 2 (codes "x")) ∷ Pass (keyed 3 (codes "x")) ∷ [])
+    Ask (sub 2 1 1) 10 ∷ Ask (sub 3 2 1) 3 ∷ Ask (sub 4 3 1) 1 ∷ Fetch (stage 1) 10 ∷ Accept (stage 1) (replicate 3 (codes "x"))
+    ∷ Dispatch (stage 1)
+    ∷ Take (stage 2) (sub 2 1 1) 3 ∷ Done (stage 2) (Pass (keyed 1 (codes "x")) ∷ Pass (keyed 2 (codes "x")) ∷ Pass (keyed 3 (codes "x"))
+    ∷ [])
     ∷ Dispatch (stage 2) ∷ Gather (stage 3) (message_no 1) ∷ Gather (stage 3) (message_no 2) ∷ []
 
 not_full_yet : is_refused_after by_key three_of_a_key (Close (stage 3) (message_no 1) Size) ≡ true

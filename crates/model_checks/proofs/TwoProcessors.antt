@@ -29,15 +29,20 @@ is_legal_whole : is_run two_processors twelve_lines ≡ true
 is_legal_whole = refl
 
 -- the first ten went to the first processor, and the rest to the second
-is_sent : map (place two_processors (history (take 5 twelve_lines))) (1 ∷ 10 ∷ 11 ∷ 12 ∷ 13 ∷ []) ≡ Some (Inbox (sub 2 1 1)) ∷ Some (Inbox (sub 2 1 1)) ∷ Some (Inbox (sub 3 1 1)) ∷ Some (Inbox (sub 3 1 1)) ∷ None ∷ []
+is_sent : map (place two_processors (history (take 5 twelve_lines))) (1 ∷ 10 ∷ 11 ∷ 12 ∷ 13 ∷ []) ≡ Some (Inbox (sub 2 1 1))
+    ∷ Some (Inbox (sub 2 1 1)) ∷ Some (Inbox (sub 3 1 1)) ∷ Some (Inbox (sub 3 1 1)) ∷ None ∷ []
 is_sent = refl
 
 -- all are acknowledged at the end
-is_acked : map (place two_processors (history twelve_lines)) (1 ∷ 2 ∷ 3 ∷ 4 ∷ 5 ∷ 6 ∷ 7 ∷ 8 ∷ 9 ∷ 10 ∷ 11 ∷ 12 ∷ []) ≡ replicate 12 (Some (Acked Successful))
+is_acked : map (place two_processors (history twelve_lines)) (1 ∷ 2 ∷ 3 ∷ 4 ∷ 5 ∷ 6 ∷ 7 ∷ 8 ∷ 9 ∷ 10 ∷ 11 ∷ 12 ∷ [])
+    ≡ replicate 12 (Some (Acked Successful))
 is_acked = refl
 
 -- one entry for each chunk, in the order of the answers
-is_acknowledged : acknowledgements two_processors (history twelve_lines) ≡ record { producer = stage 1; successful = 11 ∷ 12 ∷ []; failed = [] } ∷ record { producer = stage 1; successful = 1 ∷ 2 ∷ 3 ∷ 4 ∷ 5 ∷ []; failed = [] } ∷ record { producer = stage 1; successful = 6 ∷ 7 ∷ 8 ∷ 9 ∷ 10 ∷ []; failed = [] } ∷ []
+is_acknowledged : acknowledgements two_processors (history twelve_lines)
+    ≡ record { producer = stage 1; successful = 11 ∷ 12 ∷ []; failed = [] }
+    ∷ record { producer = stage 1; successful = 1 ∷ 2 ∷ 3 ∷ 4 ∷ 5 ∷ []; failed = [] }
+    ∷ record { producer = stage 1; successful = 6 ∷ 7 ∷ 8 ∷ 9 ∷ 10 ∷ []; failed = [] } ∷ []
 is_acknowledged = refl
 
 -- the order of moves: asks first, the least subscription first; then a job of the greatest stage
