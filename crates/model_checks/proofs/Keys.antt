@@ -15,6 +15,7 @@ use Rattle.pipe_model.specs.History.{history}
 use Rattle.pipe_model.specs.Flow.{place}
 use Rattle.pipe_model.specs.Moves.{Drained, StepMove, Job, move}
 use Rattle.pipe_model.specs.Acknowledgements.{acknowledgements, is_lossless}
+use Rattle.pipe_model.specs.Places.{settled_at}
 use Rattle.pipe_model.specs.Outside.{fed, sink_text}
 use Rattle.model_checks.proofs.Base.{is_run, sub, keyed, by_key}
 
@@ -89,3 +90,11 @@ drains = refl
 
 closes_what_is_left : move by_key (history (take 24 two_keys)) ≡ StepMove (Close (stage 3) (message_no 2) Flush)
 closes_what_is_left = refl
+
+-- the places in the journal of the two answers that settled them
+are_settled_at : map (settled_at by_key (history two_keys)) (1 ∷ 2 ∷ 3 ∷ 4 ∷ []) ≡ 19 ∷ 27 ∷ 19 ∷ 19 ∷ []
+are_settled_at = refl
+
+-- and 0 as long as they are not
+are_not_settled : map (settled_at by_key (history (take 19 two_keys))) (1 ∷ 2 ∷ []) ≡ 0 ∷ 0 ∷ []
+are_not_settled = refl

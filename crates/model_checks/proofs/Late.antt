@@ -20,6 +20,7 @@ use Rattle.pipe_model.specs.Ledger.{handled}
 use Rattle.pipe_model.specs.Legal.{needs_restart}
 use Rattle.pipe_model.specs.Moves.{StepMove, Job, move}
 use Rattle.pipe_model.specs.Acknowledgements.{acknowledgements}
+use Rattle.pipe_model.specs.Places.{settled_at}
 use Rattle.pipe_model.specs.Outside.{fed, source_end, sink_text}
 use Rattle.model_checks.proofs.Base.{is_run, one_each, sub, keyed, by_key, supervised}
 
@@ -82,6 +83,9 @@ records_are_lost = refl
 
 records_count : accepted (history late_records) ≡ 2
 records_count = refl
+
+settled_as_they_come : map (settled_at one_each (history late_records)) (1 ∷ 2 ∷ []) ≡ 3 ∷ 3 ∷ []
+settled_as_they_come = refl
 
 records_are_fed : fed (history late_records) (stage 1) ≡ codes "x" ∷ codes "y" ∷ []
 records_are_fed = refl

@@ -13,6 +13,7 @@ use Rattle.pipe_model.specs.History.{history}
 use Rattle.pipe_model.specs.Flow.{place}
 use Rattle.pipe_model.specs.Moves.{is_drained}
 use Rattle.pipe_model.specs.Acknowledgements.{acknowledgements, is_lossless}
+use Rattle.pipe_model.specs.Places.{settled_at}
 use Rattle.model_checks.proofs.Base.{is_run, one_each, sub, msg}
 
 abbrev one_line : List Step
@@ -42,3 +43,7 @@ is_lossless_whole = refl
 -- one acknowledgement, for the producer
 is_acknowledged : acknowledgements one_each (history one_line) ≡ record { producer = stage 1; successful = 1 ∷ []; failed = [] } ∷ []
 is_acknowledged = refl
+
+-- the message was settled by the sixth step, which stands at place 5 of the journal
+is_settled_at : settled_at one_each (history one_line) 1 ≡ 5
+is_settled_at = refl
