@@ -1,0 +1,5 @@
+pub mod Scripts
+pub mod MemSource
+pub mod MemSink
+pub mod Shelf
+pub mod Place
