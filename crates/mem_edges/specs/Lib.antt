@@ -3,3 +3,8 @@ pub mod MemSource
 pub mod MemSink
 pub mod Shelf
 pub mod Place
+pub mod Calls
+pub mod Refusals
+pub mod MemEdges
+pub mod Opens
+pub mod Elsewhere

@@ -20,6 +20,10 @@ is_open name shelf = option_map_or (λ (n : Named _). n.opened) (under name shel
 abbrev pub names_on : {T : Type 0} → List (Named T) → List (List ℕ)
 names_on shelf = map (λ (n : Named _). n.name) shelf
 
+-- a thing with its name
+abbrev pub with_name : {T : Type 0} → Named T → List ℕ × T
+with_name n = (n.name, n.item)
+
 -- what was given back, each with its name, in order
 abbrev pub given_back : {T : Type 0} → List (Named T) → List (List ℕ × T)
-given_back shelf = reverse (map (λ (n : Named _). (n.name, n.item)) (filter (λ (n : Named _). n.returned) shelf))
+given_back shelf = reverse (map with_name (filter (λ (n : Named _). n.returned) shelf))

@@ -6,10 +6,13 @@
 #![tactic(auto)]
 
 mod clock;
+mod edges;
 mod named;
+mod opening;
 mod sink;
 mod source;
 
 pub use clock::MemClock;
+pub use edges::{CallList, MemEdges};
 pub use sink::{MemSink, SinkAct, SinkScript};
 pub use source::{MemSource, SourceAct, SourceScript};

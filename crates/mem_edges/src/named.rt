@@ -1,7 +1,8 @@
 //! What stands under names, the newest first.
 
-ghost use Rattle.std.specs.Prelude.{◌≡◌, ◌<◌, ◌∷◌, length, MatchOption, false, slice_index_or, OnOk, OnErr, IfOk};
-ghost use Rattle.mem_edges.specs.Shelf.{is_free, names_on};
+ghost use Rattle.std.specs.Prelude.{◌≡◌, MatchOption, false, OnOk, OnErr, IfOk};
+ghost use Rattle.mem_edges.specs.Shelf.{is_free};
+ghost use Rattle.mem_edges.specs.Opens.{Puts};
 ghost use Rattle.mem_edges.specs.Place.{IsFreePlace};
 
 use pipe_types::bytes::Text;
@@ -42,7 +43,7 @@ pub fn put<T: Drop>(
     item: T,
     returned: bool,
 ) -> Result<(), AllocError>
-    ensures ok { OnOk result (shelf.new.items ≡ record { name = name; item = item; opened = false; returned = returned } ∷ shelf.old.items) }
+    ensures ok { OnOk result (Puts name item returned shelf.old.items shelf.new.items) }
     ensures err { OnErr result (shelf.new.items ≡ shelf.old.items) }
 {
     let named = Named {

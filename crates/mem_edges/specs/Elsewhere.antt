@@ -1,0 +1,17 @@
+-- What stays as it was in edges in memory.
+use Rattle.std.specs.Prelude.{◌≡◌, ℕ, Bool, true, List}
+use Rattle.pipe_edges.specs.declared.edges.EdgeKind.{EdgeKind}
+use Rattle.mem_edges.specs.declared.edges.MemEdges.{MemEdges}
+use Rattle.mem_edges.specs.MemEdges.{named_in, is_free_in, IsNew}
+
+-- all but what stands under one name of one kind is as before
+pub record SameElsewhere (before now : MemEdges) (kind : EdgeKind) (name : List ℕ) : Type 0 where
+  pub named : (k : EdgeKind) (n : List ℕ) → ¬ ((k ≡ kind) × (n ≡ name)) → named_in now k n ≡ named_in before k n
+  pub free : (k : EdgeKind) (n : List ℕ) → ¬ ((k ≡ kind) × (n ≡ name)) → is_free_in now k n ≡ is_free_in before k n
+  pub new : (k : EdgeKind) (n : List ℕ) → ¬ ((k ≡ kind) × (n ≡ name)) → IsNew before k n → IsNew now k n
+
+-- these bytes stand under a name, which is free, and all else is as before
+pub record Adds (before now : MemEdges) (kind : EdgeKind) (name bytes : List ℕ) : Type 0 where
+  pub stands : named_in now kind name ≡ bytes
+  pub free : is_free_in now kind name ≡ true
+  pub elsewhere : SameElsewhere before now kind name
