@@ -1,5 +1,5 @@
 -- Laws of what stands under names, where one place is marked as open.
-use Rattle.std.proofs.Common.{◌≡◌, Bool, true, false, ℕ, zero, suc, ◌<◌, List, [], ◌∷◌, length, map, filter, reverse, get_or, set, take, refl, ap, sym, ◌∙◌, cond, Some, None, Option, arith, drop, ◌+◌, add-one}
+use Rattle.std.proofs.Common.{◌≡◌, Bool, true, false, ℕ, zero, suc, ◌<◌, List, [], ◌∷◌, length, map, filter, reverse, get_or, set, take, refl, ap, sym, ◌∙◌, cond, Some, None, Option, arith, subst, drop, ◌+◌, add-one}
 use Rattle.std.specs.Option.{option_map, option_map_or}
 use Rattle.std.specs.Prelude.{not}
 use Rattle.std.specs.Str.{bytes_eq}
@@ -131,6 +131,13 @@ pub next_place : {T : Type 0} (name : List ℕ) (shelf : List (Named T)) (at : �
     → under name (drop at shelf) ≡ under name shelf → under name (take at shelf) ≡ None
     → (under name (drop (at + 1) shelf) ≡ under name shelf) × (under name (take (at + 1) shelf) ≡ None)
 next_place name shelf at x within is other rest newest =
-    let here : bytes_eq (get_or shelf at x).name name ≡ false = rw (← is) other in
-    let e : under name (get_or shelf at x ∷ drop (at + 1) shelf) ≡ under name shelf = rw (← drop_more shelf at x within) rest in
-    (rw here at e, rw add-one (none_front name shelf at x within here newest))
+    let here : bytes_eq (get_or shelf at x).name name ≡ false =
+    subst (λ (y : Named _). bytes_eq y.name name ≡ false) is other
+    in
+    (rw (drop_more shelf at x within, here) at rest, rw add-one (none_front name shelf at x within here newest))
+
+-- the same, by what was read at the place
+pub opens_read : {T : Type 0} (name : List ℕ) (shelf : List (Named T)) (at : ℕ) (x : Named T) → x ≡ get_or shelf at x → IsFreePlace name shelf at
+    → Opens name shelf (set shelf at (opened_of x))
+opens_read name shelf at x is place =
+    subst (λ (y : Named _). Opens name shelf (set shelf at (opened_of y))) (sym is) (opens name shelf at x place)

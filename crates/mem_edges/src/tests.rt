@@ -4,19 +4,20 @@ use crate::{
     CallList, MemClock, MemEdges, MemSink, MemSource, SinkAct, SinkScript, SourceAct, SourceScript,
 };
 use pipe_edges::{
-    ByteSink, ByteSource, Clock, EdgeEnd, EdgeKind, Edges, Fetched, LineSource, PutEnd, ReadEnd,
-    WriteEnd, put_all,
+    ByteSink, ByteSource, Clock, EdgeEnd, Edges, Fetched, LineSource, PutEnd, ReadEnd, WriteEnd,
+    put_all,
 };
 use pipe_types::bytes::{Bytes, Text};
 use std::alloc::{AllocError, Global};
-use std::process::Abort;
 use std::test::Fail;
 
 fn bytes_of(alloc: Global, bytes: &[u8]) -> Result<Bytes, AllocError> {
     Ok(Bytes::from_vec(Vec::from_slice(alloc, bytes)?))
 }
 
-fn source_of(alloc: Global, bytes: &[u8], acts: &[SourceAct]) -> Result<MemSource, AllocError> {
+fn source_of(alloc: Global, bytes: &[u8], acts: &[SourceAct]) -> Result<MemSource, AllocError>
+    ensures { IfOk result IsUnread }
+{
     let script = SourceScript::from_vec(Vec::from_slice(alloc, acts)?);
     Ok(MemSource::new(bytes_of(alloc, bytes)?, script))
 }
@@ -140,7 +141,8 @@ fn an_end_is_answered_again(rt: HostRuntime) -> Result<(), Fail> {
     Ok(())
 }
 
-// A source that notes how many bytes each read is offered, and ends.
+// Notes how many bytes each call is offered: a source of three bytes, and a sink that takes two at most.
+#[derive(Drop)]
 struct Offers {
     offers: Vec<usize>,
 }
@@ -167,6 +169,21 @@ impl ByteSource for Offers {
     }
 }
 
+impl ByteSink for Offers {
+    ghost use Rattle.std.specs.Prelude.{false, []};
+
+    ghost told = { λ _. false };
+
+    ghost held = { λ _. [] };
+
+    ghost faults = { λ _. 0 };
+
+    fn write(&mut self, piece: &[u8]) -> WriteEnd {
+        let _ = self.offers.push(piece.len());
+        WriteEnd::Took(piece.len().min(2))
+    }
+}
+
 #[test]
 fn each_read_is_offered_a_piece_and_each_write_the_rest(rt: HostRuntime) -> Result<(), Fail> {
     let alloc = rt.alloc();
@@ -179,9 +196,13 @@ fn each_read_is_offered_a_piece_and_each_write_the_rest(rt: HostRuntime) -> Resu
         return Err("no memory".into());
     };
     assert!(rt; matches!(lines.fetch(1)?, Fetched::Records(_)));
-    let Offers { offers } = lines.into_inner();
-    assert_eq!(rt; offers.as_slice(), [8192, 8192, 8192, 8192].as_slice());
-    drop(offers);
+    let noted = lines.into_inner();
+    assert_eq!(rt; noted.offers.as_slice(), [8192, 8192, 8192, 8192].as_slice());
+    let mut sink = Offers {
+        offers: Vec::new(alloc),
+    };
+    assert_eq!(rt; put_all(&mut sink, &bytes_of(alloc, b"hello")?), PutEnd::All);
+    assert_eq!(rt; sink.offers.as_slice(), [5, 3, 1].as_slice());
     Ok(())
 }
 
@@ -241,4 +262,81 @@ fn a_clock_goes_on_by_steps_and_naps(rt: HostRuntime) {
 
 fn text(alloc: Global, name: &str) -> Result<Text, AllocError> {
     Ok(Text::from_string(String::from_str(alloc, name)?))
+}
+
+fn sink_of(alloc: Global, bytes: &[u8], acts: &[SinkAct]) -> Result<MemSink, AllocError>
+    ensures { IfOk result IsUnwritten }
+{
+    let script = SinkScript::from_vec(Vec::from_slice(alloc, acts)?);
+    MemSink::new(alloc, bytes_of(alloc, bytes)?, 100, script)
+}
+
+// A source `s`, a sink `k` and a file `f`.
+fn three_names(alloc: Global, fails: CallList) -> Result<MemEdges, AllocError> {
+    let mut edges = MemEdges::new(alloc, fails);
+    let source = source_of(alloc, b"ab", &[SourceAct::Give(1)])?;
+    edges.add_source(text(alloc, "s")?, source)?;
+    let sink = sink_of(alloc, b"> ", &[])?;
+    edges.add_sink(text(alloc, "k")?, sink)?;
+    let file = bytes_of(alloc, b"x = 1")?;
+    edges.add_file(text(alloc, "f")?, file)?;
+    Ok(edges)
+}
+
+#[test]
+fn calls_by_name_fail_by_their_number_and_where_nothing_is_free(
+    rt: HostRuntime,
+) -> Result<(), Fail> {
+    let alloc = rt.alloc();
+    let mut edges = three_names(alloc, CallList::from_vec(vec![in alloc; 3]?))?;
+    let (s, k, f) = (text(alloc, "s")?, text(alloc, "k")?, text(alloc, "f")?);
+    assert!(rt; edges.open_source(&s).is_ok(), "call 1");
+    assert!(rt;
+        matches!(edges.open_source(&s), Err(EdgeEnd::Failed)),
+        "2 finds it open"
+    );
+    assert!(rt;
+        matches!(edges.read_file(&f), Err(EdgeEnd::Failed)),
+        "3 is in the list"
+    );
+    assert!(rt;
+        matches!(edges.open_sink(&s), Err(EdgeEnd::Failed)),
+        "4 finds no sink"
+    );
+    let Ok(file) = edges.read_file(&f) else {
+        return Err("call 5".into());
+    };
+    assert_eq!(rt; file.as_slice(), b"x = 1".as_slice());
+    assert!(rt; edges.sink(&k).is_some());
+    assert!(rt; edges.sink(&f).is_none());
+    Ok(())
+}
+
+#[test]
+fn what_is_given_back_opens_again(rt: HostRuntime) -> Result<(), Fail> {
+    let alloc = rt.alloc();
+    let mut edges = three_names(alloc, CallList::from_vec(Vec::new(alloc)))?;
+    let (s, k) = (text(alloc, "s")?, text(alloc, "k")?);
+    let mut piece = [0; 4];
+    for _ in 0..2 {
+        let Ok(mut source) = edges.open_source(&s) else {
+            return Err("no source".into());
+        };
+        assert_eq!(rt; source.read(&mut piece), ReadEnd::Got(1));
+        assert_eq!(rt; source.read(&mut piece), ReadEnd::Got(1));
+        edges.back_source(&s, source)?;
+    }
+    for held in [b"> hi".as_slice(), b"> hihi".as_slice()] {
+        let Ok(mut sink) = edges.open_sink(&k) else {
+            return Err("no sink".into());
+        };
+        assert!(rt; edges.sink(&k).is_none());
+        assert_eq!(rt; sink.write(b"hi"), WriteEnd::Took(2));
+        edges.back_sink(&k, sink)?;
+        let Some(back) = edges.sink(&k) else {
+            return Err("not back".into());
+        };
+        assert_eq!(rt; back.held().as_slice(), held);
+    }
+    Ok(())
 }
