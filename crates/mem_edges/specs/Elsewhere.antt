@@ -2,7 +2,7 @@
 use Rattle.std.specs.Prelude.{◌≡◌, ℕ, Bool, true, List}
 use Rattle.pipe_edges.specs.declared.edges.EdgeKind.{EdgeKind}
 use Rattle.mem_edges.specs.declared.edges.MemEdges.{MemEdges}
-use Rattle.mem_edges.specs.MemEdges.{named_in, is_free_in, IsNew}
+use Rattle.mem_edges.specs.MemEdges.{named_in, is_free_in, IsNew, asked_in, fails_of, sources_given_back, sinks_given_back}
 
 -- all but what stands under one name of one kind is as before
 pub record SameElsewhere (before now : MemEdges) (kind : EdgeKind) (name : List ℕ) : Type 0 where
@@ -15,3 +15,10 @@ pub record Adds (before now : MemEdges) (kind : EdgeKind) (name bytes : List ℕ
   pub stands : named_in now kind name ≡ bytes
   pub free : is_free_in now kind name ≡ true
   pub elsewhere : SameElsewhere before now kind name
+
+-- the calls so far, those that fail, and what was given back are as before
+pub record KeepsCalls (before now : MemEdges) : Type 0 where
+  pub asked : asked_in now ≡ asked_in before
+  pub fails : fails_of now ≡ fails_of before
+  pub sources : sources_given_back now ≡ sources_given_back before
+  pub sinks : sinks_given_back now ≡ sinks_given_back before

@@ -61,7 +61,7 @@ pub struct MemEdges {
 }
 
 impl MemEdges {
-    ghost use Rattle.mem_edges.specs.Elsewhere.{Adds};
+    ghost use Rattle.mem_edges.specs.Elsewhere.{Adds, KeepsCalls};
     ghost use Rattle.mem_edges.specs.MemSource.{all_bytes, IsUnread};
     ghost use Rattle.mem_edges.specs.MemSink.{held_by, IsUnwritten};
     ghost use Rattle.mem_edges.specs.MemEdges.{fails_of, IsNew, named_in, is_free_in, asked_in, sources_given_back, sinks_given_back};
@@ -91,6 +91,7 @@ impl MemEdges {
         requires unread { IsUnread source }
         ensures ok { OnOk result (Adds self.old self.new EdgeKind.Source name (all_bytes source)) }
         ensures err { OnErr result (StandsAsBefore (named_in self.old) (named_in self.new)) }
+        ensures calls { KeepsCalls self.old self.new }
     {
         put(&mut self.sources, name, source, false)?;
         Ok(())
@@ -102,6 +103,7 @@ impl MemEdges {
         requires unwritten { IsUnwritten sink }
         ensures ok { OnOk result (Adds self.old self.new EdgeKind.Sink name (held_by sink)) }
         ensures err { OnErr result (StandsAsBefore (named_in self.old) (named_in self.new)) }
+        ensures calls { KeepsCalls self.old self.new }
     {
         put(&mut self.sinks, name, sink, false)?;
         Ok(())
@@ -112,6 +114,7 @@ impl MemEdges {
         requires { IsNew self.old EdgeKind.File name }
         ensures ok { OnOk result (Adds self.old self.new EdgeKind.File name bytes) }
         ensures err { OnErr result (StandsAsBefore (named_in self.old) (named_in self.new)) }
+        ensures calls { KeepsCalls self.old self.new }
     {
         put(&mut self.files, name, bytes, false)?;
         Ok(())

@@ -85,7 +85,6 @@ impl Edges for MemEdges {
     ghost sinks_back = { sinks_given_back };
 
     fn open_source(&mut self, name: &Text) -> Result<MemSource, EdgeEnd>
-        ensures same_telling { true ≡ true }
         ensures fresh { IfOk result (IsFreshSource taken_of (λ s. s.faults) (λ s. s.waits)) }
         ensures given { IfOk result (GivesSource (λ _. true) left_of (named_in self.old Source name.now)) }
         ensures stands { StandsAsBefore (named_in self.old) (named_in self.new) }
@@ -93,6 +92,7 @@ impl Edges for MemEdges {
         ensures back { KeepsBack sources_given_back sinks_given_back self.old self.new }
         ensures faults_stay { self.old.faults ≤ self.new.faults }
         ensures cause { EdgeHasCause self.old.faults self.new.faults result }
+        ensures fails { fails_of self.new ≡ fails_of self.old }
         ensures refused { RefusesExactly (refuses self.old Source name.now) result }
         ensures free { FreeAfter result Source name.now (is_free_in self.old) (is_free_in self.new) }
     {
@@ -121,7 +121,6 @@ impl Edges for MemEdges {
     }
 
     fn open_sink(&mut self, name: &Text) -> Result<MemSink, EdgeEnd>
-        ensures same_telling { true ≡ true }
         ensures fresh { IfOk result (λ k. k.faults ≡ 0) }
         ensures given { IfOk result (GivesSink (λ _. true) held_by (named_in self.old Sink name.now)) }
         ensures stands { StandsAsBefore (named_in self.old) (named_in self.new) }
@@ -129,6 +128,7 @@ impl Edges for MemEdges {
         ensures back { KeepsBack sources_given_back sinks_given_back self.old self.new }
         ensures faults_stay { self.old.faults ≤ self.new.faults }
         ensures cause { EdgeHasCause self.old.faults self.new.faults result }
+        ensures fails { fails_of self.new ≡ fails_of self.old }
         ensures refused { RefusesExactly (refuses self.old Sink name.now) result }
         ensures free { FreeAfter result Sink name.now (is_free_in self.old) (is_free_in self.new) }
     {
@@ -157,13 +157,13 @@ impl Edges for MemEdges {
     }
 
     fn read_file(&mut self, name: &Text) -> Result<Bytes, EdgeEnd>
-        ensures same_telling { true ≡ true }
         ensures given { IfOk result (λ b. b ≡ take MAX_FILE_BYTES (named_in self.old File name.now)) }
         ensures stands { StandsAsBefore (named_in self.old) (named_in self.new) }
         ensures asked { asked_in self.new ≡ asked_after result File name.now (asked_in self.old) }
         ensures back { KeepsBack sources_given_back sinks_given_back self.old self.new }
         ensures faults_stay { self.old.faults ≤ self.new.faults }
         ensures cause { EdgeHasCause self.old.faults self.new.faults result }
+        ensures fails { fails_of self.new ≡ fails_of self.old }
         ensures refused { RefusesExactly (refuses self.old File name.now) result }
         ensures free { FreeAsBefore (is_free_in self.old) (is_free_in self.new) }
     {
@@ -191,12 +191,12 @@ impl Edges for MemEdges {
     }
 
     fn back_source(&mut self, name: &Text, source: MemSource) -> Result<(), AllocError>
-        ensures same_telling { true ≡ true }
         ensures back { AddsBack result (name.now, source) (sources_given_back self.old) (sources_given_back self.new) }
         ensures sinks { sinks_given_back self.new ≡ sinks_given_back self.old }
         ensures stands { OthersStand Source name.now (named_in self.old) (named_in self.new) }
         ensures asked { asked_in self.new ≡ asked_in self.old }
         ensures no_fault { self.new.faults ≡ self.old.faults }
+        ensures fails { fails_of self.new ≡ fails_of self.old }
         ensures named { OnOk result (named_in self.new Source name.now ≡ all_bytes source) }
         ensures free { FreeAgain result Source name.now (is_free_in self.old) (is_free_in self.new) }
     {
@@ -206,12 +206,12 @@ impl Edges for MemEdges {
     }
 
     fn back_sink(&mut self, name: &Text, sink: MemSink) -> Result<(), AllocError>
-        ensures same_telling { true ≡ true }
         ensures back { AddsBack result (name.now, sink) (sinks_given_back self.old) (sinks_given_back self.new) }
         ensures sources { sources_given_back self.new ≡ sources_given_back self.old }
         ensures stands { OthersStand Sink name.now (named_in self.old) (named_in self.new) }
         ensures asked { asked_in self.new ≡ asked_in self.old }
         ensures no_fault { self.new.faults ≡ self.old.faults }
+        ensures fails { fails_of self.new ≡ fails_of self.old }
         ensures named { OnOk result (named_in self.new Sink name.now ≡ held_by sink) }
         ensures free { FreeAgain result Sink name.now (is_free_in self.old) (is_free_in self.new) }
     {

@@ -134,7 +134,6 @@ impl ByteSink for MemSink {
 
     fn write(&mut self, piece: &[u8]) -> WriteEnd
         requires { 0 < length piece.now }
-        ensures same_telling { true ≡ true }
         ensures counted { WriteIsCounted (length piece.now) result }
         ensures bytes { WritesBytes (held_by self.old) piece.now (held_by self.new) result }
         ensures faults_stay { self.old.faults ≤ self.new.faults }

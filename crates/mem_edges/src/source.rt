@@ -105,7 +105,6 @@ impl ByteSource for MemSource {
 
     fn read(&mut self, piece: &mut [u8]) -> ReadEnd
         requires { 0 < length piece.old }
-        ensures same_telling { true ≡ true }
         ensures counted { ReadIsCounted (length piece.old) result }
         ensures bytes { ReadsBytes (taken_of self.old) (left_of self.old) piece.new (taken_of self.new) (left_of self.new) result }
         ensures faults_stay { self.old.faults ≤ self.new.faults }
