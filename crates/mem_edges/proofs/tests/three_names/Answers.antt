@@ -12,6 +12,9 @@ file_is_no_source h = cc
 file_is_no_sink : File ≡ Sink → ⊥
 file_is_no_sink h = cc
 
+pub add_source-requires-clause-new_name : goal.add_source-requires-clause-new_name
+add_source-requires-clause-new_name c = c.new-edges.ensures.empty Source _
+
 pub add_sink-requires-clause-new_name : goal.add_sink-requires-clause-new_name
 add_sink-requires-clause-new_name c =
     c.in_ok-add_source.ensures.ok.elsewhere.new Sink _ (λ e. sink_is_no_source e.0) (c.new-edges.ensures.empty Sink _)
