@@ -1,5 +1,5 @@
 -- Laws of edges in memory, by what happened to one of their shelves.
-use Rattle.std.proofs.Common.{◌≡◌, Bool, true, false, ℕ, List, [], refl, ap, sym, ◌∙◌, Option, Some, None}
+use Rattle.std.proofs.Common.{◌≡◌, Bool, ℕ, List, [], refl, ap, ◌∙◌, Option, Some, None}
 use Rattle.std.specs.Option.{option_map, option_map_or}
 use Rattle.pipe_edges.specs.declared.edges.EdgeKind.{EdgeKind}
 use Rattle.pipe_edges.specs.declared.edges.EdgeKind.TheVariants.{File, Source, Sink}
@@ -9,7 +9,7 @@ use Rattle.mem_edges.specs.declared.sink.MemSink.{MemSink}
 use Rattle.mem_edges.specs.declared.edges.MemEdges.{MemEdges}
 use Rattle.mem_edges.specs.MemSource.{all_bytes}
 use Rattle.mem_edges.specs.MemSink.{held_by}
-use Rattle.mem_edges.specs.Shelf.{under, is_free}
+use Rattle.mem_edges.specs.Shelf.{under}
 use Rattle.mem_edges.specs.Opens.{Opens, Puts}
 use Rattle.mem_edges.specs.Elsewhere.{SameElsewhere}
 use Rattle.mem_edges.specs.MemEdges.{named_in, is_free_in, IsNew}

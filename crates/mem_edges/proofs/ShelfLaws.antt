@@ -6,7 +6,7 @@ use Rattle.std.specs.Str.{bytes_eq}
 use Rattle.std.proofs.lemmas.Slice.Eq.{bytes_eq-Decides}
 use Rattle.std.proofs.lemmas.List.{reverse-append, drop_more}
 use Rattle.mem_edges.specs.declared.named.Named.{Named}
-use Rattle.mem_edges.specs.Shelf.{under, is_free, given_back, with_name}
+use Rattle.mem_edges.specs.Shelf.{under, is_free, with_name}
 use Rattle.mem_edges.specs.Place.{IsFreePlace}
 use Rattle.mem_edges.specs.Opens.{Opens, Puts}
 

@@ -1,5 +1,5 @@
 -- What stays as it was in edges in memory.
-use Rattle.std.specs.Prelude.{◌≡◌, ℕ, Bool, true, List}
+use Rattle.std.specs.Prelude.{◌≡◌, ℕ, true, List}
 use Rattle.pipe_edges.specs.declared.edges.EdgeKind.{EdgeKind}
 use Rattle.mem_edges.specs.declared.edges.MemEdges.{MemEdges}
 use Rattle.mem_edges.specs.MemEdges.{named_in, is_free_in, IsNew, asked_in, fails_of, sources_given_back, sinks_given_back}

@@ -1,5 +1,5 @@
 -- What edges in memory show.
-use Rattle.std.specs.Prelude.{◌≡◌, ◌==◌, ◌||◌, ◌+◌, not, ℕ, Bool, false, true, List, [], ◌∷◌, ◌++◌, length, Option, Some, None, if◌then◌else◌}
+use Rattle.std.specs.Prelude.{◌≡◌, ◌==◌, ◌||◌, ◌+◌, not, ℕ, Bool, List, [], length, None}
 use Rattle.std.specs.List.{list_any}
 use Rattle.std.specs.Option.{option_map_or}
 use Rattle.pipe_edges.specs.declared.edges.EdgeKind.{EdgeKind}
@@ -10,7 +10,7 @@ use Rattle.mem_edges.specs.declared.sink.MemSink.{MemSink}
 use Rattle.mem_edges.specs.declared.edges.MemEdges.{MemEdges}
 use Rattle.mem_edges.specs.MemSource.{all_bytes}
 use Rattle.mem_edges.specs.MemSink.{held_by}
-use Rattle.mem_edges.specs.Shelf.{under, is_free, is_open, given_back}
+use Rattle.mem_edges.specs.Shelf.{under, is_free, given_back}
 use Rattle.mem_edges.specs.Calls.{calls_in}
 
 -- the numbers of the calls that fail

@@ -1,5 +1,5 @@
 -- A place of something that is not open.
-use Rattle.std.specs.Prelude.{◌≡◌, ◌<◌, ℕ, true, false, List, length, Some, None, slice_index_or, take}
+use Rattle.std.specs.Prelude.{◌≡◌, ◌<◌, ℕ, true, List, length, Some, None, slice_index_or, take}
 use Rattle.std.specs.Str.{bytes_eq}
 use Rattle.mem_edges.specs.declared.named.Named.{Named}
 use Rattle.mem_edges.specs.Shelf.{under, is_free}

@@ -1,5 +1,5 @@
 -- What stands under names, the newest first.
-use Rattle.std.specs.Prelude.{◌≡◌, ◌<◌, ℕ, Bool, true, false, not, List, [], ◌∷◌, length, map, filter, find, reverse, Option, Some, None, slice_index_or}
+use Rattle.std.specs.Prelude.{ℕ, Bool, false, not, List, map, filter, find, reverse, Option}
 use Rattle.std.specs.Option.{option_map_or}
 use Rattle.std.specs.Str.{bytes_eq}
 use Rattle.mem_edges.specs.declared.named.Named.{Named}

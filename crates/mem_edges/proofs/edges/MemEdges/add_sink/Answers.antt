@@ -1,6 +1,6 @@
 use Rattle.std.proofs.Common.{refl, false}
 use Rattle.mem_edges.specs.MemSink.{held_by}
-use Rattle.mem_edges.proofs.EdgeLaws.{seen_there, sink_put, same_named}
+use Rattle.mem_edges.proofs.EdgeLaws.{seen_there, sink_put}
 use Rattle.mem_edges.proofs.edges.MemEdges.add_sink.Goals as goal
 
 pub returns-clause-ok : goal.returns-clause-ok

@@ -1,6 +1,6 @@
 use Rattle.std.proofs.Common.{refl, false}
 use Rattle.mem_edges.specs.MemSource.{all_bytes}
-use Rattle.mem_edges.proofs.EdgeLaws.{seen_there, source_put, same_named}
+use Rattle.mem_edges.proofs.EdgeLaws.{seen_there, source_put}
 use Rattle.mem_edges.proofs.edges.MemEdges.add_source.Goals as goal
 
 pub returns-clause-ok : goal.returns-clause-ok
