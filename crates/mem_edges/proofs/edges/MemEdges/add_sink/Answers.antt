@@ -1,0 +1,13 @@
+use Rattle.std.proofs.Common.{refl, false}
+use Rattle.mem_edges.specs.MemSink.{held_by}
+use Rattle.mem_edges.proofs.EdgeLaws.{seen_there, sink_put}
+use Rattle.mem_edges.proofs.edges.MemEdges.add_sink.Goals as goal
+
+pub returns-clause-ok : goal.returns-clause-ok
+returns-clause-ok c =
+    let put = c.in_ok-put.ensures.ok in
+    record {
+      stands = seen_there held_by _ _ put.stands;
+      free = put.free;
+      elsewhere = sink_put c.args.self.now _ c.args.name c.args.sink false put refl refl;
+    }

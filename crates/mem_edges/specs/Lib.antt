@@ -1,0 +1,10 @@
+pub mod Scripts
+pub mod MemSource
+pub mod MemSink
+pub mod Shelf
+pub mod Place
+pub mod Calls
+pub mod Refusals
+pub mod MemEdges
+pub mod Opens
+pub mod Elsewhere

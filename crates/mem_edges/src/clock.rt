@@ -1,0 +1,44 @@
+//! A clock in memory.
+
+ghost use Rattle.std.specs.Prelude.{◌≡◌, ◌+◌, ◌^◌, ◌-◌, min, max};
+ghost use Rattle.pipe_edges.specs.Counts.{Rose};
+
+use pipe_edges::Clock;
+
+/// A clock that answers `at` and goes on by `step` at each reading and by `nap` at each pause, all in
+/// milliseconds. Its time stops at the last value of its type.
+#[derive(Clone, Copy, Debug, PartialEq, Eq)]
+pub struct MemClock {
+    pub at: u64,
+    pub step: u64,
+    pub nap: u64,
+    pub latest: u64,
+    pub readings: u64,
+}
+
+impl Clock for MemClock {
+    ghost latest = { λ c. c.latest };
+
+    ghost readings = { λ c. c.readings };
+
+    fn now(&mut self) -> u64
+        ensures latest { self.new.latest ≡ max self.old.latest result }
+        ensures readings { Rose self.old.readings self.new.readings }
+        ensures answer { result ≡ self.old.at }
+        ensures steps { self.new.at ≡ min (self.old.at + self.old.step) (2 ^ 64 - 1) }
+    {
+        let now = self.at;
+        self.at = self.at.saturating_add(self.step);
+        self.latest = self.latest.max(now);
+        self.readings = self.readings.saturating_add(1);
+        now
+    }
+
+    fn pause(&mut self)
+        ensures latest { self.new.latest ≡ self.old.latest }
+        ensures readings { self.new.readings ≡ self.old.readings }
+        ensures naps { self.new.at ≡ min (self.old.at + self.old.nap) (2 ^ 64 - 1) }
+    {
+        self.at = self.at.saturating_add(self.nap);
+    }
+}

@@ -1,0 +1,165 @@
+//! A sink in memory.
+
+ghost use Rattle.std.specs.Prelude.{◌≡◌, ◌<◌, ◌≤◌, ◌+◌, ◌-◌, true, List, drop, length, ◌++◌, IfOk, OnOk, OnErr};
+ghost use Rattle.pipe_edges.specs.Writes.{WritesBytes, WriteIsCounted, WriteHasCause};
+ghost use Rattle.mem_edges.specs.Scripts.{write_count, TakesBy, room_after};
+
+use pipe_edges::{ByteSink, WriteEnd};
+use pipe_types::bytes::Bytes;
+use std::alloc::{AllocError, Global};
+use std::marker::Model;
+use std::mem;
+
+/// What a sink does at one write: it takes so many bytes, 0 counting as 1, or fails.
+#[derive(Clone, Copy, Debug, PartialEq, Eq)]
+pub enum SinkAct {
+    Take(usize),
+    Fail,
+}
+
+/// What a sink does, one act for each write.
+#[derive(Clone, Debug, Drop)]
+pub struct SinkScript {
+    acts: Vec<SinkAct>,
+}
+
+impl Model for SinkScript {
+    ghost use Rattle.std.specs.Prelude.{List};
+    ghost use Rattle.mem_edges.specs.declared.sink.SinkAct.{SinkAct};
+
+    ghost Value = { List SinkAct };
+
+    ghost view = { λ s. s.acts.items };
+}
+
+impl SinkScript {
+    /// These acts, in their order, with no memory of its own.
+    pub fn from_vec(acts: Vec<SinkAct>) -> Self
+        ensures { result ≡ acts.items }
+    {
+        SinkScript { acts }
+    }
+
+    pub fn as_slice(&self) -> &[SinkAct]
+        ensures { result.now ≡ self.now }
+    {
+        self.acts.as_slice()
+    }
+}
+
+/// Bytes that are taken by a script, and after it all that are offered, as far as there is room. Where nothing
+/// fits a write fails.
+#[derive(Debug, Drop)]
+pub struct MemSink {
+    alloc: Global,
+    held: Bytes,
+    room: usize,
+    script: SinkScript,
+    next: usize,
+    faults: u64,
+    ghost within: { next ≤ length script },
+}
+
+impl MemSink {
+    ghost use Rattle.mem_edges.specs.MemSink.{held_by, room_of, acts, acts_left, IsUnwritten};
+
+    /// Holds these bytes, and takes memory for `room` further ones.
+    pub fn new(
+        alloc: Global,
+        held: Bytes,
+        room: usize,
+        script: SinkScript,
+    ) -> Result<MemSink, AllocError>
+        ensures held { IfOk result (λ k. held_by k ≡ held) }
+        ensures room { IfOk result (λ k. room_of k ≡ room) }
+        ensures acts { IfOk result (λ k. acts k ≡ script) }
+        ensures unwritten { IfOk result IsUnwritten }
+    {
+        let mut bytes = held.into_vec();
+        bytes.reserve(room)?;
+        Ok(MemSink {
+            alloc,
+            held: Bytes::from_vec(bytes),
+            room,
+            script,
+            next: 0,
+            faults: 0,
+        })
+    }
+
+    /// All the bytes that it holds.
+    pub fn held(&self) -> &Bytes
+        ensures { result.now ≡ held_by self.now }
+    {
+        &self.held
+    }
+
+    // Plays the next act, which allows at most so many of `size` bytes.
+    fn play(&mut self, size: usize) -> usize
+        ensures count { result ≡ write_count (acts_left self.old) size }
+        ensures acts { acts_left self.new ≡ drop 1 (acts_left self.old) }
+        ensures rest { (held_by self.new ≡ held_by self.old) × (room_of self.new ≡ room_of self.old)
+            × (self.new.faults ≡ self.old.faults) }
+    {
+        if self.next == self.script.as_slice().len() {
+            return size;
+        }
+        let act = self.script.as_slice()[self.next];
+        self.next += 1;
+        match act {
+            SinkAct::Take(n) => n.max(1).min(size),
+            SinkAct::Fail => 0,
+        }
+    }
+
+    // A sink that holds the same bytes, with the same room and script, which answered no write.
+    pub(crate) fn again(&self, alloc: Global) -> Result<MemSink, AllocError>
+        ensures held { IfOk result (λ k. held_by k ≡ held_by self.now) }
+        ensures unwritten { IfOk result IsUnwritten }
+    {
+        let held = Bytes::from_vec(Vec::from_slice(alloc, self.held.as_slice())?);
+        let script = SinkScript::from_vec(Vec::from_slice(alloc, self.script.as_slice())?);
+        MemSink::new(alloc, held, self.room, script)
+    }
+}
+
+impl ByteSink for MemSink {
+    ghost use Rattle.mem_edges.specs.MemSink.{held_by, room_of, acts_left};
+
+    ghost told = { λ _. true };
+
+    ghost held = { held_by };
+
+    ghost faults = { λ m. m.faults };
+
+    fn write(&mut self, piece: &[u8]) -> WriteEnd
+        requires { 0 < length piece.now }
+        ensures counted { WriteIsCounted (length piece.now) result }
+        ensures bytes { WritesBytes (held_by self.old) piece.now (held_by self.new) result }
+        ensures faults_stay { self.old.faults ≤ self.new.faults }
+        ensures cause { WriteHasCause self.old.faults self.new.faults result }
+        ensures takes { TakesBy (acts_left self.old) (length piece.now) (room_of self.old) result }
+        ensures room { room_of self.new ≡ room_after (room_of self.old) result }
+        ensures acts { acts_left self.new ≡ drop 1 (acts_left self.old) }
+    {
+        let most = self.play(piece.len());
+        let count = most.min(self.room);
+        if count == 0 || append(self.alloc, &mut self.held, &piece[..count]).is_err() {
+            self.faults = self.faults.saturating_add(1);
+            return WriteEnd::Failed;
+        }
+        self.room -= count;
+        WriteEnd::Took(count)
+    }
+}
+
+// Adds bytes at the end. For want of memory nothing is added.
+fn append(alloc: Global, held: &mut Bytes, more: &[u8]) -> Result<(), AllocError>
+    ensures ok { OnOk result (held.new ≡ held.old ++ more.now) }
+    ensures err { OnErr result (held.new ≡ held.old) }
+{
+    let mut bytes = mem::replace(held, Bytes::from_vec(Vec::new(alloc))).into_vec();
+    let added = bytes.extend_from_slice(more);
+    *held = Bytes::from_vec(bytes);
+    added
+}

@@ -1,0 +1,4 @@
+pub mod TextLaws
+pub mod SearchLaws
+pub mod HandLaws
+pub mod PutLaws

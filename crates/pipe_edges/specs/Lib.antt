@@ -1,0 +1,11 @@
+pub mod Counts
+pub mod Reads
+pub mod Writes
+pub mod Named
+pub mod Texts
+pub mod Handed
+pub mod Cut
+pub mod Held
+pub mod Stop
+pub mod Fetch
+pub mod LineSource
