@@ -18,7 +18,7 @@ use Rattle.pipe_types.specs.declared.step.Step.{Step}
 use Rattle.pipe_types.specs.declared.step.Step.TheVariants.{Take, Done, Wrote, Restart}
 use Rattle.pipe_types.specs.Numbers.{same_stage}
 use Rattle.pipe_types.specs.Stages.{spec_of}
-use Rattle.pipe_types.specs.Handlers.{chunk_replies, batch_end, batch_text, count_after_batch, are_own_replies, is_own_end}
+use Rattle.pipe_types.specs.Handlers.{chunk_replies, batch_end, batch_text, counted, count_after_batch, are_own_replies, is_own_end}
 use Rattle.pipe_model.specs.History.{History}
 use Rattle.pipe_model.specs.Posts.{in_slot}
 use Rattle.pipe_model.specs.Content.{content}
@@ -62,7 +62,7 @@ count topology (step ∷ before) s = count_after topology before step s (count t
 
     count_after : Topology → History → Step → StageNo → ℕ → ℕ
     count_after topology before (Restart t) s old = if same_stage s t then 0 else old
-    count_after topology before (Done t replies) s old = if same_stage s t then old + length replies else old
+    count_after topology before (Done t replies) s old = if same_stage s t then counted old (length replies) else old
     count_after topology before (Wrote t bytes end) s old =
         if same_stage s t then after_batch (spec_of topology s) old (batch_of topology before s) else old
     count_after topology before _ s old = old

@@ -1,5 +1,5 @@
 -- What handlers answer.
-use Rattle.std.specs.Prelude.{ℕ, zero, suc, ◌+◌, ◌%◌, Bool, true, false, if◌then◌else◌, List, [], ◌∷◌, ◌++◌, length, map, codes, nat_eq, nat_lt, nat_le, ◌==◌, ◌&&◌, ◌||◌, not, Option, unwrap_or}
+use Rattle.std.specs.Prelude.{ℕ, zero, suc, ◌+◌, ◌-◌, ◌%◌, ◌^◌, min, Bool, true, false, if◌then◌else◌, List, [], ◌∷◌, ◌++◌, length, map, codes, nat_eq, nat_lt, nat_le, ◌==◌, ◌&&◌, ◌||◌, not, Option, unwrap_or}
 use Rattle.std.specs.List.{starts_with, before_first, after_first, list_all}
 use Rattle.std.specs.Str.{bytes_eq}
 use Rattle.pipe_types.specs.declared.message.Message.{Message}
@@ -62,9 +62,13 @@ abbrev pub rules_reply : (count : ℕ) → List Rule → Message → Reply
 rules_reply count [] m = Passed m
 rules_reply count (rule ∷ rules) m = and_then (rule_reply count rule m) (λ passed. rules_reply count rules passed)
 
+-- a count after more messages: it stands still at 2^64 - 1, far above the messages that a run can have
+abbrev pub counted : (count : ℕ) → (messages : ℕ) → ℕ
+counted count messages = min (count + messages) (2 ^ 64 - 1)
+
 -- the handler's reply to one message, where it has seen `count` messages before
 abbrev pub eval : StageSpec → (count : ℕ) → Message → Reply
-eval spec count m = rules_reply (count + 1) spec.rules m
+eval spec count m = rules_reply (counted count 1) spec.rules m
 
 -- Chunks
 
@@ -90,7 +94,7 @@ with_reason failed reply = reply
 abbrev pub replies_until : (last : Reply → Bool) → StageSpec → (count : ℕ) → List Message → List Reply
 replies_until last spec count [] = []
 replies_until last spec count (m ∷ messages) =
-    if last (eval spec count m) then eval spec count m ∷ [] else eval spec count m ∷ replies_until last spec (count + 1) messages
+    if last (eval spec count m) then eval spec count m ∷ [] else eval spec count m ∷ replies_until last spec (counted count 1) messages
 
 -- the replies to a chunk, ended by the first crash
 abbrev pub chunk_replies : StageSpec → (count : ℕ) → List Message → List Reply
@@ -124,9 +128,13 @@ answer_of kind before (Raised why ∷ replies) = RaisedBatch why
 answer_of kind before (Crashed ∷ replies) = CrashedBatch
 answer_of kind before (reply ∷ replies) = answer_of kind (before ++ reply ∷ []) replies
 
--- the handler's answer to a batch
+-- the answer to a batch of a handler of this kind
+abbrev pub batch_answer_by : Kind → StageSpec → (count : ℕ) → List Message → BatchReply
+batch_answer_by kind spec count messages = answer_of kind [] (batch_replies spec count messages)
+
+-- the answer to a batch of the stage's own handler
 abbrev pub batch_answer : StageSpec → (count : ℕ) → List Message → BatchReply
-batch_answer spec count messages = answer_of spec.kind [] (batch_replies spec count messages)
+batch_answer spec count messages = batch_answer_by spec.kind spec count messages
 
 abbrev pub outcome_with : (failed : Option (List ℕ)) → Outcome → Outcome
 outcome_with failed Successful = Successful
@@ -151,10 +159,10 @@ batch_text spec count messages = text_by (batch_answer spec count messages)
 -- Counts: each message that was evaluated adds one
 
 abbrev pub count_after_chunk : StageSpec → (count : ℕ) → List Message → ℕ
-count_after_chunk spec count messages = count + length (replies_until is_crashed spec count messages)
+count_after_chunk spec count messages = counted count (length (replies_until is_crashed spec count messages))
 
 abbrev pub count_after_batch : StageSpec → (count : ℕ) → List Message → ℕ
-count_after_batch spec count messages = count + length (batch_replies spec count messages)
+count_after_batch spec count messages = counted count (length (batch_replies spec count messages))
 
 -- Answers of a user's own handler
 
