@@ -26,7 +26,7 @@ batch_ender (Failed why ∷ replies) = batch_ender replies
 abbrev pub answered : Kind → List Reply → BatchReply
 answered kind replies = Answered (map outcome_of replies) (text_of kind replies)
 
-answer_of-ender : (kind : Kind) (before replies : List Reply) → answer_of kind before replies ≡ unwrap_or (batch_ender replies) (answered kind (before ++ replies))
+pub answer_of-ender : (kind : Kind) (before replies : List Reply) → answer_of kind before replies ≡ unwrap_or (batch_ender replies) (answered kind (before ++ replies))
 answer_of-ender kind before [] = ap (answered kind) (sym (append-nil before))
 answer_of-ender kind before (Raised why ∷ replies) = refl
 answer_of-ender kind before (Crashed ∷ replies) = refl
@@ -35,7 +35,9 @@ answer_of-ender kind before (Passed m ∷ replies) =
 answer_of-ender kind before (Failed why ∷ replies) =
     answer_of-ender kind (before ++ Failed why ∷ []) replies ∙ ap (λ all. unwrap_or (batch_ender replies) (answered kind all)) (append_assoc before (Failed why ∷ []) replies)
 
+-- one message and then more are one more
 counted-more : (count n : ℕ) → counted (counted count 1) n ≡ counted count (suc n)
+-- one message and then more are one more
 counted-more count n = omega arith
 
 -- the outcomes and the text so far, the messages seen, and what the replies to the rest will add

@@ -1,1 +1,2 @@
 pub mod BatchSteps
+pub mod Shapes

@@ -2,8 +2,8 @@
 
 ghost use Rattle.std.specs.Prelude.{◌≡◌, true, IfOk, OnOk, OnErr, IsTrue, []};
 ghost use Rattle.std.specs.List.{list_all};
-ghost use Rattle.pipe_types.specs.Handlers.{eval, batch_answer_by, count_after_batch, counted};
-ghost use Rattle.stage_callback.specs.Callbacks.{can_arm, failed_reply};
+ghost use Rattle.pipe_types.specs.Handlers.{eval, batch_answer_by, count_after_batch, counted, is_own_reply};
+ghost use Rattle.stage_callback.specs.Callbacks.{can_arm, is_message_for, is_batch_answer, failed_reply};
 
 use crate::FailedReply;
 use crate::batches::apply_to_batch;
@@ -46,6 +46,7 @@ impl Handler {
     pub(crate) fn message(&mut self, message: Message) -> Result<Reply, AllocError>
         ensures same_spec { self.new.spec ≡ self.old.spec }
         ensures reply { IfOk result (λ reply. reply ≡ eval self.old.spec self.old.count message) }
+        ensures shape { IsTrue (is_message_for self.old.spec.batchers message) → IfOk result (λ reply. IsTrue (is_own_reply self.old.spec.batchers message reply)) }
         ensures count { OnOk result (self.new.count ≡ counted self.old.count 1) }
         ensures unchanged { OnErr result (self.new.count ≡ self.old.count) }
     {
@@ -57,6 +58,7 @@ impl Handler {
     pub(crate) fn batch(&mut self, kind: Kind, messages: &[Message]) -> Result<BatchReply, AllocError>
         ensures same_spec { self.new.spec ≡ self.old.spec }
         ensures reply { IfOk result (λ reply. reply ≡ batch_answer_by kind self.old.spec self.old.count messages.now) }
+        ensures shape { IfOk result (λ reply. IsTrue (is_batch_answer messages.now reply)) }
         ensures count { OnOk result (self.new.count ≡ count_after_batch self.old.spec self.old.count messages.now) }
         ensures unchanged { OnErr result (self.new.count ≡ self.old.count) }
     {
