@@ -6,6 +6,7 @@
 #![tactic(auto)]
 
 mod answers;
+mod armable;
 mod batches;
 mod callback;
 mod copies;
@@ -17,6 +18,7 @@ mod steps;
 mod tests;
 
 pub use answers::{FailedReply, Prepared, Said};
+pub use armable::may_arm;
 pub use callback::Callback;
 pub use copies::{copy_message, copy_spec, unarmed};
 pub use lines::LinesBox;

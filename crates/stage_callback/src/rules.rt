@@ -157,7 +157,7 @@ fn begins(message: &Message, text: &[u8]) -> bool
     message.payload.as_slice().starts_with(text)
 }
 
-fn reason(word: &[u8]) -> Reason
+pub(crate) fn reason(word: &[u8]) -> Reason
     requires { IsReasonText word.now }
     ensures { result ≡ word.now }
 {
