@@ -117,9 +117,10 @@ pub ended_by : (kind : Kind) (spec : StageSpec) (first : ℕ) (messages : List M
     → (answer ≡ batch_answer_by kind spec first messages) × (counted seen 1 ≡ count_after_batch spec first messages)
 ended_by kind spec first messages seen m rest outcomes text reply answer ends makes is so_far =
     let last : batch_replies spec seen (m ∷ rest) ≡ reply ∷ [] =
-      next_reply spec seen m rest reply is ∙ ap (λ b. cond b (reply ∷ []) (reply ∷ batch_replies spec (counted seen 1) rest)) ends in
-    (by_ender kind spec first messages answer (sym makes ∙ (ap batch_ender (sym last) ∙ so_far.ender)),
-     ap (λ rs. counted seen (length rs)) (sym last) ∙ so_far.count)
+    next_reply spec seen m rest reply is ∙ ap (λ b. cond b (reply ∷ []) (reply ∷ batch_replies spec (counted seen 1) rest)) ends in (
+      by_ender kind spec first messages answer (sym makes ∙ (ap batch_ender (sym last) ∙ so_far.ender)),
+      ap (λ rs. counted seen (length rs)) (sym last) ∙ so_far.count,
+    )
 
 -- the next message stands before the rest
 pub next_message : (kind : Kind) (spec : StageSpec) (first : ℕ) (messages : List Message) (m : Message) (i : ℕ) (seen : ℕ) (outcomes : List Outcome) (text : List ℕ)
@@ -141,7 +142,7 @@ all_seen kind spec first messages seen outcomes text i past some_left =
     let still : seen ≡ counted seen 0 = omega arith in
     let whole = batch_replies spec first messages in
     let same : Answered outcomes text ≡ answered kind whole =
-      ap (λ os. Answered os text) (sym (append-nil outcomes) ∙ so_far.outcomes_so_far) ∙ ap (λ t. Answered (map outcome_of whole) t) (text_now so_far.text_so_far) in
+    ap (λ os. Answered os text) (sym (append-nil outcomes) ∙ so_far.outcomes_so_far) ∙ ap (λ t. Answered (map outcome_of whole) t) (text_now so_far.text_so_far) in
     (same ∙ (ap (λ o. unwrap_or o (answered kind whole)) so_far.ender ∙ sym (answer_of-ender kind [] whole)), still ∙ so_far.count)
   where
     text_now : text ++ text_of kind [] ≡ text_of kind (batch_replies spec first messages) → text ≡ text_of kind (batch_replies spec first messages)

@@ -46,7 +46,12 @@ pub(crate) fn apply_to_batch(
 }
 
 /// The reply to a message that stays in its batch.
-fn evaluate_copy(alloc: Global, spec: &StageSpec, count: u64, message: &Message) -> Result<Reply, AllocError>
+fn evaluate_copy(
+    alloc: Global,
+    spec: &StageSpec,
+    count: u64,
+    message: &Message,
+) -> Result<Reply, AllocError>
     requires { IsTrue (list_all is_countable spec.now.rules) }
     ensures { IfOk result (λ reply. reply ≡ eval spec.now count message.now) }
 {

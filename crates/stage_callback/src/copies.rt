@@ -5,7 +5,9 @@ ghost use Rattle.std.specs.Prelude.{◌≡◌, IfOk, [], None};
 use pipe_types::bytes::{Bytes, Text};
 use pipe_types::message::Message;
 use pipe_types::numbers::StageNo;
-use pipe_types::topology::{CancelMode, ChildMode, Dispatch, Keep, Kind, Role, Rule, RuleList, StageSpec};
+use pipe_types::topology::{
+    CancelMode, ChildMode, Dispatch, Keep, Kind, Role, Rule, RuleList, StageSpec,
+};
 use std::alloc::{AllocError, Global};
 
 /// A copy of these bytes.
@@ -42,7 +44,11 @@ fn copy_rule(alloc: Global, rule: &Rule) -> Result<Rule, AllocError>
         Rule::Pass => Rule::Pass,
         Rule::Prefix(text) => Rule::Prefix(copy_bytes(alloc, text.as_slice())?),
         Rule::Require(text) => Rule::Require(copy_bytes(alloc, text.as_slice())?),
-        Rule::Route(n, batcher, value) => Rule::Route(*n, *batcher, copy_bytes(alloc, value.as_slice())?),
+        Rule::Route(n, batcher, value) => Rule::Route(
+            *n,
+            *batcher,
+            copy_bytes(alloc, value.as_slice())?,
+        ),
         Rule::Key(n) => Rule::Key(*n),
         Rule::Flush(text) => Rule::Flush(copy_bytes(alloc, text.as_slice())?),
         Rule::Raise(text) => Rule::Raise(copy_bytes(alloc, text.as_slice())?),

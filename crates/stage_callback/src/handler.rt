@@ -55,7 +55,11 @@ impl Handler {
         Ok(reply)
     }
 
-    pub(crate) fn batch(&mut self, kind: Kind, messages: &[Message]) -> Result<BatchReply, AllocError>
+    pub(crate) fn batch(
+        &mut self,
+        kind: Kind,
+        messages: &[Message],
+    ) -> Result<BatchReply, AllocError>
         ensures same_spec { self.new.spec ≡ self.old.spec }
         ensures reply { IfOk result (λ reply. reply ≡ batch_answer_by kind self.old.spec self.old.count messages.now) }
         ensures shape { IfOk result (λ reply. IsTrue (is_batch_answer messages.now reply)) }

@@ -18,16 +18,31 @@ use std::alloc::{AllocError, Global};
 const MAX_PAYLOAD_BYTES: usize = 65536;
 
 /// The reply to a message where `count` messages were seen before.
-pub(crate) fn evaluate(alloc: Global, spec: &StageSpec, count: u64, message: Message) -> Result<Reply, AllocError>
+pub(crate) fn evaluate(
+    alloc: Global,
+    spec: &StageSpec,
+    count: u64,
+    message: Message,
+) -> Result<Reply, AllocError>
     requires { IsTrue (list_all is_countable spec.now.rules) }
     ensures { IfOk result (λ reply. reply ≡ eval spec.now count message) }
 {
-    apply_rules(alloc, spec.rules.as_slice(), count.saturating_add(1), message)
+    apply_rules(
+        alloc,
+        spec.rules.as_slice(),
+        count.saturating_add(1),
+        message,
+    )
 }
 
 /// The reply of these rules, in order, to a message that makes the count this one. The first reply that is no pass
 /// is the answer.
-fn apply_rules(alloc: Global, rules: &[Rule], count: u64, message: Message) -> Result<Reply, AllocError>
+fn apply_rules(
+    alloc: Global,
+    rules: &[Rule],
+    count: u64,
+    message: Message,
+) -> Result<Reply, AllocError>
     requires { IsTrue (list_all is_countable rules.now) }
     ensures { IfOk result (λ reply. reply ≡ rules_reply count rules.now message) }
 {

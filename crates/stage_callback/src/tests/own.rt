@@ -58,7 +58,8 @@ impl Callback for Watcher {
 
     fn message(&mut self, message: Message) -> Result<Reply, AllocError> {
         if message.payload.as_slice().starts_with(b"!") {
-            self.said.push(Said::Message(Reply::Failed(reason(b"watched"))))?;
+            self.said
+                .push(Said::Message(Reply::Failed(reason(b"watched"))))?;
             self.calls = self.calls.saturating_add(1);
             self.bad = self.bad.saturating_add(1);
             return Ok(Reply::Failed(reason(b"watched")));
@@ -83,7 +84,10 @@ impl Callback for Watcher {
 }
 
 /// Calls `message` through the box, and says what it answered and what that did to the box.
-pub(super) fn ask(callback: &mut Box<dyn Callback + Send>, message: Message) -> Result<Reply, AllocError>
+pub(super) fn ask(
+    callback: &mut Box<dyn Callback + Send>,
+    message: Message,
+) -> Result<Reply, AllocError>
     ensures same { (kind callback.new ≡ kind callback.old) × (spec callback.new ≡ spec callback.old) }
     ensures built_in { kind callback.old ≢ Kind.Own → IfOk result (λ reply. (reply ≡ eval (spec callback.old) (count callback.old) message) × (count callback.new ≡ counted (count callback.old) 1)) }
     ensures calls { kind callback.old ≡ Kind.Own → OnOk result (Rose (calls callback.old) (calls callback.new)) }
@@ -122,7 +126,10 @@ fn an_own_callback_counts_through_its_box(rt: HostRuntime) -> Result<(), Fail> {
     assert!(rt; matches!(&passed, Reply::Pass(m) if m.no == MsgNo(7)));
     let failed = ask(&mut callback, message_of(alloc, b"!b")?)?;
     assert!(rt; matches!(&failed, Reply::Failed(why) if Reason::new(b"watched") == Some(*why)));
-    assert_eq!(rt; callback.failed(MsgNo(7), &reason(b"watched"))?, FailedReply::Keep);
+    assert_eq!(rt;
+        callback.failed(MsgNo(7), &reason(b"watched"))?,
+        FailedReply::Keep
+    );
     callback.reset();
     Ok(())
 }

@@ -24,15 +24,15 @@ loop-message-preserved c =
     let so_far = next_message _ _ _ _ c.message-item.result c.loop-message.message-index _ _ _ c.loop-message-test.true c.message-item.is c.loop-message.invariant in
     elim c.match-reply.branch [
       | in-Pass+in_ok-push-in-Pass+in_ok-add_line-in-Pass w ↦
-        same_so_far _ _ _ _ _ _ _ _ _ _ _ c.saturating_add-seen.ensures
-        (ap (λ v. v.items) w.outcomes-is ∙ w.in_ok-push-in-Pass.ensures.items)
-        (ap (λ v. v.items) w.text-is ∙ w.in_ok-add_line-in-Pass.ensures)
-        (one_passed _ _ _ _ _ _ _ _ _ w.in-Pass.passed (sym w.in-Pass.is ∙ c.in_ok-reply.ensures) so_far)
+          same_so_far _ _ _ _ _ _ _ _ _ _ _ c.saturating_add-seen.ensures
+          (ap (λ v. v.items) w.outcomes-is ∙ w.in_ok-push-in-Pass.ensures.items)
+          (ap (λ v. v.items) w.text-is ∙ w.in_ok-add_line-in-Pass.ensures)
+          (one_passed _ _ _ _ _ _ _ _ _ w.in-Pass.passed (sym w.in-Pass.is ∙ c.in_ok-reply.ensures) so_far)
       | in-Failed+in_ok-push-in-Failed w ↦
-        same_so_far _ _ _ _ _ _ _ _ _ _ _ c.saturating_add-seen.ensures
-        (ap (λ v. v.items) w.outcomes-is ∙ w.in_ok-push-in-Failed.ensures.items)
-        (ap (λ v. v.items) w.text-is)
-        (one_failed _ _ _ _ _ _ _ _ _ w.in-Failed.why (sym w.in-Failed.is ∙ c.in_ok-reply.ensures) so_far)
+          same_so_far _ _ _ _ _ _ _ _ _ _ _ c.saturating_add-seen.ensures
+          (ap (λ v. v.items) w.outcomes-is ∙ w.in_ok-push-in-Failed.ensures.items)
+          (ap (λ v. v.items) w.text-is)
+          (one_failed _ _ _ _ _ _ _ _ _ w.in-Failed.why (sym w.in-Failed.is ∙ c.in_ok-reply.ensures) so_far)
     ]
 
 pub returns-clause-reply : goal.returns-clause-reply
