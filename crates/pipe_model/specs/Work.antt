@@ -18,7 +18,7 @@ use Rattle.pipe_types.specs.declared.step.Step.{Step}
 use Rattle.pipe_types.specs.declared.step.Step.TheVariants.{Take, Done, Wrote, Restart}
 use Rattle.pipe_types.specs.Numbers.{same_stage}
 use Rattle.pipe_types.specs.Stages.{spec_of}
-use Rattle.pipe_types.specs.Handlers.{chunk_replies, batch_end, batch_text, counted, count_after_batch, are_own_replies, is_own_end}
+use Rattle.pipe_types.specs.Handlers.{chunk_replies, batch_end, batch_text, counted, count_after_batch, are_own_replies, is_own_end, is_successful, lines_where}
 use Rattle.pipe_model.specs.History.{History}
 use Rattle.pipe_model.specs.Posts.{in_slot}
 use Rattle.pipe_model.specs.Content.{content}
@@ -145,17 +145,6 @@ is_write_end true handled text bytes end =
 abbrev pub is_failed_by_sink : Outcome → Bool
 is_failed_by_sink Successful = false
 is_failed_by_sink (Failed why) = bytes_eq why sink_reason
-
-abbrev pub is_successful : Outcome → Bool
-is_successful Successful = true
-is_successful (Failed why) = false
-
--- the payload and LF of each message whose outcome passes the test
-abbrev pub lines_where : (Outcome → Bool) → List Message → List Outcome → List ℕ
-lines_where test [] outcomes = []
-lines_where test (m ∷ messages) [] = []
-lines_where test (m ∷ messages) (o ∷ outcomes) =
-    if test o then (m.payload ++ 10 ∷ []) ++ lines_where test messages outcomes else lines_where test messages outcomes
 
 -- the text of an own handler's batch: its successful messages, or where there is none those that the sink failed
 abbrev pub own_text : List Message → BatchEnd → List ℕ

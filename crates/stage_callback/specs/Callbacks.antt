@@ -1,18 +1,16 @@
 -- What callbacks answer, beside the definition of the built-in handlers.
-use Rattle.std.specs.Prelude.{◌≡◌, ◌<◌, ◌≤◌, ◌+◌, ◌^◌, ◌⊎◌, ℕ, Bool, true, false, ◌&&◌, ◌||◌, ◌==◌, nat_lt, nat_le, List, [], ◌∷◌, ◌++◌, length, Option, Some, None, Result, Ok, Err, IsTrue}
+use Rattle.std.specs.Prelude.{◌≡◌, ◌<◌, ◌≤◌, ◌+◌, ◌^◌, ◌⊎◌, ℕ, Bool, true, false, ◌&&◌, ◌||◌, ◌==◌, nat_lt, nat_le, List, [], ◌∷◌, ◌++◌, length, Option, Some, None, Result, Ok, Err}
 use Rattle.std.specs.List.{list_all}
 use Rattle.pipe_types.specs.declared.message.Message.{Message}
 use Rattle.pipe_types.specs.declared.message.Reply.{Reply}
 use Rattle.pipe_types.specs.declared.message.Reply.TheVariants as reply
-use Rattle.pipe_types.specs.declared.message.Outcome.{Outcome}
-use Rattle.pipe_types.specs.declared.message.Outcome.TheVariants as outcome
 use Rattle.pipe_types.specs.declared.message.BatchReply.{BatchReply}
 use Rattle.pipe_types.specs.declared.message.BatchReply.TheVariants as batch
 use Rattle.pipe_types.specs.declared.topology.Rule.{Rule}
 use Rattle.pipe_types.specs.declared.topology.Rule.TheVariants as rule
 use Rattle.pipe_types.specs.declared.topology.StageSpec.{StageSpec}
 use Rattle.pipe_types.specs.Lines.{max_bytes}
-use Rattle.pipe_types.specs.Handlers.{is_own_reason, is_own_outcome}
+use Rattle.pipe_types.specs.Handlers.{is_own_reason, is_own_outcome, is_successful, lines_where}
 use Rattle.stage_callback.specs.declared.answers.Prepared.{Prepared}
 use Rattle.stage_callback.specs.declared.answers.Prepared.TheVariants as prepared
 use Rattle.stage_callback.specs.declared.answers.FailedReply.{FailedReply}
@@ -54,10 +52,6 @@ abbrev pub is_ready : Prepared → Bool
 is_ready prepared.Ready = true
 is_ready _ = false
 
-abbrev pub is_successful : Outcome → Bool
-is_successful outcome.Successful = true
-is_successful _ = false
-
 -- a batch was answered, and every message is successful
 abbrev pub is_all_successful : BatchReply → Bool
 is_all_successful (batch.Answered outcomes text) = list_all is_successful outcomes
@@ -78,15 +72,9 @@ abbrev pub is_failed_answer : FailedReply → Bool
 is_failed_answer (failed.Replace why) = is_own_reason why
 is_failed_answer _ = true
 
--- the payload and LF of each message that is successful
-abbrev pub successful_lines : List Message → List Outcome → List ℕ
-successful_lines (m ∷ messages) (outcome.Successful ∷ outcomes) = (m.payload ++ 10 ∷ []) ++ successful_lines messages outcomes
-successful_lines (m ∷ messages) (_ ∷ outcomes) = successful_lines messages outcomes
-successful_lines _ _ = []
-
--- the text of a user's own callback
+-- the text of a user's own callback: the payload and LF of each successful message
 abbrev pub HasOwnText : List Message → BatchReply → Type 0
-HasOwnText messages (batch.Answered outcomes text) = text ≡ successful_lines messages outcomes
+HasOwnText messages (batch.Answered outcomes text) = text ≡ lines_where is_successful messages outcomes
 HasOwnText messages _ = Unit {0}
 
 -- the stage's own reason, where it has one, in place of a failed message's
