@@ -46,7 +46,8 @@ impl Handler {
     pub(crate) fn message(&mut self, message: Message) -> Result<Reply, AllocError>
         ensures same_spec { self.new.spec ≡ self.old.spec }
         ensures reply { IfOk result (λ reply. reply ≡ eval self.old.spec self.old.count message) }
-        ensures shape { IsTrue (is_message_for self.old.spec.batchers message) → IfOk result (λ reply. IsTrue (is_own_reply self.old.spec.batchers message reply)) }
+        ensures shape { IsTrue (is_message_for self.old.spec.batchers message)
+            → IfOk result (λ reply. IsTrue (is_own_reply self.old.spec.batchers message reply)) }
         ensures count { OnOk result (self.new.count ≡ counted self.old.count 1) }
         ensures unchanged { OnErr result (self.new.count ≡ self.old.count) }
     {

@@ -34,9 +34,11 @@ trait Home {
 }
 
 impl Home for Bodies {
-    ghost stands = { λ stage n bodies. All (λ body. IfSome body.callback (λ b. ((Callback-box b).spec b.value ≡ stage) × ((Callback-box b).count b.value ≡ n))) bodies.items.items };
+    ghost stands = { λ stage n bodies. All (λ body. IfSome body.callback (λ b.
+        ((Callback-box b).spec b.value ≡ stage) × ((Callback-box b).count b.value ≡ n))) bodies.items.items };
 
-    ghost counted = { λ calls bad bodies. All (λ body. IfSome body.callback (λ b. (calls ≤ (Callback-box b).calls b.value) × (bad ≤ (Callback-box b).bad b.value))) bodies.items.items };
+    ghost counted = { λ calls bad bodies. All (λ body. IfSome body.callback (λ b.
+        (calls ≤ (Callback-box b).calls b.value) × (bad ≤ (Callback-box b).bad b.value))) bodies.items.items };
 
     fn posts(&self) -> usize {
         self.items.len()
@@ -54,9 +56,11 @@ fn hand_over<H: Home + Send>(home: H) -> (H, usize)
 
 /// The same of the value itself, in a function's words for what its boxes hold.
 fn hand_over_bodies(bodies: Bodies) -> (Bodies, usize)
-    ensures stands { (stage : StageSpec) (n : ℕ) → All (λ body. IfSome body.callback (λ b. (spec b ≡ stage) × (count b ≡ n))) bodies.items.items
+    ensures stands { (stage : StageSpec) (n : ℕ)
+        → All (λ body. IfSome body.callback (λ b. (spec b ≡ stage) × (count b ≡ n))) bodies.items.items
         → All (λ body. IfSome body.callback (λ b. (spec b ≡ stage) × (count b ≡ n))) result.0.items.items }
-    ensures counted { (most_calls most_bad : ℕ) → All (λ body. IfSome body.callback (λ b. (most_calls ≤ calls b) × (most_bad ≤ bad b))) bodies.items.items
+    ensures counted { (most_calls most_bad : ℕ)
+        → All (λ body. IfSome body.callback (λ b. (most_calls ≤ calls b) × (most_bad ≤ bad b))) bodies.items.items
         → All (λ body. IfSome body.callback (λ b. (most_calls ≤ calls b) × (most_bad ≤ bad b))) result.0.items.items }
 {
     hand_over(bodies)
@@ -64,8 +68,10 @@ fn hand_over_bodies(bodies: Bodies) -> (Bodies, usize)
 
 /// Runs one message on the box of a body.
 fn run(body: &mut Body, message: Message) -> Result<Option<Reply>, AllocError>
-    ensures same { IfSome body.old.callback (λ before. IfSome body.new.callback (λ after. (kind after ≡ kind before) × (spec after ≡ spec before))) }
-    ensures count { OnOk result (IfSome body.old.callback (λ before. kind before ≢ Kind.Own → IfSome body.new.callback (λ after. count after ≡ counted_by (count before) 1))) }
+    ensures same { IfSome body.old.callback (λ before. IfSome body.new.callback (λ after.
+        (kind after ≡ kind before) × (spec after ≡ spec before))) }
+    ensures count { OnOk result (IfSome body.old.callback (λ before. kind before ≢ Kind.Own
+        → IfSome body.new.callback (λ after. count after ≡ counted_by (count before) 1))) }
 {
     body.runs = body.runs.saturating_add(1);
     match &mut body.callback {

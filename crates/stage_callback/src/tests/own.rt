@@ -89,10 +89,14 @@ pub(super) fn ask(
     message: Message,
 ) -> Result<Reply, AllocError>
     ensures same { (kind callback.new ≡ kind callback.old) × (spec callback.new ≡ spec callback.old) }
-    ensures built_in { kind callback.old ≢ Kind.Own → IfOk result (λ reply. (reply ≡ eval (spec callback.old) (count callback.old) message) × (count callback.new ≡ counted (count callback.old) 1)) }
+    ensures built_in { kind callback.old ≢ Kind.Own → IfOk result (λ reply.
+        (reply ≡ eval (spec callback.old) (count callback.old) message)
+        × (count callback.new ≡ counted (count callback.old) 1)) }
     ensures calls { kind callback.old ≡ Kind.Own → OnOk result (Rose (calls callback.old) (calls callback.new)) }
-    ensures bad { kind callback.old ≡ Kind.Own → IfOk result (λ reply. is_passed reply ≡ false → Rose (bad callback.old) (bad callback.new)) }
-    ensures told { IsTrue (told callback.old) → IfOk result (λ reply. said callback.new ≡ said callback.old ++ Said.Message reply ∷ []) }
+    ensures bad { kind callback.old ≡ Kind.Own → IfOk result (λ reply.
+        is_passed reply ≡ false → Rose (bad callback.old) (bad callback.new)) }
+    ensures told { IsTrue (told callback.old) → IfOk result (λ reply.
+        said callback.new ≡ said callback.old ++ Said.Message reply ∷ []) }
 {
     callback.message(message)
 }

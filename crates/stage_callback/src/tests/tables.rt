@@ -30,26 +30,12 @@ fn spec_of(alloc: Global, rules: Vec<Rule>) -> StageSpec {
     spec
 }
 
-fn letter_of(why: Reason) -> u8 {
-    if Reason::new(b"long") == Some(why) {
-        b'l'
-    } else if Reason::new(b"require") == Some(why) {
-        b'q'
-    } else if Reason::new(b"raise") == Some(why) {
-        b'r'
-    } else if Reason::new(b"every") == Some(why) {
-        b'e'
-    } else {
-        b'?'
-    }
-}
-
 fn is(told: &Vec<u8>, want: &str) -> bool {
     told.as_slice() == want.as_bytes()
 }
 
-/// Of a pass `pass`, the batcher, `!` in flush mode, the key and the payload, each behind a bar; of a failure or a raise
-/// `fail` or `raise` and the reason's letter; `crash`.
+/// Of a pass `pass`, the batcher and `!` in flush mode, then the key and the payload, each behind a bar; of a failure
+/// or a raise `fail` or `raise` and the reason; `crash`.
 fn describe(alloc: Global, reply: &Reply) -> Result<Vec<u8>, AllocError> {
     let mut text = Vec::new(alloc);
     match reply {
@@ -66,11 +52,11 @@ fn describe(alloc: Global, reply: &Reply) -> Result<Vec<u8>, AllocError> {
         }
         Reply::Failed(why) => {
             text.extend_from_slice(b"fail ")?;
-            text.push(letter_of(*why))?;
+            text.extend_from_slice(why.as_bytes())?;
         }
         Reply::Raised(why) => {
             text.extend_from_slice(b"raise ")?;
-            text.push(letter_of(*why))?;
+            text.extend_from_slice(why.as_bytes())?;
         }
         Reply::Crashed => text.extend_from_slice(b"crash")?,
     }
@@ -103,13 +89,13 @@ fn rules_with_a_text(rt: HostRuntime) -> Result<(), Fail> {
         ("prefix", "ab ", "c", "pass0||ab c;"),
         ("prefix", "", "c", "pass0||c;"),
         ("require", "a", "ab", "pass0||ab;"),
-        ("require", "a", "ba", "fail q;"),
-        ("require", "ab", "a", "fail q;"),
+        ("require", "a", "ba", "fail require;"),
+        ("require", "ab", "a", "fail require;"),
         ("require", "", "", "pass0||;"),
         ("flush", "!", "!a", "pass0!||!a;"),
         ("flush", "!", "a!", "pass0||a!;"),
         ("flush", "", "a", "pass0!||a;"),
-        ("raise", "!", "!a", "raise r;"),
+        ("raise", "!", "!a", "raise raise;"),
         ("raise", "!", "a", "pass0||a;"),
         ("crash", "!", "!a", "crash;"),
         ("crash", "!", "a", "pass0||a;"),
@@ -168,16 +154,16 @@ fn routes_compare_one_field(rt: HostRuntime) -> Result<(), Fail> {
 fn rules_in_order_and_counts(rt: HostRuntime) -> Result<(), Fail> {
     let alloc = rt.alloc();
     let every = replies(alloc, vec![in alloc; Rule::FailEvery(1)]?, &["a", "b"])?;
-    assert!(rt; is(&every, "fail e;fail e;"));
+    assert!(rt; is(&every, "fail every;fail every;"));
     let third = replies(
         alloc,
         vec![in alloc; Rule::FailEvery(3)]?,
         &["a", "b", "c", "d"],
     )?;
-    assert!(rt; is(&third, "pass0||a;pass0||b;fail e;pass0||d;"));
+    assert!(rt; is(&third, "pass0||a;pass0||b;fail every;pass0||d;"));
     let rules = vec![in alloc; text_rule(alloc, "require", "a")?, Rule::FailEvery(2)]?;
     let failed_counts = replies(alloc, rules, &["b", "a", "ab"])?;
-    assert!(rt; is(&failed_counts, "fail q;fail e;pass0||ab;"));
+    assert!(rt; is(&failed_counts, "fail require;fail every;pass0||ab;"));
     let rules = vec![in alloc; text_rule(alloc, "prefix", "x ")?, Rule::Key(1)]?;
     let changed = replies(alloc, rules, &["a"])?;
     assert!(rt; is(&changed, "pass0|x|x a;"));
@@ -186,7 +172,7 @@ fn rules_in_order_and_counts(rt: HostRuntime) -> Result<(), Fail> {
         text_rule(alloc, "crash", "!")?,
     ]?;
     let first = replies(alloc, rules, &["!", "a"])?;
-    assert!(rt; is(&first, "raise r;pass0||a;"));
+    assert!(rt; is(&first, "raise raise;pass0||a;"));
     Ok(())
 }
 
@@ -210,14 +196,14 @@ fn a_payload_after_a_prefix_has_at_most_65536_bytes(rt: HostRuntime) -> Result<(
         let reply = callback.message(message_of(alloc, payload.as_slice())?)?;
         match reply {
             Reply::Pass(m) => assert!(rt; passes && m.payload.len() == 65_536),
-            Reply::Failed(why) => assert!(rt; !passes && letter_of(why) == b'l'),
+            Reply::Failed(why) => assert!(rt; !passes && why.as_bytes() == b"long".as_slice()),
             _ => assert!(rt; false),
         }
     }
     Ok(())
 }
 
-/// The letters of the outcomes, a bar and the text; of a raise `raise` and the reason's letter; `crash`.
+/// A letter for each outcome, a bar and the text; of a raise `raise` and the reason; `crash`.
 fn describe_batch(alloc: Global, reply: &BatchReply) -> Result<Vec<u8>, AllocError> {
     let mut told = Vec::new(alloc);
     match reply {
@@ -225,7 +211,7 @@ fn describe_batch(alloc: Global, reply: &BatchReply) -> Result<Vec<u8>, AllocErr
             for outcome in outcomes.as_slice() {
                 told.push(match outcome {
                     Outcome::Successful => b's',
-                    Outcome::Failed(why) => letter_of(*why),
+                    Outcome::Failed(_) => b'f',
                 })?;
             }
             told.push(b'|')?;
@@ -233,7 +219,7 @@ fn describe_batch(alloc: Global, reply: &BatchReply) -> Result<Vec<u8>, AllocErr
         }
         BatchReply::Raised(why) => {
             told.extend_from_slice(b"raise ")?;
-            told.push(letter_of(*why))?;
+            told.extend_from_slice(why.as_bytes())?;
         }
         BatchReply::Crashed => told.extend_from_slice(b"crash")?,
     }
@@ -259,8 +245,8 @@ fn built_in_answers_to_batches(rt: HostRuntime) -> Result<(), Fail> {
     for (word, text, lines, steps) in [
         ("pass", "", "ssss|a\n\n!b\nc\n", "ssss|"),
         ("prefix", "x", "ssss|xa\nx\nx!b\nxc\n", "ssss|"),
-        ("require", "a", "sqqq|a\n", "sqqq|"),
-        ("raise", "!", "raise r", "raise r"),
+        ("require", "a", "sfff|a\n", "sfff|"),
+        ("raise", "!", "raise raise", "raise raise"),
         ("crash", "!", "crash", "crash"),
     ] {
         let batch = batch_of(alloc, &["a", "", "!b", "c"])?;
@@ -290,7 +276,7 @@ fn a_batch_counts_up_to_the_message_that_ends_it(rt: HostRuntime) -> Result<(), 
         alloc,
         &callback.batch(&batch_of(alloc, &["a", "!b", "c"])?)?,
     )?;
-    assert!(rt; is(&raised, "raise r"));
+    assert!(rt; is(&raised, "raise raise"));
     let third = callback.message(message_of(alloc, b"d")?)?;
     assert!(rt; matches!(third, Reply::Failed(_)));
     callback.reset();
