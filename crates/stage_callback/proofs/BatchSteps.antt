@@ -1,5 +1,5 @@
 -- A batch, message by message.
-use Rattle.std.proofs.Common.{◌≡◌, ℕ, suc, ◌+◌, ◌-◌, ◌^◌, ◌<◌, ◌≤◌, Bool, true, false, cond, List, [], ◌∷◌, ◌++◌, length, map, take, drop, get_or, refl, sym, ap, ◌∙◌, subst, Option, Some, None, arith, rules, append_assoc, append-nil, min, drop-cons, add-one}
+use Rattle.std.proofs.Common.{◌≡◌, ℕ, suc, ◌+◌, ◌^◌, ◌<◌, ◌≤◌, true, cond, List, [], ◌∷◌, ◌++◌, length, map, drop, get_or, refl, sym, ap, ◌∙◌, subst, Option, Some, None, arith, append_assoc, append-nil, drop-cons, add-one}
 use Rattle.std.specs.Prelude.{unwrap_or}
 use Rattle.std.proofs.lemmas.List.{drop_all}
 use Rattle.pipe_types.specs.declared.message.Message.{Message}
@@ -12,7 +12,7 @@ use Rattle.pipe_types.specs.declared.message.BatchReply.TheVariants.{Answered, R
 use Rattle.pipe_types.specs.declared.topology.Kind.{Kind}
 use Rattle.pipe_types.specs.declared.topology.Kind.TheVariants.{Steps, Lines, Own}
 use Rattle.pipe_types.specs.declared.topology.StageSpec.{StageSpec}
-use Rattle.pipe_types.specs.Handlers.{eval, counted, batch_replies, replies_until, ends_batch, outcome_of, text_of, passed_lines, answer_of, batch_answer_by, count_after_batch}
+use Rattle.pipe_types.specs.Handlers.{eval, counted, batch_replies, ends_batch, outcome_of, text_of, passed_lines, answer_of, batch_answer_by, count_after_batch}
 
 -- the answer that a reply which ends a batch makes, where there is one
 abbrev pub batch_ender : List Reply → Option BatchReply

@@ -1,24 +1,21 @@
 -- What the rules leave of a message, and of a batch.
-use Rattle.std.proofs.Common.{◌≡◌, ℕ, zero, suc, ◌+◌, ◌-◌, ◌%◌, ◌<◌, ◌≤◌, Bool, true, false, cond, ◌&&◌, ◌||◌, List, [], ◌∷◌, ◌++◌, length, map, take, drop, refl, sym, ap, ◌∙◌, subst, Option, Some, None, arith, rules}
-use Rattle.std.specs.Prelude.{unwrap_or, nat_lt, nat_le, ◌==◌, codes}
-use Rattle.std.proofs.lemmas.Bool.{and_parts, and_from, or_right, cond_both, leb-true, le-leb, ltb-true, ltb-false, eq-eqb}
+use Rattle.std.proofs.Common.{◌≡◌, ℕ, zero, suc, ◌+◌, ◌%◌, ◌≤◌, Bool, true, cond, ◌&&◌, ◌||◌, List, [], ◌∷◌, ◌++◌, length, map, refl, ap, ◌∙◌, Option, Some, None, arith, rules}
+use Rattle.std.specs.Prelude.{unwrap_or, nat_lt, nat_le, ◌==◌}
+use Rattle.std.proofs.lemmas.Bool.{and_parts, and_from, or_right, cond_both, leb-true, le-leb, ltb-false, eq-eqb}
 use Rattle.std.proofs.lemmas.List.{length-take, length-drop, length-map}
-use Rattle.std.specs.List.{list_all, starts_with, before_first, after_first, position_or_len}
+use Rattle.std.specs.List.{list_all, position_or_len}
 use Rattle.std.specs.Str.{bytes_eq}
 use Rattle.pipe_types.specs.declared.message.Message.{Message}
 use Rattle.pipe_types.specs.declared.message.Reply.{Reply}
 use Rattle.pipe_types.specs.declared.message.Reply.TheVariants.{Pass as Passed, Failed, Raised, Crashed}
-use Rattle.pipe_types.specs.declared.message.Outcome.{Outcome}
-use Rattle.pipe_types.specs.declared.message.Outcome.TheVariants.{Successful, Failed as FailedOutcome}
 use Rattle.pipe_types.specs.declared.message.BatchReply.{BatchReply}
-use Rattle.pipe_types.specs.declared.message.BatchReply.TheVariants.{Answered, Raised as RaisedBatch, Crashed as CrashedBatch}
 use Rattle.pipe_types.specs.declared.topology.Kind.{Kind}
 use Rattle.pipe_types.specs.declared.topology.Rule.{Rule}
 use Rattle.pipe_types.specs.declared.topology.Rule.TheVariants.{Pass, Prefix, Require, Route, Key, Flush, Raise, Crash, FailEvery}
 use Rattle.pipe_types.specs.declared.topology.StageSpec.{StageSpec}
 use Rattle.pipe_types.specs.Numbers.{same_stage}
 use Rattle.pipe_types.specs.Lines.{max_bytes}
-use Rattle.pipe_types.specs.Handlers.{is_space, after_fields, field, begins_with, rule_reply, and_then, rules_reply, eval, counted, is_own_reason, may_pass, is_own_reply, is_own_outcome, outcome_of, batch_replies, ends_batch, batch_answer_by, text_of}
+use Rattle.pipe_types.specs.Handlers.{is_space, after_fields, field, begins_with, rule_reply, and_then, rules_reply, eval, counted, is_own_reason, is_own_reply, is_own_outcome, outcome_of, batch_replies, ends_batch, batch_answer_by}
 use Rattle.stage_callback.specs.Callbacks.{routes_below, is_countable, can_arm, is_message_for, is_batch_answer}
 use Rattle.stage_callback.proofs.BatchSteps.{batch_ender, answered, answer_of-ender}
 

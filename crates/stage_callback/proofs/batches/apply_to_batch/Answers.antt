@@ -1,8 +1,7 @@
-use Rattle.std.proofs.Common.{◌≡◌, ◌∷◌, [], ◌++◌, ◌+◌, drop, refl, sym, ap, ◌∙◌, arith, rules}
-use Rattle.pipe_types.specs.declared.message.Reply.TheVariants.{Pass as Passed, Failed, Raised, Crashed}
-use Rattle.pipe_types.specs.declared.message.Outcome.TheVariants.{Successful, Failed as FailedOutcome}
+use Rattle.std.proofs.Common.{◌≡◌, refl, sym, ap, ◌∙◌}
+use Rattle.pipe_types.specs.declared.message.Reply.TheVariants.{Raised, Crashed}
 use Rattle.pipe_types.specs.declared.message.BatchReply.TheVariants.{Answered, Raised as RaisedBatch, Crashed as CrashedBatch}
-use Rattle.pipe_types.specs.Handlers.{eval, counted, text_of}
+use Rattle.pipe_types.specs.Handlers.{eval}
 use Rattle.stage_callback.proofs.BatchSteps.{next_message, same_so_far, one_passed, one_failed, ended_by, all_seen}
 use Rattle.stage_callback.proofs.batches.apply_to_batch.Goals as goal
 use Rattle.stage_callback.proofs.batches.apply_to_batch.Goals.{in-Pass+in_ok-push-in-Pass+in_ok-add_line-in-Pass, in-Failed+in_ok-push-in-Failed}
