@@ -1,7 +1,7 @@
 -- What opening and giving back change.
 use Rattle.std.specs.Prelude.{◌≡◌, ◌≤◌, ℕ, Bool, true, false, List, [], ◌∷◌, ◌++◌, Some, Result, Ok, Err}
 use Rattle.std.specs.Option.{option_map}
-use Rattle.pipe_edges.specs.Counts.{Rose}
+use Rattle.pipe_types.specs.Counts.{Rose}
 use Rattle.pipe_edges.specs.declared.edges.EdgeKind.{EdgeKind}
 use Rattle.pipe_edges.specs.declared.edges.EdgeEnd.{EdgeEnd}
 use Rattle.pipe_edges.specs.declared.edges.EdgeEnd.TheVariants.{Failed, OutOfMemory}

@@ -1,7 +1,7 @@
 //! A clock in memory.
 
 ghost use Rattle.std.specs.Prelude.{◌≡◌, ◌+◌, ◌^◌, ◌-◌, min, max};
-ghost use Rattle.pipe_edges.specs.Counts.{Rose};
+ghost use Rattle.pipe_types.specs.Counts.{Rose};
 
 use pipe_edges::Clock;
 

@@ -2,7 +2,7 @@
 
 ghost use Rattle.std.specs.Prelude.{◌≡◌, ◌≤◌, ◌+◌, ◌++◌, ◌∷◌, [], true, false, ℕ, take, IfOk, OnOk, OnErr, MatchResult};
 ghost use Rattle.pipe_edges.specs.declared.edges.EdgeKind.TheVariants.{File, Source, Sink};
-ghost use Rattle.pipe_edges.specs.Counts.{Rose};
+ghost use Rattle.pipe_types.specs.Counts.{Rose};
 ghost use Rattle.pipe_edges.specs.Named.{IsFreshSource, GivesSource, GivesSink, asked_after, StandsAsBefore, OthersStand, KeepsBack, AddsBack, EdgeHasCause};
 ghost use Rattle.mem_edges.specs.MemSource.{taken_of, left_of, all_bytes};
 ghost use Rattle.mem_edges.specs.MemSink.{held_by};

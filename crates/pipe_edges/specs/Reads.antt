@@ -1,6 +1,6 @@
 -- What a read does to the bytes and the counts of a source.
 use Rattle.std.specs.Prelude.{◌≡◌, ◌<◌, ◌≤◌, ℕ, List, [], ◌++◌, take}
-use Rattle.pipe_edges.specs.Counts.{Rose}
+use Rattle.pipe_types.specs.Counts.{Rose}
 use Rattle.pipe_edges.specs.declared.source.ReadEnd.{ReadEnd}
 use Rattle.pipe_edges.specs.declared.source.ReadEnd.TheVariants.{Got, End, Failed, Empty}
 

@@ -1,6 +1,6 @@
 -- Why the reading of a fetch stops.
 use Rattle.std.specs.Prelude.{◌≡◌, ◌<◌, Bool, ℕ, List, [], ◌∷◌, length, All, IsTrue, Result, Ok, Err, Option, Some, None}
-use Rattle.pipe_edges.specs.Counts.{Rose}
+use Rattle.pipe_types.specs.Counts.{Rose}
 use Rattle.pipe_edges.specs.Texts.{IsLine, BeginsTooLong, ended, joined}
 use Rattle.pipe_edges.specs.Cut.{CutsAll}
 use Rattle.pipe_edges.specs.Fetch.{answer_of}

@@ -1,6 +1,6 @@
 -- What writes do to the bytes and the faults of a sink.
 use Rattle.std.specs.Prelude.{◌≡◌, ◌<◌, ◌≤◌, ℕ, List, ◌++◌, length, take}
-use Rattle.pipe_edges.specs.Counts.{Rose}
+use Rattle.pipe_types.specs.Counts.{Rose}
 use Rattle.pipe_edges.specs.declared.sink.WriteEnd.{WriteEnd}
 use Rattle.pipe_edges.specs.declared.sink.WriteEnd.TheVariants as write
 use Rattle.pipe_edges.specs.declared.sink.PutEnd.{PutEnd}

@@ -1,7 +1,7 @@
 //! The clock that a run reads.
 
 ghost use Rattle.std.specs.Prelude.{◌≡◌, ℕ, max};
-ghost use Rattle.pipe_edges.specs.Counts.{Rose};
+ghost use Rattle.pipe_types.specs.Counts.{Rose};
 
 /// A clock. A reading below the last one is taken as the last one by the caller.
 pub trait Clock {

@@ -2,7 +2,7 @@
 
 ghost use Rattle.std.specs.Prelude.{◌≡◌, ◌≤◌, Bool, List, ℕ, take, IsTrue, IfOk};
 ghost use Rattle.pipe_edges.specs.declared.edges.EdgeKind.{EdgeKind};
-ghost use Rattle.pipe_edges.specs.Counts.{Rose};
+ghost use Rattle.pipe_types.specs.Counts.{Rose};
 ghost use Rattle.pipe_edges.specs.Named.{IsFreshSource, GivesSource, GivesSink, asked_after, StandsAsBefore, OthersStand, KeepsBack, AddsBack, EdgeHasCause};
 
 use crate::{ByteSink, ByteSource};

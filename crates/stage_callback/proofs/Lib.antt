@@ -1,0 +1,2 @@
+pub mod BatchSteps
+pub mod Shapes

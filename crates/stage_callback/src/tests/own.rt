@@ -1,0 +1,159 @@
+//! A user's own callback, called through its box.
+
+ghost use Rattle.std.specs.Prelude.{◌≡◌, ◌≢◌, ◌++◌, ◌∷◌, [], true, false, IfOk, OnOk, IsTrue};
+ghost use Rattle.pipe_types.specs.Handlers.{eval, counted};
+ghost use Rattle.pipe_types.specs.declared.topology.Kind.TheVariants.{Own};
+ghost use Rattle.stage_callback.specs.Callbacks.{is_passed};
+ghost use Rattle.pipe_types.specs.Counts.{Rose};
+
+use crate::rules::reason;
+use crate::{BatchReply, Callback, FailedReply, Prepared, Said, copy_message, copy_spec, unarmed};
+use pipe_types::bytes::Bytes;
+use pipe_types::message::{Batch, Message, Reply};
+use pipe_types::numbers::{MsgNo, StageNo};
+use pipe_types::reason::Reason;
+use pipe_types::topology::{Kind, StageSpec};
+use std::alloc::{AllocError, Global};
+use std::test::Fail;
+
+/// Fails each message that begins with `!`, and tells its answers.
+#[derive(Drop)]
+struct Watcher {
+    alloc: Global,
+    spec: StageSpec,
+    calls: u64,
+    bad: u64,
+    said: Vec<Said>,
+}
+
+impl Callback for Watcher {
+    ghost kind = { λ _. Own };
+
+    ghost spec = { λ w. w.spec };
+
+    ghost count = { λ _. 0 };
+
+    ghost calls = { λ w. w.calls };
+
+    ghost bad = { λ w. w.bad };
+
+    ghost told = { λ _. true };
+
+    ghost said = { λ w. w.said.items };
+
+    fn kind(&self) -> Kind {
+        Kind::Own
+    }
+
+    fn arm(&mut self, stage: &StageSpec) -> Result<(), AllocError> {
+        self.spec = copy_spec(self.alloc, stage)?;
+        Ok(())
+    }
+
+    fn reset(&mut self) {}
+
+    fn prepare(&mut self, _messages: &[Message]) -> Result<Prepared, AllocError> {
+        self.said.push(Said::Prepared(Prepared::Ready))?;
+        Ok(Prepared::Ready)
+    }
+
+    fn message(&mut self, message: Message) -> Result<Reply, AllocError> {
+        if message.payload.as_slice().starts_with(b"!") {
+            self.said
+                .push(Said::Message(Reply::Failed(reason(b"watched"))))?;
+            self.calls = self.calls.saturating_add(1);
+            self.bad = self.bad.saturating_add(1);
+            return Ok(Reply::Failed(reason(b"watched")));
+        }
+        let copied = copy_message(self.alloc, &message)?;
+        self.said.push(Said::Message(Reply::Pass(copied)))?;
+        self.calls = self.calls.saturating_add(1);
+        Ok(Reply::Pass(message))
+    }
+
+    fn batch(&mut self, _batch: &Batch) -> Result<BatchReply, AllocError> {
+        self.said.push(Said::Batch(BatchReply::Crashed))?;
+        self.calls = self.calls.saturating_add(1);
+        self.bad = self.bad.saturating_add(1);
+        Ok(BatchReply::Crashed)
+    }
+
+    fn failed(&mut self, _no: MsgNo, _reason: &Reason) -> Result<FailedReply, AllocError> {
+        self.said.push(Said::Failed(FailedReply::Keep))?;
+        Ok(FailedReply::Keep)
+    }
+}
+
+/// Calls `message` through the box, and says what it answered and what that did to the box.
+pub(super) fn ask(
+    callback: &mut Box<dyn Callback + Send>,
+    message: Message,
+) -> Result<Reply, AllocError>
+    ensures same { (kind callback.new ≡ kind callback.old) × (spec callback.new ≡ spec callback.old) }
+    ensures built_in { kind callback.old ≢ Kind.Own → IfOk result (λ reply.
+        (reply ≡ eval (spec callback.old) (count callback.old) message)
+        × (count callback.new ≡ counted (count callback.old) 1)) }
+    ensures calls { kind callback.old ≡ Kind.Own → OnOk result (Rose (calls callback.old) (calls callback.new)) }
+    ensures bad { kind callback.old ≡ Kind.Own → IfOk result (λ reply.
+        is_passed reply ≡ false → Rose (bad callback.old) (bad callback.new)) }
+    ensures told { IsTrue (told callback.old) → IfOk result (λ reply.
+        said callback.new ≡ said callback.old ++ Said.Message reply ∷ []) }
+{
+    callback.message(message)
+}
+
+pub(super) fn message_of(alloc: Global, payload: &[u8]) -> Result<Message, AllocError> {
+    Ok(Message {
+        no: MsgNo(7),
+        producer: StageNo(1),
+        payload: Bytes::from_vec(Vec::from_slice(alloc, payload)?),
+        batcher: 0,
+        key: Bytes::from_vec(Vec::new(alloc)),
+        flush: false,
+    })
+}
+
+#[test]
+fn an_own_callback_counts_through_its_box(rt: HostRuntime) -> Result<(), Fail> {
+    let alloc = rt.alloc();
+    let watcher = Watcher {
+        alloc,
+        spec: unarmed(alloc, Kind::Own),
+        calls: 0,
+        bad: 0,
+        said: Vec::new(alloc),
+    };
+    let mut callback: Box<dyn Callback + Send> = Box::new(alloc, watcher)?;
+    callback.arm(&unarmed(alloc, Kind::Own))?;
+    assert_eq!(rt; callback.kind(), Kind::Own);
+    assert_eq!(rt; callback.prepare(&[])?, Prepared::Ready);
+    let passed = ask(&mut callback, message_of(alloc, b"a")?)?;
+    assert!(rt; matches!(&passed, Reply::Pass(m) if m.no == MsgNo(7)));
+    let failed = ask(&mut callback, message_of(alloc, b"!b")?)?;
+    assert!(rt; matches!(&failed, Reply::Failed(why) if Reason::new(b"watched") == Some(*why)));
+    assert_eq!(rt;
+        callback.failed(MsgNo(7), &reason(b"watched"))?,
+        FailedReply::Keep
+    );
+    callback.reset();
+    Ok(())
+}
+
+#[test]
+fn an_own_callback_counts_its_answers(rt: HostRuntime) -> Result<(), Fail> {
+    let alloc = rt.alloc();
+    let mut watcher = Watcher {
+        alloc,
+        spec: unarmed(alloc, Kind::Own),
+        calls: 0,
+        bad: 0,
+        said: Vec::new(alloc),
+    };
+    for payload in ["a", "!b", "c"] {
+        watcher.message(message_of(alloc, payload.as_bytes())?)?;
+    }
+    assert_eq!(rt; watcher.calls, 3);
+    assert_eq!(rt; watcher.bad, 1);
+    assert_eq!(rt; watcher.said.len(), 3);
+    Ok(())
+}
