@@ -1,0 +1,96 @@
+//! What holds of every legal journal of a sound topology.
+//!
+//! Each function is a law: it does nothing, and its clause states the law, whose words stand in the specification.
+//! No step but those that move messages changes a place; journals continue one another; what is settled stays so;
+//! no subscription is sent more than it asked, handles more than it was sent, or has more in flight than its greatest
+//! demand. `proofs/` has the facts behind them, for the proofs of the layers above.
+#![tactic(auto)]
+
+ghost use Rattle.std.specs.Prelude.{◌≡◌, ◌≤◌, ℕ, ◌∷◌, length};
+ghost use Rattle.pipe_types.specs.declared.numbers.StageNo.{StageNo};
+ghost use Rattle.pipe_types.specs.declared.numbers.SubNo.{SubNo};
+ghost use Rattle.pipe_types.specs.declared.topology.Topology.{Topology};
+ghost use Rattle.pipe_types.specs.declared.step.Step.{Step};
+ghost use Rattle.pipe_model.specs.History.{History};
+ghost use Rattle.pipe_model.specs.Flow.{place};
+ghost use Rattle.pipe_model.specs.Begins.{BeginsWith};
+ghost use Rattle.pipe_model.specs.Claims.{StaysSettled, LegStaysSettled};
+
+/// A tick moves no message.
+pub fn tick_moves_nothing()
+    ensures { (topology : Topology) (before : History) (time n : ℕ) →
+        place topology (Step.Tick time ∷ before) n ≡ place topology before n }
+{
+}
+
+/// A quiet producer moves no message.
+pub fn quiet_moves_nothing()
+    ensures { (topology : Topology) (before : History) (s : StageNo) (n : ℕ) →
+        place topology (Step.Quiet s ∷ before) n ≡ place topology before n }
+{
+}
+
+/// An ask moves no message.
+pub fn ask_moves_nothing()
+    ensures { (topology : Topology) (before : History) (u : SubNo) (count n : ℕ) →
+        place topology (Step.Ask u count ∷ before) n ≡ place topology before n }
+{
+}
+
+/// A fetch moves no message.
+pub fn fetch_moves_nothing()
+    ensures { (topology : Topology) (before : History) (s : StageNo) (count n : ℕ) →
+        place topology (Step.Fetch s count ∷ before) n ≡ place topology before n }
+{
+}
+
+/// A refused control line moves no message.
+pub fn refuse_moves_nothing()
+    ensures { (topology : Topology) (before : History) (line n : ℕ) →
+        place topology (Step.Refuse line ∷ before) n ≡ place topology before n }
+{
+}
+
+/// A journal begins with itself.
+#[tactic(auto, using(crate::proofs::Journals::begins_with_itself))]
+pub fn journal_begins_with_itself()
+    ensures { (whole : History) → BeginsWith whole whole }
+{
+}
+
+/// A journal begins with what its own beginning begins with.
+#[tactic(auto, using(crate::proofs::Journals::begins_through))]
+pub fn beginning_of_beginning()
+    ensures { (whole middle seen : History) →
+        BeginsWith whole middle → BeginsWith middle seen → BeginsWith whole seen }
+{
+}
+
+/// One more step keeps each beginning.
+#[tactic(auto, using(crate::proofs::Journals::begins_after))]
+pub fn step_keeps_beginning()
+    ensures { (whole seen : History) (step : Step) → BeginsWith whole seen → BeginsWith (step ∷ whole) seen }
+{
+}
+
+/// Of two beginnings of one journal the longer begins with the shorter.
+#[tactic(auto, using(crate::proofs::Journals::begins_longer))]
+pub fn longer_begins_with_shorter()
+    ensures { (whole longer shorter : History) →
+        BeginsWith whole longer → BeginsWith whole shorter → length shorter ≤ length longer → BeginsWith longer shorter }
+{
+}
+
+/// A message that is acknowledged or lost stays so.
+#[tactic(auto, using(crate::proofs::Settled::stays_settled))]
+pub fn settled_stays()
+    ensures { (topology : Topology) (later before : History) (n : ℕ) → StaysSettled topology later before n }
+{
+}
+
+/// A leg that is answered or lost stays so.
+#[tactic(auto, using(crate::proofs::Settled::leg_stays_settled))]
+pub fn settled_leg_stays()
+    ensures { (topology : Topology) (later before : History) (b leg : ℕ) → LegStaysSettled topology later before b leg }
+{
+}
