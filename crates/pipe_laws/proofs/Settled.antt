@@ -18,7 +18,7 @@ use Rattle.pipe_model.specs.History.{History, closed, closed_after}
 use Rattle.pipe_model.specs.Content.{has_crash}
 use Rattle.pipe_model.specs.Batches.{Batch, BatchPlace, AtBatcher, Sent, Dropped, Leg, LegPlace, InInbox, AtWork, Answered, LegLost, on_legs, leg_taken, leg_answered, leg_lost, batch_sent, batch_on_legs, batch_killed}
 use Rattle.pipe_model.specs.Lives.{KillSet, reason_in}
-use Rattle.pipe_model.specs.Flow.{View, place, place_after, view_of, batch, batch_after, among, change_place, new_batch}
+use Rattle.pipe_model.specs.Flow.{View, place, place_after, view_of, batch, batch_after, among, change_place, new_batch, next_units, closing}
 use Rattle.pipe_model.specs.Moves.{is_final}
 use Rattle.pipe_model.specs.Claims.{StaysSettled, LegStaysSettled, leg_at, is_settled_leg}
 use Rattle.pipe_laws.proofs.Tests.{clash}
@@ -85,3 +85,132 @@ stays_settled topology later before n = by_place (place topology before n) refl
     by_place (Some (Running s)) e final = cc
     by_place (Some (Gathered s)) e final = cc
     by_place (Some (InBatch b)) e final = cc
+
+-- Legs
+
+abbrev pub a_leg : SubNo → LegPlace → Leg
+a_leg u place = record { sub = u; place = place }
+
+abbrev pub a_batch : List ℕ → BatchPlace → Batch
+a_batch numbers place = record { numbers = numbers; place = place }
+
+-- a change of places that leaves what is settled
+pub record Spares (change : SubNo → LegPlace → LegPlace) : Type 0 where
+  pub answered : (u : SubNo) (outcomes : List Outcome) → change u (Answered outcomes) ≡ Answered outcomes
+  pub lost : (u : SubNo) (loss : Loss) → change u (LegLost loss) ≡ LegLost loss
+
+one_leg_kept : (change : SubNo → LegPlace → LegPlace) → Spares change → (u : SubNo) (p : LegPlace) → is_settled_leg (Some (a_leg u p)) ≡ true → a_leg u (change u p) ≡ a_leg u p
+one_leg_kept change spares u InInbox h = cc
+one_leg_kept change spares u AtWork h = cc
+one_leg_kept change spares u (Answered outcomes) h = ap (a_leg u) (spares.answered u outcomes)
+one_leg_kept change spares u (LegLost loss) h = ap (a_leg u) (spares.lost u loss)
+
+leg_kept : (change : SubNo → LegPlace → LegPlace) → Spares change → (legs : List Leg) (i : ℕ) → is_settled_leg (slice_get legs i) ≡ true → slice_get (on_legs change legs) i ≡ slice_get legs i
+leg_kept change spares [] i h = refl
+leg_kept change spares (leg ∷ legs) zero h = ap Some (one_leg_kept change spares leg.sub leg.place h)
+leg_kept change spares (leg ∷ legs) (suc i) h = leg_kept change spares legs i h
+
+-- the change keeps each settled leg
+Keeps : (BatchPlace → BatchPlace) → ℕ → Type 0
+Keeps change i = (numbers : List ℕ) (place : BatchPlace) → is_settled_leg (leg_at (Some (a_batch numbers place)) i) ≡ true → leg_at (Some (a_batch numbers (change place))) i ≡ leg_at (Some (a_batch numbers place)) i
+
+on_legs_keeps : (change : SubNo → LegPlace → LegPlace) → Spares change → (i : ℕ) → Keeps (batch_on_legs change) i
+unfolding Keeps
+on_legs_keeps change spares i numbers (AtBatcher s) h = cc
+on_legs_keeps change spares i numbers (Sent legs) h = leg_kept change spares legs i h
+on_legs_keeps change spares i numbers (Dropped loss) h = cc
+
+sent_keeps : (s : StageNo) (subs : List SubNo) (i : ℕ) → Keeps (batch_sent s subs) i
+unfolding Keeps
+sent_keeps s [] i numbers place h = refl
+sent_keeps s (u ∷ subs) i numbers (AtBatcher t) h = cc
+sent_keeps s (u ∷ subs) i numbers (Sent legs) h = refl
+sent_keeps s (u ∷ subs) i numbers (Dropped loss) h = cc
+
+taken_spares : (s : StageNo) → Spares (leg_taken s)
+taken_spares s = record { answered = λ u o. refl; lost = λ u l. refl }
+
+answered_spares : (s : StageNo) (outcomes : List Outcome) → Spares (leg_answered s outcomes)
+answered_spares s outcomes = record { answered = λ u o. refl; lost = λ u l. refl }
+
+lost_spares : (set : KillSet) (incarnation : StageNo → ℕ) → Spares (λ u. leg_lost (reason_in set u.consumer) (incarnation u.consumer) u)
+lost_spares set incarnation =
+    record {
+      answered = λ u o. by_answered (reason_in set u.consumer) (incarnation u.consumer) u o;
+      lost = λ u l. by_lost (reason_in set u.consumer) (incarnation u.consumer) u l;
+    }
+  where
+    by_answered : (why : Option Why) (i : ℕ) (u : SubNo) (o : List Outcome) → leg_lost why i u (Answered o) ≡ Answered o
+    by_answered None i u o = refl
+    by_answered (Some why) i u o = refl
+
+    by_lost : (why : Option Why) (i : ℕ) (u : SubNo) (l : Loss) → leg_lost why i u (LegLost l) ≡ LegLost l
+    by_lost None i u l = refl
+    by_lost (Some why) i u l = refl
+
+killed_keeps : (set : KillSet) (incarnation : StageNo → ℕ) (i : ℕ) → Keeps (batch_killed set incarnation) i
+unfolding Keeps
+killed_keeps set incarnation i numbers (AtBatcher s) h = cc
+killed_keeps set incarnation i numbers (Sent legs) h = leg_kept _ (lost_spares set incarnation) legs i h
+killed_keeps set incarnation i numbers (Dropped loss) h = cc
+
+-- on a batch that may be missing
+maybe_kept : (change : BatchPlace → BatchPlace) (i : ℕ) → Keeps change i → (old : Option Batch) → is_settled_leg (leg_at old i) ≡ true → leg_at (option_map (λ x. change_place x (change x.place)) old) i ≡ leg_at old i
+unfolding Keeps
+maybe_kept change i keeps None h = refl
+maybe_kept change i keeps (Some x) h = keeps x.numbers x.place h
+
+is_some_map : {A B : Type 0} (f : A → B) (o : Option A) → is_some (option_map f o) ≡ true → is_some o ≡ true
+is_some_map f None h = h
+is_some_map f (Some x) h = refl
+
+-- a batch that stands was closed
+pub batch_closed : (topology : Topology) (before : History) (b : ℕ) → is_some (batch topology before b) ≡ true → b ≤ closed before
+batch_closed topology [] b h = cc
+batch_closed topology (Close s first trigger ∷ before) b h =
+    either (closing before (view_of topology before) s first.0) (b == closed before + 1) refl h (batch_closed topology before b)
+  where
+    either : (numbers : List ℕ) (t : Bool) → (b == closed before + 1) ≡ t → is_some (new_batch t numbers s (batch topology before b)) ≡ true → (is_some (batch topology before b) ≡ true → b ≤ closed before) → b ≤ closed before + 1
+    either numbers true e h rest = let is : b ≡ closed before + 1 = eqb-true b _ e in omega arith
+    either numbers false e h rest = let below : b ≤ closed before = rest h in omega arith
+batch_closed topology (Dispatch s ∷ before) b h = batch_closed topology before b (is_some_map _ (batch topology before b) h)
+batch_closed topology (Take s u k ∷ before) b h =
+    batch_closed topology before b (either (among (next_units topology (view_of topology before) s u k) b) _ (batch topology before b) h)
+  where
+    either : (t : Bool) (f : Batch → Batch) (o : Option Batch) → is_some (if t then option_map f o else o) ≡ true → is_some o ≡ true
+    either true f o h = is_some_map f o h
+    either false f o h = h
+batch_closed topology (Wrote s bytes (Outcomes outcomes) ∷ before) b h = batch_closed topology before b (is_some_map _ (batch topology before b) h)
+batch_closed topology (Kill s why ∷ before) b h = batch_closed topology before b (is_some_map _ (batch topology before b) h)
+batch_closed topology (Halt ∷ before) b h = batch_closed topology before b (is_some_map _ (batch topology before b) h)
+batch_closed topology (_ ∷ before) b h = batch_closed topology before b h
+
+settled_exists : (o : Option Batch) (i : ℕ) → is_settled_leg (leg_at o i) ≡ true → is_some o ≡ true
+settled_exists None i h = h
+settled_exists (Some x) i h = refl
+
+leg_after : (topology : Topology) (before : History) (step : Step) (b i : ℕ) → is_settled_leg (leg_at (batch topology before b) i) ≡ true → leg_at (batch topology (step ∷ before) b) i ≡ leg_at (batch topology before b) i
+leg_after topology before (Close s first trigger) b i h =
+    either (closing before (view_of topology before) s first.0) (b == closed before + 1) refl (batch_closed topology before b (settled_exists (batch topology before b) i h))
+  where
+    either : (numbers : List ℕ) (t : Bool) → (b == closed before + 1) ≡ t → b ≤ closed before → leg_at (new_batch t numbers s (batch topology before b)) i ≡ leg_at (batch topology before b) i
+    either numbers true e below = absurd (let is : b ≡ closed before + 1 = eqb-true b _ e in omega arith)
+    either numbers false e below = refl
+leg_after topology before (Dispatch s) b i h = maybe_kept _ i (sent_keeps s _ i) (batch topology before b) h
+leg_after topology before (Take s u k) b i h =
+    either (among (next_units topology (view_of topology before) s u k) b) (batch topology before b) h
+  where
+    either : (t : Bool) (o : Option Batch) → is_settled_leg (leg_at o i) ≡ true → leg_at (if t then option_map (λ x. change_place x (batch_on_legs (leg_taken s) x.place)) o else o) i ≡ leg_at o i
+    either true o h = maybe_kept _ i (on_legs_keeps (leg_taken s) (taken_spares s) i) o h
+    either false o h = refl
+leg_after topology before (Wrote s bytes (Outcomes outcomes)) b i h =
+    maybe_kept _ i (on_legs_keeps (leg_answered s outcomes) (answered_spares s outcomes) i) (batch topology before b) h
+leg_after topology before (Kill s why) b i h = maybe_kept _ i (killed_keeps _ _ i) (batch topology before b) h
+leg_after topology before Halt b i h = maybe_kept _ i (killed_keeps _ _ i) (batch topology before b) h
+leg_after topology before _ b i h = refl
+
+pub leg_stays_settled : (topology : Topology) (later before : History) (b i : ℕ) → LegStaysSettled topology later before b i
+leg_stays_settled topology [] before b i h = refl
+leg_stays_settled topology (step ∷ later) before b i h =
+    let same : leg_at (batch topology (later ++ before) b) i ≡ leg_at (batch topology before b) i = leg_stays_settled topology later before b i h in
+    leg_after topology (later ++ before) step b i (ap is_settled_leg same ∙ h) ∙ same

@@ -1,0 +1,91 @@
+-- What holds of each element of a list, and how many elements pass a test.
+use Rattle.std.proofs.Common.{◌≡◌, ℕ, zero, suc, ◌+◌, ◌<◌, ◌≤◌, List, [], ◌∷◌, ◌++◌, map, length, take, Bool, true, false, refl, ap, sym, ◌∙◌, arith}
+use Rattle.std.specs.Prelude.{if◌then◌else◌, ◌==◌, ◌&&◌, ◌||◌, cond, filter}
+use Rattle.std.specs.List.{list_any}
+use Rattle.std.proofs.lemmas.Bool.{eqb-true, eq-eqb}
+use Rattle.pipe_laws.proofs.Tests.{clash}
+use Rattle.pipe_model.specs.Flow.{among}
+
+abbrev pub Each : {A : Type 0} → (A → Type 0) → List A → Type 0
+Each P [] = Unit {0}
+Each P (x ∷ xs) = P x × Each P xs
+
+pub each-append : {A : Type 0} (P : A → Type 0) (xs ys : List A) → Each P xs → Each P ys → Each P (xs ++ ys)
+each-append P [] ys p q = q
+each-append P (x ∷ xs) ys p q = (p.0, each-append P xs ys p.1 q)
+
+pub each_weaker : {A : Type 0} (P Q : A → Type 0) → ((x : A) → P x → Q x) → (xs : List A) → Each P xs → Each Q xs
+each_weaker P Q f [] p = tt
+each_weaker P Q f (x ∷ xs) p = (f x p.0, each_weaker P Q f xs p.1)
+
+pub each_both : {A : Type 0} (P Q : A → Type 0) (xs : List A) → Each P xs → Each Q xs → Each (λ x. P x × Q x) xs
+each_both P Q [] p q = tt
+each_both P Q (x ∷ xs) p q = ((p.0, q.0), each_both P Q xs p.1 q.1)
+
+pub each_always : {A : Type 0} (P : A → Type 0) → ((x : A) → P x) → (xs : List A) → Each P xs
+each_always P f [] = tt
+each_always P f (x ∷ xs) = (f x, each_always P f xs)
+
+pub each_filter : {A : Type 0} (P : A → Type 0) (test : A → Bool) (xs : List A) → Each P xs → Each (λ x. P x × (test x ≡ true)) (filter test xs)
+each_filter P test [] p = tt
+each_filter P test (x ∷ xs) p = either (test x) refl (each_filter P test xs p.1)
+  where
+    either : (b : Bool) → test x ≡ b → Each (λ y. P y × (test y ≡ true)) (filter test xs) → Each (λ y. P y × (test y ≡ true)) (cond b (x ∷ filter test xs) (filter test xs))
+    either true e rest = ((p.0, e), rest)
+    either false e rest = rest
+
+pub each_map : {A B : Type 0} (P : B → Type 0) (f : A → B) (xs : List A) → Each (λ x. P (f x)) xs → Each P (map f xs)
+each_map P f [] p = tt
+each_map P f (x ∷ xs) p = (p.0, each_map P f xs p.1)
+
+-- how many elements pass
+abbrev pub tally : {A : Type 0} → (A → Bool) → List A → ℕ
+tally test [] = 0
+tally test (x ∷ xs) = if test x then suc (tally test xs) else tally test xs
+
+pub tally-append : {A : Type 0} (test : A → Bool) (xs ys : List A) → tally test (xs ++ ys) ≡ tally test xs + tally test ys
+tally-append test [] ys = omega arith
+tally-append test (x ∷ xs) ys = either (test x) (tally-append test xs ys)
+  where
+    either : (b : Bool) → tally test (xs ++ ys) ≡ tally test xs + tally test ys → (if b then suc (tally test (xs ++ ys)) else tally test (xs ++ ys)) ≡ (if b then suc (tally test xs) else tally test xs) + tally test ys
+    either true e = omega arith
+    either false e = e
+
+-- what passes after passed before, and so did what stops, which passes no more
+pub record Drops {A : Type 0} (after stop before : A → Bool) (x : A) : Type 0 where
+  pub kept : after x ≡ true → before x ≡ true
+  pub stopped : stop x ≡ true → before x ≡ true
+  pub apart : stop x ≡ true → after x ≡ false
+
+pub tally_drop : {A : Type 0} (after stop before : A → Bool) (xs : List A) → Each (Drops after stop before) xs → tally after xs + tally stop xs ≤ tally before xs
+tally_drop after stop before [] drops = omega arith
+tally_drop after stop before (x ∷ xs) drops =
+    either (after x) (stop x) (before x) drops.0.kept drops.0.stopped drops.0.apart (tally_drop after stop before xs drops.1)
+  where
+    either : (a s b : Bool) → (a ≡ true → b ≡ true) → (s ≡ true → b ≡ true) → (s ≡ true → a ≡ false) → tally after xs + tally stop xs ≤ tally before xs → (if a then suc (tally after xs) else tally after xs) + (if s then suc (tally stop xs) else tally stop xs) ≤ (if b then suc (tally before xs) else tally before xs)
+    either true true b k s p rest = clash true refl (p refl)
+    either true false true k s p rest = omega arith
+    either true false false k s p rest = clash true (k refl) refl
+    either false true true k s p rest = omega arith
+    either false true false k s p rest = clash true (s refl) refl
+    either false false true k s p rest = omega arith
+    either false false false k s p rest = omega arith
+
+pub tally_le : {A : Type 0} (one other : A → Bool) (xs : List A) → Each (λ x. one x ≡ true → other x ≡ true) xs → tally one xs ≤ tally other xs
+tally_le one other [] h = omega arith
+tally_le one other (x ∷ xs) h = either (one x) (other x) h.0 (tally_le one other xs h.1)
+  where
+    either : (a b : Bool) → (a ≡ true → b ≡ true) → tally one xs ≤ tally other xs → (if a then suc (tally one xs) else tally one xs) ≤ (if b then suc (tally other xs) else tally other xs)
+    either true true f rest = omega arith
+    either true false f rest = clash true (f refl) refl
+    either false true f rest = omega arith
+    either false false f rest = rest
+
+-- among the first k numbers
+pub among_append_left : (xs ys : List ℕ) (n : ℕ) → among xs n ≡ true → among (xs ++ ys) n ≡ true
+among_append_left [] ys n h = cc
+among_append_left (x ∷ xs) ys n h = either (x == n) h (among_append_left xs ys n)
+  where
+    either : (b : Bool) → (b || among xs n) ≡ true → (among xs n ≡ true → among (xs ++ ys) n ≡ true) → (b || among (xs ++ ys) n) ≡ true
+    either true h rest = refl
+    either false h rest = rest h

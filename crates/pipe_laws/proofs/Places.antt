@@ -1,0 +1,210 @@
+-- How a step may move a message.
+use Rattle.std.proofs.Common.{◌≡◌, ℕ, zero, suc, ◌+◌, ◌*◌, ◌<◌, ◌≤◌, List, [], ◌∷◌, ◌++◌, map, Bool, true, false, refl, ap, sym, ◌∙◌, subst, Some, None, Option, arith}
+use Rattle.std.specs.Prelude.{option_map, if◌then◌else◌, ◌==◌, ◌&&◌, slice_get, is_some, filter, cond, unwrap_or, position}
+use Rattle.pipe_types.specs.declared.numbers.SubNo.{SubNo}
+use Rattle.pipe_types.specs.declared.numbers.StageNo.{StageNo}
+use Rattle.pipe_types.specs.declared.numbers.BatchNo.{BatchNo}
+use Rattle.pipe_types.specs.declared.topology.Topology.{Topology}
+use Rattle.pipe_types.specs.declared.topology.StageSpec.{StageSpec}
+use Rattle.pipe_types.specs.declared.message.Outcome.{Outcome}
+use Rattle.pipe_types.specs.declared.message.Outcome.TheVariants.{Successful, Failed}
+use Rattle.pipe_types.specs.declared.message.Loss.{Loss}
+use Rattle.pipe_types.specs.declared.message.Why.{Why}
+use Rattle.pipe_types.specs.declared.message.Place.{Place}
+use Rattle.pipe_types.specs.declared.message.Place.TheVariants.{Waiting, Inbox, Running, Gathered, InBatch, Acked, Lost}
+use Rattle.pipe_types.specs.declared.message.Reply.{Reply}
+use Rattle.pipe_types.specs.declared.message.Reply.TheVariants.{Pass, Failed as FailedReply, Raised, Crashed}
+use Rattle.pipe_types.specs.declared.message.BatchEnd.TheVariants.{Outcomes}
+use Rattle.pipe_types.specs.declared.room.Room.{Room}
+use Rattle.pipe_types.specs.declared.room.Sent.{Sent as SentUnit}
+use Rattle.pipe_types.specs.declared.topology.Dispatch.{Dispatch as DispatchKind}
+use Rattle.pipe_types.specs.declared.step.Step.{Step}
+use Rattle.pipe_types.specs.declared.step.Step.TheVariants.{Accept, Dispatch, Take, Done, Gather, Close, Wrote, Child, ChildEnd, Kill, Late, Tick, Halt}
+use Rattle.pipe_types.specs.declared.step.LateAnswer.TheVariants.{Records}
+use Rattle.pipe_types.specs.Dispatchers.{goes, on_each, sends_from, sends}
+use Rattle.pipe_types.specs.Numbers.{same_stage, same_sub, batch_no}
+use Rattle.pipe_types.specs.Stages.{feeds}
+use Rattle.pipe_model.specs.History.{History, accepted}
+use Rattle.pipe_model.specs.Content.{has_crash, is_among_next}
+use Rattle.pipe_model.specs.Batches.{Batch, BatchPlace, AtBatcher, Sent, Dropped, Leg, LegPlace, InInbox, AtWork, Answered, LegLost, is_settled, settled_as, lost_leg, failed_leg, outcome_place, place_by_batch}
+use Rattle.pipe_model.specs.Lives.{KillSet, reason_in, is_live, current_sub, live_subs, live_subs_from, death}
+use Rattle.pipe_model.specs.Flow.{View, place, place_after, view_of, batch, batch_after, among, sends_by, rooms_by, waiting_by, subs_of, dispatched, waiting_after, lost_over, taken, done, answered, reply_to, gathered, put_in_batch, by_batch, place_in_batch, killed, lost_with, child_ended, child_place, accepted_to, late_place, is_number}
+use Rattle.pipe_model.specs.Moves.{is_final}
+use Rattle.pipe_laws.proofs.Tests.{clash, and_left, and_right, same_stage-true}
+use Rattle.pipe_laws.proofs.Lists.{Each, each-append, each_weaker, each_filter, each_map, each_always}
+
+-- the subscription is a live one on the stage
+pub record IsOn (topology : Topology) (before : History) (s : StageNo) (u : SubNo) : Type 0 where
+  pub feeding : feeds topology s u.consumer ≡ true
+  pub live : is_live topology before u.consumer ≡ true
+  pub current : u ≡ current_sub topology before u.consumer s
+
+live_subs_on_from : (topology : Topology) (before : History) (s : StageNo) (specs : List StageSpec) → Each (IsOn topology before s) (live_subs_from topology before s specs)
+live_subs_on_from topology before s [] = tt
+live_subs_on_from topology before s (c ∷ specs) =
+    either (feeds topology s c.no && is_live topology before c.no) refl (live_subs_on_from topology before s specs)
+  where
+    either : (b : Bool) → (feeds topology s c.no && is_live topology before c.no) ≡ b → Each (IsOn topology before s) (live_subs_from topology before s specs) → Each (IsOn topology before s) (if b then current_sub topology before c.no s ∷ live_subs_from topology before s specs else live_subs_from topology before s specs)
+    either true e rest = (record { feeding = and_left _ _ e; live = and_right (feeds topology s c.no) _ e; current = refl }, rest)
+    either false e rest = rest
+
+pub live_subs_on : (topology : Topology) (before : History) (s : StageNo) → Each (IsOn topology before s) (live_subs topology before s)
+live_subs_on topology before s = either (is_live topology before s) (live_subs_on_from topology before s topology.stages)
+  where
+    either : (b : Bool) → Each (IsOn topology before s) (live_subs_from topology before s topology.stages) → Each (IsOn topology before s) (if b then live_subs_from topology before s topology.stages else [])
+    either true rest = rest
+    either false rest = tt
+
+-- What a dispatch sends goes on subscriptions of rooms, and is some of the units
+on_each_rooms : (P : SubNo → Type 0) (Q : ℕ → Type 0) (unit : ℕ) (rooms : List Room) → Q unit → Each (λ r. P r.sub) rooms → Each (λ d. P d.sub × Q d.unit) (on_each unit rooms)
+on_each_rooms P Q unit [] q h = tt
+on_each_rooms P Q unit (r ∷ rooms) q h = ((h.0, q), on_each_rooms P Q unit rooms q h.1)
+
+sends_each : (P : SubNo → Type 0) (Q : ℕ → Type 0) (kind : DispatchKind) (rooms : List Room) (earlier : List ℕ) (units : List (ℕ × ℕ)) → Each (λ r. P r.sub) rooms → Each (λ unit. Q unit.0) units → Each (λ d. P d.sub × Q d.unit) (sends_from kind rooms earlier units)
+sends_each P Q kind rooms earlier [] h q = tt
+sends_each P Q kind rooms earlier (unit ∷ units) h q =
+    each-append (λ d. P d.sub × Q d.unit) (on_each unit.0 (filter (goes kind rooms earlier unit.1) rooms)) (sends_from kind rooms (unit.1 ∷ earlier) units)
+    (on_each_rooms P Q unit.0 (filter (goes kind rooms earlier unit.1) rooms) q.0
+    (each_weaker (λ r. P r.sub × (goes kind rooms earlier unit.1 r ≡ true)) (λ r. P r.sub) (λ r p. p.0) _ (each_filter (λ r. P r.sub) (goes kind rooms earlier unit.1) rooms h)))
+    (sends_each P Q kind rooms (unit.1 ∷ earlier) units h q.1)
+
+-- each unit that a dispatch of the stage sends waits there, and goes on a live subscription on it
+pub sends_on : (topology : Topology) (before : History) (s : StageNo) (Q : ℕ → Type 0) → Each Q (waiting_by topology before (view_of topology before) s) → Each (λ d. IsOn topology before s d.sub × Q d.unit) (sends_by topology before (view_of topology before) s)
+sends_on topology before s Q waiting =
+    sends_each (IsOn topology before s) Q _ (rooms_by topology before (view_of topology before) s) [] _
+    (each_map (λ r. IsOn topology before s r.sub) _ (live_subs topology before s) (live_subs_on topology before s))
+    (each_map (λ unit. Q unit.0) _ (waiting_by topology before (view_of topology before) s) waiting)
+
+pub subs_of_each : (P : SubNo → Type 0) (units : List SentUnit) (n : ℕ) → Each (λ d. P d.sub) units → Each P (subs_of units n)
+subs_of_each P [] n h = tt
+subs_of_each P (d ∷ units) n h = either (d.unit == n) (subs_of_each P units n h.1)
+  where
+    either : (b : Bool) → Each P (subs_of units n) → Each P (if b then d.sub ∷ subs_of units n else subs_of units n)
+    either true rest = (h.0, rest)
+    either false rest = rest
+
+pub dispatch_on : (topology : Topology) (before : History) (s : StageNo) (n : ℕ) → Each (IsOn topology before s) (subs_of (sends_by topology before (view_of topology before) s) n)
+dispatch_on topology before s n =
+    subs_of_each (IsOn topology before s) (sends_by topology before (view_of topology before) s) n
+    (each_weaker _ (λ d. IsOn topology before s d.sub) (λ d p. p.0) _ (sends_on topology before s (λ m. Unit {0}) (each_always (λ m. Unit {0}) (λ m. tt) _)))
+
+-- what one step may do to a message
+pub data Move (topology : Topology) (before : History) : Option Place → Option Place → Type 0 where
+  stays : {p : Option Place} → Move topology before p p
+  comes : (s : StageNo) → Move topology before None (Some (Waiting s))
+  comes_lost : (loss : Loss) → Move topology before None (Some (Lost loss))
+  sent_on : (s : StageNo) (u : SubNo) → IsOn topology before s u → Move topology before (Some (Waiting s)) (Some (Inbox u))
+  runs : (u : SubNo) → Move topology before (Some (Inbox u)) (Some (Running u.consumer))
+  waits : (s : StageNo) → Move topology before (Some (Running s)) (Some (Waiting s))
+  is_gathered : (u : SubNo) → Move topology before (Some (Inbox u)) (Some (Gathered u.consumer))
+  joins : (s : StageNo) (b : BatchNo) → Move topology before (Some (Gathered s)) (Some (InBatch b))
+  ends : (p q : Place) → is_final (Some q) ≡ true → Move topology before (Some p) (Some q)
+
+module _ (topology : Topology) (before : History) where
+  stays_at : (p q : Option Place) → p ≡ q → Move topology before p q
+  stays_at p q e = subst (λ x. Move topology before p x) e stays
+
+  move_accepted : (from count n : ℕ) (s : StageNo) (old : Option Place) → Move topology before old (accepted_to from count (Waiting s) n old)
+  move_accepted from count n s (Some p) = stays
+  move_accepted from count n s None = either (is_among_next from count n)
+    where
+      either : (b : Bool) → Move topology before None (if b then Some (Waiting s) else None)
+      either true = comes s
+      either false = stays
+
+  move_late : (from count n : ℕ) (s : StageNo) (i : ℕ) (why : Option Why) (old : Option Place) → Move topology before old (accepted_to from count (late_place s i why) n old)
+  move_late from count n s i why (Some p) = stays
+  move_late from count n s i None None = move_accepted from count n s None
+  move_late from count n s i (Some why) None = either (is_among_next from count n)
+    where
+      either : (b : Bool) → Move topology before None (if b then Some (late_place s i (Some why)) else None)
+      either true = comes_lost _
+      either false = stays
+
+  move_dispatched : (units : List SentUnit) (over : List ℕ) (s : StageNo) (n : ℕ) → Each (IsOn topology before s) (subs_of units n) → (old : Option Place) → Move topology before old (option_map (dispatched units over s n) old)
+  move_dispatched units over s n on None = stays
+  move_dispatched units over s n on (Some (Waiting t)) = either (same_stage s t) refl
+    where
+      lost_or_not : (b : Bool) → Move topology before (Some (Waiting s)) (Some (if b then Lost _ else Waiting s))
+      lost_or_not true = ends _ _ refl
+      lost_or_not false = stays
+
+      here : (subs : List SubNo) → Each (IsOn topology before s) subs → Move topology before (Some (Waiting s)) (Some (waiting_after subs (among over n) s))
+      here [] on = lost_or_not (among over n)
+      here (u ∷ subs) on = sent_on s u on.0
+
+      either : (b : Bool) → same_stage s t ≡ b → Move topology before (Some (Waiting t)) (Some (if b then waiting_after (subs_of units n) (among over n) s else Waiting t))
+      either true e = subst (λ x. Move topology before (Some (Waiting x)) (Some (waiting_after (subs_of units n) (among over n) s))) (same_stage-true s t e) (here (subs_of units n) on)
+      either false e = stays
+  move_dispatched units over s n on (Some (Inbox u)) = stays
+  move_dispatched units over s n on (Some (Running t)) = stays
+  move_dispatched units over s n on (Some (Gathered t)) = stays
+  move_dispatched units over s n on (Some (InBatch b)) = stays
+  move_dispatched units over s n on (Some (Acked o)) = stays
+  move_dispatched units over s n on (Some (Lost l)) = stays
+
+  move_taken : (chunk : List ℕ) (s : StageNo) (n : ℕ) (old : Option Place) → Move topology before old (option_map (taken chunk s n) old)
+  move_taken chunk s n None = stays
+  move_taken chunk s n (Some (Inbox u)) = either (same_stage s u.consumer) (among chunk n) refl
+    where
+      either : (a b : Bool) → same_stage s u.consumer ≡ a → Move topology before (Some (Inbox u)) (Some (if a && b then Running s else Inbox u))
+      either true true e = subst (λ x. Move topology before (Some (Inbox u)) (Some (Running x))) (sym (same_stage-true s u.consumer e)) (runs u)
+      either true false e = stays
+      either false b e = stays
+  move_taken chunk s n (Some (Waiting t)) = stays
+  move_taken chunk s n (Some (Running t)) = stays
+  move_taken chunk s n (Some (Gathered t)) = stays
+  move_taken chunk s n (Some (InBatch b)) = stays
+  move_taken chunk s n (Some (Acked o)) = stays
+  move_taken chunk s n (Some (Lost l)) = stays
+
+  move_answered : (b : Bool) (s : StageNo) (reply : Option Reply) → Move topology before (Some (Running s)) (Some (answered b s reply))
+  move_answered true s (Some (Pass m)) = waits s
+  move_answered false s (Some (Pass m)) = ends _ _ refl
+  move_answered b s (Some (FailedReply why)) = ends _ _ refl
+  move_answered b s (Some (Raised why)) = ends _ _ refl
+  move_answered b s (Some Crashed) = stays
+  move_answered b s None = stays
+
+  move_done : (b : Bool) (chunk : List ℕ) (replies : List Reply) (s : StageNo) (n : ℕ) (old : Option Place) → Move topology before old (option_map (done b chunk replies s n) old)
+  move_done b chunk replies s n None = stays
+  move_done b chunk replies s n (Some (Running t)) = either (same_stage s t) refl
+    where
+      either : (a : Bool) → same_stage s t ≡ a → Move topology before (Some (Running t)) (Some (if a then answered b s (reply_to chunk replies n) else Running t))
+      either true e = subst (λ x. Move topology before (Some (Running x)) (Some (answered b s (reply_to chunk replies n)))) (same_stage-true s t e) (move_answered b s (reply_to chunk replies n))
+      either false e = stays
+  move_done b chunk replies s n (Some (Waiting t)) = stays
+  move_done b chunk replies s n (Some (Inbox u)) = stays
+  move_done b chunk replies s n (Some (Gathered t)) = stays
+  move_done b chunk replies s n (Some (InBatch m)) = stays
+  move_done b chunk replies s n (Some (Acked o)) = stays
+  move_done b chunk replies s n (Some (Lost l)) = stays
+
+  move_gathered : (s : StageNo) (m n : ℕ) (old : Option Place) → Move topology before old (option_map (gathered s m n) old)
+  move_gathered s m n None = stays
+  move_gathered s m n (Some (Inbox u)) = either (same_stage s u.consumer) (m == n) refl
+    where
+      either : (a b : Bool) → same_stage s u.consumer ≡ a → Move topology before (Some (Inbox u)) (Some (if a && b then Gathered s else Inbox u))
+      either true true e = subst (λ x. Move topology before (Some (Inbox u)) (Some (Gathered x))) (sym (same_stage-true s u.consumer e)) (is_gathered u)
+      either true false e = stays
+      either false b e = stays
+  move_gathered s m n (Some (Waiting t)) = stays
+  move_gathered s m n (Some (Running t)) = stays
+  move_gathered s m n (Some (Gathered t)) = stays
+  move_gathered s m n (Some (InBatch b)) = stays
+  move_gathered s m n (Some (Acked o)) = stays
+  move_gathered s m n (Some (Lost l)) = stays
+
+  move_joined : (numbers : List ℕ) (s : StageNo) (b n : ℕ) (old : Option Place) → Move topology before old (option_map (put_in_batch numbers s b n) old)
+  move_joined numbers s b n None = stays
+  move_joined numbers s b n (Some (Gathered t)) = either (same_stage s t && among numbers n)
+    where
+      either : (a : Bool) → Move topology before (Some (Gathered t)) (Some (if a then InBatch (batch_no b) else Gathered t))
+      either true = joins t _
+      either false = stays
+  move_joined numbers s b n (Some (Waiting t)) = stays
+  move_joined numbers s b n (Some (Inbox u)) = stays
+  move_joined numbers s b n (Some (Running t)) = stays
+  move_joined numbers s b n (Some (InBatch m)) = stays
+  move_joined numbers s b n (Some (Acked o)) = stays
+  move_joined numbers s b n (Some (Lost l)) = stays
