@@ -6,3 +6,4 @@ pub mod Demand
 pub mod Pending
 pub mod Lists
 pub mod Places
+pub mod Levels

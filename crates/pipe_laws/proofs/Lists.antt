@@ -65,9 +65,9 @@ tally_drop after stop before (x ∷ xs) drops =
     either : (a s b : Bool) → (a ≡ true → b ≡ true) → (s ≡ true → b ≡ true) → (s ≡ true → a ≡ false) → tally after xs + tally stop xs ≤ tally before xs → (if a then suc (tally after xs) else tally after xs) + (if s then suc (tally stop xs) else tally stop xs) ≤ (if b then suc (tally before xs) else tally before xs)
     either true true b k s p rest = clash true refl (p refl)
     either true false true k s p rest = omega arith
-    either true false false k s p rest = clash true (k refl) refl
+    either true false false k s p rest = clash false (k refl) refl
     either false true true k s p rest = omega arith
-    either false true false k s p rest = clash true (s refl) refl
+    either false true false k s p rest = clash false (s refl) refl
     either false false true k s p rest = omega arith
     either false false false k s p rest = omega arith
 
@@ -77,7 +77,7 @@ tally_le one other (x ∷ xs) h = either (one x) (other x) h.0 (tally_le one oth
   where
     either : (a b : Bool) → (a ≡ true → b ≡ true) → tally one xs ≤ tally other xs → (if a then suc (tally one xs) else tally one xs) ≤ (if b then suc (tally other xs) else tally other xs)
     either true true f rest = omega arith
-    either true false f rest = clash true (f refl) refl
+    either true false f rest = clash false (f refl) refl
     either false true f rest = omega arith
     either false false f rest = rest
 

@@ -9,6 +9,7 @@ use Rattle.pipe_types.specs.declared.topology.StageSpec.{StageSpec}
 use Rattle.pipe_types.specs.declared.message.Outcome.{Outcome}
 use Rattle.pipe_types.specs.declared.message.Outcome.TheVariants.{Successful, Failed}
 use Rattle.pipe_types.specs.declared.message.Loss.{Loss}
+use Rattle.pipe_types.specs.declared.message.Loss.TheVariants.{Killed, Overflow}
 use Rattle.pipe_types.specs.declared.message.Why.{Why}
 use Rattle.pipe_types.specs.declared.message.Place.{Place}
 use Rattle.pipe_types.specs.declared.message.Place.TheVariants.{Waiting, Inbox, Running, Gathered, InBatch, Acked, Lost}
@@ -125,7 +126,7 @@ module _ (topology : Topology) (before : History) where
   move_dispatched units over s n on None = stays
   move_dispatched units over s n on (Some (Waiting t)) = either (same_stage s t) refl
     where
-      lost_or_not : (b : Bool) → Move topology before (Some (Waiting s)) (Some (if b then Lost _ else Waiting s))
+      lost_or_not : (b : Bool) → Move topology before (Some (Waiting s)) (Some (if b then Lost (Overflow s) else Waiting s))
       lost_or_not true = ends _ _ refl
       lost_or_not false = stays
 
@@ -161,10 +162,14 @@ module _ (topology : Topology) (before : History) where
   move_answered : (b : Bool) (s : StageNo) (reply : Option Reply) → Move topology before (Some (Running s)) (Some (answered b s reply))
   move_answered true s (Some (Pass m)) = waits s
   move_answered false s (Some (Pass m)) = ends _ _ refl
-  move_answered b s (Some (FailedReply why)) = ends _ _ refl
-  move_answered b s (Some (Raised why)) = ends _ _ refl
-  move_answered b s (Some Crashed) = stays
-  move_answered b s None = stays
+  move_answered true s (Some (FailedReply why)) = ends _ _ refl
+  move_answered false s (Some (FailedReply why)) = ends _ _ refl
+  move_answered true s (Some (Raised why)) = ends _ _ refl
+  move_answered false s (Some (Raised why)) = ends _ _ refl
+  move_answered true s (Some Crashed) = stays
+  move_answered false s (Some Crashed) = stays
+  move_answered true s None = stays
+  move_answered false s None = stays
 
   move_done : (b : Bool) (chunk : List ℕ) (replies : List Reply) (s : StageNo) (n : ℕ) (old : Option Place) → Move topology before old (option_map (done b chunk replies s n) old)
   move_done b chunk replies s n None = stays
@@ -208,3 +213,110 @@ module _ (topology : Topology) (before : History) where
   move_joined numbers s b n (Some (InBatch m)) = stays
   move_joined numbers s b n (Some (Acked o)) = stays
   move_joined numbers s b n (Some (Lost l)) = stays
+
+  failed_final : (legs : List Leg) (i : ℕ) → is_final (Some (settled_as None (failed_leg legs i))) ≡ true
+  failed_final [] i = refl
+  failed_final (leg ∷ legs) i = by_place leg.sub leg.place (failed_final legs i)
+    where
+      by_outcome : (u : SubNo) (outcomes : List Outcome) (o : Option Outcome) → slice_get outcomes i ≡ o → is_final (Some (settled_as None (failed_leg legs i))) ≡ true → is_final (Some (settled_as None (failed_leg (record { sub = u; place = Answered outcomes } ∷ legs) i))) ≡ true
+      by_outcome u outcomes (Some (Failed why)) e h = rw e refl
+      by_outcome u outcomes (Some Successful) e h = rw e h
+      by_outcome u outcomes None e h = rw e h
+
+      by_place : (u : SubNo) (p : LegPlace) → is_final (Some (settled_as None (failed_leg legs i))) ≡ true → is_final (Some (settled_as None (failed_leg (record { sub = u; place = p } ∷ legs) i))) ≡ true
+      by_place u (Answered outcomes) h = by_outcome u outcomes (slice_get outcomes i) refl h
+      by_place u InInbox h = h
+      by_place u AtWork h = h
+      by_place u (LegLost loss) h = h
+
+  lost_final : (legs : List Leg) (failed : Option Place) → is_final (Some (settled_as None failed)) ≡ true → is_final (Some (settled_as (lost_leg legs) failed)) ≡ true
+  lost_final [] failed h = h
+  lost_final (leg ∷ legs) failed h = by_place leg.sub leg.place (lost_final legs failed h)
+    where
+      by_place : (u : SubNo) (p : LegPlace) → is_final (Some (settled_as (lost_leg legs) failed)) ≡ true → is_final (Some (settled_as (lost_leg (record { sub = u; place = p } ∷ legs)) failed)) ≡ true
+      by_place u (Answered outcomes) h = h
+      by_place u InInbox h = h
+      by_place u AtWork h = h
+      by_place u (LegLost loss) h = refl
+
+  pub settled_final : (legs : List Leg) (i : ℕ) → is_final (Some (settled_as (lost_leg legs) (failed_leg legs i))) ≡ true
+  settled_final legs i = lost_final legs (failed_leg legs i) (failed_final legs i)
+
+  move_by_place : (b : BatchNo) (i : ℕ) (place : BatchPlace) → Move topology before (Some (InBatch b)) (Some (place_by_batch b.0 place i))
+  move_by_place b i (AtBatcher s) = stays
+  move_by_place b i (Dropped loss) = ends _ _ refl
+  move_by_place b i (Sent legs) = either (is_settled legs)
+    where
+      either : (a : Bool) → Move topology before (Some (InBatch b)) (Some (if a then settled_as (lost_leg legs) (failed_leg legs i) else InBatch (batch_no b.0)))
+      either true = ends _ _ (settled_final legs i)
+      either false = stays
+
+  move_in_batch : (b : BatchNo) (o : Option Batch) (n : ℕ) → Move topology before (Some (InBatch b)) (Some (place_in_batch b.0 o n))
+  move_in_batch b None n = stays
+  move_in_batch b (Some x) n = move_by_place b _ x.place
+
+  move_by_batch : (after : ℕ → Option Batch) (n : ℕ) (old : Option Place) → Move topology before old (option_map (by_batch after n) old)
+  move_by_batch after n None = stays
+  move_by_batch after n (Some (InBatch b)) = move_in_batch b (after b.0) n
+  move_by_batch after n (Some (Waiting t)) = stays
+  move_by_batch after n (Some (Inbox u)) = stays
+  move_by_batch after n (Some (Running t)) = stays
+  move_by_batch after n (Some (Gathered t)) = stays
+  move_by_batch after n (Some (Acked o)) = stays
+  move_by_batch after n (Some (Lost l)) = stays
+
+  move_lost_with : (after : ℕ → Option Batch) (n i : ℕ) (s : StageNo) (why : Option Why) (p : Place) → Move topology before (Some p) (Some (by_batch after n p)) → Move topology before (Some p) (Some (by_batch after n (lost_with i s why p)))
+  move_lost_with after n i s None p h = h
+  move_lost_with after n i s (Some why) p h = ends _ _ refl
+
+  move_killed : (set : KillSet) (incarnation : StageNo → ℕ) (after : ℕ → Option Batch) (n : ℕ) (old : Option Place) → Move topology before old (option_map (λ p. by_batch after n (killed set incarnation p)) old)
+  move_killed set incarnation after n None = stays
+  move_killed set incarnation after n (Some (Waiting t)) = move_lost_with after n (incarnation t) t (reason_in set t) (Waiting t) stays
+  move_killed set incarnation after n (Some (Inbox u)) = move_lost_with after n (incarnation u.consumer) u.consumer (reason_in set u.consumer) (Inbox u) stays
+  move_killed set incarnation after n (Some (Running t)) = move_lost_with after n (incarnation t) t (reason_in set t) (Running t) stays
+  move_killed set incarnation after n (Some (Gathered t)) = move_lost_with after n (incarnation t) t (reason_in set t) (Gathered t) stays
+  move_killed set incarnation after n (Some (InBatch b)) = move_in_batch b (after b.0) n
+  move_killed set incarnation after n (Some (Acked o)) = stays
+  move_killed set incarnation after n (Some (Lost l)) = stays
+
+  move_child_place : (again : Bool) (s : StageNo) (i : ℕ) (reply : Reply) → Move topology before (Some (Running s)) (Some (child_place again s i reply))
+  move_child_place again s i (Pass m) = ends _ _ refl
+  move_child_place again s i (FailedReply why) = ends _ _ refl
+  move_child_place again s i (Raised why) = ends _ _ refl
+  move_child_place true s i Crashed = stays
+  move_child_place false s i Crashed = ends _ _ refl
+
+  move_child_ended : (again : Bool) (ended : Option ℕ) (s : StageNo) (i : ℕ) (reply : Reply) (n : ℕ) (old : Option Place) → Move topology before old (option_map (child_ended again ended s i reply n) old)
+  move_child_ended again ended s i reply n None = stays
+  move_child_ended again ended s i reply n (Some (Running t)) = either (same_stage s t) (is_number ended n) refl
+    where
+      either : (a b : Bool) → same_stage s t ≡ a → Move topology before (Some (Running t)) (Some (if a && b then child_place again s i reply else Running t))
+      either true true e = subst (λ x. Move topology before (Some (Running x)) (Some (child_place again s i reply))) (same_stage-true s t e) (move_child_place again s i reply)
+      either true false e = stays
+      either false b e = stays
+  move_child_ended again ended s i reply n (Some (Waiting t)) = stays
+  move_child_ended again ended s i reply n (Some (Inbox u)) = stays
+  move_child_ended again ended s i reply n (Some (Gathered t)) = stays
+  move_child_ended again ended s i reply n (Some (InBatch b)) = stays
+  move_child_ended again ended s i reply n (Some (Acked o)) = stays
+  move_child_ended again ended s i reply n (Some (Lost l)) = stays
+
+-- what each step does to a message is one of the moves
+pub move_by : (topology : Topology) (before : History) (step : Step) (n : ℕ) → Move topology before (place topology before n) (place topology (step ∷ before) n)
+move_by topology before (Accept s records) n = move_accepted topology before _ _ n s (place topology before n)
+move_by topology before (Late s slot i (Records records)) n = move_late topology before _ _ n s i (death topology before s) (place topology before n)
+move_by topology before (Dispatch s) n = move_dispatched topology before _ _ s n (dispatch_on topology before s n) (place topology before n)
+move_by topology before (Take s u k) n = move_taken topology before _ s n (place topology before n)
+move_by topology before (Done s replies) n = either (has_crash replies) (move_done topology before _ _ replies s n (place topology before n))
+  where
+    either : {moved : Option Place} (b : Bool) → Move topology before (place topology before n) moved → Move topology before (place topology before n) (if b then place topology before n else moved)
+    either true m = stays
+    either false m = m
+move_by topology before (Gather s m) n = move_gathered topology before s m.0 n (place topology before n)
+move_by topology before (Close s first trigger) n = move_joined topology before _ s _ n (place topology before n)
+move_by topology before (Wrote s bytes end) n = move_by_batch topology before (batch topology (Wrote s bytes end ∷ before)) n (place topology before n)
+move_by topology before (Child s m slot) n = move_taken topology before (m.0 ∷ []) s n (place topology before n)
+move_by topology before (ChildEnd s slot reply) n = move_child_ended topology before _ _ s _ reply n (place topology before n)
+move_by topology before (Kill s why) n = move_killed topology before _ _ (batch topology (Kill s why ∷ before)) n (place topology before n)
+move_by topology before Halt n = move_killed topology before _ _ (batch topology (Halt ∷ before)) n (place topology before n)
+move_by topology before _ n = stays
