@@ -7,3 +7,5 @@ pub mod Pending
 pub mod Lists
 pub mod Places
 pub mod Levels
+pub mod Entries
+pub mod Weights

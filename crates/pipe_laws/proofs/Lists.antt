@@ -1,5 +1,5 @@
 -- What holds of each element of a list, and how many elements pass a test.
-use Rattle.std.proofs.Common.{◌≡◌, ℕ, zero, suc, ◌+◌, ◌<◌, ◌≤◌, List, [], ◌∷◌, ◌++◌, map, length, take, Bool, true, false, refl, ap, sym, ◌∙◌, arith}
+use Rattle.std.proofs.Common.{◌≡◌, ℕ, zero, suc, ◌+◌, ◌<◌, ◌≤◌, List, [], ◌∷◌, ◌++◌, map, length, take, Bool, true, false, refl, ap, sym, ◌∙◌, subst, arith}
 use Rattle.std.specs.Prelude.{if◌then◌else◌, ◌==◌, ◌&&◌, ◌||◌, cond, filter}
 use Rattle.std.specs.List.{list_any}
 use Rattle.std.proofs.lemmas.Bool.{eqb-true, eq-eqb}
@@ -89,3 +89,38 @@ among_append_left (x ∷ xs) ys n h = either (x == n) h (among_append_left xs ys
     either : (b : Bool) → (b || among xs n) ≡ true → (among xs n ≡ true → among (xs ++ ys) n ≡ true) → (b || among (xs ++ ys) n) ≡ true
     either true h rest = refl
     either false h rest = rest h
+
+-- Weights
+
+abbrev pub as_number : Bool → ℕ
+as_number true = 1
+as_number false = 0
+
+-- the sum of the elements' weights
+abbrev pub weigh : {A : Type 0} → (A → ℕ) → List A → ℕ
+weigh f [] = 0
+weigh f (x ∷ xs) = f x + weigh f xs
+
+pub weigh-append : {A : Type 0} (f : A → ℕ) (xs ys : List A) → weigh f (xs ++ ys) ≡ weigh f xs + weigh f ys
+weigh-append f [] ys = omega arith
+weigh-append f (x ∷ xs) ys = omega (arith, weigh-append f xs ys)
+
+-- where each element loses so much, so does the whole
+pub weigh_drop : {A : Type 0} (after stop before : A → ℕ) (xs : List A) → Each (λ x. after x + stop x ≤ before x) xs → weigh after xs + weigh stop xs ≤ weigh before xs
+weigh_drop after stop before [] h = omega arith
+weigh_drop after stop before (x ∷ xs) h = omega (arith, h.0, weigh_drop after stop before xs h.1)
+
+pub weigh_le : {A : Type 0} (one other : A → ℕ) (xs : List A) → Each (λ x. one x ≤ other x) xs → weigh one xs ≤ weigh other xs
+weigh_le one other [] h = omega arith
+weigh_le one other (x ∷ xs) h = omega (arith, h.0, weigh_le one other xs h.1)
+
+-- the first element that a filter keeps is an element
+pub first_kept : {A : Type 0} (P : A → Type 0) (test : A → Bool) (stop : A → ℕ) (xs : List A) (y : A) (ys : List A) → Each P xs → filter test xs ≡ y ∷ ys → (test y ≡ true) × P y × (stop y ≤ weigh stop xs)
+first_kept P test stop [] y ys p e = cc
+first_kept P test stop (x ∷ xs) y ys p e = either (test x) refl e (first_kept P test stop xs y ys p.1)
+  where
+    either : (b : Bool) → test x ≡ b → cond b (x ∷ filter test xs) (filter test xs) ≡ y ∷ ys → (filter test xs ≡ y ∷ ys → (test y ≡ true) × P y × (stop y ≤ weigh stop xs)) → (test y ≡ true) × P y × (stop y ≤ stop x + weigh stop xs)
+    either true here e rest =
+        let same : x ≡ y = cc in
+        (ap test (sym same) ∙ here, subst P same p.0, subst (λ z. stop z ≤ stop x + weigh stop xs) same (omega arith))
+    either false here e rest = let t = rest e in (t.0, t.1, omega (arith, t.2))
