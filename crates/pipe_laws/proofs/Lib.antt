@@ -9,3 +9,5 @@ pub mod Places
 pub mod Levels
 pub mod Entries
 pub mod Weights
+pub mod Allowed
+pub mod Held

@@ -101,6 +101,35 @@ pub data Move (topology : Topology) (before : History) : Option Place → Option
   joins : (s : StageNo) (b : BatchNo) → Move topology before (Some (Gathered s)) (Some (InBatch b))
   ends : (p q : Place) → is_final (Some q) ≡ true → Move topology before (Some p) (Some q)
 
+-- a settled batch leaves its messages settled
+failed_final : (legs : List Leg) (i : ℕ) → is_final (Some (settled_as None (failed_leg legs i))) ≡ true
+failed_final [] i = refl
+failed_final (leg ∷ legs) i = by_place leg.sub leg.place (failed_final legs i)
+  where
+    by_outcome : (u : SubNo) (outcomes : List Outcome) (o : Option Outcome) → slice_get outcomes i ≡ o → is_final (Some (settled_as None (failed_leg legs i))) ≡ true → is_final (Some (settled_as None (failed_leg (record { sub = u; place = Answered outcomes } ∷ legs) i))) ≡ true
+    by_outcome u outcomes (Some (Failed why)) e h = rw e refl
+    by_outcome u outcomes (Some Successful) e h = rw e h
+    by_outcome u outcomes None e h = rw e h
+
+    by_place : (u : SubNo) (p : LegPlace) → is_final (Some (settled_as None (failed_leg legs i))) ≡ true → is_final (Some (settled_as None (failed_leg (record { sub = u; place = p } ∷ legs) i))) ≡ true
+    by_place u (Answered outcomes) h = by_outcome u outcomes (slice_get outcomes i) refl h
+    by_place u InInbox h = h
+    by_place u AtWork h = h
+    by_place u (LegLost loss) h = h
+
+lost_final : (legs : List Leg) (failed : Option Place) → is_final (Some (settled_as None failed)) ≡ true → is_final (Some (settled_as (lost_leg legs) failed)) ≡ true
+lost_final [] failed h = h
+lost_final (leg ∷ legs) failed h = by_place leg.sub leg.place (lost_final legs failed h)
+  where
+    by_place : (u : SubNo) (p : LegPlace) → is_final (Some (settled_as (lost_leg legs) failed)) ≡ true → is_final (Some (settled_as (lost_leg (record { sub = u; place = p } ∷ legs)) failed)) ≡ true
+    by_place u (Answered outcomes) h = h
+    by_place u InInbox h = h
+    by_place u AtWork h = h
+    by_place u (LegLost loss) h = refl
+
+pub settled_final : (legs : List Leg) (i : ℕ) → is_final (Some (settled_as (lost_leg legs) (failed_leg legs i))) ≡ true
+settled_final legs i = lost_final legs (failed_leg legs i) (failed_final legs i)
+
 module _ (topology : Topology) (before : History) where
   stays_at : (p q : Option Place) → p ≡ q → Move topology before p q
   stays_at p q e = subst (λ x. Move topology before p x) e stays
@@ -213,34 +242,6 @@ module _ (topology : Topology) (before : History) where
   move_joined numbers s b n (Some (InBatch m)) = stays
   move_joined numbers s b n (Some (Acked o)) = stays
   move_joined numbers s b n (Some (Lost l)) = stays
-
-  failed_final : (legs : List Leg) (i : ℕ) → is_final (Some (settled_as None (failed_leg legs i))) ≡ true
-  failed_final [] i = refl
-  failed_final (leg ∷ legs) i = by_place leg.sub leg.place (failed_final legs i)
-    where
-      by_outcome : (u : SubNo) (outcomes : List Outcome) (o : Option Outcome) → slice_get outcomes i ≡ o → is_final (Some (settled_as None (failed_leg legs i))) ≡ true → is_final (Some (settled_as None (failed_leg (record { sub = u; place = Answered outcomes } ∷ legs) i))) ≡ true
-      by_outcome u outcomes (Some (Failed why)) e h = rw e refl
-      by_outcome u outcomes (Some Successful) e h = rw e h
-      by_outcome u outcomes None e h = rw e h
-
-      by_place : (u : SubNo) (p : LegPlace) → is_final (Some (settled_as None (failed_leg legs i))) ≡ true → is_final (Some (settled_as None (failed_leg (record { sub = u; place = p } ∷ legs) i))) ≡ true
-      by_place u (Answered outcomes) h = by_outcome u outcomes (slice_get outcomes i) refl h
-      by_place u InInbox h = h
-      by_place u AtWork h = h
-      by_place u (LegLost loss) h = h
-
-  lost_final : (legs : List Leg) (failed : Option Place) → is_final (Some (settled_as None failed)) ≡ true → is_final (Some (settled_as (lost_leg legs) failed)) ≡ true
-  lost_final [] failed h = h
-  lost_final (leg ∷ legs) failed h = by_place leg.sub leg.place (lost_final legs failed h)
-    where
-      by_place : (u : SubNo) (p : LegPlace) → is_final (Some (settled_as (lost_leg legs) failed)) ≡ true → is_final (Some (settled_as (lost_leg (record { sub = u; place = p } ∷ legs)) failed)) ≡ true
-      by_place u (Answered outcomes) h = h
-      by_place u InInbox h = h
-      by_place u AtWork h = h
-      by_place u (LegLost loss) h = refl
-
-  pub settled_final : (legs : List Leg) (i : ℕ) → is_final (Some (settled_as (lost_leg legs) (failed_leg legs i))) ≡ true
-  settled_final legs i = lost_final legs (failed_leg legs i) (failed_final legs i)
 
   move_by_place : (b : BatchNo) (i : ℕ) (place : BatchPlace) → Move topology before (Some (InBatch b)) (Some (place_by_batch b.0 place i))
   move_by_place b i (AtBatcher s) = stays
