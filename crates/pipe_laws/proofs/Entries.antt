@@ -48,11 +48,11 @@ pub record EntryFits (topology : Topology) (before : History) (c : StageNo) (d :
 
 -- Messages
 
-fits_move : (topology : Topology) (before : History) (c : StageNo) (u : SubNo) (p q : Option Place) → Move topology before p q → MessageFits topology c u p → MessageFits topology c u q
-fits_move topology before c u p q stays fits = fits
-fits_move topology before c u p q (comes s) fits = record { far = omega (arith, fits.far); own = λ w e same. cc }
-fits_move topology before c u p q (comes_lost loss) fits = record { far = omega (arith, fits.far); own = λ w e same. cc }
-fits_move topology before c u p q (sent_on s v on) fits =
+fits_move : (topology : Topology) (before : History) (step : Step) (c : StageNo) (u : SubNo) (p q : Option Place) → Move topology before step p q → MessageFits topology c u p → MessageFits topology c u q
+fits_move topology before step c u p q stays fits = fits
+fits_move topology before step c u p q (comes s) fits = record { far = omega (arith, fits.far); own = λ w e same. cc }
+fits_move topology before step c u p q (comes_lost loss) fits = record { far = omega (arith, fits.far); own = λ w e same. cc }
+fits_move topology before step c u p q (sent_on s v on) fits =
     record {
       far = omega (arith, fits.far, feeds_down topology s v.consumer on.feeding);
       own = λ w e same. absurd (apart w e same);
@@ -65,13 +65,13 @@ fits_move topology before c u p q (sent_on s v on) fits =
         let here : rank topology v.consumer ≡ rank topology c = ap (λ x. rank topology x.consumer) is ∙ ap (rank topology) same in
         let far : 4 * rank topology c ≤ 4 * rank topology s + 3 = fits.far in
         omega arith
-fits_move topology before c u p q (runs v) fits = record { far = omega (arith, fits.far); own = λ w e same. cc }
-fits_move topology before c u p q (waits s) fits = record { far = omega (arith, fits.far); own = λ w e same. cc }
-fits_move topology before c u p q (is_gathered v) fits = record { far = omega (arith, fits.far); own = λ w e same. cc }
-fits_move topology before c u p q (joins s b) fits =
-    record { far = omega (arith, fits.far, level_grows topology before _ _ (joins s b)); own = λ w e same. cc }
-fits_move topology before c u p q (ends x y final) fits =
-    record { far = omega (arith, fits.far, level_grows topology before _ _ (ends x y final)); own = λ w e same. not_final y w final e }
+fits_move topology before step c u p q (runs v from) fits = record { far = omega (arith, fits.far); own = λ w e same. cc }
+fits_move topology before step c u p q (waits s) fits = record { far = omega (arith, fits.far); own = λ w e same. cc }
+fits_move topology before step c u p q (is_gathered v) fits = record { far = omega (arith, fits.far); own = λ w e same. cc }
+fits_move topology before step c u p q (joins s b) fits =
+    record { far = omega (arith, fits.far, level_grows topology before step _ _ (joins s b)); own = λ w e same. cc }
+fits_move topology before step c u p q (ends x y final) fits =
+    record { far = omega (arith, fits.far, level_grows topology before step _ _ (ends x y final)); own = λ w e same. not_final y w final e }
   where
     not_final : (y : Place) (w : SubNo) → is_final (Some y) ≡ true → Some y ≡ Some (Inbox w) → w ≡ u
     not_final (Inbox v) w final e = cc
@@ -133,7 +133,7 @@ entry_after topology before step c d fits =
     record {
       feeding = fits.feeding;
       consumer = fits.consumer;
-      message = λ e. fits_move topology before c d.0 _ _ (move_by topology before step d.1) (fits.message e);
+      message = λ e. fits_move topology before step c d.0 _ _ (move_by topology before step d.1) (fits.message e);
       batched = λ e. sent_batch_after topology before step d.1 (fits.batched e);
     }
 

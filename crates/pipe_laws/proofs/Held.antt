@@ -46,16 +46,16 @@ final_stands live (Inbox u) h = cc
 final_stands live (Running s) h = cc
 final_stands live (Gathered s) h = cc
 
-held_move : (topology : Topology) (before : History) (p q : Option Place) → Move topology before p q → ((s : StageNo) → p ≡ None → q ≡ Some (Waiting s) → ⊥) → stands_live (is_live topology before) p ≡ true → stands_live (is_live topology before) q ≡ true
-held_move topology before p q stays none held = held
-held_move topology before p q (comes s) none held = absurd (none s refl refl)
-held_move topology before p q (comes_lost loss) none held = refl
-held_move topology before p q (sent_on s u on) none held = on.live
-held_move topology before p q (runs u) none held = held
-held_move topology before p q (waits s) none held = held
-held_move topology before p q (is_gathered u) none held = held
-held_move topology before p q (joins s b) none held = refl
-held_move topology before p q (ends x y final) none held = final_stands (is_live topology before) y final
+held_move : (topology : Topology) (before : History) (step : Step) (p q : Option Place) → Move topology before step p q → ((s : StageNo) → p ≡ None → q ≡ Some (Waiting s) → ⊥) → stands_live (is_live topology before) p ≡ true → stands_live (is_live topology before) q ≡ true
+held_move topology before step p q stays none held = held
+held_move topology before step p q (comes s) none held = absurd (none s refl refl)
+held_move topology before step p q (comes_lost loss) none held = refl
+held_move topology before step p q (sent_on s u on) none held = on.live
+held_move topology before step p q (runs u from) none held = held
+held_move topology before step p q (waits s) none held = held
+held_move topology before step p q (is_gathered u) none held = held
+held_move topology before step p q (joins s b) none held = refl
+held_move topology before step p q (ends x y final) none held = final_stands (is_live topology before) y final
 
 none_comes : (f : Place → Place) (o : Option Place) (s : StageNo) → o ≡ None → option_map f o ≡ Some (Waiting s) → ⊥
 none_comes f None s e h = let x : None ≡ Some (Waiting s) = h in cc
@@ -183,23 +183,23 @@ held topology (Restart t ∷ before) n h =
     held_more (is_live topology before) (is_live topology (Restart t ∷ before)) (restart_live topology before t) (place topology before n)
     (held topology before n (legal_before topology before (Restart t) h))
 held topology (Done s replies ∷ before) n h =
-    held_move topology before (place topology before n) (place topology (Done s replies ∷ before) n) (move_by topology before (Done s replies) n) (either (has_crash replies) _) (held topology before n (legal_before topology before (Done s replies) h))
+    held_move topology before (Done s replies) (place topology before n) (place topology (Done s replies ∷ before) n) (move_by topology before (Done s replies) n) (either (has_crash replies) _) (held topology before n (legal_before topology before (Done s replies) h))
   where
     either : (b : Bool) (f : Place → Place) (t : StageNo) → place topology before n ≡ None → (if b then place topology before n else option_map f (place topology before n)) ≡ Some (Waiting t) → ⊥
     either true f t = same_comes (place topology before n) t
     either false f t = none_comes f (place topology before n) t
 held topology (Dispatch s ∷ before) n h =
-    held_move topology before _ _ (move_by topology before (Dispatch s) n) (none_comes _ (place topology before n)) (held topology before n (legal_before topology before (Dispatch s) h))
+    held_move topology before (Dispatch s) _ _ (move_by topology before (Dispatch s) n) (none_comes _ (place topology before n)) (held topology before n (legal_before topology before (Dispatch s) h))
 held topology (Take s u k ∷ before) n h =
-    held_move topology before _ _ (move_by topology before (Take s u k) n) (none_comes _ (place topology before n)) (held topology before n (legal_before topology before (Take s u k) h))
+    held_move topology before (Take s u k) _ _ (move_by topology before (Take s u k) n) (none_comes _ (place topology before n)) (held topology before n (legal_before topology before (Take s u k) h))
 held topology (Gather s m ∷ before) n h =
-    held_move topology before _ _ (move_by topology before (Gather s m) n) (none_comes _ (place topology before n)) (held topology before n (legal_before topology before (Gather s m) h))
+    held_move topology before (Gather s m) _ _ (move_by topology before (Gather s m) n) (none_comes _ (place topology before n)) (held topology before n (legal_before topology before (Gather s m) h))
 held topology (Close s first trigger ∷ before) n h =
-    held_move topology before _ _ (move_by topology before (Close s first trigger) n) (none_comes _ (place topology before n)) (held topology before n (legal_before topology before (Close s first trigger) h))
+    held_move topology before (Close s first trigger) _ _ (move_by topology before (Close s first trigger) n) (none_comes _ (place topology before n)) (held topology before n (legal_before topology before (Close s first trigger) h))
 held topology (Wrote s bytes end ∷ before) n h =
-    held_move topology before _ _ (move_by topology before (Wrote s bytes end) n) (none_comes _ (place topology before n)) (held topology before n (legal_before topology before (Wrote s bytes end) h))
+    held_move topology before (Wrote s bytes end) _ _ (move_by topology before (Wrote s bytes end) n) (none_comes _ (place topology before n)) (held topology before n (legal_before topology before (Wrote s bytes end) h))
 held topology (Child s m slot ∷ before) n h =
-    held_move topology before _ _ (move_by topology before (Child s m slot) n) (none_comes _ (place topology before n)) (held topology before n (legal_before topology before (Child s m slot) h))
+    held_move topology before (Child s m slot) _ _ (move_by topology before (Child s m slot) n) (none_comes _ (place topology before n)) (held topology before n (legal_before topology before (Child s m slot) h))
 held topology (ChildEnd s slot reply ∷ before) n h =
-    held_move topology before _ _ (move_by topology before (ChildEnd s slot reply) n) (none_comes _ (place topology before n)) (held topology before n (legal_before topology before (ChildEnd s slot reply) h))
+    held_move topology before (ChildEnd s slot reply) _ _ (move_by topology before (ChildEnd s slot reply) n) (none_comes _ (place topology before n)) (held topology before n (legal_before topology before (ChildEnd s slot reply) h))
 held topology (step ∷ before) n h = held topology before n (legal_before topology before step h)

@@ -10,6 +10,7 @@ use Rattle.pipe_types.specs.declared.topology.Role.TheVariants.{Producer, Proces
 use Rattle.pipe_types.specs.declared.message.Place.{Place}
 use Rattle.pipe_types.specs.declared.message.Place.TheVariants.{Waiting, Inbox, Running, Gathered, InBatch, Acked, Lost}
 use Rattle.pipe_types.specs.Stages.{feeds, spec_of, role_feeds, spec_feeds, option_feeds}
+use Rattle.pipe_types.specs.declared.step.Step.{Step}
 use Rattle.pipe_model.specs.History.{History}
 use Rattle.pipe_model.specs.Moves.{is_final}
 use Rattle.pipe_laws.proofs.Places.{Move, stays, comes, comes_lost, sent_on, runs, waits, is_gathered, joins, ends, IsOn}
@@ -101,13 +102,13 @@ level_most topology (Some (InBatch b)) = omega arith
 level_most topology (Some (Acked outcome)) = omega arith
 level_most topology (Some (Lost loss)) = omega arith
 
-pub level_grows : (topology : Topology) (before : History) (p q : Option Place) → Move topology before p q → level topology p ≤ level topology q
-level_grows topology before p q stays = omega arith
-level_grows topology before p q (comes s) = omega arith
-level_grows topology before p q (comes_lost loss) = omega arith
-level_grows topology before p q (sent_on s u on) = omega (arith, feeds_down topology s u.consumer on.feeding)
-level_grows topology before p q (runs u) = omega arith
-level_grows topology before p q (waits s) = omega arith
-level_grows topology before p q (is_gathered u) = omega arith
-level_grows topology before p q (joins s b) = omega (arith, rank_most topology s)
-level_grows topology before p q (ends x y final) = omega (arith, level_most topology (Some x), level_final topology y final)
+pub level_grows : (topology : Topology) (before : History) (step : Step) (p q : Option Place) → Move topology before step p q → level topology p ≤ level topology q
+level_grows topology before step p q stays = omega arith
+level_grows topology before step p q (comes s) = omega arith
+level_grows topology before step p q (comes_lost loss) = omega arith
+level_grows topology before step p q (sent_on s u on) = omega (arith, feeds_down topology s u.consumer on.feeding)
+level_grows topology before step p q (runs u from) = omega arith
+level_grows topology before step p q (waits s) = omega arith
+level_grows topology before step p q (is_gathered u) = omega arith
+level_grows topology before step p q (joins s b) = omega (arith, rank_most topology s)
+level_grows topology before step p q (ends x y final) = omega (arith, level_most topology (Some x), level_final topology y final)

@@ -31,7 +31,7 @@ use Rattle.pipe_model.specs.Batches.{Batch, BatchPlace, AtBatcher, Sent, Dropped
 use Rattle.pipe_model.specs.Lives.{KillSet, reason_in, is_live, current_sub, live_subs, live_subs_from, death}
 use Rattle.pipe_model.specs.Flow.{View, place, place_after, view_of, batch, batch_after, among, sends_by, rooms_by, waiting_by, subs_of, dispatched, waiting_after, lost_over, taken, done, answered, reply_to, gathered, put_in_batch, by_batch, place_in_batch, killed, lost_with, child_ended, child_place, accepted_to, late_place, is_number}
 use Rattle.pipe_model.specs.Moves.{is_final}
-use Rattle.pipe_laws.proofs.Tests.{clash, and_left, and_right, same_stage-true}
+use Rattle.pipe_laws.proofs.Tests.{clash, and_left, and_right, same_stage-true, same_stage-self}
 use Rattle.pipe_laws.proofs.Lists.{Each, each-append, each_weaker, each_filter, each_map, each_always}
 
 -- the subscription is a live one on the stage
@@ -89,17 +89,23 @@ dispatch_on topology before s n =
     subs_of_each (IsOn topology before s) (sends_by topology before (view_of topology before) s) n
     (each_weaker _ (λ d. IsOn topology before s d.sub) (λ d p. p.0) _ (sends_on topology before s (λ m. Unit {0}) (each_always (λ m. Unit {0}) (λ m. tt) _)))
 
+-- the step starts work in the stage
+abbrev pub starts : Step → StageNo → Bool
+starts (Take s u k) t = same_stage s t
+starts (Child s m slot) t = same_stage s t
+starts _ t = false
+
 -- what one step may do to a message
-pub data Move (topology : Topology) (before : History) : Option Place → Option Place → Type 0 where
-  stays : {p : Option Place} → Move topology before p p
-  comes : (s : StageNo) → Move topology before None (Some (Waiting s))
-  comes_lost : (loss : Loss) → Move topology before None (Some (Lost loss))
-  sent_on : (s : StageNo) (u : SubNo) → IsOn topology before s u → Move topology before (Some (Waiting s)) (Some (Inbox u))
-  runs : (u : SubNo) → Move topology before (Some (Inbox u)) (Some (Running u.consumer))
-  waits : (s : StageNo) → Move topology before (Some (Running s)) (Some (Waiting s))
-  is_gathered : (u : SubNo) → Move topology before (Some (Inbox u)) (Some (Gathered u.consumer))
-  joins : (s : StageNo) (b : BatchNo) → Move topology before (Some (Gathered s)) (Some (InBatch b))
-  ends : (p q : Place) → is_final (Some q) ≡ true → Move topology before (Some p) (Some q)
+pub data Move (topology : Topology) (before : History) (step : Step) : Option Place → Option Place → Type 0 where
+  stays : {p : Option Place} → Move topology before step p p
+  comes : (s : StageNo) → Move topology before step None (Some (Waiting s))
+  comes_lost : (loss : Loss) → Move topology before step None (Some (Lost loss))
+  sent_on : (s : StageNo) (u : SubNo) → IsOn topology before s u → Move topology before step (Some (Waiting s)) (Some (Inbox u))
+  runs : (u : SubNo) → starts step u.consumer ≡ true → Move topology before step (Some (Inbox u)) (Some (Running u.consumer))
+  waits : (s : StageNo) → Move topology before step (Some (Running s)) (Some (Waiting s))
+  is_gathered : (u : SubNo) → Move topology before step (Some (Inbox u)) (Some (Gathered u.consumer))
+  joins : (s : StageNo) (b : BatchNo) → Move topology before step (Some (Gathered s)) (Some (InBatch b))
+  ends : (p q : Place) → is_final (Some q) ≡ true → Move topology before step (Some p) (Some q)
 
 -- a settled batch leaves its messages settled
 failed_final : (legs : List Leg) (i : ℕ) → is_final (Some (settled_as None (failed_leg legs i))) ≡ true
@@ -130,41 +136,41 @@ lost_final (leg ∷ legs) failed h = by_place leg.sub leg.place (lost_final legs
 pub settled_final : (legs : List Leg) (i : ℕ) → is_final (Some (settled_as (lost_leg legs) (failed_leg legs i))) ≡ true
 settled_final legs i = lost_final legs (failed_leg legs i) (failed_final legs i)
 
-module _ (topology : Topology) (before : History) where
-  stays_at : (p q : Option Place) → p ≡ q → Move topology before p q
-  stays_at p q e = subst (λ x. Move topology before p x) e stays
+module _ (topology : Topology) (before : History) (step : Step) where
+  stays_at : (p q : Option Place) → p ≡ q → Move topology before step p q
+  stays_at p q e = subst (λ x. Move topology before step p x) e stays
 
-  move_accepted : (from count n : ℕ) (s : StageNo) (old : Option Place) → Move topology before old (accepted_to from count (Waiting s) n old)
+  move_accepted : (from count n : ℕ) (s : StageNo) (old : Option Place) → Move topology before step old (accepted_to from count (Waiting s) n old)
   move_accepted from count n s (Some p) = stays
   move_accepted from count n s None = either (is_among_next from count n)
     where
-      either : (b : Bool) → Move topology before None (if b then Some (Waiting s) else None)
+      either : (b : Bool) → Move topology before step None (if b then Some (Waiting s) else None)
       either true = comes s
       either false = stays
 
-  move_late : (from count n : ℕ) (s : StageNo) (i : ℕ) (why : Option Why) (old : Option Place) → Move topology before old (accepted_to from count (late_place s i why) n old)
+  move_late : (from count n : ℕ) (s : StageNo) (i : ℕ) (why : Option Why) (old : Option Place) → Move topology before step old (accepted_to from count (late_place s i why) n old)
   move_late from count n s i why (Some p) = stays
   move_late from count n s i None None = move_accepted from count n s None
   move_late from count n s i (Some why) None = either (is_among_next from count n)
     where
-      either : (b : Bool) → Move topology before None (if b then Some (late_place s i (Some why)) else None)
+      either : (b : Bool) → Move topology before step None (if b then Some (late_place s i (Some why)) else None)
       either true = comes_lost _
       either false = stays
 
-  move_dispatched : (units : List SentUnit) (over : List ℕ) (s : StageNo) (n : ℕ) → Each (IsOn topology before s) (subs_of units n) → (old : Option Place) → Move topology before old (option_map (dispatched units over s n) old)
+  move_dispatched : (units : List SentUnit) (over : List ℕ) (s : StageNo) (n : ℕ) → Each (IsOn topology before s) (subs_of units n) → (old : Option Place) → Move topology before step old (option_map (dispatched units over s n) old)
   move_dispatched units over s n on None = stays
   move_dispatched units over s n on (Some (Waiting t)) = either (same_stage s t) refl
     where
-      lost_or_not : (b : Bool) → Move topology before (Some (Waiting s)) (Some (if b then Lost (Overflow s) else Waiting s))
+      lost_or_not : (b : Bool) → Move topology before step (Some (Waiting s)) (Some (if b then Lost (Overflow s) else Waiting s))
       lost_or_not true = ends _ _ refl
       lost_or_not false = stays
 
-      here : (subs : List SubNo) → Each (IsOn topology before s) subs → Move topology before (Some (Waiting s)) (Some (waiting_after subs (among over n) s))
+      here : (subs : List SubNo) → Each (IsOn topology before s) subs → Move topology before step (Some (Waiting s)) (Some (waiting_after subs (among over n) s))
       here [] on = lost_or_not (among over n)
       here (u ∷ subs) on = sent_on s u on.0
 
-      either : (b : Bool) → same_stage s t ≡ b → Move topology before (Some (Waiting t)) (Some (if b then waiting_after (subs_of units n) (among over n) s else Waiting t))
-      either true e = subst (λ x. Move topology before (Some (Waiting x)) (Some (waiting_after (subs_of units n) (among over n) s))) (same_stage-true s t e) (here (subs_of units n) on)
+      either : (b : Bool) → same_stage s t ≡ b → Move topology before step (Some (Waiting t)) (Some (if b then waiting_after (subs_of units n) (among over n) s else Waiting t))
+      either true e = subst (λ x. Move topology before step (Some (Waiting x)) (Some (waiting_after (subs_of units n) (among over n) s))) (same_stage-true s t e) (here (subs_of units n) on)
       either false e = stays
   move_dispatched units over s n on (Some (Inbox u)) = stays
   move_dispatched units over s n on (Some (Running t)) = stays
@@ -173,22 +179,22 @@ module _ (topology : Topology) (before : History) where
   move_dispatched units over s n on (Some (Acked o)) = stays
   move_dispatched units over s n on (Some (Lost l)) = stays
 
-  move_taken : (chunk : List ℕ) (s : StageNo) (n : ℕ) (old : Option Place) → Move topology before old (option_map (taken chunk s n) old)
-  move_taken chunk s n None = stays
-  move_taken chunk s n (Some (Inbox u)) = either (same_stage s u.consumer) (among chunk n) refl
+  move_taken : (chunk : List ℕ) (s : StageNo) (n : ℕ) → starts step s ≡ true → (old : Option Place) → Move topology before step old (option_map (taken chunk s n) old)
+  move_taken chunk s n from None = stays
+  move_taken chunk s n from (Some (Inbox u)) = either (same_stage s u.consumer) (among chunk n) refl
     where
-      either : (a b : Bool) → same_stage s u.consumer ≡ a → Move topology before (Some (Inbox u)) (Some (if a && b then Running s else Inbox u))
-      either true true e = subst (λ x. Move topology before (Some (Inbox u)) (Some (Running x))) (sym (same_stage-true s u.consumer e)) (runs u)
+      either : (a b : Bool) → same_stage s u.consumer ≡ a → Move topology before step (Some (Inbox u)) (Some (if a && b then Running s else Inbox u))
+      either true true e = subst (λ x. Move topology before step (Some (Inbox u)) (Some (Running x))) (sym (same_stage-true s u.consumer e)) (runs u (subst (λ x. starts step x ≡ true) (same_stage-true s u.consumer e) from))
       either true false e = stays
       either false b e = stays
-  move_taken chunk s n (Some (Waiting t)) = stays
-  move_taken chunk s n (Some (Running t)) = stays
-  move_taken chunk s n (Some (Gathered t)) = stays
-  move_taken chunk s n (Some (InBatch b)) = stays
-  move_taken chunk s n (Some (Acked o)) = stays
-  move_taken chunk s n (Some (Lost l)) = stays
+  move_taken chunk s n from (Some (Waiting t)) = stays
+  move_taken chunk s n from (Some (Running t)) = stays
+  move_taken chunk s n from (Some (Gathered t)) = stays
+  move_taken chunk s n from (Some (InBatch b)) = stays
+  move_taken chunk s n from (Some (Acked o)) = stays
+  move_taken chunk s n from (Some (Lost l)) = stays
 
-  move_answered : (b : Bool) (s : StageNo) (reply : Option Reply) → Move topology before (Some (Running s)) (Some (answered b s reply))
+  move_answered : (b : Bool) (s : StageNo) (reply : Option Reply) → Move topology before step (Some (Running s)) (Some (answered b s reply))
   move_answered true s (Some (Pass m)) = waits s
   move_answered false s (Some (Pass m)) = ends _ _ refl
   move_answered true s (Some (FailedReply why)) = ends _ _ refl
@@ -200,12 +206,12 @@ module _ (topology : Topology) (before : History) where
   move_answered true s None = stays
   move_answered false s None = stays
 
-  move_done : (b : Bool) (chunk : List ℕ) (replies : List Reply) (s : StageNo) (n : ℕ) (old : Option Place) → Move topology before old (option_map (done b chunk replies s n) old)
+  move_done : (b : Bool) (chunk : List ℕ) (replies : List Reply) (s : StageNo) (n : ℕ) (old : Option Place) → Move topology before step old (option_map (done b chunk replies s n) old)
   move_done b chunk replies s n None = stays
   move_done b chunk replies s n (Some (Running t)) = either (same_stage s t) refl
     where
-      either : (a : Bool) → same_stage s t ≡ a → Move topology before (Some (Running t)) (Some (if a then answered b s (reply_to chunk replies n) else Running t))
-      either true e = subst (λ x. Move topology before (Some (Running x)) (Some (answered b s (reply_to chunk replies n)))) (same_stage-true s t e) (move_answered b s (reply_to chunk replies n))
+      either : (a : Bool) → same_stage s t ≡ a → Move topology before step (Some (Running t)) (Some (if a then answered b s (reply_to chunk replies n) else Running t))
+      either true e = subst (λ x. Move topology before step (Some (Running x)) (Some (answered b s (reply_to chunk replies n)))) (same_stage-true s t e) (move_answered b s (reply_to chunk replies n))
       either false e = stays
   move_done b chunk replies s n (Some (Waiting t)) = stays
   move_done b chunk replies s n (Some (Inbox u)) = stays
@@ -214,12 +220,12 @@ module _ (topology : Topology) (before : History) where
   move_done b chunk replies s n (Some (Acked o)) = stays
   move_done b chunk replies s n (Some (Lost l)) = stays
 
-  move_gathered : (s : StageNo) (m n : ℕ) (old : Option Place) → Move topology before old (option_map (gathered s m n) old)
+  move_gathered : (s : StageNo) (m n : ℕ) (old : Option Place) → Move topology before step old (option_map (gathered s m n) old)
   move_gathered s m n None = stays
   move_gathered s m n (Some (Inbox u)) = either (same_stage s u.consumer) (m == n) refl
     where
-      either : (a b : Bool) → same_stage s u.consumer ≡ a → Move topology before (Some (Inbox u)) (Some (if a && b then Gathered s else Inbox u))
-      either true true e = subst (λ x. Move topology before (Some (Inbox u)) (Some (Gathered x))) (sym (same_stage-true s u.consumer e)) (is_gathered u)
+      either : (a b : Bool) → same_stage s u.consumer ≡ a → Move topology before step (Some (Inbox u)) (Some (if a && b then Gathered s else Inbox u))
+      either true true e = subst (λ x. Move topology before step (Some (Inbox u)) (Some (Gathered x))) (sym (same_stage-true s u.consumer e)) (is_gathered u)
       either true false e = stays
       either false b e = stays
   move_gathered s m n (Some (Waiting t)) = stays
@@ -229,11 +235,11 @@ module _ (topology : Topology) (before : History) where
   move_gathered s m n (Some (Acked o)) = stays
   move_gathered s m n (Some (Lost l)) = stays
 
-  move_joined : (numbers : List ℕ) (s : StageNo) (b n : ℕ) (old : Option Place) → Move topology before old (option_map (put_in_batch numbers s b n) old)
+  move_joined : (numbers : List ℕ) (s : StageNo) (b n : ℕ) (old : Option Place) → Move topology before step old (option_map (put_in_batch numbers s b n) old)
   move_joined numbers s b n None = stays
   move_joined numbers s b n (Some (Gathered t)) = either (same_stage s t && among numbers n)
     where
-      either : (a : Bool) → Move topology before (Some (Gathered t)) (Some (if a then InBatch (batch_no b) else Gathered t))
+      either : (a : Bool) → Move topology before step (Some (Gathered t)) (Some (if a then InBatch (batch_no b) else Gathered t))
       either true = joins t _
       either false = stays
   move_joined numbers s b n (Some (Waiting t)) = stays
@@ -243,20 +249,20 @@ module _ (topology : Topology) (before : History) where
   move_joined numbers s b n (Some (Acked o)) = stays
   move_joined numbers s b n (Some (Lost l)) = stays
 
-  move_by_place : (b : BatchNo) (i : ℕ) (place : BatchPlace) → Move topology before (Some (InBatch b)) (Some (place_by_batch b.0 place i))
+  move_by_place : (b : BatchNo) (i : ℕ) (place : BatchPlace) → Move topology before step (Some (InBatch b)) (Some (place_by_batch b.0 place i))
   move_by_place b i (AtBatcher s) = stays
   move_by_place b i (Dropped loss) = ends _ _ refl
   move_by_place b i (Sent legs) = either (is_settled legs)
     where
-      either : (a : Bool) → Move topology before (Some (InBatch b)) (Some (if a then settled_as (lost_leg legs) (failed_leg legs i) else InBatch (batch_no b.0)))
+      either : (a : Bool) → Move topology before step (Some (InBatch b)) (Some (if a then settled_as (lost_leg legs) (failed_leg legs i) else InBatch (batch_no b.0)))
       either true = ends _ _ (settled_final legs i)
       either false = stays
 
-  move_in_batch : (b : BatchNo) (o : Option Batch) (n : ℕ) → Move topology before (Some (InBatch b)) (Some (place_in_batch b.0 o n))
+  move_in_batch : (b : BatchNo) (o : Option Batch) (n : ℕ) → Move topology before step (Some (InBatch b)) (Some (place_in_batch b.0 o n))
   move_in_batch b None n = stays
   move_in_batch b (Some x) n = move_by_place b _ x.place
 
-  move_by_batch : (after : ℕ → Option Batch) (n : ℕ) (old : Option Place) → Move topology before old (option_map (by_batch after n) old)
+  move_by_batch : (after : ℕ → Option Batch) (n : ℕ) (old : Option Place) → Move topology before step old (option_map (by_batch after n) old)
   move_by_batch after n None = stays
   move_by_batch after n (Some (InBatch b)) = move_in_batch b (after b.0) n
   move_by_batch after n (Some (Waiting t)) = stays
@@ -266,11 +272,11 @@ module _ (topology : Topology) (before : History) where
   move_by_batch after n (Some (Acked o)) = stays
   move_by_batch after n (Some (Lost l)) = stays
 
-  move_lost_with : (after : ℕ → Option Batch) (n i : ℕ) (s : StageNo) (why : Option Why) (p : Place) → Move topology before (Some p) (Some (by_batch after n p)) → Move topology before (Some p) (Some (by_batch after n (lost_with i s why p)))
+  move_lost_with : (after : ℕ → Option Batch) (n i : ℕ) (s : StageNo) (why : Option Why) (p : Place) → Move topology before step (Some p) (Some (by_batch after n p)) → Move topology before step (Some p) (Some (by_batch after n (lost_with i s why p)))
   move_lost_with after n i s None p h = h
   move_lost_with after n i s (Some why) p h = ends _ _ refl
 
-  move_killed : (set : KillSet) (incarnation : StageNo → ℕ) (after : ℕ → Option Batch) (n : ℕ) (old : Option Place) → Move topology before old (option_map (λ p. by_batch after n (killed set incarnation p)) old)
+  move_killed : (set : KillSet) (incarnation : StageNo → ℕ) (after : ℕ → Option Batch) (n : ℕ) (old : Option Place) → Move topology before step old (option_map (λ p. by_batch after n (killed set incarnation p)) old)
   move_killed set incarnation after n None = stays
   move_killed set incarnation after n (Some (Waiting t)) = move_lost_with after n (incarnation t) t (reason_in set t) (Waiting t) stays
   move_killed set incarnation after n (Some (Inbox u)) = move_lost_with after n (incarnation u.consumer) u.consumer (reason_in set u.consumer) (Inbox u) stays
@@ -280,19 +286,19 @@ module _ (topology : Topology) (before : History) where
   move_killed set incarnation after n (Some (Acked o)) = stays
   move_killed set incarnation after n (Some (Lost l)) = stays
 
-  move_child_place : (again : Bool) (s : StageNo) (i : ℕ) (reply : Reply) → Move topology before (Some (Running s)) (Some (child_place again s i reply))
+  move_child_place : (again : Bool) (s : StageNo) (i : ℕ) (reply : Reply) → Move topology before step (Some (Running s)) (Some (child_place again s i reply))
   move_child_place again s i (Pass m) = ends _ _ refl
   move_child_place again s i (FailedReply why) = ends _ _ refl
   move_child_place again s i (Raised why) = ends _ _ refl
   move_child_place true s i Crashed = stays
   move_child_place false s i Crashed = ends _ _ refl
 
-  move_child_ended : (again : Bool) (ended : Option ℕ) (s : StageNo) (i : ℕ) (reply : Reply) (n : ℕ) (old : Option Place) → Move topology before old (option_map (child_ended again ended s i reply n) old)
+  move_child_ended : (again : Bool) (ended : Option ℕ) (s : StageNo) (i : ℕ) (reply : Reply) (n : ℕ) (old : Option Place) → Move topology before step old (option_map (child_ended again ended s i reply n) old)
   move_child_ended again ended s i reply n None = stays
   move_child_ended again ended s i reply n (Some (Running t)) = either (same_stage s t) (is_number ended n) refl
     where
-      either : (a b : Bool) → same_stage s t ≡ a → Move topology before (Some (Running t)) (Some (if a && b then child_place again s i reply else Running t))
-      either true true e = subst (λ x. Move topology before (Some (Running x)) (Some (child_place again s i reply))) (same_stage-true s t e) (move_child_place again s i reply)
+      either : (a b : Bool) → same_stage s t ≡ a → Move topology before step (Some (Running t)) (Some (if a && b then child_place again s i reply else Running t))
+      either true true e = subst (λ x. Move topology before step (Some (Running x)) (Some (child_place again s i reply))) (same_stage-true s t e) (move_child_place again s i reply)
       either true false e = stays
       either false b e = stays
   move_child_ended again ended s i reply n (Some (Waiting t)) = stays
@@ -303,21 +309,21 @@ module _ (topology : Topology) (before : History) where
   move_child_ended again ended s i reply n (Some (Lost l)) = stays
 
 -- what each step does to a message is one of the moves
-pub move_by : (topology : Topology) (before : History) (step : Step) (n : ℕ) → Move topology before (place topology before n) (place topology (step ∷ before) n)
-move_by topology before (Accept s records) n = move_accepted topology before _ _ n s (place topology before n)
-move_by topology before (Late s slot i (Records records)) n = move_late topology before _ _ n s i (death topology before s) (place topology before n)
-move_by topology before (Dispatch s) n = move_dispatched topology before _ _ s n (dispatch_on topology before s n) (place topology before n)
-move_by topology before (Take s u k) n = move_taken topology before _ s n (place topology before n)
-move_by topology before (Done s replies) n = either (has_crash replies) (move_done topology before _ _ replies s n (place topology before n))
+pub move_by : (topology : Topology) (before : History) (step : Step) (n : ℕ) → Move topology before step (place topology before n) (place topology (step ∷ before) n)
+move_by topology before (Accept s records) n = move_accepted topology before (Accept s records) _ _ n s (place topology before n)
+move_by topology before (Late s slot i (Records records)) n = move_late topology before (Late s slot i (Records records)) _ _ n s i (death topology before s) (place topology before n)
+move_by topology before (Dispatch s) n = move_dispatched topology before (Dispatch s) _ _ s n (dispatch_on topology before s n) (place topology before n)
+move_by topology before (Take s u k) n = move_taken topology before (Take s u k) _ s n (same_stage-self s) (place topology before n)
+move_by topology before (Done s replies) n = either (has_crash replies) (move_done topology before (Done s replies) _ _ replies s n (place topology before n))
   where
-    either : {moved : Option Place} (b : Bool) → Move topology before (place topology before n) moved → Move topology before (place topology before n) (if b then place topology before n else moved)
+    either : {moved : Option Place} (b : Bool) → Move topology before (Done s replies) (place topology before n) moved → Move topology before (Done s replies) (place topology before n) (if b then place topology before n else moved)
     either true m = stays
     either false m = m
-move_by topology before (Gather s m) n = move_gathered topology before s m.0 n (place topology before n)
-move_by topology before (Close s first trigger) n = move_joined topology before _ s _ n (place topology before n)
-move_by topology before (Wrote s bytes end) n = move_by_batch topology before (batch topology (Wrote s bytes end ∷ before)) n (place topology before n)
-move_by topology before (Child s m slot) n = move_taken topology before (m.0 ∷ []) s n (place topology before n)
-move_by topology before (ChildEnd s slot reply) n = move_child_ended topology before _ _ s _ reply n (place topology before n)
-move_by topology before (Kill s why) n = move_killed topology before _ _ (batch topology (Kill s why ∷ before)) n (place topology before n)
-move_by topology before Halt n = move_killed topology before _ _ (batch topology (Halt ∷ before)) n (place topology before n)
+move_by topology before (Gather s m) n = move_gathered topology before (Gather s m) s m.0 n (place topology before n)
+move_by topology before (Close s first trigger) n = move_joined topology before (Close s first trigger) _ s _ n (place topology before n)
+move_by topology before (Wrote s bytes end) n = move_by_batch topology before (Wrote s bytes end) (batch topology (Wrote s bytes end ∷ before)) n (place topology before n)
+move_by topology before (Child s m slot) n = move_taken topology before (Child s m slot) (m.0 ∷ []) s n (same_stage-self s) (place topology before n)
+move_by topology before (ChildEnd s slot reply) n = move_child_ended topology before (ChildEnd s slot reply) _ _ s _ reply n (place topology before n)
+move_by topology before (Kill s why) n = move_killed topology before (Kill s why) _ _ (batch topology (Kill s why ∷ before)) n (place topology before n)
+move_by topology before Halt n = move_killed topology before Halt _ _ (batch topology (Halt ∷ before)) n (place topology before n)
 move_by topology before _ n = stays

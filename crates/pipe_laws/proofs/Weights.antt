@@ -75,12 +75,12 @@ final_weighs_none c u (Running s) h = cc
 final_weighs_none c u (Gathered s) h = cc
 final_weighs_none c u (InBatch b) h = cc
 
-message_move : (topology : Topology) (before : History) (u : SubNo) (p q : Option Place) → Move topology before p q → MessageFits topology u.consumer u p → message_in_hand u.consumer u q ≤ message_in_hand u.consumer u p
+message_move : (topology : Topology) (before : History) (step : Step) (u : SubNo) (p q : Option Place) → Move topology before step p q → MessageFits topology u.consumer u p → message_in_hand u.consumer u q ≤ message_in_hand u.consumer u p
 unfolding message_in_hand
-message_move topology before u p q stays fits = omega arith
-message_move topology before u p q (comes s) fits = omega arith
-message_move topology before u p q (comes_lost loss) fits = omega arith
-message_move topology before u p q (sent_on s v on) fits = either (same_sub u v) refl
+message_move topology before step u p q stays fits = omega arith
+message_move topology before step u p q (comes s) fits = omega arith
+message_move topology before step u p q (comes_lost loss) fits = omega arith
+message_move topology before step u p q (sent_on s v on) fits = either (same_sub u v) refl
   where
     either : (b : Bool) → same_sub u v ≡ b → as_number b + 0 ≤ 0
     either true e =
@@ -90,7 +90,7 @@ message_move topology before u p q (sent_on s v on) fits = either (same_sub u v)
         let far : 4 * rank topology u.consumer ≤ 4 * rank topology s + 3 = fits.far in
         omega arith)
     either false e = omega arith
-message_move topology before u p q (runs v) fits = either (same_stage u.consumer v.consumer) refl
+message_move topology before step u p q (runs v from) fits = either (same_stage u.consumer v.consumer) refl
   where
     either : (b : Bool) → same_stage u.consumer v.consumer ≡ b → 0 + as_number b ≤ as_number (same_sub u v) + 0
     either true e =
@@ -99,10 +99,10 @@ message_move topology before u p q (runs v) fits = either (same_stage u.consumer
         let one : as_number (same_sub u v) ≡ 1 = ap as_number same in
         omega arith
     either false e = omega arith
-message_move topology before u p q (waits s) fits = omega arith
-message_move topology before u p q (is_gathered v) fits = omega arith
-message_move topology before u p q (joins s b) fits = omega arith
-message_move topology before u p q (ends x y final) fits = omega (arith, final_weighs_none u.consumer u y final)
+message_move topology before step u p q (waits s) fits = omega arith
+message_move topology before step u p q (is_gathered v) fits = omega arith
+message_move topology before step u p q (joins s b) fits = omega arith
+message_move topology before step u p q (ends x y final) fits = omega (arith, final_weighs_none u.consumer u y final)
 
 -- Batches
 
@@ -358,7 +358,7 @@ weight_after topology before step u d fits = either (same_sub d.0 u) refl
     by_kind : d.0 ≡ u → (b : Bool) → is_batcher (spec_of topology u.producer) ≡ b → as_number (if b then leg_waits_in u (batch topology (step ∷ before) d.1) else in_inbox_by u (place topology (step ∷ before) d.1)) + as_number (if b then leg_works_in u (batch topology (step ∷ before) d.1) else runs_in u.consumer (place topology (step ∷ before) d.1)) ≤ as_number (if b then leg_waits_in u (batch topology before d.1) else in_inbox_by u (place topology before d.1)) + as_number (if b then leg_works_in u (batch topology before d.1) else runs_in u.consumer (place topology before d.1))
     by_kind is true e = batch_step topology before step u d.1 (fits.batched (ap (λ x. is_batcher (spec_of topology x.producer)) is ∙ e))
     by_kind is false e =
-        message_move topology before u _ _ (move_by topology before step d.1)
+        message_move topology before step u _ _ (move_by topology before step d.1)
         (subst (λ x. MessageFits topology u.consumer x (place topology before d.1)) is (fits.message (ap (λ x. is_batcher (spec_of topology x.producer)) is ∙ e)))
 
     either : (b : Bool) → same_sub d.0 u ≡ b → (if b then in_hand topology (step ∷ before) u d.1 else 0) ≤ (if b then in_hand topology before u d.1 else 0)
