@@ -11,3 +11,5 @@ pub mod Entries
 pub mod Weights
 pub mod Allowed
 pub mod Held
+pub mod Kept
+pub mod Busy

@@ -124,3 +124,36 @@ first_kept P test stop (x ∷ xs) y ys p e = either (test x) refl e (first_kept 
         let same : x ≡ y = cc in
         (ap test (sym same) ∙ here, subst P same p.0, subst (λ z. stop z ≤ stop x + weigh stop xs) same (omega arith))
     either false here e rest = let t = rest e in (t.0, t.1, omega (arith, t.2))
+
+-- The first numbers of a list
+
+pub each_among : (P : ℕ → Type 0) (xs : List ℕ) (n : ℕ) → Each P xs → among xs n ≡ true → P n
+each_among P [] n p h = cc
+each_among P (x ∷ xs) n p h = either (x == n) refl h (each_among P xs n p.1)
+  where
+    either : (b : Bool) → (x == n) ≡ b → (b || among xs n) ≡ true → (among xs n ≡ true → P n) → P n
+    either true e h rest = subst P (eqb-true x n e) p.0
+    either false e h rest = rest h
+
+pub all_among : (xs : List ℕ) → Each (λ n. among xs n ≡ true) xs
+all_among [] = tt
+all_among (x ∷ xs) =
+    (here (x == x) (eq-eqb x x refl), each_weaker (λ n. among xs n ≡ true) (λ n. among (x ∷ xs) n ≡ true) (λ n h. there (x == n) n h) xs (all_among xs))
+  where
+    here : (b : Bool) → b ≡ true → (b || among xs x) ≡ true
+    here true e = refl
+    here false e = cc
+
+    there : (b : Bool) (n : ℕ) → among xs n ≡ true → (b || among xs n) ≡ true
+    there true n h = refl
+    there false n h = h
+
+-- as many of them are among these as are taken
+pub weigh_taken : (zs ys : List ℕ) (k : ℕ) → k ≤ length ys → Each (λ n. among zs n ≡ true) (take k ys) → k ≤ weigh (λ n. as_number (among zs n)) ys
+weigh_taken zs ys zero le h = omega arith
+weigh_taken zs [] (suc k) le h = absurd (omega arith)
+weigh_taken zs (y ∷ ys) (suc k) le h =
+    let rest : k ≤ weigh (λ n. as_number (among zs n)) ys = weigh_taken zs ys k (omega arith) h.1 in
+    let one : as_number (among zs y) ≡ 1 = ap as_number h.0 in
+    omega arith
+

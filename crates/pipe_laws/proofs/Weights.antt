@@ -243,6 +243,19 @@ answered_legs s outcomes u legs = either (same_stage s u.consumer) refl
         let t = hand_change (leg_answered s outcomes) u is_in_inbox is_at_work same_waits (same_works other) legs in
         (t.0 ∙ sym (waits_any u legs), t.1 ∙ sym (works_any u legs))
 
+-- a kill leaves the work of a stage that it spares
+pub kept_legs : (set : KillSet) (incarnation : StageNo → ℕ) (u : SubNo) (legs : List Leg) → reason_in set u.consumer ≡ None → leg_works u (on_legs (λ v. leg_lost (reason_in set v.consumer) (incarnation v.consumer) v) legs) ≡ leg_works u legs
+kept_legs set incarnation u legs e =
+    works_any u (on_legs (λ v. leg_lost (reason_in set v.consumer) (incarnation v.consumer) v) legs)
+    ∙ (any_on_legs is_at_work (λ v. leg_lost (reason_in set v.consumer) (incarnation v.consumer) v) u legs
+    ∙ (any_agree (λ p. is_at_work (leg_lost (reason_in set u.consumer) (incarnation u.consumer) u p)) is_at_work (λ p. rw e (same p)) u legs ∙ sym (works_any u legs)))
+  where
+    same : (p : LegPlace) → is_at_work (leg_lost None (incarnation u.consumer) u p) ≡ is_at_work p
+    same InInbox = refl
+    same AtWork = refl
+    same (Answered o) = refl
+    same (LegLost l) = refl
+
 taken_weighs : (s : StageNo) (u : SubNo) (legs : List Leg) → legs_in_hand u (on_legs (leg_taken s) legs) ≤ legs_in_hand u legs
 unfolding legs_in_hand
 taken_weighs s u legs = either (same_stage s u.consumer) refl
