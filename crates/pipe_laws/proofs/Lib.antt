@@ -13,3 +13,4 @@ pub mod Allowed
 pub mod Held
 pub mod Kept
 pub mod Busy
+pub mod Accepted

@@ -160,7 +160,7 @@ unfolding Keeps
 maybe_kept change i keeps None h = refl
 maybe_kept change i keeps (Some x) h = keeps x.numbers x.place h
 
-is_some_map : {A B : Type 0} (f : A → B) (o : Option A) → is_some (option_map f o) ≡ true → is_some o ≡ true
+pub is_some_map : {A B : Type 0} (f : A → B) (o : Option A) → is_some (option_map f o) ≡ true → is_some o ≡ true
 is_some_map f None h = h
 is_some_map f (Some x) h = refl
 
