@@ -14,3 +14,4 @@ pub mod Held
 pub mod Kept
 pub mod Busy
 pub mod Accepted
+pub mod Replies
