@@ -15,3 +15,4 @@ pub mod Kept
 pub mod Busy
 pub mod Accepted
 pub mod Replies
+pub mod Chunks
