@@ -44,7 +44,7 @@ pub record Covers (taken chunk : List ℕ) : Type 0 where
   pub is : chunk ≡ taken ++ rest
   pub all : Each (λ n. among taken n ≡ true) rest
 
-each_take : {A : Type 0} (P : A → Type 0) (k : ℕ) (xs : List A) → Each P xs → Each P (take k xs)
+pub each_take : {A : Type 0} (P : A → Type 0) (k : ℕ) (xs : List A) → Each P xs → Each P (take k xs)
 each_take P zero xs h = tt
 each_take P (suc k) [] h = tt
 each_take P (suc k) (x ∷ xs) h = (h.0, each_take P k xs h.1)
@@ -58,7 +58,7 @@ covered_by zs (suc k) (x ∷ xs) h = either (among zs x) h.0 (covered_by zs k xs
     either true e rest = ap (λ ys. x ∷ ys) rest
     either false e rest = cc
 
-covers_take : (k : ℕ) (xs : List ℕ) → Covers (take k xs) (filter (among (take k xs)) xs)
+pub covers_take : (k : ℕ) (xs : List ℕ) → Covers (take k xs) (filter (among (take k xs)) xs)
 covers_take k xs =
     record {
       rest = filter (among (take k xs)) (drop k xs);
@@ -67,7 +67,7 @@ covers_take k xs =
     }
 
 -- a filter that keeps nothing
-none_kept : (p : ℕ → Bool) (xs : List (SubNo × ℕ)) → filter p (map (λ d. d.1) xs) ≡ [] → Each (λ d. p d.1 ≡ false) xs
+pub none_kept : (p : ℕ → Bool) (xs : List (SubNo × ℕ)) → filter p (map (λ d. d.1) xs) ≡ [] → Each (λ d. p d.1 ≡ false) xs
 none_kept p [] e = tt
 none_kept p (x ∷ xs) e = either (p x.1) refl e (none_kept p xs)
   where
@@ -75,7 +75,7 @@ none_kept p (x ∷ xs) e = either (p x.1) refl e (none_kept p xs)
     either true here e rest = cc
     either false here e rest = (here, rest e)
 
-keeps_none : (p : ℕ → Bool) (xs : List (SubNo × ℕ)) → Each (λ d. p d.1 ≡ false) xs → filter p (map (λ d. d.1) xs) ≡ []
+pub keeps_none : (p : ℕ → Bool) (xs : List (SubNo × ℕ)) → Each (λ d. p d.1 ≡ false) xs → filter p (map (λ d. d.1) xs) ≡ []
 keeps_none p [] h = refl
 keeps_none p (x ∷ xs) h = either (p x.1) h.0 (keeps_none p xs h.1)
   where
@@ -84,7 +84,7 @@ keeps_none p (x ∷ xs) h = either (p x.1) h.0 (keeps_none p xs h.1)
     either false e rest = rest
 
 -- one filter in place of three
-filters_agree : (p g : ℕ → Bool) (test on : SubNo × ℕ → Bool) (xs : List (SubNo × ℕ)) → Each (λ d. p d.1 ≡ (on d && (test d && g d.1))) xs → filter p (map (λ d. d.1) xs) ≡ filter g (map (λ d. d.1) (filter on (filter test xs)))
+pub filters_agree : (p g : ℕ → Bool) (test on : SubNo × ℕ → Bool) (xs : List (SubNo × ℕ)) → Each (λ d. p d.1 ≡ (on d && (test d && g d.1))) xs → filter p (map (λ d. d.1) xs) ≡ filter g (map (λ d. d.1) (filter on (filter test xs)))
 filters_agree p g test on [] h = refl
 filters_agree p g test on (x ∷ xs) h = either (p x.1) (test x) (on x) refl (g x.1) refl h.0 (filters_agree p g test on xs h.1)
   where
@@ -99,12 +99,12 @@ filters_agree p g test on (x ∷ xs) h = either (p x.1) (test x) (on x) refl (g 
     either true false false eo c eg e rest = cc
     either false true true eo true eg e rest = cc
 
-filter_same : (p q : ℕ → Bool) → ((n : ℕ) → p n ≡ q n) → (xs : List ℕ) → filter p xs ≡ filter q xs
+pub filter_same : (p q : ℕ → Bool) → ((n : ℕ) → p n ≡ q n) → (xs : List ℕ) → filter p xs ≡ filter q xs
 filter_same p q e [] = refl
 filter_same p q e (x ∷ xs) = λ i. cond (e x i) (x ∷ filter_same p q e xs i) (filter_same p q e xs i)
 
 -- what passes is among what the filter keeps
-kept_among : (p : ℕ → Bool) (xs : List (SubNo × ℕ)) → Each (λ d. p d.1 ≡ true → among (filter p (map (λ d. d.1) xs)) d.1 ≡ true) xs
+pub kept_among : (p : ℕ → Bool) (xs : List (SubNo × ℕ)) → Each (λ d. p d.1 ≡ true → among (filter p (map (λ d. d.1) xs)) d.1 ≡ true) xs
 kept_among p [] = tt
 kept_among p (x ∷ xs) =
     (λ h. here (p x.1) h, each_weaker (λ d. p d.1 ≡ true → among (filter p (map (λ d. d.1) xs)) d.1 ≡ true) (λ d. p d.1 ≡ true → among (filter p (map (λ d. d.1) (x ∷ xs))) d.1 ≡ true) (λ d f h. there (p x.1) d.1 (f h)) xs (kept_among p xs))
@@ -183,7 +183,7 @@ crash_dies topology before Halt t h = cc
 crash_dies topology before (Refuse l) t h = cc
 
 -- after a crash the stage lives no further step
-owed_dies : (topology : Topology) (before : History) (step : Step) (s : StageNo) → owes_crash before s ≡ true → allows topology before step ≡ true → is_live topology (step ∷ before) s ≡ false
+pub owed_dies : (topology : Topology) (before : History) (step : Step) (s : StageNo) → owes_crash before s ≡ true → allows topology before step ≡ true → is_live topology (step ∷ before) s ≡ false
 owed_dies topology (Done t replies ∷ before) step s owes h =
     subst (λ x. is_live topology (step ∷ Done t replies ∷ before) x ≡ false) (same_stage-true t s (and_right (has_crash replies) _ owes))
     (crash_dies topology (Done t replies ∷ before) step t

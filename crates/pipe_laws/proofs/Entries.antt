@@ -152,7 +152,7 @@ sends_somewhere (d ∷ units) =
     there true n h = refl
     there false n h = h
 
-delivered_each : (P : SentUnit → Type 0) (Q : SubNo × ℕ → Type 0) (c : StageNo) → ((d : SentUnit) → P d → d.sub.consumer ≡ c → Q (d.sub, d.unit)) → (units : List SentUnit) → Each P units → Each Q (delivered_to units c)
+pub delivered_each : (P : SentUnit → Type 0) (Q : SubNo × ℕ → Type 0) (c : StageNo) → ((d : SentUnit) → P d → d.sub.consumer ≡ c → Q (d.sub, d.unit)) → (units : List SentUnit) → Each P units → Each Q (delivered_to units c)
 delivered_each P Q c f [] h = tt
 delivered_each P Q c f (d ∷ units) h = either (same_stage c d.sub.consumer) refl (delivered_each P Q c f units h.1)
   where

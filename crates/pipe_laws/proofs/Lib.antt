@@ -16,3 +16,4 @@ pub mod Busy
 pub mod Accepted
 pub mod Replies
 pub mod Chunks
+pub mod Idle
