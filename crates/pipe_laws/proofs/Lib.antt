@@ -17,3 +17,4 @@ pub mod Accepted
 pub mod Replies
 pub mod Chunks
 pub mod Idle
+pub mod Slots
