@@ -18,3 +18,4 @@ pub mod Replies
 pub mod Chunks
 pub mod Idle
 pub mod Slots
+pub mod Handled

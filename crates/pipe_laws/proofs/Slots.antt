@@ -10,6 +10,7 @@ use Rattle.pipe_types.specs.declared.topology.Role.{Role}
 use Rattle.pipe_types.specs.declared.topology.Role.TheVariants.{Producer, Processor, Supervisor, Batcher, BatchProcessor}
 use Rattle.pipe_types.specs.declared.message.Place.{Place}
 use Rattle.pipe_types.specs.declared.message.Place.TheVariants.{Waiting, Inbox, Running, Gathered, InBatch, Acked, Lost}
+use Rattle.pipe_types.specs.declared.message.Reply.{Reply}
 use Rattle.pipe_types.specs.declared.step.Step.{Step}
 use Rattle.pipe_types.specs.declared.step.Step.TheVariants.{Ask, Fetch, Accept, Quiet, SourceEnd, Dispatch, Take, Done, Gather, Close, Wrote, Child, ChildEnd, Kill, Late, Restart, Tick, Drain, Halt, Refuse}
 use Rattle.pipe_types.specs.Numbers.{same_stage, same_sub, same_post, post}
@@ -181,3 +182,79 @@ one_slot topology (Child t m k ∷ before) s a b n h ea eb now =
     either false d x ex y ey ea eb rest = rest a b ea eb (ran_before topology before (Child t m k) s a n legal ea now)
 one_slot topology (step ∷ before) s a b n h ea eb now =
     one_slot topology before s a b n (legal_before topology before step h) ea eb (ran_before topology before step s a n (legal_before topology before step h) ea now)
+
+-- Children at work
+
+slot_step : (topology : Topology) (before : History) (step : Step) (s : StageNo) (slot n : ℕ) → is_live topology (step ∷ before) s ≡ true → is_current (step ∷ before) s slot ≡ true → puts_out step (post s slot) ≡ false → ends_work step s ≡ false → (is_live topology before s ≡ true → is_current before s slot ≡ true → place topology before n ≡ Some (Running s)) → place topology (step ∷ before) n ≡ Some (Running s)
+slot_step topology before step s slot n live now quiet no_end old =
+    let was : WasCurrent before step s slot = was_current before step s slot quiet now in
+    runs_kept topology before step s n no_end live (old (was_live topology before step s was.unrestarted live) was.current)
+
+and_false : (a b : Bool) → a ≡ false → (a && b) ≡ false
+and_false a b e = ap (λ x. x && b) e
+
+-- another child's end leaves the message
+ended_other : (topology : Topology) (before : History) (t s : StageNo) (k n : ℕ) (reply : Reply) → place topology before n ≡ Some (Running s) → (is_number (in_slot before t k) n ≡ true → ⊥) → place topology (ChildEnd t k reply ∷ before) n ≡ Some (Running s)
+ended_other topology before t s k n reply running other = rw (running, false_from_ne_true (is_number (in_slot before t k) n) other) (by_stage (same_stage t s) _)
+  where
+    by_stage : (b : Bool) (p : Place) → Some (if b && false then p else Running s) ≡ Some (Running s)
+    by_stage true p = refl
+    by_stage false p = refl
+
+-- while a child is out its message runs
+pub slot_runs : (topology : Topology) (before : History) (s : StageNo) (slot n : ℕ) → is_legal topology before ≡ true → has_role topology s is_supervisor_role ≡ true → is_live topology before s ≡ true → is_current before s slot ≡ true → in_slot before s slot ≡ Some n → place topology before n ≡ Some (Running s)
+slot_runs topology [] s slot n h role live now e = cc
+slot_runs topology (Child t m k ∷ before) s slot n h role live now e =
+    either (same_stage s t && k == slot) refl e (λ alive current own. slot_runs topology before s slot n legal role alive current own)
+  where
+    legal : is_legal topology before ≡ true
+    legal = legal_before topology before (Child t m k) h
+
+    flipped : (a b c : Bool) → b ≡ c → (a && b) ≡ (a && c)
+    flipped a b c e = ap (λ x. a && x) e
+
+    either : (b : Bool) → (same_stage s t && k == slot) ≡ b → (if b then Some m.0 else in_slot before s slot) ≡ Some n → (is_live topology before s ≡ true → is_current before s slot ≡ true → in_slot before s slot ≡ Some n → place topology before n ≡ Some (Running s)) → place topology (Child t m k ∷ before) n ≡ Some (Running s)
+    either true here e old =
+        let is : m.0 ≡ n = some_same m.0 n e in
+        let start : Started topology before t m.0 k = started topology before t m.0 k (legal_step topology before (Child t m k) h) in
+        ap (place topology (Child t m k ∷ before)) (sym is) ∙ (start.after ∙ ap (λ x. Some (Running x)) (sym (same_stage-true s t (and_left (same_stage s t) _ here))))
+    either false other e old =
+        slot_step topology before (Child t m k) s slot n live now (swap other) refl (λ alive current. old alive current e)
+      where
+        swap : (same_stage s t && k == slot) ≡ false → (same_stage s t && slot == k) ≡ false
+        swap f = false_from_ne_true (same_stage s t && slot == k) (λ g. clash (same_stage s t && k == slot) (both (same_stage s t) (k == slot) (and_left (same_stage s t) _ g) (eq-eqb k slot (sym (eqb-true slot k (and_right (same_stage s t) _ g))))) f)
+slot_runs topology (ChildEnd t k reply ∷ before) s slot n h role live now e =
+    let was : WasCurrent before (ChildEnd t k reply) s slot = was_current before (ChildEnd t k reply) s slot refl now in
+    let running : place topology before n ≡ Some (Running s) = slot_runs topology before s slot n (legal_before topology before (ChildEnd t k reply) h) role (was_live topology before (ChildEnd t k reply) s refl live) was.current e in
+    either (same_stage t s) refl was running
+  where
+    legal : is_legal topology before ≡ true
+    legal = legal_before topology before (ChildEnd t k reply) h
+
+    either : (b : Bool) → same_stage t s ≡ b → WasCurrent before (ChildEnd t k reply) s slot → place topology before n ≡ Some (Running s) → place topology (ChildEnd t k reply ∷ before) n ≡ Some (Running s)
+    either false other was running = runs_kept topology before (ChildEnd t k reply) s n other live running
+    either true same was running =
+        ended_other topology before t s k n reply running
+        (λ mine. let ts : t ≡ s = same_stage-true t s same in
+        let own : in_slot before s k ≡ Some n = ap (λ x. in_slot before x k) (sym ts) ∙ number_is (in_slot before t k) n mine in
+        let ks : k ≡ slot = one_slot topology before s k slot n legal own e running in
+        clash (same_stage s t && slot == k) (both (same_stage s t) (slot == k) (same_stage-flip t s same) (eq-eqb slot k (sym ks))) was.unanswered)
+slot_runs topology (Fetch t m ∷ before) s slot n h role live now e =
+    slot_step topology before (Fetch t m) s slot n live now
+    (and_false (same_stage s t) (slot == 0) (roles_apart topology s t is_supervisor_role is_producer_role supervisor_produces role (fetch_role topology before t m (legal_step topology before (Fetch t m) h)))) refl
+    (λ alive current. slot_runs topology before s slot n (legal_before topology before (Fetch t m) h) role alive current e)
+slot_runs topology (Take t u k ∷ before) s slot n h role live now e =
+    slot_step topology before (Take t u k) s slot n live now
+    (and_false (same_stage s t) (slot == 0) (roles_apart topology s t is_supervisor_role takes_role supervisor_takes role (take_facts topology before t u k (legal_step topology before (Take t u k) h)).role)) refl
+    (λ alive current. slot_runs topology before s slot n (legal_before topology before (Take t u k) h) role alive current e)
+slot_runs topology (Done t replies ∷ before) s slot n h role live now e =
+    slot_step topology before (Done t replies) s slot n live now refl
+    (other_stage s t (roles_apart topology s t is_supervisor_role is_processor_role supervisor_processes role (done_facts topology before t replies (legal_step topology before (Done t replies) h)).role))
+    (λ alive current. slot_runs topology before s slot n (legal_before topology before (Done t replies) h) role alive current e)
+slot_runs topology (Wrote t bytes end ∷ before) s slot n h role live now e =
+    slot_step topology before (Wrote t bytes end) s slot n live now refl
+    (other_stage s t (roles_apart topology s t is_supervisor_role is_batch_processor_role supervisor_writes role (wrote_facts topology before t bytes end (legal_step topology before (Wrote t bytes end) h)).role))
+    (λ alive current. slot_runs topology before s slot n (legal_before topology before (Wrote t bytes end) h) role alive current e)
+slot_runs topology (step ∷ before) s slot n h role live now e =
+    slot_step topology before step s slot n live now refl refl
+    (λ alive current. slot_runs topology before s slot n (legal_before topology before step h) role alive current e)
