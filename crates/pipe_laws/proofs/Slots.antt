@@ -22,7 +22,7 @@ use Rattle.pipe_model.specs.Flow.{place, batch, view_of, among, is_batcher, in_i
 use Rattle.pipe_model.specs.Legal.{is_legal, allows, is_current, has_role, takes_role, is_processor_role, is_producer_role, is_batcher_role, is_batch_processor_role, is_supervisor_role, first_unit, runs_number}
 use Rattle.pipe_model.specs.Moves.{is_final}
 use Rattle.pipe_laws.proofs.Tests.{clash, and_left, and_right, both, same_stage-true, same_stage-self, same_stage-flip, same_sub-true, same_sub-self}
-use Rattle.pipe_laws.proofs.Lists.{first_kept}
+use Rattle.pipe_laws.proofs.Lists.{first_kept, weigh}
 use Rattle.pipe_laws.proofs.Places.{Move, stays, comes, comes_lost, sent_on, runs, waits, is_gathered, joins, ends, move_by, starts}
 use Rattle.pipe_laws.proofs.Levels.{rank, level, level_grows}
 use Rattle.pipe_laws.proofs.Entries.{EntryFits, MessageFits, entries_fit}
@@ -258,3 +258,13 @@ slot_runs topology (Wrote t bytes end ∷ before) s slot n h role live now e =
 slot_runs topology (step ∷ before) s slot n h role live now e =
     slot_step topology before step s slot n live now refl refl
     (λ alive current. slot_runs topology before s slot n (legal_before topology before step h) role alive current e)
+
+-- the first unit of an inbox, as an entry of what was sent
+pub first_entry : (topology : Topology) (before : History) (s : StageNo) (n : ℕ) → 1 ≤ n → n ≡ first_unit (inbox topology before s) → (stop : SubNo × ℕ → ℕ) → (d : SubNo × ℕ) × (d.1 ≡ n) × EntryFits topology before s d × (in_inbox topology before d ≡ true) × (stop d ≤ weigh stop (sent_to topology before s))
+first_entry topology before s n some first stop = by_inbox (inbox topology before s) refl first
+  where
+    by_inbox : (units : List (SubNo × ℕ)) → inbox topology before s ≡ units → n ≡ first_unit units → (d : SubNo × ℕ) × (d.1 ≡ n) × EntryFits topology before s d × (in_inbox topology before d ≡ true) × (stop d ≤ weigh stop (sent_to topology before s))
+    by_inbox [] e f = absurd (let x : n ≡ 0 = f in omega arith)
+    by_inbox (d ∷ units) e f =
+        let t = first_kept (EntryFits topology before s) (in_inbox topology before) stop (sent_to topology before s) d units (entries_fit topology before s) e in
+        (d, sym f, t.1, t.0, t.2)
