@@ -19,3 +19,4 @@ pub mod Chunks
 pub mod Idle
 pub mod Slots
 pub mod Handled
+pub mod Ledgers

@@ -11,14 +11,12 @@ ghost use Rattle.pipe_types.specs.declared.numbers.StageNo.{StageNo};
 ghost use Rattle.pipe_types.specs.declared.numbers.SubNo.{SubNo};
 ghost use Rattle.pipe_types.specs.declared.topology.Topology.{Topology};
 ghost use Rattle.pipe_types.specs.declared.step.Step.{Step};
-ghost use Rattle.pipe_model.specs.History.{History, asked};
-ghost use Rattle.pipe_model.specs.Flow.{place, sent};
+ghost use Rattle.pipe_model.specs.History.{History};
+ghost use Rattle.pipe_model.specs.Flow.{place};
 ghost use Rattle.pipe_model.specs.Begins.{BeginsWith};
-ghost use Rattle.pipe_model.specs.Ledger.{pending, max_in};
 ghost use Rattle.pipe_model.specs.Legal.{is_legal};
-ghost use Rattle.pipe_types.specs.Stages.{spec_of};
 ghost use Rattle.pipe_laws.specs.Order.{AscendFrom};
-ghost use Rattle.pipe_model.specs.Claims.{StaysSettled, LegStaysSettled};
+ghost use Rattle.pipe_model.specs.Claims.{KeepsLedger, StaysSettled, LegStaysSettled};
 
 /// A tick moves no message.
 pub fn tick_moves_nothing()
@@ -99,18 +97,10 @@ pub fn settled_leg_stays()
 {
 }
 
-/// No subscription has more in flight than its consumer's greatest demand.
-#[tactic(auto, using(crate::proofs::Pending::pending_within))]
-pub fn in_flight_within_demand()
+/// On every subscription what was handled was sent, what was sent was asked, and no more than the consumer's greatest
+/// demand is in flight, kills and restarts included.
+pub fn ledgers_are_kept()
     ensures { (topology : Topology) (before : History) (u : SubNo) →
-        IsTrue (is_legal topology before) → pending topology before u ≤ max_in (spec_of topology u.consumer) }
-{
-}
-
-/// No subscription was sent more than it asked.
-#[tactic(auto, using(crate::proofs::Demand::sent_within))]
-pub fn sent_within_asked()
-    ensures { (topology : Topology) (before : History) (u : SubNo) →
-        AscendFrom 0 topology.stages → sent topology before u ≤ asked before u }
+        AscendFrom 0 topology.stages → IsTrue (is_legal topology before) → KeepsLedger topology before u }
 {
 }
