@@ -6,8 +6,7 @@ use Rattle.std.proofs.lemmas.Bool.Decides.{nat_tests}
 use Rattle.std.proofs.lemmas.Bool.{eqb-true}
 use Rattle.std.proofs.lemmas.List.Sums.{sum_by-cons}
 use Rattle.pipe_laws.proofs.Tests.{and_left, and_right, same_sub-true, clash}
-use Rattle.pipe_laws.specs.Order.{AscendFrom}
-use Rattle.pipe_laws.proofs.Numbers.{SubsAscendFrom, live_subs_ascend}
+use Rattle.pipe_laws.proofs.Numbers.{AscendFrom, SubsAscendFrom, live_subs_ascend}
 use Rattle.pipe_types.specs.declared.numbers.StageNo.{StageNo}
 use Rattle.pipe_types.specs.declared.numbers.SubNo.{SubNo}
 use Rattle.pipe_types.specs.declared.room.Room.{Room}

@@ -2,6 +2,7 @@ pub mod Tests
 pub mod Journals
 pub mod Settled
 pub mod Numbers
+pub mod Sounds
 pub mod Demand
 pub mod Pending
 pub mod Lists

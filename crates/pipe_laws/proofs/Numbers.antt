@@ -6,9 +6,13 @@ use Rattle.pipe_types.specs.declared.numbers.SubNo.{SubNo}
 use Rattle.pipe_types.specs.declared.topology.Topology.{Topology}
 use Rattle.pipe_types.specs.declared.topology.StageSpec.{StageSpec}
 use Rattle.pipe_types.specs.Stages.{feeds}
-use Rattle.pipe_laws.specs.Order.{AscendFrom}
 use Rattle.pipe_model.specs.History.{History}
 use Rattle.pipe_model.specs.Lives.{is_live, current_sub, live_subs_from, live_subs}
+
+-- the stages stand in number order, above this number
+abbrev pub AscendFrom : ℕ → List StageSpec → Type 0
+AscendFrom low [] = Unit {0}
+AscendFrom low (spec ∷ specs) = (low < spec.no.0) × AscendFrom spec.no.0 specs
 
 -- the subscriptions stand in order of their consumers, above this number
 abbrev pub SubsAscendFrom : ℕ → List SubNo → Type 0

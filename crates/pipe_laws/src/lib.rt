@@ -15,7 +15,7 @@ ghost use Rattle.pipe_model.specs.History.{History};
 ghost use Rattle.pipe_model.specs.Flow.{place};
 ghost use Rattle.pipe_model.specs.Begins.{BeginsWith};
 ghost use Rattle.pipe_model.specs.Legal.{is_legal};
-ghost use Rattle.pipe_laws.specs.Order.{AscendFrom};
+ghost use Rattle.pipe_types.specs.Sound.{IsSound};
 ghost use Rattle.pipe_model.specs.Claims.{KeepsLedger, StaysSettled, LegStaysSettled};
 
 /// A tick moves no message.
@@ -101,6 +101,6 @@ pub fn settled_leg_stays()
 /// demand is in flight, kills and restarts included.
 pub fn ledgers_are_kept()
     ensures { (topology : Topology) (before : History) (u : SubNo) →
-        AscendFrom 0 topology.stages → IsTrue (is_legal topology before) → KeepsLedger topology before u }
+        IsSound topology → IsTrue (is_legal topology before) → KeepsLedger topology before u }
 {
 }
