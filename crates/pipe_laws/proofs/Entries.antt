@@ -68,8 +68,8 @@ fits_move topology before step c u p q (sent_on s v on) fits =
 fits_move topology before step c u p q (runs v from) fits = record { far = omega (arith, fits.far); own = λ w e same. cc }
 fits_move topology before step c u p q (waits s) fits = record { far = omega (arith, fits.far); own = λ w e same. cc }
 fits_move topology before step c u p q (is_gathered v) fits = record { far = omega (arith, fits.far); own = λ w e same. cc }
-fits_move topology before step c u p q (joins s b) fits =
-    record { far = omega (arith, fits.far, level_grows topology before step _ _ (joins s b)); own = λ w e same. cc }
+fits_move topology before step c u p q (joins s b from) fits =
+    record { far = omega (arith, fits.far, level_grows topology before step _ _ (joins s b from)); own = λ w e same. cc }
 fits_move topology before step c u p q (ends x y final) fits =
     record { far = omega (arith, fits.far, level_grows topology before step _ _ (ends x y final)); own = λ w e same. not_final y w final e }
   where

@@ -225,7 +225,7 @@ running_leaves topology before step u s p q (sent_on t v on) e = cc
 running_leaves topology before step u s p q (runs v from) e = refl
 running_leaves topology before step u s p q (waits t) e = refl
 running_leaves topology before step u s p q (is_gathered v) e = refl
-running_leaves topology before step u s p q (joins t b) e = refl
+running_leaves topology before step u s p q (joins t b from) e = refl
 running_leaves topology before step u s p q (ends x y final) e = not_final y final
   where
     not_final : (y : Place) → is_final (Some y) ≡ true → in_inbox_by u (Some y) ≡ false

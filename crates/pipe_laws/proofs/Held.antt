@@ -54,7 +54,7 @@ held_move topology before step p q (sent_on s u on) none held = on.live
 held_move topology before step p q (runs u from) none held = held
 held_move topology before step p q (waits s) none held = held
 held_move topology before step p q (is_gathered u) none held = held
-held_move topology before step p q (joins s b) none held = refl
+held_move topology before step p q (joins s b from) none held = refl
 held_move topology before step p q (ends x y final) none held = final_stands (is_live topology before) y final
 
 none_comes : (f : Place → Place) (o : Option Place) (s : StageNo) → o ≡ None → option_map f o ≡ Some (Waiting s) → ⊥

@@ -83,7 +83,7 @@ runs_only topology before step s p q (runs u from) other h =
     clash (starts step u.consumer) from (ap (starts step) (sym (same_stage-true s u.consumer h)) ∙ other)
 runs_only topology before step s p q (waits t) other h = cc
 runs_only topology before step s p q (is_gathered u) other h = cc
-runs_only topology before step s p q (joins t b) other h = cc
+runs_only topology before step s p q (joins t b from) other h = cc
 runs_only topology before step s p q (ends x y final) other h = not_final y final h
   where
     not_final : (y : Place) → is_final (Some y) ≡ true → runs_in s (Some y) ≡ true → runs_in s (Some x) ≡ true

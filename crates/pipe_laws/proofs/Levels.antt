@@ -110,5 +110,5 @@ level_grows topology before step p q (sent_on s u on) = omega (arith, feeds_down
 level_grows topology before step p q (runs u from) = omega arith
 level_grows topology before step p q (waits s) = omega arith
 level_grows topology before step p q (is_gathered u) = omega arith
-level_grows topology before step p q (joins s b) = omega (arith, rank_most topology s)
+level_grows topology before step p q (joins s b from) = omega (arith, rank_most topology s)
 level_grows topology before step p q (ends x y final) = omega (arith, level_most topology (Some x), level_final topology y final)

@@ -21,3 +21,4 @@ pub mod Idle
 pub mod Slots
 pub mod Handled
 pub mod Ledgers
+pub mod Progress

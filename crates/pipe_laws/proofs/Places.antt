@@ -95,6 +95,11 @@ starts (Take s u k) t = same_stage s t
 starts (Child s m slot) t = same_stage s t
 starts _ t = false
 
+-- the step closes a batch
+abbrev pub closes : Step → Bool
+closes (Close s first trigger) = true
+closes _ = false
+
 -- what one step may do to a message
 pub data Move (topology : Topology) (before : History) (step : Step) : Option Place → Option Place → Type 0 where
   stays : {p : Option Place} → Move topology before step p p
@@ -104,7 +109,7 @@ pub data Move (topology : Topology) (before : History) (step : Step) : Option Pl
   runs : (u : SubNo) → starts step u.consumer ≡ true → Move topology before step (Some (Inbox u)) (Some (Running u.consumer))
   waits : (s : StageNo) → Move topology before step (Some (Running s)) (Some (Waiting s))
   is_gathered : (u : SubNo) → Move topology before step (Some (Inbox u)) (Some (Gathered u.consumer))
-  joins : (s : StageNo) (b : BatchNo) → Move topology before step (Some (Gathered s)) (Some (InBatch b))
+  joins : (s : StageNo) (b : BatchNo) → closes step ≡ true → Move topology before step (Some (Gathered s)) (Some (InBatch b))
   ends : (p q : Place) → is_final (Some q) ≡ true → Move topology before step (Some p) (Some q)
 
 -- a settled batch leaves its messages settled
@@ -235,19 +240,19 @@ module _ (topology : Topology) (before : History) (step : Step) where
   move_gathered s m n (Some (Acked o)) = stays
   move_gathered s m n (Some (Lost l)) = stays
 
-  move_joined : (numbers : List ℕ) (s : StageNo) (b n : ℕ) (old : Option Place) → Move topology before step old (option_map (put_in_batch numbers s b n) old)
-  move_joined numbers s b n None = stays
-  move_joined numbers s b n (Some (Gathered t)) = either (same_stage s t && among numbers n)
+  move_joined : (numbers : List ℕ) (s : StageNo) (b n : ℕ) → closes step ≡ true → (old : Option Place) → Move topology before step old (option_map (put_in_batch numbers s b n) old)
+  move_joined numbers s b n from None = stays
+  move_joined numbers s b n from (Some (Gathered t)) = either (same_stage s t && among numbers n)
     where
       either : (a : Bool) → Move topology before step (Some (Gathered t)) (Some (if a then InBatch (batch_no b) else Gathered t))
-      either true = joins t _
+      either true = joins t _ from
       either false = stays
-  move_joined numbers s b n (Some (Waiting t)) = stays
-  move_joined numbers s b n (Some (Inbox u)) = stays
-  move_joined numbers s b n (Some (Running t)) = stays
-  move_joined numbers s b n (Some (InBatch m)) = stays
-  move_joined numbers s b n (Some (Acked o)) = stays
-  move_joined numbers s b n (Some (Lost l)) = stays
+  move_joined numbers s b n from (Some (Waiting t)) = stays
+  move_joined numbers s b n from (Some (Inbox u)) = stays
+  move_joined numbers s b n from (Some (Running t)) = stays
+  move_joined numbers s b n from (Some (InBatch m)) = stays
+  move_joined numbers s b n from (Some (Acked o)) = stays
+  move_joined numbers s b n from (Some (Lost l)) = stays
 
   move_by_place : (b : BatchNo) (i : ℕ) (place : BatchPlace) → Move topology before step (Some (InBatch b)) (Some (place_by_batch b.0 place i))
   move_by_place b i (AtBatcher s) = stays
@@ -320,7 +325,7 @@ move_by topology before (Done s replies) n = either (has_crash replies) (move_do
     either true m = stays
     either false m = m
 move_by topology before (Gather s m) n = move_gathered topology before (Gather s m) s m.0 n (place topology before n)
-move_by topology before (Close s first trigger) n = move_joined topology before (Close s first trigger) _ s _ n (place topology before n)
+move_by topology before (Close s first trigger) n = move_joined topology before (Close s first trigger) _ s _ n refl (place topology before n)
 move_by topology before (Wrote s bytes end) n = move_by_batch topology before (Wrote s bytes end) (batch topology (Wrote s bytes end ∷ before)) n (place topology before n)
 move_by topology before (Child s m slot) n = move_taken topology before (Child s m slot) (m.0 ∷ []) s n (same_stage-self s) (place topology before n)
 move_by topology before (ChildEnd s slot reply) n = move_child_ended topology before (ChildEnd s slot reply) _ _ s _ reply n (place topology before n)

@@ -134,7 +134,7 @@ ran_or_stood topology before step s p q (comes_lost loss) e = cc
 ran_or_stood topology before step s p q (sent_on t u on) e = cc
 ran_or_stood topology before step s p q (waits t) e = cc
 ran_or_stood topology before step s p q (is_gathered u) e = cc
-ran_or_stood topology before step s p q (joins t b) e = cc
+ran_or_stood topology before step s p q (joins t b from) e = cc
 ran_or_stood topology before step s p q (ends x y final) e = not_final y final e
   where
     not_final : (y : Place) → is_final (Some y) ≡ true → Some y ≡ Some (Running s) → (Some x ≡ Some (Running s)) ⊎ (level topology (Some x) ≡ 4 * rank topology s)

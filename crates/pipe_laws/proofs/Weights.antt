@@ -101,7 +101,7 @@ message_move topology before step u p q (runs v from) fits = either (same_stage 
     either false e = omega arith
 message_move topology before step u p q (waits s) fits = omega arith
 message_move topology before step u p q (is_gathered v) fits = omega arith
-message_move topology before step u p q (joins s b) fits = omega arith
+message_move topology before step u p q (joins s b from) fits = omega arith
 message_move topology before step u p q (ends x y final) fits = omega (arith, final_weighs_none u.consumer u y final)
 
 -- Batches
