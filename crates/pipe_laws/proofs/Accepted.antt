@@ -1,6 +1,6 @@
 -- The accepted numbers: they and no others have a place, and each has its content.
-use Rattle.std.proofs.Common.{◌≡◌, ℕ, zero, suc, ◌+◌, ◌-◌, ◌<◌, ◌≤◌, List, [], ◌∷◌, length, Bool, true, false, refl, ap, sym, ◌∙◌, Some, None, Option, inl, inr, arith}
-use Rattle.std.specs.Prelude.{if◌then◌else◌, ◌&&◌, nat_lt, nat_le, option_map, is_some, slice_get, IsSome, ◌↔◌, ◌⊎◌}
+use Rattle.std.proofs.Common.{◌≡◌, ℕ, zero, suc, ◌+◌, ◌-◌, ◌<◌, ◌≤◌, List, [], ◌∷◌, length, Bool, true, false, refl, Some, None, Option, inl, inr, arith}
+use Rattle.std.specs.Prelude.{if◌then◌else◌, nat_lt, nat_le, option_map, is_some, slice_get, IsSome, ◌↔◌, ◌⊎◌}
 use Rattle.std.proofs.lemmas.Bool.{ltb-true, leb-true, lt-ltb, le-leb, cases_lt}
 use Rattle.pipe_types.specs.declared.numbers.StageNo.{StageNo}
 use Rattle.pipe_types.specs.declared.topology.Topology.{Topology}

@@ -1,5 +1,5 @@
 -- What each legal step says, as facts.
-use Rattle.std.proofs.Common.{◌≡◌, ℕ, ◌+◌, ◌≤◌, List, [], ◌∷◌, length, Bool, true, false, refl, ap, sym, ◌∙◌, Some, None, Option}
+use Rattle.std.proofs.Common.{◌≡◌, ℕ, ◌≤◌, List, [], ◌∷◌, length, Bool, true, false, refl, Some, None}
 use Rattle.std.specs.Prelude.{if◌then◌else◌, not, nat_le, ◌==◌, ◌&&◌, ◌||◌}
 use Rattle.std.proofs.lemmas.Bool.{eqb-true, leb-true}
 use Rattle.pipe_types.specs.declared.numbers.SubNo.{SubNo}
@@ -9,10 +9,9 @@ use Rattle.pipe_types.specs.declared.topology.Topology.{Topology}
 use Rattle.pipe_types.specs.declared.message.BatchEnd.{BatchEnd}
 use Rattle.pipe_types.specs.declared.message.BatchEnd.TheVariants.{Crashed as BatchCrashed}
 use Rattle.pipe_types.specs.declared.message.Reply.{Reply}
-use Rattle.pipe_types.specs.declared.message.Trigger.{Trigger}
 use Rattle.pipe_types.specs.declared.step.LateAnswer.{LateAnswer}
 use Rattle.pipe_types.specs.declared.step.Step.{Step}
-use Rattle.pipe_types.specs.declared.step.Step.TheVariants.{Ask, Fetch, Accept, Quiet, SourceEnd, Dispatch, Take, Done, Gather, Close, Wrote, Child, ChildEnd, Kill, Late, Restart, Tick, Drain, Halt, Refuse}
+use Rattle.pipe_types.specs.declared.step.Step.TheVariants.{Fetch, Accept, Take, Done, Gather, Wrote, Child, ChildEnd, Late, Restart}
 use Rattle.pipe_types.specs.Numbers.{post}
 use Rattle.pipe_types.specs.Stages.{spec_of}
 use Rattle.pipe_model.specs.History.{History}
@@ -22,7 +21,7 @@ use Rattle.pipe_model.specs.Content.{has_crash}
 use Rattle.pipe_model.specs.Work.{are_handled, count, chunk_of, child_of}
 use Rattle.pipe_model.specs.History.{incarnation}
 use Rattle.pipe_model.specs.Flow.{inbox, units_on, is_number}
-use Rattle.pipe_model.specs.Legal.{is_legal, allows, owed, passes, may_come, may_dispatch, happened, is_halt, is_late, is_dispatch_of, is_crash_of, has_role, takes_role, is_producer_role, is_processor_role, is_batcher_role, is_batch_processor_role, is_supervisor_role, is_current, first_sub, first_unit, chunk_size, runs_number, has_room, feeds_batchers, ends_batch, late_fits, needs_restart, no_post_out}
+use Rattle.pipe_model.specs.Legal.{is_legal, allows, owed, passes, may_come, may_dispatch, happened, is_halt, is_late, is_dispatch_of, is_crash_of, has_role, takes_role, is_producer_role, is_processor_role, is_batcher_role, is_batch_processor_role, is_supervisor_role, is_current, first_sub, first_unit, chunk_size, runs_number, has_room, feeds_batchers, ends_batch, late_fits, needs_restart}
 use Rattle.pipe_laws.proofs.Tests.{and_left, and_right, not_true}
 
 -- the journal before a legal one's last step is legal, and allowed it

@@ -1,10 +1,9 @@
 -- A stage at work on a take works on at least as many units of the subscription as it took.
-use Rattle.std.proofs.Common.{◌≡◌, ℕ, zero, suc, ◌+◌, ◌-◌, ◌<◌, ◌≤◌, List, [], ◌∷◌, ◌++◌, map, length, take, Bool, true, false, refl, ap, sym, ◌∙◌, subst, Some, None, Option, arith}
-use Rattle.std.specs.Prelude.{if◌then◌else◌, not, ◌==◌, ◌&&◌, ◌||◌, option_map, is_some, is_none, filter, cond, min}
-use Rattle.std.proofs.lemmas.Bool.{eqb-true, eq-eqb}
+use Rattle.std.proofs.Common.{◌≡◌, ℕ, ◌+◌, ◌≤◌, List, [], ◌∷◌, map, length, Bool, true, false, refl, ap, sym, ◌∙◌, subst, Some, None, Option, arith}
+use Rattle.std.specs.Prelude.{if◌then◌else◌, not, ◌==◌, ◌&&◌, ◌||◌, option_map, is_some, is_none, filter, cond}
+use Rattle.std.proofs.lemmas.Bool.{eqb-true}
 use Rattle.pipe_types.specs.declared.numbers.SubNo.{SubNo}
 use Rattle.pipe_types.specs.declared.numbers.StageNo.{StageNo}
-use Rattle.pipe_types.specs.declared.numbers.Post.{Post}
 use Rattle.pipe_types.specs.declared.topology.Topology.{Topology}
 use Rattle.pipe_types.specs.declared.topology.StageSpec.{StageSpec}
 use Rattle.pipe_types.specs.declared.topology.Role.{Role}
@@ -14,17 +13,17 @@ use Rattle.pipe_types.specs.declared.message.Place.TheVariants.{Waiting, Inbox, 
 use Rattle.pipe_types.specs.declared.message.Why.{Why}
 use Rattle.pipe_types.specs.declared.step.Step.{Step}
 use Rattle.pipe_types.specs.declared.step.Step.TheVariants.{Ask, Fetch, Accept, Quiet, SourceEnd, Dispatch, Take, Done, Gather, Close, Wrote, Child, ChildEnd, Kill, Late, Restart, Tick, Drain, Halt, Refuse}
-use Rattle.pipe_types.specs.Numbers.{same_stage, same_sub, same_post, post}
+use Rattle.pipe_types.specs.Numbers.{same_stage, same_sub, post}
 use Rattle.pipe_types.specs.Stages.{spec_of}
 use Rattle.pipe_model.specs.History.{History, incarnation, incarnation_after}
 use Rattle.pipe_model.specs.Posts.{puts_out, answers, is_out, out_from, last_take}
 use Rattle.pipe_model.specs.Lives.{is_live, is_alive, death, death_after, restarts, reason_in, killed_by, generation}
-use Rattle.pipe_model.specs.Flow.{place, batch, view_of, among, is_batcher, in_inbox_by, leg_waits_in, runs_in, sent_to, inbox, units_on, next_units, taken, change_place, delivered_to, sends_by}
+use Rattle.pipe_model.specs.Flow.{place, batch, view_of, among, is_batcher, in_inbox_by, leg_waits_in, runs_in, sent_to, inbox, units_on, next_units, change_place, delivered_to, sends_by}
 use Rattle.pipe_model.specs.Batches.{Batch, BatchPlace, AtBatcher, Sent, Dropped, Leg, on_legs, leg_taken, batch_on_legs}
 use Rattle.pipe_model.specs.Flow.{leg_waits}
 use Rattle.pipe_model.specs.Legal.{is_legal, allows, is_current, has_role, takes_role, is_producer_role, is_supervisor_role, first_sub, chunk_size}
-use Rattle.pipe_laws.proofs.Tests.{clash, and_left, and_right, both, same_stage-true, same_stage-self, same_stage-flip, same_sub-true, same_sub-self}
-use Rattle.pipe_laws.proofs.Lists.{Each, each_always, each_weaker, as_number, weigh, weigh_le, weigh-append, weigh_taken, all_among, first_kept}
+use Rattle.pipe_laws.proofs.Tests.{clash, and_left, and_right, same_stage-true, same_stage-self, same_stage-flip, same_sub-true}
+use Rattle.pipe_laws.proofs.Lists.{each_always, as_number, weigh, weigh_le, weigh-append, weigh_taken, all_among, first_kept}
 use Rattle.pipe_laws.proofs.Entries.{EntryFits, entries_fit}
 use Rattle.pipe_laws.proofs.Weights.{stands, works, taken_legs, works_at, leg_works, leg_works_in}
 use Rattle.pipe_laws.proofs.Allowed.{TakeFacts, legal_before, legal_step, take_facts, fetch_role, child_facts, child_end_facts}
@@ -287,7 +286,7 @@ take_busy topology before s u k h =
           let size : k ≤ length (units_on u (inbox topology before s)) = omega (arith, facts.size, chunk_within (spec_of topology s) (length (units_on u (inbox topology before s)))) in
           let many : k ≤ weigh (λ n. as_number (among chunk n)) (units_on u (inbox topology before s)) = weigh_taken chunk (units_on u (inbox topology before s)) k size (all_among chunk) in
           let same : weigh (λ n. as_number (among chunk n)) (units_on u (inbox topology before s)) ≡ weigh (λ d. as_number (same_sub d.0 u && (in_inbox topology before d && among chunk d.1))) (sent_to topology before s) =
-              filtered_weight (in_inbox topology before) (λ d. same_sub d.0 u) (among chunk) (sent_to topology before s) in
+          filtered_weight (in_inbox topology before) (λ d. same_sub d.0 u) (among chunk) (sent_to topology before s) in
           omega (arith, weigh_le (λ d. as_number (same_sub d.0 u && (in_inbox topology before d && among chunk d.1))) (work_weight topology (Take s u k ∷ before) u) (sent_to topology before s) (each_always _ each _));
     }
   where

@@ -1,40 +1,24 @@
 -- What runs in a processor is what it took last, while it is at work, and else nothing.
-use Rattle.std.proofs.Common.{◌≡◌, ℕ, zero, suc, ◌+◌, ◌<◌, ◌≤◌, List, [], ◌∷◌, ◌++◌, map, length, take, drop, Bool, true, false, refl, ap, sym, ◌∙◌, subst, Some, None, Option, arith}
-use Rattle.std.specs.Prelude.{if◌then◌else◌, not, ◌==◌, ◌&&◌, ◌||◌, option_map, is_some, is_none, filter, cond}
-use Rattle.std.proofs.lemmas.Bool.{eqb-true, eq-eqb}
-use Rattle.std.proofs.lemmas.List.Elements.{filter-append}
+use Rattle.std.proofs.Common.{◌≡◌, ℕ, zero, suc, List, [], ◌∷◌, ◌++◌, map, take, drop, Bool, true, false, refl, ap, sym, subst, Some, None, Option}
+use Rattle.std.specs.Prelude.{if◌then◌else◌, not, ◌==◌, ◌&&◌, ◌||◌, is_some, filter, cond}
+use Rattle.std.proofs.lemmas.Bool.{eq-eqb}
 use Rattle.pipe_types.specs.declared.numbers.SubNo.{SubNo}
 use Rattle.pipe_types.specs.declared.numbers.StageNo.{StageNo}
 use Rattle.pipe_types.specs.declared.topology.Topology.{Topology}
 use Rattle.pipe_types.specs.declared.topology.StageSpec.{StageSpec}
-use Rattle.pipe_types.specs.declared.topology.Role.{Role}
-use Rattle.pipe_types.specs.declared.topology.Role.TheVariants.{Producer, Processor, Supervisor, Batcher, BatchProcessor}
-use Rattle.pipe_types.specs.declared.message.Place.{Place}
-use Rattle.pipe_types.specs.declared.message.Place.TheVariants.{Waiting, Inbox, Running, Gathered, InBatch, Acked, Lost}
 use Rattle.pipe_types.specs.declared.message.Why.{Why}
 use Rattle.pipe_types.specs.declared.message.Why.TheVariants.{Crash, Kill as KillWhy, Stop, Cancelled, Limit}
-use Rattle.pipe_types.specs.declared.message.Reply.{Reply}
 use Rattle.pipe_types.specs.declared.step.Step.{Step}
 use Rattle.pipe_types.specs.declared.step.Step.TheVariants.{Ask, Fetch, Accept, Quiet, SourceEnd, Dispatch, Take, Done, Gather, Close, Wrote, Child, ChildEnd, Kill, Late, Restart, Tick, Drain, Halt, Refuse}
-use Rattle.pipe_types.specs.Numbers.{stage, same_stage, same_sub, same_post, post}
-use Rattle.pipe_types.specs.Stages.{spec_of, feeds, option_feeds, role_feeds}
-use Rattle.pipe_model.specs.History.{History, incarnation}
-use Rattle.pipe_model.specs.Posts.{puts_out, answers, is_out, out_from, last_take}
-use Rattle.pipe_model.specs.Lives.{KillSet, is_live, death, restarts, reason_in, cascade, cascade_at, generation, kill_set}
-use Rattle.pipe_model.specs.Content.{has_crash, content}
-use Rattle.pipe_model.specs.Work.{taken_units, chunk_of}
-use Rattle.pipe_model.specs.Flow.{place, batch, view_of, among, is_batcher, in_inbox_by, leg_waits_in, runs_in, waits_in, sent_to, inbox, units_on, next_units, taken, chunk_by, delivered_to, sends_by, has_batchers_in, done, reply_to}
-use Rattle.pipe_model.specs.Legal.{is_legal, allows, owed, is_current, has_role, takes_role, is_processor_role, is_producer_role, is_batch_processor_role, is_supervisor_role, is_crash_of, passes, may_come, happened, is_halt, is_late, has_ended, is_limit, same_truth, may_end}
-use Rattle.pipe_laws.proofs.Tests.{clash, and_left, and_right, both, not_true, same_stage-true, same_stage-self, same_stage-flip, same_sub-true, same_sub-self}
-use Rattle.pipe_laws.proofs.Lists.{Each, each_always, each_weaker, each_both, each_filter, each_map, each_among, all_among, each-append}
-use Rattle.pipe_laws.proofs.Places.{move_by, starts, IsOn, sends_on}
-use Rattle.pipe_laws.proofs.Entries.{EntryFits, MessageFits, entries_fit, is_waiting, waiting_each, waits_here}
-use Rattle.pipe_laws.proofs.Allowed.{legal_before, legal_step, unowed, TakeFacts, take_facts, DoneFacts, done_facts, wrote_facts, child_facts, child_end_facts, accept_role, fetch_role, LateFacts, late_facts, restart_dead}
-use Rattle.pipe_laws.proofs.Held.{held, killed_dead}
-use Rattle.pipe_laws.proofs.Kept.{ends_work, runs_same, runs_only, runs_here}
-use Rattle.pipe_laws.proofs.Busy.{WasCurrent, was_current, was_live, two_roles, same_incarnation, in_inbox, inbox_here, take_there}
-use Rattle.pipe_laws.proofs.Accepted.{placed_content, content_kept}
-use Rattle.pipe_laws.proofs.Replies.{handled_length, messages_length, reply_some, replied_stops}
+use Rattle.pipe_types.specs.Numbers.{same_stage}
+use Rattle.pipe_model.specs.History.{History}
+use Rattle.pipe_model.specs.Lives.{KillSet, is_live, death, reason_in, cascade, cascade_at, generation, kill_set}
+use Rattle.pipe_model.specs.Content.{has_crash}
+use Rattle.pipe_model.specs.Flow.{among}
+use Rattle.pipe_model.specs.Legal.{allows, is_crash_of, passes, may_come, happened, is_halt, is_late}
+use Rattle.pipe_laws.proofs.Tests.{and_left, and_right, same_stage-true, same_stage-self}
+use Rattle.pipe_laws.proofs.Lists.{Each, each_always, each_weaker, each_filter, all_among}
+use Rattle.pipe_laws.proofs.Held.{killed_dead}
 
 -- Lists
 

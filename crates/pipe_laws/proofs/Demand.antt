@@ -1,11 +1,10 @@
 -- No dispatch sends more than was asked.
-use Rattle.std.proofs.Common.{◌≡◌, ℕ, zero, suc, ◌+◌, ◌-◌, ◌<◌, ◌≤◌, List, [], ◌∷◌, ◌++◌, map, length, Bool, true, false, refl, ap, sym, ◌∙◌, subst, Some, None, Option, arith}
-use Rattle.std.specs.Prelude.{if◌then◌else◌, nat_le, nat_lt, ◌&&◌, ◌==◌, ◌||◌, cond, filter, count_by}
+use Rattle.std.proofs.Common.{◌≡◌, ℕ, ◌+◌, ◌-◌, ◌<◌, ◌≤◌, List, [], ◌∷◌, ◌++◌, map, length, Bool, true, false, refl, ap, sym, ◌∙◌, subst, Some, None, Option, arith}
+use Rattle.std.specs.Prelude.{if◌then◌else◌, nat_le, nat_lt, ◌&&◌, ◌==◌, cond, filter, count_by}
 use Rattle.std.specs.List.{list_all}
 use Rattle.std.proofs.lemmas.Bool.Decides.{nat_tests}
-use Rattle.std.proofs.lemmas.Bool.{eqb-true}
 use Rattle.std.proofs.lemmas.List.Sums.{sum_by-cons}
-use Rattle.pipe_laws.proofs.Tests.{and_left, and_right, same_sub-true, clash}
+use Rattle.pipe_laws.proofs.Tests.{and_left, and_right, same_sub-true}
 use Rattle.pipe_laws.proofs.Numbers.{AscendFrom, SubsAscendFrom, live_subs_ascend}
 use Rattle.pipe_types.specs.declared.numbers.StageNo.{StageNo}
 use Rattle.pipe_types.specs.declared.numbers.SubNo.{SubNo}
@@ -16,7 +15,7 @@ use Rattle.pipe_types.specs.declared.topology.Dispatch.{Dispatch as DispatchKind
 use Rattle.pipe_types.specs.declared.topology.Dispatch.TheVariants.{Demand, Broadcast, Partition}
 use Rattle.pipe_types.specs.declared.step.Step.{Step}
 use Rattle.pipe_types.specs.declared.step.Step.TheVariants.{Ask, Dispatch}
-use Rattle.pipe_types.specs.Numbers.{same_sub, same_stage}
+use Rattle.pipe_types.specs.Numbers.{same_sub}
 use Rattle.pipe_types.specs.Dispatchers.{ahead, goes, on_each, sends_from, sends}
 use Rattle.pipe_types.specs.Stages.{spec_of}
 use Rattle.pipe_model.specs.History.{History, asked, asked_after}
@@ -94,9 +93,9 @@ sends_within : (kind : DispatchKind) (low : ℕ) (rooms : List Room) (u : SubNo)
 sends_within kind low rooms u r count cap ascend is counts earlier [] = omega arith
 sends_within kind low rooms u r count cap ascend is counts earlier (unit ∷ units) =
     let each : count_on (on_each unit.0 (filter (goes kind rooms earlier unit.1) rooms)) u ≡ as_number (goes kind rooms earlier unit.1 r) =
-        count_each unit.0 (goes kind rooms earlier unit.1) low rooms u ascend ∙ ap (passing (goes kind rooms earlier unit.1)) is in
+    count_each unit.0 (goes kind rooms earlier unit.1) low rooms u ascend ∙ ap (passing (goes kind rooms earlier unit.1)) is in
     let both_parts : count_on (sends_from kind rooms earlier (unit ∷ units)) u ≡ count_on (on_each unit.0 (filter (goes kind rooms earlier unit.1) rooms)) u + count_on (sends_from kind rooms (unit.1 ∷ earlier) units) u =
-        count_on-append _ (sends_from kind rooms (unit.1 ∷ earlier) units) u in
+    count_on-append _ (sends_from kind rooms (unit.1 ∷ earlier) units) u in
     either (goes kind rooms earlier unit.1 r) refl each both_parts (sends_within kind low rooms u r count cap ascend is counts (unit.1 ∷ earlier) units)
   where
     either : (b : Bool) → goes kind rooms earlier unit.1 r ≡ b → count_on (on_each unit.0 (filter (goes kind rooms earlier unit.1) rooms)) u ≡ as_number b → count_on (sends_from kind rooms earlier (unit ∷ units)) u ≡ count_on (on_each unit.0 (filter (goes kind rooms earlier unit.1) rooms)) u + count_on (sends_from kind rooms (unit.1 ∷ earlier) units) u → count_on (sends_from kind rooms (unit.1 ∷ earlier) units) u ≤ cap - count (unit.1 ∷ earlier) → count_on (sends_from kind rooms earlier (unit ∷ units)) u ≤ cap - count earlier
@@ -107,10 +106,10 @@ sends_none : (kind : DispatchKind) (low : ℕ) (rooms : List Room) (u : SubNo) �
 sends_none kind low rooms u ascend is earlier [] = refl
 sends_none kind low rooms u ascend is earlier (unit ∷ units) =
     let each : count_on (on_each unit.0 (filter (goes kind rooms earlier unit.1) rooms)) u ≡ 0 =
-        count_each unit.0 (goes kind rooms earlier unit.1) low rooms u ascend ∙ ap (passing (goes kind rooms earlier unit.1)) is in
+    count_each unit.0 (goes kind rooms earlier unit.1) low rooms u ascend ∙ ap (passing (goes kind rooms earlier unit.1)) is in
     let rest : count_on (sends_from kind rooms (unit.1 ∷ earlier) units) u ≡ 0 = sends_none kind low rooms u ascend is (unit.1 ∷ earlier) units in
     let sum : count_on (sends_from kind rooms earlier (unit ∷ units)) u ≡ count_on (on_each unit.0 (filter (goes kind rooms earlier unit.1) rooms)) u + count_on (sends_from kind rooms (unit.1 ∷ earlier) units) u =
-        count_on-append _ (sends_from kind rooms (unit.1 ∷ earlier) units) u in
+    count_on-append _ (sends_from kind rooms (unit.1 ∷ earlier) units) u in
     omega arith
 
 demand_counts : (rooms : List Room) (r : Room) → Counts (λ earlier part. goes Demand rooms earlier part r) (λ earlier. length earlier - ahead rooms r) r.left

@@ -1,6 +1,6 @@
 -- What was sent to a consumer: each unit came on a subscription that feeds it, and has been on its way since.
-use Rattle.std.proofs.Common.{◌≡◌, ℕ, ◌+◌, ◌*◌, ◌<◌, ◌≤◌, List, [], ◌∷◌, ◌++◌, Bool, true, false, refl, ap, sym, ◌∙◌, subst, Some, None, Option, arith}
-use Rattle.std.specs.Prelude.{option_map, if◌then◌else◌, ◌==◌, ◌&&◌, is_some, filter, cond}
+use Rattle.std.proofs.Common.{◌≡◌, ℕ, ◌+◌, ◌*◌, ◌≤◌, List, [], ◌∷◌, Bool, true, false, refl, ap, sym, ◌∙◌, subst, Some, None, Option, arith}
+use Rattle.std.specs.Prelude.{option_map, if◌then◌else◌, ◌==◌, is_some}
 use Rattle.std.proofs.lemmas.Bool.{eqb-true, eq-eqb}
 use Rattle.pipe_types.specs.declared.numbers.SubNo.{SubNo}
 use Rattle.pipe_types.specs.declared.numbers.StageNo.{StageNo}
@@ -11,15 +11,15 @@ use Rattle.pipe_types.specs.declared.message.BatchEnd.TheVariants.{Outcomes}
 use Rattle.pipe_types.specs.declared.room.Sent.{Sent as SentUnit}
 use Rattle.pipe_types.specs.declared.step.Step.{Step}
 use Rattle.pipe_types.specs.declared.step.Step.TheVariants.{Dispatch, Take, Close, Wrote, Kill, Halt}
-use Rattle.pipe_types.specs.Numbers.{same_stage, same_sub}
+use Rattle.pipe_types.specs.Numbers.{same_stage}
 use Rattle.pipe_types.specs.Stages.{feeds, spec_of}
 use Rattle.pipe_model.specs.History.{History, closed}
-use Rattle.pipe_model.specs.Batches.{Batch, BatchPlace, AtBatcher, Sent, Dropped, Leg, batch_sent, batch_on_legs, batch_killed, leg_taken}
+use Rattle.pipe_model.specs.Batches.{Batch, BatchPlace, AtBatcher, Sent, Dropped, Leg, batch_sent, batch_on_legs, leg_taken}
 use Rattle.pipe_model.specs.Lives.{current_sub}
-use Rattle.pipe_model.specs.Flow.{View, place, view_of, batch, among, is_empty, is_batcher, waits_in, batch_waits_in, sends_by, waiting_by, subs_of, dispatched, waiting_after, lost_over, delivered_to, sent_to, change_place, new_batch, next_units, closing}
+use Rattle.pipe_model.specs.Flow.{place, view_of, batch, among, is_empty, is_batcher, waits_in, batch_waits_in, sends_by, waiting_by, subs_of, dispatched, waiting_after, lost_over, delivered_to, sent_to, change_place, new_batch, next_units, closing}
 use Rattle.pipe_model.specs.Content.{arrivals}
 use Rattle.pipe_model.specs.Moves.{is_final}
-use Rattle.pipe_laws.proofs.Tests.{clash, same_stage-true, same_stage-self}
+use Rattle.pipe_laws.proofs.Tests.{same_stage-true, same_stage-self}
 use Rattle.pipe_laws.proofs.Lists.{Each, each-append, each_weaker, each_both, each_filter, each_always}
 use Rattle.pipe_laws.proofs.Places.{Move, stays, comes, comes_lost, sent_on, runs, waits, is_gathered, joins, ends, IsOn, move_by, sends_on, dispatch_on}
 use Rattle.pipe_laws.proofs.Levels.{rank, level, level_grows, feeds_down}
@@ -140,9 +140,10 @@ entry_after topology before step c d fits =
 -- each unit that is sent goes on some subscription
 pub sends_somewhere : (units : List SentUnit) → Each (λ d. is_empty (subs_of units d.unit) ≡ false) units
 sends_somewhere [] = tt
-sends_somewhere (d ∷ units) =
-    (here (d.unit == d.unit) (eq-eqb d.unit d.unit refl),
-    each_weaker (λ e. is_empty (subs_of units e.unit) ≡ false) (λ e. is_empty (subs_of (d ∷ units) e.unit) ≡ false) (λ e h. there (d.unit == e.unit) e.unit h) units (sends_somewhere units))
+sends_somewhere (d ∷ units) = (
+  here (d.unit == d.unit) (eq-eqb d.unit d.unit refl),
+  each_weaker (λ e. is_empty (subs_of units e.unit) ≡ false) (λ e. is_empty (subs_of (d ∷ units) e.unit) ≡ false) (λ e h. there (d.unit == e.unit) e.unit h) units (sends_somewhere units),
+)
   where
     here : (b : Bool) → b ≡ true → is_empty (if b then d.sub ∷ subs_of units d.unit else subs_of units d.unit) ≡ false
     here true e = refl

@@ -1,7 +1,7 @@
 -- No subscription has handled more than it was sent.
-use Rattle.std.proofs.Common.{◌≡◌, ℕ, zero, suc, ◌+◌, ◌-◌, ◌*◌, ◌<◌, ◌≤◌, List, [], ◌∷◌, ◌++◌, map, length, Bool, true, false, refl, ap, sym, ◌∙◌, subst, Some, None, Option, inl, inr, arith}
-use Rattle.std.specs.Prelude.{if◌then◌else◌, not, ◌==◌, ◌&&◌, ◌||◌, option_map, is_some, ◌⊎◌}
-use Rattle.std.proofs.lemmas.Bool.{eqb-true, eq-eqb, false_from_ne_true}
+use Rattle.std.proofs.Common.{◌≡◌, ℕ, ◌+◌, ◌≤◌, List, [], ◌∷◌, Bool, true, false, refl, ap, sym, ◌∙◌, subst, Some, None, Option, inl, inr, arith}
+use Rattle.std.specs.Prelude.{if◌then◌else◌, ◌==◌, ◌&&◌, ◌||◌, option_map, ◌⊎◌}
+use Rattle.std.proofs.lemmas.Bool.{eqb-true, eq-eqb}
 use Rattle.pipe_types.specs.declared.numbers.SubNo.{SubNo}
 use Rattle.pipe_types.specs.declared.numbers.StageNo.{StageNo}
 use Rattle.pipe_types.specs.declared.numbers.MsgNo.{MsgNo}
@@ -12,32 +12,32 @@ use Rattle.pipe_types.specs.declared.topology.Role.TheVariants.{Producer, Proces
 use Rattle.pipe_types.specs.declared.message.Place.{Place}
 use Rattle.pipe_types.specs.declared.message.Place.TheVariants.{Waiting, Inbox, Running, Gathered, InBatch, Acked, Lost}
 use Rattle.pipe_types.specs.declared.message.Outcome.{Outcome}
-use Rattle.pipe_types.specs.declared.message.BatchEnd.TheVariants.{Outcomes, Crashed as CrashedEnd}
+use Rattle.pipe_types.specs.declared.message.BatchEnd.TheVariants.{Outcomes}
 use Rattle.pipe_types.specs.declared.message.Reply.{Reply}
 use Rattle.pipe_types.specs.declared.message.Reply.TheVariants.{Pass, Failed as FailedReply, Raised, Crashed}
 use Rattle.pipe_types.specs.declared.room.Sent.{Sent as SentUnit}
 use Rattle.pipe_types.specs.declared.step.Step.{Step}
-use Rattle.pipe_types.specs.declared.step.Step.TheVariants.{Dispatch, Take, Done, Gather, Wrote, ChildEnd}
-use Rattle.pipe_types.specs.Numbers.{same_stage, same_sub, post}
+use Rattle.pipe_types.specs.declared.step.Step.TheVariants.{Dispatch, Done, Gather, Wrote, ChildEnd}
+use Rattle.pipe_types.specs.Numbers.{same_stage, same_sub}
 use Rattle.pipe_types.specs.Stages.{spec_of, feeds, option_feeds, role_feeds}
 use Rattle.pipe_model.specs.History.{History}
 use Rattle.pipe_model.specs.Posts.{last_take, in_slot, crashes}
 use Rattle.pipe_model.specs.Lives.{is_live}
 use Rattle.pipe_model.specs.Content.{has_crash}
-use Rattle.pipe_model.specs.Batches.{Batch, BatchPlace, AtBatcher, Sent, Dropped, Leg, on_legs, leg_answered, batch_sent, batch_on_legs, new_legs}
-use Rattle.pipe_model.specs.Flow.{place, batch, view_of, sent, sent_to, is_empty, is_batcher, in_inbox_by, leg_waits_in, leg_waits, batch_waits_in, runs_in, waits_in, count_on, sends_by, subs_of, delivered_to, runs_again, is_number, change_place, child_place}
+use Rattle.pipe_model.specs.Batches.{Batch, BatchPlace, AtBatcher, Sent, Dropped, on_legs, leg_answered, batch_sent, batch_on_legs, new_legs}
+use Rattle.pipe_model.specs.Flow.{place, batch, view_of, sent, sent_to, is_batcher, in_inbox_by, leg_waits_in, leg_waits, batch_waits_in, runs_in, waits_in, count_on, sends_by, delivered_to, runs_again, change_place, child_place}
 use Rattle.pipe_model.specs.Ledger.{handled, taken_on, came_on, crashed_reply, crashes_of}
-use Rattle.pipe_model.specs.Legal.{is_legal, allows, is_current, has_role, takes_role, is_processor_role, is_batcher_role, is_batch_processor_role, is_supervisor_role}
+use Rattle.pipe_model.specs.Legal.{is_legal, allows, is_current, has_role, is_processor_role, is_batcher_role, is_batch_processor_role, is_supervisor_role}
 use Rattle.pipe_model.specs.Moves.{is_final}
-use Rattle.pipe_laws.proofs.Tests.{clash, and_left, and_right, both, same_stage-true, same_stage-self, same_stage-flip, same_sub-true, same_sub-self}
-use Rattle.pipe_laws.proofs.Lists.{Each, each_always, each_weaker, each_both, each-append, as_number, weigh, weigh-append, weigh_drop, weigh_le}
+use Rattle.pipe_laws.proofs.Tests.{clash, same_stage-self, same_sub-true, same_sub-self}
+use Rattle.pipe_laws.proofs.Lists.{Each, each_weaker, each_both, as_number, weigh, weigh-append, weigh_drop, weigh_le}
 use Rattle.pipe_laws.proofs.Places.{Move, stays, comes, comes_lost, sent_on, runs, waits, is_gathered, joins, ends, move_by, IsOn, sends_on}
-use Rattle.pipe_laws.proofs.Entries.{EntryFits, MessageFits, entries_fit, is_sent_batch, is_waiting, waiting_each, sends_somewhere, delivered_each}
-use Rattle.pipe_laws.proofs.Weights.{stands, works, in_hand, weight, weight_after, answered_legs, leg_works, leg_works_in, works_at}
+use Rattle.pipe_laws.proofs.Entries.{EntryFits, entries_fit, is_sent_batch, is_waiting, waiting_each, delivered_each}
+use Rattle.pipe_laws.proofs.Weights.{works, in_hand, weight, weight_after, answered_legs, leg_works, leg_works_in, works_at}
 use Rattle.pipe_laws.proofs.Allowed.{legal_before, legal_step, DoneFacts, done_facts, WroteFacts, wrote_facts, GatherFacts, gather_facts, ChildEndFacts, child_end_facts}
 use Rattle.pipe_laws.proofs.Kept.{runs_here}
 use Rattle.pipe_laws.proofs.Busy.{Busy, busy, work_weight, in_inbox, inbox_here}
-use Rattle.pipe_laws.proofs.Chunks.{owes_crash, owed_dies, none_kept}
+use Rattle.pipe_laws.proofs.Chunks.{owes_crash, none_kept}
 use Rattle.pipe_laws.proofs.Idle.{Chunk, chunk_facts, fed_by_messages, processor_writes}
 use Rattle.pipe_laws.proofs.Slots.{first_stands, first_entry, slot_runs, supervisor_writes}
 
@@ -143,15 +143,16 @@ new_weight topology before s u d on waiting = either (same_sub d.sub u) refl
 
 held_dispatch : (topology : Topology) (before : History) (s : StageNo) (u : SubNo) → held_of topology (Dispatch s ∷ before) u ≤ held_of topology before u + count_on (sends_by topology before (view_of topology before) s) u
 held_dispatch topology before s u =
-    omega
-    (arith,
-    held_step topology before (Dispatch s) u,
-    weigh-append (weight topology (Dispatch s ∷ before) u) (sent_to topology before u.consumer) (delivered_to (sends_by topology before (view_of topology before) s) u.consumer),
-    weigh_le (weight topology (Dispatch s ∷ before) u) (counted u) (delivered_to (sends_by topology before (view_of topology before) s) u.consumer)
-    (delivered_each (λ d. IsOn topology before s d.sub × (is_waiting topology before s d.unit ≡ true)) (λ d. weight topology (Dispatch s ∷ before) u d ≤ counted u d) u.consumer
-    (λ d p there. new_weight topology before s u d p.0 p.1) (sends_by topology before (view_of topology before) s)
-    (sends_on topology before s (λ n. is_waiting topology before s n ≡ true) (waiting_each topology before s))),
-    delivered_count (sends_by topology before (view_of topology before) s) u)
+    omega (
+      arith,
+      held_step topology before (Dispatch s) u,
+      weigh-append (weight topology (Dispatch s ∷ before) u) (sent_to topology before u.consumer) (delivered_to (sends_by topology before (view_of topology before) s) u.consumer),
+      weigh_le (weight topology (Dispatch s ∷ before) u) (counted u) (delivered_to (sends_by topology before (view_of topology before) s) u.consumer)
+          (delivered_each (λ d. IsOn topology before s d.sub × (is_waiting topology before s d.unit ≡ true)) (λ d. weight topology (Dispatch s ∷ before) u d ≤ counted u d) u.consumer
+          (λ d p there. new_weight topology before s u d p.0 p.1) (sends_by topology before (view_of topology before) s)
+          (sends_on topology before s (λ n. is_waiting topology before s n ≡ true) (waiting_each topology before s))),
+      delivered_count (sends_by topology before (view_of topology before) s) u,
+    )
 
 -- A gathering
 
@@ -295,10 +296,10 @@ held_done topology before s replies u h safe = by_taken (taken_within topology b
     by_taken (inl none) = omega (arith, held_step topology before (Done s replies) u)
     by_taken (inr t) =
         let drop : weigh (weight topology (Done s replies ∷ before) u) (sent_to topology before s) + weigh (work_weight topology before u) (sent_to topology before s) ≤ weigh (weight topology before u) (sent_to topology before s) =
-            weigh_drop (weight topology (Done s replies ∷ before) u) (work_weight topology before u) (weight topology before u) (sent_to topology before s)
-            (each_weaker (λ d. EntryFits topology before s d × (runs_in s (place topology (Done s replies ∷ before) d.1) ≡ false)) (λ d. weight topology (Done s replies ∷ before) u d + work_weight topology before u d ≤ weight topology before u d)
-            (λ d p. entry d (subst (λ x. EntryFits topology before x d) (sym t.0) p.0) (subst (λ x. runs_in x (place topology (Done s replies ∷ before) d.1) ≡ false) (sym t.0) p.1)) (sent_to topology before s)
-            (each_both (EntryFits topology before s) (λ d. runs_in s (place topology (Done s replies ∷ before) d.1) ≡ false) (sent_to topology before s) (entries_fit topology before s) stopped)) in
+        weigh_drop (weight topology (Done s replies ∷ before) u) (work_weight topology before u) (weight topology before u) (sent_to topology before s)
+        (each_weaker (λ d. EntryFits topology before s d × (runs_in s (place topology (Done s replies ∷ before) d.1) ≡ false)) (λ d. weight topology (Done s replies ∷ before) u d + work_weight topology before u d ≤ weight topology before u d)
+        (λ d p. entry d (subst (λ x. EntryFits topology before x d) (sym t.0) p.0) (subst (λ x. runs_in x (place topology (Done s replies ∷ before) d.1) ≡ false) (sym t.0) p.1)) (sent_to topology before s)
+        (each_both (EntryFits topology before s) (λ d. runs_in s (place topology (Done s replies ∷ before) d.1) ≡ false) (sent_to topology before s) (entries_fit topology before s) stopped)) in
         subst (λ x. weigh (weight topology (Done s replies ∷ before) u) (sent_to topology before x) + taken_on (last_take before s) u ≤ weigh (weight topology before u) (sent_to topology before x)) (sym t.0) (omega (arith, drop, t.1))
       where
         role_there : has_role topology u.consumer is_processor_role ≡ true

@@ -1,7 +1,6 @@
 -- Every message stands in a live stage, in a batch, or is settled.
-use Rattle.std.proofs.Common.{◌≡◌, ℕ, ◌+◌, ◌≤◌, List, [], ◌∷◌, length, Bool, true, false, refl, ap, sym, ◌∙◌, subst, Some, None, Option}
-use Rattle.std.specs.Prelude.{if◌then◌else◌, not, ◌==◌, ◌&&◌, ◌||◌, option_map, is_some, is_none}
-use Rattle.pipe_types.specs.declared.numbers.SubNo.{SubNo}
+use Rattle.std.proofs.Common.{◌≡◌, ℕ, [], ◌∷◌, Bool, true, false, refl, Some, None, Option}
+use Rattle.std.specs.Prelude.{if◌then◌else◌, ◌&&◌, option_map, is_some}
 use Rattle.pipe_types.specs.declared.numbers.StageNo.{StageNo}
 use Rattle.pipe_types.specs.declared.topology.Topology.{Topology}
 use Rattle.pipe_types.specs.declared.topology.StageSpec.{StageSpec}
@@ -9,21 +8,20 @@ use Rattle.pipe_types.specs.declared.topology.Role.{Role}
 use Rattle.pipe_types.specs.declared.message.Place.{Place}
 use Rattle.pipe_types.specs.declared.message.Place.TheVariants.{Waiting, Inbox, Running, Gathered, InBatch, Acked, Lost}
 use Rattle.pipe_types.specs.declared.message.Why.{Why}
-use Rattle.pipe_types.specs.declared.message.Loss.TheVariants.{Killed}
 use Rattle.pipe_types.specs.declared.step.Step.{Step}
-use Rattle.pipe_types.specs.declared.step.Step.TheVariants.{Ask, Fetch, Accept, Quiet, SourceEnd, Dispatch, Take, Done, Gather, Close, Wrote, Child, ChildEnd, Kill, Late, Restart, Tick, Drain, Halt, Refuse}
+use Rattle.pipe_types.specs.declared.step.Step.TheVariants.{Accept, Dispatch, Take, Done, Gather, Close, Wrote, Child, ChildEnd, Kill, Late, Restart, Halt}
 use Rattle.pipe_types.specs.declared.step.LateAnswer.TheVariants.{Records}
 use Rattle.pipe_types.specs.Numbers.{same_stage, batch_no}
 use Rattle.pipe_types.specs.Stages.{spec_of}
-use Rattle.pipe_model.specs.History.{History, accepted, incarnation}
+use Rattle.pipe_model.specs.History.{History, incarnation}
 use Rattle.pipe_model.specs.Content.{has_crash, is_among_next}
-use Rattle.pipe_model.specs.Batches.{Batch, BatchPlace, AtBatcher, Sent, Dropped, Leg, is_settled, settled_as, lost_leg, failed_leg, place_by_batch}
+use Rattle.pipe_model.specs.Batches.{Batch, BatchPlace, AtBatcher, Sent, Dropped, is_settled, settled_as, lost_leg, failed_leg, place_by_batch}
 use Rattle.pipe_model.specs.Lives.{KillSet, reason_in, is_live, is_alive, death, death_after, kill_set}
 use Rattle.pipe_model.specs.Flow.{place, batch, accepted_to, late_place, by_batch, place_in_batch, killed, lost_with}
-use Rattle.pipe_model.specs.Legal.{is_legal, allows, has_role, is_producer_role}
+use Rattle.pipe_model.specs.Legal.{is_legal, has_role, is_producer_role}
 use Rattle.pipe_model.specs.Moves.{is_final}
-use Rattle.pipe_laws.proofs.Tests.{and_left, and_right, clash}
-use Rattle.pipe_laws.proofs.Places.{Move, stays, comes, comes_lost, sent_on, runs, waits, is_gathered, joins, ends, IsOn, move_by, settled_final}
+use Rattle.pipe_laws.proofs.Tests.{and_left, clash}
+use Rattle.pipe_laws.proofs.Places.{Move, stays, comes, comes_lost, sent_on, runs, waits, is_gathered, joins, ends, move_by, settled_final}
 use Rattle.pipe_laws.proofs.Allowed.{legal_before, legal_step, accept_live, late_facts}
 
 -- the place is in a live stage, in a batch or final

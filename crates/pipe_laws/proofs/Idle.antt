@@ -1,6 +1,6 @@
 -- A live processor that is not at work runs nothing; one at work runs what it took last.
-use Rattle.std.proofs.Common.{◌≡◌, ℕ, zero, suc, ◌+◌, ◌<◌, ◌≤◌, List, [], ◌∷◌, ◌++◌, map, length, take, drop, Bool, true, false, refl, ap, sym, ◌∙◌, subst, Some, None, Option, arith}
-use Rattle.std.specs.Prelude.{if◌then◌else◌, not, ◌==◌, ◌&&◌, ◌||◌, option_map, is_some, is_none, filter, cond}
+use Rattle.std.proofs.Common.{◌≡◌, ℕ, ◌≤◌, List, [], ◌∷◌, ◌++◌, map, length, take, Bool, true, false, refl, ap, sym, ◌∙◌, subst, Some, None, Option, arith}
+use Rattle.std.specs.Prelude.{if◌then◌else◌, not, ◌==◌, ◌&&◌, ◌||◌, option_map, is_some, filter, cond}
 use Rattle.std.proofs.lemmas.Bool.{eqb-true, eq-eqb, false_from_ne_true}
 use Rattle.pipe_types.specs.declared.numbers.SubNo.{SubNo}
 use Rattle.pipe_types.specs.declared.numbers.StageNo.{StageNo}
@@ -14,24 +14,24 @@ use Rattle.pipe_types.specs.declared.message.Reply.{Reply}
 use Rattle.pipe_types.specs.declared.step.SourceHow.{SourceHow}
 use Rattle.pipe_types.specs.declared.step.LateAnswer.{LateAnswer}
 use Rattle.pipe_types.specs.declared.step.Step.{Step}
-use Rattle.pipe_types.specs.declared.step.Step.TheVariants.{Ask, Fetch, Accept, Quiet, SourceEnd, Dispatch, Take, Done, Gather, Close, Wrote, Child, ChildEnd, Kill, Late, Restart, Tick, Drain, Halt, Refuse}
+use Rattle.pipe_types.specs.declared.step.Step.TheVariants.{Fetch, Accept, Quiet, SourceEnd, Dispatch, Take, Done, Wrote, Child, ChildEnd, Late, Restart}
 use Rattle.pipe_types.specs.Numbers.{stage, same_stage, same_sub, same_post, post}
 use Rattle.pipe_types.specs.Stages.{spec_of, feeds, option_feeds, role_feeds}
 use Rattle.pipe_model.specs.History.{History, incarnation}
-use Rattle.pipe_model.specs.Posts.{puts_out, answers, is_out, out_from, last_take}
-use Rattle.pipe_model.specs.Lives.{is_live, death, restarts}
+use Rattle.pipe_model.specs.Posts.{puts_out, answers, is_out, out_from}
+use Rattle.pipe_model.specs.Lives.{is_live, restarts}
 use Rattle.pipe_model.specs.Content.{has_crash, content}
 use Rattle.pipe_model.specs.Work.{taken_units, chunk_of, count}
-use Rattle.pipe_model.specs.Flow.{place, batch, view_of, among, is_batcher, in_inbox_by, leg_waits_in, runs_in, waits_in, batch_waits_in, sent_to, inbox, units_on, next_units, taken, chunk_by, delivered_to, sends_by, has_batchers_in, done, answered, reply_to}
-use Rattle.pipe_model.specs.Legal.{is_legal, allows, is_current, first_sub, has_role, takes_role, is_processor_role, is_producer_role, is_batcher_role, is_batch_processor_role, is_supervisor_role, may_end}
-use Rattle.pipe_laws.proofs.Tests.{clash, and_left, and_right, both, not_true, same_stage-true, same_stage-self, same_stage-flip, same_sub-true, same_sub-self}
+use Rattle.pipe_model.specs.Flow.{place, batch, view_of, among, is_batcher, in_inbox_by, leg_waits_in, runs_in, waits_in, batch_waits_in, sent_to, inbox, units_on, taken, chunk_by, delivered_to, sends_by, has_batchers_in, reply_to}
+use Rattle.pipe_model.specs.Legal.{is_legal, allows, is_current, first_sub, has_role, is_processor_role, is_producer_role, is_batcher_role, is_batch_processor_role, is_supervisor_role, may_end}
+use Rattle.pipe_laws.proofs.Tests.{clash, and_left, and_right, both, same_stage-true, same_stage-self, same_stage-flip, same_sub-true, same_sub-self}
 use Rattle.pipe_laws.proofs.Lists.{Each, each_always, each_weaker, each_both, each_filter, each_map, each_among, all_among, each-append, first_kept}
 use Rattle.pipe_laws.proofs.Places.{move_by, starts, IsOn, sends_on}
 use Rattle.pipe_laws.proofs.Entries.{EntryFits, MessageFits, entries_fit, is_waiting, waiting_each, waits_here, delivered_each}
 use Rattle.pipe_laws.proofs.Allowed.{legal_before, legal_step, unowed, TakeFacts, take_facts, DoneFacts, done_facts, wrote_facts, child_facts, child_end_facts, accept_role, fetch_role, LateFacts, late_facts, restart_dead}
 use Rattle.pipe_laws.proofs.Held.{held, stands_live}
 use Rattle.pipe_laws.proofs.Kept.{ends_work, runs_same, runs_only, runs_here}
-use Rattle.pipe_laws.proofs.Busy.{WasCurrent, was_current, was_live, two_roles, same_incarnation, in_inbox, inbox_here, take_there}
+use Rattle.pipe_laws.proofs.Busy.{was_current, was_live, two_roles, same_incarnation, in_inbox, inbox_here, take_there}
 use Rattle.pipe_laws.proofs.Accepted.{placed_content, content_kept}
 use Rattle.pipe_laws.proofs.Replies.{handled_length, messages_length, reply_some, replied_stops}
 use Rattle.pipe_laws.proofs.Chunks.{Covers, covers_take, each_take, none_kept, keeps_none, filters_agree, filter_same, kept_among, owes_crash, owed_dies}
@@ -376,9 +376,9 @@ chunk_done topology before s replies h safe old =
     replied : (n : ℕ) → among (chunk topology before s) n ≡ true → is_some (reply_to (chunk topology before s) replies n) ≡ true
     replied n here =
         let in_taken : among (taken_units topology before s) n ≡ true =
-            each_among (λ m. among (taken_units topology before s) m ≡ true) (taken_units topology before s ++ covers.rest) n
-            (each-append (λ m. among (taken_units topology before s) m ≡ true) (taken_units topology before s) covers.rest (all_among (taken_units topology before s)) covers.all)
-            (ap (λ ys. among ys n) (sym covers.is) ∙ here) in
+        each_among (λ m. among (taken_units topology before s) m ≡ true) (taken_units topology before s ++ covers.rest) n
+        (each-append (λ m. among (taken_units topology before s) m ≡ true) (taken_units topology before s) covers.rest (all_among (taken_units topology before s)) covers.all)
+        (ap (λ ys. among ys n) (sym covers.is) ∙ here) in
         ap (λ ys. is_some (reply_to ys replies n)) covers.is ∙ reply_some (taken_units topology before s) covers.rest replies n enough in_taken
 
     stops : (d : SubNo × ℕ) → (runs_in s (place topology before d.1) ≡ true → among (chunk topology before s) d.1 ≡ true) → runs_in s (place topology (Done s replies ∷ before) d.1) ≡ false
@@ -460,7 +460,7 @@ chunk_step topology before (Done t replies) s h role live sound old = either (sa
     either true e =
         let same : s ≡ t = same_stage-true s t e in
         let safe : has_crash replies ≡ false =
-            false_from_ne_true (has_crash replies) (λ crash. clash (has_crash replies && same_stage t s) (both (has_crash replies) (same_stage t s) crash (same_stage-flip s t e)) sound) in
+        false_from_ne_true (has_crash replies) (λ crash. clash (has_crash replies && same_stage t s) (both (has_crash replies) (same_stage t s) crash (same_stage-flip s t e)) sound) in
         subst (λ x. Chunk topology (Done x replies ∷ before) s) same
         (chunk_done topology before s replies (subst (λ x. allows topology before (Done x replies) ≡ true) (sym same) (legal_step topology before (Done t replies) h)) safe (old alive))
 chunk_step topology before (Restart t) s h role live sound old = either (same_stage s t) refl

@@ -1,5 +1,5 @@
 -- One journal that begins with another.
-use Rattle.std.proofs.Common.{◌≡◌, ℕ, suc, ◌+◌, ◌<◌, ◌≤◌, List, [], ◌∷◌, ◌++◌, length, refl, ap, sym, ◌∙◌, arith, append_assoc, length-append}
+use Rattle.std.proofs.Common.{◌≡◌, suc, ◌≤◌, List, [], ◌∷◌, ◌++◌, length, refl, ap, sym, ◌∙◌, arith, append_assoc, length-append}
 use Rattle.pipe_types.specs.declared.step.Step.{Step}
 use Rattle.pipe_model.specs.History.{History}
 use Rattle.pipe_model.specs.Begins.{BeginsWith}

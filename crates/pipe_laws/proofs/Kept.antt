@@ -1,6 +1,6 @@
 -- What a stage works on stays so until its answer or its end.
-use Rattle.std.proofs.Common.{◌≡◌, ℕ, ◌+◌, ◌<◌, ◌≤◌, List, [], ◌∷◌, ◌++◌, Bool, true, false, refl, ap, sym, ◌∙◌, subst, Some, None, Option, arith}
-use Rattle.std.specs.Prelude.{if◌then◌else◌, not, ◌==◌, ◌&&◌, ◌||◌, option_map, is_some}
+use Rattle.std.proofs.Common.{◌≡◌, ℕ, ◌+◌, ◌≤◌, List, [], ◌∷◌, Bool, true, false, refl, ap, sym, ◌∙◌, Some, None, Option, arith}
+use Rattle.std.specs.Prelude.{if◌then◌else◌, ◌==◌, ◌||◌, option_map, is_some}
 use Rattle.std.proofs.lemmas.Bool.{eqb-true}
 use Rattle.pipe_types.specs.declared.numbers.SubNo.{SubNo}
 use Rattle.pipe_types.specs.declared.numbers.StageNo.{StageNo}
@@ -12,16 +12,15 @@ use Rattle.pipe_types.specs.declared.message.BatchEnd.TheVariants.{Outcomes}
 use Rattle.pipe_types.specs.declared.step.Step.{Step}
 use Rattle.pipe_types.specs.declared.step.Step.TheVariants.{Accept, Dispatch, Take, Done, Gather, Close, Wrote, Child, ChildEnd, Kill, Late, Halt}
 use Rattle.pipe_types.specs.declared.step.LateAnswer.TheVariants.{Records}
-use Rattle.pipe_types.specs.Numbers.{same_stage, same_sub}
+use Rattle.pipe_types.specs.Numbers.{same_stage}
 use Rattle.pipe_types.specs.Stages.{spec_of}
 use Rattle.pipe_model.specs.History.{History, closed, incarnation}
 use Rattle.pipe_model.specs.Content.{has_crash}
-use Rattle.pipe_model.specs.Batches.{Batch, BatchPlace, AtBatcher, Sent, Dropped, Leg, LegPlace, on_legs, leg_taken, leg_answered, leg_lost, batch_sent, batch_on_legs, batch_killed}
+use Rattle.pipe_model.specs.Batches.{Batch, BatchPlace, AtBatcher, Sent, Dropped, Leg, on_legs, leg_taken, leg_answered, leg_lost, batch_sent, batch_on_legs, batch_killed}
 use Rattle.pipe_model.specs.Lives.{KillSet, reason_in, is_live, is_alive, death, death_after, kill_set}
-use Rattle.pipe_model.specs.Flow.{place, view_of, batch, among, runs_in, is_batcher, done, by_batch, killed, lost_with, child_ended, change_place, new_batch, next_units, closing, answered, reply_to, child_place, is_number, has_batchers_in, chunk_by, in_inbox_by, sent_to}
+use Rattle.pipe_model.specs.Flow.{place, view_of, batch, among, runs_in, is_batcher, by_batch, killed, lost_with, change_place, new_batch, next_units, closing, answered, reply_to, has_batchers_in, chunk_by}
 use Rattle.pipe_model.specs.Moves.{is_final}
-use Rattle.pipe_laws.proofs.Tests.{clash, same_stage-true, same_stage-self, same_sub-true}
-use Rattle.pipe_laws.proofs.Lists.{Each, each_weaker, as_number, weigh, weigh_le}
+use Rattle.pipe_laws.proofs.Tests.{clash, same_stage-true, same_stage-self}
 use Rattle.pipe_laws.proofs.Places.{Move, stays, comes, comes_lost, sent_on, runs, waits, is_gathered, joins, ends, move_by, starts}
 use Rattle.pipe_laws.proofs.Weights.{leg_works, leg_works_in, works_at, works, taken_legs, taken_legs_other, answered_legs, kept_legs}
 use Rattle.pipe_laws.proofs.Held.{killed_dead}

@@ -22,3 +22,4 @@ pub mod Slots
 pub mod Handled
 pub mod Ledgers
 pub mod Progress
+pub mod Ends

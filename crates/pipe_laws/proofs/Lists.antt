@@ -1,7 +1,6 @@
 -- What holds of each element of a list, and how many elements pass a test.
-use Rattle.std.proofs.Common.{◌≡◌, ℕ, zero, suc, ◌+◌, ◌<◌, ◌≤◌, List, [], ◌∷◌, ◌++◌, map, length, take, Bool, true, false, refl, ap, sym, ◌∙◌, subst, arith}
-use Rattle.std.specs.Prelude.{if◌then◌else◌, ◌==◌, ◌&&◌, ◌||◌, cond, filter}
-use Rattle.std.specs.List.{list_any}
+use Rattle.std.proofs.Common.{◌≡◌, ℕ, zero, suc, ◌+◌, ◌≤◌, List, [], ◌∷◌, ◌++◌, map, length, take, Bool, true, false, refl, ap, sym, ◌∙◌, subst, arith}
+use Rattle.std.specs.Prelude.{if◌then◌else◌, ◌==◌, ◌||◌, cond, filter}
 use Rattle.std.proofs.lemmas.Bool.{eqb-true, eq-eqb}
 use Rattle.pipe_laws.proofs.Tests.{clash}
 use Rattle.pipe_model.specs.Flow.{among}
@@ -156,4 +155,3 @@ weigh_taken zs (y ∷ ys) (suc k) le h =
     let rest : k ≤ weigh (λ n. as_number (among zs n)) ys = weigh_taken zs ys k (omega arith) h.1 in
     let one : as_number (among zs y) ≡ 1 = ap as_number h.0 in
     omega arith
-

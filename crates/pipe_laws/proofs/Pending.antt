@@ -10,7 +10,7 @@ use Rattle.pipe_types.specs.declared.step.Step.TheVariants.{Ask, Accept, Done, G
 use Rattle.pipe_types.specs.Numbers.{same_sub}
 use Rattle.pipe_types.specs.Stages.{spec_of}
 use Rattle.pipe_model.specs.History.{History, asked}
-use Rattle.pipe_model.specs.Posts.{in_slot, last_take}
+use Rattle.pipe_model.specs.Posts.{in_slot}
 use Rattle.pipe_model.specs.Lives.{is_live_sub}
 use Rattle.pipe_model.specs.Content.{has_crash}
 use Rattle.pipe_model.specs.Flow.{place, sent_to, runs_again, in_inbox_by}

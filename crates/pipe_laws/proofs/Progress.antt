@@ -1,8 +1,7 @@
 -- A message in a batch: the batch waits in a live batcher, or has an open leg in a live stage.
-use Rattle.std.proofs.Common.{◌≡◌, ℕ, zero, suc, ◌+◌, ◌<◌, ◌≤◌, List, [], ◌∷◌, ◌++◌, Bool, true, false, refl, ap, sym, ◌∙◌, subst, Some, None, Option, arith}
-use Rattle.std.specs.Prelude.{if◌then◌else◌, not, ◌==◌, ◌&&◌, ◌||◌, option_map, is_some, IsTrue}
-use Rattle.std.specs.List.{list_all, list_any}
-use Rattle.std.proofs.lemmas.Bool.{eqb-true, eq-eqb, false_from_ne_true}
+use Rattle.std.proofs.Common.{◌≡◌, ℕ, ◌+◌, List, [], ◌∷◌, Bool, true, false, refl, ap, sym, ◌∙◌, Some, None, Option}
+use Rattle.std.specs.Prelude.{if◌then◌else◌, not, ◌==◌, ◌&&◌, ◌||◌, option_map, is_some}
+use Rattle.std.proofs.lemmas.Bool.{eq-eqb}
 use Rattle.pipe_types.specs.declared.numbers.SubNo.{SubNo}
 use Rattle.pipe_types.specs.declared.numbers.StageNo.{StageNo}
 use Rattle.pipe_types.specs.declared.numbers.BatchNo.{BatchNo}
@@ -13,21 +12,20 @@ use Rattle.pipe_types.specs.declared.message.Place.{Place}
 use Rattle.pipe_types.specs.declared.message.Place.TheVariants.{Waiting, Inbox, Running, Gathered, InBatch, Acked, Lost}
 use Rattle.pipe_types.specs.declared.message.Outcome.{Outcome}
 use Rattle.pipe_types.specs.declared.message.Why.{Why}
-use Rattle.pipe_types.specs.declared.message.BatchEnd.TheVariants.{Outcomes, Crashed as CrashedEnd}
+use Rattle.pipe_types.specs.declared.message.BatchEnd.TheVariants.{Outcomes}
 use Rattle.pipe_types.specs.declared.step.Step.{Step}
-use Rattle.pipe_types.specs.declared.step.Step.TheVariants.{Ask, Fetch, Accept, Quiet, SourceEnd, Dispatch, Take, Done, Gather, Close, Wrote, Child, ChildEnd, Kill, Late, Restart, Tick, Drain, Halt, Refuse}
+use Rattle.pipe_types.specs.declared.step.Step.TheVariants.{Dispatch, Take, Close, Wrote, Kill, Restart, Halt}
 use Rattle.pipe_types.specs.Numbers.{same_stage, batch_no}
-use Rattle.pipe_model.specs.History.{History, accepted, closed, incarnation}
+use Rattle.pipe_model.specs.History.{History, closed, incarnation}
 use Rattle.pipe_model.specs.Batches.{Batch, BatchPlace, AtBatcher, Sent, Dropped, Leg, LegPlace, InInbox, AtWork, Answered, LegLost, is_leg_open, is_settled, settled_as, lost_leg, failed_leg, place_by_batch, on_legs, leg_taken, leg_answered, leg_lost, new_legs, batch_sent, batch_on_legs, batch_killed, dropped_in}
 use Rattle.pipe_model.specs.Lives.{KillSet, reason_in, is_live, death, kill_set}
-use Rattle.pipe_model.specs.Flow.{place, batch, view_of, among, sends_by, subs_of, by_batch, place_in_batch, killed, lost_with, change_place, new_batch, next_units, closing, put_in_batch}
-use Rattle.pipe_model.specs.Legal.{is_legal, allows, has_role, is_batcher_role, may_close}
+use Rattle.pipe_model.specs.Flow.{place, batch, view_of, among, sends_by, subs_of, by_batch, place_in_batch, killed, change_place, new_batch, next_units, closing, put_in_batch}
+use Rattle.pipe_model.specs.Legal.{is_legal, allows}
 use Rattle.pipe_model.specs.Moves.{is_final}
-use Rattle.pipe_model.specs.Claims.{HasOnePlaceEach, has_live_leg, batch_in_progress, is_held, is_held_at}
-use Rattle.pipe_laws.proofs.Tests.{clash, and_left, and_right, both, same_stage-true, same_stage-self}
+use Rattle.pipe_model.specs.Claims.{HasOnePlaceEach, has_live_leg, batch_in_progress, is_held_at}
+use Rattle.pipe_laws.proofs.Tests.{clash, and_left, and_right, both}
 use Rattle.pipe_laws.proofs.Lists.{Each}
 use Rattle.pipe_laws.proofs.Places.{Move, stays, comes, comes_lost, sent_on, runs, waits, is_gathered, joins, ends, move_by, IsOn, dispatch_on, closes, settled_final}
-use Rattle.pipe_laws.proofs.Settled.{batch_closed, is_some_map}
 use Rattle.pipe_laws.proofs.Allowed.{legal_before, legal_step, unowed}
 use Rattle.pipe_laws.proofs.Held.{held, stands_live, alive_unkilled, restart_live}
 use Rattle.pipe_laws.proofs.Accepted.{accepted_only, accepted_placed}
@@ -360,7 +358,7 @@ progress_live live (Some x) l g = by_place x.numbers x.place l g
     by_place numbers (Sent legs) l g = live_leg live legs l g
     by_place numbers (Dropped loss) l g = g
 
-held_at : (topology : Topology) (before : History) (n : ℕ) → is_legal topology before ≡ true → is_some (place topology before n) ≡ true → is_held_at (is_live topology before) (batch topology before) (place topology before n) ≡ true
+pub held_at : (topology : Topology) (before : History) (n : ℕ) → is_legal topology before ≡ true → is_some (place topology before n) ≡ true → is_held_at (is_live topology before) (batch topology before) (place topology before n) ≡ true
 held_at topology before n h some = by_place (place topology before n) refl some (held topology before n h)
   where
     by_place : (p : Option Place) → place topology before n ≡ p → is_some p ≡ true → stands_live (is_live topology before) p ≡ true → is_held_at (is_live topology before) (batch topology before) p ≡ true

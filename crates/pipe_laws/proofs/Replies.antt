@@ -1,25 +1,20 @@
 -- Replies without a crash: one for each message.
-use Rattle.std.proofs.Common.{◌≡◌, ℕ, zero, suc, ◌+◌, ◌<◌, ◌≤◌, List, [], ◌∷◌, ◌++◌, map, length, Bool, true, false, refl, ap, sym, ◌∙◌, subst, Some, None, Option, arith}
-use Rattle.std.specs.Prelude.{if◌then◌else◌, ◌==◌, ◌&&◌, ◌||◌, is_some}
-use Rattle.std.specs.List.{filter_map}
-use Rattle.std.proofs.lemmas.Bool.{eqb-true, eq-eqb}
+use Rattle.std.proofs.Common.{◌≡◌, ℕ, suc, ◌+◌, ◌≤◌, List, [], ◌∷◌, ◌++◌, map, length, Bool, true, false, refl, ap, ◌∙◌, subst, Some, None, Option, arith}
+use Rattle.std.specs.Prelude.{if◌then◌else◌, ◌==◌, ◌||◌, is_some}
 use Rattle.pipe_types.specs.declared.numbers.StageNo.{StageNo}
-use Rattle.pipe_types.specs.declared.topology.Topology.{Topology}
 use Rattle.pipe_types.specs.declared.topology.StageSpec.{StageSpec}
 use Rattle.pipe_types.specs.declared.topology.Kind.{Kind}
 use Rattle.pipe_types.specs.declared.topology.Kind.TheVariants.{Steps, Lines, Own}
 use Rattle.pipe_types.specs.declared.message.Message.{Message}
-use Rattle.pipe_types.specs.declared.message.Place.{Place}
-use Rattle.pipe_types.specs.declared.message.Place.TheVariants.{Running}
 use Rattle.pipe_types.specs.declared.message.Reply.{Reply}
 use Rattle.pipe_types.specs.declared.message.Reply.TheVariants.{Pass, Failed, Raised, Crashed}
 use Rattle.pipe_types.specs.Handlers.{is_crashed, with_reason, replies_until, chunk_replies, eval, are_own_replies, is_own_reply}
 use Rattle.pipe_model.specs.History.{History}
 use Rattle.pipe_model.specs.Content.{has_crash, content}
-use Rattle.pipe_model.specs.Work.{same_reply, same_replies, are_replies_of, are_handled, messages_of}
+use Rattle.pipe_model.specs.Work.{same_reply, same_replies, are_handled, messages_of}
 use Rattle.pipe_model.specs.Flow.{among, reply_to, answered, runs_in}
 use Rattle.pipe_laws.proofs.Tests.{clash, and_left, and_right}
-use Rattle.pipe_laws.proofs.Lists.{Each, each_among}
+use Rattle.pipe_laws.proofs.Lists.{Each}
 
 head_safe : (r : Reply) (replies : List Reply) → has_crash (r ∷ replies) ≡ false → is_crashed r ≡ false
 head_safe (Pass m) replies h = refl

@@ -1,5 +1,5 @@
 -- What is settled stays so, whatever follows.
-use Rattle.std.proofs.Common.{◌≡◌, ℕ, zero, suc, ◌+◌, ◌<◌, ◌≤◌, List, [], ◌∷◌, ◌++◌, Bool, true, false, refl, ap, sym, ◌∙◌, Some, None, Option, arith}
+use Rattle.std.proofs.Common.{◌≡◌, ℕ, zero, suc, ◌+◌, ◌≤◌, List, [], ◌∷◌, ◌++◌, Bool, true, false, refl, ap, ◌∙◌, Some, None, Option, arith}
 use Rattle.std.specs.Prelude.{option_map, if◌then◌else◌, IsTrue, ◌==◌, slice_get, is_some}
 use Rattle.std.proofs.lemmas.Bool.{eqb-true}
 use Rattle.pipe_types.specs.declared.numbers.SubNo.{SubNo}
@@ -12,16 +12,15 @@ use Rattle.pipe_types.specs.declared.message.Place.{Place}
 use Rattle.pipe_types.specs.declared.message.Place.TheVariants.{Waiting, Inbox, Running, Gathered, InBatch, Acked, Lost}
 use Rattle.pipe_types.specs.declared.message.BatchEnd.TheVariants.{Outcomes}
 use Rattle.pipe_types.specs.declared.step.Step.{Step}
-use Rattle.pipe_types.specs.declared.step.Step.TheVariants.{Accept, Dispatch, Take, Done, Gather, Close, Wrote, Child, ChildEnd, Kill, Late, Tick, Halt}
+use Rattle.pipe_types.specs.declared.step.Step.TheVariants.{Accept, Dispatch, Take, Done, Gather, Close, Wrote, Child, ChildEnd, Kill, Late, Halt}
 use Rattle.pipe_types.specs.declared.step.LateAnswer.TheVariants.{Records}
-use Rattle.pipe_model.specs.History.{History, closed, closed_after}
+use Rattle.pipe_model.specs.History.{History, closed}
 use Rattle.pipe_model.specs.Content.{has_crash}
 use Rattle.pipe_model.specs.Batches.{Batch, BatchPlace, AtBatcher, Sent, Dropped, Leg, LegPlace, InInbox, AtWork, Answered, LegLost, on_legs, leg_taken, leg_answered, leg_lost, batch_sent, batch_on_legs, batch_killed}
 use Rattle.pipe_model.specs.Lives.{KillSet, reason_in}
-use Rattle.pipe_model.specs.Flow.{View, place, place_after, view_of, batch, batch_after, among, change_place, new_batch, next_units, closing}
+use Rattle.pipe_model.specs.Flow.{View, place, place_after, view_of, batch, among, change_place, new_batch, next_units, closing}
 use Rattle.pipe_model.specs.Moves.{is_final}
 use Rattle.pipe_model.specs.Claims.{StaysSettled, LegStaysSettled, leg_at, is_settled_leg}
-use Rattle.pipe_laws.proofs.Tests.{clash}
 
 -- an acknowledged message stays so after each step
 acked_after : (topology : Topology) (before : History) (view : View) (step : Step) (n : ℕ) (o : Outcome) → view.place n ≡ Some (Acked o) → place_after topology before view step n ≡ Some (Acked o)

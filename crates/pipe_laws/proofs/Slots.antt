@@ -1,10 +1,9 @@
 -- The message of a child that is out runs in its supervisor, and in no other slot.
-use Rattle.std.proofs.Common.{◌≡◌, ℕ, zero, suc, ◌+◌, ◌*◌, ◌<◌, ◌≤◌, List, [], ◌∷◌, Bool, true, false, refl, ap, sym, ◌∙◌, subst, Some, None, Option, inl, inr, arith}
-use Rattle.std.specs.Prelude.{if◌then◌else◌, not, ◌==◌, ◌&&◌, ◌||◌, option_map, is_some, ◌⊎◌}
+use Rattle.std.proofs.Common.{◌≡◌, ℕ, ◌+◌, ◌*◌, ◌≤◌, List, [], ◌∷◌, Bool, true, false, refl, ap, sym, ◌∙◌, subst, Some, None, Option, inl, inr, arith}
+use Rattle.std.specs.Prelude.{if◌then◌else◌, ◌==◌, ◌&&◌, ◌⊎◌}
 use Rattle.std.proofs.lemmas.Bool.{eqb-true, eq-eqb, false_from_ne_true}
 use Rattle.pipe_types.specs.declared.numbers.SubNo.{SubNo}
 use Rattle.pipe_types.specs.declared.numbers.StageNo.{StageNo}
-use Rattle.pipe_types.specs.declared.numbers.MsgNo.{MsgNo}
 use Rattle.pipe_types.specs.declared.topology.Topology.{Topology}
 use Rattle.pipe_types.specs.declared.topology.Role.{Role}
 use Rattle.pipe_types.specs.declared.topology.Role.TheVariants.{Producer, Processor, Supervisor, Batcher, BatchProcessor}
@@ -12,21 +11,21 @@ use Rattle.pipe_types.specs.declared.message.Place.{Place}
 use Rattle.pipe_types.specs.declared.message.Place.TheVariants.{Waiting, Inbox, Running, Gathered, InBatch, Acked, Lost}
 use Rattle.pipe_types.specs.declared.message.Reply.{Reply}
 use Rattle.pipe_types.specs.declared.step.Step.{Step}
-use Rattle.pipe_types.specs.declared.step.Step.TheVariants.{Ask, Fetch, Accept, Quiet, SourceEnd, Dispatch, Take, Done, Gather, Close, Wrote, Child, ChildEnd, Kill, Late, Restart, Tick, Drain, Halt, Refuse}
-use Rattle.pipe_types.specs.Numbers.{same_stage, same_sub, same_post, post}
-use Rattle.pipe_types.specs.Stages.{spec_of, feeds}
+use Rattle.pipe_types.specs.declared.step.Step.TheVariants.{Fetch, Take, Done, Wrote, Child, ChildEnd}
+use Rattle.pipe_types.specs.Numbers.{same_stage, post}
+use Rattle.pipe_types.specs.Stages.{spec_of}
 use Rattle.pipe_model.specs.History.{History}
-use Rattle.pipe_model.specs.Posts.{puts_out, answers, in_slot}
+use Rattle.pipe_model.specs.Posts.{puts_out, in_slot}
 use Rattle.pipe_model.specs.Lives.{is_live}
-use Rattle.pipe_model.specs.Flow.{place, batch, view_of, among, is_batcher, in_inbox_by, leg_waits_in, runs_in, sent_to, inbox, taken, is_number}
-use Rattle.pipe_model.specs.Legal.{is_legal, allows, is_current, has_role, takes_role, is_processor_role, is_producer_role, is_batcher_role, is_batch_processor_role, is_supervisor_role, first_unit, runs_number}
+use Rattle.pipe_model.specs.Flow.{place, batch, is_batcher, in_inbox_by, leg_waits_in, sent_to, inbox, is_number}
+use Rattle.pipe_model.specs.Legal.{is_legal, allows, is_current, has_role, takes_role, is_processor_role, is_producer_role, is_batch_processor_role, is_supervisor_role, first_unit, runs_number}
 use Rattle.pipe_model.specs.Moves.{is_final}
-use Rattle.pipe_laws.proofs.Tests.{clash, and_left, and_right, both, same_stage-true, same_stage-self, same_stage-flip, same_sub-true, same_sub-self}
+use Rattle.pipe_laws.proofs.Tests.{clash, and_left, and_right, both, same_stage-true, same_stage-self, same_stage-flip}
 use Rattle.pipe_laws.proofs.Lists.{first_kept, weigh}
-use Rattle.pipe_laws.proofs.Places.{Move, stays, comes, comes_lost, sent_on, runs, waits, is_gathered, joins, ends, move_by, starts}
+use Rattle.pipe_laws.proofs.Places.{Move, stays, comes, comes_lost, sent_on, runs, waits, is_gathered, joins, ends, move_by}
 use Rattle.pipe_laws.proofs.Levels.{rank, level, level_grows}
-use Rattle.pipe_laws.proofs.Entries.{EntryFits, MessageFits, entries_fit}
-use Rattle.pipe_laws.proofs.Allowed.{legal_before, legal_step, ChildFacts, child_facts, child_end_facts, take_facts, done_facts, wrote_facts, fetch_role}
+use Rattle.pipe_laws.proofs.Entries.{EntryFits, entries_fit}
+use Rattle.pipe_laws.proofs.Allowed.{legal_before, legal_step, ChildFacts, child_facts, take_facts, done_facts, wrote_facts, fetch_role}
 use Rattle.pipe_laws.proofs.Kept.{ends_work, runs_kept, runs_here}
 use Rattle.pipe_laws.proofs.Busy.{WasCurrent, was_current, was_live, in_inbox, inbox_here}
 use Rattle.pipe_laws.proofs.Idle.{roles_apart, fed_by_messages, other_stage}

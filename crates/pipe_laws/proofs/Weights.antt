@@ -1,6 +1,6 @@
 -- What a consumer has in hand of a subscription: the units that stand in its inbox, and those that it works on.
-use Rattle.std.proofs.Common.{◌≡◌, ℕ, ◌+◌, ◌*◌, ◌<◌, ◌≤◌, List, [], ◌∷◌, ◌++◌, Bool, true, false, refl, ap, sym, ◌∙◌, subst, Some, None, Option, arith}
-use Rattle.std.specs.Prelude.{option_map, if◌then◌else◌, ◌==◌, ◌&&◌, ◌||◌, is_some}
+use Rattle.std.proofs.Common.{◌≡◌, ℕ, ◌+◌, ◌*◌, ◌≤◌, List, [], ◌∷◌, Bool, true, false, refl, ap, sym, ◌∙◌, subst, Some, None, Option, arith}
+use Rattle.std.specs.Prelude.{option_map, if◌then◌else◌, ◌==◌, ◌&&◌, ◌||◌}
 use Rattle.std.proofs.lemmas.Bool.{eqb-true}
 use Rattle.pipe_types.specs.declared.numbers.SubNo.{SubNo}
 use Rattle.pipe_types.specs.declared.numbers.StageNo.{StageNo}
@@ -13,17 +13,17 @@ use Rattle.pipe_types.specs.declared.message.BatchEnd.TheVariants.{Outcomes}
 use Rattle.pipe_types.specs.declared.step.Step.{Step}
 use Rattle.pipe_types.specs.declared.step.Step.TheVariants.{Dispatch, Take, Close, Wrote, Kill, Halt}
 use Rattle.pipe_types.specs.Numbers.{same_stage, same_sub}
-use Rattle.pipe_types.specs.Stages.{feeds, spec_of}
+use Rattle.pipe_types.specs.Stages.{spec_of}
 use Rattle.pipe_model.specs.History.{History, closed}
-use Rattle.pipe_model.specs.Batches.{Batch, BatchPlace, AtBatcher, Sent, Dropped, Leg, LegPlace, InInbox, AtWork, Answered, LegLost, on_legs, leg_taken, leg_answered, leg_lost, batch_sent, batch_on_legs, batch_killed}
+use Rattle.pipe_model.specs.Batches.{Batch, BatchPlace, AtBatcher, Sent, Dropped, Leg, LegPlace, InInbox, AtWork, Answered, LegLost, on_legs, leg_taken, leg_answered, leg_lost, batch_sent, batch_on_legs}
 use Rattle.pipe_model.specs.Lives.{KillSet, reason_in}
-use Rattle.pipe_model.specs.Flow.{place, view_of, batch, among, is_batcher, leg_waits, leg_waits_in, in_inbox_by, runs_in, change_place, new_batch, next_units, closing, sent_to}
+use Rattle.pipe_model.specs.Flow.{place, view_of, batch, among, is_batcher, leg_waits, leg_waits_in, in_inbox_by, runs_in, change_place, new_batch, next_units, closing}
 use Rattle.pipe_model.specs.Moves.{is_final}
-use Rattle.pipe_laws.proofs.Tests.{clash, same_stage-true, same_sub-true, same_sub-self}
-use Rattle.pipe_laws.proofs.Lists.{Each, each_weaker, as_number, weigh, weigh_le}
-use Rattle.pipe_laws.proofs.Places.{Move, stays, comes, comes_lost, sent_on, runs, waits, is_gathered, joins, ends, IsOn, move_by}
-use Rattle.pipe_laws.proofs.Levels.{rank, level, feeds_down}
-use Rattle.pipe_laws.proofs.Entries.{EntryFits, MessageFits, is_sent_batch, entries_fit, sent_exists}
+use Rattle.pipe_laws.proofs.Tests.{same_stage-true, same_sub-true, same_sub-self}
+use Rattle.pipe_laws.proofs.Lists.{as_number}
+use Rattle.pipe_laws.proofs.Places.{Move, stays, comes, comes_lost, sent_on, runs, waits, is_gathered, joins, ends, move_by}
+use Rattle.pipe_laws.proofs.Levels.{rank, feeds_down}
+use Rattle.pipe_laws.proofs.Entries.{EntryFits, MessageFits, is_sent_batch, sent_exists}
 use Rattle.pipe_laws.proofs.Settled.{batch_closed}
 
 -- Legs at work
@@ -168,9 +168,10 @@ legs_in_hand u legs = as_number (leg_waits u legs) + as_number (leg_works u legs
 
 -- what a change leaves in hand, where it leaves these places
 hand_change : (change : SubNo → LegPlace → LegPlace) (u : SubNo) (w k : LegPlace → Bool) → ((p : LegPlace) → is_in_inbox (change u p) ≡ w p) → ((p : LegPlace) → is_at_work (change u p) ≡ k p) → (legs : List Leg) → (leg_waits u (on_legs change legs) ≡ any_leg w u legs) × (leg_works u (on_legs change legs) ≡ any_leg k u legs)
-hand_change change u w k ew ek legs =
-    (waits_any u (on_legs change legs) ∙ (any_on_legs is_in_inbox change u legs ∙ any_agree (λ p. is_in_inbox (change u p)) w ew u legs),
-    works_any u (on_legs change legs) ∙ (any_on_legs is_at_work change u legs ∙ any_agree (λ p. is_at_work (change u p)) k ek u legs))
+hand_change change u w k ew ek legs = (
+  waits_any u (on_legs change legs) ∙ (any_on_legs is_in_inbox change u legs ∙ any_agree (λ p. is_in_inbox (change u p)) w ew u legs),
+  works_any u (on_legs change legs) ∙ (any_on_legs is_at_work change u legs ∙ any_agree (λ p. is_at_work (change u p)) k ek u legs),
+)
 
 -- a take moves the legs of its stage from the inbox to work
 pub taken_legs : (s : StageNo) (u : SubNo) (legs : List Leg) → same_stage s u.consumer ≡ true → (leg_waits u (on_legs (leg_taken s) legs) ≡ false) × (leg_works u (on_legs (leg_taken s) legs) ≡ (leg_works u legs || leg_waits u legs))
