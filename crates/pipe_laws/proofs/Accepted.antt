@@ -15,10 +15,10 @@ use Rattle.pipe_model.specs.Flow.{place, accepted_to}
 use Rattle.pipe_laws.proofs.Tests.{and_left, and_right, both, clash}
 use Rattle.pipe_laws.proofs.Settled.{is_some_map}
 
-among_next : (from count n : ℕ) → is_among_next from count n ≡ true → (from < n) × (n ≤ from + count)
+pub among_next : (from count n : ℕ) → is_among_next from count n ≡ true → (from < n) × (n ≤ from + count)
 among_next from count n h = (ltb-true from n (and_left (nat_lt from n) _ h), leb-true n (from + count) (and_right (nat_lt from n) _ h))
 
-next_among : (from count n : ℕ) → from < n → n ≤ from + count → is_among_next from count n ≡ true
+pub next_among : (from count n : ℕ) → from < n → n ≤ from + count → is_among_next from count n ≡ true
 next_among from count n low high = both (nat_lt from n) (nat_le n (from + count)) (lt-ltb from n low) (le-leb n (from + count) high)
 
 come : (from count n : ℕ) (p : Place) (old : Option Place) → is_some (accepted_to from count p n old) ≡ true → (is_some old ≡ true → (1 ≤ n) × (n ≤ from)) → (1 ≤ n) × (n ≤ from + count)

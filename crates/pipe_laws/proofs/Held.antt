@@ -145,7 +145,7 @@ held_killed topology before set incarnation after n live keeps (Some (InBatch b)
 held_killed topology before set incarnation after n live keeps (Some (Acked o)) h = refl
 held_killed topology before set incarnation after n live keeps (Some (Lost l)) h = refl
 
-role_known : (topology : Topology) (s : StageNo) (test : Role → Bool) → has_role topology s test ≡ true → is_some (spec_of topology s) ≡ true
+pub role_known : (topology : Topology) (s : StageNo) (test : Role → Bool) → has_role topology s test ≡ true → is_some (spec_of topology s) ≡ true
 role_known topology s test h = by_spec (spec_of topology s) refl
   where
     by_spec : (o : Option StageSpec) → spec_of topology s ≡ o → is_some o ≡ true

@@ -23,3 +23,4 @@ pub mod Handled
 pub mod Ledgers
 pub mod Progress
 pub mod Ends
+pub mod Acknowledged
