@@ -24,3 +24,4 @@ pub mod Ledgers
 pub mod Progress
 pub mod Ends
 pub mod Acknowledged
+pub mod Lossless

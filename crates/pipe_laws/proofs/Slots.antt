@@ -70,7 +70,7 @@ first_stands topology before s one n apart role some first = by_inbox (inbox top
         let here : in_inbox_by d.0 (place topology before d.1) ≡ true = subst (λ b. (if b then leg_waits_in d.0 (batch topology before d.1) else in_inbox_by d.0 (place topology before d.1)) ≡ true) plain t.0 in
         (d.0, t.1.consumer, ap (place topology before) f ∙ inbox_here d.0 (place topology before d.1) here)
 
-number_is : (o : Option ℕ) (n : ℕ) → is_number o n ≡ true → o ≡ Some n
+pub number_is : (o : Option ℕ) (n : ℕ) → is_number o n ≡ true → o ≡ Some n
 number_is None n h = cc
 number_is (Some m) n h = ap Some (eqb-true m n h)
 

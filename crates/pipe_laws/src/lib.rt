@@ -3,7 +3,7 @@
 //! Each function is a law: it does nothing, and its clause states the law, whose words stand in the specification.
 //! No step but those that move messages changes a place; journals continue one another; what is settled stays so;
 //! no subscription is sent more than it asked, handles more than it was sent, or has more in flight than its greatest
-//! demand. `proofs/` has the facts behind them, for the proofs of the layers above.
+//! demand; each message has one place, is acknowledged once, and at the end none is left. `proofs/` has the facts behind them, for the proofs of the layers above.
 #![tactic(auto)]
 
 ghost use Rattle.std.specs.Prelude.{◌≡◌, ◌≤◌, ℕ, ◌∷◌, length, IsTrue};
@@ -16,7 +16,7 @@ ghost use Rattle.pipe_model.specs.Flow.{place};
 ghost use Rattle.pipe_model.specs.Begins.{BeginsWith};
 ghost use Rattle.pipe_model.specs.Legal.{is_legal};
 ghost use Rattle.pipe_types.specs.Sound.{IsSound};
-ghost use Rattle.pipe_model.specs.Claims.{KeepsLedger, HasOnePlaceEach, StaysSettled, LegStaysSettled, LeavesNothing};
+ghost use Rattle.pipe_model.specs.Claims.{KeepsLedger, HasOnePlaceEach, StaysSettled, LegStaysSettled, LeavesNothing, IsAcknowledgedOnce, AcknowledgesEverything};
 
 /// A tick moves no message.
 pub fn tick_moves_nothing()
@@ -101,4 +101,17 @@ pub fn each_message_has_one_place()
 /// A journal that is drained or halted leaves no accepted message unsettled.
 pub fn ends_leave_nothing()
     ensures { (topology : Topology) (before : History) → IsTrue (is_legal topology before) → LeavesNothing topology before }
+{}
+
+/// An acknowledged message stands exactly once among the acknowledgements, under its producer and on the side of its
+/// outcome, and no other message stands there.
+pub fn each_message_is_acknowledged_once()
+    ensures { (topology : Topology) (before : History) (n : ℕ) →
+        IsSound topology → IsTrue (is_legal topology before) → IsAcknowledgedOnce topology before n }
+{}
+
+/// A drained journal that loses nothing acknowledges every accepted message exactly once.
+pub fn drains_acknowledge_everything()
+    ensures { (topology : Topology) (before : History) →
+        IsSound topology → IsTrue (is_legal topology before) → AcknowledgesEverything topology before }
 {}
