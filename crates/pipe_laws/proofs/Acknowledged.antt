@@ -1,6 +1,6 @@
 -- An acknowledged message stands once among the acknowledgements, under its producer and on the side of its outcome.
 use Rattle.std.proofs.Common.{◌≡◌, ℕ, zero, suc, ◌+◌, ◌<◌, ◌≤◌, List, [], ◌∷◌, ◌++◌, length, Bool, true, false, refl, ap, sym, ◌∙◌, subst, Some, None, Option, inl, inr, arith}
-use Rattle.std.specs.Prelude.{if◌then◌else◌, not, ◌==◌, ◌&&◌, ◌||◌, is_some, cond, filter, count_by, ◌⊎◌}
+use Rattle.std.specs.Prelude.{if◌then◌else◌, not, ◌==◌, ◌&&◌, is_some, cond, filter, count_by, ◌⊎◌}
 use Rattle.std.specs.List.{flat_map}
 use Rattle.std.proofs.lemmas.Bool.{eqb-true, eq-eqb, ne_eqb, cases_eq, cases_lt, false_from_ne_true}
 use Rattle.std.proofs.lemmas.List.Sums.{sum_by-cons}
@@ -8,7 +8,6 @@ use Rattle.std.proofs.lemmas.List.Elements.{filter-append}
 use Rattle.pipe_types.specs.declared.numbers.StageNo.{StageNo}
 use Rattle.pipe_types.specs.declared.topology.Topology.{Topology}
 use Rattle.pipe_types.specs.declared.topology.StageSpec.{StageSpec}
-use Rattle.pipe_types.specs.declared.topology.Role.{Role}
 use Rattle.pipe_types.specs.declared.message.Outcome.{Outcome}
 use Rattle.pipe_types.specs.declared.message.Outcome.TheVariants.{Successful, Failed}
 use Rattle.pipe_types.specs.declared.message.Place.{Place}
@@ -20,17 +19,17 @@ use Rattle.pipe_types.specs.Numbers.{same_stage}
 use Rattle.pipe_types.specs.Stages.{spec_in, spec_of}
 use Rattle.pipe_types.specs.Sound.{IsSound}
 use Rattle.pipe_model.specs.History.{History, accepted}
-use Rattle.pipe_model.specs.Content.{producer_of, is_among_next, taken_in_by}
+use Rattle.pipe_model.specs.Content.{producer_of, is_among_next}
 use Rattle.pipe_model.specs.Flow.{place}
 use Rattle.pipe_model.specs.Legal.{is_legal, has_role, is_producer_role}
 use Rattle.pipe_model.specs.Acknowledgements.{Acknowledgement, acknowledgements, acknowledged_by, settled_by, entry, numbers_upto, is_acked, is_acked_successful, is_acked_failed, is_producer}
 use Rattle.pipe_model.specs.Claims.{IsAcknowledgedOnce, times_on, times_in_all, side_of, both_sides}
-use Rattle.pipe_laws.proofs.Tests.{clash, and_left, and_right, both, same_stage-true, same_stage-self, same_stage-flip}
+use Rattle.pipe_laws.proofs.Tests.{clash, and_left, and_right, same_stage-true, same_stage-self, same_stage-flip}
 use Rattle.pipe_laws.proofs.Lists.{as_number, weigh, weigh-append}
 use Rattle.pipe_laws.proofs.Numbers.{AscendFrom}
 use Rattle.pipe_laws.proofs.Sounds.{sound_ascends}
 use Rattle.pipe_laws.proofs.Settled.{acked_stays}
-use Rattle.pipe_laws.proofs.Accepted.{placed_accepted, accepted_placed, among_next, next_among}
+use Rattle.pipe_laws.proofs.Accepted.{placed_accepted, among_next, next_among}
 use Rattle.pipe_laws.proofs.Allowed.{legal_before, legal_step, accept_role, late_facts}
 use Rattle.pipe_laws.proofs.Held.{role_known}
 
@@ -107,7 +106,7 @@ occurs_above t (suc k) n h =
     let last : occurs n (filter t (suc k ∷ [])) ≡ 0 = last_other t (suc k) n apart in
     let front : occurs n (filter t (numbers_upto k)) ≡ 0 = occurs_above t k n (omega arith) in
     let parts : occurs n (filter t (numbers_upto k ++ suc k ∷ [])) ≡ occurs n (filter t (numbers_upto k)) + occurs n (filter t (suc k ∷ [])) =
-        ap (occurs n) (filter-append t (numbers_upto k) (suc k ∷ [])) ∙ weigh-append (λ m. as_number (m == n)) (filter t (numbers_upto k)) (filter t (suc k ∷ [])) in
+    ap (occurs n) (filter-append t (numbers_upto k) (suc k ∷ [])) ∙ weigh-append (λ m. as_number (m == n)) (filter t (numbers_upto k)) (filter t (suc k ∷ [])) in
     omega arith
 
 -- one that passes is kept once
@@ -286,7 +285,7 @@ module _ (topology : Topology) (before : History) (step : Step) (n : ℕ) where
   added_in_all ascend h =
       let flat : weigh (λ a. occurs n (both_sides a)) (acknowledged_by topology before step) ≡ weigh (λ spec. weigh (λ a. occurs n (both_sides a)) (entry spec.no (settled_by topology before step spec.no is_acked_successful) (settled_by topology before step spec.no is_acked_failed))) topology.stages = weigh_flat (λ a. occurs n (both_sides a)) _ topology.stages in
       let each : weigh (λ spec. weigh (λ a. occurs n (both_sides a)) (entry spec.no (settled_by topology before step spec.no is_acked_successful) (settled_by topology before step spec.no is_acked_failed))) topology.stages ≡ weigh (λ spec. as_number (is_producer (producer_of (step ∷ before) n) spec.no && newly is_acked_successful) + as_number (is_producer (producer_of (step ∷ before) n) spec.no && newly is_acked_failed)) topology.stages =
-          weigh_same _ _ (λ spec. both_sides_of spec.no _ _ ∙ (let a = settled_count is_acked_successful spec.no refl in let b = settled_count is_acked_failed spec.no refl in λ i. a i + b i)) topology.stages in
+      weigh_same _ _ (λ spec. both_sides_of spec.no _ _ ∙ (let a = settled_count is_acked_successful spec.no refl in let b = settled_count is_acked_failed spec.no refl in λ i. a i + b i)) topology.stages in
       let split : weigh (λ spec. as_number (is_producer (producer_of (step ∷ before) n) spec.no && newly is_acked_successful) + as_number (is_producer (producer_of (step ∷ before) n) spec.no && newly is_acked_failed)) topology.stages ≡ weigh (λ spec. as_number (is_producer (producer_of (step ∷ before) n) spec.no && newly is_acked_successful)) topology.stages + weigh (λ spec. as_number (is_producer (producer_of (step ∷ before) n) spec.no && newly is_acked_failed)) topology.stages = weigh_sum _ _ topology.stages in
       omega (arith, producer_once ascend h is_acked_successful refl, producer_once ascend h is_acked_failed refl)
 

@@ -1,5 +1,5 @@
 -- A journal that loses nothing has no lost message, and where it is drained acknowledges every message once.
-use Rattle.std.proofs.Common.{◌≡◌, ℕ, zero, suc, ◌+◌, ◌<◌, ◌≤◌, List, [], ◌∷◌, Bool, true, false, refl, ap, sym, ◌∙◌, subst, Some, None, Option, arith}
+use Rattle.std.proofs.Common.{◌≡◌, ℕ, ◌+◌, List, [], ◌∷◌, Bool, true, false, refl, ap, sym, ◌∙◌, Some, None, Option}
 use Rattle.std.specs.Prelude.{if◌then◌else◌, not, ◌==◌, ◌&&◌, ◌||◌, option_map, slice_get}
 use Rattle.pipe_types.specs.declared.numbers.SubNo.{SubNo}
 use Rattle.pipe_types.specs.declared.numbers.StageNo.{StageNo}
@@ -8,8 +8,6 @@ use Rattle.pipe_types.specs.declared.message.Outcome.{Outcome}
 use Rattle.pipe_types.specs.declared.message.Outcome.TheVariants.{Successful, Failed}
 use Rattle.pipe_types.specs.declared.message.Place.{Place}
 use Rattle.pipe_types.specs.declared.message.Place.TheVariants.{Waiting, Inbox, Running, Gathered, InBatch, Acked, Lost}
-use Rattle.pipe_types.specs.declared.message.Loss.TheVariants.{Overflow}
-use Rattle.pipe_types.specs.declared.message.Why.{Why}
 use Rattle.pipe_types.specs.declared.message.BatchEnd.TheVariants.{Outcomes}
 use Rattle.pipe_types.specs.declared.message.Reply.{Reply}
 use Rattle.pipe_types.specs.declared.message.Reply.TheVariants.{Pass, Failed as FailedReply, Raised, Crashed}
@@ -20,18 +18,18 @@ use Rattle.pipe_types.specs.declared.step.LateAnswer.TheVariants.{Records}
 use Rattle.pipe_types.specs.Numbers.{same_stage, batch_no}
 use Rattle.pipe_types.specs.Stages.{spec_of}
 use Rattle.pipe_types.specs.Sound.{IsSound}
-use Rattle.pipe_model.specs.History.{History, accepted, closed}
+use Rattle.pipe_model.specs.History.{History, closed}
 use Rattle.pipe_model.specs.Posts.{in_slot, crashes}
 use Rattle.pipe_model.specs.Content.{has_crash, is_among_next}
 use Rattle.pipe_model.specs.Lives.{death, death_after, restarts}
-use Rattle.pipe_model.specs.Batches.{Batch, BatchPlace, AtBatcher, Sent, Dropped, Leg, LegPlace, InInbox, AtWork, Answered, LegLost, is_settled, settled_as, lost_leg, failed_leg, outcome_place, place_by_batch, on_legs, leg_taken, leg_answered, new_legs, batch_sent, batch_on_legs}
+use Rattle.pipe_model.specs.Batches.{Batch, BatchPlace, AtBatcher, Sent, Dropped, Leg, LegPlace, InInbox, AtWork, Answered, LegLost, is_settled, settled_as, lost_leg, failed_leg, place_by_batch, on_legs, leg_taken, leg_answered, new_legs, batch_sent, batch_on_legs}
 use Rattle.pipe_model.specs.Flow.{place, batch, view_of, among, is_empty, sends_by, subs_of, lost_over, dispatched, waiting_after, taken, done, answered, reply_to, gathered, put_in_batch, by_batch, place_in_batch, child_ended, child_place, runs_again, is_number, accepted_to, late_place, change_place, new_batch, next_units, closing}
 use Rattle.pipe_model.specs.Ledger.{crashed_reply, crashes_of}
 use Rattle.pipe_model.specs.Legal.{is_legal, happened, is_halt}
-use Rattle.pipe_model.specs.Moves.{is_final, is_drained}
+use Rattle.pipe_model.specs.Moves.{is_final}
 use Rattle.pipe_model.specs.Acknowledgements.{is_lossless, loses, acknowledgements}
 use Rattle.pipe_model.specs.Claims.{AcknowledgesEverything, times_in_all}
-use Rattle.pipe_laws.proofs.Tests.{clash, and_left, and_right, both, not_true}
+use Rattle.pipe_laws.proofs.Tests.{and_left, and_right, both, not_true}
 use Rattle.pipe_laws.proofs.Slots.{number_is}
 use Rattle.pipe_laws.proofs.Ends.{leaves_nothing}
 use Rattle.pipe_laws.proofs.Acknowledged.{acknowledged_once}
