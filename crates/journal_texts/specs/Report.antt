@@ -1,0 +1,204 @@
+-- The report of a run, and its status.
+use Rattle.std.specs.Prelude.{ℕ, ◌+◌, Bool, true, false, if◌then◌else◌, List, [], ◌∷◌, ◌++◌, length, count_by, find, codes, decimal, nat_lt, ◌&&◌, Option, Some, None}
+use Rattle.std.specs.List.{filter_map, flat_map}
+use Rattle.std.specs.Ordering.{nat_cmp}
+use Rattle.std.specs.Cmp.Lexicographic.{slice_cmp}
+use Rattle.std.specs.declared.cmp.Ordering.{Ordering}
+use Rattle.std.specs.declared.cmp.Ordering.TheVariants.{Less, Equal, Greater}
+use Rattle.pipe_types.specs.declared.numbers.StageNo.{StageNo}
+use Rattle.pipe_types.specs.declared.topology.Topology.{Topology}
+use Rattle.pipe_types.specs.declared.topology.StageSpec.{StageSpec}
+use Rattle.pipe_types.specs.declared.message.Outcome.TheVariants.{Successful, Failed}
+use Rattle.pipe_types.specs.declared.message.Loss.{Loss}
+use Rattle.pipe_types.specs.declared.message.Loss.TheVariants.{Killed, Overflow}
+use Rattle.pipe_types.specs.declared.message.Place.{Place}
+use Rattle.pipe_types.specs.declared.message.Place.TheVariants.{Acked, Lost}
+use Rattle.pipe_types.specs.declared.step.SourceHow.{SourceHow}
+use Rattle.pipe_types.specs.declared.step.SourceHow.TheVariants.{Fault, TooLong}
+use Rattle.pipe_types.specs.declared.step.DrainCause.{DrainCause}
+use Rattle.pipe_types.specs.declared.step.LateAnswer.TheVariants.{Source}
+use Rattle.pipe_types.specs.declared.step.Step.{Step}
+use Rattle.pipe_types.specs.declared.step.Step.TheVariants.{SourceEnd, Late, Restart, Drain, Refuse}
+use Rattle.pipe_types.specs.Numbers.{stage, same_stage}
+use Rattle.pipe_model.specs.History.{History, accepted}
+use Rattle.pipe_model.specs.Flow.{place}
+use Rattle.pipe_model.specs.Legal.{happened, is_halt}
+use Rattle.pipe_model.specs.Acknowledgements.{numbers_upto}
+use Rattle.journal_texts.specs.Words.{lf}
+use Rattle.journal_texts.specs.Steps.{how_word, cause_word}
+
+-- Lines
+
+-- WORD N
+abbrev pub count_line : List ℕ → ℕ → List ℕ
+count_line word n = word ++ codes " " ++ decimal n ++ lf
+
+-- WORD NAME N
+abbrev pub named_line : (word name : List ℕ) → ℕ → List ℕ
+named_line word name n = word ++ codes " " ++ name ++ codes " " ++ decimal n ++ lf
+
+-- WORD NAME N, where there is something to count
+abbrev pub line_if_any : (word name : List ℕ) → ℕ → List ℕ
+line_if_any word name n = if nat_lt 0 n then named_line word name n else []
+
+-- Where the messages stand
+
+-- the places of the accepted messages, in order of their numbers
+abbrev pub places : Topology → History → List Place
+places topology before = filter_map (place topology before) (numbers_upto (accepted before))
+
+abbrev pub is_successful : Place → Bool
+is_successful (Acked Successful) = true
+is_successful _ = false
+
+abbrev pub reason_of : Place → Option (List ℕ)
+reason_of (Acked (Failed why)) = Some why
+reason_of _ = None
+
+abbrev pub loss_of : Place → Option Loss
+loss_of (Lost loss) = Some loss
+loss_of _ = None
+
+-- how many messages succeeded
+abbrev pub successes : List Place → ℕ
+successes places = count_by is_successful places
+
+-- the reasons of the failed messages
+abbrev pub reasons : List Place → List (List ℕ)
+reasons places = filter_map reason_of places
+
+-- how the lost messages were lost
+abbrev pub losses : List Place → List Loss
+losses places = filter_map loss_of places
+
+abbrev pub is_overflow : StageNo → Loss → Bool
+is_overflow s (Overflow t) = same_stage s t
+is_overflow s _ = false
+
+abbrev pub is_killed : StageNo → Loss → Bool
+is_killed s (Killed t i why) = same_stage s t
+is_killed s _ = false
+
+-- Reasons
+
+-- one more message with this reason
+abbrev pub put_reason : Ordering → (r q : List ℕ) → (n : ℕ) → (others with_r : List (List ℕ × ℕ)) → List (List ℕ × ℕ)
+put_reason Less r q n others with_r = (r, 1) ∷ (q, n) ∷ others
+put_reason Equal r q n others with_r = (q, n + 1) ∷ others
+put_reason Greater r q n others with_r = (q, n) ∷ with_r
+
+abbrev pub with_reason : List ℕ → List (List ℕ × ℕ) → List (List ℕ × ℕ)
+with_reason r [] = (r, 1) ∷ []
+with_reason r (d ∷ others) = put_reason (slice_cmp nat_cmp r d.0) r d.0 d.1 others (with_reason r others)
+
+-- each reason once, in byte order, with how many messages have it
+abbrev pub tally : List (List ℕ) → List (List ℕ × ℕ)
+tally [] = []
+tally (r ∷ reasons) = with_reason r (tally reasons)
+
+abbrev pub tally_lines : List (List ℕ × ℕ) → List ℕ
+tally_lines counts = flat_map (λ d. named_line (codes "reason") d.0 d.1) counts
+
+abbrev pub reason_lines : List (List ℕ) → List ℕ
+reason_lines reasons = tally_lines (tally reasons)
+
+-- Stages and steps
+
+-- the line of each stage with such losses
+abbrev pub loss_lines : (word : List ℕ) → (is_such : StageNo → Loss → Bool) → List StageSpec → List Loss → List ℕ
+loss_lines word is_such stages losses = flat_map (λ spec. line_if_any word spec.name (count_by (is_such spec.no) losses)) stages
+
+abbrev pub is_restart : Step → Bool
+is_restart (Restart s) = true
+is_restart _ = false
+
+abbrev pub is_refuse : Step → Bool
+is_refuse (Refuse line) = true
+is_refuse _ = false
+
+-- Sources
+
+-- a stage, 0 for the control source, and how its source ended
+abbrev pub fault_by : StageNo → SourceHow → Option (StageNo × SourceHow)
+fault_by s Fault = Some (s, Fault)
+fault_by s TooLong = Some (s, TooLong)
+fault_by s _ = None
+
+-- the step ends a source with a fault or with a line that is too long
+abbrev pub fault_of : Step → Option (StageNo × SourceHow)
+fault_of (SourceEnd s how) = fault_by s how
+fault_of (Late s slot i (Source how)) = fault_by s how
+fault_of _ = None
+
+-- the sources that ended so, the last one first
+abbrev pub source_faults : History → List (StageNo × SourceHow)
+source_faults before = filter_map fault_of before
+
+abbrev pub source_line : (name : List ℕ) → Option (StageNo × SourceHow) → List ℕ
+source_line name None = []
+source_line name (Some end) = codes "source " ++ name ++ codes " " ++ how_word end.1 ++ lf
+
+-- the line of the source of this stage, where it ended so
+abbrev pub line_of_source : List (StageNo × SourceHow) → (name : List ℕ) → StageNo → List ℕ
+line_of_source faults name s = source_line name (find (λ end. same_stage s end.0) faults)
+
+-- the control source first, then the stages in order
+abbrev pub source_lines : List StageSpec → List (StageNo × SourceHow) → List ℕ
+source_lines stages faults = line_of_source faults (codes "control") (stage 0) ++ flat_map (λ spec. line_of_source faults spec.name spec.no) stages
+
+-- The end
+
+abbrev pub cause_of : Step → Option DrainCause
+cause_of (Drain cause) = Some cause
+cause_of _ = None
+
+-- the cause of the drain; a report is written once a drain or a halt has come
+abbrev pub causes_word : List DrainCause → List ℕ
+causes_word [] = []
+causes_word (cause ∷ causes) = cause_word cause
+
+abbrev pub end_line : History → List ℕ
+end_line before = codes "end " ++ (if happened is_halt before then codes "halt" else causes_word (filter_map cause_of before)) ++ lf
+
+-- The report
+
+-- the lines of the places
+abbrev pub places_report : List StageSpec → List Place → List ℕ
+places_report stages places =
+    count_line (codes "accepted") (length places)
+    ++ count_line (codes "successful") (successes places)
+    ++ count_line (codes "failed") (length (reasons places))
+    ++ count_line (codes "lost") (length (losses places))
+    ++ reason_lines (reasons places)
+    ++ loss_lines (codes "overflow") is_overflow stages (losses places)
+    ++ loss_lines (codes "killed") is_killed stages (losses places)
+
+-- the lines of the steps
+abbrev pub steps_report : List StageSpec → History → List ℕ
+steps_report stages before =
+    count_line (codes "restarts") (count_by is_restart before)
+    ++ count_line (codes "refused") (count_by is_refuse before)
+    ++ source_lines stages (source_faults before)
+    ++ end_line before
+
+abbrev pub report_text : Topology → History → List ℕ
+report_text topology before = places_report topology.stages (places topology before) ++ steps_report topology.stages before
+
+-- The status
+
+-- there is one
+abbrev pub is_any : {A : Type 0} → List A → Bool
+is_any [] = false
+is_any (x ∷ xs) = true
+
+abbrev pub status_by : List Place → History → ℕ
+status_by places before =
+    if is_any (source_faults before) then 4
+    else (if happened is_halt before then 3
+    else (if is_any (losses places) then 2
+    else (if is_any (reasons places) then 1 else 0)))
+
+-- 4 where a source ended with a fault or too long a line, else 3 where the run was halted, else 2 where a message was
+-- lost, else 1 where one failed, else 0
+abbrev pub status_of : Topology → History → ℕ
+status_of topology before = status_by (places topology before) before
