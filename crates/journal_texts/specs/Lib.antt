@@ -2,3 +2,4 @@ pub mod Words
 pub mod Steps
 pub mod Report
 pub mod Acks
+pub mod Runs

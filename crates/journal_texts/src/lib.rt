@@ -4,4 +4,7 @@
 //! records but for the order of reasons. Only want of memory makes it fail.
 #![tactic(auto)]
 
+mod places;
+mod report;
+mod steps;
 mod words;
