@@ -104,9 +104,13 @@ reason_lines reasons = tally_lines (tally reasons)
 
 -- Stages and steps
 
+-- the line of a stage with such losses
+abbrev pub loss_line : (word : List ℕ) → (is_such : StageNo → Loss → Bool) → List Loss → StageSpec → List ℕ
+loss_line word is_such losses spec = line_if_any word spec.name (count_by (is_such spec.no) losses)
+
 -- the line of each stage with such losses
-abbrev pub loss_lines : (word : List ℕ) → (is_such : StageNo → Loss → Bool) → List StageSpec → List Loss → List ℕ
-loss_lines word is_such stages losses = flat_map (λ spec. line_if_any word spec.name (count_by (is_such spec.no) losses)) stages
+abbrev pub loss_lines : (word : List ℕ) → (is_such : StageNo → Loss → Bool) → List Loss → List StageSpec → List ℕ
+loss_lines word is_such losses stages = flat_map (loss_line word is_such losses) stages
 
 abbrev pub is_restart : Step → Bool
 is_restart (Restart s) = true
@@ -170,8 +174,8 @@ places_report stages places =
     ++ count_line (codes "failed") (length (reasons places))
     ++ count_line (codes "lost") (length (losses places))
     ++ reason_lines (reasons places)
-    ++ loss_lines (codes "overflow") is_overflow stages (losses places)
-    ++ loss_lines (codes "killed") is_killed stages (losses places)
+    ++ loss_lines (codes "overflow") is_overflow (losses places) stages
+    ++ loss_lines (codes "killed") is_killed (losses places) stages
 
 -- the lines of the steps
 abbrev pub steps_report : List StageSpec → History → List ℕ
