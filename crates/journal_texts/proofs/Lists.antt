@@ -1,6 +1,7 @@
 -- Steps of loops over lists.
 use Rattle.std.proofs.Common.{◌≡◌, ℕ, suc, ◌+◌, ◌<◌, Bool, true, false, List, [], ◌∷◌, ◌++◌, length, get_or, take, map, reverse, refl, sym, ap, ◌∙◌, arith, Option, Some, None, add-one, append-nil}
-use Rattle.std.specs.List.{filter_map, count_by, flat_map}
+use Rattle.std.specs.List.{filter_map, cons_option, count_by, flat_map}
+use Rattle.std.proofs.lemmas.List.Folds.{fold-map}
 use Rattle.std.specs.Option.{option_to_list}
 use Rattle.std.proofs.lemmas.Grind.{take_at_read}
 use Rattle.std.proofs.lemmas.List.{flat_map_more}
@@ -17,11 +18,22 @@ pub filter_map_none : {X Y : Type 0} (h : X → Option Y) (xs : List X) (i : ℕ
 filter_map_none h xs i d within e = rw ((take_at_read xs i d within).1, filter_map-append h (take i xs) (get_or xs i d ∷ []), e) (append-nil (filter_map h (take i xs)))
 
 -- the text of one more element
-pub flat_map_take : {X : Type 0} (f : X → List ℕ) (start : List ℕ) (xs : List X) (i : ℕ) (d : X)
-    → i < length xs → start ++ flat_map f (take (i + 1) xs) ≡ start ++ flat_map f (take i xs) ++ f (get_or xs i d)
-flat_map_take f start xs i d within =
-    rw ((take_at_read xs i d within).1) (sym (flat_map_more f start (take i xs) (get_or xs i d)))
+pub flat_map_step : {X : Type 0} (f : X → List ℕ) (start : List ℕ) (xs : List X) (i : ℕ) (d : X) (now next : List ℕ)
+    → i < length xs → d ≡ get_or xs i d → now ≡ start ++ flat_map f (take i xs) → next ≡ now ++ f d
+    → next ≡ start ++ flat_map f (take (i + 1) xs)
+flat_map_step f start xs i d now next within read so_far written =
+    written ∙ ap (λ (text : List ℕ). text ++ f d) so_far ∙ ap (λ x. (start ++ flat_map f (take i xs)) ++ f x) read
+    ∙ flat_map_more f start (take i xs) (get_or xs i d)
+    ∙ sym (ap (λ ys. start ++ flat_map f ys) (take_at_read xs i d within).1)
 
 -- the other order
 pub count_by_reverse : {X : Type 0} (p : X → Bool) (xs : List X) → count_by p (reverse xs) ≡ count_by p xs
 count_by_reverse p xs = sum_by-IsPermutation _ xs (reverse xs) (IsPermutation-reverse xs)
+
+-- through a map
+pub filter_map_map : {X Y Z : Type 0} (h : Y → Option Z) (f : X → Y) (xs : List X) → filter_map h (map f xs) ≡ filter_map (λ x. h (f x)) xs
+filter_map_map h f [] = refl
+filter_map_map h f (x ∷ xs) = ap (cons_option (h (f x))) (filter_map_map h f xs)
+
+pub count_by_map : {X Y : Type 0} (p : Y → Bool) (f : X → Y) (xs : List X) → count_by p (map f xs) ≡ count_by (λ x. p (f x)) xs
+count_by_map p f xs = fold-map _ f 0 xs

@@ -1,5 +1,5 @@
 -- The report of a run, and its status.
-use Rattle.std.specs.Prelude.{ℕ, ◌+◌, Bool, true, false, if◌then◌else◌, List, [], ◌∷◌, ◌++◌, length, count_by, find, codes, decimal, nat_lt, ◌&&◌, Option, Some, None}
+use Rattle.std.specs.Prelude.{ℕ, ◌+◌, Bool, true, false, if◌then◌else◌, List, [], ◌∷◌, ◌++◌, length, reverse, count_by, find, codes, decimal, nat_lt, ◌&&◌, Option, Some, None}
 use Rattle.std.specs.List.{filter_map, flat_map}
 use Rattle.std.specs.Ordering.{nat_cmp}
 use Rattle.std.specs.Cmp.Lexicographic.{slice_cmp}
@@ -134,21 +134,33 @@ fault_of (SourceEnd s how) = fault_by s how
 fault_of (Late s slot i (Source how)) = fault_by s how
 fault_of _ = None
 
--- the sources that ended so, the last one first
+-- the sources that ended so, in journal order
 abbrev pub source_faults : History → List (StageNo × SourceHow)
-source_faults before = filter_map fault_of before
+source_faults before = filter_map fault_of (reverse before)
 
-abbrev pub source_line : (name : List ℕ) → Option (StageNo × SourceHow) → List ℕ
+-- source NAME HOW
+abbrev pub source_end_line : (name : List ℕ) → SourceHow → List ℕ
+source_end_line name how = codes "source " ++ name ++ codes " " ++ how_word how ++ lf
+
+abbrev pub source_line : (name : List ℕ) → Option SourceHow → List ℕ
 source_line name None = []
-source_line name (Some end) = codes "source " ++ name ++ codes " " ++ how_word end.1 ++ lf
+source_line name (Some how) = source_end_line name how
+
+-- how the source of this stage ended, where it ended so
+abbrev pub fault_in : List (StageNo × SourceHow) → StageNo → Option SourceHow
+fault_in [] s = None
+fault_in (end ∷ faults) s = if same_stage s end.0 then Some end.1 else fault_in faults s
 
 -- the line of the source of this stage, where it ended so
 abbrev pub line_of_source : List (StageNo × SourceHow) → (name : List ℕ) → StageNo → List ℕ
-line_of_source faults name s = source_line name (find (λ end. same_stage s end.0) faults)
+line_of_source faults name s = source_line name (fault_in faults s)
+
+abbrev pub line_of_stage : List (StageNo × SourceHow) → StageSpec → List ℕ
+line_of_stage faults spec = line_of_source faults spec.name spec.no
 
 -- the control source first, then the stages in order
 abbrev pub source_lines : List StageSpec → List (StageNo × SourceHow) → List ℕ
-source_lines stages faults = line_of_source faults (codes "control") (stage 0) ++ flat_map (λ spec. line_of_source faults spec.name spec.no) stages
+source_lines stages faults = line_of_source faults (codes "control") (stage 0) ++ flat_map (line_of_stage faults) stages
 
 -- The end
 
@@ -156,35 +168,47 @@ abbrev pub cause_of : Step → Option DrainCause
 cause_of (Drain cause) = Some cause
 cause_of _ = None
 
--- the cause of the drain; a report is written once a drain or a halt has come
-abbrev pub causes_word : List DrainCause → List ℕ
-causes_word [] = []
-causes_word (cause ∷ causes) = cause_word cause
+-- the causes of drains, of which a legal journal has one at most, in journal order
+abbrev pub causes : History → List DrainCause
+causes before = filter_map cause_of (reverse before)
 
-abbrev pub end_line : History → List ℕ
-end_line before = codes "end " ++ (if happened is_halt before then codes "halt" else causes_word (filter_map cause_of before)) ++ lf
+-- a report is written once a drain or a halt has come
+abbrev pub end_word : (halted : Bool) → List DrainCause → List ℕ
+end_word true causes = codes "halt"
+end_word false [] = []
+end_word false (cause ∷ causes) = cause_word cause
 
 -- The report
 
 -- the lines of the places
+abbrev pub places_lines : List StageSpec → (accepted successful : ℕ) → (reasons : List (List ℕ)) → List Loss → List ℕ
+places_lines stages accepted successful reasons losses =
+    count_line (codes "accepted") accepted
+    ++ count_line (codes "successful") successful
+    ++ count_line (codes "failed") (length reasons)
+    ++ count_line (codes "lost") (length losses)
+    ++ reason_lines reasons
+    ++ loss_lines (codes "overflow") is_overflow losses stages
+    ++ loss_lines (codes "killed") is_killed losses stages
+
 abbrev pub places_report : List StageSpec → List Place → List ℕ
-places_report stages places =
-    count_line (codes "accepted") (length places)
-    ++ count_line (codes "successful") (successes places)
-    ++ count_line (codes "failed") (length (reasons places))
-    ++ count_line (codes "lost") (length (losses places))
-    ++ reason_lines (reasons places)
-    ++ loss_lines (codes "overflow") is_overflow (losses places) stages
-    ++ loss_lines (codes "killed") is_killed (losses places) stages
+places_report stages places = places_lines stages (length places) (successes places) (reasons places) (losses places)
 
 -- the lines of the steps
+abbrev pub steps_lines : List StageSpec → (restarts refused : ℕ) → List (StageNo × SourceHow) → (end : List ℕ) → List ℕ
+steps_lines stages restarts refused faults end =
+    count_line (codes "restarts") restarts
+    ++ count_line (codes "refused") refused
+    ++ source_lines stages faults
+    ++ codes "end "
+    ++ end
+    ++ lf
+
 abbrev pub steps_report : List StageSpec → History → List ℕ
 steps_report stages before =
-    count_line (codes "restarts") (count_by is_restart before)
-    ++ count_line (codes "refused") (count_by is_refuse before)
-    ++ source_lines stages (source_faults before)
-    ++ end_line before
+    steps_lines stages (count_by is_restart before) (count_by is_refuse before) (source_faults before) (end_word (happened is_halt before) (causes before))
 
+-- the report of a run
 abbrev pub report_text : Topology → History → List ℕ
 report_text topology before = places_report topology.stages (places topology before) ++ steps_report topology.stages before
 

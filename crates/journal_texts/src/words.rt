@@ -2,9 +2,11 @@
 
 ghost use Rattle.std.specs.Prelude.{◌≡◌, ◌++◌, OnOk, decimal, codes};
 ghost use Rattle.journal_texts.specs.Words.{lf};
+ghost use Rattle.journal_texts.specs.Steps.{how_word as word_of_how, cause_word as word_of_cause};
 ghost use Rattle.journal_texts.specs.Report.{count_line, named_line};
 
 use itoa::Buffer;
+use pipe_types::step::{DrainCause, SourceHow};
 use std::alloc::AllocError;
 
 /// Writes the bytes.
@@ -49,4 +51,26 @@ pub(crate) fn put_named(
     put(out, b" ")?;
     put_number(out, n)?;
     put(out, b"\n")
+}
+
+pub(crate) fn how_word(how: SourceHow) -> &'static [u8]
+    ensures { result.now ≡ word_of_how how }
+{
+    match how {
+        SourceHow::End => b"end",
+        SourceHow::Fault => b"fault",
+        SourceHow::TooLong => b"toolong",
+        SourceHow::Limit => b"limit",
+    }
+}
+
+pub(crate) fn cause_word(cause: DrainCause) -> &'static [u8]
+    ensures { result.now ≡ word_of_cause cause }
+{
+    match cause {
+        DrainCause::Sources => b"sources",
+        DrainCause::Control => b"control",
+        DrainCause::Limit => b"limit",
+        DrainCause::Idle => b"idle",
+    }
 }
