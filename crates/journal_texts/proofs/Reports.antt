@@ -1,5 +1,5 @@
 -- The report from the rows and the steps.
-use Rattle.std.proofs.Common.{◌≡◌, ℕ, List, [], ◌∷◌, ◌++◌, length, map, reverse, refl, sym, ap, ◌∙◌, Some, Option, All, suc, arith}
+use Rattle.std.proofs.Common.{◌≡◌, ℕ, Bool, subst, List, [], ◌∷◌, ◌++◌, length, map, reverse, refl, sym, ap, ◌∙◌, Some, Option, All, suc, arith}
 use Rattle.std.proofs.lemmas.List.{reverse-reverse, length-map}
 use Rattle.std.specs.List.{cons_option}
 use Rattle.std.specs.Prelude.{count_by}
@@ -7,7 +7,11 @@ use Rattle.std.specs.List.{filter_map}
 use Rattle.pipe_types.specs.declared.topology.StageSpec.{StageSpec}
 use Rattle.pipe_types.specs.declared.topology.Topology.{Topology}
 use Rattle.pipe_types.specs.declared.state.PlaceRow.{PlaceRow}
+use Rattle.pipe_types.specs.declared.numbers.StageNo.{StageNo}
+use Rattle.pipe_types.specs.declared.message.Loss.{Loss}
 use Rattle.pipe_types.specs.declared.step.Step.{Step}
+use Rattle.pipe_types.specs.declared.step.SourceHow.{SourceHow}
+use Rattle.pipe_types.specs.declared.step.DrainCause.{DrainCause}
 use Rattle.pipe_model.specs.History.{History, history, accepted}
 use Rattle.pipe_model.specs.Flow.{place}
 use Rattle.pipe_model.specs.Legal.{happened, is_halt}
@@ -17,12 +21,12 @@ use Rattle.journal_texts.specs.Report.{places, is_successful, reason_of, loss_of
 use Rattle.journal_texts.proofs.Lists.{count_by_reverse, filter_map_map, count_by_map}
 
 -- rows that say where each of their messages stands
-found_places : {P : Type 0} (f : ℕ → Option P) (no : PlaceRow → ℕ) (at : PlaceRow → P) (rows : List PlaceRow)
-    → All (λ row. f (no row) ≡ Some (at row)) rows → filter_map f (map no rows) ≡ map at rows
-found_places f no at [] all = refl
-found_places f no at (row ∷ rows) all =
-    ap (λ o. cons_option o (filter_map f (map no rows))) (all 0 row (omega arith))
-    ∙ ap (λ ps. at row ∷ ps) (found_places f no at rows (λ k d within. all (suc k) d (omega arith)))
+found_places : {P : Type 0} (f : ℕ → Option P) (number : PlaceRow → ℕ) (at : PlaceRow → P) (rows : List PlaceRow)
+    → All (λ row. f (number row) ≡ Some (at row)) rows → filter_map f (map number rows) ≡ map at rows
+found_places f number at [] all = refl
+found_places f number at (row ∷ rows) all =
+    ap (λ o. cons_option o (filter_map f (map number rows))) (all 0 row (omega arith))
+    ∙ ap (λ ps. at row ∷ ps) (found_places f number at rows (λ k d within. all (suc k) d (omega arith)))
 
 -- the places of a journal are those of its rows
 pub places_are : (topology : Topology) (before : History) (rows : List PlaceRow) → ArePlaces topology before rows
@@ -60,3 +64,25 @@ pub report_is : (topology : Topology) (before : History) (rows : List PlaceRow) 
 report_is topology before rows steps are is =
     λ i. (places_part topology.stages rows ∙ ap (places_report topology.stages) (sym (places_are topology before rows are))) i
     ++ (steps_part topology.stages steps ∙ ap (steps_report topology.stages) is) i
+
+-- the text that the parts make is the report
+pub report_made :
+    (topology : Topology) (before : History) (places rows : List PlaceRow) (stages : List StageSpec) (steps : List Step)
+    (successful restarts refused : ℕ) (failed : List (List ℕ)) (lost : List Loss) (faults : List (StageNo × SourceHow))
+    (halted : Bool) (drains : List DrainCause) (cause start first second text : List ℕ)
+    → ArePlaces topology before places → rows ≡ places → history steps ≡ before → stages ≡ topology.stages
+    → successful ≡ count_by (λ row. is_successful row.place) rows
+    → failed ≡ filter_map (λ row. reason_of row.place) rows → lost ≡ filter_map (λ row. loss_of row.place) rows
+    → restarts ≡ count_by is_restart steps → refused ≡ count_by is_refuse steps → faults ≡ filter_map fault_of steps
+    → halted ≡ happened is_halt (history steps) → drains ≡ filter_map cause_of steps → cause ≡ end_word halted drains
+    → start ≡ [] → first ≡ start ++ places_lines stages (length rows) successful failed lost
+    → second ≡ first ++ steps_lines stages restarts refused faults cause → text ≡ second
+    → text ≡ report_text topology before
+report_made topology before places rows stages steps successful restarts refused failed lost faults halted drains cause start first second text are erows esteps estages esuccessful efailed elost erestarts erefused efaults ehalted edrains ecause estart efirst esecond etext =
+    let here : ArePlaces topology before rows = subst (λ (r : List PlaceRow). ArePlaces topology before r) (sym erows) are in
+    let above : first ≡ places_lines topology.stages (length rows) (count_by (λ row. is_successful row.place) rows) (filter_map (λ row. reason_of row.place) rows) (filter_map (λ row. loss_of row.place) rows) =
+    efirst ∙ (λ i. estart i ++ places_lines (estages i) (length rows) (esuccessful i) (efailed i) (elost i)) in
+    let ends : cause ≡ end_word (happened is_halt (history steps)) (filter_map cause_of steps) = ecause ∙ (λ i. end_word (ehalted i) (edrains i)) in
+    etext ∙ esecond
+    ∙ (λ i. above i ++ steps_lines (estages i) (erestarts i) (erefused i) (efaults i) (ends i))
+    ∙ report_is topology before rows steps here esteps

@@ -21,11 +21,7 @@ use Rattle.pipe_types.specs.declared.step.LateAnswer.TheVariants.{Records, Quiet
 use Rattle.pipe_types.specs.declared.step.Step.{Step}
 use Rattle.pipe_types.specs.declared.step.Step.TheVariants.{Ask, Fetch, Accept, Quiet, SourceEnd, Dispatch, Take, Done, Gather, Close, Wrote, Child, ChildEnd, Kill, Late, Restart, Tick, Drain, Halt, Refuse}
 use Rattle.pipe_model.specs.History.{History}
-use Rattle.journal_texts.specs.Words.{lf, bytes_text, list_text}
-
--- a space and a number
-abbrev pub number_word : ℕ → List ℕ
-number_word n = codes " " ++ decimal n
+use Rattle.journal_texts.specs.Words.{lf, bytes_text, list_text, words}
 
 abbrev pub how_word : SourceHow → List ℕ
 how_word End = codes "end"
@@ -74,31 +70,31 @@ abbrev pub answer_text : LateAnswer → List ℕ
 answer_text (Records records) = codes "records " ++ list_text bytes_text records
 answer_text LateQuiet = codes "quiet"
 answer_text (Source how) = codes "source " ++ how_word how
-answer_text (LateWrote n ends) = codes "wrote" ++ number_word n ++ codes " " ++ ends_text ends
+answer_text (LateWrote n ends) = words (codes "wrote") (n ∷ []) ++ codes " " ++ ends_text ends
 answer_text Nothing = codes "none"
 
 -- the words of a step
 abbrev pub step_text : Step → List ℕ
-step_text (Ask u n) = codes "ask" ++ number_word u.consumer.0 ++ number_word u.producer.0 ++ number_word u.generation ++ number_word n
-step_text (Fetch s n) = codes "fetch" ++ number_word s.0 ++ number_word n
-step_text (Accept s records) = codes "accept" ++ number_word s.0 ++ codes " " ++ list_text bytes_text records
-step_text (Quiet s) = codes "quiet" ++ number_word s.0
-step_text (SourceEnd s how) = codes "source" ++ number_word s.0 ++ codes " " ++ how_word how
-step_text (Dispatch s) = codes "dispatch" ++ number_word s.0
-step_text (Take s u k) = codes "take" ++ number_word s.0 ++ number_word u.producer.0 ++ number_word u.generation ++ number_word k
-step_text (Done s replies) = codes "done" ++ number_word s.0 ++ codes " " ++ list_text reply_text replies
-step_text (Gather s m) = codes "gather" ++ number_word s.0 ++ number_word m.0
-step_text (Close s first trigger) = codes "close" ++ number_word s.0 ++ number_word first.0 ++ codes " " ++ trigger_word trigger
-step_text (Wrote s n ends) = codes "wrote" ++ number_word s.0 ++ number_word n ++ codes " " ++ ends_text ends
-step_text (Child s m slot) = codes "child" ++ number_word s.0 ++ number_word m.0 ++ number_word slot
-step_text (ChildEnd s slot reply) = codes "childend" ++ number_word s.0 ++ number_word slot ++ codes " " ++ reply_text reply
-step_text (Kill s why) = codes "kill" ++ number_word s.0 ++ codes " " ++ why_word why
-step_text (Late s slot i answer) = codes "late" ++ number_word s.0 ++ number_word slot ++ number_word i ++ codes " " ++ answer_text answer
-step_text (Restart s) = codes "restart" ++ number_word s.0
-step_text (Tick t) = codes "tick" ++ number_word t
+step_text (Ask u n) = words (codes "ask") (u.consumer.0 ∷ u.producer.0 ∷ u.generation ∷ n ∷ [])
+step_text (Fetch s n) = words (codes "fetch") (s.0 ∷ n ∷ [])
+step_text (Accept s records) = words (codes "accept") (s.0 ∷ []) ++ codes " " ++ list_text bytes_text records
+step_text (Quiet s) = words (codes "quiet") (s.0 ∷ [])
+step_text (SourceEnd s how) = words (codes "source") (s.0 ∷ []) ++ codes " " ++ how_word how
+step_text (Dispatch s) = words (codes "dispatch") (s.0 ∷ [])
+step_text (Take s u k) = words (codes "take") (s.0 ∷ u.producer.0 ∷ u.generation ∷ k ∷ [])
+step_text (Done s replies) = words (codes "done") (s.0 ∷ []) ++ codes " " ++ list_text reply_text replies
+step_text (Gather s m) = words (codes "gather") (s.0 ∷ m.0 ∷ [])
+step_text (Close s first trigger) = words (codes "close") (s.0 ∷ first.0 ∷ []) ++ codes " " ++ trigger_word trigger
+step_text (Wrote s n ends) = words (codes "wrote") (s.0 ∷ n ∷ []) ++ codes " " ++ ends_text ends
+step_text (Child s m slot) = words (codes "child") (s.0 ∷ m.0 ∷ slot ∷ [])
+step_text (ChildEnd s slot reply) = words (codes "childend") (s.0 ∷ slot ∷ []) ++ codes " " ++ reply_text reply
+step_text (Kill s why) = words (codes "kill") (s.0 ∷ []) ++ codes " " ++ why_word why
+step_text (Late s slot i answer) = words (codes "late") (s.0 ∷ slot ∷ i ∷ []) ++ codes " " ++ answer_text answer
+step_text (Restart s) = words (codes "restart") (s.0 ∷ [])
+step_text (Tick t) = words (codes "tick") (t ∷ [])
 step_text (Drain cause) = codes "drain " ++ cause_word cause
 step_text Halt = codes "halt"
-step_text (Refuse line) = codes "refuse" ++ number_word line
+step_text (Refuse line) = words (codes "refuse") (line ∷ [])
 
 -- the line of a step
 abbrev pub step_line : Step → List ℕ
@@ -106,34 +102,4 @@ step_line step = step_text step ++ lf
 
 -- the text of a journal
 abbrev pub journal_text : History → List ℕ
-journal_text steps = codes "journal 1" ++ lf ++ flat_map step_line (reverse steps) ++ codes "end" ++ number_word (length steps) ++ lf
-
--- A step that can be written
-
-abbrev pub has_item : {A : Type 0} → List A → Bool
-has_item [] = false
-has_item (item ∷ items) = true
-
-abbrev pub has_outcomes : BatchEnd → Bool
-has_outcomes (Outcomes outcomes) = has_item outcomes
-has_outcomes BatchCrashed = true
-
-abbrev pub has_word : Why → Bool
-has_word Crash = true
-has_word KillWhy = true
-has_word Stop = true
-has_word _ = false
-
-abbrev pub answer_has_text : LateAnswer → Bool
-answer_has_text (Records records) = has_item records
-answer_has_text (LateWrote n ends) = has_outcomes ends
-answer_has_text _ = true
-
--- each list of the step holds an item, and the reason of a kill is a crash, a kill or a stop
-abbrev pub has_text : Step → Bool
-has_text (Accept s records) = has_item records
-has_text (Done s replies) = has_item replies
-has_text (Wrote s n ends) = has_outcomes ends
-has_text (Kill s why) = has_word why
-has_text (Late s slot i answer) = answer_has_text answer
-has_text _ = true
+journal_text steps = codes "journal 1" ++ lf ++ flat_map step_line (reverse steps) ++ words (codes "end") (length steps ∷ []) ++ lf

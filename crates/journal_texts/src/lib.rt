@@ -4,6 +4,7 @@
 //! records but for the order of reasons. Only want of memory makes it fail.
 #![tactic(auto)]
 
+mod items;
 mod places;
 mod report;
 mod steps;
