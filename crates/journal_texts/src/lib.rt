@@ -5,7 +5,8 @@
 #![tactic(auto)]
 
 mod items;
+pub mod lines;
 mod places;
-mod report;
+pub mod report;
 mod steps;
 mod words;
