@@ -1,8 +1,11 @@
 -- Steps of loops over lists.
-use Rattle.std.proofs.Common.{◌≡◌, ℕ, suc, ◌+◌, ◌<◌, Bool, true, false, List, [], ◌∷◌, ◌++◌, length, get_or, take, map, reverse, refl, sym, ap, ◌∙◌, arith, Option, Some, None, add-one, append-nil}
+use Rattle.std.proofs.Common.{◌≡◌, ℕ, ◌+◌, ◌<◌, Bool, List, [], ◌∷◌, ◌++◌, length, get_or, take, map, reverse, refl, sym, ap, ◌∙◌, Option, Some, None, append-nil}
 use Rattle.std.specs.List.{filter_map, cons_option, count_by, flat_map}
 use Rattle.std.proofs.lemmas.List.Folds.{fold-map}
-use Rattle.std.specs.Option.{option_to_list}
+use Rattle.std.proofs.lemmas.List.{reverse-reverse}
+use Rattle.pipe_types.specs.declared.step.Step.{Step}
+use Rattle.pipe_model.specs.History.{History, history}
+use Rattle.journal_texts.specs.Steps.{text_of_steps, journal_text}
 use Rattle.std.proofs.lemmas.Grind.{take_at_read}
 use Rattle.std.proofs.lemmas.List.{flat_map_more}
 use Rattle.std.proofs.lemmas.List.Elements.{filter_map-append}
@@ -37,3 +40,7 @@ filter_map_map h f (x ∷ xs) = ap (cons_option (h (f x))) (filter_map_map h f x
 
 pub count_by_map : {X Y : Type 0} (p : Y → Bool) (f : X → Y) (xs : List X) → count_by p (map f xs) ≡ count_by (λ x. p (f x)) xs
 count_by_map p f xs = fold-map _ f 0 xs
+
+-- the text of the steps is the text of their journal
+pub journal_of_steps : (steps : List Step) (before : History) → history steps ≡ before → text_of_steps steps ≡ journal_text before
+journal_of_steps steps before is = ap text_of_steps (sym (reverse-reverse steps) ∙ ap reverse is)

@@ -1,5 +1,5 @@
 -- The report from the rows and the steps.
-use Rattle.std.proofs.Common.{◌≡◌, ℕ, Bool, subst, List, [], ◌∷◌, ◌++◌, length, map, reverse, refl, sym, ap, ◌∙◌, Some, Option, All, suc, arith}
+use Rattle.std.proofs.Common.{◌≡◌, ℕ, Bool, subst, List, [], ◌∷◌, ◌++◌, length, map, refl, sym, ap, ◌∙◌, Some, Option, All, suc, arith}
 use Rattle.std.proofs.lemmas.List.{reverse-reverse, length-map}
 use Rattle.std.specs.List.{cons_option}
 use Rattle.std.specs.Prelude.{count_by}
@@ -12,12 +12,11 @@ use Rattle.pipe_types.specs.declared.message.Loss.{Loss}
 use Rattle.pipe_types.specs.declared.step.Step.{Step}
 use Rattle.pipe_types.specs.declared.step.SourceHow.{SourceHow}
 use Rattle.pipe_types.specs.declared.step.DrainCause.{DrainCause}
-use Rattle.pipe_model.specs.History.{History, history, accepted}
+use Rattle.pipe_model.specs.History.{History, history}
 use Rattle.pipe_model.specs.Flow.{place}
 use Rattle.pipe_model.specs.Legal.{happened, is_halt}
 use Rattle.pipe_model.specs.Places.{ArePlaces}
-use Rattle.pipe_model.specs.Acknowledgements.{numbers_upto}
-use Rattle.journal_texts.specs.Report.{places, is_successful, reason_of, loss_of, successes, reasons, losses, is_restart, is_refuse, fault_of, cause_of, end_word, places_lines, places_report, steps_lines, steps_report, report_text}
+use Rattle.journal_texts.specs.Report.{places, is_successful, reason_of, loss_of, is_restart, is_refuse, fault_of, cause_of, end_word, places_lines, places_report, steps_lines, steps_report, report_text}
 use Rattle.journal_texts.proofs.Lists.{count_by_reverse, filter_map_map, count_by_map}
 
 -- rows that say where each of their messages stands

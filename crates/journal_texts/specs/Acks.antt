@@ -5,7 +5,7 @@ use Rattle.pipe_types.specs.declared.topology.Topology.{Topology}
 use Rattle.pipe_types.specs.declared.topology.StageSpec.{StageSpec}
 use Rattle.pipe_types.specs.Stages.{spec_of}
 use Rattle.pipe_model.specs.History.{History}
-use Rattle.pipe_model.specs.Acknowledgements.{Acknowledgement, acknowledgements}
+use Rattle.pipe_model.specs.Acknowledgements.{acknowledgements}
 use Rattle.journal_texts.specs.Words.{lf, list_text}
 
 -- numbers joined by commas, and `-` for none

@@ -9,4 +9,6 @@ pub mod lines;
 mod places;
 pub mod report;
 mod steps;
+#[cfg(test)]
+mod tests;
 mod words;

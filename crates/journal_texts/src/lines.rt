@@ -1,11 +1,13 @@
 //! The line of a step.
 
 ghost use Rattle.std.specs.Prelude.{◌≡◌, ◌++◌, [], ◌∷◌, OnOk, IfOk, codes};
+ghost use Rattle.std.specs.List.{flat_map};
 ghost use Rattle.journal_texts.specs.Words.{words};
-ghost use Rattle.journal_texts.specs.Steps.{trigger_word as word_of_trigger, why_word as word_of_why, ends_text, answer_text, step_text, step_line as line_of_step};
+ghost use Rattle.journal_texts.specs.Steps.{trigger_word as word_of_trigger, why_word as word_of_why, ends_text, answer_text, step_text, step_line as line_of_step, text_of_steps, journal_text as text_of_journal};
 
 use crate::items::{put_ends, put_records, put_replies, put_reply, put_words};
 use crate::words::{cause_word, how_word, put};
+use pipe_journal::Journal;
 use pipe_types::bytes::{Bytes, BytesList};
 use pipe_types::message::{BatchEnd, Reply, ReplyList, Trigger, Why};
 use pipe_types::numbers::{MsgNo, StageNo, SubNo};
@@ -221,14 +223,52 @@ fn put_step(out: &mut Vec<u8>, step: &Step) -> Result<(), AllocError>
     }
 }
 
+/// Writes the line of a step.
+#[tactic(auto, using(std::proofs::lemmas::List::append_assoc))]
+fn put_line(out: &mut Vec<u8>, step: &Step) -> Result<(), AllocError>
+    ensures { OnOk result (out.new.items ≡ out.old.items ++ line_of_step step.now) }
+{
+    put_step(out, step)?;
+    put(out, b"\n")
+}
+
+/// Writes the lines of the steps.
+fn put_lines(out: &mut Vec<u8>, steps: &[Step]) -> Result<(), AllocError>
+    ensures { OnOk result (out.new.items ≡ out.old.items ++ flat_map line_of_step steps.now) }
+{
+    for step in steps {
+        put_line(out, step)?;
+    }
+    Ok(())
+}
+
+/// Writes the text of a journal.
+#[tactic(auto, using(std::proofs::lemmas::List::append_assoc))]
+fn put_journal(out: &mut Vec<u8>, steps: &[Step]) -> Result<(), AllocError>
+    ensures { OnOk result (out.new.items ≡ out.old.items ++ text_of_steps steps.now) }
+{
+    put(out, b"journal 1\n")?;
+    put_lines(out, steps)?;
+    put_words(out, b"end", &[steps.len() as u64])?;
+    put(out, b"\n")
+}
+
 /// The line of a step in the journal's text, with its end. A step of a legal journal can be read back from it; a list
 /// with no item, or a kill for another reason than a crash, a kill or a stop, has a line that cannot be read.
-#[tactic(auto, using(std::proofs::lemmas::List::append_assoc))]
 pub fn step_line(alloc: Global, step: &Step) -> Result<Bytes, AllocError>
     ensures { IfOk result (λ line. line ≡ line_of_step step.now) }
 {
     let mut out = Vec::new(alloc);
-    put_step(&mut out, step)?;
-    put(&mut out, b"\n")?;
+    put_line(&mut out, step)?;
+    Ok(Bytes::from_vec(out))
+}
+
+/// The text of a journal: its head, the line of each step, and the number of steps.
+#[tactic(auto, using(crate::proofs::Lists::journal_of_steps))]
+pub fn journal_text(alloc: Global, journal: &Journal) -> Result<Bytes, AllocError>
+    ensures { IfOk result (λ text. text ≡ text_of_journal journal.now.steps) }
+{
+    let mut out = Vec::new(alloc);
+    put_journal(&mut out, journal.as_slice())?;
     Ok(Bytes::from_vec(out))
 }
