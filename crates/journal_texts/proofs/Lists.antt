@@ -1,6 +1,6 @@
 -- Steps of loops over lists.
-use Rattle.std.proofs.Common.{◌≡◌, ℕ, ◌+◌, ◌<◌, Bool, List, [], ◌∷◌, ◌++◌, length, get_or, take, map, reverse, refl, sym, ap, ◌∙◌, Option, Some, None, append-nil}
-use Rattle.std.specs.List.{filter_map, cons_option, count_by, flat_map}
+use Rattle.std.proofs.Common.{◌≡◌, ℕ, ◌+◌, ◌<◌, Bool, List, [], ◌∷◌, ◌++◌, length, get_or, take, map, reverse, refl, sym, ap, ◌∙◌, Option, Some, None, append-nil, ◌||◌}
+use Rattle.std.specs.List.{filter_map, cons_option, count_by, flat_map, list_any}
 use Rattle.std.proofs.lemmas.List.Folds.{fold-map}
 use Rattle.std.proofs.lemmas.List.{reverse-reverse}
 use Rattle.pipe_types.specs.declared.step.Step.{Step}
@@ -40,6 +40,10 @@ filter_map_map h f (x ∷ xs) = ap (cons_option (h (f x))) (filter_map_map h f x
 
 pub count_by_map : {X Y : Type 0} (p : Y → Bool) (f : X → Y) (xs : List X) → count_by p (map f xs) ≡ count_by (λ x. p (f x)) xs
 count_by_map p f xs = fold-map _ f 0 xs
+
+pub list_any_map : {X Y : Type 0} (p : Y → Bool) (f : X → Y) (xs : List X) → list_any p (map f xs) ≡ list_any (λ x. p (f x)) xs
+list_any_map p f [] = refl
+list_any_map p f (x ∷ xs) = ap (λ (b : Bool). p (f x) || b) (list_any_map p f xs)
 
 -- the text of the steps is the text of their journal
 pub journal_of_steps : (steps : List Step) (before : History) → history steps ≡ before → text_of_steps steps ≡ journal_text before

@@ -3,7 +3,7 @@ use Rattle.std.proofs.Common.{◌≡◌, ℕ, Bool, subst, List, [], ◌∷◌, 
 use Rattle.std.proofs.lemmas.List.{reverse-reverse, length-map}
 use Rattle.std.specs.List.{cons_option}
 use Rattle.std.specs.Prelude.{count_by}
-use Rattle.std.specs.List.{filter_map}
+use Rattle.std.specs.List.{filter_map, list_any}
 use Rattle.pipe_types.specs.declared.topology.StageSpec.{StageSpec}
 use Rattle.pipe_types.specs.declared.topology.Topology.{Topology}
 use Rattle.pipe_types.specs.declared.state.PlaceRow.{PlaceRow}
@@ -16,8 +16,8 @@ use Rattle.pipe_model.specs.History.{History, history}
 use Rattle.pipe_model.specs.Flow.{place}
 use Rattle.pipe_model.specs.Legal.{happened, is_halt}
 use Rattle.pipe_model.specs.Places.{ArePlaces}
-use Rattle.journal_texts.specs.Report.{places, is_successful, reason_of, loss_of, is_restart, is_refuse, fault_of, cause_of, end_word, places_lines, places_report, steps_lines, steps_report, report_text}
-use Rattle.journal_texts.proofs.Lists.{count_by_reverse, filter_map_map, count_by_map}
+use Rattle.journal_texts.specs.Report.{gravest_of, is_source_fault, is_lost, is_failed, status_of, places, is_successful, reason_of, loss_of, is_restart, is_refuse, fault_of, cause_of, end_word, places_lines, places_report, steps_lines, steps_report, report_text}
+use Rattle.journal_texts.proofs.Lists.{count_by_reverse, filter_map_map, count_by_map, list_any_map}
 
 -- rows that say where each of their messages stands
 found_places : {P : Type 0} (f : ℕ → Option P) (number : PlaceRow → ℕ) (at : PlaceRow → P) (rows : List PlaceRow)
@@ -85,3 +85,19 @@ report_made topology before places rows stages steps successful restarts refused
     etext ∙ esecond
     ∙ (λ i. above i ++ steps_lines (estages i) (erestarts i) (erefused i) (efaults i) (ends i))
     ∙ report_is topology before rows steps here esteps
+
+-- the status of the findings is that of the run
+pub status_is : (topology : Topology) (before : History) (places rows : List PlaceRow) (steps : List Step) (source_fault halted lost failed : Bool) (status : ℕ)
+    → ArePlaces topology before places → rows ≡ places → history steps ≡ before
+    → source_fault ≡ happened is_source_fault (history steps) → halted ≡ happened is_halt (history steps)
+    → lost ≡ list_any (λ row. is_lost row.place) rows → failed ≡ list_any (λ row. is_failed row.place) rows
+    → status ≡ gravest_of source_fault halted lost failed → status ≡ status_of topology before
+status_is topology before places rows steps source_fault halted lost failed status are erows esteps efault ehalted elost efailed estatus =
+    let here : ArePlaces topology before rows = subst (λ (r : List PlaceRow). ArePlaces topology before r) (sym erows) are in
+    let standing = sym (places_are topology before rows here) in
+    estatus
+    ∙ (λ i. gravest_of
+    ((efault ∙ ap (happened is_source_fault) esteps) i)
+    ((ehalted ∙ ap (happened is_halt) esteps) i)
+    ((elost ∙ sym (list_any_map is_lost (λ row. row.place) rows) ∙ ap (list_any is_lost) standing) i)
+    ((efailed ∙ sym (list_any_map is_failed (λ row. row.place) rows) ∙ ap (list_any is_failed) standing) i))

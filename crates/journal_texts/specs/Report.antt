@@ -1,6 +1,6 @@
 -- The report of a run, and its status.
 use Rattle.std.specs.Prelude.{ℕ, ◌+◌, Bool, true, false, if◌then◌else◌, List, [], ◌∷◌, ◌++◌, length, reverse, count_by, codes, decimal, nat_lt, Option, Some, None}
-use Rattle.std.specs.List.{filter_map, flat_map}
+use Rattle.std.specs.List.{filter_map, flat_map, list_any}
 use Rattle.std.specs.Ordering.{nat_cmp}
 use Rattle.std.specs.Cmp.Lexicographic.{slice_cmp}
 use Rattle.std.specs.declared.cmp.Ordering.{Ordering}
@@ -214,17 +214,31 @@ report_text topology before = places_report topology.stages (places topology bef
 
 -- The status
 
--- there is one
-abbrev pub is_any : {A : Type 0} → List A → Bool
-is_any [] = false
-is_any (x ∷ xs) = true
+abbrev pub is_fault : SourceHow → Bool
+is_fault Fault = true
+is_fault TooLong = true
+is_fault _ = false
+
+-- the step ends a source with a fault or with a line that is too long
+abbrev pub is_source_fault : Step → Bool
+is_source_fault (SourceEnd s how) = is_fault how
+is_source_fault (Late s slot i (Source how)) = is_fault how
+is_source_fault _ = false
+
+abbrev pub is_lost : Place → Bool
+is_lost (Lost loss) = true
+is_lost _ = false
+
+abbrev pub is_failed : Place → Bool
+is_failed (Acked (Failed why)) = true
+is_failed _ = false
+
+-- the gravest finding
+abbrev pub gravest_of : (source_fault halted lost failed : Bool) → ℕ
+gravest_of source_fault halted lost failed = if source_fault then 4 else (if halted then 3 else (if lost then 2 else (if failed then 1 else 0)))
 
 abbrev pub status_by : List Place → History → ℕ
-status_by places before =
-    if is_any (source_faults before) then 4
-    else (if happened is_halt before then 3
-    else (if is_any (losses places) then 2
-    else (if is_any (reasons places) then 1 else 0)))
+status_by places before = gravest_of (happened is_source_fault before) (happened is_halt before) (list_any is_lost places) (list_any is_failed places)
 
 -- 4 where a source ended with a fault or too long a line, else 3 where the run was halted, else 2 where a message was
 -- lost, else 1 where one failed, else 0

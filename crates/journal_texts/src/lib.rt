@@ -8,6 +8,7 @@ mod items;
 pub mod lines;
 mod places;
 pub mod report;
+pub mod status;
 mod steps;
 #[cfg(test)]
 mod tests;
