@@ -1,0 +1,7 @@
+use Rattle.journal_texts.proofs.Lists.{flat_map_step}
+use Rattle.journal_texts.specs.Words.{next_text}
+use Rattle.journal_texts.specs.Steps.{outcome_text}
+use Rattle.journal_texts.proofs.items.put_more_outcomes.Goals as goal
+
+pub loop-outcome-preserved : goal.loop-outcome-preserved
+loop-outcome-preserved c = flat_map_step (next_text outcome_text) _ _ _ _ _ _ c.loop-outcome-test.true c.outcome-item.is c.loop-outcome.invariant c.in_ok-put_next_outcome.ensures

@@ -1,0 +1,5 @@
+pub mod Words
+pub mod Steps
+pub mod Report
+pub mod Acks
+pub mod Runs

@@ -1,0 +1,15 @@
+//! The texts of a journal: a line for each step, the acknowledgements, and the report.
+//!
+//! Each function writes exactly the text that `specs/` defines of the journal and its places, in time linear in the
+//! records but for the order of reasons. Only want of memory makes it fail.
+#![tactic(auto)]
+
+mod items;
+pub mod lines;
+mod places;
+pub mod report;
+pub mod status;
+mod steps;
+#[cfg(test)]
+mod tests;
+mod words;
