@@ -129,7 +129,6 @@ fn given_dispatch(table: &Table) -> Option<Dispatch>
     }
 }
 
-#[tactic(auto, using(crate::proofs::Reasons::reason_test))]
 fn reason_of(text: &str) -> Option<Reason>
     ensures { result ≡ spec.reason_of text.now }
 {
