@@ -1,17 +1,17 @@
 -- The topology of a file, or the fault for which it is refused.
-use Rattle.std.specs.Prelude.{codes, ℕ, Bool, nat_lt, if◌then◌else◌, List, length, Option, Some, None, Result, Ok, Err}
+use Rattle.std.specs.Prelude.{codes, ◌≡◌, ◌≢◌, ℕ, nat_lt, if◌then◌else◌, List, length, Option, Some, None, Result, Ok, Err}
 use Rattle.std.specs.Str.{is_utf8}
 use Rattle.pipe_types.specs.declared.topology.Topology.{Topology}
 use Rattle.toml.specs.Data.{Members}
 use Rattle.toml.specs.Parse.{parse_document}
 use Rattle.config_table.specs.declared.fault.ConfigFault.{ConfigFault}
-use Rattle.config_table.specs.declared.fault.ConfigFault.TheVariants.{NotToml, Version}
+use Rattle.config_table.specs.declared.fault.ConfigFault.TheVariants.{NotToml, Version, OutOfMemory}
 use Rattle.config_table.specs.Fault.{least}
 use Rattle.config_table.specs.Walk.{faults_of, has_version}
 use Rattle.config_settings.specs.declared.settings.Settings.{Settings}
 use Rattle.config_settings.specs.Settings.{settings_of}
-use Rattle.pipe_config.specs.Judge.{faults_in}
-use Rattle.pipe_config.specs.Build.{topology_in}
+use Rattle.config_judge.specs.Judge.{faults_in}
+use Rattle.config_build.specs.Build.{topology_in}
 
 -- refused for a fault, if there is one
 abbrev pub unless : {T : Type 0} → Option ConfigFault → Result T ConfigFault → Result T ConfigFault
@@ -37,3 +37,8 @@ topology_of_table (Some table) = topology_of table
 -- the topology that a file of these bytes names, or its first fault
 abbrev pub topology_of_file : List ℕ → Result Topology ConfigFault
 topology_of_file bytes = topology_of_table (table_of bytes)
+
+-- an answer is this one, or want of memory
+abbrev pub Answers : Result Topology ConfigFault → Result Topology ConfigFault → Type 0
+Answers expected (Ok topology) = expected ≡ Ok topology
+Answers expected (Err fault) = fault ≢ OutOfMemory → expected ≡ Err fault

@@ -1,3 +1,1 @@
-pub mod Judge
-pub mod Build
 pub mod File

@@ -19,7 +19,7 @@ use Rattle.config_settings.specs.declared.settings.ProcessorSettings.{ProcessorS
 use Rattle.config_settings.specs.declared.settings.SupervisorSettings.{SupervisorSettings}
 use Rattle.config_settings.specs.declared.settings.BatcherSettings.{BatcherSettings}
 use Rattle.config_settings.specs.declared.settings.Settings.{Settings}
-use Rattle.pipe_config.specs.Judge.{batcher_names, processor_count, supervisor_count}
+use Rattle.config_judge.specs.Judge.{batcher_names, processor_count, supervisor_count}
 
 -- a stage with its number, its name and its place in its group, and no other field
 abbrev pub blank_stage : ℕ → List ℕ → Role → ℕ → StageSpec
@@ -30,30 +30,37 @@ blank_stage no name role index =
 abbrev pub rules_of : (known : List (List ℕ)) → List (List ℕ) → List Rule
 rules_of known = filter_map (rule_of known)
 
--- how producers send: by demand, or by a field to as many parts as there are processors
-abbrev pub sends_by_field : Option ℕ → ℕ → StageSpec → StageSpec
-sends_by_field None parts s = s
-sends_by_field (Some field) parts s = record s { dispatch = Partition; parts = parts; field = field }
+-- producers send by demand, or by a field to as many parts as there are processors
+abbrev pub dispatch_by : Option ℕ → Dispatch
+dispatch_by None = Demand
+dispatch_by (Some field) = Partition
+
+abbrev pub parts_by : Option ℕ → ℕ → ℕ
+parts_by None n = 0
+parts_by (Some field) n = n
+
+abbrev pub field_by : Option ℕ → ℕ
+field_by None = 0
+field_by (Some field) = field
 
 abbrev pub producer_stage : Option ℕ → ℕ → ℕ → ProducerSettings → StageSpec
-producer_stage field parts i p =
-    sends_by_field field parts
-    (record (blank_stage (i + 1) p.name role.Producer i) { size = Some p.buffer_size; keep = p.keep; push = p.push; edge = Some p.source })
+producer_stage field n i p =
+    record (blank_stage (i + 1) p.name role.Producer i)
+      { dispatch = dispatch_by field; parts = parts_by field n; field = field_by field; size = Some p.buffer_size; keep = p.keep; push = p.push; edge = Some p.source }
 
 abbrev pub producer_stages : Option ℕ → ℕ → ℕ → List ProducerSettings → List StageSpec
 producer_stages field parts i [] = []
 producer_stages field parts i (p ∷ producers) = producer_stage field parts i p ∷ producer_stages field parts (i + 1) producers
 
 -- processors send a message to the batcher that it names, where there are batchers
-abbrev pub sends_to : ℕ → StageSpec → StageSpec
-sends_to zero s = s
-sends_to (suc n) s = record s { dispatch = Partition; parts = suc n; batchers = suc n }
+abbrev pub dispatch_to : ℕ → Dispatch
+dispatch_to zero = Demand
+dispatch_to (suc n) = Partition
 
 abbrev pub processor_stage : (known : List (List ℕ)) → ProcessorSettings → (before : ℕ) → ℕ → StageSpec
 processor_stage known p before i =
-    sends_to (length known)
-    (record (blank_stage (before + i + 1) (numbered_name (codes "processors") i) role.Processor i)
-      { mode = p.demand.mode; min = p.demand.min; max = p.demand.max; kind = p.handler.kind; rules = rules_of known p.handler.steps; failed = p.handler.failed })
+    record (blank_stage (before + i + 1) (numbered_name (codes "processors") i) role.Processor i)
+      { dispatch = dispatch_to (length known); parts = length known; batchers = length known; mode = p.demand.mode; min = p.demand.min; max = p.demand.max; kind = p.handler.kind; rules = rules_of known p.handler.steps; failed = p.handler.failed }
 
 -- the places below n, from one on
 abbrev pub places : ℕ → ℕ → List ℕ
