@@ -23,8 +23,8 @@ use Rattle.config_judge.specs.Judge.{batcher_names, processor_count, supervisor_
 
 -- a stage with its number, its name and its place in its group, and no other field
 abbrev pub blank_stage : ℕ → List ℕ → Role → ℕ → StageSpec
-blank_stage no name role index =
-    record { no = stage no; name = name; role = role; index = index; batcher = 0; dispatch = Demand; parts = 0; field = 0; size = None; keep = Last; push = false; mode = cancel.Temporary; min = 0; max = 0; kind = Steps; rules = []; failed = None; edge = None; batch_size = 0; batch_timeout = 0; child = child.Temporary; batchers = 0 }
+blank_stage number name role index =
+    record { no = stage number; name = name; role = role; index = index; batcher = 0; dispatch = Demand; parts = 0; field = 0; size = None; keep = Last; push = false; mode = cancel.Temporary; min = 0; max = 0; kind = Steps; rules = []; failed = None; edge = None; batch_size = 0; batch_timeout = 0; child = child.Temporary; batchers = 0 }
 
 -- the rules of texts, where these are the batchers' names
 abbrev pub rules_of : (known : List (List ℕ)) → List (List ℕ) → List Rule

@@ -69,11 +69,7 @@ fn dispatch_fault(
         return Ok(None);
     }
     let path = at_place(alloc, "batcher", place)?;
-    Ok(Some(ConfigFault::BadDispatch(under(
-        alloc,
-        path.as_str(),
-        "dispatch",
-    )?)))
+    Ok(Some(ConfigFault::BadDispatch(under(alloc, path.as_str(), "dispatch")?)))
 }
 
 /// The first dispatcher of another word.

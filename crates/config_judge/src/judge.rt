@@ -47,10 +47,7 @@ fn group_fault(settings: &Settings) -> Option<ConfigFault>
 
 /// The fault of the lowest number, 7 to 12, that comes first in the walk of the file.
 #[tactic(auto, using(crate::proofs::Steps::least_of_five))]
-pub fn settings_fault(
-    alloc: Global,
-    settings: &Settings,
-) -> Result<Option<ConfigFault>, AllocError>
+pub fn settings_fault(alloc: Global, settings: &Settings) -> Result<Option<ConfigFault>, AllocError>
     ensures { IfOk result (λ found. found ≡ least (judge.faults_in settings.now)) }
 {
     let known = batcher_names(alloc, settings.batchers.as_slice())?;

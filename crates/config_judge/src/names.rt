@@ -59,11 +59,7 @@ fn name_fault(
         return Ok(None);
     }
     let path = at_place(alloc, path, place)?;
-    Ok(Some(ConfigFault::DuplicateName(under(
-        alloc,
-        path.as_str(),
-        "name",
-    )?)))
+    Ok(Some(ConfigFault::DuplicateName(under(alloc, path.as_str(), "name")?)))
 }
 
 /// The first name that stood before.

@@ -7,9 +7,7 @@ ghost use Rattle.config_table.specs.Fault.{least};
 ghost use Rattle.config_judge.specs.Judge as judge;
 
 use config_rule::form::{RuleForm, batcher_number, parse};
-use config_settings::settings::{
-    BatcherSettings, ProcessorSettings, Settings, SupervisorSettings,
-};
+use config_settings::settings::{BatcherSettings, ProcessorSettings, Settings, SupervisorSettings};
 use config_table::fault::{ConfigFault, at_place, sooner, under};
 use pipe_types::bytes::Text;
 use pipe_types::topology::Kind;
@@ -67,9 +65,7 @@ fn route_fault(
     if !astray {
         return Ok(None);
     }
-    Ok(Some(ConfigFault::UnknownBatcher(at_place(
-        alloc, path, place,
-    )?)))
+    Ok(Some(ConfigFault::UnknownBatcher(at_place(alloc, path, place)?)))
 }
 
 /// The first route to no batcher of these.
@@ -189,9 +185,7 @@ fn left_out_fault(
     if !left_out {
         return Ok(None);
     }
-    Ok(Some(ConfigFault::Unreachable(at_place(
-        alloc, "batcher", place,
-    )?)))
+    Ok(Some(ConfigFault::Unreachable(at_place(alloc, "batcher", place)?)))
 }
 
 /// The first batcher but the one at place 0 that no route names.

@@ -33,7 +33,8 @@ reason_holds text r =
 -- what the constructor of reasons answers
 pub reason_test : (result : Option (List ℕ)) (text : List ℕ) → IsSome result ↔ IsReasonText text → IfSome result (λ reason. reason ≡ text) → result ≡ reason_of text
 reason_test None text accepted is =
-    elim (is_reason (Some text)) as (λ b. is_reason (Some text) ≡ b → None ≡ cond b (Some text) None)
-    [ true ↦ λ e. absurd (false≢true (accepted.1 (reason_true text e)))
-    | false ↦ λ e. refl ] refl
+    elim (is_reason (Some text)) as (λ b. is_reason (Some text) ≡ b → None ≡ cond b (Some text) None) [
+      | true ↦ λ e. absurd (false≢true (accepted.1 (reason_true text e)))
+      | false ↦ λ e. refl
+    ] refl
 reason_test (Some r) text accepted is = rw (is, reason_holds text (accepted.0 refl))

@@ -313,10 +313,7 @@ fn producers_at(alloc: Global, table: &Table) -> Result<ProducerList, AllocError
     ensures { IfOk result (λ producers. producers ≡ spec.producers_at (spec.array_at Key.Producer (table_view table.now))) }
 {
     match array_at(table, Key::Producer) {
-        Some(items) => Ok(ProducerList::from_vec(producers_in(
-            alloc,
-            items.as_slice(),
-        )?)),
+        Some(items) => Ok(ProducerList::from_vec(producers_in(alloc, items.as_slice())?)),
         None => Ok(ProducerList::from_vec(Vec::new(alloc))),
     }
 }

@@ -121,6 +121,6 @@ go_producers : (n : ℕ) (field : Option ℕ) (parts i : ℕ) (p : ProducerSetti
     → may_go_on n (producer_stage field parts i p) (producer_stages field parts (i + 1) ps ++ s ∷ rest) ≡ true
 go_producers n field parts i p [] s rest second = both (both (eq-eqb s.no.0 (i + 1 + 1) (second.0 ∙ omega arith)) (next_second s.role s (producer_stage field parts i p) second.1 second.2)) second.3
 go_producers n field parts i p (next ∷ ps) s rest second =
-    let no : s.no.0 ≡ i + 1 + 1 + length ps + 1 = second.0 ∙ omega arith in
+    let numbered : s.no.0 ≡ i + 1 + 1 + length ps + 1 = second.0 ∙ omega arith in
     both (both (eq-eqb (i + 1 + 1) (i + 1 + 1) refl) (eq-eqb (i + 1) (i + 1) refl))
-    (go_producers n field parts (i + 1) next ps s rest (no, second.1, second.2, second.3))
+    (go_producers n field parts (i + 1) next ps s rest (numbered, second.1, second.2, second.3))

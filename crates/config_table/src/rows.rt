@@ -15,17 +15,71 @@ const fn range(low: u32, high: u32, default: u32) -> Range
 }
 
 impl Range {
-    pub const MAX_RESTARTS: Range = Range { low: 0, high: 1000, default: 3 };
-    pub const MAX_SECONDS: Range = Range { low: 1, high: 3600, default: 5 };
-    pub const IDLE_LIMIT: Range = Range { low: 0, high: 1_000_000, default: 0 };
-    pub const BUFFER_SIZE: Range = Range { low: 0, high: 200_000, default: 10_000 };
-    pub const PROCESSORS_CONCURRENCY: Range = Range { low: 1, high: 32, default: 2 };
-    pub const PROCESSORS_MAX: Range = Range { low: 1, high: 10_000, default: 10 };
-    pub const PARTITION_BY: Range = Range { low: 0, high: 255, default: 0 };
-    pub const SUPERVISOR_MAX: Range = Range { low: 1, high: 16, default: 10 };
-    pub const BATCHER_CONCURRENCY: Range = Range { low: 1, high: 16, default: 1 };
-    pub const BATCH_SIZE: Range = Range { low: 1, high: 10_000, default: 100 };
-    pub const BATCH_TIMEOUT: Range = Range { low: 1, high: 3_600_000, default: 1000 };
+    pub const MAX_RESTARTS: Range = Range {
+        low: 0,
+        high: 1000,
+        default: 3,
+    };
+
+    pub const MAX_SECONDS: Range = Range {
+        low: 1,
+        high: 3600,
+        default: 5,
+    };
+
+    pub const IDLE_LIMIT: Range = Range {
+        low: 0,
+        high: 1_000_000,
+        default: 0,
+    };
+
+    pub const BUFFER_SIZE: Range = Range {
+        low: 0,
+        high: 200_000,
+        default: 10_000,
+    };
+
+    pub const PROCESSORS_CONCURRENCY: Range = Range {
+        low: 1,
+        high: 32,
+        default: 2,
+    };
+
+    pub const PROCESSORS_MAX: Range = Range {
+        low: 1,
+        high: 10_000,
+        default: 10,
+    };
+
+    pub const PARTITION_BY: Range = Range {
+        low: 0,
+        high: 255,
+        default: 0,
+    };
+
+    pub const SUPERVISOR_MAX: Range = Range {
+        low: 1,
+        high: 16,
+        default: 10,
+    };
+
+    pub const BATCHER_CONCURRENCY: Range = Range {
+        low: 1,
+        high: 16,
+        default: 1,
+    };
+
+    pub const BATCH_SIZE: Range = Range {
+        low: 1,
+        high: 10_000,
+        default: 100,
+    };
+
+    pub const BATCH_TIMEOUT: Range = Range {
+        low: 1,
+        high: 3_600_000,
+        default: 1000,
+    };
 
     /// A batcher asks for a batch at a time.
     pub fn batcher_max(table: &Table) -> Range
@@ -45,13 +99,21 @@ impl Range {
 fn row(key: Key, form: Form) -> Row
     ensures { result ≡ format.row key form }
 {
-    Row { key, required: false, form }
+    Row {
+        key,
+        required: false,
+        form,
+    }
 }
 
 fn required_row(key: Key, form: Form) -> Row
     ensures { result ≡ format.required_row key form }
 {
-    Row { key, required: true, form }
+    Row {
+        key,
+        required: true,
+        form,
+    }
 }
 
 fn pipeline_rows(alloc: Global) -> Result<Vec<Row>, AllocError>

@@ -76,8 +76,7 @@ impl Shape {
 fn are_name_bytes(text: &[u8]) -> bool
     ensures { result ≡ list_all is_name_byte text.now }
 {
-    text.iter()
-        .all(|b| 97 <= *b && *b <= 122 || 48 <= *b && *b <= 57 || *b == 95 || *b == 45)
+    text.iter().all(|b| 97 <= *b && *b <= 122 || 48 <= *b && *b <= 57 || *b == 95 || *b == 45)
 }
 
 /// 1 to 32 lower-case letters, digits, `_` and `-`, and no name of a group.

@@ -41,7 +41,11 @@ fn expect_rows(rt: &impl Abort, alloc: Global, rows: &[(&str, u8, &str)]) {
 #[test]
 fn files_and_keys(rt: HostRuntime) {
     let rows = [
-        ("version = 1\n[[producer]]\nname = \"p\"\nsource = \"mem:a", 1, "-"),
+        (
+            "version = 1\n[[producer]]\nname = \"p\"\nsource = \"mem:a",
+            1,
+            "-",
+        ),
         ("version = 1\nversion = 1", 1, "-"),
         ("version = 1\nn = 9223372036854775808", 1, "-"),
         ("", 2, "version"),
@@ -56,19 +60,47 @@ fn files_and_keys(rt: HostRuntime) {
         ("version = 1\npipeline = {x = 1}", 3, "pipeline.x"),
         ("version = 1\nproducer = [{x = 1}]", 3, "producer.0.x"),
         ("version = 1\nprocessors = {x = 1}", 3, "processors.x"),
-        ("version = 1\nprocessors = {restart = \"temporary\"}", 3, "processors.restart"),
-        ("version = 1\nsupervisor = {partition_by = 1}", 3, "supervisor.partition_by"),
-        ("version = 1\nsupervisor = {concurrency = 1}", 3, "supervisor.concurrency"),
+        (
+            "version = 1\nprocessors = {restart = \"temporary\"}",
+            3,
+            "processors.restart",
+        ),
+        (
+            "version = 1\nsupervisor = {partition_by = 1}",
+            3,
+            "supervisor.partition_by",
+        ),
+        (
+            "version = 1\nsupervisor = {concurrency = 1}",
+            3,
+            "supervisor.concurrency",
+        ),
         ("version = 1\nbatcher = [{x = 1}]", 3, "batcher.0.x"),
         ("version = 1\nbatcher = [1, {x = 1}]", 3, "batcher.1.x"),
         ("version = 1\nabc = 1\nbatcher = [{x = 1}]", 3, "abc"),
-        ("version = 1\nzzz = 1\nbatcher = [{x = 1}]", 3, "batcher.0.x"),
+        (
+            "version = 1\nzzz = 1\nbatcher = [{x = 1}]",
+            3,
+            "batcher.0.x",
+        ),
         ("version = 1\nselect = 1", 3, "select"),
         ("version = 1\nbatcher = [{}]", 4, "batcher.0.name"),
         ("version = 1\nproducer = [{}]", 4, "producer.0.name"),
-        ("version = 1\nproducer = [{name = \"p\"}]", 4, "producer.0.source"),
-        ("version = 1\nproducer = [{source = 1}]", 4, "producer.0.name"),
-        ("version = 1\nbatcher = [{x = 1}]\nproducer = [{}]", 3, "batcher.0.x"),
+        (
+            "version = 1\nproducer = [{name = \"p\"}]",
+            4,
+            "producer.0.source",
+        ),
+        (
+            "version = 1\nproducer = [{source = 1}]",
+            4,
+            "producer.0.name",
+        ),
+        (
+            "version = 1\nbatcher = [{x = 1}]\nproducer = [{}]",
+            3,
+            "batcher.0.x",
+        ),
     ];
     expect_rows(&rt, rt.alloc(), &rows);
 }
@@ -82,17 +114,61 @@ fn types(rt: HostRuntime) {
         ("version = 1\nprocessors = []", 5, "processors"),
         ("version = 1\nsupervisor = \"s\"", 5, "supervisor"),
         ("version = 1\nbatcher = \"b\"", 5, "batcher"),
-        ("version = 1\nprocessors = {steps = \"pass\"}", 5, "processors.steps"),
-        ("version = 1\nprocessors = {steps = [\"bad\", 1]}", 5, "processors.steps.1"),
-        ("version = 1\nprocessors = {concurrency = \"2\"}", 5, "processors.concurrency"),
-        ("version = 1\nprocessors = {cancel = 1}", 5, "processors.cancel"),
-        ("version = 1\nprocessors = {max_demand = 1.5}", 5, "processors.max_demand"),
-        ("version = 1\npipeline = {control = 1}", 5, "pipeline.control"),
-        ("version = 1\nsupervisor = {failed = true}", 5, "supervisor.failed"),
-        ("version = 1\nbatcher = [{name = \"b\", sinks = [1]}]", 5, "batcher.0.sinks.0"),
-        ("version = 1\nbatcher = [{name = \"b\", dispatch = 1}]", 5, "batcher.0.dispatch"),
-        ("version = 1\npipeline = 1\nprocessors = {kind = \"x\"}", 5, "pipeline"),
-        ("version = 1\npipeline = {max_seconds = 0}\nprocessors = 1", 5, "processors"),
+        (
+            "version = 1\nprocessors = {steps = \"pass\"}",
+            5,
+            "processors.steps",
+        ),
+        (
+            "version = 1\nprocessors = {steps = [\"bad\", 1]}",
+            5,
+            "processors.steps.1",
+        ),
+        (
+            "version = 1\nprocessors = {concurrency = \"2\"}",
+            5,
+            "processors.concurrency",
+        ),
+        (
+            "version = 1\nprocessors = {cancel = 1}",
+            5,
+            "processors.cancel",
+        ),
+        (
+            "version = 1\nprocessors = {max_demand = 1.5}",
+            5,
+            "processors.max_demand",
+        ),
+        (
+            "version = 1\npipeline = {control = 1}",
+            5,
+            "pipeline.control",
+        ),
+        (
+            "version = 1\nsupervisor = {failed = true}",
+            5,
+            "supervisor.failed",
+        ),
+        (
+            "version = 1\nbatcher = [{name = \"b\", sinks = [1]}]",
+            5,
+            "batcher.0.sinks.0",
+        ),
+        (
+            "version = 1\nbatcher = [{name = \"b\", dispatch = 1}]",
+            5,
+            "batcher.0.dispatch",
+        ),
+        (
+            "version = 1\npipeline = 1\nprocessors = {kind = \"x\"}",
+            5,
+            "pipeline",
+        ),
+        (
+            "version = 1\npipeline = {max_seconds = 0}\nprocessors = 1",
+            5,
+            "processors",
+        ),
     ];
     expect_rows(&rt, rt.alloc(), &rows);
 }
@@ -100,49 +176,221 @@ fn types(rt: HostRuntime) {
 #[test]
 fn ranges(rt: HostRuntime) {
     let rows = [
-        ("version = 1\npipeline = {max_restarts = 1001}", 6, "pipeline.max_restarts"),
-        ("version = 1\npipeline = {max_restarts = -1}", 6, "pipeline.max_restarts"),
-        ("version = 1\npipeline = {max_seconds = 0}", 6, "pipeline.max_seconds"),
-        ("version = 1\npipeline = {max_seconds = 3601}", 6, "pipeline.max_seconds"),
-        ("version = 1\npipeline = {idle_limit = 1000001}", 6, "pipeline.idle_limit"),
-        ("version = 1\npipeline = {control = \"\"}", 6, "pipeline.control"),
-        ("version = 1\npipeline = {control = \"c\", idle_limit = 1000000, max_restarts = 1000, max_seconds = 3600}", 9, "-"),
-        ("version = 1\npipeline = {idle_limit = 0, max_restarts = 0, max_seconds = 1}", 9, "-"),
-        ("version = 1\nprocessors = {concurrency = 0}", 6, "processors.concurrency"),
-        ("version = 1\nprocessors = {concurrency = 33}", 6, "processors.concurrency"),
-        ("version = 1\nprocessors = {max_demand = 0}", 6, "processors.max_demand"),
-        ("version = 1\nprocessors = {max_demand = 10001}", 6, "processors.max_demand"),
-        ("version = 1\nprocessors = {min_demand = 10}", 6, "processors.min_demand"),
-        ("version = 1\nprocessors = {max_demand = 4, min_demand = 4}", 6, "processors.min_demand"),
-        ("version = 1\nprocessors = {max_demand = 4, min_demand = 3}", 9, "-"),
-        ("version = 1\nprocessors = {partition_by = 256}", 6, "processors.partition_by"),
-        ("version = 1\nprocessors = {cancel = \"never\"}", 6, "processors.cancel"),
-        ("version = 1\nprocessors = {kind = \"lines\"}", 6, "processors.kind"),
-        ("version = 1\nprocessors = {failed = \"a b\"}", 6, "processors.failed"),
-        ("version = 1\nprocessors = {failed = \"\"}", 6, "processors.failed"),
-        ("version = 1\nprocessors = {concurrency = 32, max_demand = 10000, min_demand = 9999, partition_by = 255}", 9, "-"),
-        ("version = 1\nsupervisor = {max_demand = 17}", 6, "supervisor.max_demand"),
-        ("version = 1\nsupervisor = {max_demand = 0}", 6, "supervisor.max_demand"),
-        ("version = 1\nsupervisor = {restart = \"permanent\"}", 6, "supervisor.restart"),
-        ("version = 1\nproducer = [{name = \"\", source = \"s\"}]", 6, "producer.0.name"),
-        ("version = 1\nproducer = [{name = \"A\", source = \"s\"}]", 6, "producer.0.name"),
-        ("version = 1\nproducer = [{name = \"processors\", source = \"s\"}]", 6, "producer.0.name"),
-        ("version = 1\nproducer = [{name = \"supervisor\", source = \"s\"}]", 6, "producer.0.name"),
-        ("version = 1\nproducer = [{name = \"a2345678901234567890123456789012\", source = \"s\"}]", 9, "-"),
-        ("version = 1\nproducer = [{name = \"a23456789012345678901234567890123\", source = \"s\"}]", 6, "producer.0.name"),
-        ("version = 1\nproducer = [{name = \"p\", source = \"\"}]", 6, "producer.0.source"),
-        ("version = 1\nproducer = [{name = \"p\", source = \"s\", mode = \"both\"}]", 6, "producer.0.mode"),
-        ("version = 1\nproducer = [{name = \"p\", source = \"s\", buffer_keep = \"all\"}]", 6, "producer.0.buffer_keep"),
-        ("version = 1\nproducer = [{name = \"p\", source = \"s\", buffer_size = 200001}]", 6, "producer.0.buffer_size"),
-        ("version = 1\nbatcher = [{name = \"b\", concurrency = 17}]", 6, "batcher.0.concurrency"),
-        ("version = 1\nbatcher = [{name = \"b\", batch_size = 0}]", 6, "batcher.0.batch_size"),
-        ("version = 1\nbatcher = [{name = \"b\", batch_size = 10001}]", 6, "batcher.0.batch_size"),
-        ("version = 1\nbatcher = [{name = \"b\", batch_timeout = 3600001}]", 6, "batcher.0.batch_timeout"),
-        ("version = 1\nbatcher = [{name = \"b\", batch_size = 4, min_demand = 4}]", 6, "batcher.0.min_demand"),
-        ("version = 1\nbatcher = [{name = \"b\", batch_size = 4, min_demand = 3}]", 9, "-"),
-        ("version = 1\nbatcher = [{name = \"b\", sinks = []}]", 6, "batcher.0.sinks"),
-        ("version = 1\nbatcher = [{name = \"b\", concurrency = 2, sinks = [\"s\"]}]", 6, "batcher.0.sinks"),
-        ("version = 1\nbatcher = [{name = \"b\", concurrency = 2, sinks = [\"s\", \"\"]}]", 9, "-"),
+        (
+            "version = 1\npipeline = {max_restarts = 1001}",
+            6,
+            "pipeline.max_restarts",
+        ),
+        (
+            "version = 1\npipeline = {max_restarts = -1}",
+            6,
+            "pipeline.max_restarts",
+        ),
+        (
+            "version = 1\npipeline = {max_seconds = 0}",
+            6,
+            "pipeline.max_seconds",
+        ),
+        (
+            "version = 1\npipeline = {max_seconds = 3601}",
+            6,
+            "pipeline.max_seconds",
+        ),
+        (
+            "version = 1\npipeline = {idle_limit = 1000001}",
+            6,
+            "pipeline.idle_limit",
+        ),
+        (
+            "version = 1\npipeline = {control = \"\"}",
+            6,
+            "pipeline.control",
+        ),
+        (
+            "version = 1\npipeline = {control = \"c\", idle_limit = 1000000, max_restarts = 1000, max_seconds = 3600}",
+            9,
+            "-",
+        ),
+        (
+            "version = 1\npipeline = {idle_limit = 0, max_restarts = 0, max_seconds = 1}",
+            9,
+            "-",
+        ),
+        (
+            "version = 1\nprocessors = {concurrency = 0}",
+            6,
+            "processors.concurrency",
+        ),
+        (
+            "version = 1\nprocessors = {concurrency = 33}",
+            6,
+            "processors.concurrency",
+        ),
+        (
+            "version = 1\nprocessors = {max_demand = 0}",
+            6,
+            "processors.max_demand",
+        ),
+        (
+            "version = 1\nprocessors = {max_demand = 10001}",
+            6,
+            "processors.max_demand",
+        ),
+        (
+            "version = 1\nprocessors = {min_demand = 10}",
+            6,
+            "processors.min_demand",
+        ),
+        (
+            "version = 1\nprocessors = {max_demand = 4, min_demand = 4}",
+            6,
+            "processors.min_demand",
+        ),
+        (
+            "version = 1\nprocessors = {max_demand = 4, min_demand = 3}",
+            9,
+            "-",
+        ),
+        (
+            "version = 1\nprocessors = {partition_by = 256}",
+            6,
+            "processors.partition_by",
+        ),
+        (
+            "version = 1\nprocessors = {cancel = \"never\"}",
+            6,
+            "processors.cancel",
+        ),
+        (
+            "version = 1\nprocessors = {kind = \"lines\"}",
+            6,
+            "processors.kind",
+        ),
+        (
+            "version = 1\nprocessors = {failed = \"a b\"}",
+            6,
+            "processors.failed",
+        ),
+        (
+            "version = 1\nprocessors = {failed = \"\"}",
+            6,
+            "processors.failed",
+        ),
+        (
+            "version = 1\nprocessors = {concurrency = 32, max_demand = 10000, min_demand = 9999, partition_by = 255}",
+            9,
+            "-",
+        ),
+        (
+            "version = 1\nsupervisor = {max_demand = 17}",
+            6,
+            "supervisor.max_demand",
+        ),
+        (
+            "version = 1\nsupervisor = {max_demand = 0}",
+            6,
+            "supervisor.max_demand",
+        ),
+        (
+            "version = 1\nsupervisor = {restart = \"permanent\"}",
+            6,
+            "supervisor.restart",
+        ),
+        (
+            "version = 1\nproducer = [{name = \"\", source = \"s\"}]",
+            6,
+            "producer.0.name",
+        ),
+        (
+            "version = 1\nproducer = [{name = \"A\", source = \"s\"}]",
+            6,
+            "producer.0.name",
+        ),
+        (
+            "version = 1\nproducer = [{name = \"processors\", source = \"s\"}]",
+            6,
+            "producer.0.name",
+        ),
+        (
+            "version = 1\nproducer = [{name = \"supervisor\", source = \"s\"}]",
+            6,
+            "producer.0.name",
+        ),
+        (
+            "version = 1\nproducer = [{name = \"a2345678901234567890123456789012\", source = \"s\"}]",
+            9,
+            "-",
+        ),
+        (
+            "version = 1\nproducer = [{name = \"a23456789012345678901234567890123\", source = \"s\"}]",
+            6,
+            "producer.0.name",
+        ),
+        (
+            "version = 1\nproducer = [{name = \"p\", source = \"\"}]",
+            6,
+            "producer.0.source",
+        ),
+        (
+            "version = 1\nproducer = [{name = \"p\", source = \"s\", mode = \"both\"}]",
+            6,
+            "producer.0.mode",
+        ),
+        (
+            "version = 1\nproducer = [{name = \"p\", source = \"s\", buffer_keep = \"all\"}]",
+            6,
+            "producer.0.buffer_keep",
+        ),
+        (
+            "version = 1\nproducer = [{name = \"p\", source = \"s\", buffer_size = 200001}]",
+            6,
+            "producer.0.buffer_size",
+        ),
+        (
+            "version = 1\nbatcher = [{name = \"b\", concurrency = 17}]",
+            6,
+            "batcher.0.concurrency",
+        ),
+        (
+            "version = 1\nbatcher = [{name = \"b\", batch_size = 0}]",
+            6,
+            "batcher.0.batch_size",
+        ),
+        (
+            "version = 1\nbatcher = [{name = \"b\", batch_size = 10001}]",
+            6,
+            "batcher.0.batch_size",
+        ),
+        (
+            "version = 1\nbatcher = [{name = \"b\", batch_timeout = 3600001}]",
+            6,
+            "batcher.0.batch_timeout",
+        ),
+        (
+            "version = 1\nbatcher = [{name = \"b\", batch_size = 4, min_demand = 4}]",
+            6,
+            "batcher.0.min_demand",
+        ),
+        (
+            "version = 1\nbatcher = [{name = \"b\", batch_size = 4, min_demand = 3}]",
+            9,
+            "-",
+        ),
+        (
+            "version = 1\nbatcher = [{name = \"b\", sinks = []}]",
+            6,
+            "batcher.0.sinks",
+        ),
+        (
+            "version = 1\nbatcher = [{name = \"b\", concurrency = 2, sinks = [\"s\"]}]",
+            6,
+            "batcher.0.sinks",
+        ),
+        (
+            "version = 1\nbatcher = [{name = \"b\", concurrency = 2, sinks = [\"s\", \"\"]}]",
+            9,
+            "-",
+        ),
     ];
     expect_rows(&rt, rt.alloc(), &rows);
 }
@@ -150,23 +398,91 @@ fn ranges(rt: HostRuntime) {
 #[test]
 fn rule_texts(rt: HostRuntime) {
     let rows = [
-        ("version = 1\nprocessors = {steps = [\"pass\", \"prefix\"]}", 6, "processors.steps.1"),
-        ("version = 1\nprocessors = {steps = [\"pass \"]}", 6, "processors.steps.0"),
-        ("version = 1\nprocessors = {steps = [\"key 256\"]}", 6, "processors.steps.0"),
-        ("version = 1\nprocessors = {steps = [\"key 01\"]}", 6, "processors.steps.0"),
-        ("version = 1\nprocessors = {steps = [\"key -1\"]}", 6, "processors.steps.0"),
-        ("version = 1\nprocessors = {steps = [\"key \"]}", 6, "processors.steps.0"),
-        ("version = 1\nprocessors = {steps = [\"fail_every 0\"]}", 6, "processors.steps.0"),
-        ("version = 1\nprocessors = {steps = [\"fail_every 1000001\"]}", 6, "processors.steps.0"),
-        ("version = 1\nprocessors = {steps = [\"fail_every 99999999999999999999\"]}", 6, "processors.steps.0"),
-        ("version = 1\nprocessors = {steps = [\"route 1 b\"]}", 6, "processors.steps.0"),
-        ("version = 1\nprocessors = {steps = [\"skip x\"]}", 6, "processors.steps.0"),
-        ("version = 1\nprocessors = {steps = [\"route 1 B x\"]}", 8, "processors.steps.0"),
-        ("version = 1\nprocessors = {steps = [\"prefix \", \"require a b\", \"key 0\", \"key 255\", \"flush \", \"raise x\", \"crash x\", \"fail_every 1\", \"fail_every 1000000\"]}", 9, "-"),
-        ("version = 1\nsupervisor = {steps = [\"pass\", \"route 1 b x\"]}", 8, "supervisor.steps.1"),
-        ("version = 1\nbatcher = [{name = \"b\", steps = [\"route 1 b x\"]}]", 8, "batcher.0.steps.0"),
-        ("version = 1\nbatcher = [{name = \"b\"}]\nprocessors = {steps = [\"route 1 c x\"]}", 8, "processors.steps.0"),
-        ("version = 1\nbatcher = [{name = \"b\"}]\nprocessors = {steps = [\"route 1 b \"]}", 9, "-"),
+        (
+            "version = 1\nprocessors = {steps = [\"pass\", \"prefix\"]}",
+            6,
+            "processors.steps.1",
+        ),
+        (
+            "version = 1\nprocessors = {steps = [\"pass \"]}",
+            6,
+            "processors.steps.0",
+        ),
+        (
+            "version = 1\nprocessors = {steps = [\"key 256\"]}",
+            6,
+            "processors.steps.0",
+        ),
+        (
+            "version = 1\nprocessors = {steps = [\"key 01\"]}",
+            6,
+            "processors.steps.0",
+        ),
+        (
+            "version = 1\nprocessors = {steps = [\"key -1\"]}",
+            6,
+            "processors.steps.0",
+        ),
+        (
+            "version = 1\nprocessors = {steps = [\"key \"]}",
+            6,
+            "processors.steps.0",
+        ),
+        (
+            "version = 1\nprocessors = {steps = [\"fail_every 0\"]}",
+            6,
+            "processors.steps.0",
+        ),
+        (
+            "version = 1\nprocessors = {steps = [\"fail_every 1000001\"]}",
+            6,
+            "processors.steps.0",
+        ),
+        (
+            "version = 1\nprocessors = {steps = [\"fail_every 99999999999999999999\"]}",
+            6,
+            "processors.steps.0",
+        ),
+        (
+            "version = 1\nprocessors = {steps = [\"route 1 b\"]}",
+            6,
+            "processors.steps.0",
+        ),
+        (
+            "version = 1\nprocessors = {steps = [\"skip x\"]}",
+            6,
+            "processors.steps.0",
+        ),
+        (
+            "version = 1\nprocessors = {steps = [\"route 1 B x\"]}",
+            8,
+            "processors.steps.0",
+        ),
+        (
+            "version = 1\nprocessors = {steps = [\"prefix \", \"require a b\", \"key 0\", \"key 255\", \"flush \", \"raise x\", \"crash x\", \"fail_every 1\", \"fail_every 1000000\"]}",
+            9,
+            "-",
+        ),
+        (
+            "version = 1\nsupervisor = {steps = [\"pass\", \"route 1 b x\"]}",
+            8,
+            "supervisor.steps.1",
+        ),
+        (
+            "version = 1\nbatcher = [{name = \"b\", steps = [\"route 1 b x\"]}]",
+            8,
+            "batcher.0.steps.0",
+        ),
+        (
+            "version = 1\nbatcher = [{name = \"b\"}]\nprocessors = {steps = [\"route 1 c x\"]}",
+            8,
+            "processors.steps.0",
+        ),
+        (
+            "version = 1\nbatcher = [{name = \"b\"}]\nprocessors = {steps = [\"route 1 b \"]}",
+            9,
+            "-",
+        ),
     ];
     expect_rows(&rt, rt.alloc(), &rows);
 }
@@ -174,21 +490,81 @@ fn rule_texts(rt: HostRuntime) {
 #[test]
 fn whole_files(rt: HostRuntime) {
     let rows = [
-        ("version = 1\nproducer = [{name = \"p\", source = \"s\"}, {name = \"p\", source = \"s\"}]", 7, "producer.1.name"),
-        ("version = 1\nbatcher = [{name = \"p\"}]\nproducer = [{name = \"p\", source = \"s\"}]", 7, "producer.0.name"),
-        ("version = 1\nbatcher = [{name = \"b\"}, {name = \"b\"}]", 7, "batcher.1.name"),
-        ("version = 1\nbatcher = []\nproducer = []\nprocessors = {}", 9, "-"),
-        ("version = 1\nproducer = [{name = \"p\", source = \"s\"}]", 9, "-"),
-        ("version = 1\nproducer = [{name = \"p\", source = \"s\"}]\nprocessors = {}\nsupervisor = {}", 9, "-"),
-        ("version = 1\nproducer = [{name = \"p\", source = \"s\"}]\nsupervisor = {}\nbatcher = [{name = \"b\"}]", 9, "-"),
-        ("version = 1\nproducer = [{name = \"p\", source = \"s\"}]\nsupervisor = {}", 100, "-"),
-        ("version = 1\nproducer = [{name = \"p\", source = \"s\"}]\nprocessors = {concurrency = 32}\nbatcher = [{name = \"b\", concurrency = 16}, {name = \"c\", concurrency = 14}]", 10, "-"),
-        ("version = 1\nproducer = [{name = \"p\", source = \"s\"}]\nprocessors = {concurrency = 32, kind = \"own\"}\nbatcher = [{name = \"b\", concurrency = 16}, {name = \"c\", concurrency = 13}]", 100, "-"),
-        ("version = 1\nproducer = [{name = \"p\", source = \"s\"}]\nprocessors = {}\nbatcher = [{name = \"b\", dispatch = \"random\"}]", 11, "batcher.0.dispatch"),
-        ("version = 1\nproducer = [{name = \"p\", source = \"s\"}]\nprocessors = {}\nbatcher = [{name = \"b\"}, {name = \"c\"}]", 12, "batcher.1"),
-        ("version = 1\nproducer = [{name = \"p\", source = \"s\"}]\nprocessors = {steps = [\"route 1 c x\"]}\nbatcher = [{name = \"b\"}, {name = \"c\"}]", 100, "-"),
-        ("version = 1\nproducer = [{name = \"p\", source = \"s\"}]\nprocessors = {kind = \"own\"}\nbatcher = [{name = \"b\"}, {name = \"c\"}]", 100, "-"),
-        ("version = 1\nproducer = [{name = \"p\", source = \"s\"}]\nprocessors = {steps = [\"route 1 d x\"]}\nbatcher = [{name = \"b\", dispatch = \"x\"}, {name = \"b\"}]", 7, "batcher.1.name"),
+        (
+            "version = 1\nproducer = [{name = \"p\", source = \"s\"}, {name = \"p\", source = \"s\"}]",
+            7,
+            "producer.1.name",
+        ),
+        (
+            "version = 1\nbatcher = [{name = \"p\"}]\nproducer = [{name = \"p\", source = \"s\"}]",
+            7,
+            "producer.0.name",
+        ),
+        (
+            "version = 1\nbatcher = [{name = \"b\"}, {name = \"b\"}]",
+            7,
+            "batcher.1.name",
+        ),
+        (
+            "version = 1\nbatcher = []\nproducer = []\nprocessors = {}",
+            9,
+            "-",
+        ),
+        (
+            "version = 1\nproducer = [{name = \"p\", source = \"s\"}]",
+            9,
+            "-",
+        ),
+        (
+            "version = 1\nproducer = [{name = \"p\", source = \"s\"}]\nprocessors = {}\nsupervisor = {}",
+            9,
+            "-",
+        ),
+        (
+            "version = 1\nproducer = [{name = \"p\", source = \"s\"}]\nsupervisor = {}\nbatcher = [{name = \"b\"}]",
+            9,
+            "-",
+        ),
+        (
+            "version = 1\nproducer = [{name = \"p\", source = \"s\"}]\nsupervisor = {}",
+            100,
+            "-",
+        ),
+        (
+            "version = 1\nproducer = [{name = \"p\", source = \"s\"}]\nprocessors = {concurrency = 32}\nbatcher = [{name = \"b\", concurrency = 16}, {name = \"c\", concurrency = 14}]",
+            10,
+            "-",
+        ),
+        (
+            "version = 1\nproducer = [{name = \"p\", source = \"s\"}]\nprocessors = {concurrency = 32, kind = \"own\"}\nbatcher = [{name = \"b\", concurrency = 16}, {name = \"c\", concurrency = 13}]",
+            100,
+            "-",
+        ),
+        (
+            "version = 1\nproducer = [{name = \"p\", source = \"s\"}]\nprocessors = {}\nbatcher = [{name = \"b\", dispatch = \"random\"}]",
+            11,
+            "batcher.0.dispatch",
+        ),
+        (
+            "version = 1\nproducer = [{name = \"p\", source = \"s\"}]\nprocessors = {}\nbatcher = [{name = \"b\"}, {name = \"c\"}]",
+            12,
+            "batcher.1",
+        ),
+        (
+            "version = 1\nproducer = [{name = \"p\", source = \"s\"}]\nprocessors = {steps = [\"route 1 c x\"]}\nbatcher = [{name = \"b\"}, {name = \"c\"}]",
+            100,
+            "-",
+        ),
+        (
+            "version = 1\nproducer = [{name = \"p\", source = \"s\"}]\nprocessors = {kind = \"own\"}\nbatcher = [{name = \"b\"}, {name = \"c\"}]",
+            100,
+            "-",
+        ),
+        (
+            "version = 1\nproducer = [{name = \"p\", source = \"s\"}]\nprocessors = {steps = [\"route 1 d x\"]}\nbatcher = [{name = \"b\", dispatch = \"x\"}, {name = \"b\"}]",
+            7,
+            "batcher.1.name",
+        ),
     ];
     expect_rows(&rt, rt.alloc(), &rows);
 }
