@@ -46,7 +46,7 @@ field_by (Some field) = field
 abbrev pub producer_stage : Option ℕ → ℕ → ℕ → ProducerSettings → StageSpec
 producer_stage field n i p =
     record (blank_stage (i + 1) p.name role.Producer i)
-      { dispatch = dispatch_by field; parts = parts_by field n; field = field_by field; size = Some p.buffer_size; keep = p.keep; push = p.push; edge = Some p.source }
+    { dispatch = dispatch_by field; parts = parts_by field n; field = field_by field; size = Some p.buffer_size; keep = p.keep; push = p.push; edge = Some p.source }
 
 abbrev pub producer_stages : Option ℕ → ℕ → ℕ → List ProducerSettings → List StageSpec
 producer_stages field parts i [] = []
@@ -60,7 +60,7 @@ dispatch_to (suc n) = Partition
 abbrev pub processor_stage : (known : List (List ℕ)) → ProcessorSettings → (before : ℕ) → ℕ → StageSpec
 processor_stage known p before i =
     record (blank_stage (before + i + 1) (numbered_name (codes "processors") i) role.Processor i)
-      { dispatch = dispatch_to (length known); parts = length known; batchers = length known; mode = p.demand.mode; min = p.demand.min; max = p.demand.max; kind = p.handler.kind; rules = rules_of known p.handler.steps; failed = p.handler.failed }
+    { dispatch = dispatch_to (length known); parts = length known; batchers = length known; mode = p.demand.mode; min = p.demand.min; max = p.demand.max; kind = p.handler.kind; rules = rules_of known p.handler.steps; failed = p.handler.failed }
 
 -- the places below n, from one on
 abbrev pub places : ℕ → ℕ → List ℕ
@@ -74,7 +74,7 @@ processor_stages known before (Some p) = map (processor_stage known p before) (p
 abbrev pub supervisor_stage : (before : ℕ) → SupervisorSettings → StageSpec
 supervisor_stage before s =
     record (blank_stage (before + 1) (codes "supervisor") role.Supervisor 0)
-      { mode = s.demand.mode; min = s.demand.min; max = s.demand.max; kind = s.handler.kind; rules = rules_of [] s.handler.steps; failed = s.handler.failed; child = s.restart }
+    { mode = s.demand.mode; min = s.demand.min; max = s.demand.max; kind = s.handler.kind; rules = rules_of [] s.handler.steps; failed = s.handler.failed; child = s.restart }
 
 abbrev pub supervisor_stages : (before : ℕ) → Option SupervisorSettings → List StageSpec
 supervisor_stages before None = []
@@ -88,7 +88,7 @@ parts_of _ n = 0
 abbrev pub batcher_stage : (before : ℕ) → ℕ → BatcherSettings → StageSpec
 batcher_stage before i b =
     record (blank_stage (before + i + 1) b.name role.Batcher i)
-      { batcher = i; dispatch = unwrap_or b.dispatch Demand; parts = parts_of (unwrap_or b.dispatch Demand) b.concurrency; mode = b.demand.mode; min = b.demand.min; max = b.demand.max; batch_size = b.batch_size; batch_timeout = b.batch_timeout }
+    { batcher = i; dispatch = unwrap_or b.dispatch Demand; parts = parts_of (unwrap_or b.dispatch Demand) b.concurrency; mode = b.demand.mode; min = b.demand.min; max = b.demand.max; batch_size = b.batch_size; batch_timeout = b.batch_timeout }
 
 abbrev pub batcher_stages : (before : ℕ) → ℕ → List BatcherSettings → List StageSpec
 batcher_stages before i [] = []
@@ -101,7 +101,7 @@ sink_at sinks i = option_and_then (λ names. slice_get names i) sinks
 abbrev pub batch_processor_stage : (k : ℕ) → BatcherSettings → (before : ℕ) → ℕ → StageSpec
 batch_processor_stage k b before i =
     record (blank_stage (before + i + 1) (numbered_name b.name i) role.BatchProcessor i)
-      { batcher = k; mode = b.demand.mode; max = 1; kind = b.handler.kind; rules = rules_of [] b.handler.steps; failed = b.handler.failed; edge = sink_at b.sinks i }
+    { batcher = k; mode = b.demand.mode; max = 1; kind = b.handler.kind; rules = rules_of [] b.handler.steps; failed = b.handler.failed; edge = sink_at b.sinks i }
 
 abbrev pub batch_processor_stages : (before : ℕ) → (k : ℕ) → List BatcherSettings → List StageSpec
 batch_processor_stages before k [] = []

@@ -12,9 +12,9 @@ use config_judge::names::batcher_names;
 use config_settings::settings::{
     BatcherSettings, ProcessorSettings, ProducerSettings, Settings, SupervisorSettings,
 };
+use config_table::fault::copied;
 use pipe_types::bytes::Text;
 use pipe_types::topology::{StageList, StageSpec, Topology};
-use config_table::fault::copied;
 use std::alloc::{AllocError, Global};
 
 fn push_producers(
@@ -117,9 +117,7 @@ fn push_batch_processors(
 {
     let count = batcher.concurrency;
     for i in 0..count {
-        stages.push(batch_processor_stage(
-            alloc, number, batcher, before, i as u16,
-        )?)?;
+        stages.push(batch_processor_stage(alloc, number, batcher, before, i as u16)?)?;
     }
     Ok(())
 }
@@ -212,12 +210,14 @@ pub fn build_topology(alloc: Global, settings: &Settings) -> Result<Topology, Al
     requires field { ForSome (build.partition_field settings.now.processors) (λ n. n < 2 ^ 16) }
     ensures { IfOk result (λ topology. topology ≡ build.topology_in settings.now) }
 {
+    let seconds = settings.max_seconds;
+    let window_ms = u64::from(seconds) * 1000;
     let stages = stages_of(alloc, settings)?;
     let control = copy_of(alloc, &settings.control)?;
     Ok(Topology {
         stages,
         max_restarts: settings.max_restarts,
-        window_ms: u64::from(settings.max_seconds) * 1000,
+        window_ms,
         idle_limit: settings.idle_limit,
         record_limit: 200_000,
         byte_limit: 67_108_864,

@@ -218,11 +218,7 @@ pub fn batcher_stage(
 }
 
 /// The sink at a place, where the batcher has sinks.
-fn sink_at(
-    alloc: Global,
-    sinks: &Option<TextList>,
-    index: u16,
-) -> Result<Option<Text>, AllocError>
+fn sink_at(alloc: Global, sinks: &Option<TextList>, index: u16) -> Result<Option<Text>, AllocError>
     ensures { IfOk result (λ sink. sink ≡ build.sink_at sinks.now index) }
 {
     match sinks {
@@ -248,13 +244,7 @@ pub fn batch_processor_stage(
     let name = member_name(alloc, batcher.name.as_str(), index)?;
     let rules = rules_of(alloc, &[], batcher.handler.steps.as_slice())?;
     let edge = sink_at(alloc, &batcher.sinks, index)?;
-    let mut stage = blank_stage(
-        alloc,
-        before + index + 1,
-        name,
-        Role::BatchProcessor,
-        index,
-    );
+    let mut stage = blank_stage(alloc, before + index + 1, name, Role::BatchProcessor, index);
     stage.batcher = number;
     stage.mode = batcher.demand.mode;
     stage.max = 1;

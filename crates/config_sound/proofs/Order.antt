@@ -10,6 +10,7 @@ use Rattle.config_settings.specs.declared.settings.ProducerSettings.{ProducerSet
 use Rattle.config_settings.specs.declared.settings.BatcherSettings.{BatcherSettings}
 use Rattle.config_settings.specs.declared.settings.ProcessorSettings.{ProcessorSettings}
 use Rattle.config_settings.specs.declared.settings.SupervisorSettings.{SupervisorSettings}
+use Rattle.config_judge.specs.Judge.{processor_count, supervisor_count}
 use Rattle.config_build.specs.Build.{producer_stage, producer_stages, places, processor_stage, processor_stages, supervisor_stage, supervisor_stages, batcher_stage, batcher_stages, batch_processor_stage, batch_processor_stages}
 
 both : {a b : Bool} → a ≡ true → b ≡ true → (a && b) ≡ true
@@ -92,15 +93,14 @@ go_batchers n before i third b (next ∷ bs) all first others whole is sizes cou
     (go_batchers n before (i + 1) third next bs all first others whole third_is sizes count)
 
 -- the batchers, if there are any, after the last processor
-go_after_processors : (n : ℕ) (known : List (List ℕ)) (p : ProcessorSettings) (before c third : ℕ) (bs : List BatcherSettings) → third ≡ before + (c + 1) + length bs → sizes_fit bs ≡ true → n ≡ length bs
-    → may_go_on n (processor_stage known p before (0 + c)) (batcher_stages (before + (c + 1)) 0 bs ++ batch_processor_stages third 0 bs) ≡ true
-go_after_processors n known p before c third [] is sizes count = refl
-go_after_processors n known p before c third (b ∷ bs) is sizes count =
-    let third_is : third ≡ before + (c + 1) + 0 + 1 + length bs = omega arith in
-    both (both (eq-eqb (before + (c + 1) + 0 + 1) (before + (0 + c) + 1 + 1) (omega arith)) refl)
-    (go_batchers n (before + (c + 1)) 0 third b bs (b ∷ bs) b bs refl third_is sizes count)
+go_after_processors : (n : ℕ) (known : List (List ℕ)) (p : ProcessorSettings) (before c second third : ℕ) (bs : List BatcherSettings) → second ≡ before + c + 1 → third ≡ second + length bs → sizes_fit bs ≡ true → n ≡ length bs
+    → may_go_on n (processor_stage known p before (0 + c)) (batcher_stages second 0 bs ++ batch_processor_stages third 0 bs) ≡ true
+go_after_processors n known p before c second third [] second_is is sizes count = refl
+go_after_processors n known p before c second third (b ∷ bs) second_is is sizes count =
+    let third_is : third ≡ second + 0 + 1 + length bs = omega arith in
+    both (both (eq-eqb (second + 0 + 1) (before + (0 + c) + 1 + 1) (omega arith)) refl)
+    (go_batchers n second 0 third b bs (b ∷ bs) b bs refl third_is sizes count)
 
--- a first stage of level two, and what comes after it
 abbrev second_role : Role → Bool
 second_role role.Processor = true
 second_role role.Supervisor = true
@@ -113,14 +113,66 @@ next_second role.Supervisor s a h e = eq-eqb s.index 0 e
 next_second role.Batcher s a h e = cc
 next_second role.BatchProcessor s a h e = cc
 
-abbrev IsSecond : ℕ → ℕ → StageSpec → List StageSpec → Type 0
-IsSecond n no s rest = (s.no.0 ≡ no) × (second_role s.role ≡ true) × (s.index ≡ 0) × (may_go_on n s rest ≡ true)
-
 -- the producers after the i-th, and a stage of level two
-go_producers : (n : ℕ) (field : Option ℕ) (parts i : ℕ) (p : ProducerSettings) (ps : List ProducerSettings) (s : StageSpec) (rest : List StageSpec) → IsSecond n (i + 1 + length ps + 1) s rest
+go_producers : (n : ℕ) (field : Option ℕ) (parts i : ℕ) (p : ProducerSettings) (ps : List ProducerSettings) (s : StageSpec) (rest : List StageSpec)
+    → s.no.0 ≡ i + 1 + length ps + 1 → second_role s.role ≡ true → s.index ≡ 0 → may_go_on n s rest ≡ true
     → may_go_on n (producer_stage field parts i p) (producer_stages field parts (i + 1) ps ++ s ∷ rest) ≡ true
-go_producers n field parts i p [] s rest second = both (both (eq-eqb s.no.0 (i + 1 + 1) (second.0 ∙ omega arith)) (next_second s.role s (producer_stage field parts i p) second.1 second.2)) second.3
-go_producers n field parts i p (next ∷ ps) s rest second =
-    let numbered : s.no.0 ≡ i + 1 + 1 + length ps + 1 = second.0 ∙ omega arith in
+go_producers n field parts i p [] s rest numbered level begins more =
+    let here : s.no.0 ≡ i + 1 + 1 = omega arith in
+    both (both (eq-eqb s.no.0 (i + 1 + 1) here) (next_second s.role s (producer_stage field parts i p) level begins)) more
+go_producers n field parts i p (next ∷ ps) s rest numbered level begins more =
+    let later : s.no.0 ≡ i + 1 + 1 + length ps + 1 = omega arith in
     both (both (eq-eqb (i + 1 + 1) (i + 1 + 1) refl) (eq-eqb (i + 1) (i + 1) refl))
-    (go_producers n field parts (i + 1) next ps s rest (numbered, second.1, second.2, second.3))
+    (go_producers n field parts (i + 1) next ps s rest later level begins more)
+
+-- ---- the whole
+
+-- producers, and either processors or a supervisor without batchers
+abbrev pub IsEnough : Option ProcessorSettings → Option SupervisorSettings → List BatcherSettings → Type 0
+IsEnough None None bs = ⊥
+IsEnough None (Some s) [] = Unit {0}
+IsEnough None (Some s) (b ∷ bs) = ⊥
+IsEnough (Some p) None bs = is_between 1 32 p.concurrency ≡ true
+IsEnough (Some p) (Some s) bs = ⊥
+
+one_to_32 : (m : ℕ) → is_between 1 32 m ≡ true → m ≡ suc (m - 1)
+one_to_32 m h = let least = leb-true 1 m (and_parts (nat_le 1 m) (nat_le m 32) h).0 in omega arith
+
+processors_go : (n : ℕ) (field : Option ℕ) (parts : ℕ) (known : List (List ℕ)) (p : ProducerSettings) (ps : List ProducerSettings) (q : ProcessorSettings) (first second third m c : ℕ) (bs : List BatcherSettings)
+    → first ≡ 1 + length ps → m ≡ suc c → second ≡ first + m → third ≡ second + length bs → sizes_fit bs ≡ true → n ≡ length bs
+    → may_go_on n (producer_stage field parts 0 p) (producer_stages field parts (0 + 1) ps ++ (map (processor_stage known q first) (places 0 m) ++ (batcher_stages second 0 bs ++ batch_processor_stages third 0 bs))) ≡ true
+processors_go n field parts known p ps q first second third m c bs first_is size second_is third_is sizes count =
+    let rest : List StageSpec = batcher_stages second 0 bs ++ batch_processor_stages third 0 bs in
+    let f : ℕ → StageSpec = processor_stage known q first in
+    let numbered : first + 0 + 1 ≡ 0 + 1 + length ps + 1 = omega arith in
+    let after : second ≡ first + c + 1 = omega arith in
+    subst (λ (k : ℕ). may_go_on n (producer_stage field parts 0 p) (producer_stages field parts (0 + 1) ps ++ (map f (places 0 k) ++ rest)) ≡ true) (sym size)
+    (go_producers n field parts 0 p ps (f 0) (map f (places (0 + 1) c) ++ rest) numbered refl refl
+    (go_map n f (processor_follows known q first) c 0 rest (go_after_processors n known q first c second third bs after third_is sizes count)))
+
+supervisor_goes : (n : ℕ) (field : Option ℕ) (parts : ℕ) (p : ProducerSettings) (ps : List ProducerSettings) (t : SupervisorSettings) (first : ℕ) → first ≡ 1 + length ps
+    → may_go_on n (producer_stage field parts 0 p) (producer_stages field parts (0 + 1) ps ++ supervisor_stage first t ∷ []) ≡ true
+supervisor_goes n field parts p ps t first first_is =
+    let numbered : first + 1 ≡ 0 + 1 + length ps + 1 = omega arith in
+    go_producers n field parts 0 p ps (supervisor_stage first t) [] numbered refl refl refl
+
+-- the stages after the first producer
+stages_go : (n : ℕ) (field : Option ℕ) (parts : ℕ) (known : List (List ℕ)) (p : ProducerSettings) (ps : List ProducerSettings) (procs : Option ProcessorSettings) (sup : Option SupervisorSettings) (bs : List BatcherSettings) (first second third : ℕ)
+    → first ≡ 1 + length ps → second ≡ first + processor_count procs + supervisor_count sup → third ≡ second + length bs → IsEnough procs sup bs → sizes_fit bs ≡ true → n ≡ length bs
+    → may_go_on n (producer_stage field parts 0 p) (producer_stages field parts (0 + 1) ps ++ (processor_stages known first procs ++ (supervisor_stages first sup ++ (batcher_stages second 0 bs ++ batch_processor_stages third 0 bs)))) ≡ true
+stages_go n field parts known p ps None None bs first second third first_is second_is third_is enough sizes count = absurd enough
+stages_go n field parts known p ps None (Some t) [] first second third first_is second_is third_is enough sizes count = supervisor_goes n field parts p ps t first first_is
+stages_go n field parts known p ps None (Some t) (b ∷ bs) first second third first_is second_is third_is enough sizes count = absurd enough
+stages_go n field parts known p ps (Some q) None bs first second third first_is second_is third_is enough sizes count =
+    let after : second ≡ first + q.concurrency = omega arith in
+    processors_go n field parts known p ps q first second third q.concurrency (q.concurrency - 1) bs first_is (one_to_32 q.concurrency enough) after third_is sizes count
+stages_go n field parts known p ps (Some q) (Some t) bs first second third first_is second_is third_is enough sizes count = absurd enough
+
+pub stages_are_ordered : (field : Option ℕ) (parts : ℕ) (known : List (List ℕ)) (ps : List ProducerSettings) (procs : Option ProcessorSettings) (sup : Option SupervisorSettings) (bs : List BatcherSettings) (first second third : ℕ) (stages : List StageSpec)
+    → first ≡ length ps → 1 ≤ length ps → second ≡ first + processor_count procs + supervisor_count sup → third ≡ second + length bs → IsEnough procs sup bs → sizes_fit bs ≡ true
+    → stages ≡ producer_stages field parts 0 ps ++ (processor_stages known first procs ++ (supervisor_stages first sup ++ (batcher_stages second 0 bs ++ batch_processor_stages third 0 bs)))
+    → length (batchers stages) ≡ length bs → is_ordered stages ≡ true
+stages_are_ordered field parts known [] procs sup bs first second third stages first_is some second_is third_is enough sizes whole count = absurd (omega arith)
+stages_are_ordered field parts known (p ∷ ps) procs sup bs first second third stages first_is some second_is third_is enough sizes whole count =
+    let first' : first ≡ 1 + length ps = omega arith in
+    rw whole (stages_go (length (batchers _)) field parts known p ps procs sup bs first second third first' second_is third_is enough sizes (rw whole at count))
