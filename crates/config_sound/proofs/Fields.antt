@@ -16,6 +16,7 @@ use Rattle.config_settings.specs.declared.settings.SupervisorSettings.{Superviso
 use Rattle.config_settings.specs.declared.settings.BatcherSettings.{BatcherSettings}
 use Rattle.config_judge.specs.Judge.{astray_routes, batcher_route, batcher_routes, batch_processor_count}
 use Rattle.config_build.specs.Build.{producer_stage, producer_stages, places, processor_stage, processor_stages, supervisor_stage, supervisor_stages, batcher_stage, batcher_stages, batch_processor_stage, batch_processor_stages, dispatch_to, parts_of, rules_of}
+use Rattle.config_table.specs.Fault.{under, at_place}
 use Rattle.config_sound.specs.Fit.{demand_fits, handler_fits, producer_fits, field_fits, processors_fit, supervisor_fits, batcher_fits}
 use Rattle.config_sound.proofs.Groups.{AllRole, length-places}
 use Rattle.config_sound.proofs.Named.{both, all_append}
@@ -181,7 +182,7 @@ member_fields all before k (b ∷ bs) h routes =
     let (demand, handler) = and_parts (demand_fits 10000 b.demand) (handler_fits b.handler) rest in
     let (few, failed) = and_parts (nat_le (length b.handler.steps) 64) (is_reason b.handler.failed) handler in
     let most : b.concurrency ≤ 16 = leb-true b.concurrency 16 (and_parts (nat_le 1 b.concurrency) (nat_le b.concurrency 16) size).1 in
-    let rules : are_rules 0 (rules_of [] b.handler.steps) ≡ true = rules_fit _ [] b.handler.steps straight few in
+    let rules : are_rules 0 (rules_of [] b.handler.steps) ≡ true = rules_fit (under (at_place (codes "batcher") k) (codes "steps")) [] b.handler.steps straight few in
     all_append (has_fields all) (map (batch_processor_stage k b before) (places 0 b.concurrency)) (batch_processor_stages (before + b.concurrency) (k + 1) bs)
     (all_places (has_fields all) (batch_processor_stage k b before) b.concurrency 0 16 (omega arith) (λ i below. one_member all k b before i (lt_true i 16 below) rules failed))
     (member_fields all (before + b.concurrency) (k + 1) bs more later)

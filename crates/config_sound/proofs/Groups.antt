@@ -27,13 +27,13 @@ filter_cons false false x xs e = refl
 filter_cons true false x xs e = cc
 filter_cons false true x xs e = cc
 
+same_either : (b : Bool) (xs : List StageSpec) → xs ≡ cond b xs xs
+same_either true xs = refl
+same_either false xs = refl
+
 -- a filter by role takes all of a group or none
 pub filter_role : (f : Role → Bool) (r : Role) (xs : List StageSpec) → AllRole r xs → filter (λ s. f s.role) xs ≡ cond (f r) xs []
-filter_role f r [] h = filter_nil (f r)
-  where
-    filter_nil : (b : Bool) → [] ≡ cond b [] []
-    filter_nil true = refl
-    filter_nil false = refl
+filter_role f r [] h = same_either (f r) []
 filter_role f r (x ∷ xs) h = rw (filter_role f r xs h.1) (filter_cons (f x.role) (f r) x xs (ap f h.0))
 
 pub role_producers : (field : Option ℕ) (n i : ℕ) (ps : List ProducerSettings) → AllRole role.Producer (producer_stages field n i ps)

@@ -5,3 +5,5 @@ pub mod Distinct
 pub mod Rules
 pub mod Fields
 pub mod Reached
+pub mod Sound
+pub mod Walked

@@ -24,10 +24,10 @@ go_map n f follows (suc m) i rest after =
     both (follows i) (go_map n f follows m (i + 1) rest (subst (λ (k : ℕ). may_go_on n (f k) rest ≡ true) e after))
 
 processor_follows : (known : List (List ℕ)) (p : ProcessorSettings) (before i : ℕ) → may_follow (processor_stage known p before i) (processor_stage known p before (i + 1)) ≡ true
-processor_follows known p before i = both (eq-eqb _ _ (omega arith)) (eq-eqb _ _ refl)
+processor_follows known p before i = both (eq-eqb (before + (i + 1) + 1) (before + i + 1 + 1) (omega arith)) (eq-eqb (i + 1) (i + 1) refl)
 
 member_follows : (k : ℕ) (b : BatcherSettings) (before i : ℕ) → may_follow (batch_processor_stage k b before i) (batch_processor_stage k b before (i + 1)) ≡ true
-member_follows k b before i = both (eq-eqb _ _ (omega arith)) (rw (eq-eqb k k refl, eq-eqb (i + 1) (i + 1) refl) refl)
+member_follows k b before i = both (eq-eqb (before + (i + 1) + 1) (before + i + 1 + 1) (omega arith)) (rw (eq-eqb k k refl, eq-eqb (i + 1) (i + 1) refl) refl)
 
 or_right : (x y : Bool) → y ≡ true → (x || y) ≡ true
 or_right true y h = refl
@@ -86,7 +86,7 @@ go_batchers : (n before i third : ℕ) (b : BatcherSettings) (bs all : List Batc
 go_batchers n before i third b [] all first others whole is sizes count =
     let third_is : third ≡ before + i + 1 = omega arith in
     let count' : n ≡ 1 + length others = omega (arith, ap length whole) in
-    rw whole (go_groups n before i third b first others third_is (rw whole at sizes) count')
+    subst (λ (x : List BatcherSettings). may_go_on n (batcher_stage before i b) (batch_processor_stages third 0 x) ≡ true) (sym whole) (go_groups n before i third b first others third_is (subst (λ (x : List BatcherSettings). sizes_fit x ≡ true) whole sizes) count')
 go_batchers n before i third b (next ∷ bs) all first others whole is sizes count =
     let third_is : third ≡ before + (i + 1) + 1 + length bs = omega arith in
     both (both (eq-eqb (before + (i + 1) + 1) (before + i + 1 + 1) (omega arith)) (eq-eqb (i + 1) (i + 1) refl))
@@ -175,4 +175,6 @@ pub stages_are_ordered : (field : Option ℕ) (parts : ℕ) (known : List (List 
 stages_are_ordered field parts known [] procs sup bs first second third stages first_is some second_is third_is enough sizes whole count = absurd (omega arith)
 stages_are_ordered field parts known (p ∷ ps) procs sup bs first second third stages first_is some second_is third_is enough sizes whole count =
     let first' : first ≡ 1 + length ps = omega arith in
-    rw whole (stages_go (length (batchers _)) field parts known p ps procs sup bs first second third first' second_is third_is enough sizes (rw whole at count))
+    let rest : List StageSpec = producer_stages field parts (0 + 1) ps ++ (processor_stages known first procs ++ (supervisor_stages first sup ++ (batcher_stages second 0 bs ++ batch_processor_stages third 0 bs))) in
+    subst (λ (x : List StageSpec). is_ordered x ≡ true) (sym whole)
+    (stages_go (length (batchers (producer_stage field parts 0 p ∷ rest))) field parts known p ps procs sup bs first second third first' second_is third_is enough sizes (subst (λ (x : List StageSpec). length (batchers x) ≡ length bs) whole count))

@@ -13,7 +13,7 @@ use Rattle.config_settings.specs.declared.settings.ProcessorSettings.{ProcessorS
 use Rattle.config_settings.specs.declared.settings.SupervisorSettings.{SupervisorSettings}
 use Rattle.config_settings.specs.declared.settings.BatcherSettings.{BatcherSettings}
 use Rattle.config_settings.specs.declared.settings.Settings.{Settings}
-use Rattle.config_judge.specs.Judge.{faults_in, faults_with, duplicates_with, routes_with, group_faults, bad_dispatches, unreachable_with, lacks_stage, stage_count, processor_count, supervisor_count, batch_processor_count, batcher_names, producer_names, processor_routes, supervisor_routes, batcher_routes, fault_if}
+use Rattle.config_judge.specs.Judge.{faults_in, duplicate_names, duplicates_with, routes_with, group_faults, bad_dispatches, unreachable_with, lacks_stage, stage_count, processor_count, supervisor_count, batch_processor_count, batcher_names, producer_names, processor_routes, supervisor_routes, batcher_routes, fault_if}
 use Rattle.config_build.specs.Build.{topology_in, stages_of, partition_field, producer_stages, places, processor_stage, processor_stages, supervisor_stages, batcher_stages, batch_processor_stages}
 use Rattle.config_sound.specs.Fit.{IsFit, producer_fits, processors_fit, supervisor_fits, batcher_fits, demand_fits, handler_fits, field_fits}
 use Rattle.config_sound.proofs.Groups.{AllRole, role_producers, role_processors, role_supervisors, role_batchers, role_batch_processors, length-producers, length-processors, length-supervisors, length-batchers, length-batch_processors, five, five_producers, five_processors, five_batchers}
@@ -22,6 +22,8 @@ use Rattle.config_sound.proofs.Named.{both, all_append, named_producers, named_p
 use Rattle.config_sound.proofs.Distinct.{no_fault, nothing_left, names_are_distinct}
 use Rattle.config_sound.proofs.Rules.{rules_fit}
 use Rattle.config_sound.proofs.Fields.{FieldFits, ProcessorRules, SupervisorRules, producer_fields, processor_fields, supervisor_fields, batcher_fields, member_fields, counted_batchers, none_of}
+use Rattle.config_sound.proofs.Walked.{least_none}
+use Rattle.config_table.specs.Fault.{least, under}
 use Rattle.config_sound.proofs.Reached.{batchers_reached}
 use Rattle.std.proofs.lemmas.List.Elements.{filter-append}
 
@@ -82,13 +84,13 @@ processor_rules known None h routes = tt
 processor_rules known (Some q) h routes =
     let handling = (and_parts (is_between 1 32 q.concurrency && field_fits q.partition_by) (demand_fits 10000 q.demand && (not (is_lines q.handler.kind) && handler_fits q.handler)) h).1 in
     let handler = (and_parts (not (is_lines q.handler.kind)) (handler_fits q.handler) (and_parts (demand_fits 10000 q.demand) (not (is_lines q.handler.kind) && handler_fits q.handler) handling).1).1 in
-    rules_fit _ known q.handler.steps routes (and_parts (nat_le (length q.handler.steps) 64) (is_reason q.handler.failed) handler).0
+    rules_fit (under (codes "processors") (codes "steps")) known q.handler.steps routes (and_parts (nat_le (length q.handler.steps) 64) (is_reason q.handler.failed) handler).0
 
 supervisor_rules : (sup : Option SupervisorSettings) → supervisor_fits sup ≡ true → supervisor_routes sup ≡ [] → SupervisorRules sup
 supervisor_rules None h routes = tt
 supervisor_rules (Some s) h routes =
     let handler = (and_parts (not (is_lines s.handler.kind)) (handler_fits s.handler) (and_parts (demand_fits 16 s.demand) (not (is_lines s.handler.kind) && handler_fits s.handler) h).1).1 in
-    rules_fit _ [] s.handler.steps routes (and_parts (nat_le (length s.handler.steps) 64) (is_reason s.handler.failed) handler).0
+    rules_fit (under (codes "supervisor") (codes "steps")) [] s.handler.steps routes (and_parts (nat_le (length s.handler.steps) 64) (is_reason s.handler.failed) handler).0
 
 -- batchers only beside processors
 reached : (all : List StageSpec) (known : List (List ℕ)) (first second : ℕ) (procs : Option ProcessorSettings) (sup : Option SupervisorSettings) (bs : List BatcherSettings) → IsEnough procs sup bs → processors all ≡ processor_stages known first procs → unreachable_with known bs procs ≡ []
@@ -123,6 +125,14 @@ no_group_fault s h =
     few : (b : Bool) → nat_lt 64 (stage_count s) ≡ b → fault_if b fault.TooManyStages ≡ [] → stage_count s ≤ 64
     few true e h = cc
     few false e h = grind (arith, nat_tests)
+
+-- settings that no fault names have at most 64 stages
+pub few_stages : (s : Settings) → least (faults_in s) ≡ None → stage_count s ≤ 64
+few_stages s h =
+    let known : List (List ℕ) = batcher_names s.batchers in
+    let after_names = (nothing_left (duplicates_with known s) (routes_with known s ++ (group_faults s ++ (bad_dispatches 0 s.batchers ++ unreachable_with known s.batchers s.processors))) (least_none (faults_in s) h)).1 in
+    let after_routes = (nothing_left (routes_with known s) (group_faults s ++ (bad_dispatches 0 s.batchers ++ unreachable_with known s.batchers s.processors)) after_names).1 in
+    (no_group_fault s (nothing_left (group_faults s) (bad_dispatches 0 s.batchers ++ unreachable_with known s.batchers s.processors) after_routes).0).1
 
 abbrev is_of : ℕ → StageSpec → Bool
 is_of k s = is_batch_processor s.role && s.batcher == k
@@ -180,7 +190,7 @@ built_is_sound s fit h =
     let (dispatches, unreached) = nothing_left (bad_dispatches 0 s.batchers) (unreachable_with known s.batchers s.processors) after_groups in
     let (batcher_straight, others) = nothing_left (batcher_routes 0 s.batchers) (processor_routes known s.processors ++ supervisor_routes s.supervisor) routes in
     let (processor_straight, supervisor_straight) = nothing_left (processor_routes known s.processors) (supervisor_routes s.supervisor) others in
-    let (names, producers_new) = nothing_left _ _ duplicates in
+    let (names, producers_new) = nothing_left (duplicate_names (codes "batcher") [] 0 known) (duplicate_names (codes "producer") known 0 (producer_names s.producers)) duplicates in
     let (present, few) = no_group_fault s groups in
     let (no_gap, level_two) = lacks_rest (length s.producers == 0) ((is_none s.processors && is_none s.supervisor) || (is_some s.supervisor && (is_some s.processors || not (length s.batchers == 0)))) present in
     let is_enough : IsEnough s.processors s.supervisor s.batchers = enough s.processors s.supervisor s.batchers level_two fit.processors in

@@ -9,7 +9,6 @@ ghost use Rattle.config_sound.specs.Fit.{IsFit};
 use config_settings::settings::Settings;
 
 /// The topology of settings in their ranges, in which nothing is at fault, is sound.
-#[tactic(auto, using(crate::proofs::Sound::built_is_sound))]
 pub fn sound_when_fit(settings: &Settings)
     requires fit { IsFit settings.now }
     requires no_fault { faults_in settings.now ≡ [] }

@@ -50,12 +50,12 @@ fn judge_settings(alloc: Global, settings: &Settings) -> Result<Topology, Config
         Ok(fault) => fault,
         Err(_) => return Err(ConfigFault::OutOfMemory),
     };
-    if let Some(fault) = fault {
-        return Err(fault);
-    }
-    match build_topology(alloc, settings) {
-        Ok(topology) => Ok(topology),
-        Err(_) => Err(ConfigFault::OutOfMemory),
+    match fault {
+        Some(fault) => Err(fault),
+        None => match build_topology(alloc, settings) {
+            Ok(topology) => Ok(topology),
+            Err(_) => Err(ConfigFault::OutOfMemory),
+        },
     }
 }
 
