@@ -62,7 +62,7 @@ one_processor : (all : List StageSpec) (known : List (List ℕ)) (q : ProcessorS
 one_processor all known q first i count place demand kind rules failed =
     both
     (both (both (rw count (eq-eqb (length known) (length known) refl)) (sends_well known q first i))
-      (both (both place demand) (both kind (both rules failed))))
+    (both (both place demand) (both kind (both rules failed))))
     refl
 
 abbrev pub ProcessorRules : List (List ℕ) → Option ProcessorSettings → Type 0
@@ -122,9 +122,13 @@ later_groups k before j (b ∷ bs) h =
 
 first_group : (k before : ℕ) (b : BatcherSettings) (bs : List BatcherSettings) → length (filter (is_of k) (batch_processor_stages before k (b ∷ bs))) ≡ b.concurrency
 first_group k before b bs =
-    rw (filter-append (is_of k) (map (batch_processor_stage k b before) (places 0 b.concurrency)) (batch_processor_stages (before + b.concurrency) (k + 1) bs),
-        own_group k b before (places 0 b.concurrency), later_groups k (before + b.concurrency) (k + 1) bs (omega arith),
-        length-append (map (batch_processor_stage k b before) (places 0 b.concurrency)) [], length-places (batch_processor_stage k b before) 0 b.concurrency)
+    rw (
+      filter-append (is_of k) (map (batch_processor_stage k b before) (places 0 b.concurrency)) (batch_processor_stages (before + b.concurrency) (k + 1) bs),
+      own_group k b before (places 0 b.concurrency),
+      later_groups k (before + b.concurrency) (k + 1) bs (omega arith),
+      length-append (map (batch_processor_stage k b before) (places 0 b.concurrency)) [],
+      length-places (batch_processor_stage k b before) 0 b.concurrency,
+    )
     (omega arith)
 
 next_group : (k before j : ℕ) (b : BatcherSettings) (bs : List BatcherSettings) → j + 1 ≤ k → filter (is_of k) (batch_processor_stages before j (b ∷ bs)) ≡ filter (is_of k) (batch_processor_stages (before + b.concurrency) (j + 1) bs)
@@ -135,9 +139,10 @@ next_group k before j b bs h =
 
 pub counted_batchers : (all : List StageSpec) (j before : ℕ) (bs : List BatcherSettings) → ((k : ℕ) → j ≤ k → length (batch_processors k all) ≡ length (filter (is_of k) (batch_processor_stages before j bs))) → AllCounted all j bs
 counted_batchers all j before [] h = tt
-counted_batchers all j before (b ∷ bs) h =
-    (h j (omega arith) ∙ first_group j before b bs,
-    counted_batchers all (j + 1) (before + b.concurrency) bs (λ k above. h k (omega arith) ∙ ap length (next_group k before j b bs above)))
+counted_batchers all j before (b ∷ bs) h = (
+  h j (omega arith) ∙ first_group j before b bs,
+  counted_batchers all (j + 1) (before + b.concurrency) bs (λ k above. h k (omega arith) ∙ ap length (next_group k before j b bs above)),
+)
 
 -- a group of another role has no batch processor
 pub none_of : (r : Role) (k : ℕ) (xs : List StageSpec) → is_batch_processor r ≡ false → AllRole r xs → filter (is_of k) xs ≡ []

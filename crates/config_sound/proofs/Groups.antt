@@ -100,8 +100,17 @@ module _ (ps cs ss bs ds : List StageSpec) (p : AllRole role.Producer ps) (c : A
 
   filter_five : (f : Role → Bool) → filter (λ x. f x.role) five ≡ cond (f role.Producer) ps [] ++ (cond (f role.Processor) cs [] ++ (cond (f role.Supervisor) ss [] ++ (cond (f role.Batcher) bs [] ++ cond (f role.BatchProcessor) ds [])))
   filter_five f =
-      rw (filter-append (λ x. f x.role) ps (cs ++ (ss ++ (bs ++ ds))), filter-append (λ x. f x.role) cs (ss ++ (bs ++ ds)), filter-append (λ x. f x.role) ss (bs ++ ds), filter-append (λ x. f x.role) bs ds,
-          filter_role f role.Producer ps p, filter_role f role.Processor cs c, filter_role f role.Supervisor ss s, filter_role f role.Batcher bs b, filter_role f role.BatchProcessor ds d)
+      rw (
+        filter-append (λ x. f x.role) ps (cs ++ (ss ++ (bs ++ ds))),
+        filter-append (λ x. f x.role) cs (ss ++ (bs ++ ds)),
+        filter-append (λ x. f x.role) ss (bs ++ ds),
+        filter-append (λ x. f x.role) bs ds,
+        filter_role f role.Producer ps p,
+        filter_role f role.Processor cs c,
+        filter_role f role.Supervisor ss s,
+        filter_role f role.Batcher bs b,
+        filter_role f role.BatchProcessor ds d,
+      )
 
   pub five_producers : producers five ≡ ps
   five_producers = filter_five is_producer ∙ append-nil ps

@@ -64,9 +64,10 @@ not_found i k x o above = let e : (i == k) ≡ false = grind (arith, nat_tests) 
 
 pub found_batchers : (all : List StageSpec) (second i : ℕ) (bs : List BatcherSettings) (rest : List StageSpec) → ((k : ℕ) → i ≤ k → batcher_at all k ≡ find (is_at k) (batcher_stages second i bs ++ rest)) → AllFound all second i bs
 found_batchers all second i [] rest h = tt
-found_batchers all second i (b ∷ bs) rest h =
-    (h i (omega arith) ∙ found_first i (batcher_stage second i b) (find (is_at i) (batcher_stages second (i + 1) bs ++ rest)),
-    found_batchers all second (i + 1) bs rest (λ k above. h k (omega arith) ∙ not_found i k (batcher_stage second i b) (find (is_at k) (batcher_stages second (i + 1) bs ++ rest)) above))
+found_batchers all second i (b ∷ bs) rest h = (
+  h i (omega arith) ∙ found_first i (batcher_stage second i b) (find (is_at i) (batcher_stages second (i + 1) bs ++ rest)),
+  found_batchers all second (i + 1) bs rest (λ k above. h k (omega arith) ∙ not_found i k (batcher_stage second i b) (find (is_at k) (batcher_stages second (i + 1) bs ++ rest)) above),
+)
 
 -- a group of another role is passed over
 pub find_other : (r : Role) (k : ℕ) (xs ys : List StageSpec) → is_batcher r ≡ false → AllRole r xs → find (is_at k) (xs ++ ys) ≡ find (is_at k) ys

@@ -140,8 +140,16 @@ is_of k s = is_batch_processor s.role && s.batcher == k
 members_of : (k : ℕ) (ps cs ss bs ds : List StageSpec) → AllRole role.Producer ps → AllRole role.Processor cs → AllRole role.Supervisor ss → AllRole role.Batcher bs
     → batch_processors k (ps ++ (cs ++ (ss ++ (bs ++ ds)))) ≡ batch_processors k ds
 members_of k ps cs ss bs ds p c v b =
-    rw (filter-append (is_of k) ps (cs ++ (ss ++ (bs ++ ds))), filter-append (is_of k) cs (ss ++ (bs ++ ds)), filter-append (is_of k) ss (bs ++ ds), filter-append (is_of k) bs ds,
-        none_of role.Producer k ps refl p, none_of role.Processor k cs refl c, none_of role.Supervisor k ss refl v, none_of role.Batcher k bs refl b) refl
+    rw (
+      filter-append (is_of k) ps (cs ++ (ss ++ (bs ++ ds))),
+      filter-append (is_of k) cs (ss ++ (bs ++ ds)),
+      filter-append (is_of k) ss (bs ++ ds),
+      filter-append (is_of k) bs ds,
+      none_of role.Producer k ps refl p,
+      none_of role.Processor k cs refl c,
+      none_of role.Supervisor k ss refl v,
+      none_of role.Batcher k bs refl b,
+    ) refl
 
 count_fits : (s : Settings) → stage_count s ≤ 64 → length (stages_of s) ≤ 64
 count_fits s few =
@@ -153,9 +161,17 @@ count_fits s few =
     let ss : List StageSpec = supervisor_stages first s.supervisor in
     let bs : List StageSpec = batcher_stages second 0 s.batchers in
     let ds : List StageSpec = batch_processor_stages (second + length s.batchers) 0 s.batchers in
-    rw (length-append ps (cs ++ (ss ++ (bs ++ ds))), length-append cs (ss ++ (bs ++ ds)), length-append ss (bs ++ ds), length-append bs ds,
-        length-producers (partition_field s.processors) (processor_count s.processors) 0 s.producers, length-processors known first s.processors, length-supervisors first s.supervisor,
-        length-batchers second 0 s.batchers, length-batch_processors (second + length s.batchers) 0 s.batchers)
+    rw (
+      length-append ps (cs ++ (ss ++ (bs ++ ds))),
+      length-append cs (ss ++ (bs ++ ds)),
+      length-append ss (bs ++ ds),
+      length-append bs ds,
+      length-producers (partition_field s.processors) (processor_count s.processors) 0 s.producers,
+      length-processors known first s.processors,
+      length-supervisors first s.supervisor,
+      length-batchers second 0 s.batchers,
+      length-batch_processors (second + length s.batchers) 0 s.batchers,
+    )
     (omega arith)
 
 settings_fit : (s : Settings) → IsFit s → are_settings (topology_in s) ≡ true
@@ -206,12 +222,12 @@ built_is_sound s fit h =
       few = count_fits s few;
       ordered = stages_are_ordered field n known s.producers s.processors s.supervisor s.batchers first second third all refl (some_producer s.producers ((is_none s.processors && is_none s.supervisor) || (is_some s.supervisor && (is_some s.processors || not (length s.batchers == 0)))) present) refl refl is_enough (sizes_fit s.batchers fit.batchers) refl batchers_count;
       named = five_all (is_named all) ps cs ss bs ds (named_producers all field n 0 s.producers (names_fit s.producers fit.producers)) (named_processors all known first s.processors) (named_supervisors all first s.supervisor)
-        (named_batchers all second 0 s.batchers (batcher_names_fit s.batchers fit.batchers)) (named_batch_processors all second third 0 s.batchers found);
+          (named_batchers all second 0 s.batchers (batcher_names_fit s.batchers fit.batchers)) (named_batch_processors all second third 0 s.batchers found);
       distinct = rw (producers_are, batchers_are) (names_are_distinct field n second s.producers s.batchers names producers_new);
       in_range = five_all (has_fields all) ps cs ss bs ds (producer_fields all field n 0 s.producers processors_count (partition_fits s.processors fit.processors) fit.producers)
-        (processor_fields all known first s.processors known_count fit.processors (processor_rules known s.processors fit.processors processor_straight))
-        (supervisor_fields all first s.supervisor fit.supervisor (supervisor_rules s.supervisor fit.supervisor supervisor_straight))
-        (batcher_fields all second 0 s.batchers counted fit.batchers) (member_fields all third 0 s.batchers fit.batchers batcher_straight);
+          (processor_fields all known first s.processors known_count fit.processors (processor_rules known s.processors fit.processors processor_straight))
+          (supervisor_fields all first s.supervisor fit.supervisor (supervisor_rules s.supervisor fit.supervisor supervisor_straight))
+          (batcher_fields all second 0 s.batchers counted fit.batchers) (member_fields all third 0 s.batchers fit.batchers batcher_straight);
       reached = rw batchers_are (reached all known first second s.processors s.supervisor s.batchers is_enough processors_are unreached);
       settings = settings_fit s fit;
     }

@@ -270,8 +270,8 @@ walked_fits table h =
       supervisor = supervisor_given (table_at key.Supervisor table) (λ t is. held_table table key.Supervisor section.Supervisor (value_at key.Supervisor table) t (λ d. refl) clear refl is);
       batchers = batchers_given (array_at key.Batcher table) (λ items is. held_array table key.Batcher section.Batcher (value_at key.Batcher table) items (λ d. refl) clear refl is);
       pipeline = both
-        (both (most_of 0 1000 (pipeline_number format.max_restarts key.MaxRestarts (table_at key.Pipeline table)) (pipeline_between format.max_restarts key.MaxRestarts (table_at key.Pipeline table) refl))
+          (both (most_of 0 1000 (pipeline_number format.max_restarts key.MaxRestarts (table_at key.Pipeline table)) (pipeline_between format.max_restarts key.MaxRestarts (table_at key.Pipeline table) refl))
           (pipeline_between format.max_seconds key.MaxSeconds (table_at key.Pipeline table) refl))
-        (both (most_of 0 1000000 (pipeline_number format.idle_limit key.IdleLimit (table_at key.Pipeline table)) (pipeline_between format.idle_limit key.IdleLimit (table_at key.Pipeline table) refl))
+          (both (most_of 0 1000000 (pipeline_number format.idle_limit key.IdleLimit (table_at key.Pipeline table)) (pipeline_between format.idle_limit key.IdleLimit (table_at key.Pipeline table) refl))
           (control_given (table_at key.Pipeline table) (λ t is. held_table table key.Pipeline section.Pipeline (value_at key.Pipeline table) t (λ d. refl) clear refl is)));
     }

@@ -13,5 +13,4 @@ pub fn sound_when_fit(settings: &Settings)
     requires fit { IsFit settings.now }
     requires no_fault { faults_in settings.now ≡ [] }
     ensures { IsSound (topology_in settings.now) }
-{
-}
+{}

@@ -1,8 +1,9 @@
 //! From the bytes of a file to its topology.
 
-ghost use Rattle.std.specs.Prelude.{◌≡◌, ◌≢◌, ◌<◌, ◌^◌, codes, Some, None, IfOk, IfErr};
+ghost use Rattle.std.specs.Prelude.{◌≡◌, ◌≢◌, ◌<◌, ◌^◌, codes, Some, None, Ok, Err, IfOk, IfErr};
 ghost use Rattle.std.specs.Option.{ForSome};
 ghost use Rattle.toml.specs.View.{table_view};
+ghost use Rattle.pipe_types.specs.Sound.{IsSound};
 ghost use Rattle.pipe_config.specs.File.{table_of, topology_of, judged as judged_of, topology_of_file, Answers};
 ghost use Rattle.config_settings.specs.Settings.{settings_of};
 ghost use Rattle.config_build.specs.Build.{partition_field};
@@ -95,13 +96,21 @@ fn judge_table(alloc: Global, table: &Table) -> Result<Topology, ConfigFault>
     }
 }
 
-/// The topology that a file of these bytes names, or its first fault: the faults are tried in the order of their
-/// numbers, and for one number the first place counts. Want of memory may come at any place.
-pub fn read_topology(alloc: Global, bytes: &[u8]) -> Result<Topology, ConfigFault>
+fn answer_of(alloc: Global, bytes: &[u8]) -> Result<Topology, ConfigFault>
     ensures { Answers (topology_of_file bytes.now) result }
 {
     match read_table(alloc, bytes) {
         Ok(table) => judge_table(alloc, &table),
         Err(fault) => Err(fault),
     }
+}
+
+/// The topology that a file of these bytes names, or its first fault: the faults are tried in the order of their
+/// numbers, and for one number the first place counts. Want of memory may come at any place.
+pub fn read_topology(alloc: Global, bytes: &[u8]) -> Result<Topology, ConfigFault>
+    ensures accepted { IfOk result (λ topology. topology_of_file bytes.now ≡ Ok topology) }
+    ensures refused { IfErr result (λ fault. fault ≢ ConfigFault.OutOfMemory → topology_of_file bytes.now ≡ Err fault) }
+    ensures sound { IfOk result IsSound }
+{
+    answer_of(alloc, bytes)
 }
