@@ -1,11 +1,11 @@
 -- The topology of settings: producers, then processors or the supervisor, then batchers, then batch processors.
-use Rattle.std.specs.Prelude.{codes, ℕ, zero, suc, ◌+◌, ◌*◌, ◌==◌, Bool, false, List, [], ◌∷◌, ◌++◌, length, map, Option, Some, None, if◌then◌else◌, unwrap_or, option_map, option_and_then, filter_map, slice_get}
+use Rattle.std.specs.Prelude.{codes, ℕ, zero, suc, ◌+◌, ◌*◌, false, List, [], ◌∷◌, ◌++◌, length, map, Option, Some, None, unwrap_or, option_and_then, filter_map, slice_get}
 use Rattle.pipe_types.specs.declared.topology.Topology.{Topology}
 use Rattle.pipe_types.specs.declared.topology.StageSpec.{StageSpec}
 use Rattle.pipe_types.specs.declared.topology.Role.{Role}
 use Rattle.pipe_types.specs.declared.topology.Role.TheVariants as role
 use Rattle.pipe_types.specs.declared.topology.Dispatch.{Dispatch}
-use Rattle.pipe_types.specs.declared.topology.Dispatch.TheVariants.{Demand, Broadcast, Partition}
+use Rattle.pipe_types.specs.declared.topology.Dispatch.TheVariants.{Demand, Partition}
 use Rattle.pipe_types.specs.declared.topology.Keep.TheVariants.{Last}
 use Rattle.pipe_types.specs.declared.topology.Kind.TheVariants.{Steps}
 use Rattle.pipe_types.specs.declared.topology.CancelMode.TheVariants as cancel

@@ -1,5 +1,5 @@
 -- What is wrong with a topology file whose values stand in their ranges: names, routes, groups, dispatchers.
-use Rattle.std.specs.Prelude.{codes, ℕ, ◌+◌, ◌==◌, Bool, true, false, not, ◌&&◌, ◌||◌, nat_le, nat_lt, List, [], ◌∷◌, ◌++◌, length, map, Option, Some, None, is_some, is_none, if◌then◌else◌, bytes_eq}
+use Rattle.std.specs.Prelude.{codes, ℕ, ◌+◌, ◌==◌, Bool, false, not, ◌&&◌, ◌||◌, nat_le, nat_lt, List, [], ◌∷◌, ◌++◌, length, map, Option, Some, None, is_some, is_none, if◌then◌else◌, bytes_eq}
 use Rattle.std.specs.List.{list_any}
 use Rattle.pipe_types.specs.declared.topology.Rule.{Rule}
 use Rattle.pipe_types.specs.declared.topology.Rule.TheVariants.{Route}
@@ -9,7 +9,6 @@ use Rattle.config_rule.specs.RuleText.{rule_of}
 use Rattle.config_table.specs.declared.fault.ConfigFault.{ConfigFault}
 use Rattle.config_table.specs.declared.fault.ConfigFault.TheVariants as fault
 use Rattle.config_table.specs.Fault.{under, at_place}
-use Rattle.config_settings.specs.declared.settings.Handler.{Handler}
 use Rattle.config_settings.specs.declared.settings.ProducerSettings.{ProducerSettings}
 use Rattle.config_settings.specs.declared.settings.ProcessorSettings.{ProcessorSettings}
 use Rattle.config_settings.specs.declared.settings.SupervisorSettings.{SupervisorSettings}

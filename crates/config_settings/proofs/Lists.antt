@@ -1,12 +1,12 @@
 -- One more item of an array.
-use Rattle.std.proofs.Common.{◌≡◌, ℕ, ◌+◌, ◌<◌, List, [], ◌∷◌, ◌++◌, length, drop, get_or, Option, Some, None, refl, ap, sym, ◌∙◌, append_assoc, append-nil}
+use Rattle.std.proofs.Common.{◌≡◌, ℕ, ◌+◌, ◌<◌, List, [], ◌∷◌, ◌++◌, length, drop, get_or, Some, None, append_assoc}
 use Rattle.toml.specs.Data.{Members, as_str, as_table}
 use Rattle.toml.specs.View.{view, items_view}
 use Rattle.toml.specs.declared.value.Value.{Value}
 use Rattle.toml.proofs.Views.{items_view-drop}
 use Rattle.config_settings.specs.declared.settings.ProducerSettings.{ProducerSettings}
 use Rattle.config_settings.specs.declared.settings.BatcherSettings.{BatcherSettings}
-use Rattle.config_settings.specs.Settings.{texts_in, text_before, producer_of, producers_in, producer_before, batcher_of, batchers_in, batcher_before}
+use Rattle.config_settings.specs.Settings.{texts_in, producer_of, producers_in, batcher_of, batchers_in}
 
 pub text_step : (vs : List Value) (i : ℕ) (v : Value) (found : List (List ℕ)) (text : List ℕ) → i < length vs → v ≡ get_or vs i v → as_str (view v) ≡ Some text
     → (found ++ text ∷ []) ++ texts_in (items_view (drop (i + 1) vs)) ≡ found ++ texts_in (items_view (drop i vs))

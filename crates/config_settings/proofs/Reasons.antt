@@ -1,10 +1,9 @@
 -- The test of a reason's text beside the fact.
-use Rattle.std.proofs.Common.{◌≡◌, ℕ, ◌≤◌, Bool, true, false, List, length, Option, Some, None, IsSome, IfSome, All, refl, sym, ◌∙◌, cond, arith, nat_le, ◌↔◌}
-use Rattle.std.proofs.lemmas.Grind.{common_steps}
+use Rattle.std.proofs.Common.{◌≡◌, ℕ, ◌≤◌, true, false, List, length, Option, Some, None, IsSome, IfSome, refl, cond, arith, ◌↔◌}
 use Rattle.std.proofs.lemmas.Bool.{and_parts, false≢true}
 use Rattle.std.proofs.lemmas.Bool.Decides.{nat_tests}
 use Rattle.std.proofs.lemmas.List.Sums.{AllPass-from_list_all, list_all-from_AllPass}
-use Rattle.std.specs.List.{list_all, AllPass}
+use Rattle.std.specs.List.{list_all}
 use Rattle.pipe_types.specs.Reason.{IsReasonText}
 use Rattle.pipe_types.specs.Sound.{is_reason, is_between}
 use Rattle.config_settings.specs.Settings.{reason_of}

@@ -1,5 +1,5 @@
 -- The values of a topology file, with the defaults.
-use Rattle.std.specs.Prelude.{codes, ℕ, zero, suc, ◌==◌, Bool, true, false, not, List, [], ◌∷◌, Option, Some, None, option_map, option_and_then, unwrap_or, if◌then◌else◌, bytes_eq, position}
+use Rattle.std.specs.Prelude.{codes, ℕ, zero, suc, ◌==◌, not, List, [], ◌∷◌, Option, Some, None, option_map, option_and_then, unwrap_or, if◌then◌else◌, bytes_eq}
 use Rattle.pipe_types.specs.Sound.{is_reason}
 use Rattle.pipe_types.specs.declared.topology.CancelMode.{CancelMode}
 use Rattle.pipe_types.specs.declared.topology.CancelMode.TheVariants as cancel
@@ -11,7 +11,7 @@ use Rattle.pipe_types.specs.declared.topology.Kind.{Kind}
 use Rattle.pipe_types.specs.declared.topology.Kind.TheVariants as kind
 use Rattle.pipe_types.specs.declared.topology.Dispatch.{Dispatch}
 use Rattle.pipe_types.specs.declared.topology.Dispatch.TheVariants as dispatch
-use Rattle.toml.specs.Data.{Data, Items, no_items, item, Members, as_str, as_array, as_table}
+use Rattle.toml.specs.Data.{Items, no_items, item, Members, as_str, as_array, as_table}
 use Rattle.config_table.specs.declared.format.Key.{Key}
 use Rattle.config_table.specs.declared.format.Key.TheVariants.{Pipeline, Producer, Processors, Supervisor, Batcher, MaxRestarts, MaxSeconds, IdleLimit, Control, Name, Source, Mode, BufferSize, BufferKeep, Concurrency, MaxDemand, MinDemand, Cancel, PartitionBy, Kind as KindKey, Steps, Failed, Restart, BatchSize, BatchTimeout, Dispatch as DispatchKey, Sinks}
 use Rattle.config_table.specs.declared.format.Shape.{Shape}

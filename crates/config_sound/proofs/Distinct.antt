@@ -1,7 +1,5 @@
 -- No name stands twice.
-use Rattle.std.proofs.Common.{◌≡◌, ℕ, ◌+◌, Bool, true, false, not, ◌&&◌, ◌||◌, cond, codes, List, [], ◌∷◌, ◌++◌, map, Option, refl, ap, sym, ◌∙◌}
-use Rattle.std.proofs.lemmas.Bool.{and_parts}
-use Rattle.std.proofs.lemmas.List.Folds.{list_any-append}
+use Rattle.std.proofs.Common.{◌≡◌, ℕ, ◌+◌, Bool, true, false, ◌||◌, codes, List, [], ◌∷◌, ◌++◌, Option, refl, ap, sym}
 use Rattle.std.proofs.lemmas.Slice.Eq.{bytes_eq-Decides}
 use Rattle.std.specs.Prelude.{bytes_eq}
 use Rattle.std.specs.List.{list_any}
@@ -10,8 +8,8 @@ use Rattle.pipe_types.specs.Sound.{are_distinct}
 use Rattle.config_table.specs.declared.fault.ConfigFault.{ConfigFault}
 use Rattle.config_settings.specs.declared.settings.ProducerSettings.{ProducerSettings}
 use Rattle.config_settings.specs.declared.settings.BatcherSettings.{BatcherSettings}
-use Rattle.config_judge.specs.Judge.{fault_if, is_in, name_faults, duplicate_names, producer_names, batcher_names}
-use Rattle.config_build.specs.Build.{producer_stage, producer_stages, batcher_stage, batcher_stages}
+use Rattle.config_judge.specs.Judge.{fault_if, is_in, duplicate_names, producer_names, batcher_names}
+use Rattle.config_build.specs.Build.{producer_stages, batcher_stages}
 
 pub nothing_left : (xs ys : List ConfigFault) → xs ++ ys ≡ [] → (xs ≡ []) × (ys ≡ [])
 nothing_left [] ys h = (refl, h)

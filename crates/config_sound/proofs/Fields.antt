@@ -1,21 +1,20 @@
 -- The fields of the stages that settings give.
-use Rattle.std.proofs.Common.{◌≡◌, ℕ, zero, suc, ◌+◌, ◌<◌, ◌≤◌, Bool, true, false, not, ◌&&◌, ◌||◌, ◌==◌, cond, nat_le, nat_lt, codes, List, [], ◌∷◌, ◌++◌, length, map, filter, Option, Some, None, unwrap_or, refl, ap, sym, ◌∙◌, arith, length-append}
+use Rattle.std.proofs.Common.{◌≡◌, ℕ, zero, suc, ◌+◌, ◌<◌, ◌≤◌, Bool, true, false, not, ◌&&◌, ◌||◌, ◌==◌, nat_le, nat_lt, codes, List, [], ◌∷◌, length, map, filter, Option, Some, None, unwrap_or, refl, ap, ◌∙◌, arith, length-append}
 use Rattle.std.proofs.lemmas.Bool.{eq-eqb, and_parts, le-leb, leb-true}
 use Rattle.std.proofs.lemmas.Bool.Decides.{nat_tests}
 use Rattle.std.proofs.lemmas.List.Elements.{filter-append}
 use Rattle.std.specs.List.{list_all}
 use Rattle.pipe_types.specs.declared.topology.StageSpec.{StageSpec}
 use Rattle.pipe_types.specs.declared.topology.Role.{Role}
-use Rattle.pipe_types.specs.declared.topology.Role.TheVariants as role
 use Rattle.pipe_types.specs.declared.topology.Dispatch.{Dispatch}
 use Rattle.pipe_types.specs.declared.topology.Dispatch.TheVariants.{Demand, Broadcast, Partition}
-use Rattle.pipe_types.specs.Sound.{has_fields, is_name, processors, batchers, batch_processors, is_batch_processor, by_demand, by_broadcast, by_partition, is_between, are_rules, is_reason, is_lines, asks_up_to}
+use Rattle.pipe_types.specs.Sound.{has_fields, is_name, processors, batchers, batch_processors, is_batch_processor, by_demand, by_broadcast, by_partition, is_between, are_rules, is_reason, is_lines}
 use Rattle.config_settings.specs.declared.settings.ProducerSettings.{ProducerSettings}
 use Rattle.config_settings.specs.declared.settings.ProcessorSettings.{ProcessorSettings}
 use Rattle.config_settings.specs.declared.settings.SupervisorSettings.{SupervisorSettings}
 use Rattle.config_settings.specs.declared.settings.BatcherSettings.{BatcherSettings}
-use Rattle.config_judge.specs.Judge.{astray_routes, batcher_route, batcher_routes, batch_processor_count}
-use Rattle.config_build.specs.Build.{producer_stage, producer_stages, places, processor_stage, processor_stages, supervisor_stage, supervisor_stages, batcher_stage, batcher_stages, batch_processor_stage, batch_processor_stages, dispatch_to, parts_of, rules_of}
+use Rattle.config_judge.specs.Judge.{batcher_route, batcher_routes}
+use Rattle.config_build.specs.Build.{producer_stage, producer_stages, places, processor_stage, processor_stages, supervisor_stages, batcher_stage, batcher_stages, batch_processor_stage, batch_processor_stages, dispatch_to, rules_of}
 use Rattle.config_table.specs.Fault.{under, at_place}
 use Rattle.config_sound.specs.Fit.{demand_fits, handler_fits, producer_fits, field_fits, processors_fit, supervisor_fits, batcher_fits}
 use Rattle.config_sound.proofs.Groups.{AllRole, length-places}

@@ -1,5 +1,5 @@
 -- The names of the stages that settings give.
-use Rattle.std.proofs.Common.{◌≡◌, ℕ, zero, suc, ◌+◌, ◌<◌, ◌≤◌, Bool, true, false, ◌&&◌, ◌==◌, cond, codes, List, [], ◌∷◌, ◌++◌, map, find, Option, Some, None, refl, ap, sym, ◌∙◌, arith}
+use Rattle.std.proofs.Common.{◌≡◌, ℕ, ◌+◌, ◌≤◌, Bool, true, false, ◌&&◌, ◌==◌, cond, codes, List, [], ◌∷◌, ◌++◌, map, find, Option, Some, None, refl, ap, ◌∙◌, arith}
 use Rattle.std.proofs.lemmas.Bool.{eq-eqb, and_parts}
 use Rattle.std.proofs.lemmas.Bool.Decides.{nat_tests}
 use Rattle.std.proofs.lemmas.List.Folds.{list_all-append}
@@ -8,8 +8,7 @@ use Rattle.std.specs.Prelude.{bytes_eq}
 use Rattle.std.specs.List.{list_all}
 use Rattle.pipe_types.specs.declared.topology.StageSpec.{StageSpec}
 use Rattle.pipe_types.specs.declared.topology.Role.{Role}
-use Rattle.pipe_types.specs.declared.topology.Role.TheVariants as role
-use Rattle.pipe_types.specs.Sound.{is_name, is_named, is_member_of, is_batcher, batcher_at, numbered_name}
+use Rattle.pipe_types.specs.Sound.{is_name, is_named, is_batcher, batcher_at, numbered_name}
 use Rattle.config_settings.specs.declared.settings.ProducerSettings.{ProducerSettings}
 use Rattle.config_settings.specs.declared.settings.ProcessorSettings.{ProcessorSettings}
 use Rattle.config_settings.specs.declared.settings.SupervisorSettings.{SupervisorSettings}

@@ -1,11 +1,11 @@
 -- The stages that settings give stand in their order.
-use Rattle.std.proofs.Common.{◌≡◌, ℕ, zero, suc, ◌+◌, ◌<◌, ◌≤◌, Bool, true, false, ◌&&◌, ◌||◌, ◌==◌, ◌-◌, nat_le, List, [], ◌∷◌, ◌++◌, length, map, Option, Some, None, refl, ap, sym, ◌∙◌, subst, arith}
+use Rattle.std.proofs.Common.{◌≡◌, ℕ, zero, suc, ◌+◌, ◌≤◌, Bool, true, false, ◌&&◌, ◌||◌, ◌==◌, ◌-◌, nat_le, List, [], ◌∷◌, ◌++◌, length, map, Option, Some, None, refl, ap, sym, subst, arith}
 use Rattle.std.proofs.lemmas.Bool.{eq-eqb, and_parts, leb-true}
 use Rattle.std.specs.List.{list_all}
 use Rattle.pipe_types.specs.declared.topology.StageSpec.{StageSpec}
 use Rattle.pipe_types.specs.declared.topology.Role.{Role}
 use Rattle.pipe_types.specs.declared.topology.Role.TheVariants as role
-use Rattle.pipe_types.specs.Sound.{may_follow, may_go_on, may_begin, is_next, is_between, is_ordered, batchers}
+use Rattle.pipe_types.specs.Sound.{may_follow, may_go_on, is_next, is_between, is_ordered, batchers}
 use Rattle.config_settings.specs.declared.settings.ProducerSettings.{ProducerSettings}
 use Rattle.config_settings.specs.declared.settings.BatcherSettings.{BatcherSettings}
 use Rattle.config_settings.specs.declared.settings.ProcessorSettings.{ProcessorSettings}

@@ -1,5 +1,5 @@
 -- The rules of texts that the walk and the judge let pass.
-use Rattle.std.proofs.Common.{◌≡◌, ℕ, suc, ◌+◌, ◌<◌, ◌≤◌, Bool, true, false, ◌&&◌, ◌||◌, cond, nat_le, nat_lt, codes, List, [], ◌∷◌, ◌++◌, length, filter_map, Option, Some, None, option_map, option_and_then, refl, ap, sym, ◌∙◌, arith}
+use Rattle.std.proofs.Common.{◌≡◌, ℕ, suc, ◌+◌, ◌≤◌, Bool, true, false, ◌&&◌, ◌||◌, cond, nat_le, nat_lt, codes, List, [], ◌∷◌, length, Option, Some, None, option_map, option_and_then, refl, ap, ◌∙◌, arith}
 use Rattle.std.proofs.lemmas.Bool.{and_parts, le-leb, leb-true}
 use Rattle.std.proofs.lemmas.Bool.Decides.{nat_tests}
 use Rattle.std.specs.Prelude.{bytes_eq}
@@ -7,9 +7,8 @@ use Rattle.std.specs.List.{list_all, list_any, cons_option}
 use Rattle.pipe_types.specs.declared.topology.Rule.{Rule}
 use Rattle.pipe_types.specs.declared.topology.Rule.TheVariants as rule
 use Rattle.pipe_types.specs.Sound.{is_rule, are_rules, is_between, names_batcher}
-use Rattle.config_rule.specs.RuleText.{rule_of, rule_from, route_by, route_to, decimal_in, is_decimal, digits_number, at_space, number_of}
-use Rattle.config_table.specs.declared.fault.ConfigFault.{ConfigFault}
-use Rattle.config_judge.specs.Judge.{fault_if, is_astray, route_faults, astray_routes, leads_to}
+use Rattle.config_rule.specs.RuleText.{rule_of, rule_from, route_by, route_to, decimal_in, is_decimal, digits_number, at_space}
+use Rattle.config_judge.specs.Judge.{is_astray, astray_routes, leads_to}
 use Rattle.config_build.specs.Build.{rules_of}
 use Rattle.config_sound.proofs.Named.{both}
 use Rattle.config_sound.proofs.Distinct.{no_fault}

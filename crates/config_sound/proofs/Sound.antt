@@ -1,22 +1,21 @@
 -- The topology of settings that fit and that no fault names is sound.
-use Rattle.std.proofs.Common.{◌≡◌, ℕ, suc, ◌+◌, ◌-◌, ◌*◌, ◌%◌, ◌<◌, ◌≤◌, Bool, true, false, not, ◌&&◌, ◌||◌, ◌==◌, cond, nat_le, nat_lt, codes, List, [], ◌∷◌, ◌++◌, length, map, find, filter, Option, Some, None, is_some, is_none, refl, ap, sym, ◌∙◌, subst, arith, length-append}
+use Rattle.std.proofs.Common.{◌≡◌, ℕ, suc, ◌+◌, ◌-◌, ◌*◌, ◌%◌, ◌≤◌, Bool, true, false, not, ◌&&◌, ◌||◌, ◌==◌, nat_le, nat_lt, codes, List, [], ◌∷◌, ◌++◌, length, Option, Some, None, is_some, is_none, refl, ap, sym, ◌∙◌, arith, length-append}
 use Rattle.std.proofs.lemmas.Bool.{eq-eqb, and_parts, le-leb, leb-true}
 use Rattle.std.proofs.lemmas.Bool.Decides.{nat_tests}
 use Rattle.std.specs.List.{list_all}
 use Rattle.pipe_types.specs.declared.topology.StageSpec.{StageSpec}
 use Rattle.pipe_types.specs.declared.topology.Role.TheVariants as role
-use Rattle.pipe_types.specs.Sound.{IsSound, is_between, is_name, is_named, is_batcher, is_batch_processor, has_fields, is_reached, are_distinct, batcher_at, producers, processors, batchers, batch_processors, is_window, is_control, is_lines, is_reason, are_settings}
-use Rattle.config_table.specs.declared.fault.ConfigFault.{ConfigFault}
+use Rattle.pipe_types.specs.Sound.{IsSound, is_between, is_name, is_named, is_batch_processor, has_fields, is_reached, producers, processors, batchers, batch_processors, is_window, is_control, is_lines, is_reason, are_settings}
 use Rattle.config_table.specs.declared.fault.ConfigFault.TheVariants as fault
 use Rattle.config_settings.specs.declared.settings.ProducerSettings.{ProducerSettings}
 use Rattle.config_settings.specs.declared.settings.ProcessorSettings.{ProcessorSettings}
 use Rattle.config_settings.specs.declared.settings.SupervisorSettings.{SupervisorSettings}
 use Rattle.config_settings.specs.declared.settings.BatcherSettings.{BatcherSettings}
 use Rattle.config_settings.specs.declared.settings.Settings.{Settings}
-use Rattle.config_judge.specs.Judge.{faults_in, duplicate_names, duplicates_with, routes_with, group_faults, bad_dispatches, unreachable_with, lacks_stage, stage_count, processor_count, supervisor_count, batch_processor_count, batcher_names, producer_names, processor_routes, supervisor_routes, batcher_routes, fault_if}
-use Rattle.config_build.specs.Build.{topology_in, stages_of, partition_field, producer_stages, places, processor_stage, processor_stages, supervisor_stages, batcher_stages, batch_processor_stages}
+use Rattle.config_judge.specs.Judge.{faults_in, duplicate_names, duplicates_with, routes_with, group_faults, bad_dispatches, unreachable_with, lacks_stage, stage_count, processor_count, supervisor_count, batcher_names, producer_names, processor_routes, supervisor_routes, batcher_routes, fault_if}
+use Rattle.config_build.specs.Build.{topology_in, stages_of, partition_field, producer_stages, processor_stages, supervisor_stages, batcher_stages, batch_processor_stages}
 use Rattle.config_sound.specs.Fit.{IsFit, producer_fits, processors_fit, supervisor_fits, batcher_fits, demand_fits, handler_fits, field_fits}
-use Rattle.config_sound.proofs.Groups.{AllRole, role_producers, role_processors, role_supervisors, role_batchers, role_batch_processors, length-producers, length-processors, length-supervisors, length-batchers, length-batch_processors, five, five_producers, five_processors, five_batchers}
+use Rattle.config_sound.proofs.Groups.{AllRole, role_producers, role_processors, role_supervisors, role_batchers, role_batch_processors, length-producers, length-processors, length-supervisors, length-batchers, length-batch_processors, five_producers, five_processors, five_batchers}
 use Rattle.config_sound.proofs.Order.{IsEnough, stages_are_ordered}
 use Rattle.config_sound.proofs.Named.{both, all_append, named_producers, named_processors, named_supervisors, named_batchers, named_batch_processors, found_batchers, find_other}
 use Rattle.config_sound.proofs.Distinct.{no_fault, nothing_left, names_are_distinct}

@@ -1,12 +1,11 @@
 -- What the walk of a file without faults says of its values.
-use Rattle.std.proofs.Common.{◌≡◌, ℕ, zero, suc, ◌+◌, ◌-◌, ◌/◌, ◌<◌, ◌≤◌, ℤ, pos, negsuc, Bool, true, false, not, ◌&&◌, cond, nat_le, nat_lt, codes, List, [], ◌∷◌, ◌++◌, length, flat_map, Option, Some, None, option_map, option_and_then, unwrap_or, Ordering, Less, Equal, Greater, nat_cmp, refl, ap, sym, ◌∙◌, subst, arith}
+use Rattle.std.proofs.Common.{◌≡◌, ℕ, zero, suc, ◌+◌, ◌-◌, ◌/◌, ◌<◌, ◌≤◌, ℤ, pos, negsuc, Bool, true, false, not, cond, nat_le, nat_lt, List, [], ◌∷◌, ◌++◌, length, flat_map, Option, Some, None, option_map, option_and_then, unwrap_or, Ordering, Less, Equal, Greater, nat_cmp, refl, ap, sym, ◌∙◌, subst, arith}
 use Rattle.std.proofs.lemmas.Bool.{and_parts, le-leb, leb-true}
 use Rattle.std.proofs.lemmas.Bool.Decides.{nat_tests}
 use Rattle.std.proofs.lemmas.Map.Text.{is_eq-slice_cmp}
 use Rattle.std.proofs.lemmas.Slice.Eq.{bytes_eq-Decides}
 use Rattle.std.specs.Ordering.{match_ordering, is_eq}
 use Rattle.std.specs.Cmp.Lexicographic.{slice_cmp}
-use Rattle.std.specs.Prelude.{bytes_eq}
 use Rattle.std.specs.List.{list_all}
 use Rattle.pipe_types.specs.Sound.{is_between, is_name, is_reason, is_lines, is_control}
 use Rattle.toml.specs.Data.{Data, Items, no_items, item, Members, no_members, member, get_member, as_integer, as_str, as_array, as_table}
@@ -19,7 +18,7 @@ use Rattle.config_table.specs.declared.format.Form.TheVariants.{Text, RuleTexts}
 use Rattle.config_table.specs.declared.format.Shape.TheVariants as shape
 use Rattle.config_table.specs.declared.format.Section.{Section}
 use Rattle.config_table.specs.declared.format.Section.TheVariants as section
-use Rattle.config_table.specs.Fault.{least, sooner, under, at_place, number_of}
+use Rattle.config_table.specs.Fault.{least, sooner, at_place, number_of}
 use Rattle.config_table.specs.Format as format
 use Rattle.config_table.specs.Format.{key_name, value_at, number, given, given_number, or_default, rows, row, required_row}
 use Rattle.config_table.specs.Values.{item_count, flaw_faults, text_flaw, rules_flaw, inner_faults}
@@ -27,11 +26,9 @@ use Rattle.config_table.specs.Shape.{fits}
 use Rattle.config_table.specs.declared.format.Shape.{Shape}
 use Rattle.config_table.specs.declared.value.Flaw.TheVariants.{OutOfRange}
 use Rattle.config_table.specs.Walk.{held_faults, row_faults, rows_faults, unknown_keys, table_faults, each_faults, array_faults, top_faults, faults_of}
-use Rattle.config_settings.specs.declared.settings.ProducerSettings.{ProducerSettings}
-use Rattle.config_settings.specs.declared.settings.BatcherSettings.{BatcherSettings}
 use Rattle.config_settings.specs.Settings as settings
 use Rattle.config_settings.specs.Settings.{texts_in, text_before, table_at, array_at, settings_of, producers_in, producers_at, batchers_in, batchers_at, producer_of, processors_of, supervisor_of, batcher_of, reason_of, kind_of, demand_of, pipeline_number}
-use Rattle.config_sound.specs.Fit.{IsFit, demand_fits, handler_fits, producer_fits, field_fits, processors_fit, supervisor_fits, batcher_fits}
+use Rattle.config_sound.specs.Fit.{IsFit, demand_fits, producer_fits, field_fits, processors_fit, supervisor_fits, batcher_fits}
 use Rattle.config_sound.proofs.Named.{both}
 use Rattle.config_sound.proofs.Distinct.{nothing_left}
 

@@ -1,5 +1,5 @@
 -- Settings in the ranges of the format.
-use Rattle.std.specs.Prelude.{ℕ, Bool, true, not, ◌&&◌, nat_le, nat_lt, IsTrue, List, length, Option, Some, None}
+use Rattle.std.specs.Prelude.{ℕ, Bool, true, not, ◌&&◌, nat_le, nat_lt, IsTrue, length, Option, Some, None}
 use Rattle.std.specs.List.{list_all}
 use Rattle.pipe_types.specs.Sound.{is_between, is_name, is_reason, is_lines, is_control}
 use Rattle.config_settings.specs.declared.settings.Demand.{Demand}

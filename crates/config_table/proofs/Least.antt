@@ -1,8 +1,8 @@
 -- The fault that counts of the parts of a walk.
-use Rattle.std.proofs.Common.{◌≡◌, ℕ, ◌<◌, Bool, true, false, List, [], ◌∷◌, ◌++◌, Option, Some, None, refl, ap, sym, ◌∙◌, arith, cond, ltb}
+use Rattle.std.proofs.Common.{◌≡◌, List, [], ◌∷◌, ◌++◌, Option, Some, None, refl, ap, sym, ◌∙◌, arith}
 use Rattle.std.proofs.lemmas.Bool.Decides.{nat_tests}
 use Rattle.config_table.specs.declared.fault.ConfigFault.{ConfigFault}
-use Rattle.config_table.specs.Fault.{number_of, sooner, least}
+use Rattle.config_table.specs.Fault.{sooner, least}
 
 pub sooner-none : (a : Option ConfigFault) → sooner a None ≡ a
 sooner-none None = refl

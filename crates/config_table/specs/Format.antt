@@ -5,7 +5,6 @@ use Rattle.toml.specs.Data.{Data, Members, get_member, as_integer}
 use Rattle.config_table.specs.declared.format.Key.{Key}
 use Rattle.config_table.specs.declared.format.Key.TheVariants.{Version, Pipeline, Producer, Processors, Supervisor, Batcher, MaxRestarts, MaxSeconds, IdleLimit, Control, Name, Source, Mode, BufferSize, BufferKeep, Concurrency, MaxDemand, MinDemand, Cancel, PartitionBy, Kind, Steps, Failed, Restart, BatchSize, BatchTimeout, Dispatch, Sinks}
 use Rattle.config_table.specs.declared.format.Range.{Range}
-use Rattle.config_table.specs.declared.format.Shape.{Shape}
 use Rattle.config_table.specs.declared.format.Shape.TheVariants as shape
 use Rattle.config_table.specs.declared.format.Form.{Form}
 use Rattle.config_table.specs.declared.format.Form.TheVariants.{Whole, Text, RuleTexts, SinkTexts}

@@ -1,5 +1,5 @@
 -- The texts that a key may hold.
-use Rattle.std.specs.Prelude.{codes, ℕ, Bool, true, List, [], ◌∷◌, length, Option, Some, None, is_some, position, bytes_eq}
+use Rattle.std.specs.Prelude.{codes, ℕ, Bool, true, List, [], ◌∷◌, length, Option, Some, is_some, position, bytes_eq}
 use Rattle.pipe_types.specs.Sound.{is_between, is_name, is_reason}
 use Rattle.config_rule.specs.RuleText.{rule_of}
 use Rattle.config_table.specs.declared.format.Shape.{Shape}

@@ -1,5 +1,5 @@
 -- The walk of a topology file: keys in byte order, arrays by position, depth first.
-use Rattle.std.specs.Prelude.{codes, ℕ, ◌+◌, ◌==◌, Bool, false, List, [], ◌∷◌, ◌++◌, Option, Some, None, if◌then◌else◌, flat_map, bytes_eq, ℤ, pos, option_and_then}
+use Rattle.std.specs.Prelude.{ℕ, ◌+◌, ◌==◌, Bool, false, List, [], ◌∷◌, ◌++◌, Option, Some, None, if◌then◌else◌, flat_map, bytes_eq, ℤ, pos, option_and_then}
 use Rattle.std.specs.List.{list_any}
 use Rattle.toml.specs.Data.{Data, Items, no_items, item, Members, no_members, member, as_integer, as_array, as_table}
 use Rattle.config_table.specs.declared.fault.ConfigFault.{ConfigFault}

@@ -4,7 +4,7 @@ use Rattle.pipe_types.specs.declared.topology.Topology.{Topology}
 use Rattle.pipe_types.specs.Sound.{IsSound}
 use Rattle.toml.specs.Data.{Members}
 use Rattle.config_table.specs.declared.fault.ConfigFault.{ConfigFault}
-use Rattle.config_table.specs.declared.fault.ConfigFault.TheVariants.{NotToml, Version, OutOfMemory}
+use Rattle.config_table.specs.declared.fault.ConfigFault.TheVariants.{Version, OutOfMemory}
 use Rattle.config_table.specs.Fault.{least}
 use Rattle.config_table.specs.Walk.{faults_of, has_version}
 use Rattle.config_settings.specs.Settings.{settings_of}
@@ -12,7 +12,7 @@ use Rattle.config_judge.specs.Judge.{faults_in}
 use Rattle.config_build.specs.Build.{topology_in}
 use Rattle.config_sound.proofs.Walked.{least_none, walked_fits}
 use Rattle.config_sound.proofs.Sound.{built_is_sound}
-use Rattle.pipe_config.specs.File.{unless, judged, topology_of, topology_of_table, topology_of_file, table_of, Answers}
+use Rattle.pipe_config.specs.File.{unless, judged, topology_of_table, topology_of_file, table_of, Answers}
 
 by_judge : (table : Members) (o : Option ConfigFault) (t : Topology) → least (faults_of table) ≡ None → least (faults_in (settings_of table)) ≡ o → unless o (Ok (topology_in (settings_of table))) ≡ Ok t → IsSound t
 by_judge table (Some fault) t walked h is = cc

@@ -1,14 +1,10 @@
 -- What the reader of TOML answers, as the table of the bytes.
-use Rattle.std.proofs.Common.{◌≡◌, ℕ, ◌<◌, ◌≤◌, ◌^◌, Bool, true, false, List, length, Option, Some, None, IsUtf8, cond, ltb, refl, ap, sym, ◌∙◌, arith}
+use Rattle.std.proofs.Common.{◌≡◌, ℕ, ◌<◌, ◌≤◌, Bool, true, false, List, length, Some, None, IsUtf8, cond, ltb, refl, arith}
 use Rattle.std.proofs.lemmas.Bool.Decides.{nat_tests}
 use Rattle.std.proofs.lemmas.Str.{IsUtf8-from_is_utf8, is_utf8-from_IsUtf8}
 use Rattle.std.specs.Str.{is_utf8}
-use Rattle.std.specs.Option.{ForSome}
 use Rattle.toml.specs.Data.{Members}
 use Rattle.toml.specs.Parse.{parse_document}
-use Rattle.config_table.specs.Format.{given, partition_by, given_number}
-use Rattle.config_settings.specs.Settings.{settings_of}
-use Rattle.config_build.specs.Build.{partition_field}
 use Rattle.pipe_config.specs.File.{table_of}
 
 pub long_file : (bytes : List ℕ) → 1048576 < length bytes → table_of bytes ≡ None

@@ -1,8 +1,9 @@
 use crate::{ConfigFault, fault_number, read_topology};
-use pipe_types::topology::{CancelMode, ChildMode, Dispatch, Keep, Kind, Role, Rule};
+use pipe_types::topology::{
+    CancelMode, ChildMode, Dispatch, Keep, Kind, Role, Rule, StageSpec, Topology,
+};
 use std::alloc::Global;
 use std::process::Abort;
-use std::test::Fail;
 
 /// The path of a fault, or `-` where it has none.
 fn path_of(fault: &ConfigFault) -> &str {
@@ -567,4 +568,104 @@ fn whole_files(rt: HostRuntime) {
         ),
     ];
     expect_rows(&rt, rt.alloc(), &rows);
+}
+
+fn read(rt: &impl Abort, alloc: Global, text: &str) -> Topology {
+    read_topology(alloc, text.as_bytes()).expect(rt, "an accepted file")
+}
+
+fn stage<'a>(rt: &impl Abort, topology: &'a Topology, place: usize) -> &'a StageSpec {
+    topology
+        .stages
+        .as_slice()
+        .get(place)
+        .expect(rt, "a stage at this place")
+}
+
+#[test]
+fn defaults_of_one_stage(rt: HostRuntime) {
+    let text = "version = 1\n[[producer]]\nname = \"p\"\nsource = \"mem:a\"\n[processors]\n";
+    let topology = read(&rt, rt.alloc(), text);
+    assert_eq!(rt; topology.stages.as_slice().len(), 3);
+    assert_eq!(rt; topology.max_restarts, 3);
+    assert_eq!(rt; topology.window_ms, 5000);
+    assert_eq!(rt; topology.idle_limit, 0);
+    assert_eq!(rt; topology.record_limit, 200_000);
+    assert_eq!(rt; topology.byte_limit, 67_108_864);
+    assert!(rt; topology.control.is_none());
+    let producer = stage(&rt, &topology, 0);
+    assert_eq!(rt; producer.no.0, 1);
+    assert!(rt; producer.name.as_str() == "p");
+    assert_eq!(rt; producer.role, Role::Producer);
+    assert_eq!(rt; producer.size, Some(10_000));
+    assert_eq!(rt; producer.keep, Keep::Last);
+    assert!(rt; !producer.push);
+    let processor = stage(&rt, &topology, 2);
+    assert_eq!(rt; processor.no.0, 3);
+    assert!(rt; processor.name.as_str() == "processors.1");
+    assert_eq!(rt; processor.index, 1);
+    assert_eq!(rt; processor.min, 5);
+    assert_eq!(rt; processor.max, 10);
+    assert_eq!(rt; processor.mode, CancelMode::Temporary);
+    assert_eq!(rt; processor.kind, Kind::Steps);
+    assert!(rt; processor.failed.is_none());
+}
+
+#[test]
+fn defaults_of_a_supervisor(rt: HostRuntime) {
+    let text =
+        "version = 1\nproducer = [{name = \"p\", source = \"mem:a\"}]\n[supervisor]\nsteps = [\"crash !\"]\n";
+    let topology = read(&rt, rt.alloc(), text);
+    let supervisor = stage(&rt, &topology, 1);
+    assert_eq!(rt; supervisor.role, Role::Supervisor);
+    assert_eq!(rt; supervisor.max, 10);
+    assert_eq!(rt; supervisor.min, 5);
+    assert_eq!(rt; supervisor.child, ChildMode::Temporary);
+    assert_eq!(rt; supervisor.rules.as_slice().len(), 1);
+}
+
+#[test]
+fn defaults_of_a_batcher(rt: HostRuntime) {
+    let text =
+        "version = 1\nproducer = [{name = \"p\", source = \"mem:a\"}]\n[processors]\nconcurrency = 1\npartition_by = 7\nsteps = [\"key 0\", \"route 2 c x\"]\n[[batcher]]\nname = \"b\"\n[[batcher]]\nname = \"c\"\nbatch_size = 7\nconcurrency = 2\ndispatch = \"partition\"\nsinks = [\"s\", \"t\"]\n";
+    let topology = read(&rt, rt.alloc(), text);
+    assert_eq!(rt; topology.stages.as_slice().len(), 7);
+    let producer = stage(&rt, &topology, 0);
+    assert_eq!(rt; producer.dispatch, Dispatch::Partition);
+    assert_eq!(rt; producer.parts, 1);
+    assert_eq!(rt; producer.field, 7);
+    let processor = stage(&rt, &topology, 1);
+    assert_eq!(rt; processor.batchers, 2);
+    match processor.rules.as_slice().get(1) {
+        Some(Rule::Route(field, batcher, _)) => {
+            assert_eq!(rt; *field, 2);
+            assert_eq!(rt; *batcher, 1);
+        }
+        _ => assert!(rt; false, "no route"),
+    }
+    let batcher = stage(&rt, &topology, 2);
+    assert_eq!(rt; batcher.batch_size, 100);
+    assert_eq!(rt; batcher.batch_timeout, 1000);
+    assert_eq!(rt; batcher.max, 100);
+    assert_eq!(rt; batcher.min, 50);
+    assert_eq!(rt; batcher.dispatch, Dispatch::Demand);
+    let second = stage(&rt, &topology, 3);
+    assert_eq!(rt; second.max, 7);
+    assert_eq!(rt; second.min, 3);
+    assert_eq!(rt; second.parts, 2);
+    let first_of_first = stage(&rt, &topology, 4);
+    assert!(rt; first_of_first.name.as_str() == "b.0");
+    assert_eq!(rt; first_of_first.kind, Kind::Lines);
+    assert!(rt; first_of_first.edge.is_none());
+    let last = stage(&rt, &topology, 6);
+    assert_eq!(rt; last.no.0, 7);
+    assert!(rt; last.name.as_str() == "c.1");
+    assert_eq!(rt; last.batcher, 1);
+    assert_eq!(rt; last.max, 1);
+    match &last.edge {
+        Some(sink) => {
+            assert!(rt; sink.as_str() == "t");
+        }
+        None => assert!(rt; false, "no sink"),
+    }
 }

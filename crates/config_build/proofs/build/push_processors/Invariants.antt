@@ -1,4 +1,4 @@
-use Rattle.std.proofs.Common.{◌≡◌, ◌-◌, ◌≤◌, ◌++◌, map}
+use Rattle.std.proofs.Common.{◌≡◌, ◌-◌, ◌++◌, map}
 use Rattle.config_build.specs.Build.{processor_stage, places}
 use Rattle.config_build.proofs.build.push_processors.Given as goal
 

@@ -1,7 +1,7 @@
 use Rattle.std.proofs.Common.{◌∙◌, ap}
 use Rattle.toml.specs.Data.{as_table}
 use Rattle.toml.specs.View.{view}
-use Rattle.config_table.specs.Fault.{least, at_place}
+use Rattle.config_table.specs.Fault.{least}
 use Rattle.config_table.specs.Walk.{table_faults}
 use Rattle.config_table.proofs.Items.{each_step}
 use Rattle.config_table.proofs.walk.each_fault.Goals as goal

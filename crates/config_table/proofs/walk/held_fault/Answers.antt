@@ -1,4 +1,4 @@
-use Rattle.std.proofs.Common.{◌∙◌, get_or}
+use Rattle.std.proofs.Common.{◌∙◌}
 use Rattle.toml.specs.View.{members_view}
 use Rattle.config_table.proofs.Items.{row_step}
 use Rattle.config_table.proofs.walk.held_fault.Goals as goal
