@@ -1,0 +1,127 @@
+-- The topology of settings: producers, then processors or the supervisor, then batchers, then batch processors.
+use Rattle.std.specs.Prelude.{codes, ℕ, zero, suc, ◌+◌, ◌*◌, false, List, [], ◌∷◌, ◌++◌, length, map, Option, Some, None, unwrap_or, option_and_then, filter_map, slice_get}
+use Rattle.pipe_types.specs.declared.topology.Topology.{Topology}
+use Rattle.pipe_types.specs.declared.topology.StageSpec.{StageSpec}
+use Rattle.pipe_types.specs.declared.topology.Role.{Role}
+use Rattle.pipe_types.specs.declared.topology.Role.TheVariants as role
+use Rattle.pipe_types.specs.declared.topology.Dispatch.{Dispatch}
+use Rattle.pipe_types.specs.declared.topology.Dispatch.TheVariants.{Demand, Partition}
+use Rattle.pipe_types.specs.declared.topology.Keep.TheVariants.{Last}
+use Rattle.pipe_types.specs.declared.topology.Kind.TheVariants.{Steps}
+use Rattle.pipe_types.specs.declared.topology.CancelMode.TheVariants as cancel
+use Rattle.pipe_types.specs.declared.topology.ChildMode.TheVariants as child
+use Rattle.pipe_types.specs.declared.topology.Rule.{Rule}
+use Rattle.pipe_types.specs.Numbers.{stage}
+use Rattle.pipe_types.specs.Sound.{numbered_name}
+use Rattle.config_rule.specs.RuleText.{rule_of}
+use Rattle.config_settings.specs.declared.settings.ProducerSettings.{ProducerSettings}
+use Rattle.config_settings.specs.declared.settings.ProcessorSettings.{ProcessorSettings}
+use Rattle.config_settings.specs.declared.settings.SupervisorSettings.{SupervisorSettings}
+use Rattle.config_settings.specs.declared.settings.BatcherSettings.{BatcherSettings}
+use Rattle.config_settings.specs.declared.settings.Settings.{Settings}
+use Rattle.config_judge.specs.Judge.{batcher_names, processor_count, supervisor_count}
+
+-- a stage with its number, its name and its place in its group, and no other field
+abbrev pub blank_stage : ℕ → List ℕ → Role → ℕ → StageSpec
+blank_stage number name role index =
+    record { no = stage number; name = name; role = role; index = index; batcher = 0; dispatch = Demand; parts = 0; field = 0; size = None; keep = Last; push = false; mode = cancel.Temporary; min = 0; max = 0; kind = Steps; rules = []; failed = None; edge = None; batch_size = 0; batch_timeout = 0; child = child.Temporary; batchers = 0 }
+
+-- the rules of texts, where these are the batchers' names
+abbrev pub rules_of : (known : List (List ℕ)) → List (List ℕ) → List Rule
+rules_of known = filter_map (rule_of known)
+
+-- producers send by demand, or by a field to as many parts as there are processors
+abbrev pub dispatch_by : Option ℕ → Dispatch
+dispatch_by None = Demand
+dispatch_by (Some field) = Partition
+
+abbrev pub parts_by : Option ℕ → ℕ → ℕ
+parts_by None n = 0
+parts_by (Some field) n = n
+
+abbrev pub field_by : Option ℕ → ℕ
+field_by None = 0
+field_by (Some field) = field
+
+abbrev pub producer_stage : Option ℕ → ℕ → ℕ → ProducerSettings → StageSpec
+producer_stage field n i p =
+    record (blank_stage (i + 1) p.name role.Producer i)
+    { dispatch = dispatch_by field; parts = parts_by field n; field = field_by field; size = Some p.buffer_size; keep = p.keep; push = p.push; edge = Some p.source }
+
+abbrev pub producer_stages : Option ℕ → ℕ → ℕ → List ProducerSettings → List StageSpec
+producer_stages field parts i [] = []
+producer_stages field parts i (p ∷ producers) = producer_stage field parts i p ∷ producer_stages field parts (i + 1) producers
+
+-- processors send a message to the batcher that it names, where there are batchers
+abbrev pub dispatch_to : ℕ → Dispatch
+dispatch_to zero = Demand
+dispatch_to (suc n) = Partition
+
+abbrev pub processor_stage : (known : List (List ℕ)) → ProcessorSettings → (before : ℕ) → ℕ → StageSpec
+processor_stage known p before i =
+    record (blank_stage (before + i + 1) (numbered_name (codes "processors") i) role.Processor i)
+    { dispatch = dispatch_to (length known); parts = length known; batchers = length known; mode = p.demand.mode; min = p.demand.min; max = p.demand.max; kind = p.handler.kind; rules = rules_of known p.handler.steps; failed = p.handler.failed }
+
+-- the places below n, from one on
+abbrev pub places : ℕ → ℕ → List ℕ
+places i zero = []
+places i (suc n) = i ∷ places (i + 1) n
+
+abbrev pub processor_stages : (known : List (List ℕ)) → (before : ℕ) → Option ProcessorSettings → List StageSpec
+processor_stages known before None = []
+processor_stages known before (Some p) = map (processor_stage known p before) (places 0 p.concurrency)
+
+abbrev pub supervisor_stage : (before : ℕ) → SupervisorSettings → StageSpec
+supervisor_stage before s =
+    record (blank_stage (before + 1) (codes "supervisor") role.Supervisor 0)
+    { mode = s.demand.mode; min = s.demand.min; max = s.demand.max; kind = s.handler.kind; rules = rules_of [] s.handler.steps; failed = s.handler.failed; child = s.restart }
+
+abbrev pub supervisor_stages : (before : ℕ) → Option SupervisorSettings → List StageSpec
+supervisor_stages before None = []
+supervisor_stages before (Some s) = supervisor_stage before s ∷ []
+
+-- with the partition dispatcher there is a part for each batch processor
+abbrev pub parts_of : Dispatch → ℕ → ℕ
+parts_of Partition n = n
+parts_of _ n = 0
+
+abbrev pub batcher_stage : (before : ℕ) → ℕ → BatcherSettings → StageSpec
+batcher_stage before i b =
+    record (blank_stage (before + i + 1) b.name role.Batcher i)
+    { batcher = i; dispatch = unwrap_or b.dispatch Demand; parts = parts_of (unwrap_or b.dispatch Demand) b.concurrency; mode = b.demand.mode; min = b.demand.min; max = b.demand.max; batch_size = b.batch_size; batch_timeout = b.batch_timeout }
+
+abbrev pub batcher_stages : (before : ℕ) → ℕ → List BatcherSettings → List StageSpec
+batcher_stages before i [] = []
+batcher_stages before i (b ∷ batchers) = batcher_stage before i b ∷ batcher_stages before (i + 1) batchers
+
+-- the sink at a place, where the batcher has sinks
+abbrev pub sink_at : Option (List (List ℕ)) → ℕ → Option (List ℕ)
+sink_at sinks i = option_and_then (λ names. slice_get names i) sinks
+
+abbrev pub batch_processor_stage : (k : ℕ) → BatcherSettings → (before : ℕ) → ℕ → StageSpec
+batch_processor_stage k b before i =
+    record (blank_stage (before + i + 1) (numbered_name b.name i) role.BatchProcessor i)
+    { batcher = k; mode = b.demand.mode; max = 1; kind = b.handler.kind; rules = rules_of [] b.handler.steps; failed = b.handler.failed; edge = sink_at b.sinks i }
+
+abbrev pub batch_processor_stages : (before : ℕ) → (k : ℕ) → List BatcherSettings → List StageSpec
+batch_processor_stages before k [] = []
+batch_processor_stages before k (b ∷ batchers) = map (batch_processor_stage k b before) (places 0 b.concurrency) ++ batch_processor_stages (before + b.concurrency) (k + 1) batchers
+
+abbrev pub partition_field : Option ProcessorSettings → Option ℕ
+partition_field = option_and_then (λ p. p.partition_by)
+
+-- the stages in number order
+abbrev pub stages_of : Settings → List StageSpec
+stages_of s =
+    let known = batcher_names s.batchers in
+    let first = length s.producers in
+    let second = first + processor_count s.processors + supervisor_count s.supervisor in
+    producer_stages (partition_field s.processors) (processor_count s.processors) 0 s.producers
+    ++ (processor_stages known first s.processors
+    ++ (supervisor_stages first s.supervisor
+    ++ (batcher_stages second 0 s.batchers
+    ++ batch_processor_stages (second + length s.batchers) 0 s.batchers)))
+
+abbrev pub topology_in : Settings → Topology
+topology_in s =
+    record { stages = stages_of s; max_restarts = s.max_restarts; window_ms = s.max_seconds * 1000; idle_limit = s.idle_limit; record_limit = 200000; byte_limit = 67108864; control = s.control }

@@ -1,0 +1,226 @@
+//! The stages of a topology in their order.
+
+ghost use Rattle.std.specs.Prelude.{◌≡◌, ◌<◌, ◌≤◌, ◌^◌, ◌++◌, length, map, IfOk, OnOk};
+ghost use Rattle.std.specs.Option.{ForSome};
+ghost use Rattle.config_judge.specs.Judge as judge;
+ghost use Rattle.config_build.specs.Build as build;
+
+use crate::stage::{
+    batch_processor_stage, batcher_stage, processor_stage, producer_stage, supervisor_stage,
+};
+use config_judge::names::batcher_names;
+use config_settings::settings::{
+    BatcherSettings, ProcessorSettings, ProducerSettings, Settings, SupervisorSettings,
+};
+use config_table::fault::copied;
+use pipe_types::bytes::Text;
+use pipe_types::topology::{StageList, StageSpec, Topology};
+use std::alloc::{AllocError, Global};
+
+fn push_producers(
+    alloc: Global,
+    stages: &mut Vec<StageSpec>,
+    field: Option<u32>,
+    parts: u32,
+    producers: &[ProducerSettings],
+) -> Result<(), AllocError>
+    requires few { length producers.now ≤ 64 }
+    requires field { ForSome field (λ n. n < 2 ^ 16) }
+    ensures { OnOk result (stages.new.items ≡ stages.old.items ++ build.producer_stages field parts 0 producers.now) }
+{
+    for (i, producer) in producers.iter().enumerate() {
+        stages.push(producer_stage(alloc, field, parts, i as u16, producer)?)?;
+    }
+    Ok(())
+}
+
+#[tactic(auto, using(crate::proofs::Stages::place_step))]
+fn push_processors(
+    alloc: Global,
+    stages: &mut Vec<StageSpec>,
+    known: &[Text],
+    before: u16,
+    processors: &ProcessorSettings,
+) -> Result<(), AllocError>
+    requires before { before ≤ 64 }
+    requires few { processors.now.concurrency ≤ 64 }
+    requires known { length known.now ≤ 64 }
+    ensures { OnOk result (stages.new.items ≡ stages.old.items ++ map (build.processor_stage known.now processors.now before) (build.places 0 processors.now.concurrency)) }
+{
+    let count = processors.concurrency;
+    for i in 0..count {
+        stages.push(processor_stage(alloc, known, processors, before, i as u16)?)?;
+    }
+    Ok(())
+}
+
+fn push_processor_group(
+    alloc: Global,
+    stages: &mut Vec<StageSpec>,
+    known: &[Text],
+    before: u16,
+    processors: &Option<ProcessorSettings>,
+) -> Result<(), AllocError>
+    requires before { before ≤ 64 }
+    requires few { judge.processor_count processors.now ≤ 64 }
+    requires known { length known.now ≤ 64 }
+    ensures { OnOk result (stages.new.items ≡ stages.old.items ++ build.processor_stages known.now before processors.now) }
+{
+    match processors {
+        None => Ok(()),
+        Some(processors) => push_processors(alloc, stages, known, before, processors),
+    }
+}
+
+fn push_supervisor(
+    alloc: Global,
+    stages: &mut Vec<StageSpec>,
+    before: u16,
+    supervisor: &Option<SupervisorSettings>,
+) -> Result<(), AllocError>
+    requires { before ≤ 64 }
+    ensures { OnOk result (stages.new.items ≡ stages.old.items ++ build.supervisor_stages before supervisor.now) }
+{
+    if let Some(supervisor) = supervisor {
+        stages.push(supervisor_stage(alloc, before, supervisor)?)?;
+    }
+    Ok(())
+}
+
+fn push_batchers(
+    alloc: Global,
+    stages: &mut Vec<StageSpec>,
+    before: u16,
+    batchers: &[BatcherSettings],
+) -> Result<(), AllocError>
+    requires before { before ≤ 128 }
+    requires few { length batchers.now ≤ 64 }
+    ensures { OnOk result (stages.new.items ≡ stages.old.items ++ build.batcher_stages before 0 batchers.now) }
+{
+    for (i, batcher) in batchers.iter().enumerate() {
+        stages.push(batcher_stage(alloc, before, i as u16, batcher)?)?;
+    }
+    Ok(())
+}
+
+#[tactic(auto, using(crate::proofs::Stages::place_step))]
+fn push_batch_processors(
+    alloc: Global,
+    stages: &mut Vec<StageSpec>,
+    before: u16,
+    number: u16,
+    batcher: &BatcherSettings,
+) -> Result<(), AllocError>
+    requires before { before ≤ 256 }
+    requires few { batcher.now.concurrency ≤ 64 }
+    ensures { OnOk result (stages.new.items ≡ stages.old.items ++ map (build.batch_processor_stage number batcher.now before) (build.places 0 batcher.now.concurrency)) }
+{
+    let count = batcher.concurrency;
+    for i in 0..count {
+        stages.push(batch_processor_stage(alloc, number, batcher, before, i as u16)?)?;
+    }
+    Ok(())
+}
+
+#[tactic(auto, using(crate::proofs::Stages::group_step))]
+fn push_batch_processor_groups(
+    alloc: Global,
+    stages: &mut Vec<StageSpec>,
+    before: u16,
+    batchers: &[BatcherSettings],
+) -> Result<(), AllocError>
+    requires before { before ≤ 192 }
+    requires few { length batchers.now ≤ 64 }
+    requires members { judge.batch_processor_count batchers.now ≤ 64 }
+    ensures { OnOk result (stages.new.items ≡ stages.old.items ++ build.batch_processor_stages before 0 batchers.now) }
+{
+    let mut before = before;
+    for (i, batcher) in batchers.iter().enumerate() {
+        push_batch_processors(alloc, stages, before, i as u16, batcher)?;
+        before += batcher.concurrency as u16;
+    }
+    Ok(())
+}
+
+fn processor_count(processors: &Option<ProcessorSettings>) -> u32
+    ensures { result ≡ judge.processor_count processors.now }
+{
+    match processors {
+        None => 0,
+        Some(processors) => processors.concurrency,
+    }
+}
+
+fn partition_field(processors: &Option<ProcessorSettings>) -> Option<u32>
+    ensures { result ≡ build.partition_field processors.now }
+{
+    match processors {
+        None => None,
+        Some(processors) => processors.partition_by,
+    }
+}
+
+fn supervisor_count(supervisor: &Option<SupervisorSettings>) -> u32
+    ensures { result ≡ judge.supervisor_count supervisor.now }
+{
+    if supervisor.is_some() { 1 } else { 0 }
+}
+
+/// The stages in number order.
+fn stages_of(alloc: Global, settings: &Settings) -> Result<StageList, AllocError>
+    requires few { judge.stage_count settings.now ≤ 64 }
+    requires field { ForSome (build.partition_field settings.now.processors) (λ n. n < 2 ^ 16) }
+    ensures { IfOk result (λ stages. stages ≡ build.stages_of settings.now) }
+{
+    let producers = settings.producers.as_slice();
+    let batchers = settings.batchers.as_slice();
+    let known = batcher_names(alloc, batchers)?;
+    let count = processor_count(&settings.processors);
+    let first = producers.len() as u16;
+    let second = first + count as u16 + supervisor_count(&settings.supervisor) as u16;
+    let third = second + batchers.len() as u16;
+    let field = partition_field(&settings.processors);
+    let mut stages = Vec::new(alloc);
+    push_producers(alloc, &mut stages, field, count, producers)?;
+    push_processor_group(
+        alloc,
+        &mut stages,
+        known.as_slice(),
+        first,
+        &settings.processors,
+    )?;
+    push_supervisor(alloc, &mut stages, first, &settings.supervisor)?;
+    push_batchers(alloc, &mut stages, second, batchers)?;
+    push_batch_processor_groups(alloc, &mut stages, third, batchers)?;
+    Ok(StageList::from_vec(stages))
+}
+
+fn copy_of(alloc: Global, text: &Option<Text>) -> Result<Option<Text>, AllocError>
+    ensures { IfOk result (λ copy. copy ≡ text.now) }
+{
+    Ok(match text {
+        Some(text) => Some(copied(alloc, text.as_str())?),
+        None => None,
+    })
+}
+
+/// The topology of settings of at most 64 stages.
+pub fn build_topology(alloc: Global, settings: &Settings) -> Result<Topology, AllocError>
+    requires few { judge.stage_count settings.now ≤ 64 }
+    requires field { ForSome (build.partition_field settings.now.processors) (λ n. n < 2 ^ 16) }
+    ensures { IfOk result (λ topology. topology ≡ build.topology_in settings.now) }
+{
+    let seconds = settings.max_seconds;
+    let window_ms = u64::from(seconds) * 1000;
+    let stages = stages_of(alloc, settings)?;
+    let control = copy_of(alloc, &settings.control)?;
+    Ok(Topology {
+        stages,
+        max_restarts: settings.max_restarts,
+        window_ms,
+        idle_limit: settings.idle_limit,
+        record_limit: 200_000,
+        byte_limit: 67_108_864,
+        control,
+    })
+}

@@ -1,0 +1,9 @@
+use Rattle.std.proofs.Common.{◌∙◌}
+use Rattle.config_judge.proofs.Steps.{batcher_step}
+use Rattle.config_judge.proofs.routes.batcher_routes.Goals as goal
+
+pub loop-i-preserved : goal.loop-i-preserved
+loop-i-preserved c =
+    rw c.sooner-found.ensures
+    (batcher_step c.args.batchers.now c.loop-i.i c.index-batchers-i.result c.loop-i.found c.in_ok-fault.fault c.loop-i-test.true c.index-batchers-i.is c.in_ok-fault.ensures
+    ∙ c.loop-i.invariant)

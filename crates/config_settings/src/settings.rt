@@ -1,0 +1,160 @@
+//! The values of a topology file.
+
+ghost use Rattle.std.specs.Prelude.{◌≡◌};
+
+use pipe_types::bytes::Text;
+use pipe_types::reason::Reason;
+use pipe_types::topology::{CancelMode, ChildMode, Dispatch, Keep, Kind};
+use std::marker::Model;
+
+/// Texts in the order of the file.
+#[derive(Drop, Debug)]
+pub struct TextList {
+    items: Vec<Text>,
+}
+
+impl Model for TextList {
+    ghost use Rattle.std.specs.Prelude.{List, ℕ};
+
+    ghost Value = { List (List ℕ) };
+
+    ghost view = { λ l. l.items.items };
+}
+
+impl TextList {
+    pub fn from_vec(items: Vec<Text>) -> Self
+        ensures { result ≡ items.items }
+    {
+        TextList { items }
+    }
+
+    pub fn as_slice(&self) -> &[Text]
+        ensures { result.now ≡ self.now }
+    {
+        self.items.as_slice()
+    }
+}
+
+/// How a stage asks, and whether it is killed with a stage that it takes from.
+#[derive(Clone, Copy, Debug)]
+pub struct Demand {
+    pub mode: CancelMode,
+    pub min: u32,
+    pub max: u32,
+}
+
+/// The handler of a stage: its kind, the texts of its rules, and the reason in place of another.
+#[derive(Drop, Debug)]
+pub struct Handler {
+    pub kind: Kind,
+    pub steps: TextList,
+    pub failed: Option<Reason>,
+}
+
+#[derive(Drop, Debug)]
+pub struct ProducerSettings {
+    pub name: Text,
+    pub source: Text,
+    pub push: bool,
+    pub buffer_size: u32,
+    pub keep: Keep,
+}
+
+#[derive(Drop, Debug)]
+pub struct ProcessorSettings {
+    pub concurrency: u32,
+    pub partition_by: Option<u32>,
+    pub demand: Demand,
+    pub handler: Handler,
+}
+
+#[derive(Drop, Debug)]
+pub struct SupervisorSettings {
+    pub restart: ChildMode,
+    pub demand: Demand,
+    pub handler: Handler,
+}
+
+/// A batcher with its batch processors. The timeout is in milliseconds; a dispatcher of another word is none.
+#[derive(Drop, Debug)]
+pub struct BatcherSettings {
+    pub name: Text,
+    pub concurrency: u32,
+    pub batch_size: u32,
+    pub batch_timeout: u32,
+    pub demand: Demand,
+    pub dispatch: Option<Dispatch>,
+    pub handler: Handler,
+    pub sinks: Option<TextList>,
+}
+
+/// Producers in the order of the file.
+#[derive(Drop, Debug)]
+pub struct ProducerList {
+    items: Vec<ProducerSettings>,
+}
+
+impl Model for ProducerList {
+    ghost use Rattle.std.specs.Prelude.{List};
+    ghost use Rattle.config_settings.specs.declared.settings.ProducerSettings.{ProducerSettings};
+
+    ghost Value = { List ProducerSettings };
+
+    ghost view = { λ l. l.items.items };
+}
+
+impl ProducerList {
+    pub fn from_vec(items: Vec<ProducerSettings>) -> Self
+        ensures { result ≡ items.items }
+    {
+        ProducerList { items }
+    }
+
+    pub fn as_slice(&self) -> &[ProducerSettings]
+        ensures { result.now ≡ self.now }
+    {
+        self.items.as_slice()
+    }
+}
+
+/// Batchers in the order of the file.
+#[derive(Drop, Debug)]
+pub struct BatcherList {
+    items: Vec<BatcherSettings>,
+}
+
+impl Model for BatcherList {
+    ghost use Rattle.std.specs.Prelude.{List};
+    ghost use Rattle.config_settings.specs.declared.settings.BatcherSettings.{BatcherSettings};
+
+    ghost Value = { List BatcherSettings };
+
+    ghost view = { λ l. l.items.items };
+}
+
+impl BatcherList {
+    pub fn from_vec(items: Vec<BatcherSettings>) -> Self
+        ensures { result ≡ items.items }
+    {
+        BatcherList { items }
+    }
+
+    pub fn as_slice(&self) -> &[BatcherSettings]
+        ensures { result.now ≡ self.now }
+    {
+        self.items.as_slice()
+    }
+}
+
+/// The values of a topology file. A control source is named where there is one.
+#[derive(Drop, Debug)]
+pub struct Settings {
+    pub max_restarts: u32,
+    pub max_seconds: u32,
+    pub idle_limit: u32,
+    pub control: Option<Text>,
+    pub producers: ProducerList,
+    pub processors: Option<ProcessorSettings>,
+    pub supervisor: Option<SupervisorSettings>,
+    pub batchers: BatcherList,
+}

@@ -1,0 +1,192 @@
+-- The fields of the stages that settings give.
+use Rattle.std.proofs.Common.{◌≡◌, ℕ, zero, suc, ◌+◌, ◌<◌, ◌≤◌, Bool, true, false, not, ◌&&◌, ◌||◌, ◌==◌, nat_le, nat_lt, codes, List, [], ◌∷◌, length, map, filter, Option, Some, None, unwrap_or, refl, ap, ◌∙◌, arith, length-append}
+use Rattle.std.proofs.lemmas.Bool.{eq-eqb, and_parts, le-leb, leb-true}
+use Rattle.std.proofs.lemmas.Bool.Decides.{nat_tests}
+use Rattle.std.proofs.lemmas.List.Elements.{filter-append}
+use Rattle.std.specs.List.{list_all}
+use Rattle.pipe_types.specs.declared.topology.StageSpec.{StageSpec}
+use Rattle.pipe_types.specs.declared.topology.Role.{Role}
+use Rattle.pipe_types.specs.declared.topology.Dispatch.{Dispatch}
+use Rattle.pipe_types.specs.declared.topology.Dispatch.TheVariants.{Demand, Broadcast, Partition}
+use Rattle.pipe_types.specs.Sound.{has_fields, is_name, processors, batchers, batch_processors, is_batch_processor, by_demand, by_broadcast, by_partition, is_between, are_rules, is_reason, is_lines}
+use Rattle.config_settings.specs.declared.settings.ProducerSettings.{ProducerSettings}
+use Rattle.config_settings.specs.declared.settings.ProcessorSettings.{ProcessorSettings}
+use Rattle.config_settings.specs.declared.settings.SupervisorSettings.{SupervisorSettings}
+use Rattle.config_settings.specs.declared.settings.BatcherSettings.{BatcherSettings}
+use Rattle.config_judge.specs.Judge.{batcher_route, batcher_routes}
+use Rattle.config_build.specs.Build.{producer_stage, producer_stages, places, processor_stage, processor_stages, supervisor_stages, batcher_stage, batcher_stages, batch_processor_stage, batch_processor_stages, dispatch_to, rules_of}
+use Rattle.config_table.specs.Fault.{under, at_place}
+use Rattle.config_sound.specs.Fit.{demand_fits, handler_fits, producer_fits, field_fits, processors_fit, supervisor_fits, batcher_fits}
+use Rattle.config_sound.proofs.Groups.{AllRole, length-places}
+use Rattle.config_sound.proofs.Named.{both, all_append}
+use Rattle.config_sound.proofs.Rules.{rules_fit}
+use Rattle.config_sound.proofs.Distinct.{nothing_left}
+
+-- a test of every place of a group
+pub all_places : (test : StageSpec → Bool) (f : ℕ → StageSpec) (n i most : ℕ) → i + n ≤ most → ((k : ℕ) → k < most → test (f k) ≡ true) → list_all test (map f (places i n)) ≡ true
+all_places test f zero i most fits h = refl
+all_places test f (suc n) i most fits h = both (h i (omega arith)) (all_places test f n (i + 1) most (omega arith) h)
+
+lt_true : (a b : ℕ) → a < b → nat_lt a b ≡ true
+lt_true a b h = grind (arith, nat_tests)
+
+-- ---- producers
+
+abbrev pub FieldFits : Option ℕ → ℕ → Type 0
+FieldFits None n = Unit {0}
+FieldFits (Some field) n = (nat_le field 255 ≡ true) × (nat_le 1 n ≡ true)
+
+one_producer : (all : List StageSpec) (field : Option ℕ) (n i : ℕ) (p : ProducerSettings) → length (processors all) ≡ n → FieldFits field n → nat_le p.buffer_size 200000 ≡ true → has_fields all (producer_stage field n i p) ≡ true
+one_producer all None n i p count fits size = rw size refl
+one_producer all (Some field) n i p count fits size = rw (count, size, fits.0, fits.1, eq-eqb n n refl) refl
+
+pub producer_fields : (all : List StageSpec) (field : Option ℕ) (n i : ℕ) (ps : List ProducerSettings) → length (processors all) ≡ n → FieldFits field n → list_all producer_fits ps ≡ true → list_all (has_fields all) (producer_stages field n i ps) ≡ true
+producer_fields all field n i [] count fits h = refl
+producer_fields all field n i (p ∷ ps) count fits h =
+    let (here, more) = and_parts (producer_fits p) (list_all producer_fits ps) h in
+    both (one_producer all field n i p count fits (and_parts (is_name p.name) (nat_le p.buffer_size 200000) here).1) (producer_fields all field n (i + 1) ps count fits more)
+
+-- ---- processors
+
+sends_well : (known : List (List ℕ)) (q : ProcessorSettings) (first i : ℕ)
+    → ((length known == 0 && by_demand (processor_stage known q first i) (dispatch_to (length known))) || (by_partition (length known) (processor_stage known q first i) (dispatch_to (length known)) && (0 == 0))) ≡ true
+sends_well [] q first i = refl
+sends_well (k ∷ ks) q first i =
+    let none : (suc (length ks) == 0) ≡ false = grind (arith, nat_tests) in
+    let some : nat_le 1 (suc (length ks)) ≡ true = le-leb 1 (suc (length ks)) (omega arith) in
+    rw (none, some, eq-eqb (suc (length ks)) (suc (length ks)) refl) refl
+
+one_processor : (all : List StageSpec) (known : List (List ℕ)) (q : ProcessorSettings) (first i : ℕ) → length (batchers all) ≡ length known → nat_lt i 32 ≡ true → demand_fits 10000 q.demand ≡ true → not (is_lines q.handler.kind) ≡ true
+    → are_rules (length known) (rules_of known q.handler.steps) ≡ true → is_reason q.handler.failed ≡ true → has_fields all (processor_stage known q first i) ≡ true
+one_processor all known q first i count place demand kind rules failed =
+    both
+    (both (both (rw count (eq-eqb (length known) (length known) refl)) (sends_well known q first i))
+    (both (both place demand) (both kind (both rules failed))))
+    refl
+
+abbrev pub ProcessorRules : List (List ℕ) → Option ProcessorSettings → Type 0
+ProcessorRules known None = Unit {0}
+ProcessorRules known (Some q) = are_rules (length known) (rules_of known q.handler.steps) ≡ true
+
+pub processor_fields : (all : List StageSpec) (known : List (List ℕ)) (first : ℕ) (q : Option ProcessorSettings) → length (batchers all) ≡ length known → processors_fit q ≡ true → ProcessorRules known q → list_all (has_fields all) (processor_stages known first q) ≡ true
+processor_fields all known first None count h rules = refl
+processor_fields all known first (Some q) count h rules =
+    let (sizes, others) = and_parts (is_between 1 32 q.concurrency && field_fits q.partition_by) (demand_fits 10000 q.demand && (not (is_lines q.handler.kind) && handler_fits q.handler)) h in
+    let (demand, handling) = and_parts (demand_fits 10000 q.demand) (not (is_lines q.handler.kind) && handler_fits q.handler) others in
+    let (kind, handler) = and_parts (not (is_lines q.handler.kind)) (handler_fits q.handler) handling in
+    let (few, failed) = and_parts (nat_le (length q.handler.steps) 64) (is_reason q.handler.failed) handler in
+    let (size, field) = and_parts (is_between 1 32 q.concurrency) (field_fits q.partition_by) sizes in
+    let most : q.concurrency ≤ 32 = leb-true q.concurrency 32 (and_parts (nat_le 1 q.concurrency) (nat_le q.concurrency 32) size).1 in
+    all_places (has_fields all) (processor_stage known q first) q.concurrency 0 32 (omega arith)
+    (λ i below. one_processor all known q first i count (lt_true i 32 below) demand kind rules failed)
+
+-- ---- the supervisor
+
+abbrev pub SupervisorRules : Option SupervisorSettings → Type 0
+SupervisorRules None = Unit {0}
+SupervisorRules (Some s) = are_rules 0 (rules_of [] s.handler.steps) ≡ true
+
+pub supervisor_fields : (all : List StageSpec) (first : ℕ) (s : Option SupervisorSettings) → supervisor_fits s ≡ true → SupervisorRules s → list_all (has_fields all) (supervisor_stages first s) ≡ true
+supervisor_fields all first None h rules = refl
+supervisor_fields all first (Some s) h rules =
+    let (demand, handling) = and_parts (demand_fits 16 s.demand) (not (is_lines s.handler.kind) && handler_fits s.handler) h in
+    let (kind, handler) = and_parts (not (is_lines s.handler.kind)) (handler_fits s.handler) handling in
+    let (few, failed) = and_parts (nat_le (length s.handler.steps) 64) (is_reason s.handler.failed) handler in
+    both (both (both demand (both kind (both rules failed))) refl) refl
+
+-- ---- batchers
+
+-- each batcher has as many batch processors as it says
+abbrev pub AllCounted : List StageSpec → ℕ → List BatcherSettings → Type 0
+AllCounted all i [] = Unit {0}
+AllCounted all i (b ∷ bs) = (length (batch_processors i all) ≡ b.concurrency) × AllCounted all (i + 1) bs
+
+abbrev is_of : ℕ → StageSpec → Bool
+is_of k s = is_batch_processor s.role && s.batcher == k
+
+own_group : (k : ℕ) (b : BatcherSettings) (before : ℕ) (is : List ℕ) → filter (is_of k) (map (batch_processor_stage k b before) is) ≡ map (batch_processor_stage k b before) is
+own_group k b before [] = refl
+own_group k b before (i ∷ is) = rw (own_group k b before is, eq-eqb k k refl) refl
+
+other_group : (k j : ℕ) (b : BatcherSettings) (before : ℕ) (is : List ℕ) → (j == k) ≡ false → filter (is_of k) (map (batch_processor_stage j b before) is) ≡ []
+other_group k j b before [] e = refl
+other_group k j b before (i ∷ is) e = rw (other_group k j b before is e, e) refl
+
+later_groups : (k before j : ℕ) (bs : List BatcherSettings) → k < j → filter (is_of k) (batch_processor_stages before j bs) ≡ []
+later_groups k before j [] h = refl
+later_groups k before j (b ∷ bs) h =
+    let other : (j == k) ≡ false = grind (arith, nat_tests) in
+    filter-append (is_of k) (map (batch_processor_stage j b before) (places 0 b.concurrency)) (batch_processor_stages (before + b.concurrency) (j + 1) bs)
+    ∙ rw (other_group k j b before (places 0 b.concurrency) other, later_groups k (before + b.concurrency) (j + 1) bs (omega arith)) refl
+
+first_group : (k before : ℕ) (b : BatcherSettings) (bs : List BatcherSettings) → length (filter (is_of k) (batch_processor_stages before k (b ∷ bs))) ≡ b.concurrency
+first_group k before b bs =
+    rw (
+      filter-append (is_of k) (map (batch_processor_stage k b before) (places 0 b.concurrency)) (batch_processor_stages (before + b.concurrency) (k + 1) bs),
+      own_group k b before (places 0 b.concurrency),
+      later_groups k (before + b.concurrency) (k + 1) bs (omega arith),
+      length-append (map (batch_processor_stage k b before) (places 0 b.concurrency)) [],
+      length-places (batch_processor_stage k b before) 0 b.concurrency,
+    )
+    (omega arith)
+
+next_group : (k before j : ℕ) (b : BatcherSettings) (bs : List BatcherSettings) → j + 1 ≤ k → filter (is_of k) (batch_processor_stages before j (b ∷ bs)) ≡ filter (is_of k) (batch_processor_stages (before + b.concurrency) (j + 1) bs)
+next_group k before j b bs h =
+    let other : (j == k) ≡ false = grind (arith, nat_tests) in
+    filter-append (is_of k) (map (batch_processor_stage j b before) (places 0 b.concurrency)) (batch_processor_stages (before + b.concurrency) (j + 1) bs)
+    ∙ rw (other_group k j b before (places 0 b.concurrency) other) refl
+
+pub counted_batchers : (all : List StageSpec) (j before : ℕ) (bs : List BatcherSettings) → ((k : ℕ) → j ≤ k → length (batch_processors k all) ≡ length (filter (is_of k) (batch_processor_stages before j bs))) → AllCounted all j bs
+counted_batchers all j before [] h = tt
+counted_batchers all j before (b ∷ bs) h = (
+  h j (omega arith) ∙ first_group j before b bs,
+  counted_batchers all (j + 1) (before + b.concurrency) bs (λ k above. h k (omega arith) ∙ ap length (next_group k before j b bs above)),
+)
+
+-- a group of another role has no batch processor
+pub none_of : (r : Role) (k : ℕ) (xs : List StageSpec) → is_batch_processor r ≡ false → AllRole r xs → filter (is_of k) xs ≡ []
+none_of r k [] other h = refl
+none_of r k (x ∷ xs) other h = let e : is_batch_processor x.role ≡ false = ap is_batch_processor h.0 ∙ other in rw (none_of r k xs other h.1, e) refl
+
+dispatches_well : (all : List StageSpec) (second i : ℕ) (b : BatcherSettings) (d : Option Dispatch) → b.dispatch ≡ d → length (batch_processors i all) ≡ b.concurrency → nat_le 1 b.concurrency ≡ true
+    → ((by_demand (batcher_stage second i b) (unwrap_or b.dispatch Demand) || by_broadcast (batcher_stage second i b) (unwrap_or b.dispatch Demand)) || (by_partition (length (batch_processors i all)) (batcher_stage second i b) (unwrap_or b.dispatch Demand) && (0 == 0))) ≡ true
+dispatches_well all second i b None e count some = rw e refl
+dispatches_well all second i b (Some Demand) e count some = rw e refl
+dispatches_well all second i b (Some Broadcast) e count some = rw e refl
+dispatches_well all second i b (Some Partition) e count some = rw (e, count, some, eq-eqb b.concurrency b.concurrency refl) refl
+
+one_batcher : (all : List StageSpec) (second i : ℕ) (b : BatcherSettings) → length (batch_processors i all) ≡ b.concurrency → batcher_fits b ≡ true → has_fields all (batcher_stage second i b) ≡ true
+one_batcher all second i b count h =
+    let (first, others) = and_parts (is_name b.name && is_between 1 16 b.concurrency) ((is_between 1 10000 b.batch_size && is_between 1 3600000 b.batch_timeout) && (demand_fits 10000 b.demand && handler_fits b.handler)) h in
+    let (name, size) = and_parts (is_name b.name) (is_between 1 16 b.concurrency) first in
+    let (batching, rest) = and_parts (is_between 1 10000 b.batch_size && is_between 1 3600000 b.batch_timeout) (demand_fits 10000 b.demand && handler_fits b.handler) others in
+    let (demand, handler) = and_parts (demand_fits 10000 b.demand) (handler_fits b.handler) rest in
+    let some : nat_le 1 b.concurrency ≡ true = (and_parts (nat_le 1 b.concurrency) (nat_le b.concurrency 16) size).0 in
+    both (both (both (eq-eqb i i refl) (dispatches_well all second i b b.dispatch refl count some)) (both demand batching)) refl
+
+pub batcher_fields : (all : List StageSpec) (second i : ℕ) (bs : List BatcherSettings) → AllCounted all i bs → list_all batcher_fits bs ≡ true → list_all (has_fields all) (batcher_stages second i bs) ≡ true
+batcher_fields all second i [] count h = refl
+batcher_fields all second i (b ∷ bs) count h =
+    let (here, more) = and_parts (batcher_fits b) (list_all batcher_fits bs) h in
+    both (one_batcher all second i b count.0 here) (batcher_fields all second (i + 1) bs count.1 more)
+
+-- ---- batch processors
+
+one_member : (all : List StageSpec) (k : ℕ) (b : BatcherSettings) (before i : ℕ) → nat_lt i 16 ≡ true → are_rules 0 (rules_of [] b.handler.steps) ≡ true → is_reason b.handler.failed ≡ true → has_fields all (batch_processor_stage k b before i) ≡ true
+one_member all k b before i place rules failed = both (both (both place refl) (both rules failed)) refl
+
+pub member_fields : (all : List StageSpec) (before k : ℕ) (bs : List BatcherSettings) → list_all batcher_fits bs ≡ true → batcher_routes k bs ≡ [] → list_all (has_fields all) (batch_processor_stages before k bs) ≡ true
+member_fields all before k [] h routes = refl
+member_fields all before k (b ∷ bs) h routes =
+    let (here, more) = and_parts (batcher_fits b) (list_all batcher_fits bs) h in
+    let (straight, later) = nothing_left (batcher_route k b) (batcher_routes (k + 1) bs) routes in
+    let (first, others) = and_parts (is_name b.name && is_between 1 16 b.concurrency) ((is_between 1 10000 b.batch_size && is_between 1 3600000 b.batch_timeout) && (demand_fits 10000 b.demand && handler_fits b.handler)) here in
+    let (name, size) = and_parts (is_name b.name) (is_between 1 16 b.concurrency) first in
+    let (batching, rest) = and_parts (is_between 1 10000 b.batch_size && is_between 1 3600000 b.batch_timeout) (demand_fits 10000 b.demand && handler_fits b.handler) others in
+    let (demand, handler) = and_parts (demand_fits 10000 b.demand) (handler_fits b.handler) rest in
+    let (few, failed) = and_parts (nat_le (length b.handler.steps) 64) (is_reason b.handler.failed) handler in
+    let most : b.concurrency ≤ 16 = leb-true b.concurrency 16 (and_parts (nat_le 1 b.concurrency) (nat_le b.concurrency 16) size).1 in
+    let rules : are_rules 0 (rules_of [] b.handler.steps) ≡ true = rules_fit (under (at_place (codes "batcher") k) (codes "steps")) [] b.handler.steps straight few in
+    all_append (has_fields all) (map (batch_processor_stage k b before) (places 0 b.concurrency)) (batch_processor_stages (before + b.concurrency) (k + 1) bs)
+    (all_places (has_fields all) (batch_processor_stage k b before) b.concurrency 0 16 (omega arith) (λ i below. one_member all k b before i (lt_true i 16 below) rules failed))
+    (member_fields all (before + b.concurrency) (k + 1) bs more later)

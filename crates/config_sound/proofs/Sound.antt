@@ -1,0 +1,232 @@
+-- The topology of settings that fit and that no fault names is sound.
+use Rattle.std.proofs.Common.{◌≡◌, ℕ, suc, ◌+◌, ◌-◌, ◌*◌, ◌%◌, ◌≤◌, Bool, true, false, not, ◌&&◌, ◌||◌, ◌==◌, nat_le, nat_lt, codes, List, [], ◌∷◌, ◌++◌, length, Option, Some, None, is_some, is_none, refl, ap, sym, ◌∙◌, arith, length-append}
+use Rattle.std.proofs.lemmas.Bool.{eq-eqb, and_parts, le-leb, leb-true}
+use Rattle.std.proofs.lemmas.Bool.Decides.{nat_tests}
+use Rattle.std.specs.List.{list_all}
+use Rattle.pipe_types.specs.declared.topology.StageSpec.{StageSpec}
+use Rattle.pipe_types.specs.declared.topology.Role.TheVariants as role
+use Rattle.pipe_types.specs.Sound.{IsSound, is_between, is_name, is_named, is_batch_processor, has_fields, is_reached, producers, processors, batchers, batch_processors, is_window, is_control, is_lines, is_reason, are_settings}
+use Rattle.config_table.specs.declared.fault.ConfigFault.TheVariants as fault
+use Rattle.config_settings.specs.declared.settings.ProducerSettings.{ProducerSettings}
+use Rattle.config_settings.specs.declared.settings.ProcessorSettings.{ProcessorSettings}
+use Rattle.config_settings.specs.declared.settings.SupervisorSettings.{SupervisorSettings}
+use Rattle.config_settings.specs.declared.settings.BatcherSettings.{BatcherSettings}
+use Rattle.config_settings.specs.declared.settings.Settings.{Settings}
+use Rattle.config_judge.specs.Judge.{faults_in, duplicate_names, duplicates_with, routes_with, group_faults, bad_dispatches, unreachable_with, lacks_stage, stage_count, processor_count, supervisor_count, batcher_names, producer_names, processor_routes, supervisor_routes, batcher_routes, fault_if}
+use Rattle.config_build.specs.Build.{topology_in, stages_of, partition_field, producer_stages, processor_stages, supervisor_stages, batcher_stages, batch_processor_stages}
+use Rattle.config_sound.specs.Fit.{IsFit, producer_fits, processors_fit, supervisor_fits, batcher_fits, demand_fits, handler_fits, field_fits}
+use Rattle.config_sound.proofs.Groups.{AllRole, role_producers, role_processors, role_supervisors, role_batchers, role_batch_processors, length-producers, length-processors, length-supervisors, length-batchers, length-batch_processors, five_producers, five_processors, five_batchers}
+use Rattle.config_sound.proofs.Order.{IsEnough, stages_are_ordered}
+use Rattle.config_sound.proofs.Named.{both, all_append, named_producers, named_processors, named_supervisors, named_batchers, named_batch_processors, found_batchers, find_other}
+use Rattle.config_sound.proofs.Distinct.{no_fault, nothing_left, names_are_distinct}
+use Rattle.config_sound.proofs.Rules.{rules_fit}
+use Rattle.config_sound.proofs.Fields.{FieldFits, ProcessorRules, SupervisorRules, producer_fields, processor_fields, supervisor_fields, batcher_fields, member_fields, counted_batchers, none_of}
+use Rattle.config_sound.proofs.Walked.{least_none}
+use Rattle.config_table.specs.Fault.{least, under}
+use Rattle.config_sound.proofs.Reached.{batchers_reached}
+use Rattle.std.proofs.lemmas.List.Elements.{filter-append}
+
+length-names : (bs : List BatcherSettings) → length (batcher_names bs) ≡ length bs
+length-names [] = refl
+length-names (b ∷ bs) = ap suc (length-names bs)
+
+names_fit : (ps : List ProducerSettings) → list_all producer_fits ps ≡ true → list_all (λ p. is_name p.name) ps ≡ true
+names_fit [] h = refl
+names_fit (p ∷ ps) h = let (here, more) = and_parts (producer_fits p) (list_all producer_fits ps) h in both (and_parts (is_name p.name) (nat_le p.buffer_size 200000) here).0 (names_fit ps more)
+
+abbrev batcher_rest : BatcherSettings → Bool
+batcher_rest b = (is_between 1 10000 b.batch_size && is_between 1 3600000 b.batch_timeout) && (demand_fits 10000 b.demand && handler_fits b.handler)
+
+batcher_front : (b : BatcherSettings) → batcher_fits b ≡ true → (is_name b.name ≡ true) × (is_between 1 16 b.concurrency ≡ true)
+batcher_front b h = and_parts (is_name b.name) (is_between 1 16 b.concurrency) (and_parts (is_name b.name && is_between 1 16 b.concurrency) (batcher_rest b) h).0
+
+batcher_names_fit : (bs : List BatcherSettings) → list_all batcher_fits bs ≡ true → list_all (λ b. is_name b.name) bs ≡ true
+batcher_names_fit [] h = refl
+batcher_names_fit (b ∷ bs) h = let (here, more) = and_parts (batcher_fits b) (list_all batcher_fits bs) h in both (batcher_front b here).0 (batcher_names_fit bs more)
+
+sizes_fit : (bs : List BatcherSettings) → list_all batcher_fits bs ≡ true → list_all (λ b. is_between 1 16 b.concurrency) bs ≡ true
+sizes_fit [] h = refl
+sizes_fit (b ∷ bs) h = let (here, more) = and_parts (batcher_fits b) (list_all batcher_fits bs) h in both (batcher_front b here).1 (sizes_fit bs more)
+
+concurrency_fits : (q : ProcessorSettings) → processors_fit (Some q) ≡ true → (is_between 1 32 q.concurrency ≡ true) × (field_fits q.partition_by ≡ true)
+concurrency_fits q h = and_parts (is_between 1 32 q.concurrency) (field_fits q.partition_by) (and_parts (is_between 1 32 q.concurrency && field_fits q.partition_by) (demand_fits 10000 q.demand && (not (is_lines q.handler.kind) && handler_fits q.handler)) h).0
+
+-- the groups that the fault of stages leaves
+abbrev lacks : List ProducerSettings → Option ProcessorSettings → Option SupervisorSettings → List BatcherSettings → Bool
+lacks ps procs sup bs = length ps == 0 || ((is_none procs && is_none sup) || (is_some sup && (is_some procs || not (length bs == 0))))
+
+lacks_rest : (a b : Bool) → (a || b) ≡ false → (a ≡ false) × (b ≡ false)
+lacks_rest true b h = cc
+lacks_rest false b h = (refl, h)
+
+some_producer : (ps : List ProducerSettings) (b : Bool) → (length ps == 0 || b) ≡ false → 1 ≤ length ps
+some_producer [] b h = cc
+some_producer (p ∷ ps) b h = omega arith
+
+enough : (procs : Option ProcessorSettings) (sup : Option SupervisorSettings) (bs : List BatcherSettings) → ((is_none procs && is_none sup) || (is_some sup && (is_some procs || not (length bs == 0)))) ≡ false → processors_fit procs ≡ true → IsEnough procs sup bs
+enough None None bs h fit = cc
+enough None (Some s) [] h fit = tt
+enough None (Some s) (b ∷ bs) h fit = let e : (suc (length bs) == 0) ≡ false = grind (arith, nat_tests) in let t : not (suc (length bs) == 0) ≡ false = h in let u : not false ≡ false = rw e at t in cc
+enough (Some q) None bs h fit = (concurrency_fits q fit).0
+enough (Some q) (Some s) bs h fit = cc
+
+field_part : (f : Option ℕ) (n : ℕ) → field_fits f ≡ true → nat_le 1 n ≡ true → FieldFits f n
+field_part None n h one = tt
+field_part (Some field) n h one = (h, one)
+
+partition_fits : (procs : Option ProcessorSettings) → processors_fit procs ≡ true → FieldFits (partition_field procs) (processor_count procs)
+partition_fits None h = tt
+partition_fits (Some q) h = let (size, field) = concurrency_fits q h in field_part q.partition_by q.concurrency field (and_parts (nat_le 1 q.concurrency) (nat_le q.concurrency 32) size).0
+
+processor_rules : (known : List (List ℕ)) (procs : Option ProcessorSettings) → processors_fit procs ≡ true → processor_routes known procs ≡ [] → ProcessorRules known procs
+processor_rules known None h routes = tt
+processor_rules known (Some q) h routes =
+    let handling = (and_parts (is_between 1 32 q.concurrency && field_fits q.partition_by) (demand_fits 10000 q.demand && (not (is_lines q.handler.kind) && handler_fits q.handler)) h).1 in
+    let handler = (and_parts (not (is_lines q.handler.kind)) (handler_fits q.handler) (and_parts (demand_fits 10000 q.demand) (not (is_lines q.handler.kind) && handler_fits q.handler) handling).1).1 in
+    rules_fit (under (codes "processors") (codes "steps")) known q.handler.steps routes (and_parts (nat_le (length q.handler.steps) 64) (is_reason q.handler.failed) handler).0
+
+supervisor_rules : (sup : Option SupervisorSettings) → supervisor_fits sup ≡ true → supervisor_routes sup ≡ [] → SupervisorRules sup
+supervisor_rules None h routes = tt
+supervisor_rules (Some s) h routes =
+    let handler = (and_parts (not (is_lines s.handler.kind)) (handler_fits s.handler) (and_parts (demand_fits 16 s.demand) (not (is_lines s.handler.kind) && handler_fits s.handler) h).1).1 in
+    rules_fit (under (codes "supervisor") (codes "steps")) [] s.handler.steps routes (and_parts (nat_le (length s.handler.steps) 64) (is_reason s.handler.failed) handler).0
+
+-- batchers only beside processors
+reached : (all : List StageSpec) (known : List (List ℕ)) (first second : ℕ) (procs : Option ProcessorSettings) (sup : Option SupervisorSettings) (bs : List BatcherSettings) → IsEnough procs sup bs → processors all ≡ processor_stages known first procs → unreachable_with known bs procs ≡ []
+    → list_all (is_reached all) (batcher_stages second 0 bs) ≡ true
+reached all known first second None None bs e group h = absurd e
+reached all known first second None (Some s) [] e group h = refl
+reached all known first second None (Some s) (b ∷ bs) e group h = absurd e
+reached all known first second (Some q) None bs e group h =
+    let least = leb-true 1 q.concurrency (and_parts (nat_le 1 q.concurrency) (nat_le q.concurrency 32) e).0 in
+    let size : q.concurrency ≡ suc (q.concurrency - 1) = omega arith in
+    batchers_reached all known q first second q.concurrency (q.concurrency - 1) bs size group h
+reached all known first second (Some q) (Some s) bs e group h = absurd e
+
+five_all : (test : StageSpec → Bool) (ps cs ss bs ds : List StageSpec) → list_all test ps ≡ true → list_all test cs ≡ true → list_all test ss ≡ true → list_all test bs ≡ true → list_all test ds ≡ true → list_all test (ps ++ (cs ++ (ss ++ (bs ++ ds)))) ≡ true
+five_all test ps cs ss bs ds p c s b d = all_append test ps (cs ++ (ss ++ (bs ++ ds))) p (all_append test cs (ss ++ (bs ++ ds)) c (all_append test ss (bs ++ ds) s (all_append test bs ds b d)))
+
+window_fits : (seconds : ℕ) → is_between 1 3600 seconds ≡ true → is_window (seconds * 1000) ≡ true
+window_fits seconds h =
+    let least = leb-true 1 seconds (and_parts (nat_le 1 seconds) (nat_le seconds 3600) h).0 in
+    let most = leb-true seconds 3600 (and_parts (nat_le 1 seconds) (nat_le seconds 3600) h).1 in
+    let low : 1000 ≤ seconds * 1000 = omega arith in
+    let high : seconds * 1000 ≤ 3600000 = omega arith in
+    let whole : (seconds * 1000) % 1000 ≡ 0 = omega arith in
+    both (both (le-leb 1000 (seconds * 1000) low) (le-leb (seconds * 1000) 3600000 high)) (eq-eqb ((seconds * 1000) % 1000) 0 whole)
+
+-- no fault of stages
+no_group_fault : (s : Settings) → group_faults s ≡ [] → (lacks_stage s ≡ false) × (stage_count s ≤ 64)
+no_group_fault s h =
+    let (stages, more) = no_fault (lacks_stage s) fault.NoStage (fault_if (nat_lt 64 (stage_count s)) fault.TooManyStages) h in
+    (stages, few (nat_lt 64 (stage_count s)) refl more)
+  where
+    few : (b : Bool) → nat_lt 64 (stage_count s) ≡ b → fault_if b fault.TooManyStages ≡ [] → stage_count s ≤ 64
+    few true e h = cc
+    few false e h = grind (arith, nat_tests)
+
+-- settings that no fault names have at most 64 stages
+pub few_stages : (s : Settings) → least (faults_in s) ≡ None → stage_count s ≤ 64
+few_stages s h =
+    let known : List (List ℕ) = batcher_names s.batchers in
+    let after_names = (nothing_left (duplicates_with known s) (routes_with known s ++ (group_faults s ++ (bad_dispatches 0 s.batchers ++ unreachable_with known s.batchers s.processors))) (least_none (faults_in s) h)).1 in
+    let after_routes = (nothing_left (routes_with known s) (group_faults s ++ (bad_dispatches 0 s.batchers ++ unreachable_with known s.batchers s.processors)) after_names).1 in
+    (no_group_fault s (nothing_left (group_faults s) (bad_dispatches 0 s.batchers ++ unreachable_with known s.batchers s.processors) after_routes).0).1
+
+abbrev is_of : ℕ → StageSpec → Bool
+is_of k s = is_batch_processor s.role && s.batcher == k
+
+members_of : (k : ℕ) (ps cs ss bs ds : List StageSpec) → AllRole role.Producer ps → AllRole role.Processor cs → AllRole role.Supervisor ss → AllRole role.Batcher bs
+    → batch_processors k (ps ++ (cs ++ (ss ++ (bs ++ ds)))) ≡ batch_processors k ds
+members_of k ps cs ss bs ds p c v b =
+    rw (
+      filter-append (is_of k) ps (cs ++ (ss ++ (bs ++ ds))),
+      filter-append (is_of k) cs (ss ++ (bs ++ ds)),
+      filter-append (is_of k) ss (bs ++ ds),
+      filter-append (is_of k) bs ds,
+      none_of role.Producer k ps refl p,
+      none_of role.Processor k cs refl c,
+      none_of role.Supervisor k ss refl v,
+      none_of role.Batcher k bs refl b,
+    ) refl
+
+count_fits : (s : Settings) → stage_count s ≤ 64 → length (stages_of s) ≤ 64
+count_fits s few =
+    let known : List (List ℕ) = batcher_names s.batchers in
+    let first : ℕ = length s.producers in
+    let second : ℕ = first + processor_count s.processors + supervisor_count s.supervisor in
+    let ps : List StageSpec = producer_stages (partition_field s.processors) (processor_count s.processors) 0 s.producers in
+    let cs : List StageSpec = processor_stages known first s.processors in
+    let ss : List StageSpec = supervisor_stages first s.supervisor in
+    let bs : List StageSpec = batcher_stages second 0 s.batchers in
+    let ds : List StageSpec = batch_processor_stages (second + length s.batchers) 0 s.batchers in
+    rw (
+      length-append ps (cs ++ (ss ++ (bs ++ ds))),
+      length-append cs (ss ++ (bs ++ ds)),
+      length-append ss (bs ++ ds),
+      length-append bs ds,
+      length-producers (partition_field s.processors) (processor_count s.processors) 0 s.producers,
+      length-processors known first s.processors,
+      length-supervisors first s.supervisor,
+      length-batchers second 0 s.batchers,
+      length-batch_processors (second + length s.batchers) 0 s.batchers,
+    )
+    (omega arith)
+
+settings_fit : (s : Settings) → IsFit s → are_settings (topology_in s) ≡ true
+settings_fit s fit =
+    let (restarts, others) = and_parts (nat_le s.max_restarts 1000 && is_between 1 3600 s.max_seconds) (nat_le s.idle_limit 1000000 && is_control s.control) fit.pipeline in
+    let (most, seconds) = and_parts (nat_le s.max_restarts 1000) (is_between 1 3600 s.max_seconds) restarts in
+    let (idle, control) = and_parts (nat_le s.idle_limit 1000000) (is_control s.control) others in
+    both (both most (window_fits s.max_seconds seconds)) (both (both idle control) refl)
+
+pub built_is_sound : (s : Settings) → IsFit s → faults_in s ≡ [] → IsSound (topology_in s)
+built_is_sound s fit h =
+    let known : List (List ℕ) = batcher_names s.batchers in
+    let first : ℕ = length s.producers in
+    let second : ℕ = first + processor_count s.processors + supervisor_count s.supervisor in
+    let third : ℕ = second + length s.batchers in
+    let field : Option ℕ = partition_field s.processors in
+    let n : ℕ = processor_count s.processors in
+    let ps : List StageSpec = producer_stages field n 0 s.producers in
+    let cs : List StageSpec = processor_stages known first s.processors in
+    let ss : List StageSpec = supervisor_stages first s.supervisor in
+    let bs : List StageSpec = batcher_stages second 0 s.batchers in
+    let ds : List StageSpec = batch_processor_stages third 0 s.batchers in
+    let all : List StageSpec = ps ++ (cs ++ (ss ++ (bs ++ ds))) in
+    let p : AllRole role.Producer ps = role_producers field n 0 s.producers in
+    let c : AllRole role.Processor cs = role_processors known first s.processors in
+    let v : AllRole role.Supervisor ss = role_supervisors first s.supervisor in
+    let b : AllRole role.Batcher bs = role_batchers second 0 s.batchers in
+    let d : AllRole role.BatchProcessor ds = role_batch_processors third 0 s.batchers in
+    let (duplicates, after_names) = nothing_left (duplicates_with known s) (routes_with known s ++ (group_faults s ++ (bad_dispatches 0 s.batchers ++ unreachable_with known s.batchers s.processors))) h in
+    let (routes, after_routes) = nothing_left (routes_with known s) (group_faults s ++ (bad_dispatches 0 s.batchers ++ unreachable_with known s.batchers s.processors)) after_names in
+    let (groups, after_groups) = nothing_left (group_faults s) (bad_dispatches 0 s.batchers ++ unreachable_with known s.batchers s.processors) after_routes in
+    let (dispatches, unreached) = nothing_left (bad_dispatches 0 s.batchers) (unreachable_with known s.batchers s.processors) after_groups in
+    let (batcher_straight, others) = nothing_left (batcher_routes 0 s.batchers) (processor_routes known s.processors ++ supervisor_routes s.supervisor) routes in
+    let (processor_straight, supervisor_straight) = nothing_left (processor_routes known s.processors) (supervisor_routes s.supervisor) others in
+    let (names, producers_new) = nothing_left (duplicate_names (codes "batcher") [] 0 known) (duplicate_names (codes "producer") known 0 (producer_names s.producers)) duplicates in
+    let (present, few) = no_group_fault s groups in
+    let (no_gap, level_two) = lacks_rest (length s.producers == 0) ((is_none s.processors && is_none s.supervisor) || (is_some s.supervisor && (is_some s.processors || not (length s.batchers == 0)))) present in
+    let is_enough : IsEnough s.processors s.supervisor s.batchers = enough s.processors s.supervisor s.batchers level_two fit.processors in
+    let batchers_are : batchers all ≡ bs = five_batchers ps cs ss bs ds p c v b d in
+    let processors_are : processors all ≡ cs = five_processors ps cs ss bs ds p c v b d in
+    let producers_are : producers all ≡ ps = five_producers ps cs ss bs ds p c v b d in
+    let batchers_count : length (batchers all) ≡ length s.batchers = ap length batchers_are ∙ length-batchers second 0 s.batchers in
+    let processors_count : length (processors all) ≡ n = ap length processors_are ∙ length-processors known first s.processors in
+    let known_count : length (batchers all) ≡ length known = batchers_count ∙ sym (length-names s.batchers) in
+    let found = found_batchers all second 0 s.batchers ds (λ k above. find_other role.Producer k ps (cs ++ (ss ++ (bs ++ ds))) refl p ∙ (find_other role.Processor k cs (ss ++ (bs ++ ds)) refl c ∙ find_other role.Supervisor k ss (bs ++ ds) refl v)) in
+    let counted = counted_batchers all 0 third s.batchers (λ k above. ap length (members_of k ps cs ss bs ds p c v b)) in
+    record {
+      few = count_fits s few;
+      ordered = stages_are_ordered field n known s.producers s.processors s.supervisor s.batchers first second third all refl (some_producer s.producers ((is_none s.processors && is_none s.supervisor) || (is_some s.supervisor && (is_some s.processors || not (length s.batchers == 0)))) present) refl refl is_enough (sizes_fit s.batchers fit.batchers) refl batchers_count;
+      named = five_all (is_named all) ps cs ss bs ds (named_producers all field n 0 s.producers (names_fit s.producers fit.producers)) (named_processors all known first s.processors) (named_supervisors all first s.supervisor)
+          (named_batchers all second 0 s.batchers (batcher_names_fit s.batchers fit.batchers)) (named_batch_processors all second third 0 s.batchers found);
+      distinct = rw (producers_are, batchers_are) (names_are_distinct field n second s.producers s.batchers names producers_new);
+      in_range = five_all (has_fields all) ps cs ss bs ds (producer_fields all field n 0 s.producers processors_count (partition_fits s.processors fit.processors) fit.producers)
+          (processor_fields all known first s.processors known_count fit.processors (processor_rules known s.processors fit.processors processor_straight))
+          (supervisor_fields all first s.supervisor fit.supervisor (supervisor_rules s.supervisor fit.supervisor supervisor_straight))
+          (batcher_fields all second 0 s.batchers counted fit.batchers) (member_fields all third 0 s.batchers fit.batchers batcher_straight);
+      reached = rw batchers_are (reached all known first second s.processors s.supervisor s.batchers is_enough processors_are unreached);
+      settings = settings_fit s fit;
+    }

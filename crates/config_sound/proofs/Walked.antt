@@ -1,0 +1,274 @@
+-- What the walk of a file without faults says of its values.
+use Rattle.std.proofs.Common.{◌≡◌, ℕ, zero, suc, ◌+◌, ◌-◌, ◌/◌, ◌<◌, ◌≤◌, ℤ, pos, negsuc, Bool, true, false, not, cond, nat_le, nat_lt, List, [], ◌∷◌, ◌++◌, length, flat_map, Option, Some, None, option_map, option_and_then, unwrap_or, Ordering, Less, Equal, Greater, nat_cmp, refl, ap, sym, ◌∙◌, subst, arith}
+use Rattle.std.proofs.lemmas.Bool.{and_parts, le-leb, leb-true}
+use Rattle.std.proofs.lemmas.Bool.Decides.{nat_tests}
+use Rattle.std.proofs.lemmas.Map.Text.{is_eq-slice_cmp}
+use Rattle.std.proofs.lemmas.Slice.Eq.{bytes_eq-Decides}
+use Rattle.std.specs.Ordering.{match_ordering, is_eq}
+use Rattle.std.specs.Cmp.Lexicographic.{slice_cmp}
+use Rattle.std.specs.List.{list_all}
+use Rattle.pipe_types.specs.Sound.{is_between, is_name, is_reason, is_lines, is_control}
+use Rattle.toml.specs.Data.{Data, Items, no_items, item, Members, no_members, member, get_member, as_integer, as_str, as_array, as_table}
+use Rattle.config_table.specs.declared.fault.ConfigFault.{ConfigFault}
+use Rattle.config_table.specs.declared.format.Key.{Key}
+use Rattle.config_table.specs.declared.format.Key.TheVariants as key
+use Rattle.config_table.specs.declared.format.Range.{Range}
+use Rattle.config_table.specs.declared.format.Row.{Row}
+use Rattle.config_table.specs.declared.format.Form.TheVariants.{Text, RuleTexts}
+use Rattle.config_table.specs.declared.format.Shape.TheVariants as shape
+use Rattle.config_table.specs.declared.format.Section.{Section}
+use Rattle.config_table.specs.declared.format.Section.TheVariants as section
+use Rattle.config_table.specs.Fault.{least, sooner, at_place, number_of}
+use Rattle.config_table.specs.Format as format
+use Rattle.config_table.specs.Format.{key_name, value_at, number, given, given_number, or_default, rows, row, required_row}
+use Rattle.config_table.specs.Values.{item_count, flaw_faults, text_flaw, rules_flaw, inner_faults}
+use Rattle.config_table.specs.Shape.{fits}
+use Rattle.config_table.specs.declared.format.Shape.{Shape}
+use Rattle.config_table.specs.declared.value.Flaw.TheVariants.{OutOfRange}
+use Rattle.config_table.specs.Walk.{held_faults, row_faults, rows_faults, unknown_keys, table_faults, each_faults, array_faults, top_faults, faults_of}
+use Rattle.config_settings.specs.Settings as settings
+use Rattle.config_settings.specs.Settings.{texts_in, text_before, table_at, array_at, settings_of, producers_in, producers_at, batchers_in, batchers_at, producer_of, processors_of, supervisor_of, batcher_of, reason_of, kind_of, demand_of, pipeline_number}
+use Rattle.config_sound.specs.Fit.{IsFit, demand_fits, producer_fits, field_fits, processors_fit, supervisor_fits, batcher_fits}
+use Rattle.config_sound.proofs.Named.{both}
+use Rattle.config_sound.proofs.Distinct.{nothing_left}
+
+-- ---- no fault at all
+
+sooner_some : (x : ConfigFault) (o : Option ConfigFault) → sooner (Some x) o ≡ None → ⊥
+sooner_some x None h = cc
+sooner_some x (Some y) h = chosen (nat_lt (number_of y) (number_of x)) h
+  where
+    chosen : (b : Bool) → cond b (Some y) (Some x) ≡ None → ⊥
+    chosen true e = cc
+    chosen false e = cc
+
+pub least_none : (faults : List ConfigFault) → least faults ≡ None → faults ≡ []
+least_none [] h = refl
+least_none (x ∷ faults) h = absurd (sooner_some x (least faults) h)
+
+same_bytes : (k l : List ℕ) → slice_cmp nat_cmp k l ≡ Equal → k ≡ l
+same_bytes k l e = (bytes_eq-Decides k l).0 (sym (is_eq-slice_cmp k l) ∙ ap is_eq e)
+
+found_here : (o : Ordering) (k l : List ℕ) (d e : Data) (found : Option Data) → slice_cmp nat_cmp k l ≡ o → match_ordering o found (Some e) found ≡ Some d → top_faults l e ≡ [] → (found ≡ Some d → top_faults k d ≡ []) → top_faults k d ≡ []
+found_here Less k l d e found is h clear later = later h
+found_here Equal k l d e found is h clear later =
+    let same : e ≡ d = cc in
+    subst (λ (x : List ℕ). top_faults x d ≡ []) (sym (same_bytes k l is)) (subst (λ (y : Data). top_faults l y ≡ []) same clear)
+found_here Greater k l d e found is h clear later = later h
+
+-- a key of a file without faults has none
+at_key : (ms : Members) (k : List ℕ) (d : Data) → faults_of ms ≡ [] → get_member k ms ≡ Some d → top_faults k d ≡ []
+at_key no_members k d clear h = cc
+at_key (member l e ms) k d clear h =
+    let (here, more) = nothing_left (top_faults l e) (faults_of ms) clear in
+    found_here (slice_cmp nat_cmp k l) k l d e (get_member k ms) refl h here (at_key ms k d more)
+
+held_table : (ms : Members) (k : Key) (s : Section) (o : Option Data) (t : Members) → ((d : Data) → top_faults (key_name k) d ≡ table_faults s (key_name k) (as_table d)) → faults_of ms ≡ [] → value_at k ms ≡ o → option_and_then as_table o ≡ Some t → rows_faults (key_name k) (rows s t) t ≡ []
+held_table ms k s None t same clear is h = cc
+held_table ms k s (Some d) t same clear is h = rw h at (sym (same d) ∙ at_key ms (key_name k) d clear is)
+
+held_array : (ms : Members) (k : Key) (s : Section) (o : Option Data) (items : Items) → ((d : Data) → top_faults (key_name k) d ≡ array_faults s (key_name k) (as_array d)) → faults_of ms ≡ [] → value_at k ms ≡ o → option_and_then as_array o ≡ Some items → each_faults s (key_name k) 0 items ≡ []
+held_array ms k s None items same clear is h = cc
+held_array ms k s (Some d) items same clear is h = rw h at (sym (same d) ∙ at_key ms (key_name k) d clear is)
+
+abbrev RowsClear : List ℕ → Members → List Row → Type 0
+RowsClear path t [] = Unit {0}
+RowsClear path t (r ∷ rows) = (row_faults path t r ≡ []) × RowsClear path t rows
+
+rows_clear : (path : List ℕ) (t : Members) (rows : List Row) → flat_map (row_faults path t) rows ≡ [] → RowsClear path t rows
+rows_clear path t [] h = tt
+rows_clear path t (r ∷ rows) h = let (here, more) = nothing_left (row_faults path t r) (flat_map (row_faults path t) rows) h in (here, rows_clear path t rows more)
+
+table_clear : (path : List ℕ) (t : Members) (rows : List Row) → rows_faults path rows t ≡ [] → RowsClear path t rows
+table_clear path t rows h = rows_clear path t rows (nothing_left (unknown_keys path rows t) (flat_map (row_faults path t) rows) h).1
+
+-- ---- rows
+
+given_text : (sh : Shape) (path : List ℕ) (u : Option (List ℕ)) (rest : List ConfigFault) → flaw_faults path (text_flaw sh u) ++ rest ≡ [] → (text : List ℕ) × ((u ≡ Some text) × (fits sh text ≡ true))
+given_text sh path None rest h = cc
+given_text sh path (Some text) rest h = fitting (fits sh text) refl h
+  where
+    fitting : (b : Bool) → fits sh text ≡ b → flaw_faults path (cond b None (Some OutOfRange)) ++ rest ≡ [] → (t : List ℕ) × ((Some text ≡ Some t) × (fits sh t ≡ true))
+    fitting true e h = (text, (refl, e))
+    fitting false e h = cc
+
+name_clear : (path : List ℕ) (o : Option Data) → held_faults path (required_row key.Name (Text shape.Name)) o ≡ [] → is_name (unwrap_or (option_and_then as_str o) []) ≡ true
+name_clear path None h = cc
+name_clear path (Some d) h = let (text, (is, fit)) = given_text shape.Name path (as_str d) [] h in rw is fit
+
+control_clear : (path : List ℕ) (o : Option Data) → held_faults path (row key.Control (Text shape.Edge)) o ≡ [] → is_control (option_and_then as_str o) ≡ true
+control_clear path None h = refl
+control_clear path (Some d) h = let (text, (is, fit)) = given_text shape.Edge path (as_str d) [] h in rw is fit
+
+length-before : (o : Option (List ℕ)) (texts : List (List ℕ)) (n : ℕ) → length texts ≤ n → length (text_before o texts) ≤ n + 1
+length-before None texts n h = omega arith
+length-before (Some text) texts n h = omega arith
+
+length-texts : (items : Items) → length (texts_in items) ≤ item_count items
+length-texts no_items = omega arith
+length-texts (item d ds) = length-before (as_str d) (texts_in ds) (item_count ds) (length-texts ds)
+
+few_items : (path : List ℕ) (u : Option Items) (rest : List ConfigFault) → flaw_faults path (rules_flaw u) ++ rest ≡ [] → nat_le (length (unwrap_or (option_map texts_in u) [])) 64 ≡ true
+few_items path None rest h = cc
+few_items path (Some items) rest h = few (nat_le (item_count items) 64) refl h
+  where
+    few : (b : Bool) → nat_le (item_count items) 64 ≡ b → flaw_faults path (cond b None (Some OutOfRange)) ++ rest ≡ [] → nat_le (length (texts_in items)) 64 ≡ true
+    few true e h = le-leb (length (texts_in items)) 64 (omega (arith, leb-true (item_count items) 64 e, length-texts items))
+    few false e h = cc
+
+steps_clear : (path : List ℕ) (o : Option Data) → held_faults path (row key.Steps RuleTexts) o ≡ [] → nat_le (length (unwrap_or (option_map texts_in (option_and_then as_array o)) [])) 64 ≡ true
+steps_clear path None h = refl
+steps_clear path (Some d) h = few_items path (as_array d) (inner_faults path RuleTexts d) h
+
+-- ---- numbers and words, which are in range as they are read
+
+number_fits : (r : Range) (z : Option ℤ) → is_between r.low r.high r.default ≡ true → is_between r.low r.high (or_default r (given_number r z)) ≡ true
+number_fits r None h = h
+number_fits r (Some (negsuc n)) h = h
+number_fits r (Some (pos n)) h = chosen (is_between r.low r.high n) refl
+  where
+    chosen : (b : Bool) → is_between r.low r.high n ≡ b → is_between r.low r.high (or_default r (cond b (Some n) None)) ≡ true
+    chosen true e = e
+    chosen false e = h
+
+number_between : (r : Range) (k : Key) (t : Members) → is_between r.low r.high r.default ≡ true → is_between r.low r.high (number r k t) ≡ true
+number_between r k t h = number_fits r (option_and_then as_integer (value_at k t)) h
+
+number_most : (r : Range) (k : Key) (t : Members) → is_between r.low r.high r.default ≡ true → nat_le (number r k t) r.high ≡ true
+number_most r k t h = (and_parts (nat_le r.low (number r k t)) (nat_le (number r k t) r.high) (number_between r k t h)).1
+
+field_given : (z : Option ℤ) → field_fits (given_number format.partition_by z) ≡ true
+field_given None = refl
+field_given (Some (negsuc n)) = refl
+field_given (Some (pos n)) = chosen (is_between 0 255 n) refl
+  where
+    chosen : (b : Bool) → is_between 0 255 n ≡ b → field_fits (cond b (Some n) None) ≡ true
+    chosen true e = (and_parts (nat_le 0 n) (nat_le n 255) e).1
+    chosen false e = refl
+
+reason_given : (o : Option (List ℕ)) → is_reason (option_and_then reason_of o) ≡ true
+reason_given None = refl
+reason_given (Some text) = chosen (is_reason (Some text)) refl
+  where
+    chosen : (b : Bool) → is_reason (Some text) ≡ b → is_reason (cond b (Some text) None) ≡ true
+    chosen true e = e
+    chosen false e = refl
+
+no_lines : (n : ℕ) → not (is_lines (kind_of n)) ≡ true
+no_lines zero = refl
+no_lines (suc n) = refl
+
+lt_true : (a b : ℕ) → a < b → nat_lt a b ≡ true
+lt_true a b h = grind (arith, nat_tests)
+
+half_fits : (max : ℕ) → 1 ≤ max → is_between 0 (max - 1) (max / 2) ≡ true
+half_fits max h = let half : max / 2 ≤ max - 1 = omega arith in both (le-leb 0 (max / 2) (omega arith)) (le-leb (max / 2) (max - 1) half)
+
+-- the demand of a table whose max is in a range from one on
+demand_given : (r : Range) (most : ℕ) (t : Members) → r.low ≡ 1 → r.high ≡ most → is_between r.low r.high r.default ≡ true → demand_fits most (demand_of r t) ≡ true
+demand_given r most t low high h =
+    let max : ℕ = number r key.MaxDemand t in
+    let (least_max, most_max) = and_parts (nat_le r.low max) (nat_le max r.high) (number_between r key.MaxDemand t h) in
+    let one : 1 ≤ max = omega (arith, leb-true r.low max least_max, low) in
+    let below : nat_le (number (format.min_demand max) key.MinDemand t) (max - 1) ≡ true = number_most (format.min_demand max) key.MinDemand t (half_fits max one) in
+    let less : number (format.min_demand max) key.MinDemand t < max = omega (arith, leb-true (number (format.min_demand max) key.MinDemand t) (max - 1) below) in
+    both (lt_true (number (format.min_demand max) key.MinDemand t) max less) (subst (λ (n : ℕ). nat_le max n ≡ true) high most_max)
+
+-- ---- tables
+
+producer_clear : (path : List ℕ) (t : Members) → rows_faults path (rows section.Producer t) t ≡ [] → producer_fits (producer_of t) ≡ true
+producer_clear path t h =
+    let clear : RowsClear path t format.producer_rows = table_clear path t format.producer_rows h in
+    both (name_clear _ (value_at key.Name t) clear.1.1.1.0) (number_most format.buffer_size key.BufferSize t refl)
+
+processors_clear : (path : List ℕ) (t : Members) → rows_faults path (rows section.Processors t) t ≡ [] → processors_fit (Some (processors_of t)) ≡ true
+processors_clear path t h =
+    let clear : RowsClear path t (format.processors_rows (number format.processors_max key.MaxDemand t)) = table_clear path t (format.processors_rows (number format.processors_max key.MaxDemand t)) h in
+    both (both (number_between format.processors_concurrency key.Concurrency t refl) (field_given (option_and_then as_integer (value_at key.PartitionBy t))))
+    (both (demand_given format.processors_max 10000 t refl refl refl)
+    (both (no_lines (settings.word shape.Kind key.Kind t))
+    (both (steps_clear _ (value_at key.Steps t) clear.1.1.1.1.1.1.1.0) (reason_given (settings.text_at key.Failed t)))))
+
+supervisor_clear : (path : List ℕ) (t : Members) → rows_faults path (rows section.Supervisor t) t ≡ [] → supervisor_fits (Some (supervisor_of t)) ≡ true
+supervisor_clear path t h =
+    let clear : RowsClear path t (format.supervisor_rows (number format.supervisor_max key.MaxDemand t)) = table_clear path t (format.supervisor_rows (number format.supervisor_max key.MaxDemand t)) h in
+    both (demand_given format.supervisor_max 16 t refl refl refl)
+    (both (no_lines (settings.word shape.Kind key.Kind t))
+    (both (steps_clear _ (value_at key.Steps t) clear.1.1.1.1.1.1.0) (reason_given (settings.text_at key.Failed t))))
+
+wider : (n : ℕ) → is_between 1 10000 n ≡ true → is_between (format.range 1 10000 n).low (format.range 1 10000 n).high (format.range 1 10000 n).default ≡ true
+wider n h = h
+
+batcher_clear : (path : List ℕ) (t : Members) → rows_faults path (rows section.Batcher t) t ≡ [] → batcher_fits (batcher_of t) ≡ true
+batcher_clear path t h =
+    let clear : RowsClear path t (rows section.Batcher t) = table_clear path t (rows section.Batcher t) h in
+    let size : is_between 1 10000 (number format.batch_size key.BatchSize t) ≡ true = number_between format.batch_size key.BatchSize t refl in
+    both (both (name_clear _ (value_at key.Name t) clear.1.1.1.1.1.1.1.1.1.0) (number_between format.batcher_concurrency key.Concurrency t refl))
+    (both (both size (number_between format.batch_timeout key.BatchTimeout t refl))
+    (both (demand_given (format.batcher_max t) 10000 t refl refl (wider (number format.batch_size key.BatchSize t) size))
+    (both (steps_clear _ (value_at key.Steps t) clear.1.1.1.1.1.1.1.1.1.1.1.0) (reason_given (settings.text_at key.Failed t)))))
+
+producers_clear : (path : List ℕ) (i : ℕ) (items : Items) → each_faults section.Producer path i items ≡ [] → list_all producer_fits (producers_in items) ≡ true
+producers_clear path i no_items h = refl
+producers_clear path i (item d ds) h =
+    let (here, more) = nothing_left (table_faults section.Producer (at_place path i) (as_table d)) (each_faults section.Producer path (i + 1) ds) h in
+    one (as_table d) here (producers_clear path (i + 1) ds more)
+  where
+    one : (o : Option Members) → table_faults section.Producer (at_place path i) o ≡ [] → list_all producer_fits (producers_in ds) ≡ true → list_all producer_fits (settings.producer_before o (producers_in ds)) ≡ true
+    one None h rest = cc
+    one (Some t) h rest = both (producer_clear (at_place path i) t h) rest
+
+batchers_clear : (path : List ℕ) (i : ℕ) (items : Items) → each_faults section.Batcher path i items ≡ [] → list_all batcher_fits (batchers_in items) ≡ true
+batchers_clear path i no_items h = refl
+batchers_clear path i (item d ds) h =
+    let (here, more) = nothing_left (table_faults section.Batcher (at_place path i) (as_table d)) (each_faults section.Batcher path (i + 1) ds) h in
+    one (as_table d) here (batchers_clear path (i + 1) ds more)
+  where
+    one : (o : Option Members) → table_faults section.Batcher (at_place path i) o ≡ [] → list_all batcher_fits (batchers_in ds) ≡ true → list_all batcher_fits (settings.batcher_before o (batchers_in ds)) ≡ true
+    one None h rest = cc
+    one (Some t) h rest = both (batcher_clear (at_place path i) t h) rest
+
+-- ---- the file
+
+producers_given : (o : Option Items) → ((items : Items) → o ≡ Some items → each_faults section.Producer (key_name key.Producer) 0 items ≡ []) → list_all producer_fits (producers_at o) ≡ true
+producers_given None h = refl
+producers_given (Some items) h = producers_clear (key_name key.Producer) 0 items (h items refl)
+
+batchers_given : (o : Option Items) → ((items : Items) → o ≡ Some items → each_faults section.Batcher (key_name key.Batcher) 0 items ≡ []) → list_all batcher_fits (batchers_at o) ≡ true
+batchers_given None h = refl
+batchers_given (Some items) h = batchers_clear (key_name key.Batcher) 0 items (h items refl)
+
+processors_given : (o : Option Members) → ((t : Members) → o ≡ Some t → rows_faults (key_name key.Processors) (rows section.Processors t) t ≡ []) → processors_fit (option_map processors_of o) ≡ true
+processors_given None h = refl
+processors_given (Some t) h = processors_clear (key_name key.Processors) t (h t refl)
+
+supervisor_given : (o : Option Members) → ((t : Members) → o ≡ Some t → rows_faults (key_name key.Supervisor) (rows section.Supervisor t) t ≡ []) → supervisor_fits (option_map supervisor_of o) ≡ true
+supervisor_given None h = refl
+supervisor_given (Some t) h = supervisor_clear (key_name key.Supervisor) t (h t refl)
+
+pipeline_between : (r : Range) (k : Key) (o : Option Members) → is_between r.low r.high r.default ≡ true → is_between r.low r.high (pipeline_number r k o) ≡ true
+pipeline_between r k None h = h
+pipeline_between r k (Some t) h = number_between r k t h
+
+control_given : (o : Option Members) → ((t : Members) → o ≡ Some t → rows_faults (key_name key.Pipeline) (rows section.Pipeline t) t ≡ []) → is_control (option_and_then (settings.text_at key.Control) o) ≡ true
+control_given None h = refl
+control_given (Some t) h = control_clear _ (value_at key.Control t) (table_clear (key_name key.Pipeline) t format.pipeline_rows (h t refl)).0
+
+most_of : (low high n : ℕ) → is_between low high n ≡ true → nat_le n high ≡ true
+most_of low high n h = (and_parts (nat_le low n) (nat_le n high) h).1
+
+-- the settings of a file whose walk finds no fault are in their ranges
+pub walked_fits : (table : Members) → least (faults_of table) ≡ None → IsFit (settings_of table)
+walked_fits table h =
+    let clear : faults_of table ≡ [] = least_none (faults_of table) h in
+    record {
+      producers = producers_given (array_at key.Producer table) (λ items is. held_array table key.Producer section.Producer (value_at key.Producer table) items (λ d. refl) clear refl is);
+      processors = processors_given (table_at key.Processors table) (λ t is. held_table table key.Processors section.Processors (value_at key.Processors table) t (λ d. refl) clear refl is);
+      supervisor = supervisor_given (table_at key.Supervisor table) (λ t is. held_table table key.Supervisor section.Supervisor (value_at key.Supervisor table) t (λ d. refl) clear refl is);
+      batchers = batchers_given (array_at key.Batcher table) (λ items is. held_array table key.Batcher section.Batcher (value_at key.Batcher table) items (λ d. refl) clear refl is);
+      pipeline = both
+          (both (most_of 0 1000 (pipeline_number format.max_restarts key.MaxRestarts (table_at key.Pipeline table)) (pipeline_between format.max_restarts key.MaxRestarts (table_at key.Pipeline table) refl))
+          (pipeline_between format.max_seconds key.MaxSeconds (table_at key.Pipeline table) refl))
+          (both (most_of 0 1000000 (pipeline_number format.idle_limit key.IdleLimit (table_at key.Pipeline table)) (pipeline_between format.idle_limit key.IdleLimit (table_at key.Pipeline table) refl))
+          (control_given (table_at key.Pipeline table) (λ t is. held_table table key.Pipeline section.Pipeline (value_at key.Pipeline table) t (λ d. refl) clear refl is)));
+    }

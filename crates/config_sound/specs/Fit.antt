@@ -1,0 +1,46 @@
+-- Settings in the ranges of the format.
+use Rattle.std.specs.Prelude.{ℕ, Bool, true, not, ◌&&◌, nat_le, nat_lt, IsTrue, length, Option, Some, None}
+use Rattle.std.specs.List.{list_all}
+use Rattle.pipe_types.specs.Sound.{is_between, is_name, is_reason, is_lines, is_control}
+use Rattle.config_settings.specs.declared.settings.Demand.{Demand}
+use Rattle.config_settings.specs.declared.settings.Handler.{Handler}
+use Rattle.config_settings.specs.declared.settings.ProducerSettings.{ProducerSettings}
+use Rattle.config_settings.specs.declared.settings.ProcessorSettings.{ProcessorSettings}
+use Rattle.config_settings.specs.declared.settings.SupervisorSettings.{SupervisorSettings}
+use Rattle.config_settings.specs.declared.settings.BatcherSettings.{BatcherSettings}
+use Rattle.config_settings.specs.declared.settings.Settings.{Settings}
+
+abbrev pub demand_fits : ℕ → Demand → Bool
+demand_fits most d = nat_lt d.min d.max && nat_le d.max most
+
+abbrev pub handler_fits : Handler → Bool
+handler_fits h = nat_le (length h.steps) 64 && is_reason h.failed
+
+abbrev pub producer_fits : ProducerSettings → Bool
+producer_fits p = is_name p.name && nat_le p.buffer_size 200000
+
+abbrev pub field_fits : Option ℕ → Bool
+field_fits None = true
+field_fits (Some field) = nat_le field 255
+
+abbrev pub processors_fit : Option ProcessorSettings → Bool
+processors_fit None = true
+processors_fit (Some p) = (is_between 1 32 p.concurrency && field_fits p.partition_by) && (demand_fits 10000 p.demand && (not (is_lines p.handler.kind) && handler_fits p.handler))
+
+abbrev pub supervisor_fits : Option SupervisorSettings → Bool
+supervisor_fits None = true
+supervisor_fits (Some s) = demand_fits 16 s.demand && (not (is_lines s.handler.kind) && handler_fits s.handler)
+
+abbrev pub batcher_fits : BatcherSettings → Bool
+batcher_fits b = (is_name b.name && is_between 1 16 b.concurrency) && ((is_between 1 10000 b.batch_size && is_between 1 3600000 b.batch_timeout) && (demand_fits 10000 b.demand && handler_fits b.handler))
+
+abbrev pub pipeline_fits : Settings → Bool
+pipeline_fits s = (nat_le s.max_restarts 1000 && is_between 1 3600 s.max_seconds) && (nat_le s.idle_limit 1000000 && is_control s.control)
+
+-- every value is in the range that the format has for it
+pub record IsFit (s : Settings) : Type 0 where
+  pub producers : IsTrue (list_all producer_fits s.producers)
+  pub processors : IsTrue (processors_fit s.processors)
+  pub supervisor : IsTrue (supervisor_fits s.supervisor)
+  pub batchers : IsTrue (list_all batcher_fits s.batchers)
+  pub pipeline : IsTrue (pipeline_fits s)

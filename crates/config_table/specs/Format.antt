@@ -1,0 +1,188 @@
+-- The tables of a topology file: for each key its type, its range and its default. Rows stand in byte order of their keys.
+use Rattle.std.specs.Prelude.{codes, ℕ, ◌-◌, ◌/◌, Bool, true, false, List, [], ◌∷◌, Option, Some, None, if◌then◌else◌, ℤ, pos, negsuc, option_and_then}
+use Rattle.pipe_types.specs.Sound.{is_between}
+use Rattle.toml.specs.Data.{Data, Members, get_member, as_integer}
+use Rattle.config_table.specs.declared.format.Key.{Key}
+use Rattle.config_table.specs.declared.format.Key.TheVariants.{Version, Pipeline, Producer, Processors, Supervisor, Batcher, MaxRestarts, MaxSeconds, IdleLimit, Control, Name, Source, Mode, BufferSize, BufferKeep, Concurrency, MaxDemand, MinDemand, Cancel, PartitionBy, Kind, Steps, Failed, Restart, BatchSize, BatchTimeout, Dispatch, Sinks}
+use Rattle.config_table.specs.declared.format.Range.{Range}
+use Rattle.config_table.specs.declared.format.Shape.TheVariants as shape
+use Rattle.config_table.specs.declared.format.Form.{Form}
+use Rattle.config_table.specs.declared.format.Form.TheVariants.{Whole, Text, RuleTexts, SinkTexts}
+use Rattle.config_table.specs.declared.format.Row.{Row}
+use Rattle.config_table.specs.declared.format.Section.{Section}
+use Rattle.config_table.specs.declared.format.Section.TheVariants as section
+
+abbrev pub key_name : Key → List ℕ
+key_name Version = codes "version"
+key_name Pipeline = codes "pipeline"
+key_name Producer = codes "producer"
+key_name Processors = codes "processors"
+key_name Supervisor = codes "supervisor"
+key_name Batcher = codes "batcher"
+key_name MaxRestarts = codes "max_restarts"
+key_name MaxSeconds = codes "max_seconds"
+key_name IdleLimit = codes "idle_limit"
+key_name Control = codes "control"
+key_name Name = codes "name"
+key_name Source = codes "source"
+key_name Mode = codes "mode"
+key_name BufferSize = codes "buffer_size"
+key_name BufferKeep = codes "buffer_keep"
+key_name Concurrency = codes "concurrency"
+key_name MaxDemand = codes "max_demand"
+key_name MinDemand = codes "min_demand"
+key_name Cancel = codes "cancel"
+key_name PartitionBy = codes "partition_by"
+key_name Kind = codes "kind"
+key_name Steps = codes "steps"
+key_name Failed = codes "failed"
+key_name Restart = codes "restart"
+key_name BatchSize = codes "batch_size"
+key_name BatchTimeout = codes "batch_timeout"
+key_name Dispatch = codes "dispatch"
+key_name Sinks = codes "sinks"
+
+-- what a table holds at a key
+abbrev pub value_at : Key → Members → Option Data
+value_at key table = get_member (key_name key) table
+
+-- ---- whole numbers
+
+-- from low to high, and what stands for a number that is not given
+abbrev pub range : ℕ → ℕ → ℕ → Range
+range low high default = record { low = low; high = high; default = default }
+
+abbrev pub is_in : Range → ℤ → Bool
+is_in r (pos n) = is_between r.low r.high n
+is_in r (negsuc n) = false
+
+-- the number, where one in the range is given
+abbrev pub given_number : Range → Option ℤ → Option ℕ
+given_number r (Some (pos n)) = if is_between r.low r.high n then Some n else None
+given_number r _ = None
+
+abbrev pub given : Range → Key → Members → Option ℕ
+given r key table = given_number r (option_and_then as_integer (value_at key table))
+
+-- the number, or the default
+abbrev pub or_default : Range → Option ℕ → ℕ
+or_default r None = r.default
+or_default r (Some n) = n
+
+abbrev pub number : Range → Key → Members → ℕ
+number r key table = or_default r (given r key table)
+
+-- ---- ranges and defaults
+
+abbrev pub max_restarts : Range
+max_restarts = range 0 1000 3
+
+abbrev pub max_seconds : Range
+max_seconds = range 1 3600 5
+
+abbrev pub idle_limit : Range
+idle_limit = range 0 1000000 0
+
+abbrev pub buffer_size : Range
+buffer_size = range 0 200000 10000
+
+abbrev pub processors_concurrency : Range
+processors_concurrency = range 1 32 2
+
+abbrev pub processors_max : Range
+processors_max = range 1 10000 10
+
+-- a field number, which has no default
+abbrev pub partition_by : Range
+partition_by = range 0 255 0
+
+abbrev pub supervisor_max : Range
+supervisor_max = range 1 16 10
+
+abbrev pub batcher_concurrency : Range
+batcher_concurrency = range 1 16 1
+
+abbrev pub batch_size : Range
+batch_size = range 1 10000 100
+
+abbrev pub batch_timeout : Range
+batch_timeout = range 1 3600000 1000
+
+-- a batcher asks for a batch at a time
+abbrev pub batcher_max : Members → Range
+batcher_max table = range 1 10000 (number batch_size BatchSize table)
+
+-- below max_demand, and by default half of it
+abbrev pub min_demand : (max : ℕ) → Range
+min_demand max = range 0 (max - 1) (max / 2)
+
+-- ---- the tables
+
+abbrev pub row : Key → Form → Row
+row key form = record { key = key; required = false; form = form }
+
+abbrev pub required_row : Key → Form → Row
+required_row key form = record { key = key; required = true; form = form }
+
+abbrev pub pipeline_rows : List Row
+pipeline_rows =
+    row Control (Text shape.Edge)
+    ∷ row IdleLimit (Whole idle_limit)
+    ∷ row MaxRestarts (Whole max_restarts)
+    ∷ row MaxSeconds (Whole max_seconds)
+    ∷ []
+
+abbrev pub producer_rows : List Row
+producer_rows =
+    row BufferKeep (Text shape.Keep)
+    ∷ row BufferSize (Whole buffer_size)
+    ∷ row Mode (Text shape.Mode)
+    ∷ required_row Name (Text shape.Name)
+    ∷ required_row Source (Text shape.Edge)
+    ∷ []
+
+abbrev pub processors_rows : (max : ℕ) → List Row
+processors_rows max =
+    row Cancel (Text shape.Cancel)
+    ∷ row Concurrency (Whole processors_concurrency)
+    ∷ row Failed (Text shape.Reason)
+    ∷ row Kind (Text shape.Kind)
+    ∷ row MaxDemand (Whole processors_max)
+    ∷ row MinDemand (Whole (min_demand max))
+    ∷ row PartitionBy (Whole partition_by)
+    ∷ row Steps RuleTexts
+    ∷ []
+
+abbrev pub supervisor_rows : (max : ℕ) → List Row
+supervisor_rows max =
+    row Cancel (Text shape.Cancel)
+    ∷ row Failed (Text shape.Reason)
+    ∷ row Kind (Text shape.Kind)
+    ∷ row MaxDemand (Whole supervisor_max)
+    ∷ row MinDemand (Whole (min_demand max))
+    ∷ row Restart (Text shape.Restart)
+    ∷ row Steps RuleTexts
+    ∷ []
+
+abbrev pub batcher_rows : (max_range : Range) → (max concurrency : ℕ) → List Row
+batcher_rows max_range max concurrency =
+    row BatchSize (Whole batch_size)
+    ∷ row BatchTimeout (Whole batch_timeout)
+    ∷ row Cancel (Text shape.Cancel)
+    ∷ row Concurrency (Whole batcher_concurrency)
+    ∷ row Dispatch (Text shape.Any)
+    ∷ row Failed (Text shape.Reason)
+    ∷ row Kind (Text shape.BatchKind)
+    ∷ row MaxDemand (Whole max_range)
+    ∷ row MinDemand (Whole (min_demand max))
+    ∷ required_row Name (Text shape.Name)
+    ∷ row Sinks (SinkTexts concurrency)
+    ∷ row Steps RuleTexts
+    ∷ []
+
+abbrev pub rows : Section → Members → List Row
+rows section.Pipeline table = pipeline_rows
+rows section.Producer table = producer_rows
+rows section.Processors table = processors_rows (number processors_max MaxDemand table)
+rows section.Supervisor table = supervisor_rows (number supervisor_max MaxDemand table)
+rows section.Batcher table = batcher_rows (batcher_max table) (number (batcher_max table) MaxDemand table) (number batcher_concurrency Concurrency table)
