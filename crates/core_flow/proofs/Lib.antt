@@ -1,2 +1,6 @@
 pub mod Alive
 pub mod Plain
+pub mod Lists
+pub mod Sends
+pub mod Places
+pub mod Accepting

@@ -1,5 +1,5 @@
 -- What a journal without kills comes to in a pipeline of one producer and one processor.
-use Rattle.std.specs.Prelude.{◌≡◌, ℕ, zero, suc, ◌+◌, ◌-◌, ◌≤◌, ◌<◌, Bool, true, false, List, [], ◌∷◌, ◌++◌, length, map, replicate, drop, Option, Some, None, is_some, unwrap_or, slice_get, nat_lt}
+use Rattle.std.specs.Prelude.{◌≡◌, ℕ, zero, suc, ◌+◌, ◌-◌, ◌≤◌, ◌<◌, Bool, true, false, List, [], ◌∷◌, ◌++◌, length, map, replicate, take, drop, Option, Some, None, is_some, unwrap_or, slice_get, nat_lt}
 use Rattle.pipe_types.specs.declared.numbers.StageNo.{StageNo}
 use Rattle.pipe_types.specs.declared.numbers.SubNo.{SubNo}
 use Rattle.pipe_types.specs.declared.message.Message.{Message}
@@ -19,12 +19,12 @@ use Rattle.pipe_model.specs.Work.{taken_units, count}
 use Rattle.pipe_model.specs.Legal.{is_legal, owed, happened, is_halt, is_drain, has_ended, rests, restart_times, quiet_row, fetch_out}
 use Rattle.core_flow.specs.OneEach.{Settings, one_each, the_sub}
 
--- the account: messages are handled in order, so those that ended stand first, then those that run, then the inbox
+-- the account: messages are handled in order, so those that ended stand first, then the chunk that runs, then the inbox
 pub record Account : Type 0 where
   pub asked : ℕ
   pub bytes : ℕ
   pub outcomes : List Outcome
-  pub running : ℕ
+  pub chunk : List Message
   pub inbox : List Message
   pub fetch : Option ℕ
   pub ended : Bool
@@ -37,7 +37,7 @@ range from (suc k) = (from + 1) ∷ range (from + 1) k
 
 -- how many messages were taken from the inbox
 abbrev pub taken_in : Account → ℕ
-taken_in a = length a.outcomes + a.running
+taken_in a = length a.outcomes + length a.chunk
 
 -- how many messages were accepted
 abbrev pub accepted_in : Account → ℕ
@@ -45,7 +45,7 @@ accepted_in a = taken_in a + length a.inbox
 
 -- the places of all accepted messages, in order
 abbrev pub places_in : Account → List Place
-places_in a = (map Acked a.outcomes ++ replicate a.running (Running (stage 2))) ++ replicate (length a.inbox) (Inbox the_sub)
+places_in a = (map Acked a.outcomes ++ replicate (length a.chunk) (Running (stage 2))) ++ replicate (length a.inbox) (Inbox the_sub)
 
 -- What each step makes of the account
 
@@ -65,10 +65,10 @@ after_accept records a =
     record a { inbox = a.inbox ++ new_messages (accepted_in a) records; bytes = a.bytes + bytes_in records; fetch = None }
 
 abbrev pub after_take : ℕ → Account → Account
-after_take k a = record a { running = k; inbox = drop k a.inbox }
+after_take k a = record a { chunk = take k a.inbox; inbox = drop k a.inbox }
 
 abbrev pub after_done : List Reply → Account → Account
-after_done replies a = record a { outcomes = a.outcomes ++ map outcome_of replies; running = 0 }
+after_done replies a = record a { outcomes = a.outcomes ++ map outcome_of replies; chunk = [] }
 
 abbrev pub after_end : Account → Account
 after_end a = record a { ended = true; fetch = None }
@@ -108,7 +108,8 @@ pub record Queues (s : Settings) (before : History) (a : Account) : Type 0 where
   pub places : (i : ℕ) → place (one_each s) before (suc i) ≡ slice_get (places_in a) i
   pub sent_to : sent_to (one_each s) before (stage 2) ≡ map (λ n. (the_sub, n)) (range 0 (accepted_in a))
   pub arrivals : arrivals before (stage 1) ≡ range 0 (accepted_in a)
-  pub contents : (i : ℕ) → i < length a.inbox → content before (suc (taken_in a + i)) ≡ slice_get a.inbox i
+  pub contents : (i : ℕ) → i < length (a.chunk ++ a.inbox) → content before (suc (length a.outcomes + i)) ≡ slice_get (a.chunk ++ a.inbox) i
+  pub numbers : map (λ m. m.no.0) (a.chunk ++ a.inbox) ≡ range (length a.outcomes) (length a.chunk + length a.inbox)
 
 -- the posts are the journal's
 pub record Jobs (s : Settings) (before : History) (a : Account) : Type 0 where
@@ -116,9 +117,9 @@ pub record Jobs (s : Settings) (before : History) (a : Account) : Type 0 where
   pub bound : fetch_out before (stage 1) ≡ unwrap_or a.fetch 0
   pub fetch_from : is_some a.fetch ≡ true → out_from before (post (stage 1) 0) ≡ 1
   pub fetch_fits : unwrap_or a.fetch 0 + accepted_in a ≤ a.asked
-  pub chunk_out : is_out before (post (stage 2) 0) ≡ nat_lt 0 a.running
-  pub chunk_from : nat_lt 0 a.running ≡ true → out_from before (post (stage 2) 0) ≡ 1
-  pub chunk_units : nat_lt 0 a.running ≡ true → taken_units (one_each s) before (stage 2) ≡ range (length a.outcomes) a.running
+  pub chunk_out : is_out before (post (stage 2) 0) ≡ nat_lt 0 (length a.chunk)
+  pub chunk_from : nat_lt 0 (length a.chunk) ≡ true → out_from before (post (stage 2) 0) ≡ 1
+  pub chunk_units : nat_lt 0 (length a.chunk) ≡ true → taken_units (one_each s) before (stage 2) ≡ range (length a.outcomes) (length a.chunk)
 
 -- the account is what the legal journal comes to
 pub record Accounts (s : Settings) (before : History) (a : Account) : Type 0 where
