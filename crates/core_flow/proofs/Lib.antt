@@ -4,3 +4,5 @@ pub mod Lists
 pub mod Sends
 pub mod Places
 pub mod Accepting
+pub mod Taking
+pub mod Answering

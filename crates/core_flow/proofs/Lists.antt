@@ -76,3 +76,18 @@ below_or_behind (suc i) (suc c) = more (below_or_behind i c)
     more : (i < c) ⊎ ((j : ℕ) × (i ≡ c + j)) → (suc i < suc c) ⊎ ((j : ℕ) × (suc i ≡ suc c + j))
     more (inl below) = inl (omega arith)
     more (inr behind) = let e : i ≡ c + behind.0 = behind.1 in inr (behind.0, omega (arith, e))
+
+-- a change of each place of two lists in a row is its change of each
+pub changes-append : {A : Type 0} → (change : ℕ → Option A → Option A) (xs xs' ys ys' : List A) → length xs ≡ length xs'
+    → ((i : ℕ) → i < length xs → change i (slice_get xs i) ≡ slice_get xs' i)
+    → ((j : ℕ) → change (length xs + j) (slice_get ys j) ≡ slice_get ys' j)
+    → (i : ℕ) → change i (slice_get (xs ++ ys) i) ≡ slice_get (xs' ++ ys') i
+changes-append change xs xs' ys ys' same left right i = cases (below_or_behind i (length xs))
+  where
+    cases : (i < length xs) ⊎ ((j : ℕ) × (i ≡ length xs + j)) → change i (slice_get (xs ++ ys) i) ≡ slice_get (xs' ++ ys') i
+    cases (inl below) =
+        ap (change i) (slice_get-append_left xs ys i below) ∙ (left i below ∙ sym (slice_get-append_left xs' ys' i (omega (arith, same))))
+    cases (inr behind) =
+        subst (λ n. change n (slice_get (xs ++ ys) n) ≡ slice_get (xs' ++ ys') n) (sym behind.1)
+        (ap (change (length xs + behind.0)) (slice_get-append_right xs ys behind.0)
+        ∙ (right behind.0 ∙ (sym (slice_get-append_right xs' ys' behind.0) ∙ ap (λ n. slice_get (xs' ++ ys') (n + behind.0)) (sym same))))

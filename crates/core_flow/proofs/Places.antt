@@ -17,19 +17,19 @@ use Rattle.core_flow.specs.Account.{Account, Queues, range, taken_in, accepted_i
 use Rattle.core_flow.proofs.Lists.{filter-range_none, filter-range_all, range-append, slice_get-append_left, slice_get-append_right}
 
 -- a test that fails at each place of two lists fails at each place of both in a row
-fails-append : {A : Type 0} → (test : Option A → Bool) (xs ys : List A) → ((i : ℕ) → test (slice_get xs i) ≡ false) → ((i : ℕ) → test (slice_get ys i) ≡ false)
+pub fails-append : {A : Type 0} → (test : Option A → Bool) (xs ys : List A) → ((i : ℕ) → test (slice_get xs i) ≡ false) → ((i : ℕ) → test (slice_get ys i) ≡ false)
     → (i : ℕ) → test (slice_get (xs ++ ys) i) ≡ false
 fails-append test [] ys f g i = g i
 fails-append test (x ∷ xs) ys f g zero = f 0
 fails-append test (x ∷ xs) ys f g (suc i) = fails-append test xs ys (λ k. f (suc k)) g i
 
-fails-acked : (test : Option Place → Bool) → test None ≡ false → ((o : Outcome) → test (Some (Acked o)) ≡ false) → (outcomes : List Outcome) (i : ℕ)
+pub fails-acked : (test : Option Place → Bool) → test None ≡ false → ((o : Outcome) → test (Some (Acked o)) ≡ false) → (outcomes : List Outcome) (i : ℕ)
     → test (slice_get (map Acked outcomes) i) ≡ false
 fails-acked test n f [] i = n
 fails-acked test n f (o ∷ outcomes) zero = f o
 fails-acked test n f (o ∷ outcomes) (suc i) = fails-acked test n f outcomes i
 
-fails-replicate : (test : Option Place → Bool) (p : Place) → test None ≡ false → test (Some p) ≡ false → (k i : ℕ) → test (slice_get (replicate k p) i) ≡ false
+pub fails-replicate : (test : Option Place → Bool) (p : Place) → test None ≡ false → test (Some p) ≡ false → (k i : ℕ) → test (slice_get (replicate k p) i) ≡ false
 fails-replicate test p n f zero i = n
 fails-replicate test p n f (suc k) zero = f
 fails-replicate test p n f (suc k) (suc i) = fails-replicate test p n f k i
