@@ -6,3 +6,5 @@ pub mod Places
 pub mod Accepting
 pub mod Taking
 pub mod Answering
+pub mod Contents
+pub mod Handled

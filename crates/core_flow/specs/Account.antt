@@ -109,7 +109,6 @@ pub record Queues (s : Settings) (before : History) (a : Account) : Type 0 where
   pub sent_to : sent_to (one_each s) before (stage 2) ≡ map (λ n. (the_sub, n)) (range 0 (accepted_in a))
   pub arrivals : arrivals before (stage 1) ≡ range 0 (accepted_in a)
   pub contents : (i : ℕ) → i < length (a.chunk ++ a.inbox) → content before (suc (length a.outcomes + i)) ≡ slice_get (a.chunk ++ a.inbox) i
-  pub numbers : map (λ m. m.no.0) (a.chunk ++ a.inbox) ≡ range (length a.outcomes) (length a.chunk + length a.inbox)
 
 -- the posts are the journal's
 pub record Jobs (s : Settings) (before : History) (a : Account) : Type 0 where
