@@ -8,3 +8,4 @@ pub mod Taking
 pub mod Answering
 pub mod Contents
 pub mod Handled
+pub mod Allowed
