@@ -130,7 +130,7 @@ place_sent : (s : Settings) (before : History) (records : List (List ℕ)) (n : 
 place_sent s before records n p e = ap (option_map (λ q. sent_now s before records q n)) e
 
 -- the places of the account with m more in the inbox
-more_places : (a : Account) (m : ℕ) → front a ++ replicate (length a.inbox + m) (Inbox the_sub) ≡ places_in a ++ replicate m (Inbox the_sub)
+pub more_places : (a : Account) (m : ℕ) → front a ++ replicate (length a.inbox + m) (Inbox the_sub) ≡ places_in a ++ replicate m (Inbox the_sub)
 more_places a m =
     ap (λ tail. front a ++ tail) (sym (replicate-append-replicate (length a.inbox) m (Inbox the_sub)))
     ∙ sym (append_assoc (front a) (replicate (length a.inbox) (Inbox the_sub)) (replicate m (Inbox the_sub)))
@@ -201,3 +201,10 @@ place_more s before a records plain counts q fits i = cases (below_or_behind i (
     cases (inr over) =
         subst (λ n. place (one_each s) (Dispatch (stage 1) ∷ Accept (stage 1) records ∷ before) (suc n)
         ≡ slice_get (places_in a ++ replicate (length records) (Inbox the_sub)) n) (sym over.1) (behind over.0 (below_or_behind over.0 (length records)))
+
+-- no message has the number 0
+pub place_zero : (s : Settings) (before : History) (records : List (List ℕ)) → place (one_each s) before 0 ≡ None
+    → place (one_each s) (Dispatch (stage 1) ∷ Accept (stage 1) records ∷ before) 0 ≡ None
+place_zero s before records none =
+    place_sent s before records 0 None
+    (later_none (accepted before) (length records) 0 (place (one_each s) before 0) none (grind (arith, nat_tests)))

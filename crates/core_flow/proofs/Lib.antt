@@ -9,3 +9,4 @@ pub mod Answering
 pub mod Contents
 pub mod Handled
 pub mod Allowed
+pub mod Steps

@@ -1,0 +1,363 @@
+-- Each step keeps the account.
+use Rattle.std.proofs.Common.{◌≡◌, ℕ, zero, suc, ◌+◌, ◌-◌, ◌<◌, ◌≤◌, List, [], ◌∷◌, ◌++◌, length, take, drop, map, replicate, Bool, true, false, refl, ap, sym, ◌∙◌, Some, None, Option, arith, subst, true≢false}
+use Rattle.std.specs.Prelude.{filter, slice_get, if◌then◌else◌, ◌==◌, nat_lt, nat_le, ◌&&◌, ◌||◌, not, min, is_some, unwrap_or}
+use Rattle.std.proofs.lemmas.Bool.Decides.{nat_tests}
+use Rattle.std.proofs.lemmas.Bool.{eqb-true}
+use Rattle.std.proofs.lemmas.List.{length-append, length-map, length-replicate, append_assoc, append-nil, map-append, replicate-append-replicate}
+use Rattle.pipe_types.specs.declared.message.Reply.{Reply}
+use Rattle.pipe_types.specs.declared.message.Place.TheVariants.{Inbox, Running, Acked}
+use Rattle.pipe_types.specs.declared.step.SourceHow.{SourceHow}
+use Rattle.pipe_types.specs.declared.step.DrainCause.{DrainCause}
+use Rattle.pipe_types.specs.declared.step.DrainCause.TheVariants.{Sources, Limit}
+use Rattle.pipe_types.specs.declared.step.Step.{Step}
+use Rattle.pipe_types.specs.declared.step.Step.TheVariants.{Ask, Fetch, Accept, SourceEnd, Dispatch, Take, Done, Drain}
+use Rattle.pipe_types.specs.Numbers.{stage, post}
+use Rattle.std.specs.List.{list_all}
+use Rattle.pipe_types.specs.Lines.{max_bytes}
+use Rattle.pipe_model.specs.History.{History, bytes_in, incarnation, accepted_bytes}
+use Rattle.pipe_model.specs.Posts.{is_out, out_from}
+use Rattle.pipe_model.specs.Lives.{is_live}
+use Rattle.pipe_model.specs.Flow.{is_empty, deliveries, lost_over, view_of, sent, sent_to, count_on, delivered_to, place}
+use Rattle.pipe_model.specs.Legal.{is_legal, has_ended, rests, happened, is_drain, may_come, may_dispatch, bound, fetch_out}
+use Rattle.core_flow.specs.OneEach.{Settings, one_each, the_sub}
+use Rattle.core_flow.specs.Account.{Account, Accounts, IsPlain, Counts, Queues, Jobs, range, accepted_in, taken_in, places_in, after_ask, after_fetch, after_accept, after_take, after_done, after_end, after_drain, new_messages}
+use Rattle.core_flow.proofs.Alive.{producer_lives}
+use Rattle.core_flow.proofs.Lists.{range-append, numbers_from-range}
+use Rattle.core_flow.proofs.Sends.{sent_as, count_on-sent, delivered_to-sent}
+use Rattle.core_flow.proofs.Accepting.{sends_accepted, place_more, more_places, place_zero}
+use Rattle.core_flow.proofs.Places.{front}
+use Rattle.pipe_model.specs.Content.{content}
+use Rattle.core_flow.proofs.Contents.{length-new_messages, contents_accepted}
+use Rattle.core_flow.proofs.Plain.{plain_ask, plain_fetch, plain_accept, plain_dispatch, plain_take, plain_done, plain_end, plain_drain_sources, plain_drain_limit}
+use Rattle.core_flow.proofs.Allowed.{allows-plain, and_left, and_right, not_true, bound_in, bound-is}
+
+both : (a b : Bool) → a ≡ true → b ≡ true → (a && b) ≡ true
+both true b e f = f
+both false b e f = cc
+
+pub accounts_ask : (s : Settings) (before : History) (a : Account) (n : ℕ) → Accounts s before a → may_come (one_each s) before (Ask the_sub n) ≡ true
+    → Accounts s (Ask the_sub n ∷ before) (after_ask n a)
+accounts_ask s before a n x may =
+    record {
+      legal = both _ _ x.legal (allows-plain s before a (Ask the_sub n) x ∙ may);
+      unowed = refl;
+      plain = plain_ask s before the_sub n x.plain;
+      counts = record {
+        drain = x.counts.drain;
+        ended = x.counts.ended;
+        asked = ap (λ m. m + n) x.counts.asked;
+        accepted = x.counts.accepted;
+        bytes = x.counts.bytes;
+        sent = x.counts.sent;
+        handled = x.counts.handled;
+        seen = x.counts.seen;
+      };
+      queues = record {
+        none = x.queues.none;
+        places = x.queues.places;
+        sent_to = x.queues.sent_to;
+        arrivals = x.queues.arrivals;
+        contents = x.queues.contents;
+      };
+      jobs = record {
+        fetching = x.jobs.fetching;
+        bound = x.jobs.bound;
+        fetch_from = x.jobs.fetch_from;
+        fetch_fits = omega (arith, x.jobs.fetch_fits);
+        chunk_out = x.jobs.chunk_out;
+        chunk_from = x.jobs.chunk_from;
+        chunk_units = x.jobs.chunk_units;
+      };
+    }
+
+-- what a fetch tells
+pub record Fetches (s : Settings) (a : Account) (n : ℕ) : Type 0 where
+  pub idle : is_some a.fetch ≡ false
+  pub some : 1 ≤ n
+  pub is : n ≡ bound_in s a
+
+fetch_parts : (a b c d e f g i j : Bool) → (a && (b && (c && (d && (e && (f && (g && (i && j)))))))) ≡ true → (d ≡ true) × (i ≡ true) × (j ≡ true)
+fetch_parts true true true true true true true true true h = (refl, refl, refl)
+fetch_parts false b c d e f g i j h = cc
+fetch_parts true false c d e f g i j h = cc
+fetch_parts true true false d e f g i j h = cc
+fetch_parts true true true false e f g i j h = cc
+fetch_parts true true true true false f g i j h = cc
+fetch_parts true true true true true false g i j h = cc
+fetch_parts true true true true true true false i j h = cc
+fetch_parts true true true true true true true false j h = cc
+fetch_parts true true true true true true true true false h = cc
+
+pub fetch_tells : (s : Settings) (before : History) (a : Account) (n : ℕ) → Accounts s before a → may_come (one_each s) before (Fetch (stage 1) n) ≡ true → Fetches s a n
+fetch_tells s before a n x may =
+    let parts : (not (is_out before (post (stage 1) 0)) ≡ true) × (nat_le 1 n ≡ true) × ((n == bound (one_each s) before (stage 1)) ≡ true) =
+        fetch_parts (is_live (one_each s) before (stage 1)) true (not (has_ended before (stage 1))) (not (is_out before (post (stage 1) 0))) (not (rests before (stage 1)))
+        (not (happened is_drain before)) (nat_lt (accepted_bytes before) s.whole.byte_limit) (nat_le 1 n) (n == bound (one_each s) before (stage 1)) may in
+    let one : nat_le 1 n ≡ true = parts.1 in
+    record {
+      idle = sym x.jobs.fetching ∙ not_true (is_out before (post (stage 1) 0)) parts.0;
+      some = grind (arith, nat_tests);
+      is = eqb-true n (bound (one_each s) before (stage 1)) parts.2 ∙ bound-is s before a x;
+    }
+
+pub accounts_fetch : (s : Settings) (before : History) (a : Account) (n : ℕ) → Accounts s before a → may_come (one_each s) before (Fetch (stage 1) n) ≡ true
+    → Accounts s (Fetch (stage 1) n ∷ before) (after_fetch n a)
+accounts_fetch s before a n x may =
+    let told = fetch_tells s before a n x may in
+    record {
+      legal = both _ _ x.legal (allows-plain s before a (Fetch (stage 1) n) x ∙ may);
+      unowed = refl;
+      plain = plain_fetch s before (stage 1) n x.plain;
+      counts = record {
+        drain = x.counts.drain;
+        ended = x.counts.ended;
+        asked = x.counts.asked;
+        accepted = x.counts.accepted;
+        bytes = x.counts.bytes;
+        sent = x.counts.sent;
+        handled = x.counts.handled;
+        seen = x.counts.seen;
+      };
+      queues = record {
+        none = x.queues.none;
+        places = x.queues.places;
+        sent_to = x.queues.sent_to;
+        arrivals = x.queues.arrivals;
+        contents = x.queues.contents;
+      };
+      jobs = record {
+        fetching = refl;
+        bound = refl;
+        fetch_from = λ e. x.plain.incarnations (stage 1);
+        fetch_fits = omega (arith, told.some, told.is);
+        chunk_out = x.jobs.chunk_out;
+        chunk_from = x.jobs.chunk_from;
+        chunk_units = x.jobs.chunk_units;
+      };
+    }
+
+pub accounts_end : (s : Settings) (before : History) (a : Account) (how : SourceHow) → Accounts s before a → may_come (one_each s) before (SourceEnd (stage 1) how) ≡ true
+    → Accounts s (SourceEnd (stage 1) how ∷ before) (after_end a)
+accounts_end s before a how x may =
+    record {
+      legal = both _ _ x.legal (allows-plain s before a (SourceEnd (stage 1) how) x ∙ may);
+      unowed = refl;
+      plain = plain_end s before how x.plain;
+      counts = record {
+        drain = x.counts.drain;
+        ended = refl;
+        asked = x.counts.asked;
+        accepted = x.counts.accepted;
+        bytes = x.counts.bytes;
+        sent = x.counts.sent;
+        handled = x.counts.handled;
+        seen = x.counts.seen;
+      };
+      queues = record {
+        none = x.queues.none;
+        places = x.queues.places;
+        sent_to = x.queues.sent_to;
+        arrivals = x.queues.arrivals;
+        contents = x.queues.contents;
+      };
+      jobs = record {
+        fetching = refl;
+        bound = refl;
+        fetch_from = λ e. cc;
+        fetch_fits = omega (arith, x.jobs.fetch_fits);
+        chunk_out = x.jobs.chunk_out;
+        chunk_from = x.jobs.chunk_from;
+        chunk_units = x.jobs.chunk_units;
+      };
+    }
+
+pub accounts_drain_sources : (s : Settings) (before : History) (a : Account) → Accounts s before a → may_come (one_each s) before (Drain Sources) ≡ true
+    → Accounts s (Drain Sources ∷ before) (after_drain a)
+accounts_drain_sources s before a x may =
+    record {
+      legal = both _ _ x.legal (allows-plain s before a (Drain Sources) x ∙ may);
+      unowed = refl;
+      plain = plain_drain_sources s before x.plain;
+      counts = record {
+        drain = refl;
+        ended = x.counts.ended;
+        asked = x.counts.asked;
+        accepted = x.counts.accepted;
+        bytes = x.counts.bytes;
+        sent = x.counts.sent;
+        handled = x.counts.handled;
+        seen = x.counts.seen;
+      };
+      queues = record {
+        none = x.queues.none;
+        places = x.queues.places;
+        sent_to = x.queues.sent_to;
+        arrivals = x.queues.arrivals;
+        contents = x.queues.contents;
+      };
+      jobs = record {
+        fetching = x.jobs.fetching;
+        bound = x.jobs.bound;
+        fetch_from = x.jobs.fetch_from;
+        fetch_fits = x.jobs.fetch_fits;
+        chunk_out = x.jobs.chunk_out;
+        chunk_from = x.jobs.chunk_from;
+        chunk_units = x.jobs.chunk_units;
+      };
+    }
+
+pub accounts_drain_limit : (s : Settings) (before : History) (a : Account) → Accounts s before a → may_come (one_each s) before (Drain Limit) ≡ true
+    → Accounts s (Drain Limit ∷ before) (after_drain a)
+accounts_drain_limit s before a x may =
+    record {
+      legal = both _ _ x.legal (allows-plain s before a (Drain Limit) x ∙ may);
+      unowed = refl;
+      plain = plain_drain_limit s before x.plain;
+      counts = record {
+        drain = refl;
+        ended = x.counts.ended;
+        asked = x.counts.asked;
+        accepted = x.counts.accepted;
+        bytes = x.counts.bytes;
+        sent = x.counts.sent;
+        handled = x.counts.handled;
+        seen = x.counts.seen;
+      };
+      queues = record {
+        none = x.queues.none;
+        places = x.queues.places;
+        sent_to = x.queues.sent_to;
+        arrivals = x.queues.arrivals;
+        contents = x.queues.contents;
+      };
+      jobs = record {
+        fetching = x.jobs.fetching;
+        bound = x.jobs.bound;
+        fetch_from = x.jobs.fetch_from;
+        fetch_fits = x.jobs.fetch_fits;
+        chunk_out = x.jobs.chunk_out;
+        chunk_from = x.jobs.chunk_from;
+        chunk_units = x.jobs.chunk_units;
+      };
+    }
+
+-- what an accept tells
+pub record Accepts (a : Account) (records : List (List ℕ)) : Type 0 where
+  pub some : 1 ≤ length records
+  pub fits : length records + accepted_in a ≤ a.asked
+  pub fetched : is_some a.fetch ≡ true
+
+accept_parts : (a b c d e f g : Bool) → (a && (b && ((c && d) && (e && (f && g))))) ≡ true → (c ≡ true) × (e ≡ true) × (f ≡ true)
+accept_parts true true true true true true g h = (refl, refl, refl)
+accept_parts false b c d e f g h = cc
+accept_parts true false c d e f g h = cc
+accept_parts true true false d e f g h = cc
+accept_parts true true true false e f g h = cc
+accept_parts true true true true false f g h = cc
+accept_parts true true true true true false g h = cc
+
+pub accept_tells : (s : Settings) (before : History) (a : Account) (records : List (List ℕ)) → Accounts s before a → may_come (one_each s) before (Accept (stage 1) records) ≡ true
+    → Accepts a records
+accept_tells s before a records x may =
+    let parts : (is_out before (post (stage 1) 0) ≡ true) × (nat_le 1 (length records) ≡ true) × (nat_le (length records) (fetch_out before (stage 1)) ≡ true) =
+        accept_parts (is_live (one_each s) before (stage 1)) true (is_out before (post (stage 1) 0)) (out_from before (post (stage 1) 0) == incarnation before (stage 1))
+        (nat_le 1 (length records)) (nat_le (length records) (fetch_out before (stage 1))) (list_all (λ r. nat_le (length r) max_bytes) records) may in
+    let one : nat_le 1 (length records) ≡ true = parts.1 in
+    let bound : nat_le (length records) (unwrap_or a.fetch 0) ≡ true = ap (nat_le (length records)) (sym x.jobs.bound) ∙ parts.2 in
+    let within : length records ≤ unwrap_or a.fetch 0 = grind (arith, nat_tests) in
+    record {
+      some = grind (arith, nat_tests);
+      fits = omega (arith, within, x.jobs.fetch_fits);
+      fetched = sym x.jobs.fetching ∙ parts.0;
+    }
+
+sent_something : (b m : ℕ) → 1 ≤ m → (is_empty (map sent_as (range b m))) ≡ false
+sent_something b zero some = absurd (omega arith)
+sent_something b (suc m) some = refl
+
+-- an accept owes its dispatch
+pub dispatch_owed : (s : Settings) (before : History) (a : Account) (records : List (List ℕ)) → Accounts s before a → Accepts a records
+    → may_dispatch (one_each s) (Accept (stage 1) records ∷ before) (stage 1) ≡ true
+dispatch_owed s before a records x told =
+    let lives : is_live (one_each s) (Accept (stage 1) records ∷ before) (stage 1) ≡ true =
+        producer_lives s (Accept (stage 1) records ∷ before) (plain_accept s before (stage 1) records x.plain) in
+    let sends : is_empty (deliveries (one_each s) (Accept (stage 1) records ∷ before) (stage 1)) ≡ false =
+        ap is_empty (sends_accepted s before a records x.plain x.counts x.queues told.fits) ∙ sent_something (accepted_in a) (length records) told.some in
+    both _ _ lives (ap (λ e. not e || not (is_empty (lost_over (one_each s) (Accept (stage 1) records ∷ before) (view_of (one_each s) (Accept (stage 1) records ∷ before)) (stage 1)))) sends)
+
+accept_legal : (s : Settings) (before : History) (a : Account) (records : List (List ℕ)) → Accounts s before a → may_come (one_each s) before (Accept (stage 1) records) ≡ true
+    → Accepts a records → is_legal (one_each s) (Dispatch (stage 1) ∷ Accept (stage 1) records ∷ before) ≡ true
+accept_legal s before a records x may told =
+    both _ _ (both _ _ x.legal (allows-plain s before a (Accept (stage 1) records) x ∙ may))
+    (rw (x.plain.no_halt, dispatch_owed s before a records x told) refl)
+
+accepted_more : (a : Account) (records : List (List ℕ)) → accepted_in (after_accept records a) ≡ accepted_in a + length records
+accepted_more a records = simp (length-append, length-new_messages) (omega arith)
+
+inbox_more : (a : Account) (records : List (List ℕ)) → length (a.inbox ++ new_messages (accepted_in a) records) ≡ length a.inbox + length records
+inbox_more a records = simp (length-append, length-new_messages)
+
+contents_more : (s : Settings) (before : History) (a : Account) (records : List (List ℕ)) → Accounts s before a → (i : ℕ)
+    → i < length (a.chunk ++ (a.inbox ++ new_messages (accepted_in a) records))
+    → content (Accept (stage 1) records ∷ before) (suc (length a.outcomes + i)) ≡ slice_get (a.chunk ++ (a.inbox ++ new_messages (accepted_in a) records)) i
+contents_more s before a records x i below =
+    let same : (a.chunk ++ a.inbox) ++ new_messages (accepted_in a) records ≡ a.chunk ++ (a.inbox ++ new_messages (accepted_in a) records) =
+        append_assoc a.chunk a.inbox (new_messages (accepted_in a) records) in
+    let all : accepted_in a ≡ length a.outcomes + length (a.chunk ++ a.inbox) = simp length-append (omega arith) in
+    contents_accepted before (length a.outcomes) (accepted_in a) (a.chunk ++ a.inbox) records x.counts.accepted all x.queues.contents i
+    (subst (λ xs. i < length xs) (sym same) below)
+    ∙ ap (λ xs. slice_get xs i) same
+
+pub accounts_accept : (s : Settings) (before : History) (a : Account) (records : List (List ℕ)) → Accounts s before a → may_come (one_each s) before (Accept (stage 1) records) ≡ true
+    → Accounts s (Dispatch (stage 1) ∷ Accept (stage 1) records ∷ before) (after_accept records a)
+accounts_accept s before a records x may =
+    let told = accept_tells s before a records x may in
+    let sends = sends_accepted s before a records x.plain x.counts x.queues told.fits in
+    let more = accepted_more a records in
+    let begin : 0 + accepted_in a ≡ accepted_in a = omega arith in
+    record {
+      legal = accept_legal s before a records x may told;
+      unowed = refl;
+      plain = plain_dispatch s (Accept (stage 1) records ∷ before) (stage 1) (plain_accept s before (stage 1) records x.plain);
+      counts = record {
+        drain = x.counts.drain;
+        ended = x.counts.ended;
+        asked = x.counts.asked;
+        accepted = ap (λ c. c + length records) x.counts.accepted ∙ sym more;
+        bytes = ap (λ b. b + bytes_in records) x.counts.bytes;
+        sent =
+            ap (λ units. sent (one_each s) before the_sub + count_on units the_sub) sends
+            ∙ (ap (λ c. c + count_on (map sent_as (range (accepted_in a) (length records))) the_sub) x.counts.sent
+            ∙ (ap (λ c. accepted_in a + c) (count_on-sent (accepted_in a) (length records)) ∙ sym more));
+        handled = x.counts.handled;
+        seen = x.counts.seen;
+      };
+      queues = record {
+        none = place_zero s before records x.queues.none;
+        places = λ i.
+            place_more s before a records x.plain x.counts x.queues told.fits i
+            ∙ (ap (λ xs. slice_get xs i) (sym (more_places a (length records)))
+            ∙ ap (λ w. slice_get (front a ++ replicate w (Inbox the_sub)) i) (sym (inbox_more a records)));
+        sent_to =
+            ap (λ units. sent_to (one_each s) before (stage 2) ++ delivered_to units (stage 2)) sends
+            ∙ (ap (λ old. old ++ delivered_to (map sent_as (range (accepted_in a) (length records))) (stage 2)) x.queues.sent_to
+            ∙ (ap (λ new. map (λ n. (the_sub, n)) (range 0 (accepted_in a)) ++ new) (delivered_to-sent (accepted_in a) (length records))
+            ∙ (sym (map-append (λ n. (the_sub, n)) (range 0 (accepted_in a)) (range (accepted_in a) (length records)))
+            ∙ (ap (λ b. map (λ n. (the_sub, n)) (range 0 (accepted_in a) ++ range b (length records))) (sym begin)
+            ∙ (ap (map (λ n. (the_sub, n))) (range-append 0 (accepted_in a) (length records)) ∙ ap (λ c. map (λ n. (the_sub, n)) (range 0 c)) (sym more))))));
+        arrivals =
+            rw (x.queues.arrivals, x.counts.accepted, numbers_from-range)
+            (ap (λ b. range 0 (accepted_in a) ++ range b (length records)) (sym begin)
+            ∙ (range-append 0 (accepted_in a) (length records) ∙ ap (range 0) (sym more)));
+        contents = contents_more s before a records x;
+      };
+      jobs = record {
+        fetching = refl;
+        bound = refl;
+        fetch_from = λ e. cc;
+        fetch_fits = omega (arith, told.fits, more);
+        chunk_out = x.jobs.chunk_out;
+        chunk_from = x.jobs.chunk_from;
+        chunk_units = x.jobs.chunk_units;
+      };
+    }
