@@ -1,10 +1,17 @@
 -- Each step keeps the account.
 use Rattle.std.proofs.Common.{◌≡◌, ℕ, zero, suc, ◌+◌, ◌-◌, ◌<◌, ◌≤◌, List, [], ◌∷◌, ◌++◌, length, take, drop, map, replicate, Bool, true, false, refl, ap, sym, ◌∙◌, Some, None, Option, arith, subst, true≢false}
-use Rattle.std.specs.Prelude.{filter, slice_get, if◌then◌else◌, ◌==◌, nat_lt, nat_le, ◌&&◌, ◌||◌, not, min, is_some, unwrap_or}
+use Rattle.std.specs.Prelude.{filter, slice_get, if◌then◌else◌, ◌==◌, nat_lt, nat_le, ◌&&◌, ◌||◌, not, min, is_some, unwrap_or, option_map}
 use Rattle.std.proofs.lemmas.Bool.Decides.{nat_tests}
 use Rattle.std.proofs.lemmas.Bool.{eqb-true}
 use Rattle.std.proofs.lemmas.List.{length-append, length-map, length-replicate, append_assoc, append-nil, map-append, replicate-append-replicate}
+use Rattle.pipe_types.specs.declared.message.Message.{Message}
 use Rattle.pipe_types.specs.declared.message.Reply.{Reply}
+use Rattle.std.proofs.lemmas.List.{length-take-le, length-drop, take-append-drop}
+use Rattle.core_flow.proofs.Lists.{length-range}
+use Rattle.core_flow.proofs.Places.{inbox_is, units_on-pairs}
+use Rattle.core_flow.proofs.Taking.{place_taken, next_units_are}
+use Rattle.pipe_model.specs.Flow.{inbox, units_on, taken, next_units}
+use Rattle.pipe_model.specs.Legal.{first_sub}
 use Rattle.pipe_types.specs.declared.message.Place.TheVariants.{Inbox, Running, Acked}
 use Rattle.pipe_types.specs.declared.step.SourceHow.{SourceHow}
 use Rattle.pipe_types.specs.declared.step.DrainCause.{DrainCause}
@@ -66,6 +73,7 @@ accounts_ask s before a n x may =
         fetch_fits = omega (arith, x.jobs.fetch_fits);
         chunk_out = x.jobs.chunk_out;
         chunk_from = x.jobs.chunk_from;
+        chunk_take = x.jobs.chunk_take;
         chunk_units = x.jobs.chunk_units;
       };
     }
@@ -132,6 +140,7 @@ accounts_fetch s before a n x may =
         fetch_fits = omega (arith, told.some, told.is);
         chunk_out = x.jobs.chunk_out;
         chunk_from = x.jobs.chunk_from;
+        chunk_take = x.jobs.chunk_take;
         chunk_units = x.jobs.chunk_units;
       };
     }
@@ -167,6 +176,7 @@ accounts_end s before a how x may =
         fetch_fits = omega (arith, x.jobs.fetch_fits);
         chunk_out = x.jobs.chunk_out;
         chunk_from = x.jobs.chunk_from;
+        chunk_take = x.jobs.chunk_take;
         chunk_units = x.jobs.chunk_units;
       };
     }
@@ -202,6 +212,7 @@ accounts_drain_sources s before a x may =
         fetch_fits = x.jobs.fetch_fits;
         chunk_out = x.jobs.chunk_out;
         chunk_from = x.jobs.chunk_from;
+        chunk_take = x.jobs.chunk_take;
         chunk_units = x.jobs.chunk_units;
       };
     }
@@ -237,6 +248,7 @@ accounts_drain_limit s before a x may =
         fetch_fits = x.jobs.fetch_fits;
         chunk_out = x.jobs.chunk_out;
         chunk_from = x.jobs.chunk_from;
+        chunk_take = x.jobs.chunk_take;
         chunk_units = x.jobs.chunk_units;
       };
     }
@@ -358,6 +370,111 @@ accounts_accept s before a records x may =
         fetch_fits = omega (arith, told.fits, more);
         chunk_out = x.jobs.chunk_out;
         chunk_from = x.jobs.chunk_from;
+        chunk_take = x.jobs.chunk_take;
         chunk_units = x.jobs.chunk_units;
+      };
+    }
+
+-- what a take tells
+pub record Takes (s : Settings) (a : Account) (k : ℕ) : Type 0 where
+  pub idle : a.chunk ≡ []
+  pub some : 1 ≤ k
+  pub is : k ≡ min (s.processor.max - s.processor.min) (length a.inbox)
+
+take_parts : (a b c d e f g : Bool) → (a && (b && (c && (d && (e && (f && g)))))) ≡ true → (c ≡ true) × (e ≡ true) × (f ≡ true)
+take_parts true true true true true true g h = (refl, refl, refl)
+take_parts false b c d e f g h = cc
+take_parts true false c d e f g h = cc
+take_parts true true false d e f g h = cc
+take_parts true true true false e f g h = cc
+take_parts true true true true false f g h = cc
+take_parts true true true true true false g h = cc
+
+none_runs : (messages : List Message) → nat_lt 0 (length messages) ≡ false → messages ≡ []
+none_runs [] e = refl
+none_runs (m ∷ messages) e = let some : nat_lt 0 (length (m ∷ messages)) ≡ true = grind (arith, nat_tests) in cc
+
+pub inbox_count : (s : Settings) (before : History) (a : Account) → Queues s before a → length (units_on the_sub (inbox (one_each s) before (stage 2))) ≡ length a.inbox
+inbox_count s before a q =
+    ap (λ units. length (units_on the_sub units)) (inbox_is s before a q)
+    ∙ (ap length (units_on-pairs (range (taken_in a) (length a.inbox))) ∙ length-range (taken_in a) (length a.inbox))
+
+pub take_tells : (s : Settings) (before : History) (a : Account) (k : ℕ) → Accounts s before a → may_come (one_each s) before (Take (stage 2) the_sub k) ≡ true → Takes s a k
+take_tells s before a k x may =
+    let parts : (not (is_out before (post (stage 2) 0)) ≡ true) × (nat_le 1 k ≡ true)
+        × ((k == min (s.processor.max - s.processor.min) (length (units_on the_sub (inbox (one_each s) before (stage 2))))) ≡ true) =
+        take_parts (is_live (one_each s) before (stage 2)) true (not (is_out before (post (stage 2) 0))) (first_sub (inbox (one_each s) before (stage 2)) the_sub)
+        (nat_le 1 k) (k == min (s.processor.max - s.processor.min) (length (units_on the_sub (inbox (one_each s) before (stage 2))))) true may in
+    let one : nat_le 1 k ≡ true = parts.1 in
+    record {
+      idle = none_runs a.chunk (sym x.jobs.chunk_out ∙ not_true (is_out before (post (stage 2) 0)) parts.0);
+      some = grind (arith, nat_tests);
+      is =
+          eqb-true k (min (s.processor.max - s.processor.min) (length (units_on the_sub (inbox (one_each s) before (stage 2))))) parts.2
+          ∙ ap (min (s.processor.max - s.processor.min)) (inbox_count s before a x.queues);
+    }
+
+-- the lengths of what was taken and of what is left
+pub record Splits (a : Account) (k : ℕ) : Type 0 where
+  pub taken : length (take k a.inbox) ≡ k
+  pub left : length (drop k a.inbox) ≡ length a.inbox - k
+  pub ended : taken_in a ≡ length a.outcomes
+  pub same : accepted_in (after_take k a) ≡ accepted_in a
+
+splits : (s : Settings) (a : Account) (k : ℕ) → Takes s a k → Splits a k
+splits s a k told =
+    let fits : k ≤ length a.inbox = omega (arith, told.is) in
+    let taken : length (take k a.inbox) ≡ k = length-take-le k a.inbox fits in
+    let left : length (drop k a.inbox) ≡ length a.inbox - k = length-drop k a.inbox in
+    let none : length a.chunk ≡ 0 = ap length told.idle in
+    record {
+      taken = taken;
+      left = left;
+      ended = omega (arith, none);
+      same = omega (arith, none, taken, left, fits);
+    }
+
+pub accounts_take : (s : Settings) (before : History) (a : Account) (k : ℕ) → Accounts s before a → may_come (one_each s) before (Take (stage 2) the_sub k) ≡ true
+    → Accounts s (Take (stage 2) the_sub k ∷ before) (after_take k a)
+accounts_take s before a k x may =
+    let told = take_tells s before a k x may in
+    let fits : k ≤ length a.inbox = omega (arith, told.is) in
+    let split = splits s a k told in
+    record {
+      legal = both _ _ x.legal (allows-plain s before a (Take (stage 2) the_sub k) x ∙ may);
+      unowed = refl;
+      plain = plain_take s before (stage 2) the_sub k x.plain;
+      counts = record {
+        drain = x.counts.drain;
+        ended = x.counts.ended;
+        asked = x.counts.asked;
+        accepted = x.counts.accepted ∙ sym split.same;
+        bytes = x.counts.bytes;
+        sent = x.counts.sent ∙ sym split.same;
+        handled = x.counts.handled;
+        seen = x.counts.seen;
+      };
+      queues = record {
+        none = ap (option_map (taken (next_units (one_each s) (view_of (one_each s) before) (stage 2) the_sub k) (stage 2) 0)) x.queues.none;
+        places = λ i.
+            place_taken s before a k x.queues told.idle fits i
+            ∙ (ap (λ m. slice_get ((map Acked a.outcomes ++ replicate m (Running (stage 2))) ++ replicate (length a.inbox - k) (Inbox the_sub)) i) (sym split.taken)
+            ∙ ap (λ w. slice_get ((map Acked a.outcomes ++ replicate (length (take k a.inbox)) (Running (stage 2))) ++ replicate w (Inbox the_sub)) i) (sym split.left));
+        sent_to = x.queues.sent_to ∙ ap (λ c. map (λ n. (the_sub, n)) (range 0 c)) (sym split.same);
+        arrivals = x.queues.arrivals ∙ ap (range 0) (sym split.same);
+        contents = λ i below.
+            let whole : take k a.inbox ++ drop k a.inbox ≡ a.chunk ++ a.inbox = take-append-drop k a.inbox ∙ ap (λ c. c ++ a.inbox) (sym told.idle) in
+            x.queues.contents i (subst (λ xs. i < length xs) whole below) ∙ ap (λ xs. slice_get xs i) (sym whole);
+      };
+      jobs = record {
+        fetching = x.jobs.fetching;
+        bound = x.jobs.bound;
+        fetch_from = x.jobs.fetch_from;
+        fetch_fits = omega (arith, x.jobs.fetch_fits, split.same);
+        chunk_out = rw split.taken (let one : 1 ≤ k = told.some in grind (arith, nat_tests));
+        chunk_from = λ e. x.plain.incarnations (stage 2);
+        chunk_take = λ e. ap (λ m. Some (the_sub, m)) (sym split.taken);
+        chunk_units = λ e.
+            next_units_are s before a k x.queues fits ∙ (ap (λ b. range b k) split.ended ∙ ap (range (length a.outcomes)) (sym split.taken));
       };
     }

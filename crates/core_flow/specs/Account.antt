@@ -10,7 +10,7 @@ use Rattle.pipe_types.specs.declared.message.Place.{Place}
 use Rattle.pipe_types.specs.declared.message.Place.TheVariants.{Inbox, Running, Acked}
 use Rattle.pipe_types.specs.Numbers.{stage, post}
 use Rattle.pipe_model.specs.History.{History, incarnation, now, asked, accepted, accepted_bytes, controls, bytes_in}
-use Rattle.pipe_model.specs.Posts.{is_out, out_from}
+use Rattle.pipe_model.specs.Posts.{is_out, out_from, last_take}
 use Rattle.pipe_model.specs.Lives.{death, generation}
 use Rattle.pipe_model.specs.Content.{content, arrivals, gathers, new_message}
 use Rattle.pipe_model.specs.Flow.{place, sent, sent_to}
@@ -118,6 +118,7 @@ pub record Jobs (s : Settings) (before : History) (a : Account) : Type 0 where
   pub fetch_fits : unwrap_or a.fetch 0 + accepted_in a ≤ a.asked
   pub chunk_out : is_out before (post (stage 2) 0) ≡ nat_lt 0 (length a.chunk)
   pub chunk_from : nat_lt 0 (length a.chunk) ≡ true → out_from before (post (stage 2) 0) ≡ 1
+  pub chunk_take : nat_lt 0 (length a.chunk) ≡ true → last_take before (stage 2) ≡ Some (the_sub, length a.chunk)
   pub chunk_units : nat_lt 0 (length a.chunk) ≡ true → taken_units (one_each s) before (stage 2) ≡ range (length a.outcomes) (length a.chunk)
 
 -- the account is what the legal journal comes to
