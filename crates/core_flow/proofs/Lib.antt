@@ -10,3 +10,4 @@ pub mod Contents
 pub mod Handled
 pub mod Allowed
 pub mod Steps
+pub mod Dones
