@@ -13,6 +13,7 @@ use Rattle.pipe_model.specs.Flow.{place, waiting, waits_in, room, open_demand, s
 use Rattle.pipe_model.specs.Legal.{allows, may_come, owed, passes, is_late, bound, fetches_out, fetch_out}
 use Rattle.core_flow.specs.OneEach.{Settings, one_each, the_sub}
 use Rattle.core_flow.specs.Account.{Account, Accounts, IsPlain, Counts, Queues, Jobs, range, accepted_in, taken_in, places_in}
+use Rattle.core_flow.specs.Moving.{due_in, bound_in}
 use Rattle.core_flow.proofs.Alive.{sub_lives, live_subs-producer}
 use Rattle.core_flow.proofs.Lists.{filter-range_none}
 use Rattle.core_flow.proofs.Places.{none_waits}
@@ -35,10 +36,6 @@ pub allows-plain : (s : Settings) (before : History) (a : Account) (step : Step)
 allows-plain s before a step accounts = rw (accounts.plain.no_halt, accounts.unowed) refl
 
 -- the ask that is due
-abbrev pub due_in : Settings → Account → ℕ
-due_in s a =
-    if nat_le (a.asked - length a.outcomes) s.processor.min then s.processor.max - (a.asked - length a.outcomes) else 0
-
 pub due-is : (s : Settings) (before : History) (a : Account) → Accounts s before a → due (one_each s) before the_sub ≡ due_in s a
 due-is s before a accounts = rw (sub_lives s before accounts.plain, accounts.counts.asked, accounts.counts.handled) refl
 
@@ -57,9 +54,6 @@ pub fetches-are : (s : Settings) (before : History) (a : Account) → Accounts s
 fetches-are s before a accounts = rw accounts.jobs.bound (omega arith)
 
 -- how many records a fetch may bring
-abbrev pub bound_in : Settings → Account → ℕ
-bound_in s a = min (min 1000 (s.whole.record_limit - accepted_in a - unwrap_or a.fetch 0)) (a.asked - accepted_in a)
-
 pub bound-is : (s : Settings) (before : History) (a : Account) → Accounts s before a → bound (one_each s) before (stage 1) ≡ bound_in s a
 bound-is s before a accounts =
     rw (room-is s before a accounts, waiting-none s before a accounts.queues, fetches-are s before a accounts, accounts.counts.accepted) (omega arith)

@@ -11,3 +11,4 @@ pub mod Handled
 pub mod Allowed
 pub mod Steps
 pub mod Dones
+pub mod Moving

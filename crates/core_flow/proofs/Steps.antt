@@ -36,7 +36,8 @@ use Rattle.core_flow.proofs.Places.{front}
 use Rattle.pipe_model.specs.Content.{content}
 use Rattle.core_flow.proofs.Contents.{length-new_messages, contents_accepted}
 use Rattle.core_flow.proofs.Plain.{plain_ask, plain_fetch, plain_accept, plain_dispatch, plain_take, plain_done, plain_end, plain_drain_sources, plain_drain_limit}
-use Rattle.core_flow.proofs.Allowed.{allows-plain, and_left, and_right, not_true, bound_in, bound-is}
+use Rattle.core_flow.proofs.Allowed.{allows-plain, not_true, bound-is}
+use Rattle.core_flow.specs.Moving.{bound_in}
 
 both : (a b : Bool) → a ≡ true → b ≡ true → (a && b) ≡ true
 both true b e f = f

@@ -1,2 +1,3 @@
 pub mod OneEach
 pub mod Account
+pub mod Moving
