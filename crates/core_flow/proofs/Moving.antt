@@ -12,18 +12,28 @@ use Rattle.pipe_types.specs.declared.step.DrainCause.TheVariants.{Sources, Limit
 use Rattle.pipe_types.specs.declared.step.Step.{Step}
 use Rattle.pipe_types.specs.declared.step.Step.TheVariants.{Ask, Fetch, Dispatch, Take, Gather, Child, Drain}
 use Rattle.pipe_types.specs.Numbers.{stage, post, message_no}
+use Rattle.pipe_types.specs.declared.topology.StageSpec.{StageSpec}
+use Rattle.pipe_types.specs.declared.topology.Keep.{Keep}
+use Rattle.pipe_types.specs.declared.topology.Keep.TheVariants.{Last, First}
+use Rattle.pipe_types.specs.Stages.{spec_of}
+use Rattle.pipe_model.specs.Lives.{is_live}
+use Rattle.pipe_types.specs.declared.numbers.SubNo.{SubNo}
+use Rattle.pipe_types.specs.declared.room.Sent.{Sent}
+use Rattle.pipe_types.specs.Dispatchers.{sends}
+use Rattle.pipe_model.specs.Content.{arrivals}
 use Rattle.pipe_model.specs.History.{History, accepted}
-use Rattle.pipe_model.specs.Posts.{is_out, has_post_out}
-use Rattle.pipe_model.specs.Flow.{place}
-use Rattle.pipe_model.specs.Legal.{allows, happened, is_drain, is_halt}
-use Rattle.pipe_model.specs.Moves.{Move, jobs_out, is_final, numbers_to, is_drained}
+use Rattle.pipe_model.specs.Posts.{is_out, has_post_out, slots}
+use Rattle.pipe_model.specs.Flow.{place, waiting, waits_in, over_size, is_empty, view_of, over_in, unsent, rooms_by, kind_in, partition_in}
+use Rattle.pipe_model.specs.Legal.{allows, may_dispatch, needs_restart}
+use Rattle.pipe_model.specs.Moves.{Move, jobs_out, is_final, numbers_to, is_drained, has_child, next_in_slot, first_take}
 use Rattle.core_flow.specs.OneEach.{Settings, one_each, producer_of, processor_of, the_sub}
 use Rattle.core_flow.specs.Account.{Account, Accounts, IsPlain, Counts, Queues, Jobs, range, accepted_in, taken_in, places_in}
 use Rattle.core_flow.specs.Moving.{due_in, bound_in, chunk_in, is_job_out, is_drained_in, is_limit_in, may_take_in, may_fetch_in, move_in}
 use Rattle.core_flow.proofs.Lists.{slice_get-append_left}
-use Rattle.core_flow.proofs.Places.{front, length-front, place_in_inbox, fails-append}
+use Rattle.core_flow.proofs.Places.{front, length-front, place_in_inbox, fails-append, fails-acked, fails-replicate}
 use Rattle.core_flow.proofs.Answering.{chunk_place}
-use Rattle.core_flow.proofs.Allowed.{allows-plain}
+use Rattle.core_flow.proofs.Allowed.{allows-plain, waiting-none}
+use Rattle.core_flow.proofs.Alive.{producer_lives, processor_lives}
 
 -- Jobs
 
@@ -118,3 +128,141 @@ all_final-is s before a x = ap (λ n. list_all (λ m. is_final (place (one_each 
 
 pub is_drained-is : (s : Settings) (before : History) (a : Account) → Accounts s before a → is_drained (one_each s) before ≡ is_drained_in a
 is_drained-is s before a x = λ i. x.counts.drain i && (not (jobs_out-is s before a x i) && all_final-is s before a x i)
+
+-- Drains
+
+drain_sources-is : (s : Settings) (before : History) (a : Account) → Accounts s before a → allows (one_each s) before (Drain Sources) ≡ (not a.draining && a.ended)
+drain_sources-is s before a x =
+    allows-plain s before a (Drain Sources) x
+    ∙ ((λ i. not (x.counts.drain i) && (x.counts.ended i && true)) ∙ ap (λ e. not a.draining && e) (and-true a.ended))
+  where
+    and-true : (b : Bool) → (b && true) ≡ b
+    and-true true = refl
+    and-true false = refl
+
+drain_limit-is : (s : Settings) (before : History) (a : Account) → Accounts s before a → allows (one_each s) before (Drain Limit) ≡ (not a.draining && is_limit_in s a)
+drain_limit-is s before a x =
+    allows-plain s before a (Drain Limit) x
+    ∙ (λ i. not (x.counts.drain i) && (nat_le s.whole.record_limit (x.counts.accepted i) || nat_le s.whole.byte_limit (x.counts.bytes i)))
+
+-- no row of quiet steps begins the drain
+drain_idle-is : (s : Settings) (before : History) (a : Account) → Accounts s before a → allows (one_each s) before (Drain Idle) ≡ false
+drain_idle-is s before a x =
+    allows-plain s before a (Drain Idle) x
+    ∙ ((λ i. not (x.counts.drain i) && (nat_le 1 s.whole.idle_limit && nat_le s.whole.idle_limit (x.plain.no_quiet i))) ∙ never a.draining s.whole.idle_limit)
+  where
+    second : (b t : Bool) → t ≡ false → (not b && t) ≡ false
+    second true t e = refl
+    second false t e = e
+
+    never : (d : Bool) (limit : ℕ) → (not d && (nat_le 1 limit && nat_le limit 0)) ≡ false
+    never d limit = second d (nat_le 1 limit && nat_le limit 0) (grind (arith, nat_tests))
+
+-- Stages that do nothing of their own
+
+no_restart-is : (s : Settings) (before : History) (t : StageNo) → IsPlain s before → is_live (one_each s) before t ≡ true → needs_restart (one_each s) before t ≡ false
+no_restart-is s before t p lives = rw lives (second (is_some (spec_of (one_each s) t)))
+  where
+    second : (b : Bool) → (b && false) ≡ false
+    second true = refl
+    second false = refl
+
+filter-none : (test : ℕ → Bool) (xs : List ℕ) → ((n : ℕ) → test n ≡ false) → filter test xs ≡ []
+filter-none test [] h = refl
+filter-none test (x ∷ xs) h = rw (h x) (filter-none test xs h)
+
+not_waiting : (t : StageNo) (a : Account) (i : ℕ) → waits_in t (slice_get (places_in a) i) ≡ false
+not_waiting t a i =
+    fails-append (waits_in t) (front a) (replicate (length a.inbox) (Inbox the_sub))
+    (fails-append (waits_in t) (map Acked a.outcomes) (replicate (length a.chunk) (Running (stage 2)))
+    (fails-acked (waits_in t) refl (λ o. refl) a.outcomes) (fails-replicate (waits_in t) (Running (stage 2)) refl refl (length a.chunk)))
+    (fails-replicate (waits_in t) (Inbox the_sub) refl refl (length a.inbox)) i
+
+waits_nowhere : (s : Settings) (before : History) (a : Account) (t : StageNo) (n : ℕ) → Queues s before a → waits_in t (place (one_each s) before n) ≡ false
+waits_nowhere s before a t zero q = ap (waits_in t) q.none
+waits_nowhere s before a t (suc i) q = ap (waits_in t) (q.places i) ∙ not_waiting t a i
+
+processor_waits : (s : Settings) (before : History) (a : Account) → Queues s before a → waiting (one_each s) before (stage 2) ≡ []
+processor_waits s before a q =
+    filter-none (λ n. waits_in (stage 2) (place (one_each s) before n)) (arrivals before (stage 2)) (λ n. waits_nowhere s before a (stage 2) n q)
+
+take-nil : (n : ℕ) (none : List ℕ) → none ≡ [] → take n none ≡ []
+take-nil zero none e = refl
+take-nil (suc n) none e = rw e refl
+
+drop-nil : (n : ℕ) (none : List ℕ) → none ≡ [] → drop n none ≡ []
+drop-nil zero none e = e
+drop-nil (suc n) none e = rw e refl
+
+over-nothing : (size : Option ℕ) (keep : Keep) → over_size size keep [] ≡ []
+over-nothing None keep = refl
+over-nothing (Some size) Last = take-nil (0 - size) [] refl
+over-nothing (Some size) First = drop-nil size [] refl
+
+over_in-nothing : (spec : Option StageSpec) → over_in spec [] ≡ []
+over_in-nothing None = refl
+over_in-nothing (Some spec) = over-nothing spec.size spec.keep
+
+abbrev sends_of : Settings → History → StageNo → List ℕ → List Sent
+sends_of s before t units =
+    sends (kind_in (spec_of (one_each s) t)) (rooms_by (one_each s) before (view_of (one_each s) before) t)
+    (map (λ n. (n, partition_in before (view_of (one_each s) before) (spec_of (one_each s) t) n)) units)
+
+-- a stage where nothing waits does not dispatch
+idle_dispatch : (s : Settings) (before : History) (t : StageNo) → waiting (one_each s) before t ≡ [] → may_dispatch (one_each s) before t ≡ false
+idle_dispatch s before t none =
+    (λ i.
+    is_live (one_each s) before t
+    && (not (is_empty (sends_of s before t (none i))) || not (is_empty (over_in (spec_of (one_each s) t) (unsent (sends_of s before t (none i)) (none i))))))
+    ∙ ((λ i. is_live (one_each s) before t && (false || not (is_empty (over_in-nothing (spec_of (one_each s) t) i)))) ∙ and-false (is_live (one_each s) before t))
+  where
+    and-false : (b : Bool) → (b && false) ≡ false
+    and-false true = refl
+    and-false false = refl
+
+producer_idle : (s : Settings) (before : History) (a : Account) → Accounts s before a → allows (one_each s) before (Dispatch (stage 1)) ≡ false
+producer_idle s before a x = allows-plain s before a (Dispatch (stage 1)) x ∙ idle_dispatch s before (stage 1) (waiting-none s before a x.queues)
+
+processor_idle : (s : Settings) (before : History) (a : Account) → Accounts s before a → allows (one_each s) before (Dispatch (stage 2)) ≡ false
+processor_idle s before a x = allows-plain s before a (Dispatch (stage 2)) x ∙ idle_dispatch s before (stage 2) (processor_waits s before a x.queues)
+
+-- no stage is a batcher, so none gathers
+no_gather-producer : (s : Settings) (before : History) (a : Account) (n : ℕ) → Accounts s before a → allows (one_each s) before (Gather (stage 1) (message_no n)) ≡ false
+no_gather-producer s before a n x = allows-plain s before a (Gather (stage 1) (message_no n)) x ∙ rw (producer_lives s before x.plain) refl
+
+no_gather-processor : (s : Settings) (before : History) (a : Account) (n : ℕ) → Accounts s before a → allows (one_each s) before (Gather (stage 2) (message_no n)) ≡ false
+no_gather-processor s before a n x = allows-plain s before a (Gather (stage 2) (message_no n)) x ∙ rw (processor_lives s before x.plain) refl
+
+-- Jobs of the stages
+
+no_child : (s : Settings) (before : History) (a : Account) (n slot : ℕ) → Accounts s before a → allows (one_each s) before (Child (stage 1) (message_no n) slot) ≡ false
+no_child s before a n slot x = allows-plain s before a (Child (stage 1) (message_no n) slot) x ∙ rw (producer_lives s before x.plain) refl
+
+no_child-processor : (s : Settings) (before : History) (a : Account) (n slot : ℕ) → Accounts s before a → allows (one_each s) before (Child (stage 2) (message_no n) slot) ≡ false
+no_child-processor s before a n slot x = allows-plain s before a (Child (stage 2) (message_no n) slot) x ∙ rw (processor_lives s before x.plain) refl
+
+none_of : (slots : List ℕ) (test : ℕ → Bool) → ((slot : ℕ) → test slot ≡ false) → list_any test slots ≡ false
+none_of [] test h = refl
+none_of (slot ∷ slots) test h = rw (h slot) (none_of slots test h)
+
+has_child-producer : (s : Settings) (before : History) (a : Account) → Accounts s before a → has_child (one_each s) before (producer_of s) ≡ false
+has_child-producer s before a x =
+    none_of slots (λ slot. allows (one_each s) before (Child (stage 1) (message_no (next_in_slot (one_each s) before (stage 1) slot)) slot))
+    (λ slot. no_child s before a (next_in_slot (one_each s) before (stage 1) slot) slot x)
+
+has_child-processor : (s : Settings) (before : History) (a : Account) → Accounts s before a → has_child (one_each s) before (processor_of s) ≡ false
+has_child-processor s before a x =
+    none_of slots (λ slot. allows (one_each s) before (Child (stage 2) (message_no (next_in_slot (one_each s) before (stage 2) slot)) slot))
+    (λ slot. no_child-processor s before a (next_in_slot (one_each s) before (stage 2) slot) slot x)
+
+-- the producer takes nothing
+no_take : (s : Settings) (before : History) (a : Account) (u : SubNo) (k : ℕ) → Accounts s before a → allows (one_each s) before (Take (stage 1) u k) ≡ false
+no_take s before a u k x = allows-plain s before a (Take (stage 1) u k) x ∙ rw (producer_lives s before x.plain) refl
+
+first_take-producer : (s : Settings) (before : History) (a : Account) (units : List (SubNo × ℕ)) → Accounts s before a → first_take (one_each s) before (producer_of s) units ≡ false
+first_take-producer s before a [] x = refl
+first_take-producer s before a (d ∷ units) x = no_take s before a d.0 _ x
+
+-- the processor fetches nothing
+no_fetch : (s : Settings) (before : History) (a : Account) (n : ℕ) → Accounts s before a → allows (one_each s) before (Fetch (stage 2) n) ≡ false
+no_fetch s before a n x = allows-plain s before a (Fetch (stage 2) n) x ∙ rw (processor_lives s before x.plain) refl
