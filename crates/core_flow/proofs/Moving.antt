@@ -23,16 +23,17 @@ use Rattle.pipe_types.specs.Dispatchers.{sends}
 use Rattle.pipe_model.specs.Content.{arrivals}
 use Rattle.pipe_model.specs.History.{History, accepted}
 use Rattle.pipe_model.specs.Posts.{is_out, has_post_out, slots}
-use Rattle.pipe_model.specs.Flow.{place, waiting, waits_in, over_size, is_empty, view_of, over_in, unsent, rooms_by, kind_in, partition_in}
-use Rattle.pipe_model.specs.Legal.{allows, may_dispatch, needs_restart}
+use Rattle.pipe_model.specs.Flow.{place, inbox, units_on, waiting, waits_in, over_size, is_empty, view_of, over_in, unsent, rooms_by, kind_in, partition_in}
+use Rattle.pipe_model.specs.Legal.{allows, may_dispatch, needs_restart, first_sub, bound}
 use Rattle.pipe_model.specs.Moves.{Move, jobs_out, is_final, numbers_to, is_drained, has_child, next_in_slot, first_take}
 use Rattle.core_flow.specs.OneEach.{Settings, one_each, producer_of, processor_of, the_sub}
 use Rattle.core_flow.specs.Account.{Account, Accounts, IsPlain, Counts, Queues, Jobs, range, accepted_in, taken_in, places_in}
 use Rattle.core_flow.specs.Moving.{due_in, bound_in, chunk_in, is_job_out, is_drained_in, is_limit_in, may_take_in, may_fetch_in, move_in}
 use Rattle.core_flow.proofs.Lists.{slice_get-append_left}
-use Rattle.core_flow.proofs.Places.{front, length-front, place_in_inbox, fails-append, fails-acked, fails-replicate}
+use Rattle.core_flow.proofs.Places.{inbox_is, front, length-front, place_in_inbox, fails-append, fails-acked, fails-replicate}
 use Rattle.core_flow.proofs.Answering.{chunk_place}
-use Rattle.core_flow.proofs.Allowed.{allows-plain, waiting-none}
+use Rattle.core_flow.proofs.Allowed.{allows-plain, waiting-none, bound-is, due-is}
+use Rattle.core_flow.proofs.Steps.{inbox_count}
 use Rattle.core_flow.proofs.Alive.{producer_lives, processor_lives}
 
 -- Jobs
@@ -266,3 +267,77 @@ first_take-producer s before a (d ∷ units) x = no_take s before a d.0 _ x
 -- the processor fetches nothing
 no_fetch : (s : Settings) (before : History) (a : Account) (n : ℕ) → Accounts s before a → allows (one_each s) before (Fetch (stage 2) n) ≡ false
 no_fetch s before a n x = allows-plain s before a (Fetch (stage 2) n) x ∙ rw (processor_lives s before x.plain) refl
+
+-- the take of the processor's inbox
+
+first_of-range : (b w : ℕ) → 1 ≤ w → (rest : List (SubNo × ℕ)) × (map (λ n. (the_sub, n)) (range b w) ≡ (the_sub, b + 1) ∷ rest)
+first_of-range b zero some = absurd (omega arith)
+first_of-range b (suc w) some = (map (λ n. (the_sub, n)) (range (b + 1) w), refl)
+
+-- whether the processor may take from an inbox of this form
+take_test : (s : Settings) (before : History) (a : Account) (units : List (SubNo × ℕ)) → Accounts s before a
+    → inbox (one_each s) before (stage 2) ≡ (the_sub, taken_in a + 1) ∷ units
+    → allows (one_each s) before (Take (stage 2) the_sub (chunk_in s a)) ≡ may_take_in s a
+take_test s before a units x is =
+    allows-plain s before a (Take (stage 2) the_sub (chunk_in s a)) x
+    ∙ ((λ i.
+    processor_lives s before x.plain i
+    && (true
+    && (not (x.jobs.chunk_out i)
+    && (first_sub (is i) the_sub
+    && (nat_le 1 (chunk_in s a) && ((chunk_in s a == min (s.processor.max - s.processor.min) (inbox_count s before a x.queues i)) && true))))))
+    ∙ ap (λ t. not (nat_lt 0 (length a.chunk)) && (nat_le 1 (chunk_in s a) && (t && true))) (same (chunk_in s a))
+    ∙ ap (λ t. not (nat_lt 0 (length a.chunk)) && t) (and-true (nat_le 1 (chunk_in s a))))
+  where
+    same : (n : ℕ) → (n == n) ≡ true
+    same n = grind (arith, nat_tests)
+
+    and-true : (b : Bool) → (b && true) ≡ b
+    and-true true = refl
+    and-true false = refl
+
+first_take-processor : (s : Settings) (before : History) (a : Account) → Accounts s before a
+    → first_take (one_each s) before (processor_of s) (inbox (one_each s) before (stage 2)) ≡ may_take_in s a
+first_take-processor s before a x = cases (length a.inbox) refl
+  where
+    and-false : (b : Bool) → (b && false) ≡ false
+    and-false true = refl
+    and-false false = refl
+
+    cases : (w : ℕ) → length a.inbox ≡ w → first_take (one_each s) before (processor_of s) (inbox (one_each s) before (stage 2)) ≡ may_take_in s a
+    cases zero none =
+        ap (first_take (one_each s) before (processor_of s)) (inbox_is s before a x.queues ∙ ap (λ w. map (λ n. (the_sub, n)) (range (taken_in a) w)) none)
+        ∙ (sym (and-false (not (nat_lt 0 (length a.chunk))))
+        ∙ ap (λ t. not (nat_lt 0 (length a.chunk)) && t) (sym (nothing (chunk_in s a) (omega (arith, none)))))
+      where
+        nothing : (n : ℕ) → n ≡ 0 → nat_le 1 n ≡ false
+        nothing n e = grind (arith, nat_tests)
+    cases (suc w) some =
+        let first = first_of-range (taken_in a) (length a.inbox) (omega (arith, some)) in
+        let is : inbox (one_each s) before (stage 2) ≡ (the_sub, taken_in a + 1) ∷ first.0 = inbox_is s before a x.queues ∙ first.1 in
+        let count : length (units_on the_sub ((the_sub, taken_in a + 1) ∷ first.0)) ≡ length a.inbox =
+            ap (λ units. length (units_on the_sub units)) (sym is) ∙ inbox_count s before a x.queues in
+        ap (first_take (one_each s) before (processor_of s)) is
+        ∙ (ap (λ n. allows (one_each s) before (Take (stage 2) the_sub (min (s.processor.max - s.processor.min) n))) count
+        ∙ take_test s before a first.0 x is)
+
+-- the producer's fetch
+fetch-is : (s : Settings) (before : History) (a : Account) → Accounts s before a → allows (one_each s) before (Fetch (stage 1) (bound (one_each s) before (stage 1))) ≡ may_fetch_in s a
+fetch-is s before a x =
+    allows-plain s before a (Fetch (stage 1) (bound (one_each s) before (stage 1))) x
+    ∙ ((λ i.
+    producer_lives s before x.plain i
+    && (true
+    && (not (x.counts.ended i)
+    && (not (x.jobs.fetching i)
+    && (not (x.plain.no_rest (stage 1) i)
+    && (not (x.counts.drain i)
+    && (nat_lt (x.counts.bytes i) s.whole.byte_limit && (nat_le 1 (bound-is s before a x i) && (same (bound (one_each s) before (stage 1)) i)))))))))
+    ∙ ap (λ t. not a.ended && (not (is_some a.fetch) && (not a.draining && (nat_lt a.bytes s.whole.byte_limit && t)))) (and-true (nat_le 1 (bound_in s a))))
+  where
+    same : (n : ℕ) → (n == n) ≡ true
+    same n = grind (arith, nat_tests)
+
+    and-true : (b : Bool) → (b && true) ≡ b
+    and-true true = refl
+    and-true false = refl
