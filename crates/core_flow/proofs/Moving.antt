@@ -10,8 +10,8 @@ use Rattle.pipe_types.specs.declared.message.Place.{Place}
 use Rattle.pipe_types.specs.declared.message.Place.TheVariants.{Waiting, Inbox, Running, Acked}
 use Rattle.pipe_types.specs.declared.step.DrainCause.TheVariants.{Sources, Limit, Idle}
 use Rattle.pipe_types.specs.declared.step.Step.{Step}
-use Rattle.pipe_types.specs.declared.step.Step.TheVariants.{Ask, Fetch, Dispatch, Take, Gather, Child, Drain}
-use Rattle.pipe_types.specs.Numbers.{stage, post, message_no}
+use Rattle.pipe_types.specs.declared.step.Step.TheVariants.{Ask, Fetch, Dispatch, Take, Gather, Child, Restart, Drain, Halt}
+use Rattle.pipe_types.specs.Numbers.{stage, post, message_no, subscription}
 use Rattle.pipe_types.specs.declared.topology.StageSpec.{StageSpec}
 use Rattle.pipe_types.specs.declared.topology.Keep.{Keep}
 use Rattle.pipe_types.specs.declared.topology.Keep.TheVariants.{Last, First}
@@ -20,12 +20,13 @@ use Rattle.pipe_model.specs.Lives.{is_live}
 use Rattle.pipe_types.specs.declared.numbers.SubNo.{SubNo}
 use Rattle.pipe_types.specs.declared.room.Sent.{Sent}
 use Rattle.pipe_types.specs.Dispatchers.{sends}
-use Rattle.pipe_model.specs.Content.{arrivals}
+use Rattle.pipe_model.specs.Content.{arrivals, gathers}
+use Rattle.pipe_model.specs.Ledger.{due}
 use Rattle.pipe_model.specs.History.{History, accepted}
 use Rattle.pipe_model.specs.Posts.{is_out, has_post_out, slots}
-use Rattle.pipe_model.specs.Flow.{place, inbox, units_on, waiting, waits_in, over_size, is_empty, view_of, over_in, unsent, rooms_by, kind_in, partition_in}
-use Rattle.pipe_model.specs.Legal.{allows, may_dispatch, needs_restart, first_sub, bound}
-use Rattle.pipe_model.specs.Moves.{Move, jobs_out, is_final, numbers_to, is_drained, has_child, next_in_slot, first_take}
+use Rattle.pipe_model.specs.Flow.{is_gathered_in, place, inbox, units_on, waiting, waits_in, over_size, is_empty, view_of, over_in, unsent, rooms_by, kind_in, partition_in}
+use Rattle.pipe_model.specs.Legal.{allows, may_dispatch, needs_restart, no_post_out, may_restart, first_sub, first_unit, bound}
+use Rattle.pipe_model.specs.Moves.{Move, Halted, Drained, StepMove, Job, JobsOut, or_else, if_so, when, all_subs, closable, first_closable, has_job, first_move, move, move_or_pause, jobs_out, is_final, numbers_to, is_drained, has_child, next_in_slot, first_take}
 use Rattle.core_flow.specs.OneEach.{Settings, one_each, producer_of, processor_of, the_sub}
 use Rattle.core_flow.specs.Account.{Account, Accounts, IsPlain, Counts, Queues, Jobs, range, accepted_in, taken_in, places_in}
 use Rattle.core_flow.specs.Moving.{due_in, bound_in, chunk_in, is_job_out, is_drained_in, is_limit_in, may_take_in, may_fetch_in, move_in}
@@ -341,3 +342,130 @@ fetch-is s before a x =
     and-true : (b : Bool) → (b && true) ≡ b
     and-true true = refl
     and-true false = refl
+
+-- Whole
+
+-- the moves in their order, each where its test holds
+abbrev chain : (halted drained restart sources limit idle ask dispatch close gather job out : Option Move) → Option Move
+chain halted drained restart sources limit idle ask dispatch close gather job out =
+    or_else halted
+    (or_else drained
+    (or_else restart
+    (or_else sources (or_else limit (or_else idle (or_else ask (or_else dispatch (or_else close (or_else gather (or_else job out))))))))))
+
+-- the one present subscription
+subs-are : (s : Settings) (before : History) → IsPlain s before → all_subs (one_each s) before ≡ the_sub ∷ []
+subs-are s before p = ap (λ g. subscription (stage 2) (stage 1) g ∷ []) (p.generations (stage 2) (stage 1))
+
+ask-is : (s : Settings) (before : History) (a : Account) → Accounts s before a
+    → option_map (λ u. StepMove (Ask u (due (one_each s) before u))) (find (λ u. nat_lt 0 (due (one_each s) before u)) (all_subs (one_each s) before))
+    ≡ if_so (nat_lt 0 (due_in s a)) (StepMove (Ask the_sub (due_in s a)))
+ask-is s before a x =
+    ap (λ subs. option_map (λ u. StepMove (Ask u (due (one_each s) before u))) (find (λ u. nat_lt 0 (due (one_each s) before u)) subs)) (subs-are s before x.plain)
+    ∙ (cases (nat_lt 0 (due (one_each s) before the_sub)) (due (one_each s) before the_sub)
+    ∙ ap (λ n. if_so (nat_lt 0 n) (StepMove (Ask the_sub n))) (due-is s before a x))
+  where
+    cases : (t : Bool) (n : ℕ) → option_map (λ u. StepMove (Ask u (due (one_each s) before u))) (if t then Some the_sub else None) ≡ if_so t (StepMove (Ask the_sub (due (one_each s) before the_sub)))
+    cases true n = refl
+    cases false n = refl
+
+-- nothing is gathered, so nothing closes
+close-is : (s : Settings) (before : History) → IsPlain s before → closable (one_each s) before (producer_of s ∷ processor_of s ∷ []) ≡ None
+close-is s before p =
+    (λ i. or_else (gone (stage 1) i) (or_else (gone (stage 2) i) None))
+  where
+    gone : (t : StageNo) → first_closable (one_each s) before t (filter (λ n. is_gathered_in t (place (one_each s) before n)) (gathers before t)) ≡ None
+    gone t = ap (λ xs. first_closable (one_each s) before t (filter (λ n. is_gathered_in t (place (one_each s) before n)) xs)) (p.no_gather t)
+
+-- the job of the greatest stage that has one
+job-is : (s : Settings) (before : History) (a : Account) → Accounts s before a
+    → when (has_job (one_each s) before) (λ spec. Job spec.no) (processor_of s ∷ producer_of s ∷ [])
+    ≡ or_else (if_so (may_take_in s a) (Job (stage 2))) (if_so (may_fetch_in s a) (Job (stage 1)))
+job-is s before a x =
+    (λ i. option_map (λ (spec : StageSpec). Job spec.no)
+        (if takes i then Some (processor_of s) else (if fetches i then Some (producer_of s) else None)))
+    ∙ cases (may_take_in s a) (may_fetch_in s a)
+  where
+    or-false' : (b : Bool) → (b || false) ≡ b
+    or-false' true = refl
+    or-false' false = refl
+
+    takes : has_job (one_each s) before (processor_of s) ≡ may_take_in s a
+    takes =
+        (λ i. no_fetch s before a (bound (one_each s) before (stage 2)) x i || (first_take-processor s before a x i || has_child-processor s before a x i))
+        ∙ or-false' (may_take_in s a)
+
+    fetches : has_job (one_each s) before (producer_of s) ≡ may_fetch_in s a
+    fetches =
+        (λ i. fetch-is s before a x i || (first_take-producer s before a (inbox (one_each s) before (stage 1)) x i || has_child-producer s before a x i))
+        ∙ or-false' (may_fetch_in s a)
+
+    cases : (t f : Bool) → option_map (λ (spec : StageSpec). Job spec.no) (if t then Some (processor_of s) else (if f then Some (producer_of s) else None))
+        ≡ or_else (if_so t (Job (stage 2))) (if_so f (Job (stage 1)))
+    cases true f = refl
+    cases false true = refl
+    cases false false = refl
+
+none-found : (test : StageSpec → Bool) (move : StageSpec → Move) (p q : StageSpec) → test p ≡ false → test q ≡ false → when test move (p ∷ q ∷ []) ≡ None
+none-found test move p q e f = rw (e, f) refl
+
+or_else-assoc : (a b c : Option Move) → or_else (or_else a b) c ≡ or_else a (or_else b c)
+or_else-assoc (Some m) b c = refl
+or_else-assoc None b c = refl
+
+first-is : (s : Settings) (before : History) (a : Account) → Accounts s before a
+    → first_move (one_each s) before
+    ≡ chain None (if_so (is_drained_in a) Drained) None (if_so (not a.draining && a.ended) (StepMove (Drain Sources)))
+    (if_so (not a.draining && is_limit_in s a) (StepMove (Drain Limit))) None (if_so (nat_lt 0 (due_in s a)) (StepMove (Ask the_sub (due_in s a)))) None None None
+    (or_else (if_so (may_take_in s a) (Job (stage 2))) (if_so (may_fetch_in s a) (Job (stage 1)))) (if_so (is_job_out a) JobsOut)
+first-is s before a x =
+    λ i.
+    chain
+    (if_so (x.plain.no_halt i && not (jobs_out-is s before a x i)) Halted)
+    (if_so (is_drained-is s before a x i) Drained)
+    (restart i)
+    (if_so (drain_sources-is s before a x i) (StepMove (Drain Sources)))
+    (if_so (drain_limit-is s before a x i) (StepMove (Drain Limit)))
+    (if_so (drain_idle-is s before a x i) (StepMove (Drain Idle)))
+    (ask-is s before a x i)
+    (dispatch i)
+    (close-is s before x.plain i)
+    (gather i)
+    (job-is s before a x i)
+    (if_so (jobs_out-is s before a x i) JobsOut)
+  where
+    left-false : (b c : Bool) → b ≡ false → (b && c) ≡ false
+    left-false true c e = cc
+    left-false false c e = refl
+
+    restart : when (λ spec. needs_restart (one_each s) before spec.no && no_post_out (one_each s) before spec.no)
+        (λ spec. StepMove (if may_restart (one_each s) before then Restart spec.no else Halt)) (producer_of s ∷ processor_of s ∷ []) ≡ None
+    restart =
+        none-found (λ spec. needs_restart (one_each s) before spec.no && no_post_out (one_each s) before spec.no)
+        (λ spec. StepMove (if may_restart (one_each s) before then Restart spec.no else Halt)) (producer_of s) (processor_of s)
+        (left-false (needs_restart (one_each s) before (stage 1)) (no_post_out (one_each s) before (stage 1)) (no_restart-is s before (stage 1) x.plain (producer_lives s before x.plain)))
+        (left-false (needs_restart (one_each s) before (stage 2)) (no_post_out (one_each s) before (stage 2)) (no_restart-is s before (stage 2) x.plain (processor_lives s before x.plain)))
+
+    dispatch : when (λ spec. allows (one_each s) before (Dispatch spec.no)) (λ spec. StepMove (Dispatch spec.no)) (producer_of s ∷ processor_of s ∷ []) ≡ None
+    dispatch =
+        none-found (λ spec. allows (one_each s) before (Dispatch spec.no)) (λ spec. StepMove (Dispatch spec.no)) (producer_of s) (processor_of s)
+        (producer_idle s before a x) (processor_idle s before a x)
+
+    gather : when (λ spec. allows (one_each s) before (Gather spec.no (message_no (first_unit (inbox (one_each s) before spec.no)))))
+        (λ spec. StepMove (Gather spec.no (message_no (first_unit (inbox (one_each s) before spec.no))))) (producer_of s ∷ processor_of s ∷ []) ≡ None
+    gather =
+        none-found (λ spec. allows (one_each s) before (Gather spec.no (message_no (first_unit (inbox (one_each s) before spec.no)))))
+        (λ spec. StepMove (Gather spec.no (message_no (first_unit (inbox (one_each s) before spec.no))))) (producer_of s) (processor_of s)
+        (no_gather-producer s before a (first_unit (inbox (one_each s) before (stage 1))) x)
+        (no_gather-processor s before a (first_unit (inbox (one_each s) before (stage 2))) x)
+
+-- the next move of a journal with this account
+pub move-is : (s : Settings) (before : History) (a : Account) → Accounts s before a → move (one_each s) before ≡ move_in s a
+move-is s before a x =
+    ap (λ h. move_or_pause (if h && jobs_out (one_each s) before then Some JobsOut else first_move (one_each s) before)) x.plain.no_halt
+    ∙ (ap move_or_pause (first-is s before a x)
+    ∙ ap (λ tail. move_or_pause (or_else (if_so (is_drained_in a) Drained)
+        (or_else (if_so (not a.draining && a.ended) (StepMove (Drain Sources)))
+        (or_else (if_so (not a.draining && is_limit_in s a) (StepMove (Drain Limit)))
+        (or_else (if_so (nat_lt 0 (due_in s a)) (StepMove (Ask the_sub (due_in s a)))) tail)))))
+        (or_else-assoc (if_so (may_take_in s a) (Job (stage 2))) (if_so (may_fetch_in s a) (Job (stage 1))) (if_so (is_job_out a) JobsOut)))
