@@ -35,17 +35,35 @@ use Rattle.core_flow.proofs.Accepting.{sends_accepted, place_more, more_places, 
 use Rattle.core_flow.proofs.Places.{front}
 use Rattle.pipe_model.specs.Content.{content}
 use Rattle.core_flow.proofs.Contents.{length-new_messages, contents_accepted}
-use Rattle.core_flow.proofs.Plain.{plain_ask, plain_fetch, plain_accept, plain_dispatch, plain_take, plain_done, plain_end, plain_drain_sources, plain_drain_limit}
-use Rattle.core_flow.proofs.Allowed.{allows-plain, not_true, bound-is}
-use Rattle.core_flow.specs.Moving.{bound_in}
+use Rattle.core_flow.proofs.Plain.{plain_ask, plain_fetch, plain_accept, plain_dispatch, plain_take, plain_done, plain_end, plain_drain}
+use Rattle.core_flow.proofs.Allowed.{allows-plain, not_true, and_left, and_right, bound-is, due-is}
+use Rattle.pipe_model.specs.Ledger.{due}
+use Rattle.core_flow.specs.Moving.{bound_in, due_in}
 
 both : (a b : Bool) → a ≡ true → b ≡ true → (a && b) ≡ true
 both true b e f = f
 both false b e f = cc
 
+-- an ask fills up what is in flight
+asked_within : (s : Settings) (a : Account) (n : ℕ) → (1 ≤ n) × (n ≡ due_in s a) → length a.outcomes ≤ a.asked → a.asked + n ≤ length a.outcomes + s.processor.max
+asked_within s a n told ahead = by_test (nat_le (a.asked - length a.outcomes) s.processor.min) told.1
+  where
+    some : 1 ≤ n
+    some = told.0
+
+    by_test : (t : Bool) → n ≡ (if t then s.processor.max - (a.asked - length a.outcomes) else 0) → a.asked + n ≤ length a.outcomes + s.processor.max
+    by_test true is = omega (arith, some, is, ahead)
+    by_test false is = absurd (omega (arith, some, is))
+
+pub ask_tells : (s : Settings) (before : History) (a : Account) (n : ℕ) → Accounts s before a → may_come (one_each s) before (Ask the_sub n) ≡ true → (1 ≤ n) × (n ≡ due_in s a)
+ask_tells s before a n x may =
+    let one : nat_le 1 n ≡ true = and_left (nat_le 1 n) (n == due (one_each s) before the_sub) may in
+    (grind (arith, nat_tests), eqb-true n (due (one_each s) before the_sub) (and_right (nat_le 1 n) (n == due (one_each s) before the_sub) may) ∙ due-is s before a x)
+
 pub accounts_ask : (s : Settings) (before : History) (a : Account) (n : ℕ) → Accounts s before a → may_come (one_each s) before (Ask the_sub n) ≡ true
     → Accounts s (Ask the_sub n ∷ before) (after_ask n a)
 accounts_ask s before a n x may =
+    let told = ask_tells s before a n x may in
     record {
       legal = both _ _ x.legal (allows-plain s before a (Ask the_sub n) x ∙ may);
       unowed = refl;
@@ -72,6 +90,8 @@ accounts_ask s before a n x may =
         bound = x.jobs.bound;
         fetch_from = x.jobs.fetch_from;
         fetch_fits = omega (arith, x.jobs.fetch_fits);
+        fetch_within = x.jobs.fetch_within;
+        in_flight = asked_within s a n told (omega (arith, x.jobs.fetch_fits));
         chunk_out = x.jobs.chunk_out;
         chunk_from = x.jobs.chunk_from;
         chunk_take = x.jobs.chunk_take;
@@ -139,6 +159,8 @@ accounts_fetch s before a n x may =
         bound = refl;
         fetch_from = λ e. x.plain.incarnations (stage 1);
         fetch_fits = omega (arith, told.some, told.is);
+        fetch_within = omega (arith, told.some, told.is);
+        in_flight = x.jobs.in_flight;
         chunk_out = x.jobs.chunk_out;
         chunk_from = x.jobs.chunk_from;
         chunk_take = x.jobs.chunk_take;
@@ -152,7 +174,7 @@ accounts_end s before a how x may =
     record {
       legal = both _ _ x.legal (allows-plain s before a (SourceEnd (stage 1) how) x ∙ may);
       unowed = refl;
-      plain = plain_end s before how x.plain;
+      plain = plain_end s before (stage 1) how x.plain;
       counts = record {
         drain = x.counts.drain;
         ended = refl;
@@ -175,6 +197,8 @@ accounts_end s before a how x may =
         bound = refl;
         fetch_from = λ e. cc;
         fetch_fits = omega (arith, x.jobs.fetch_fits);
+        fetch_within = omega (arith, x.jobs.fetch_within);
+        in_flight = x.jobs.in_flight;
         chunk_out = x.jobs.chunk_out;
         chunk_from = x.jobs.chunk_from;
         chunk_take = x.jobs.chunk_take;
@@ -182,13 +206,52 @@ accounts_end s before a how x may =
       };
     }
 
-pub accounts_drain_sources : (s : Settings) (before : History) (a : Account) → Accounts s before a → may_come (one_each s) before (Drain Sources) ≡ true
-    → Accounts s (Drain Sources ∷ before) (after_drain a)
-accounts_drain_sources s before a x may =
+-- the end of the control source changes nothing else
+pub accounts_control_end : (s : Settings) (before : History) (a : Account) (how : SourceHow) → Accounts s before a → may_come (one_each s) before (SourceEnd (stage 0) how) ≡ true
+    → Accounts s (SourceEnd (stage 0) how ∷ before) a
+accounts_control_end s before a how x may =
     record {
-      legal = both _ _ x.legal (allows-plain s before a (Drain Sources) x ∙ may);
+      legal = both _ _ x.legal (allows-plain s before a (SourceEnd (stage 0) how) x ∙ may);
       unowed = refl;
-      plain = plain_drain_sources s before x.plain;
+      plain = plain_end s before (stage 0) how x.plain;
+      counts = record {
+        drain = x.counts.drain;
+        ended = x.counts.ended;
+        asked = x.counts.asked;
+        accepted = x.counts.accepted;
+        bytes = x.counts.bytes;
+        sent = x.counts.sent;
+        handled = x.counts.handled;
+        seen = x.counts.seen;
+      };
+      queues = record {
+        none = x.queues.none;
+        places = x.queues.places;
+        sent_to = x.queues.sent_to;
+        arrivals = x.queues.arrivals;
+        contents = x.queues.contents;
+      };
+      jobs = record {
+        fetching = x.jobs.fetching;
+        bound = x.jobs.bound;
+        fetch_from = x.jobs.fetch_from;
+        fetch_fits = x.jobs.fetch_fits;
+        fetch_within = x.jobs.fetch_within;
+        in_flight = x.jobs.in_flight;
+        chunk_out = x.jobs.chunk_out;
+        chunk_from = x.jobs.chunk_from;
+        chunk_take = x.jobs.chunk_take;
+        chunk_units = x.jobs.chunk_units;
+      };
+    }
+
+pub accounts_drain : (s : Settings) (before : History) (a : Account) (cause : DrainCause) → Accounts s before a → may_come (one_each s) before (Drain cause) ≡ true
+    → Accounts s (Drain cause ∷ before) (after_drain a)
+accounts_drain s before a cause x may =
+    record {
+      legal = both _ _ x.legal (allows-plain s before a (Drain cause) x ∙ may);
+      unowed = refl;
+      plain = plain_drain s before cause x.plain;
       counts = record {
         drain = refl;
         ended = x.counts.ended;
@@ -211,42 +274,8 @@ accounts_drain_sources s before a x may =
         bound = x.jobs.bound;
         fetch_from = x.jobs.fetch_from;
         fetch_fits = x.jobs.fetch_fits;
-        chunk_out = x.jobs.chunk_out;
-        chunk_from = x.jobs.chunk_from;
-        chunk_take = x.jobs.chunk_take;
-        chunk_units = x.jobs.chunk_units;
-      };
-    }
-
-pub accounts_drain_limit : (s : Settings) (before : History) (a : Account) → Accounts s before a → may_come (one_each s) before (Drain Limit) ≡ true
-    → Accounts s (Drain Limit ∷ before) (after_drain a)
-accounts_drain_limit s before a x may =
-    record {
-      legal = both _ _ x.legal (allows-plain s before a (Drain Limit) x ∙ may);
-      unowed = refl;
-      plain = plain_drain_limit s before x.plain;
-      counts = record {
-        drain = refl;
-        ended = x.counts.ended;
-        asked = x.counts.asked;
-        accepted = x.counts.accepted;
-        bytes = x.counts.bytes;
-        sent = x.counts.sent;
-        handled = x.counts.handled;
-        seen = x.counts.seen;
-      };
-      queues = record {
-        none = x.queues.none;
-        places = x.queues.places;
-        sent_to = x.queues.sent_to;
-        arrivals = x.queues.arrivals;
-        contents = x.queues.contents;
-      };
-      jobs = record {
-        fetching = x.jobs.fetching;
-        bound = x.jobs.bound;
-        fetch_from = x.jobs.fetch_from;
-        fetch_fits = x.jobs.fetch_fits;
+        fetch_within = x.jobs.fetch_within;
+        in_flight = x.jobs.in_flight;
         chunk_out = x.jobs.chunk_out;
         chunk_from = x.jobs.chunk_from;
         chunk_take = x.jobs.chunk_take;
@@ -255,9 +284,10 @@ accounts_drain_limit s before a x may =
     }
 
 -- what an accept tells
-pub record Accepts (a : Account) (records : List (List ℕ)) : Type 0 where
+pub record Accepts (limit : ℕ) (a : Account) (records : List (List ℕ)) : Type 0 where
   pub some : 1 ≤ length records
   pub fits : length records + accepted_in a ≤ a.asked
+  pub within : length records + accepted_in a ≤ limit
   pub fetched : is_some a.fetch ≡ true
 
 accept_parts : (a b c d e f g : Bool) → (a && (b && ((c && d) && (e && (f && g))))) ≡ true → (c ≡ true) × (e ≡ true) × (f ≡ true)
@@ -270,7 +300,7 @@ accept_parts true true true true false f g h = cc
 accept_parts true true true true true false g h = cc
 
 pub accept_tells : (s : Settings) (before : History) (a : Account) (records : List (List ℕ)) → Accounts s before a → may_come (one_each s) before (Accept (stage 1) records) ≡ true
-    → Accepts a records
+    → Accepts s.whole.record_limit a records
 accept_tells s before a records x may =
     let parts : (is_out before (post (stage 1) 0) ≡ true) × (nat_le 1 (length records) ≡ true) × (nat_le (length records) (fetch_out before (stage 1)) ≡ true) =
         accept_parts (is_live (one_each s) before (stage 1)) true (is_out before (post (stage 1) 0)) (out_from before (post (stage 1) 0) == incarnation before (stage 1))
@@ -281,6 +311,7 @@ accept_tells s before a records x may =
     record {
       some = grind (arith, nat_tests);
       fits = omega (arith, within, x.jobs.fetch_fits);
+      within = omega (arith, within, x.jobs.fetch_within);
       fetched = sym x.jobs.fetching ∙ parts.0;
     }
 
@@ -289,7 +320,7 @@ sent_something b zero some = absurd (omega arith)
 sent_something b (suc m) some = refl
 
 -- an accept owes its dispatch
-pub dispatch_owed : (s : Settings) (before : History) (a : Account) (records : List (List ℕ)) → Accounts s before a → Accepts a records
+pub dispatch_owed : (s : Settings) (before : History) (a : Account) (records : List (List ℕ)) → Accounts s before a → Accepts s.whole.record_limit a records
     → may_dispatch (one_each s) (Accept (stage 1) records ∷ before) (stage 1) ≡ true
 dispatch_owed s before a records x told =
     let lives : is_live (one_each s) (Accept (stage 1) records ∷ before) (stage 1) ≡ true =
@@ -299,7 +330,7 @@ dispatch_owed s before a records x told =
     both _ _ lives (ap (λ e. not e || not (is_empty (lost_over (one_each s) (Accept (stage 1) records ∷ before) (view_of (one_each s) (Accept (stage 1) records ∷ before)) (stage 1)))) sends)
 
 accept_legal : (s : Settings) (before : History) (a : Account) (records : List (List ℕ)) → Accounts s before a → may_come (one_each s) before (Accept (stage 1) records) ≡ true
-    → Accepts a records → is_legal (one_each s) (Dispatch (stage 1) ∷ Accept (stage 1) records ∷ before) ≡ true
+    → Accepts s.whole.record_limit a records → is_legal (one_each s) (Dispatch (stage 1) ∷ Accept (stage 1) records ∷ before) ≡ true
 accept_legal s before a records x may told =
     both _ _ (both _ _ x.legal (allows-plain s before a (Accept (stage 1) records) x ∙ may))
     (rw (x.plain.no_halt, dispatch_owed s before a records x told) refl)
@@ -369,6 +400,8 @@ accounts_accept s before a records x may =
         bound = refl;
         fetch_from = λ e. cc;
         fetch_fits = omega (arith, told.fits, more);
+        fetch_within = omega (arith, told.within, more);
+        in_flight = x.jobs.in_flight;
         chunk_out = x.jobs.chunk_out;
         chunk_from = x.jobs.chunk_from;
         chunk_take = x.jobs.chunk_take;
@@ -472,6 +505,8 @@ accounts_take s before a k x may =
         bound = x.jobs.bound;
         fetch_from = x.jobs.fetch_from;
         fetch_fits = omega (arith, x.jobs.fetch_fits, split.same);
+        fetch_within = omega (arith, x.jobs.fetch_within, split.same);
+        in_flight = x.jobs.in_flight;
         chunk_out = rw split.taken (let one : 1 ≤ k = told.some in grind (arith, nat_tests));
         chunk_from = λ e. x.plain.incarnations (stage 2);
         chunk_take = λ e. ap (λ m. Some (the_sub, m)) (sym split.taken);

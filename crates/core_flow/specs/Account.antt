@@ -9,7 +9,7 @@ use Rattle.pipe_types.specs.Handlers.{outcome_of}
 use Rattle.pipe_types.specs.declared.message.Place.{Place}
 use Rattle.pipe_types.specs.declared.message.Place.TheVariants.{Inbox, Running, Acked}
 use Rattle.pipe_types.specs.Numbers.{stage, post}
-use Rattle.pipe_model.specs.History.{History, incarnation, now, asked, accepted, accepted_bytes, controls, bytes_in}
+use Rattle.pipe_model.specs.History.{History, incarnation, now, asked, accepted, accepted_bytes, bytes_in}
 use Rattle.pipe_model.specs.Posts.{is_out, out_from, last_take}
 use Rattle.pipe_model.specs.Lives.{death, generation}
 use Rattle.pipe_model.specs.Content.{content, arrivals, gathers, new_message}
@@ -76,20 +76,18 @@ after_end a = record a { ended = true; fetch = None }
 abbrev pub after_drain : Account → Account
 after_drain a = record a { draining = true }
 
--- nothing was killed, halted, restarted, ticked, gathered or controlled
+-- nothing was killed, halted, restarted, ticked or gathered
 pub record IsPlain (s : Settings) (before : History) : Type 0 where
   pub deaths : (t : StageNo) → death (one_each s) before t ≡ None
   pub generations : (c p : StageNo) → generation (one_each s) before c p ≡ 1
   pub incarnations : (t : StageNo) → incarnation before t ≡ 1
   pub no_halt : happened is_halt before ≡ false
   pub clock : now before ≡ 0
-  pub no_control : controls before ≡ 0
   pub no_quiet : quiet_row before ≡ 0
   pub no_rest : (t : StageNo) → rests before t ≡ false
   pub no_restart : restart_times before ≡ []
   pub no_gather : (t : StageNo) → gathers before t ≡ []
   pub no_slot : (t : StageNo) (slot : ℕ) → 1 ≤ slot → is_out before (post t slot) ≡ false
-  pub no_control_end : has_ended before (stage 0) ≡ false
 
 -- the counts are the journal's
 pub record Counts (s : Settings) (before : History) (a : Account) : Type 0 where
@@ -116,6 +114,8 @@ pub record Jobs (s : Settings) (before : History) (a : Account) : Type 0 where
   pub bound : fetch_out before (stage 1) ≡ unwrap_or a.fetch 0
   pub fetch_from : is_some a.fetch ≡ true → out_from before (post (stage 1) 0) ≡ 1
   pub fetch_fits : unwrap_or a.fetch 0 + accepted_in a ≤ a.asked
+  pub fetch_within : unwrap_or a.fetch 0 + accepted_in a ≤ s.whole.record_limit
+  pub in_flight : a.asked ≤ length a.outcomes + s.processor.max
   pub chunk_out : is_out before (post (stage 2) 0) ≡ nat_lt 0 (length a.chunk)
   pub chunk_from : nat_lt 0 (length a.chunk) ≡ true → out_from before (post (stage 2) 0) ≡ 1
   pub chunk_take : nat_lt 0 (length a.chunk) ≡ true → last_take before (stage 2) ≡ Some (the_sub, length a.chunk)
