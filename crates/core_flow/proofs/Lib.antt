@@ -12,3 +12,5 @@ pub mod Allowed
 pub mod Steps
 pub mod Dones
 pub mod Moving
+pub mod Named
+pub mod Begun

@@ -1,0 +1,72 @@
+-- A step that may come names the stage and the subscription that there are.
+use Rattle.std.proofs.Common.{◌≡◌, ℕ, zero, suc, ◌+◌, ◌<◌, ◌≤◌, List, [], ◌∷◌, length, map, Bool, true, false, refl, ap, sym, ◌∙◌, Some, None, Option, arith, subst, inl, inr}
+use Rattle.std.specs.Prelude.{if◌then◌else◌, ◌==◌, nat_lt, nat_le, ◌&&◌, ◌||◌, not, min, is_some, ◌⊎◌}
+use Rattle.std.proofs.lemmas.Bool.Decides.{nat_tests}
+use Rattle.std.proofs.lemmas.Bool.{eqb-true}
+use Rattle.pipe_types.specs.declared.numbers.StageNo.{StageNo}
+use Rattle.pipe_types.specs.declared.numbers.SubNo.{SubNo}
+use Rattle.pipe_types.specs.declared.message.Reply.{Reply}
+use Rattle.pipe_types.specs.declared.topology.Role.{Role}
+use Rattle.pipe_types.specs.declared.step.SourceHow.{SourceHow}
+use Rattle.pipe_types.specs.declared.step.Step.{Step}
+use Rattle.pipe_types.specs.declared.step.Step.TheVariants.{Ask, Fetch, Accept, SourceEnd, Take, Done}
+use Rattle.pipe_types.specs.Numbers.{stage, post, same_stage, same_sub, subscription}
+use Rattle.pipe_types.specs.Stages.{feeds}
+use Rattle.pipe_model.specs.History.{History}
+use Rattle.pipe_model.specs.Lives.{is_live, is_live_sub, generation, current_sub}
+use Rattle.pipe_model.specs.Ledger.{due, pending, min_in}
+use Rattle.pipe_model.specs.Legal.{may_come, has_role, is_producer_role, is_processor_role, takes_role}
+use Rattle.core_flow.specs.OneEach.{Settings, one_each, the_sub}
+use Rattle.core_flow.specs.Account.{Account, Accounts, IsPlain}
+use Rattle.core_flow.proofs.Allowed.{and_left, and_right}
+
+stage-is : (t : StageNo) (n : ℕ) → (n == t.0) ≡ true → t ≡ stage n
+stage-is t n e = let same : n ≡ t.0 = eqb-true n t.0 e in λ i. record { 0 = sym same i }
+
+-- the stage whose role passes a test that only producers pass
+pub producer_only : (s : Settings) (t : StageNo) → has_role (one_each s) t is_producer_role ≡ true → t ≡ stage 1
+producer_only s t h = cases (1 == t.0) (2 == t.0) refl refl
+  where
+    cases : (b c : Bool) → (1 == t.0) ≡ b → (2 == t.0) ≡ c → t ≡ stage 1
+    cases true c e f = stage-is t 1 e
+    cases false true e f = let wrong : false ≡ true = rw (e, f) at h in cc
+    cases false false e f = let wrong : false ≡ true = rw (e, f) at h in cc
+
+pub processor_only : (s : Settings) (t : StageNo) → has_role (one_each s) t is_processor_role ≡ true → t ≡ stage 2
+processor_only s t h = cases (1 == t.0) (2 == t.0) refl refl
+  where
+    cases : (b c : Bool) → (1 == t.0) ≡ b → (2 == t.0) ≡ c → t ≡ stage 2
+    cases true c e f = let wrong : false ≡ true = rw e at h in cc
+    cases false true e f = stage-is t 2 f
+    cases false false e f = let wrong : false ≡ true = rw (e, f) at h in cc
+
+pub taker_only : (s : Settings) (t : StageNo) → has_role (one_each s) t takes_role ≡ true → t ≡ stage 2
+taker_only s t h = cases (1 == t.0) (2 == t.0) refl refl
+  where
+    cases : (b c : Bool) → (1 == t.0) ≡ b → (2 == t.0) ≡ c → t ≡ stage 2
+    cases true c e f = let wrong : false ≡ true = rw e at h in cc
+    cases false true e f = stage-is t 2 f
+    cases false false e f = let wrong : false ≡ true = rw (e, f) at h in cc
+
+second : (a b : Bool) (rest : Bool) → (a && (b && rest)) ≡ true → b ≡ true
+second a b rest h = and_left b rest (and_right a (b && rest) h)
+
+pub fetch_stage : (s : Settings) (before : History) (t : StageNo) (n : ℕ) → may_come (one_each s) before (Fetch t n) ≡ true → t ≡ stage 1
+fetch_stage s before t n may = producer_only s t (second (is_live (one_each s) before t) (has_role (one_each s) t is_producer_role) _ may)
+
+pub accept_stage : (s : Settings) (before : History) (t : StageNo) (records : List (List ℕ)) → may_come (one_each s) before (Accept t records) ≡ true → t ≡ stage 1
+accept_stage s before t records may = producer_only s t (second (is_live (one_each s) before t) (has_role (one_each s) t is_producer_role) _ may)
+
+pub done_stage : (s : Settings) (before : History) (t : StageNo) (replies : List Reply) → may_come (one_each s) before (Done t replies) ≡ true → t ≡ stage 2
+done_stage s before t replies may = processor_only s t (second (is_live (one_each s) before t) (has_role (one_each s) t is_processor_role) _ may)
+
+pub take_stage : (s : Settings) (before : History) (t : StageNo) (u : SubNo) (k : ℕ) → may_come (one_each s) before (Take t u k) ≡ true → t ≡ stage 2
+take_stage s before t u k may = taker_only s t (second (is_live (one_each s) before t) (has_role (one_each s) t takes_role) _ may)
+
+-- a source that ends is the producer's or the control source
+pub end_stage : (s : Settings) (before : History) (t : StageNo) (how : SourceHow) → may_come (one_each s) before (SourceEnd t how) ≡ true → (t ≡ stage 0) ⊎ (t ≡ stage 1)
+end_stage s before t how may = cases (same_stage t (stage 0)) refl
+  where
+    cases : (b : Bool) → same_stage t (stage 0) ≡ b → (t ≡ stage 0) ⊎ (t ≡ stage 1)
+    cases true e = inl (let same : t.0 ≡ 0 = eqb-true t.0 0 e in λ i. record { 0 = same i })
+    cases false e = inr (producer_only s t (second (is_live (one_each s) before t) (has_role (one_each s) t is_producer_role) _ (rw e at may)))
