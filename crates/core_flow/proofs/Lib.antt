@@ -14,3 +14,4 @@ pub mod Dones
 pub mod Moving
 pub mod Named
 pub mod Begun
+pub mod Keeps

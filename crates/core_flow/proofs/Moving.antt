@@ -95,7 +95,7 @@ one_fails test (suc n) i below fails = cases (i == n) refl (λ under. one_fails 
         let under : i < n = grind (arith, nat_tests) in
         right (test (suc n)) (list_all test (numbers_to n)) (rest under)
 
-acked_final : (outcomes : List Outcome) (i : ℕ) → i < length outcomes → is_final (slice_get (map Acked outcomes) i) ≡ true
+pub acked_final : (outcomes : List Outcome) (i : ℕ) → i < length outcomes → is_final (slice_get (map Acked outcomes) i) ≡ true
 acked_final [] i below = absurd (omega arith)
 acked_final (o ∷ outcomes) zero below = refl
 acked_final (o ∷ outcomes) (suc i) below = acked_final outcomes i (omega arith)
@@ -103,7 +103,7 @@ acked_final (o ∷ outcomes) (suc i) below = acked_final outcomes i (omega arith
 final_at : (s : Settings) (before : History) (a : Account) → Queues s before a → (i : ℕ) → is_final (place (one_each s) before (suc i)) ≡ is_final (slice_get (places_in a) i)
 final_at s before a q i = ap is_final (q.places i)
 
-acked_at : (a : Account) (i : ℕ) → i < length a.outcomes → slice_get (places_in a) i ≡ slice_get (map Acked a.outcomes) i
+pub acked_at : (a : Account) (i : ℕ) → i < length a.outcomes → slice_get (places_in a) i ≡ slice_get (map Acked a.outcomes) i
 acked_at a i below =
     let acked : length (map Acked a.outcomes) ≡ length a.outcomes = length-map a.outcomes Acked in
     slice_get-append_left (front a) (replicate (length a.inbox) (Inbox the_sub)) i (omega (arith, length-front a))

@@ -1,3 +1,4 @@
 pub mod OneEach
 pub mod Account
 pub mod Moving
+pub mod Stands
