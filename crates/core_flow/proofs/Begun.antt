@@ -1,5 +1,5 @@
 -- An empty journal comes to an empty account.
-use Rattle.std.proofs.Common.{◌≡◌, ℕ, ◌<◌, ◌≤◌, List, [], ◌∷◌, Bool, true, false, refl, Some, None, arith, length}
+use Rattle.std.proofs.Common.{◌≡◌, ℕ, ◌*◌, ◌<◌, ◌≤◌, List, [], ◌∷◌, Bool, true, false, refl, Some, None, arith, length}
 use Rattle.core_flow.specs.OneEach.{Settings, one_each, the_sub}
 use Rattle.core_flow.specs.Account.{Account, Accounts}
 
@@ -46,6 +46,7 @@ accounts_new s =
         fetch_from = λ e. cc;
         fetch_fits = omega arith;
         fetch_within = omega arith;
+        bytes_few = omega arith;
         in_flight = omega arith;
         chunk_out = refl;
         chunk_from = λ e. cc;

@@ -15,3 +15,4 @@ pub mod Moving
 pub mod Named
 pub mod Begun
 pub mod Keeps
+pub mod Messages

@@ -1,5 +1,5 @@
 -- Each step keeps the account.
-use Rattle.std.proofs.Common.{◌≡◌, ℕ, zero, suc, ◌+◌, ◌-◌, ◌<◌, ◌≤◌, List, [], ◌∷◌, ◌++◌, length, take, drop, map, replicate, Bool, true, false, refl, ap, sym, ◌∙◌, Some, None, Option, arith, subst, true≢false}
+use Rattle.std.proofs.Common.{◌≡◌, ℕ, zero, suc, ◌+◌, ◌-◌, ◌*◌, ◌<◌, ◌≤◌, List, [], ◌∷◌, ◌++◌, length, take, drop, map, replicate, Bool, true, false, refl, ap, sym, ◌∙◌, Some, None, Option, arith, subst, true≢false}
 use Rattle.std.specs.Prelude.{filter, slice_get, if◌then◌else◌, ◌==◌, nat_lt, nat_le, ◌&&◌, ◌||◌, not, min, is_some, unwrap_or, option_map}
 use Rattle.std.proofs.lemmas.Bool.Decides.{nat_tests}
 use Rattle.std.proofs.lemmas.Bool.{eqb-true}
@@ -91,6 +91,7 @@ accounts_ask s before a n x may =
         fetch_from = x.jobs.fetch_from;
         fetch_fits = omega (arith, x.jobs.fetch_fits);
         fetch_within = x.jobs.fetch_within;
+        bytes_few = x.jobs.bytes_few;
         in_flight = asked_within s a n told (omega (arith, x.jobs.fetch_fits));
         chunk_out = x.jobs.chunk_out;
         chunk_from = x.jobs.chunk_from;
@@ -160,6 +161,7 @@ accounts_fetch s before a n x may =
         fetch_from = λ e. x.plain.incarnations (stage 1);
         fetch_fits = omega (arith, told.some, told.is);
         fetch_within = omega (arith, told.some, told.is);
+        bytes_few = x.jobs.bytes_few;
         in_flight = x.jobs.in_flight;
         chunk_out = x.jobs.chunk_out;
         chunk_from = x.jobs.chunk_from;
@@ -198,6 +200,7 @@ accounts_end s before a how x may =
         fetch_from = λ e. cc;
         fetch_fits = omega (arith, x.jobs.fetch_fits);
         fetch_within = omega (arith, x.jobs.fetch_within);
+        bytes_few = x.jobs.bytes_few;
         in_flight = x.jobs.in_flight;
         chunk_out = x.jobs.chunk_out;
         chunk_from = x.jobs.chunk_from;
@@ -237,6 +240,7 @@ accounts_control_end s before a how x may =
         fetch_from = x.jobs.fetch_from;
         fetch_fits = x.jobs.fetch_fits;
         fetch_within = x.jobs.fetch_within;
+        bytes_few = x.jobs.bytes_few;
         in_flight = x.jobs.in_flight;
         chunk_out = x.jobs.chunk_out;
         chunk_from = x.jobs.chunk_from;
@@ -275,6 +279,7 @@ accounts_drain s before a cause x may =
         fetch_from = x.jobs.fetch_from;
         fetch_fits = x.jobs.fetch_fits;
         fetch_within = x.jobs.fetch_within;
+        bytes_few = x.jobs.bytes_few;
         in_flight = x.jobs.in_flight;
         chunk_out = x.jobs.chunk_out;
         chunk_from = x.jobs.chunk_from;
@@ -289,9 +294,20 @@ pub record Accepts (limit : ℕ) (a : Account) (records : List (List ℕ)) : Typ
   pub fits : length records + accepted_in a ≤ a.asked
   pub within : length records + accepted_in a ≤ limit
   pub fetched : is_some a.fetch ≡ true
+  pub short : bytes_in records ≤ length records * 65536
 
-accept_parts : (a b c d e f g : Bool) → (a && (b && ((c && d) && (e && (f && g))))) ≡ true → (c ≡ true) × (e ≡ true) × (f ≡ true)
-accept_parts true true true true true true g h = (refl, refl, refl)
+-- records of at most 65,536 bytes each
+short_records : (records : List (List ℕ)) → list_all (λ r. nat_le (length r) max_bytes) records ≡ true → bytes_in records ≤ length records * 65536
+short_records [] h = omega arith
+short_records (r ∷ records) h =
+    let here : nat_le (length r) 65536 ≡ true = and_left (nat_le (length r) max_bytes) (list_all (λ q. nat_le (length q) max_bytes) records) h in
+    let one : length r ≤ 65536 = grind (arith, nat_tests) in
+    let rest : bytes_in records ≤ length records * 65536 = short_records records (and_right (nat_le (length r) max_bytes) (list_all (λ q. nat_le (length q) max_bytes) records) h) in
+    omega (arith, one, rest)
+
+accept_parts : (a b c d e f g : Bool) → (a && (b && ((c && d) && (e && (f && g))))) ≡ true → (c ≡ true) × (e ≡ true) × (f ≡ true) × (g ≡ true)
+accept_parts true true true true true true true h = (refl, refl, refl, refl)
+accept_parts true true true true true true false h = cc
 accept_parts false b c d e f g h = cc
 accept_parts true false c d e f g h = cc
 accept_parts true true false d e f g h = cc
@@ -302,7 +318,8 @@ accept_parts true true true true true false g h = cc
 pub accept_tells : (s : Settings) (before : History) (a : Account) (records : List (List ℕ)) → Accounts s before a → may_come (one_each s) before (Accept (stage 1) records) ≡ true
     → Accepts s.whole.record_limit a records
 accept_tells s before a records x may =
-    let parts : (is_out before (post (stage 1) 0) ≡ true) × (nat_le 1 (length records) ≡ true) × (nat_le (length records) (fetch_out before (stage 1)) ≡ true) =
+    let parts : (is_out before (post (stage 1) 0) ≡ true) × (nat_le 1 (length records) ≡ true) × (nat_le (length records) (fetch_out before (stage 1)) ≡ true)
+        × (list_all (λ r. nat_le (length r) max_bytes) records ≡ true) =
         accept_parts (is_live (one_each s) before (stage 1)) true (is_out before (post (stage 1) 0)) (out_from before (post (stage 1) 0) == incarnation before (stage 1))
         (nat_le 1 (length records)) (nat_le (length records) (fetch_out before (stage 1))) (list_all (λ r. nat_le (length r) max_bytes) records) may in
     let one : nat_le 1 (length records) ≡ true = parts.1 in
@@ -313,6 +330,7 @@ accept_tells s before a records x may =
       fits = omega (arith, within, x.jobs.fetch_fits);
       within = omega (arith, within, x.jobs.fetch_within);
       fetched = sym x.jobs.fetching ∙ parts.0;
+      short = short_records records parts.3;
     }
 
 sent_something : (b m : ℕ) → 1 ≤ m → (is_empty (map sent_as (range b m))) ≡ false
@@ -401,6 +419,7 @@ accounts_accept s before a records x may =
         fetch_from = λ e. cc;
         fetch_fits = omega (arith, told.fits, more);
         fetch_within = omega (arith, told.within, more);
+        bytes_few = omega (arith, x.jobs.bytes_few, told.short, more);
         in_flight = x.jobs.in_flight;
         chunk_out = x.jobs.chunk_out;
         chunk_from = x.jobs.chunk_from;
@@ -506,6 +525,7 @@ accounts_take s before a k x may =
         fetch_from = x.jobs.fetch_from;
         fetch_fits = omega (arith, x.jobs.fetch_fits, split.same);
         fetch_within = omega (arith, x.jobs.fetch_within, split.same);
+        bytes_few = omega (arith, x.jobs.bytes_few, split.same);
         in_flight = x.jobs.in_flight;
         chunk_out = rw split.taken (let one : 1 ≤ k = told.some in grind (arith, nat_tests));
         chunk_from = λ e. x.plain.incarnations (stage 2);

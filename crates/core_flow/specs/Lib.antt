@@ -2,3 +2,4 @@ pub mod OneEach
 pub mod Account
 pub mod Moving
 pub mod Stands
+pub mod Parts

@@ -1,12 +1,17 @@
 //! The calls that append a step.
 
-ghost use Rattle.std.specs.Prelude.{◌≡◌, ◌+◌, ◌-◌, ◌<◌, ◌≤◌, ◌^◌, ◌∷◌, ◌++◌, [], IfOk, OnOk, OnErr, IsTrue, Some, None};
+ghost use Rattle.std.specs.Prelude.{◌≡◌, ◌∷◌, IfOk, IfErr, OnOk, OnErr, IsTrue, false};
 ghost use Rattle.pipe_model.specs.Ledger.{due};
 ghost use Rattle.pipe_model.specs.Legal.{allows, bound};
-ghost use Rattle.pipe_model.specs.Jobs.{fetch_step};
+ghost use Rattle.pipe_model.specs.Content.{has_crash};
+ghost use Rattle.pipe_model.specs.Work.{chunk_of};
+ghost use Rattle.pipe_model.specs.Jobs.{fetch_step, take_step, may_take_next, with_step};
 ghost use Rattle.core_flow.specs.Stands.{Stands};
 
-use crate::state::Core;
+use crate::parts::{bytes_of, move_first, receive, settle, the_sub};
+use crate::state::{Chunk, Core};
+use pipe_types::bytes::BytesList;
+use pipe_types::message::{MessageList, ReplyList};
 use pipe_types::numbers::{StageNo, SubNo};
 use pipe_types::step::{SourceHow, Step};
 use std::alloc::AllocError;
@@ -62,6 +67,86 @@ impl Core {
             self.fetch = None;
             self.ended = true;
         }
+        Ok(())
+    }
+
+    /// Appends the records that a fetch brought, and the dispatch that they owe. Where memory is wanting they come back.
+    pub fn accept(
+        &mut self,
+        stage: StageNo,
+        records: BytesList,
+    ) -> Result<(), (BytesList, AllocError)>
+        requires stands { Stands self.old }
+        requires legal { IsTrue (allows self.old.topology self.old.journal.steps (Step.Accept stage records)) }
+        ensures appended { OnOk result (self.new.journal.steps ≡ Step.Dispatch stage ∷ Step.Accept stage records ∷ self.old.journal.steps) }
+        ensures returned { IfErr result (λ refused. refused.0 ≡ records) }
+        ensures unchanged { OnErr result (self.new.journal.steps ≡ self.old.journal.steps) }
+        ensures topology { self.new.topology ≡ self.old.topology }
+        ensures stands { Stands self.new }
+    {
+        let accepted = self.accepted();
+        let bytes = bytes_of(records.as_slice());
+        if let Err(error) = self.journal.reserve(2) {
+            return Err((records, error));
+        }
+        match receive(self.alloc, &mut self.inbox, stage, accepted, records.as_slice()) {
+            Ok(()) => {}
+            Err(error) => return Err((records, error)),
+        }
+        self.journal.push_spare(Step::Accept { stage, records });
+        self.journal.push_spare(Step::Dispatch { stage });
+        self.bytes += bytes;
+        self.fetch = None;
+        Ok(())
+    }
+
+    /// Appends the take of what stands first in the stage's inbox, and gives it out.
+    pub fn take(&mut self, stage: StageNo) -> Result<Chunk, AllocError>
+        requires stands { Stands self.old }
+        requires legal { IsTrue (may_take_next self.old.topology self.old.journal.steps stage) }
+        ensures appended { OnOk result (self.new.journal.steps ≡ with_step (take_step self.old.topology self.old.journal.steps stage) self.old.journal.steps) }
+        ensures chunk { IfOk result (λ chunk. chunk ≡ Chunk.Messages (chunk_of self.new.topology self.new.journal.steps stage)) }
+        ensures unchanged { OnErr result (self.new.journal.steps ≡ self.old.journal.steps) }
+        ensures topology { self.new.topology ≡ self.old.topology }
+        ensures stands { Stands self.new }
+    {
+        let most = self.limits.max - self.limits.min;
+        let k = most.min(self.inbox.len() as u32);
+        let mut chunk = Vec::with_capacity(self.alloc, k as usize)?;
+        self.journal.reserve(1)?;
+        let sub = the_sub();
+        self.journal.push_spare(Step::Take { stage, sub, k });
+        move_first(&mut self.inbox, &mut chunk, k as usize);
+        self.running = k;
+        Ok(Chunk::Messages(MessageList::from_vec(chunk)))
+    }
+
+    /// Appends the replies to the chunk that is out, of which none is a crash. Where memory is wanting they come back.
+    pub fn answer(
+        &mut self,
+        stage: StageNo,
+        replies: ReplyList,
+    ) -> Result<(), (ReplyList, AllocError)>
+        requires stands { Stands self.old }
+        requires legal { IsTrue (allows self.old.topology self.old.journal.steps (Step.Done stage replies)) }
+        requires calm { has_crash replies ≡ false }
+        ensures appended { OnOk result (self.new.journal.steps ≡ Step.Done stage replies ∷ self.old.journal.steps) }
+        ensures returned { IfErr result (λ refused. refused.0 ≡ replies) }
+        ensures unchanged { OnErr result (self.new.journal.steps ≡ self.old.journal.steps) }
+        ensures topology { self.new.topology ≡ self.old.topology }
+        ensures stands { Stands self.new }
+    {
+        if let Err(error) = self.journal.reserve(1) {
+            return Err((replies, error));
+        }
+        let count = replies.as_slice().len();
+        if let Err(error) = self.settled.reserve(count) {
+            return Err((replies, error));
+        }
+        let at = self.journal.len();
+        settle(&mut self.settled, replies.as_slice(), at);
+        self.running = 0;
+        self.journal.push_spare(Step::Done { stage, replies });
         Ok(())
     }
 }

@@ -7,6 +7,7 @@
 #![tactic(auto)]
 
 mod calls;
+mod parts;
 pub mod state;
 pub mod drain;
 
