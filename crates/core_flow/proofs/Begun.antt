@@ -6,8 +6,8 @@ use Rattle.core_flow.specs.Account.{Account, Accounts}
 abbrev pub empty_account : Account
 empty_account = record { asked = 0; bytes = 0; outcomes = []; chunk = []; inbox = []; fetch = None; ended = false; draining = false }
 
-pub accounts_new : (s : Settings) → Accounts s [] empty_account
-accounts_new s =
+pub accounts_new : (s : Settings) → s.whole.record_limit ≤ 200000 → Accounts s [] empty_account
+accounts_new s few =
     record {
       legal = refl;
       unowed = refl;
@@ -46,6 +46,7 @@ accounts_new s =
         fetch_from = λ e. cc;
         fetch_fits = omega arith;
         fetch_within = omega arith;
+        few = few;
         bytes_few = omega arith;
         in_flight = omega arith;
         chunk_out = refl;

@@ -118,7 +118,7 @@ accounts_done s before a replies x may calm =
         bytes = x.counts.bytes;
         sent = x.counts.sent ∙ sym end.same;
         handled = rw (calm, x.jobs.chunk_take told.runs, x.counts.handled) (sym end.outcomes);
-        seen = rw x.counts.seen (omega (arith, end.outcomes, end.one_each));
+        seen = rw x.counts.seen (omega (arith, end.outcomes, end.one_each, x.jobs.fetch_within, x.jobs.few));
       };
       queues = record {
         none = rw (calm, x.queues.none) refl;
@@ -138,6 +138,7 @@ accounts_done s before a replies x may calm =
         fetch_from = x.jobs.fetch_from;
         fetch_fits = omega (arith, x.jobs.fetch_fits, end.same);
         fetch_within = omega (arith, x.jobs.fetch_within, end.same);
+        few = x.jobs.few;
         bytes_few = omega (arith, x.jobs.bytes_few, end.same);
         in_flight = omega (arith, x.jobs.in_flight, end.outcomes);
         chunk_out = refl;

@@ -14,7 +14,7 @@ use Rattle.pipe_types.specs.declared.topology.StageSpec.{StageSpec}
 use Rattle.std.specs.Str.{bytes_eq}
 use Rattle.pipe_types.specs.Numbers.{same_stage}
 use Rattle.pipe_types.specs.Lines.{max_bytes}
-use Rattle.pipe_types.specs.Handlers.{rule_reply, rules_reply, and_then, eval, is_crashed, with_reason, replies_until, chunk_replies, is_own_reply, may_pass, are_own_replies, begins_with, field}
+use Rattle.pipe_types.specs.Handlers.{counted, rule_reply, rules_reply, and_then, eval, is_crashed, with_reason, replies_until, chunk_replies, is_own_reply, may_pass, are_own_replies, begins_with, field}
 use Rattle.pipe_model.specs.Content.{has_crash, passed_as}
 use Rattle.pipe_model.specs.Work.{same_message, same_reply, same_replies, are_replies_by, are_replies_of}
 
@@ -78,7 +78,7 @@ rules_keep count [] m = same_no m m refl
 rules_keep count (rule ∷ rules) m = then_keeps m (rule_reply count rule m) (λ k. rules_reply count rules k) (rule_keeps count rule m) (λ k. rules_keep count rules k)
 
 pub eval_keeps : (spec : StageSpec) (count : ℕ) (m : Message) → PassesOnly m (eval spec count m)
-eval_keeps spec count m = rules_keep (count + 1) spec.rules m
+eval_keeps spec count m = rules_keep (counted count 1) spec.rules m
 
 reason_keeps : (failed : Option (List ℕ)) (m : Message) (reply : Reply) → PassesOnly m reply → PassesOnly m (with_reason failed reply)
 reason_keeps failed m (Passed k) f x is = f x is
@@ -89,15 +89,15 @@ reason_keeps failed m Crashed f x is = cc
 until_each : (spec : StageSpec) (count : ℕ) (messages : List Message) → PassEach messages (map (with_reason spec.failed) (replies_until is_crashed spec count messages))
 until_each spec count [] = tt
 until_each spec count (m ∷ messages) =
-    by_test (is_crashed (eval spec count m)) (reason_keeps spec.failed m (eval spec count m) (eval_keeps spec count m)) (until_each spec (count + 1) messages)
+    by_test (is_crashed (eval spec count m)) (reason_keeps spec.failed m (eval spec count m) (eval_keeps spec count m)) (until_each spec (counted count 1) messages)
   where
     none : (messages : List Message) → PassEach messages []
     none [] = tt
     none (m ∷ messages) = tt
 
     by_test : (t : Bool) → PassesOnly m (with_reason spec.failed (eval spec count m))
-        → PassEach messages (map (with_reason spec.failed) (replies_until is_crashed spec (count + 1) messages))
-        → PassEach (m ∷ messages) (map (with_reason spec.failed) (if t then eval spec count m ∷ [] else eval spec count m ∷ replies_until is_crashed spec (count + 1) messages))
+        → PassEach messages (map (with_reason spec.failed) (replies_until is_crashed spec (counted count 1) messages))
+        → PassEach (m ∷ messages) (map (with_reason spec.failed) (if t then eval spec count m ∷ [] else eval spec count m ∷ replies_until is_crashed spec (counted count 1) messages))
     by_test true f rest = (f, none messages)
     by_test false f rest = (f, rest)
 
@@ -160,13 +160,13 @@ handled_each spec count messages replies e = handled_by spec.kind spec count mes
 until_length : (spec : StageSpec) (count : ℕ) (messages : List Message) → has_crash (map (with_reason spec.failed) (replies_until is_crashed spec count messages)) ≡ false
     → length (map (with_reason spec.failed) (replies_until is_crashed spec count messages)) ≡ length messages
 until_length spec count [] calm = refl
-until_length spec count (m ∷ messages) calm = by_reply (eval spec count m) calm (until_length spec (count + 1) messages)
+until_length spec count (m ∷ messages) calm = by_reply (eval spec count m) calm (until_length spec (counted count 1) messages)
   where
     by_reply : (r : Reply)
-        → has_crash (map (with_reason spec.failed) (if is_crashed r then r ∷ [] else r ∷ replies_until is_crashed spec (count + 1) messages)) ≡ false
-        → (has_crash (map (with_reason spec.failed) (replies_until is_crashed spec (count + 1) messages)) ≡ false
-        → length (map (with_reason spec.failed) (replies_until is_crashed spec (count + 1) messages)) ≡ length messages)
-        → length (map (with_reason spec.failed) (if is_crashed r then r ∷ [] else r ∷ replies_until is_crashed spec (count + 1) messages)) ≡ suc (length messages)
+        → has_crash (map (with_reason spec.failed) (if is_crashed r then r ∷ [] else r ∷ replies_until is_crashed spec (counted count 1) messages)) ≡ false
+        → (has_crash (map (with_reason spec.failed) (replies_until is_crashed spec (counted count 1) messages)) ≡ false
+        → length (map (with_reason spec.failed) (replies_until is_crashed spec (counted count 1) messages)) ≡ length messages)
+        → length (map (with_reason spec.failed) (if is_crashed r then r ∷ [] else r ∷ replies_until is_crashed spec (counted count 1) messages)) ≡ suc (length messages)
     by_reply (Passed k) calm rest = omega (arith, rest calm)
     by_reply (Failed why) calm rest = omega (arith, rest calm)
     by_reply (Raised why) calm rest = omega (arith, rest calm)

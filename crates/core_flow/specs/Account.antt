@@ -115,6 +115,7 @@ pub record Jobs (s : Settings) (before : History) (a : Account) : Type 0 where
   pub fetch_from : is_some a.fetch ≡ true → out_from before (post (stage 1) 0) ≡ 1
   pub fetch_fits : unwrap_or a.fetch 0 + accepted_in a ≤ a.asked
   pub fetch_within : unwrap_or a.fetch 0 + accepted_in a ≤ s.whole.record_limit
+  pub few : s.whole.record_limit ≤ 200000
   pub bytes_few : a.bytes ≤ accepted_in a * 65536
   pub in_flight : a.asked ≤ length a.outcomes + s.processor.max
   pub chunk_out : is_out before (post (stage 2) 0) ≡ nat_lt 0 (length a.chunk)

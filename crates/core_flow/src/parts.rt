@@ -1,6 +1,6 @@
 //! What a step does to one field.
 
-ghost use Rattle.std.specs.Prelude.{◌≡◌, ◌+◌, ◌-◌, ◌*◌, ◌<◌, ◌≤◌, ◌^◌, ◌++◌, length, map, sum_by, take, drop, vec_len, vec_capacity, OnOk, OnErr};
+ghost use Rattle.std.specs.Prelude.{◌≡◌, ◌+◌, ◌-◌, ◌*◌, ◌<◌, ◌≤◌, ◌^◌, ◌++◌, length, map, sum_by, take, drop, vec_len, vec_capacity, IfOk, OnOk, OnErr};
 ghost use Rattle.std.specs.VecDeque.{deque_len};
 ghost use Rattle.pipe_types.specs.Numbers.{stage as number};
 ghost use Rattle.core_flow.specs.OneEach.{the_sub as only_sub};
@@ -56,6 +56,12 @@ pub(crate) fn receive(
     }
 }
 
+fn copied(bytes: &Bytes) -> Result<Bytes, AllocError>
+    ensures { IfOk result (λ copy. copy ≡ bytes.now) }
+{
+    bytes.clone()
+}
+
 /// Puts the records into the inbox one by one. After want of memory some of them stand behind what was there.
 fn push_messages(
     alloc: Global,
@@ -70,7 +76,7 @@ fn push_messages(
     ensures front { take (length inbox.old.items) inbox.new.items ≡ inbox.old.items }
 {
     for i in 0..records.len() {
-        let payload = records[i].clone()?;
+        let payload = copied(&records[i])?;
         inbox.push_back(Message {
             no: MsgNo(accepted + i as u32 + 1),
             producer: stage,

@@ -11,7 +11,7 @@ use Rattle.core_flow.proofs.parts.push_messages.Goals as goal
 pub loop-i-preserved : goal.loop-i-preserved
 loop-i-preserved c =
     let more = new_messages-more c.args.accepted c.args.records.now c.loop-i.i c.index-records-i.result c.loop-i-test.true in
-    let copied : c.in_ok-payload.payload ≡ c.index-records-i.result = search rules in
+    let copied : c.in_ok-payload.payload ≡ c.index-records-i.result = c.in_ok-payload.ensures in
     let key : c.from_vec.result ≡ [] = search rules in
     let pushed : c.push_back.new.self.items ≡ c.loop-i.inbox.items ++ new_message (stage 1) (c.args.accepted + c.loop-i.i + 1) c.index-records-i.result ∷ [] =
         c.in_ok-push_back.ensures.items
