@@ -89,7 +89,7 @@ pub record Ended (a : Account) (replies : List Reply) : Type 0 where
   pub outcomes : length (a.outcomes ++ map outcome_of replies) ≡ length a.outcomes + length a.chunk
   pub same : accepted_in (after_done replies a) ≡ accepted_in a
 
-ended : (s : Settings) (before : History) (a : Account) (replies : List Reply) → Answers s before a replies → has_crash replies ≡ false → Ended a replies
+pub ended : (s : Settings) (before : History) (a : Account) (replies : List Reply) → Answers s before a replies → has_crash replies ≡ false → Ended a replies
 ended s before a replies told calm =
     let same : length replies ≡ length a.chunk = handled_length (processor_of s) (length a.outcomes) a.chunk replies told.replied calm in
     let outcomes : length (a.outcomes ++ map outcome_of replies) ≡ length a.outcomes + length a.chunk =

@@ -16,3 +16,4 @@ pub mod Named
 pub mod Begun
 pub mod Keeps
 pub mod Messages
+pub mod Holds

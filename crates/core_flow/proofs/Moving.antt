@@ -271,7 +271,7 @@ no_fetch s before a n x = allows-plain s before a (Fetch (stage 2) n) x ∙ rw (
 
 -- the take of the processor's inbox
 
-first_of-range : (b w : ℕ) → 1 ≤ w → (rest : List (SubNo × ℕ)) × (map (λ n. (the_sub, n)) (range b w) ≡ (the_sub, b + 1) ∷ rest)
+pub first_of-range : (b w : ℕ) → 1 ≤ w → (rest : List (SubNo × ℕ)) × (map (λ n. (the_sub, n)) (range b w) ≡ (the_sub, b + 1) ∷ rest)
 first_of-range b zero some = absurd (omega arith)
 first_of-range b (suc w) some = (map (λ n. (the_sub, n)) (range (b + 1) w), refl)
 
