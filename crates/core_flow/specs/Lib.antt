@@ -3,3 +3,4 @@ pub mod Account
 pub mod Moving
 pub mod Stands
 pub mod Parts
+pub mod Next
