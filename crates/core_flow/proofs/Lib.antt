@@ -17,3 +17,4 @@ pub mod Begun
 pub mod Keeps
 pub mod Messages
 pub mod Holds
+pub mod Next

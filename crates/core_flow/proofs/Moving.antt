@@ -133,7 +133,7 @@ is_drained-is s before a x = λ i. x.counts.drain i && (not (jobs_out-is s befor
 
 -- Drains
 
-drain_sources-is : (s : Settings) (before : History) (a : Account) → Accounts s before a → allows (one_each s) before (Drain Sources) ≡ (not a.draining && a.ended)
+pub drain_sources-is : (s : Settings) (before : History) (a : Account) → Accounts s before a → allows (one_each s) before (Drain Sources) ≡ (not a.draining && a.ended)
 drain_sources-is s before a x =
     allows-plain s before a (Drain Sources) x
     ∙ ((λ i. not (x.counts.drain i) && (x.counts.ended i && true)) ∙ ap (λ e. not a.draining && e) (and-true a.ended))
@@ -142,7 +142,7 @@ drain_sources-is s before a x =
     and-true true = refl
     and-true false = refl
 
-drain_limit-is : (s : Settings) (before : History) (a : Account) → Accounts s before a → allows (one_each s) before (Drain Limit) ≡ (not a.draining && is_limit_in s a)
+pub drain_limit-is : (s : Settings) (before : History) (a : Account) → Accounts s before a → allows (one_each s) before (Drain Limit) ≡ (not a.draining && is_limit_in s a)
 drain_limit-is s before a x =
     allows-plain s before a (Drain Limit) x
     ∙ (λ i. not (x.counts.drain i) && (nat_le s.whole.record_limit (x.counts.accepted i) || nat_le s.whole.byte_limit (x.counts.bytes i)))
@@ -297,7 +297,7 @@ take_test s before a units x is =
     and-true true = refl
     and-true false = refl
 
-first_take-processor : (s : Settings) (before : History) (a : Account) → Accounts s before a
+pub first_take-processor : (s : Settings) (before : History) (a : Account) → Accounts s before a
     → first_take (one_each s) before (processor_of s) (inbox (one_each s) before (stage 2)) ≡ may_take_in s a
 first_take-processor s before a x = cases (length a.inbox) refl
   where
@@ -323,7 +323,7 @@ first_take-processor s before a x = cases (length a.inbox) refl
         ∙ take_test s before a first.0 x is)
 
 -- the producer's fetch
-fetch-is : (s : Settings) (before : History) (a : Account) → Accounts s before a → allows (one_each s) before (Fetch (stage 1) (bound (one_each s) before (stage 1))) ≡ may_fetch_in s a
+pub fetch-is : (s : Settings) (before : History) (a : Account) → Accounts s before a → allows (one_each s) before (Fetch (stage 1) (bound (one_each s) before (stage 1))) ≡ may_fetch_in s a
 fetch-is s before a x =
     allows-plain s before a (Fetch (stage 1) (bound (one_each s) before (stage 1))) x
     ∙ ((λ i.

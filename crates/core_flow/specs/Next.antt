@@ -1,12 +1,15 @@
 -- The next move as a value, and that what it names is legal.
-use Rattle.std.specs.Prelude.{◌≡◌, ℕ, ◌+◌, ◌-◌, Bool, true, if◌then◌else◌, not, ◌&&◌, ◌||◌, nat_le, nat_lt, min, is_none, unwrap_or, length, Option, Some, None, IsTrue, ◌⊎◌}
+use Rattle.std.specs.Prelude.{◌≡◌, ℕ, ◌+◌, ◌-◌, Bool, true, if◌then◌else◌, not, ◌&&◌, ◌||◌, ◌==◌, nat_le, nat_lt, is_none, is_some, length, Option, Some, None, IsTrue, ◌⊎◌}
 use Rattle.pipe_types.specs.declared.step.DrainCause.{DrainCause}
 use Rattle.pipe_types.specs.declared.step.DrainCause.TheVariants.{Sources, Limit}
 use Rattle.core_flow.specs.declared.state.Core.{Core}
 use Rattle.pipe_types.specs.declared.numbers.StageNo.{StageNo}
 use Rattle.pipe_types.specs.declared.topology.Topology.{Topology}
 use Rattle.pipe_model.specs.History.{History}
-use Rattle.pipe_model.specs.Legal.{allows}
+use Rattle.pipe_types.specs.declared.step.Step.TheVariants.{Ask, Drain}
+use Rattle.pipe_types.specs.Numbers.{stage}
+use Rattle.pipe_model.specs.Legal.{allows, bound}
+use Rattle.core_flow.specs.OneEach.{the_sub}
 use Rattle.pipe_model.specs.Jobs.{fetch_step, may_take_next}
 use Rattle.pipe_model.specs.Moves as model
 use Rattle.core_flow.specs.declared.drain.Move.{Move}
@@ -34,9 +37,31 @@ abbrev pub fetches_in : Core → Bool
 fetches_in core =
     not core.ended
     && (is_none core.fetch
-    && (not core.draining
-    && (nat_lt core.bytes core.limits.bytes
-    && nat_le 1 (min (core.asked - held_in core) (min (core.limits.records - held_in core - unwrap_or core.fetch 0) 1000)))))
+    && (not core.draining && (nat_lt core.bytes core.limits.bytes && nat_le 1 (bound core.topology core.journal.steps (stage 1)))))
+
+-- the same of the end, of a take and of the jobs that are out
+abbrev pub drained_of : Core → Bool
+drained_of core = core.draining && (is_none core.fetch && (core.running == 0 && length core.inbox.items == 0))
+
+abbrev pub takes_in : Core → Bool
+takes_in core = core.running == 0 && not (length core.inbox.items == 0)
+
+abbrev pub job_out_of : Core → Bool
+job_out_of core = is_some core.fetch || nat_lt 0 core.running
+
+abbrev pub drain_by : Option DrainCause → Option model.Move
+drain_by None = None
+drain_by (Some cause) = Some (model.StepMove (Drain cause))
+
+-- the first move that applies, as the fields give it
+abbrev pub move_of : Core → model.Move
+move_of core =
+    model.move_or_pause
+    (model.or_else (model.if_so (drained_of core) model.Drained)
+    (model.or_else (drain_by (cause_in core))
+    (model.or_else (model.if_so (nat_lt 0 (due_of core)) (model.StepMove (Ask the_sub (due_of core))))
+    (model.or_else (model.if_so (takes_in core) (model.Job (stage 2)))
+    (model.or_else (model.if_so (fetches_in core) (model.Job (stage 1))) (model.if_so (job_out_of core) model.JobsOut))))))
 
 -- the value stands for this move
 abbrev pub seen_as : Move → model.Move

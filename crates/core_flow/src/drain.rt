@@ -4,7 +4,7 @@ ghost use Rattle.std.specs.Prelude.{◌≡◌, ◌∷◌, OnOk, OnErr, IsTrue};
 ghost use Rattle.pipe_model.specs.Legal.{allows};
 ghost use Rattle.pipe_model.specs.Moves.{move as next_move_of};
 ghost use Rattle.core_flow.specs.Stands.{Stands};
-ghost use Rattle.core_flow.specs.Next.{seen_as, IsLegalMove, cause_in, fetches_in, due_of};
+ghost use Rattle.core_flow.specs.Next.{seen_as, IsLegalMove, move_of, cause_in, drained_of, takes_in, fetches_in, job_out_of, due_of};
 
 use crate::parts::the_sub;
 use crate::state::Core;
@@ -44,9 +44,14 @@ pub fn next_move(core: &Core) -> Move
     ensures first { seen_as result ≡ next_move_of core.now.topology core.now.journal.steps }
     ensures legal { IsLegalMove core.now.topology core.now.journal.steps result }
 {
-    let is_out = core.fetch.is_some() || core.running > 0;
-    let is_empty = core.running == 0 && core.inbox.is_empty();
-    if core.draining && !is_out && is_empty {
+    move_by_fields(core)
+}
+
+fn move_by_fields(core: &Core) -> Move
+    requires stands { Stands core.now }
+    ensures by_fields { seen_as result ≡ move_of core.now }
+{
+    if is_drained(core) {
         return Move::Drained;
     }
     if let Some(cause) = drain_cause(core) {
@@ -56,13 +61,38 @@ pub fn next_move(core: &Core) -> Move
     if n > 0 {
         return Move::Step(Step::Ask { sub: the_sub(), n });
     }
-    if core.running == 0 && !core.inbox.is_empty() {
+    if may_take(core) {
         return Move::Job(StageNo(2));
     }
     if may_fetch(core) {
         return Move::Job(StageNo(1));
     }
-    if is_out { Move::JobsOut } else { Move::Pause }
+    if is_job_out(core) {
+        Move::JobsOut
+    } else {
+        Move::Pause
+    }
+}
+
+/// Whether the drain has begun, no job is out and nothing is left.
+fn is_drained(core: &Core) -> bool
+    ensures { result ≡ drained_of core.now }
+{
+    core.draining && core.fetch.is_none() && core.running == 0 && core.inbox.is_empty()
+}
+
+/// Whether the processor may take now.
+fn may_take(core: &Core) -> bool
+    ensures { result ≡ takes_in core.now }
+{
+    core.running == 0 && !core.inbox.is_empty()
+}
+
+/// Whether a job is out.
+fn is_job_out(core: &Core) -> bool
+    ensures { result ≡ job_out_of core.now }
+{
+    core.fetch.is_some() || core.running > 0
 }
 
 /// The cause for which the drain may begin now.
@@ -100,9 +130,10 @@ fn may_fetch(core: &Core) -> bool
     requires stands { Stands core.now }
     ensures fetches { result ≡ fetches_in core.now }
 {
+    let bound = core.bound();
     !core.ended
         && core.fetch.is_none()
         && !core.draining
         && core.bytes < core.limits.bytes
-        && core.bound() >= 1
+        && bound >= 1
 }
