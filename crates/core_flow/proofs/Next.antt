@@ -11,19 +11,23 @@ use Rattle.pipe_types.specs.declared.step.DrainCause.TheVariants.{Sources, Limit
 use Rattle.pipe_types.specs.Numbers.{stage}
 use Rattle.pipe_model.specs.History.{History}
 use Rattle.pipe_model.specs.Legal.{allows, bound}
-use Rattle.pipe_model.specs.Jobs.{fetch_step, may_take_next}
+use Rattle.pipe_model.specs.Jobs.{fetch_step, take_first, allows_some, may_take_next}
+use Rattle.pipe_model.specs.Moves.{first_take}
+use Rattle.pipe_model.specs.Ledger.{due}
+use Rattle.pipe_model.specs.Flow.{inbox}
+use Rattle.pipe_types.specs.declared.numbers.SubNo.{SubNo}
 use Rattle.pipe_model.specs.Moves as model
 use Rattle.core_flow.specs.declared.state.Core.{Core}
 use Rattle.core_flow.specs.declared.state.Settled.{Settled}
 use Rattle.core_flow.specs.declared.drain.Move.{Move}
 use Rattle.core_flow.specs.declared.drain.Move.TheVariants as value
-use Rattle.core_flow.specs.OneEach.{Settings, one_each, the_sub}
+use Rattle.core_flow.specs.OneEach.{Settings, one_each, processor_of, the_sub}
 use Rattle.core_flow.specs.Account.{Account, Accounts, accepted_in}
 use Rattle.core_flow.specs.Moving.{due_in, bound_in, chunk_in, is_job_out, is_drained_in, is_limit_in, may_take_in, may_fetch_in, move_in}
 use Rattle.core_flow.specs.Stands.{Stands, account_of}
 use Rattle.core_flow.specs.Next.{held_in, cause_in, due_of, fetches_in, drained_of, takes_in, job_out_of, drain_by, move_of, seen_as, MayBegin, IsLegalMove}
-use Rattle.core_flow.proofs.Allowed.{bound-is}
-use Rattle.core_flow.proofs.Moving.{move-is, drain_sources-is, drain_limit-is, fetch-is}
+use Rattle.core_flow.proofs.Allowed.{allows-plain, bound-is, due-is}
+use Rattle.core_flow.proofs.Moving.{move-is, drain_sources-is, drain_limit-is, fetch-is, first_take-processor}
 
 none-not : {A : Type 0} → (o : Option A) → is_none o ≡ not (is_some o)
 none-not None = refl
@@ -116,3 +120,112 @@ move_of-is core x =
     (model.or_else (model.if_so (takes-is core x i) (model.Job (stage 2)))
     (model.or_else (model.if_so (fetches-is core x i) (model.Job (stage 1))) (model.if_so (job_out-is core x i) model.JobsOut))))))))
     ∙ (sym (move-is x.settings core.journal.steps (account_of core x.chunk) x.accounts) ∙ ap (λ t. model.move t core.journal.steps) (sym x.shape)))
+
+-- Legality of what the move names
+
+at_least : (n : ℕ) → nat_lt 0 n ≡ true → nat_le 1 n ≡ true
+at_least n e = grind (arith, nat_tests)
+
+itself : (n : ℕ) → (n == n) ≡ true
+itself n = grind (arith, nat_tests)
+
+both : (a b : Bool) → a ≡ true → b ≡ true → (a && b) ≡ true
+both true b e f = f
+both false b e f = cc
+
+ask_legal : (core : Core) (x : Stands core) → nat_lt 0 (due_in x.settings (account_of core x.chunk)) ≡ true
+    → allows core.topology core.journal.steps (Ask the_sub (due_in x.settings (account_of core x.chunk))) ≡ true
+ask_legal core x some =
+    ap (λ t. allows t core.journal.steps (Ask the_sub (due_in x.settings (account_of core x.chunk)))) x.shape
+    ∙ (allows-plain x.settings core.journal.steps (account_of core x.chunk) (Ask the_sub (due_in x.settings (account_of core x.chunk))) x.accounts
+    ∙ both (nat_le 1 (due_in x.settings (account_of core x.chunk))) (due_in x.settings (account_of core x.chunk) == due (one_each x.settings) core.journal.steps the_sub)
+    (at_least (due_in x.settings (account_of core x.chunk)) some)
+    (ap (λ n. due_in x.settings (account_of core x.chunk) == n) (due-is x.settings core.journal.steps (account_of core x.chunk) x.accounts) ∙ itself (due_in x.settings (account_of core x.chunk))))
+
+sources_legal : (core : Core) (x : Stands core) → (not core.draining && core.ended) ≡ true → allows core.topology core.journal.steps (Drain Sources) ≡ true
+sources_legal core x e =
+    ap (λ t. allows t core.journal.steps (Drain Sources)) x.shape ∙ (drain_sources-is x.settings core.journal.steps (account_of core x.chunk) x.accounts ∙ e)
+
+limit_legal : (core : Core) (x : Stands core) → (not core.draining && is_limit_in x.settings (account_of core x.chunk)) ≡ true
+    → allows core.topology core.journal.steps (Drain Limit) ≡ true
+limit_legal core x e =
+    ap (λ t. allows t core.journal.steps (Drain Limit)) x.shape ∙ (drain_limit-is x.settings core.journal.steps (account_of core x.chunk) x.accounts ∙ e)
+
+take_as_first : (s : Settings) (before : History) (units : List (SubNo × ℕ))
+    → allows_some (one_each s) before (take_first (Some (processor_of s)) (stage 2) units) ≡ first_take (one_each s) before (processor_of s) units
+take_as_first s before [] = refl
+take_as_first s before (d ∷ units) = refl
+
+take_legal : (core : Core) (x : Stands core) → may_take_in x.settings (account_of core x.chunk) ≡ true → may_take_next core.topology core.journal.steps (stage 2) ≡ true
+take_legal core x e =
+    ap (λ t. may_take_next t core.journal.steps (stage 2)) x.shape
+    ∙ (take_as_first x.settings core.journal.steps (inbox (one_each x.settings) core.journal.steps (stage 2))
+    ∙ (first_take-processor x.settings core.journal.steps (account_of core x.chunk) x.accounts ∙ e))
+
+fetch_legal : (core : Core) (x : Stands core) → may_fetch_in x.settings (account_of core x.chunk) ≡ true
+    → allows core.topology core.journal.steps (fetch_step core.topology core.journal.steps (stage 1)) ≡ true
+fetch_legal core x e =
+    ap (λ t. allows t core.journal.steps (fetch_step t core.journal.steps (stage 1))) x.shape
+    ∙ (fetch-is x.settings core.journal.steps (account_of core x.chunk) x.accounts ∙ e)
+
+-- the chain of moves over its tests
+abbrev chain_of : (d so l u t f j : Bool) (n : ℕ) → model.Move
+chain_of d so l u t f j n =
+    model.move_or_pause
+    (model.or_else (model.if_so d model.Drained)
+    (model.or_else (model.if_so so (model.StepMove (Drain Sources)))
+    (model.or_else (model.if_so l (model.StepMove (Drain Limit)))
+    (model.or_else (model.if_so u (model.StepMove (Ask the_sub n)))
+    (model.or_else (model.if_so t (model.Job (stage 2))) (model.or_else (model.if_so f (model.Job (stage 1))) (model.if_so j model.JobsOut)))))))
+
+-- a step of the chain passes a test that each of its steps passes
+chain_step : (test : Step → Bool) (d so l u t f j : Bool) (n : ℕ) (step : Step) → model.StepMove step ≡ chain_of d so l u t f j n
+    → (so ≡ true → test (Drain Sources) ≡ true) → (l ≡ true → test (Drain Limit) ≡ true) → (u ≡ true → test (Ask the_sub n) ≡ true) → test step ≡ true
+chain_step test true so l u t f j n step e a b c = cc
+chain_step test false true l u t f j n step e a b c = let is : step ≡ Drain Sources = cc in ap test is ∙ a refl
+chain_step test false false true u t f j n step e a b c = let is : step ≡ Drain Limit = cc in ap test is ∙ b refl
+chain_step test false false false true t f j n step e a b c = let is : step ≡ Ask the_sub n = cc in ap test is ∙ c refl
+chain_step test false false false false true f j n step e a b c = cc
+chain_step test false false false false false true j n step e a b c = cc
+chain_step test false false false false false false true n step e a b c = cc
+chain_step test false false false false false false false n step e a b c = cc
+
+-- a job of the chain is the processor's take or the producer's fetch
+chain_job : (d so l u t f j : Bool) (n : ℕ) (s : StageNo) → model.Job s ≡ chain_of d so l u t f j n → ((s ≡ stage 2) × (t ≡ true)) ⊎ ((s ≡ stage 1) × (f ≡ true))
+chain_job true so l u t f j n s e = cc
+chain_job false true l u t f j n s e = cc
+chain_job false false true u t f j n s e = cc
+chain_job false false false true t f j n s e = cc
+chain_job false false false false true f j n s e = let is : s ≡ stage 2 = cc in inl (is, refl)
+chain_job false false false false false true j n s e = let is : s ≡ stage 1 = cc in inr (is, refl)
+chain_job false false false false false false true n s e = cc
+chain_job false false false false false false false n s e = cc
+
+chain-is : (core : Core) (x : Stands core) → model.move core.topology core.journal.steps
+    ≡ chain_of (is_drained_in (account_of core x.chunk)) (not core.draining && core.ended) (not core.draining && is_limit_in x.settings (account_of core x.chunk))
+    (nat_lt 0 (due_in x.settings (account_of core x.chunk))) (may_take_in x.settings (account_of core x.chunk)) (may_fetch_in x.settings (account_of core x.chunk))
+    (is_job_out (account_of core x.chunk)) (due_in x.settings (account_of core x.chunk))
+chain-is core x = ap (λ t. model.move t core.journal.steps) x.shape ∙ move-is x.settings core.journal.steps (account_of core x.chunk) x.accounts
+
+pub legal_move : (core : Core) (m : Move) → Stands core → seen_as m ≡ model.move core.topology core.journal.steps → IsLegalMove core.topology core.journal.steps m
+legal_move core value.Halted x e = tt
+legal_move core value.Drained x e = tt
+legal_move core (value.Step step) x e =
+    chain_step (allows core.topology core.journal.steps) (is_drained_in (account_of core x.chunk)) (not core.draining && core.ended)
+    (not core.draining && is_limit_in x.settings (account_of core x.chunk)) (nat_lt 0 (due_in x.settings (account_of core x.chunk)))
+    (may_take_in x.settings (account_of core x.chunk)) (may_fetch_in x.settings (account_of core x.chunk)) (is_job_out (account_of core x.chunk))
+    (due_in x.settings (account_of core x.chunk)) step (e ∙ chain-is core x) (sources_legal core x) (limit_legal core x) (ask_legal core x)
+legal_move core (value.Job s) x e =
+    either
+    (chain_job (is_drained_in (account_of core x.chunk)) (not core.draining && core.ended)
+    (not core.draining && is_limit_in x.settings (account_of core x.chunk)) (nat_lt 0 (due_in x.settings (account_of core x.chunk)))
+    (may_take_in x.settings (account_of core x.chunk)) (may_fetch_in x.settings (account_of core x.chunk)) (is_job_out (account_of core x.chunk))
+    (due_in x.settings (account_of core x.chunk)) s (e ∙ chain-is core x))
+  where
+    either : ((s ≡ stage 2) × (may_take_in x.settings (account_of core x.chunk) ≡ true)) ⊎ ((s ≡ stage 1) × (may_fetch_in x.settings (account_of core x.chunk) ≡ true))
+        → MayBegin core.topology core.journal.steps s
+    either (inl takes) = record { begins = inr (ap (may_take_next core.topology core.journal.steps) takes.0 ∙ take_legal core x takes.1) }
+    either (inr fetches) =
+        record { begins = inl (ap (λ v. allows core.topology core.journal.steps (fetch_step core.topology core.journal.steps v)) fetches.0 ∙ fetch_legal core x fetches.1) }
+legal_move core value.JobsOut x e = tt
+legal_move core value.Pause x e = tt
