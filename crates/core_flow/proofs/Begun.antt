@@ -37,6 +37,7 @@ accounts_new s few =
         none = refl;
         places = λ i. refl;
         sent_to = refl;
+        producers = λ i below. absurd (omega arith);
         arrivals = refl;
         contents = λ i below. absurd (omega arith);
       };

@@ -127,6 +127,7 @@ accounts_done s before a replies x may calm =
             ∙ ap (λ xs. slice_get (xs ++ replicate (length a.inbox) (Inbox the_sub)) i)
             (sym (map-append Acked a.outcomes (map outcome_of replies)) ∙ sym (append-nil (map Acked (a.outcomes ++ map outcome_of replies))));
         sent_to = x.queues.sent_to ∙ ap (λ c. map (λ n. (the_sub, n)) (range 0 c)) (sym end.same);
+        producers = λ i below. x.queues.producers i (omega (arith, below, end.same));
         arrivals = x.queues.arrivals ∙ ap (range 0) (sym end.same);
         contents = λ i below.
             ap (content (Done (stage 2) replies ∷ before)) (omega (arith, end.outcomes))

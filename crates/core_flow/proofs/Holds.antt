@@ -30,7 +30,10 @@ use Rattle.pipe_model.specs.Places.{settled_at}
 use Rattle.pipe_journal.specs.Recorded.{Recorded}
 use Rattle.core_flow.specs.declared.state.Core.{Core}
 use Rattle.core_flow.specs.declared.state.Settled.{Settled}
-use Rattle.core_flow.specs.OneEach.{Settings, one_each, the_sub}
+use Rattle.core_flow.specs.OneEach.{Settings, one_each, IsOneEach, the_sub}
+use Rattle.pipe_types.specs.Sound.{IsSound}
+use Rattle.core_flow.proofs.Sounds.{bounded}
+use Rattle.core_flow.proofs.Begun.{empty_account, accounts_new}
 use Rattle.core_flow.specs.Account.{Account, Accounts, accepted_in, taken_in, places_in, range, after_take, after_done}
 use Rattle.core_flow.specs.Moving.{chunk_in}
 use Rattle.core_flow.specs.Parts.{settled_as}
@@ -280,3 +283,34 @@ stands_done core j v t replies at x allowed calm now grown is =
             let known = row-at at replies behind.0 row new in
             ap (λ n. settled_at core.topology (Done t replies ∷ core.journal.steps) (suc n)) behind.1
             ∙ (new_row behind.0 known.1 ∙ (sym now ∙ sym known.0))
+
+-- A new core
+
+pub stands_new : (core : Core) (one : IsOneEach core.topology) → IsSound core.topology → core.journal.steps ≡ []
+    → core.limits.min ≡ one.settings.processor.min → core.limits.max ≡ one.settings.processor.max → core.limits.records ≡ core.topology.record_limit → core.limits.bytes ≡ core.topology.byte_limit
+    → core.settled.items ≡ [] → core.inbox.items ≡ []
+    → Stands (record core { asked = 0; bytes = 0; running = 0; fetch = None; ended = false; draining = false })
+stands_new core one sound empty min max records bytes none nothing =
+    let bounds = bounded one.settings (subst IsSound one.is sound) in
+    let same : core.limits.records ≡ one.settings.whole.record_limit = records ∙ ap (λ (t : Topology). t.record_limit) one.is in
+    record {
+      settings = one.settings;
+      shape = one.is;
+      sound = sound;
+      limits = record {
+        min = min;
+        max = max;
+        records = same;
+        bytes = bytes ∙ ap (λ (t : Topology). t.byte_limit) one.is;
+        ordered = omega (arith, min, max, bounds.ordered);
+        demand = omega (arith, max, bounds.demand);
+        few = omega (arith, same, bounds.few);
+      };
+      chunk = [];
+      running = refl;
+      accounts =
+          subst (λ h. Accounts one.settings h (account_of (record core { asked = 0; bytes = 0; running = 0; fetch = None; ended = false; draining = false }) [])) (sym empty)
+          (subst (λ m. Accounts one.settings [] (record empty_account { outcomes = map (λ (r : Settled). r.outcome) m; inbox = core.inbox.items })) (sym none)
+          (subst (λ m. Accounts one.settings [] (record empty_account { inbox = m })) (sym nothing) (accounts_new one.settings bounds.few)));
+      settled = subst (λ m. AreSettledAt core.topology core.journal.steps m) (sym none) (λ i row here. cc);
+    }

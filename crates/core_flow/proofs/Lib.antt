@@ -18,3 +18,4 @@ pub mod Keeps
 pub mod Messages
 pub mod Holds
 pub mod Next
+pub mod Sounds

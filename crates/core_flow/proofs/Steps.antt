@@ -21,7 +21,7 @@ use Rattle.pipe_types.specs.declared.step.Step.TheVariants.{Ask, Fetch, Accept, 
 use Rattle.pipe_types.specs.Numbers.{stage, post}
 use Rattle.std.specs.List.{list_all}
 use Rattle.pipe_types.specs.Lines.{max_bytes}
-use Rattle.pipe_model.specs.History.{History, bytes_in, incarnation, accepted_bytes}
+use Rattle.pipe_model.specs.History.{History, accepted, bytes_in, incarnation, accepted_bytes}
 use Rattle.pipe_model.specs.Posts.{is_out, out_from}
 use Rattle.pipe_model.specs.Lives.{is_live}
 use Rattle.pipe_model.specs.Flow.{is_empty, deliveries, lost_over, view_of, sent, sent_to, count_on, delivered_to, place}
@@ -33,7 +33,8 @@ use Rattle.core_flow.proofs.Lists.{range-append, numbers_from-range}
 use Rattle.core_flow.proofs.Sends.{sent_as, count_on-sent, delivered_to-sent}
 use Rattle.core_flow.proofs.Accepting.{sends_accepted, place_more, more_places, place_zero}
 use Rattle.core_flow.proofs.Places.{front}
-use Rattle.pipe_model.specs.Content.{content}
+use Rattle.pipe_model.specs.Content.{content, producer_of, is_among_next}
+use Rattle.pipe_types.specs.declared.numbers.StageNo.{StageNo}
 use Rattle.core_flow.proofs.Contents.{length-new_messages, contents_accepted}
 use Rattle.core_flow.proofs.Plain.{plain_ask, plain_fetch, plain_accept, plain_dispatch, plain_take, plain_done, plain_end, plain_drain}
 use Rattle.core_flow.proofs.Allowed.{allows-plain, not_true, and_left, and_right, bound-is, due-is}
@@ -82,6 +83,7 @@ accounts_ask s before a n x may =
         none = x.queues.none;
         places = x.queues.places;
         sent_to = x.queues.sent_to;
+        producers = x.queues.producers;
         arrivals = x.queues.arrivals;
         contents = x.queues.contents;
       };
@@ -153,6 +155,7 @@ accounts_fetch s before a n x may =
         none = x.queues.none;
         places = x.queues.places;
         sent_to = x.queues.sent_to;
+        producers = x.queues.producers;
         arrivals = x.queues.arrivals;
         contents = x.queues.contents;
       };
@@ -193,6 +196,7 @@ accounts_end s before a how x may =
         none = x.queues.none;
         places = x.queues.places;
         sent_to = x.queues.sent_to;
+        producers = x.queues.producers;
         arrivals = x.queues.arrivals;
         contents = x.queues.contents;
       };
@@ -234,6 +238,7 @@ accounts_control_end s before a how x may =
         none = x.queues.none;
         places = x.queues.places;
         sent_to = x.queues.sent_to;
+        producers = x.queues.producers;
         arrivals = x.queues.arrivals;
         contents = x.queues.contents;
       };
@@ -274,6 +279,7 @@ accounts_drain s before a cause x may =
         none = x.queues.none;
         places = x.queues.places;
         sent_to = x.queues.sent_to;
+        producers = x.queues.producers;
         arrivals = x.queues.arrivals;
         contents = x.queues.contents;
       };
@@ -361,6 +367,14 @@ accept_legal s before a records x may told =
 accepted_more : (a : Account) (records : List (List ℕ)) → accepted_in (after_accept records a) ≡ accepted_in a + length records
 accepted_more a records = simp (length-append, length-new_messages) (omega arith)
 
+-- what was accepted came from the producer
+came_in : (b c m i : ℕ) (old : Option StageNo) → b ≡ c → (i < c → old ≡ Some (stage 1)) → i < c + m → (if is_among_next b m (suc i) then Some (stage 1) else old) ≡ Some (stage 1)
+came_in b c m i old same before below = by_test (is_among_next b m (suc i)) refl
+  where
+    by_test : (t : Bool) → is_among_next b m (suc i) ≡ t → (if t then Some (stage 1) else old) ≡ Some (stage 1)
+    by_test true e = refl
+    by_test false e = before (grind (arith, nat_tests))
+
 inbox_more : (a : Account) (records : List (List ℕ)) → length (a.inbox ++ new_messages (accepted_in a) records) ≡ length a.inbox + length records
 inbox_more a records = simp (length-append, length-new_messages)
 
@@ -412,6 +426,7 @@ accounts_accept s before a records x may =
             ∙ (sym (map-append (λ n. (the_sub, n)) (range 0 (accepted_in a)) (range (accepted_in a) (length records)))
             ∙ (ap (λ b. map (λ n. (the_sub, n)) (range 0 (accepted_in a) ++ range b (length records))) (sym begin)
             ∙ (ap (map (λ n. (the_sub, n))) (range-append 0 (accepted_in a) (length records)) ∙ ap (λ c. map (λ n. (the_sub, n)) (range 0 c)) (sym more))))));
+        producers = λ i below. came_in (accepted before) (accepted_in a) (length records) i (producer_of before (suc i)) x.counts.accepted (x.queues.producers i) (omega (arith, below, more));
         arrivals =
             rw (x.queues.arrivals, x.counts.accepted, numbers_from-range)
             (ap (λ b. range 0 (accepted_in a) ++ range b (length records)) (sym begin)
@@ -520,6 +535,7 @@ accounts_take s before a k x may =
             ∙ (ap (λ m. slice_get ((map Acked a.outcomes ++ replicate m (Running (stage 2))) ++ replicate (length a.inbox - k) (Inbox the_sub)) i) (sym split.taken)
             ∙ ap (λ w. slice_get ((map Acked a.outcomes ++ replicate (length (take k a.inbox)) (Running (stage 2))) ++ replicate w (Inbox the_sub)) i) (sym split.left));
         sent_to = x.queues.sent_to ∙ ap (λ c. map (λ n. (the_sub, n)) (range 0 c)) (sym split.same);
+        producers = λ i below. x.queues.producers i (omega (arith, below, split.same));
         arrivals = x.queues.arrivals ∙ ap (range 0) (sym split.same);
         contents = λ i below.
             let whole : take k a.inbox ++ drop k a.inbox ≡ a.chunk ++ a.inbox = take-append-drop k a.inbox ∙ ap (λ c. c ++ a.inbox) (sym told.idle) in

@@ -12,7 +12,7 @@ use Rattle.pipe_types.specs.Numbers.{stage, post}
 use Rattle.pipe_model.specs.History.{History, incarnation, now, asked, accepted, accepted_bytes, bytes_in}
 use Rattle.pipe_model.specs.Posts.{is_out, out_from, last_take}
 use Rattle.pipe_model.specs.Lives.{death, generation}
-use Rattle.pipe_model.specs.Content.{content, arrivals, gathers, new_message}
+use Rattle.pipe_model.specs.Content.{producer_of as taker_of, content, arrivals, gathers, new_message}
 use Rattle.pipe_model.specs.Flow.{place, sent, sent_to}
 use Rattle.pipe_model.specs.Ledger.{handled}
 use Rattle.pipe_model.specs.Work.{taken_units, count}
@@ -105,6 +105,7 @@ pub record Queues (s : Settings) (before : History) (a : Account) : Type 0 where
   pub none : place (one_each s) before 0 ≡ None
   pub places : (i : ℕ) → place (one_each s) before (suc i) ≡ slice_get (places_in a) i
   pub sent_to : sent_to (one_each s) before (stage 2) ≡ map (λ n. (the_sub, n)) (range 0 (accepted_in a))
+  pub producers : (i : ℕ) → i < accepted_in a → taker_of before (suc i) ≡ Some (stage 1)
   pub arrivals : arrivals before (stage 1) ≡ range 0 (accepted_in a)
   pub contents : (i : ℕ) → i < length (a.chunk ++ a.inbox) → content before (suc (length a.outcomes + i)) ≡ slice_get (a.chunk ++ a.inbox) i
 

@@ -4,3 +4,4 @@ pub mod Moving
 pub mod Stands
 pub mod Parts
 pub mod Next
+pub mod Limited

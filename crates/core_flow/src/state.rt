@@ -6,6 +6,7 @@ ghost use Rattle.pipe_model.specs.History.{accepted};
 ghost use Rattle.pipe_model.specs.Legal.{bound};
 ghost use Rattle.pipe_types.specs.Sound.{IsSound};
 ghost use Rattle.core_flow.specs.OneEach.{IsOneEach};
+ghost use Rattle.core_flow.specs.Limited.{AreLimits};
 ghost use Rattle.core_flow.specs.Stands.{Stands};
 
 use pipe_journal::Journal;
@@ -55,6 +56,52 @@ pub struct Core {
 }
 
 impl Core {
+    /// A core with an empty journal. What it takes later comes from `alloc`.
+    pub fn new(alloc: Global, topology: Topology) -> Result<Core, (Topology, AllocError)>
+        requires sound { IsSound topology }
+        requires one_each { IsOneEach topology }
+        ensures topology { IfOk result (λ core. core.topology ≡ topology) }
+        ensures journal { IfOk result (λ core. core.journal.steps ≡ []) }
+        ensures stands { IfOk result (λ core. Stands core) }
+        ensures returned { IfErr result (λ refused. refused.0 ≡ topology) }
+    {
+        let limits = limits_of(&topology);
+        Ok(Core {
+            topology,
+            journal: Journal::new(alloc),
+            limits,
+            asked: 0,
+            bytes: 0,
+            settled: Vec::new(alloc),
+            running: 0,
+            inbox: VecDeque::new(alloc),
+            fetch: None,
+            ended: false,
+            draining: false,
+            alloc,
+        })
+    }
+
+    /// The topology and the journal.
+    pub fn into_parts(self) -> (Topology, Journal)
+        ensures topology { result.0 ≡ self.topology }
+        ensures journal { result.1 ≡ self.journal }
+    {
+        (self.topology, self.journal)
+    }
+
+    pub fn journal(&self) -> &Journal
+        ensures { result.now ≡ self.now.journal }
+    {
+        &self.journal
+    }
+
+    pub fn topology(&self) -> &Topology
+        ensures { result.now ≡ self.now.topology }
+    {
+        &self.topology
+    }
+
     /// How many messages were accepted.
     pub fn accepted(&self) -> u32
         requires stands { Stands self.now }
@@ -72,5 +119,21 @@ impl Core {
         let left = self.limits.records - accepted - self.fetch.unwrap_or(0);
         let open = self.asked - accepted as u64;
         open.min(left.min(1000) as u64) as u32
+    }
+}
+
+/// What bounds the steps of such a topology.
+fn limits_of(topology: &Topology) -> Limits
+    requires one_each { IsOneEach topology.now }
+    ensures limits { AreLimits topology.now result }
+{
+    match topology.stages.as_slice() {
+        [_, processor] => Limits {
+            min: processor.min,
+            max: processor.max,
+            records: topology.record_limit,
+            bytes: topology.byte_limit,
+        },
+        _ => unreachable!(),
     }
 }
