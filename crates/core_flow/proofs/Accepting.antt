@@ -1,31 +1,29 @@
 -- Records that are taken in are sent on at once, where the processor asked for as many.
-use Rattle.std.proofs.Common.{◌≡◌, ℕ, zero, suc, ◌+◌, ◌-◌, ◌<◌, ◌≤◌, List, [], ◌∷◌, ◌++◌, length, take, drop, map, replicate, Bool, true, false, refl, ap, sym, ◌∙◌, Some, None, Option, arith, subst, add-zero, inl, inr}
-use Rattle.std.specs.Prelude.{filter, slice_get, if◌then◌else◌, ◌==◌, nat_lt, nat_le, ◌&&◌, option_map, ◌⊎◌}
+use Rattle.std.proofs.Common.{◌≡◌, ℕ, zero, suc, ◌+◌, ◌-◌, ◌<◌, ◌≤◌, List, [], ◌∷◌, ◌++◌, length, map, replicate, Bool, true, false, refl, ap, sym, ◌∙◌, Some, None, Option, arith, subst, inl, inr}
+use Rattle.std.specs.Prelude.{filter, slice_get, option_map, ◌⊎◌}
 use Rattle.std.proofs.lemmas.Bool.Decides.{nat_tests}
 use Rattle.std.proofs.lemmas.List.Elements.{filter-append}
-use Rattle.std.proofs.lemmas.List.{length-map, length-append, length-replicate, map-append, replicate-append-replicate, append_assoc}
+use Rattle.std.proofs.lemmas.List.{length-replicate, replicate-append-replicate, append_assoc}
 use Rattle.std.proofs.lemmas.Option.{slice_get_past}
-use Rattle.pipe_types.specs.declared.numbers.StageNo.{StageNo}
 use Rattle.pipe_types.specs.declared.numbers.SubNo.{SubNo}
 use Rattle.pipe_types.specs.declared.room.Sent.{Sent}
 use Rattle.pipe_types.specs.declared.room.Room.{Room}
 use Rattle.pipe_types.specs.declared.topology.Dispatch.TheVariants.{Demand}
 use Rattle.pipe_types.specs.Dispatchers.{sends}
 use Rattle.pipe_types.specs.declared.message.Place.{Place}
-use Rattle.pipe_types.specs.declared.message.Place.TheVariants.{Waiting, Inbox, Running, Acked}
+use Rattle.pipe_types.specs.declared.message.Place.TheVariants.{Waiting, Inbox}
 use Rattle.pipe_types.specs.declared.step.Step.TheVariants.{Accept, Dispatch}
 use Rattle.pipe_types.specs.Numbers.{stage}
 use Rattle.pipe_types.specs.Stages.{spec_of}
 use Rattle.pipe_model.specs.History.{History, accepted, asked}
-use Rattle.pipe_model.specs.Content.{arrivals, numbers_from, is_among_next}
-use Rattle.pipe_model.specs.Lives.{live_subs}
-use Rattle.pipe_model.specs.Flow.{place, waits_in, waiting, deliveries, rooms_by, index_in, sent, view_of, partition_in, accepted_to, dispatched, waiting_after, subs_of, lost_over, among}
+use Rattle.pipe_model.specs.Content.{arrivals, is_among_next}
+use Rattle.pipe_model.specs.Flow.{place, waits_in, waiting, deliveries, rooms_by, index_in, sent, view_of, partition_in, accepted_to, dispatched, subs_of, lost_over}
 use Rattle.core_flow.specs.OneEach.{Settings, one_each, producer_of, the_sub}
-use Rattle.core_flow.specs.Account.{Account, IsPlain, Counts, Queues, range, taken_in, accepted_in, places_in}
-use Rattle.core_flow.proofs.Lists.{below_or_behind, numbers_from-range, filter-range_none, filter-range_all, range-append, slice_get-append_left, slice_get-append_right}
+use Rattle.core_flow.specs.Account.{Account, IsPlain, Counts, Queues, range, accepted_in, places_in}
+use Rattle.core_flow.proofs.Lists.{below_or_behind, numbers_from-range, filter-range_none, filter-range_all, slice_get-append_left, slice_get-append_right}
 use Rattle.core_flow.proofs.Alive.{live_subs-producer}
 use Rattle.core_flow.proofs.Plain.{plain_accept}
-use Rattle.core_flow.proofs.Sends.{the_room, sent_as, sends-alone, subs_of-sent}
+use Rattle.core_flow.proofs.Sends.{sent_as, sends-alone, subs_of-sent}
 use Rattle.core_flow.proofs.Places.{front, none_waits, length-places, slice_get-replicate}
 
 -- an accepted message has a place
@@ -74,12 +72,12 @@ pub waiting_accepted : (s : Settings) (before : History) (a : Account) (records 
     → waiting (one_each s) (Accept (stage 1) records ∷ before) (stage 1) ≡ range (accepted_in a) (length records)
 waiting_accepted s before a records counts q =
     let first : filter (waits_now s before records) (range 0 (accepted_in a)) ≡ [] =
-        filter-range_none (waits_now s before records) 0 (accepted_in a)
-        (λ i below. ap (waits_now s before records) (omega arith) ∙ old_waits s before a records counts q i below) in
+    filter-range_none (waits_now s before records) 0 (accepted_in a)
+    (λ i below. ap (waits_now s before records) (omega arith) ∙ old_waits s before a records counts q i below) in
     let second : filter (waits_now s before records) (range (accepted_in a) (length records)) ≡ range (accepted_in a) (length records) =
-        filter-range_all (waits_now s before records) (accepted_in a) (length records) (new_waits_now s before a records counts q) in
+    filter-range_all (waits_now s before records) (accepted_in a) (length records) (new_waits_now s before a records counts q) in
     let came : arrivals (Accept (stage 1) records ∷ before) (stage 1) ≡ range 0 (accepted_in a) ++ range (accepted_in a) (length records) =
-        rw (q.arrivals, counts.accepted, numbers_from-range) refl in
+    rw (q.arrivals, counts.accepted, numbers_from-range) refl in
     ap (filter (waits_now s before records)) came
     ∙ (filter-append (waits_now s before records) (range 0 (accepted_in a)) (range (accepted_in a) (length records))
     ∙ (ap (λ xs. xs ++ filter (waits_now s before records) (range (accepted_in a) (length records))) first ∙ second))
@@ -146,13 +144,13 @@ place_more s before a records plain counts q fits i = cases (below_or_behind i (
         let some : (p : Place) × (slice_get (places_in a) i ≡ Some p) = has_place a i below in
         let here : place (one_each s) before (suc i) ≡ Some some.0 = q.places i ∙ some.1 in
         let still : place (one_each s) (Accept (stage 1) records ∷ before) (suc i) ≡ Some some.0 =
-            old_stays (accepted before) (length records) (suc i) some.0 (place (one_each s) before (suc i)) here ∙ here in
+        old_stays (accepted before) (length records) (suc i) some.0 (place (one_each s) before (suc i)) here ∙ here in
         let idle : waits_in (stage 1) (Some some.0) ≡ false = ap (waits_in (stage 1)) (sym some.1) ∙ none_waits a i in
         let left : slice_get (places_in a ++ replicate (length records) (Inbox the_sub)) i ≡ Some some.0 =
-            slice_get-append_left (places_in a) (replicate (length records) (Inbox the_sub)) i (omega (arith, length-places a)) ∙ some.1 in
+        slice_get-append_left (places_in a) (replicate (length records) (Inbox the_sub)) i (omega (arith, length-places a)) ∙ some.1 in
         place_sent s before records (suc i) (Some some.0) still
         ∙ (ap Some (moved_none (deliveries (one_each s) (Accept (stage 1) records ∷ before) (stage 1))
-            (lost_over (one_each s) (Accept (stage 1) records ∷ before) (view_of (one_each s) (Accept (stage 1) records ∷ before)) (stage 1)) (suc i) some.0 idle)
+        (lost_over (one_each s) (Accept (stage 1) records ∷ before) (view_of (one_each s) (Accept (stage 1) records ∷ before)) (stage 1)) (suc i) some.0 idle)
         ∙ sym left)
 
     none_before : (j : ℕ) → place (one_each s) before (suc (accepted_in a + j)) ≡ None
@@ -168,14 +166,14 @@ place_more s before a records plain counts q fits i = cases (below_or_behind i (
         ≡ slice_get (places_in a ++ replicate (length records) (Inbox the_sub)) (accepted_in a + j)
     new j below =
         let waits : place (one_each s) (Accept (stage 1) records ∷ before) (suc (accepted_in a + j)) ≡ Some (Waiting (stage 1)) =
-            new_waits (accepted before) (length records) (suc (accepted_in a + j)) (place (one_each s) before (suc (accepted_in a + j))) (none_before j)
-            (rw counts.accepted (grind (arith, nat_tests))) in
+        new_waits (accepted before) (length records) (suc (accepted_in a + j)) (place (one_each s) before (suc (accepted_in a + j))) (none_before j)
+        (rw counts.accepted (grind (arith, nat_tests))) in
         let subs : (rest : List SubNo) × (subs_of (map sent_as (range (accepted_in a) (length records))) (suc (accepted_in a + j)) ≡ the_sub ∷ rest) =
-            subs_of-sent (accepted_in a) (length records) j below in
+        subs_of-sent (accepted_in a) (length records) j below in
         place_sent s before records (suc (accepted_in a + j)) (Some (Waiting (stage 1))) waits
         ∙ (ap Some (moved_new (deliveries (one_each s) (Accept (stage 1) records ∷ before) (stage 1))
-            (lost_over (one_each s) (Accept (stage 1) records ∷ before) (view_of (one_each s) (Accept (stage 1) records ∷ before)) (stage 1)) (suc (accepted_in a + j)) subs.0
-            (ap (λ units. subs_of units (suc (accepted_in a + j))) (sends_accepted s before a records plain counts q fits) ∙ subs.1))
+        (lost_over (one_each s) (Accept (stage 1) records ∷ before) (view_of (one_each s) (Accept (stage 1) records ∷ before)) (stage 1)) (suc (accepted_in a + j)) subs.0
+        (ap (λ units. subs_of units (suc (accepted_in a + j))) (sends_accepted s before a records plain counts q fits) ∙ subs.1))
         ∙ (sym (slice_get-replicate (Inbox the_sub) (length records) j below) ∙ sym (right j)))
 
     later : (k : ℕ) → place (one_each s) (Dispatch (stage 1) ∷ Accept (stage 1) records ∷ before) (suc (accepted_in a + (length records + k)))

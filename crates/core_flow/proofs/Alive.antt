@@ -1,9 +1,8 @@
 -- Where nothing was killed, both stages and their one subscription are live.
-use Rattle.std.proofs.Common.{◌≡◌, ℕ, List, [], ◌∷◌, Bool, true, false, refl, Some, None}
-use Rattle.pipe_types.specs.declared.numbers.StageNo.{StageNo}
+use Rattle.std.proofs.Common.{◌≡◌, [], ◌∷◌, true, refl}
 use Rattle.pipe_types.specs.Numbers.{stage}
 use Rattle.pipe_model.specs.History.{History}
-use Rattle.pipe_model.specs.Lives.{death, generation, is_live, is_live_sub, live_subs}
+use Rattle.pipe_model.specs.Lives.{is_live, is_live_sub, live_subs}
 use Rattle.core_flow.specs.OneEach.{Settings, one_each, the_sub}
 use Rattle.core_flow.specs.Account.{IsPlain}
 

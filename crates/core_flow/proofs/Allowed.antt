@@ -1,18 +1,14 @@
 -- What it takes that a step may come, in terms of the account.
-use Rattle.std.proofs.Common.{◌≡◌, ℕ, zero, suc, ◌+◌, ◌-◌, ◌<◌, ◌≤◌, List, [], ◌∷◌, ◌++◌, length, map, Bool, true, false, refl, ap, sym, ◌∙◌, Some, None, Option, arith, subst}
-use Rattle.std.specs.Prelude.{filter, if◌then◌else◌, ◌==◌, nat_lt, nat_le, ◌&&◌, ◌||◌, not, min, is_some, unwrap_or}
-use Rattle.std.proofs.lemmas.Bool.Decides.{nat_tests}
-use Rattle.std.proofs.lemmas.Bool.{eqb-true, ltb-true}
+use Rattle.std.proofs.Common.{◌≡◌, ◌-◌, [], Bool, true, false, refl, ap, ◌∙◌, arith}
+use Rattle.std.specs.Prelude.{filter, ◌&&◌, not, unwrap_or}
 use Rattle.pipe_types.specs.declared.step.Step.{Step}
-use Rattle.pipe_types.specs.declared.step.Step.TheVariants.{Ask, Fetch, Accept, SourceEnd, Dispatch, Take, Done, Drain}
-use Rattle.pipe_types.specs.Numbers.{stage, post}
-use Rattle.pipe_model.specs.History.{History, asked, accepted}
-use Rattle.pipe_model.specs.Lives.{live_subs, is_live_sub}
-use Rattle.pipe_model.specs.Ledger.{due, handled}
-use Rattle.pipe_model.specs.Flow.{place, waiting, waits_in, room, open_demand, sent}
-use Rattle.pipe_model.specs.Legal.{allows, may_come, owed, passes, is_late, bound, fetches_out, fetch_out}
+use Rattle.pipe_types.specs.Numbers.{stage}
+use Rattle.pipe_model.specs.History.{History}
+use Rattle.pipe_model.specs.Ledger.{due}
+use Rattle.pipe_model.specs.Flow.{place, waiting, waits_in, room}
+use Rattle.pipe_model.specs.Legal.{allows, may_come, bound, fetches_out}
 use Rattle.core_flow.specs.OneEach.{Settings, one_each, the_sub}
-use Rattle.core_flow.specs.Account.{Account, Accounts, IsPlain, Counts, Queues, Jobs, range, accepted_in, taken_in, places_in}
+use Rattle.core_flow.specs.Account.{Account, Accounts, Queues, accepted_in}
 use Rattle.core_flow.specs.Moving.{due_in, bound_in}
 use Rattle.core_flow.proofs.Alive.{sub_lives, live_subs-producer}
 use Rattle.core_flow.proofs.Lists.{filter-range_none}

@@ -1,26 +1,26 @@
 -- A chunk that is answered is acknowledged, message by message.
-use Rattle.std.proofs.Common.{◌≡◌, ℕ, zero, suc, ◌+◌, ◌-◌, ◌<◌, ◌≤◌, List, [], ◌∷◌, ◌++◌, length, take, drop, map, replicate, Bool, true, false, refl, ap, sym, ◌∙◌, Some, None, Option, arith, subst, inl, inr}
-use Rattle.std.specs.Prelude.{filter, slice_get, if◌then◌else◌, ◌==◌, nat_lt, nat_le, ◌&&◌, ◌||◌, option_map, ◌⊎◌}
+use Rattle.std.proofs.Common.{◌≡◌, ℕ, zero, suc, ◌+◌, ◌<◌, List, [], ◌∷◌, ◌++◌, length, map, replicate, Bool, true, false, refl, ap, sym, ◌∙◌, Some, arith, inl, inr}
+use Rattle.std.specs.Prelude.{filter, slice_get, ◌==◌, option_map, ◌⊎◌}
 use Rattle.std.proofs.lemmas.Bool.Decides.{nat_tests}
 use Rattle.std.proofs.lemmas.List.Elements.{filter-append}
-use Rattle.std.proofs.lemmas.List.{length-map, length-append, length-replicate, append-nil, map-append}
+use Rattle.std.proofs.lemmas.List.{length-map, length-append, length-replicate, append-nil}
 use Rattle.std.proofs.lemmas.Option.{slice_get_past}
 use Rattle.pipe_types.specs.declared.numbers.SubNo.{SubNo}
 use Rattle.pipe_types.specs.declared.message.Outcome.{Outcome}
 use Rattle.pipe_types.specs.declared.message.Reply.{Reply}
 use Rattle.pipe_types.specs.declared.message.Reply.TheVariants.{Pass, Failed as FailedReply, Raised, Crashed}
 use Rattle.pipe_types.specs.declared.message.Place.{Place}
-use Rattle.pipe_types.specs.declared.message.Place.TheVariants.{Waiting, Inbox, Running, Acked}
+use Rattle.pipe_types.specs.declared.message.Place.TheVariants.{Inbox, Running, Acked}
 use Rattle.pipe_types.specs.declared.step.Step.TheVariants.{Done}
 use Rattle.pipe_types.specs.Numbers.{stage}
 use Rattle.pipe_types.specs.Handlers.{outcome_of, is_crashed}
 use Rattle.pipe_model.specs.History.{History}
 use Rattle.pipe_model.specs.Content.{has_crash}
-use Rattle.pipe_model.specs.Flow.{place, sent_to, view_of, chunk_by, runs_in, reply_to, answered, done}
+use Rattle.pipe_model.specs.Flow.{place, view_of, chunk_by, runs_in, reply_to, answered, done}
 use Rattle.core_flow.specs.OneEach.{Settings, one_each, the_sub}
-use Rattle.core_flow.specs.Account.{Account, Queues, range, taken_in, accepted_in, places_in, after_done}
+use Rattle.core_flow.specs.Account.{Account, Queues, range, taken_in, accepted_in, places_in}
 use Rattle.core_flow.proofs.Lists.{below_or_behind, filter-range_none, filter-range_all, range-append, changes-append, slice_get-append_left, slice_get-append_right}
-use Rattle.core_flow.proofs.Places.{seconds-pairs, slice_get-replicate, front, length-front, fails-append, fails-acked, fails-replicate}
+use Rattle.core_flow.proofs.Places.{seconds-pairs, slice_get-replicate, front, length-front, fails-acked, fails-replicate}
 
 abbrev runs_here : Settings → History → ℕ → Bool
 runs_here s before n = runs_in (stage 2) (place (one_each s) before n)
@@ -59,14 +59,14 @@ chunk_numbers : (s : Settings) (before : History) (a : Account) → Queues s bef
     → filter (runs_here s before) (range 0 (accepted_in a)) ≡ range (length a.outcomes) (length a.chunk)
 chunk_numbers s before a q =
     let ended : filter (runs_here s before) (range 0 (length a.outcomes)) ≡ [] =
-        filter-range_none (runs_here s before) 0 (length a.outcomes)
-        (λ i below. runs_here-is s before a q (suc (0 + i)) i (omega arith) ∙ ended_idle a i below) in
+    filter-range_none (runs_here s before) 0 (length a.outcomes)
+    (λ i below. runs_here-is s before a q (suc (0 + i)) i (omega arith) ∙ ended_idle a i below) in
     let runs : filter (runs_here s before) (range (length a.outcomes) (length a.chunk)) ≡ range (length a.outcomes) (length a.chunk) =
-        filter-range_all (runs_here s before) (length a.outcomes) (length a.chunk)
-        (λ j below. runs_here-is s before a q (suc (length a.outcomes + j)) (length a.outcomes + j) refl ∙ ap (runs_in (stage 2)) (chunk_place a j below)) in
+    filter-range_all (runs_here s before) (length a.outcomes) (length a.chunk)
+    (λ j below. runs_here-is s before a q (suc (length a.outcomes + j)) (length a.outcomes + j) refl ∙ ap (runs_in (stage 2)) (chunk_place a j below)) in
     let idle : filter (runs_here s before) (range (taken_in a) (length a.inbox)) ≡ [] =
-        filter-range_none (runs_here s before) (taken_in a) (length a.inbox)
-        (λ j below. runs_here-is s before a q (suc (taken_in a + j)) (taken_in a + j) refl ∙ inbox_idle a j) in
+    filter-range_none (runs_here s before) (taken_in a) (length a.inbox)
+    (λ j below. runs_here-is s before a q (suc (taken_in a + j)) (taken_in a + j) refl ∙ inbox_idle a j) in
     let start : 0 + length a.outcomes ≡ length a.outcomes = omega arith in
     let begin : 0 + taken_in a ≡ taken_in a = omega arith in
     ap (filter (runs_here s before)) (sym (range-append 0 (taken_in a) (length a.inbox)))
@@ -150,7 +150,7 @@ place_answered s before a replies q calm same i =
     running j (inl below) =
         ap (option_map (done false (range (length a.outcomes) (length a.chunk)) replies (stage 2) (suc (length a.outcomes + j)))) (slice_get-replicate (Running (stage 2)) (length a.chunk) j below)
         ∙ (ap (λ r. Some (answered false (stage 2) r))
-            (ap (λ m. reply_to (range (length a.outcomes) m) replies (suc (length a.outcomes + j))) (sym same) ∙ reply_to-range (length a.outcomes) replies j (omega (arith, same)))
+        (ap (λ m. reply_to (range (length a.outcomes) m) replies (suc (length a.outcomes + j))) (sym same) ∙ reply_to-range (length a.outcomes) replies j (omega (arith, same)))
         ∙ outcome_at replies j calm (omega (arith, same)))
     running j (inr over) =
         let past : j ≡ length a.chunk + over.0 = over.1 in

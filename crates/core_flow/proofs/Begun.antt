@@ -1,6 +1,6 @@
 -- An empty journal comes to an empty account.
-use Rattle.std.proofs.Common.{◌≡◌, ℕ, ◌*◌, ◌<◌, ◌≤◌, List, [], ◌∷◌, Bool, true, false, refl, Some, None, arith, length}
-use Rattle.core_flow.specs.OneEach.{Settings, one_each, the_sub}
+use Rattle.std.proofs.Common.{◌≤◌, [], false, refl, None, arith}
+use Rattle.core_flow.specs.OneEach.{Settings}
 use Rattle.core_flow.specs.Account.{Account, Accounts}
 
 abbrev pub empty_account : Account

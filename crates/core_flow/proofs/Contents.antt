@@ -1,10 +1,10 @@
 -- The messages of a chunk and of an inbox are those that the journal holds.
-use Rattle.std.proofs.Common.{◌≡◌, ℕ, zero, suc, ◌+◌, ◌-◌, ◌<◌, ◌≤◌, List, [], ◌∷◌, ◌++◌, length, take, drop, map, replicate, Bool, true, false, refl, ap, sym, ◌∙◌, Some, None, Option, arith, subst, inl, inr}
-use Rattle.std.specs.Prelude.{filter, slice_get, if◌then◌else◌, ◌==◌, nat_lt, nat_le, ◌&&◌, ◌||◌, option_map, ◌⊎◌}
+use Rattle.std.proofs.Common.{◌≡◌, ℕ, zero, suc, ◌+◌, ◌-◌, ◌<◌, ◌≤◌, List, [], ◌∷◌, ◌++◌, length, Bool, true, false, refl, ap, sym, ◌∙◌, Some, None, Option, arith, inl, inr}
+use Rattle.std.specs.Prelude.{slice_get, if◌then◌else◌, ◌==◌, nat_lt, ◌⊎◌}
 use Rattle.std.specs.List.{filter_map, cons_option}
 use Rattle.std.proofs.lemmas.Bool.Decides.{nat_tests}
 use Rattle.std.proofs.lemmas.Bool.{eqb-true}
-use Rattle.std.proofs.lemmas.List.{length-append, append_assoc}
+use Rattle.std.proofs.lemmas.List.{length-append}
 use Rattle.pipe_types.specs.declared.numbers.StageNo.{StageNo}
 use Rattle.pipe_types.specs.declared.message.Message.{Message}
 use Rattle.pipe_types.specs.declared.message.Reply.{Reply}
@@ -74,7 +74,7 @@ messages_of-range before b [] h = refl
 messages_of-range before b (x ∷ xs) h =
     let here : content before (b + 1) ≡ Some x = ap (content before) (omega arith) ∙ h 0 (omega arith) in
     let rest : messages_of before (range (b + 1) (length xs)) ≡ xs =
-        messages_of-range before (b + 1) xs (λ i below. ap (content before) (omega arith) ∙ h (suc i) (omega arith)) in
+    messages_of-range before (b + 1) xs (λ i below. ap (content before) (omega arith) ∙ h (suc i) (omega arith)) in
     ap (λ c. cons_option c (filter_map (content before) (range (b + 1) (length xs)))) here ∙ ap (λ tail. x ∷ tail) rest
 
 -- New messages
@@ -115,7 +115,7 @@ contents_accepted before b c xs records count all old i below = cases (below_or_
         let fits : behind.0 < length records = omega (arith, is, lengths, below) in
         let number : suc (b + i) ≡ suc (c + behind.0) = omega (arith, is, all) in
         let new : fresh (stage 1) (accepted before) records (suc (b + i)) ≡ slice_get (new_messages c records) behind.0 =
-            ap (λ m. fresh (stage 1) m records (suc (b + i))) count ∙ (ap (fresh (stage 1) c records) number ∙ fresh_new c behind.0 records fits) in
+        ap (λ m. fresh (stage 1) m records (suc (b + i))) count ∙ (ap (fresh (stage 1) c records) number ∙ fresh_new c behind.0 records fits) in
         some (slice_get (new_messages c records) behind.0) (has (new_messages c records) behind.0 (omega (arith, length-new_messages c records))) new
         ∙ (sym (slice_get-append_right xs (new_messages c records) behind.0) ∙ ap (slice_get (xs ++ new_messages c records)) (sym is))
       where

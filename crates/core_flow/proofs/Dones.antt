@@ -1,25 +1,22 @@
 -- An answer to a chunk keeps the account.
-use Rattle.std.proofs.Common.{◌≡◌, ℕ, zero, suc, ◌+◌, ◌-◌, ◌*◌, ◌<◌, ◌≤◌, List, [], ◌∷◌, ◌++◌, length, take, drop, map, replicate, Bool, true, false, refl, ap, sym, ◌∙◌, Some, None, Option, arith, subst, inl, inr}
-use Rattle.std.specs.Prelude.{slice_get, if◌then◌else◌, ◌==◌, nat_lt, nat_le, ◌&&◌, ◌||◌, not, is_some, unwrap_or, option_map}
+use Rattle.std.proofs.Common.{◌≡◌, ℕ, suc, ◌+◌, ◌<◌, List, ◌∷◌, ◌++◌, length, map, replicate, Bool, true, false, refl, ap, sym, ◌∙◌, Some, None, arith}
+use Rattle.std.specs.Prelude.{slice_get, if◌then◌else◌, ◌==◌, nat_lt, ◌&&◌}
 use Rattle.std.proofs.lemmas.Bool.Decides.{nat_tests}
 use Rattle.std.proofs.lemmas.List.{length-append, length-map, append-nil, map-append}
 use Rattle.std.proofs.lemmas.Option.{slice_get_within}
-use Rattle.pipe_types.specs.declared.message.Message.{Message}
 use Rattle.pipe_types.specs.declared.message.Reply.{Reply}
-use Rattle.pipe_types.specs.declared.message.Place.TheVariants.{Inbox, Running, Acked}
+use Rattle.pipe_types.specs.declared.message.Place.TheVariants.{Inbox, Acked}
 use Rattle.pipe_types.specs.declared.step.Step.TheVariants.{Done}
 use Rattle.pipe_types.specs.Numbers.{stage, post}
 use Rattle.pipe_types.specs.Handlers.{outcome_of}
 use Rattle.pipe_model.specs.History.{History, incarnation}
-use Rattle.pipe_model.specs.Posts.{is_out, out_from, last_take}
+use Rattle.pipe_model.specs.Posts.{is_out, out_from}
 use Rattle.pipe_model.specs.Lives.{is_live}
 use Rattle.pipe_model.specs.Content.{content, has_crash, passed_as, newer}
-use Rattle.pipe_model.specs.Flow.{place, done, chunk_by, view_of}
-use Rattle.pipe_model.specs.Ledger.{handled, taken_on}
-use Rattle.pipe_model.specs.Work.{count, chunk_of, messages_of, taken_units, are_replies_of}
+use Rattle.pipe_model.specs.Work.{count, chunk_of, messages_of, are_replies_of}
 use Rattle.pipe_model.specs.Legal.{may_come}
 use Rattle.core_flow.specs.OneEach.{Settings, one_each, processor_of, the_sub}
-use Rattle.core_flow.specs.Account.{Account, Accounts, IsPlain, Counts, Queues, Jobs, range, accepted_in, taken_in, places_in, after_done}
+use Rattle.core_flow.specs.Account.{Account, Accounts, range, accepted_in, after_done}
 use Rattle.core_flow.proofs.Lists.{slice_get-append_left, slice_get-append_right}
 use Rattle.core_flow.proofs.Plain.{plain_done}
 use Rattle.core_flow.proofs.Answering.{place_answered}
@@ -55,9 +52,9 @@ pub done_tells : (s : Settings) (before : History) (a : Account) (replies : List
     → Answers s before a replies
 done_tells s before a replies x may =
     let parts : (is_out before (post (stage 2) 0) ≡ true)
-        × (are_replies_of (processor_of s) (count (one_each s) before (stage 2)) (chunk_of (one_each s) before (stage 2)) replies ≡ true) =
-        done_parts (is_live (one_each s) before (stage 2)) true (is_out before (post (stage 2) 0)) (out_from before (post (stage 2) 0) == incarnation before (stage 2))
-        (are_replies_of (processor_of s) (count (one_each s) before (stage 2)) (chunk_of (one_each s) before (stage 2)) replies) may in
+    × (are_replies_of (processor_of s) (count (one_each s) before (stage 2)) (chunk_of (one_each s) before (stage 2)) replies ≡ true) =
+    done_parts (is_live (one_each s) before (stage 2)) true (is_out before (post (stage 2) 0)) (out_from before (post (stage 2) 0) == incarnation before (stage 2))
+    (are_replies_of (processor_of s) (count (one_each s) before (stage 2)) (chunk_of (one_each s) before (stage 2)) replies) may in
     let runs : nat_lt 0 (length a.chunk) ≡ true = sym x.jobs.chunk_out ∙ parts.0 in
     record {
       runs = runs;
@@ -72,13 +69,13 @@ inbox_contents : (s : Settings) (before : History) (a : Account) (replies : List
 inbox_contents s before a replies x calm each i below =
     let within : length a.chunk + i < length (a.chunk ++ a.inbox) = simp length-append (omega (arith, below)) in
     let other : passed_as replies (suc (length a.outcomes + (length a.chunk + i))) ≡ None =
-        passed_none a.chunk replies (suc (length a.outcomes + (length a.chunk + i))) each
-        (λ k m here.
-        let inside : k < length a.chunk = slice_get_within a.chunk k m here in
-        let at : content before (suc (length a.outcomes + k)) ≡ Some m =
-            x.queues.contents k (simp length-append (omega (arith, inside))) ∙ (slice_get-append_left a.chunk a.inbox k inside ∙ here) in
-        let number : m.no.0 ≡ suc (length a.outcomes + k) = content_no before (suc (length a.outcomes + k)) m at in
-        grind (arith, nat_tests)) in
+    passed_none a.chunk replies (suc (length a.outcomes + (length a.chunk + i))) each
+    (λ k m here.
+    let inside : k < length a.chunk = slice_get_within a.chunk k m here in
+    let at : content before (suc (length a.outcomes + k)) ≡ Some m =
+    x.queues.contents k (simp length-append (omega (arith, inside))) ∙ (slice_get-append_left a.chunk a.inbox k inside ∙ here) in
+    let number : m.no.0 ≡ suc (length a.outcomes + k) = content_no before (suc (length a.outcomes + k)) m at in
+    grind (arith, nat_tests)) in
     ap (λ t. newer (if t then None else passed_as replies (suc (length a.outcomes + (length a.chunk + i)))) (content before (suc (length a.outcomes + (length a.chunk + i))))) calm
     ∙ (ap (λ p. newer p (content before (suc (length a.outcomes + (length a.chunk + i))))) other
     ∙ (x.queues.contents (length a.chunk + i) within ∙ slice_get-append_right a.chunk a.inbox i))
@@ -93,7 +90,7 @@ pub ended : (s : Settings) (before : History) (a : Account) (replies : List Repl
 ended s before a replies told calm =
     let same : length replies ≡ length a.chunk = handled_length (processor_of s) (length a.outcomes) a.chunk replies told.replied calm in
     let outcomes : length (a.outcomes ++ map outcome_of replies) ≡ length a.outcomes + length a.chunk =
-        simp (length-append, length-map) (omega (arith, same)) in
+    simp (length-append, length-map) (omega (arith, same)) in
     record {
       one_each = same;
       outcomes = outcomes;

@@ -1,8 +1,7 @@
 -- The fields stand for the journal after takes and answers, and where memory was wanting.
-use Rattle.std.proofs.Common.{◌≡◌, ◌≢◌, ℕ, zero, suc, ◌+◌, ◌-◌, ◌*◌, ◌<◌, ◌≤◌, List, [], ◌∷◌, ◌++◌, length, take, drop, map, Bool, true, false, refl, ap, sym, ◌∙◌, Some, None, Option, arith, subst, inl, inr}
-use Rattle.std.specs.Prelude.{IsTrue, slice_get, if◌then◌else◌, nat_lt, nat_le, ◌&&◌, ◌==◌, not, is_some, min, sum_by, ◌⊎◌}
+use Rattle.std.proofs.Common.{◌≡◌, ℕ, zero, suc, ◌+◌, ◌-◌, ◌<◌, ◌≤◌, List, [], ◌∷◌, ◌++◌, length, take, drop, map, true, false, refl, ap, sym, ◌∙◌, Some, None, arith, subst, inl, inr}
+use Rattle.std.specs.Prelude.{IsTrue, slice_get, if◌then◌else◌, nat_lt, min, sum_by, ◌⊎◌}
 use Rattle.std.proofs.lemmas.Bool.Decides.{nat_tests}
-use Rattle.std.proofs.lemmas.Option.{slice_get_within}
 use Rattle.std.proofs.lemmas.List.{length-map, length-append, map-append, length-take-le}
 use Rattle.std.specs.declared.alloc.Global.{Global}
 use Rattle.std.specs.declared.vec.Vec.{Vec}
@@ -12,14 +11,12 @@ use Rattle.pipe_types.specs.declared.numbers.SubNo.{SubNo}
 use Rattle.pipe_types.specs.declared.topology.Topology.{Topology}
 use Rattle.pipe_types.specs.declared.message.Message.{Message}
 use Rattle.pipe_types.specs.declared.message.Reply.{Reply}
-use Rattle.pipe_types.specs.declared.message.Place.{Place}
 use Rattle.pipe_types.specs.declared.message.Place.TheVariants.{Running}
-use Rattle.pipe_types.specs.declared.step.Step.{Step}
 use Rattle.pipe_types.specs.declared.step.Step.TheVariants.{Accept, Take, Done}
 use Rattle.pipe_types.specs.Numbers.{stage}
 use Rattle.pipe_types.specs.Stages.{spec_of}
 use Rattle.pipe_types.specs.Handlers.{outcome_of}
-use Rattle.pipe_model.specs.History.{History, accepted, bytes_in}
+use Rattle.pipe_model.specs.History.{History, bytes_in}
 use Rattle.pipe_model.specs.Content.{has_crash}
 use Rattle.pipe_model.specs.Flow.{place, inbox, units_on}
 use Rattle.pipe_model.specs.Work.{chunk_of}
@@ -34,10 +31,10 @@ use Rattle.core_flow.specs.OneEach.{Settings, one_each, IsOneEach, the_sub}
 use Rattle.pipe_types.specs.Sound.{IsSound}
 use Rattle.core_flow.proofs.Sounds.{bounded}
 use Rattle.core_flow.proofs.Begun.{empty_account, accounts_new}
-use Rattle.core_flow.specs.Account.{Account, Accounts, accepted_in, taken_in, places_in, range, after_take, after_done}
+use Rattle.core_flow.specs.Account.{Account, Accounts, taken_in, places_in, range, after_take, after_done}
 use Rattle.core_flow.specs.Moving.{chunk_in}
 use Rattle.core_flow.specs.Parts.{settled_as}
-use Rattle.core_flow.specs.Stands.{Stands, HasLimits, AreSettledAt, account_of}
+use Rattle.core_flow.specs.Stands.{Stands, AreSettledAt, account_of}
 use Rattle.core_flow.proofs.Lists.{below_or_behind, slice_get-append_left, slice_get-append_right}
 use Rattle.core_flow.proofs.Places.{inbox_is}
 use Rattle.core_flow.proofs.Answering.{chunk_place}
@@ -96,7 +93,7 @@ step_of s before a y some =
     let first = first_of-range (taken_in a) (length a.inbox) some in
     let is : inbox (one_each s) before (stage 2) ≡ (the_sub, taken_in a + 1) ∷ first.0 = inbox_is s before a y.queues ∙ first.1 in
     let count : length (units_on the_sub ((the_sub, taken_in a + 1) ∷ first.0)) ≡ length a.inbox =
-        ap (λ units. length (units_on the_sub units)) (sym is) ∙ inbox_count s before a y.queues in
+    ap (λ units. length (units_on the_sub units)) (sym is) ∙ inbox_count s before a y.queues in
     ap (take_first (spec_of (one_each s) (stage 2)) (stage 2)) is
     ∙ ap (λ n. Some (Take (stage 2) the_sub (min (s.processor.max - s.processor.min) n))) count
 
@@ -114,15 +111,15 @@ known_take core t x allowed =
         → allows_some core.topology core.journal.steps (take_step core.topology core.journal.steps (stage 2)) ≡ true → KnownTake core x t
     by_inbox zero none two h =
         let is : take_step core.topology core.journal.steps (stage 2) ≡ None =
-            ap (λ p. take_step p core.journal.steps (stage 2)) x.shape ∙ nothing_taken x.settings core.journal.steps (account_of core x.chunk) x.accounts none in
+        ap (λ p. take_step p core.journal.steps (stage 2)) x.shape ∙ nothing_taken x.settings core.journal.steps (account_of core x.chunk) x.accounts none in
         let wrong : false ≡ true = ap (allows_some core.topology core.journal.steps) (sym is) ∙ h in
         cc
     by_inbox (suc w) some two h =
         let is : take_step core.topology core.journal.steps (stage 2) ≡ Some (Take (stage 2) the_sub (chunk_in x.settings (account_of core x.chunk))) =
-            ap (λ p. take_step p core.journal.steps (stage 2)) x.shape
-            ∙ step_of x.settings core.journal.steps (account_of core x.chunk) x.accounts (omega (arith, some)) in
+        ap (λ p. take_step p core.journal.steps (stage 2)) x.shape
+        ∙ step_of x.settings core.journal.steps (account_of core x.chunk) x.accounts (omega (arith, some)) in
         let legal : allows core.topology core.journal.steps (Take (stage 2) the_sub (chunk_in x.settings (account_of core x.chunk))) ≡ true =
-            ap (allows_some core.topology core.journal.steps) (sym is) ∙ h in
+        ap (allows_some core.topology core.journal.steps) (sym is) ∙ h in
         record {
           processor = two;
           is =
@@ -144,7 +141,7 @@ stands_take core j q t k x allowed size left is =
     let known = known_take core t x allowed in
     let same = take_size core x k size in
     let come : may_come (one_each x.settings) core.journal.steps (Take (stage 2) the_sub k) ≡ true =
-        subst (λ n. may_come (one_each x.settings) core.journal.steps (Take (stage 2) the_sub n) ≡ true) (sym same) known.come in
+    subst (λ n. may_come (one_each x.settings) core.journal.steps (Take (stage 2) the_sub n) ≡ true) (sym same) known.come in
     let steps : j.steps ≡ Take (stage 2) the_sub k ∷ core.journal.steps = is ∙ ap (λ v. Take v the_sub k ∷ core.journal.steps) known.processor in
     let fits : k ≤ length core.inbox.items = omega (arith, size) in
     record {
@@ -169,7 +166,7 @@ take_gives core t k x steps allowed size is =
     let known = known_take core t x allowed in
     let same = take_size core x k size in
     let come : may_come (one_each x.settings) core.journal.steps (Take (stage 2) the_sub k) ≡ true =
-        subst (λ n. may_come (one_each x.settings) core.journal.steps (Take (stage 2) the_sub n) ≡ true) (sym same) known.come in
+    subst (λ n. may_come (one_each x.settings) core.journal.steps (Take (stage 2) the_sub n) ≡ true) (sym same) known.come in
     let told = take_tells x.settings core.journal.steps (account_of core x.chunk) k x.accounts come in
     let fits : k ≤ length core.inbox.items = omega (arith, size) in
     let count : length (take k core.inbox.items) ≡ k = length-take-le k core.inbox.items fits in
@@ -254,20 +251,20 @@ stands_done core j v t replies at x allowed calm now grown is =
     new_row : (k : ℕ) → k < length replies → settled_at core.topology (Done t replies ∷ core.journal.steps) (suc (length core.settled.items + k)) ≡ length core.journal.steps
     new_row k below =
         let running : place core.topology core.journal.steps (suc (length core.settled.items + k)) ≡ Some (Running (stage 2)) =
-            ap (λ p. place p core.journal.steps (suc (length core.settled.items + k))) x.shape
-            ∙ (x.accounts.queues.places (length core.settled.items + k)
-            ∙ (ap (λ n. slice_get (places_in (account_of core x.chunk)) (n + k)) (sym old_length)
-            ∙ chunk_place (account_of core x.chunk) k (omega (arith, one_each_reply, below)))) in
+        ap (λ p. place p core.journal.steps (suc (length core.settled.items + k))) x.shape
+        ∙ (x.accounts.queues.places (length core.settled.items + k)
+        ∙ (ap (λ n. slice_get (places_in (account_of core x.chunk)) (n + k)) (sym old_length)
+        ∙ chunk_place (account_of core x.chunk) k (omega (arith, one_each_reply, below)))) in
         let within : length core.settled.items + k < length (map (λ (r : Settled). r.outcome) core.settled.items ++ map outcome_of replies) =
-            omega (arith, length-append (map (λ (r : Settled). r.outcome) core.settled.items) (map outcome_of replies), length-map replies outcome_of, old_length, below) in
+        omega (arith, length-append (map (λ (r : Settled). r.outcome) core.settled.items) (map outcome_of replies), length-map replies outcome_of, old_length, below) in
         let acked : is_final (place core.topology (Done t replies ∷ core.journal.steps) (suc (length core.settled.items + k))) ≡ true =
-            ap (λ p. is_final (place p (Done t replies ∷ core.journal.steps) (suc (length core.settled.items + k)))) x.shape
-            ∙ (ap (λ u. is_final (place (one_each x.settings) (Done u replies ∷ core.journal.steps) (suc (length core.settled.items + k)))) processor
-            ∙ (ap is_final
-            (account.queues.places (length core.settled.items + k) ∙ acked_at (after_done replies (account_of core x.chunk)) (length core.settled.items + k) within)
-            ∙ acked_final (map (λ (r : Settled). r.outcome) core.settled.items ++ map outcome_of replies) (length core.settled.items + k) within)) in
+        ap (λ p. is_final (place p (Done t replies ∷ core.journal.steps) (suc (length core.settled.items + k)))) x.shape
+        ∙ (ap (λ u. is_final (place (one_each x.settings) (Done u replies ∷ core.journal.steps) (suc (length core.settled.items + k)))) processor
+        ∙ (ap is_final
+        (account.queues.places (length core.settled.items + k) ∙ acked_at (after_done replies (account_of core x.chunk)) (length core.settled.items + k) within)
+        ∙ acked_final (map (λ (r : Settled). r.outcome) core.settled.items ++ map outcome_of replies) (length core.settled.items + k) within)) in
         ap (λ b. if b then settled_at core.topology core.journal.steps (suc (length core.settled.items + k))
-            else (if is_final (place core.topology (Done t replies ∷ core.journal.steps) (suc (length core.settled.items + k))) then length core.journal.steps else 0)) (ap is_final running)
+        else (if is_final (place core.topology (Done t replies ∷ core.journal.steps) (suc (length core.settled.items + k))) then length core.journal.steps else 0)) (ap is_final running)
         ∙ ap (λ b. if b then length core.journal.steps else 0) acked
 
     rows : AreSettledAt core.topology (Done t replies ∷ core.journal.steps) (core.settled.items ++ map (settled_as at) replies)
@@ -278,8 +275,8 @@ stands_done core j v t replies at x allowed calm now grown is =
             settled_kept core x (Done t replies) i row (sym (slice_get-append_left core.settled.items (map (settled_as at) replies) i below) ∙ here)
         cases (inr behind) =
             let new : slice_get (map (settled_as at) replies) behind.0 ≡ Some row =
-                sym (slice_get-append_right core.settled.items (map (settled_as at) replies) behind.0)
-                ∙ (ap (slice_get (core.settled.items ++ map (settled_as at) replies)) (sym behind.1) ∙ here) in
+            sym (slice_get-append_right core.settled.items (map (settled_as at) replies) behind.0)
+            ∙ (ap (slice_get (core.settled.items ++ map (settled_as at) replies)) (sym behind.1) ∙ here) in
             let known = row-at at replies behind.0 row new in
             ap (λ n. settled_at core.topology (Done t replies ∷ core.journal.steps) (suc n)) behind.1
             ∙ (new_row behind.0 known.1 ∙ (sym now ∙ sym known.0))

@@ -1,22 +1,21 @@
 -- The fields stand for the journal after each step.
-use Rattle.std.proofs.Common.{◌≡◌, ◌≢◌, ℕ, zero, suc, ◌+◌, ◌-◌, ◌*◌, ◌<◌, ◌≤◌, List, [], ◌∷◌, ◌++◌, length, map, Bool, true, false, refl, ap, sym, ◌∙◌, Some, None, Option, arith, subst, inl, inr}
-use Rattle.std.specs.Prelude.{IsTrue, slice_get, if◌then◌else◌, nat_lt, nat_le, ◌&&◌, not, is_some, unwrap_or, min, ◌⊎◌, length}
+use Rattle.std.proofs.Common.{◌≡◌, ◌≢◌, ℕ, suc, ◌+◌, ◌-◌, ◌*◌, ◌<◌, ◌≤◌, List, ◌∷◌, ◌++◌, length, map, Bool, true, false, ap, sym, ◌∙◌, Some, None, Option, arith, subst, inl, inr}
+use Rattle.std.specs.Prelude.{IsTrue, slice_get, if◌then◌else◌, nat_le, unwrap_or, min, ◌⊎◌, length}
 use Rattle.std.proofs.lemmas.Option.{slice_get_within}
 use Rattle.std.proofs.lemmas.List.{length-map}
 use Rattle.pipe_types.specs.declared.numbers.StageNo.{StageNo}
 use Rattle.pipe_types.specs.declared.numbers.SubNo.{SubNo}
-use Rattle.pipe_types.specs.declared.topology.Topology.{Topology}
 use Rattle.pipe_types.specs.declared.step.SourceHow.{SourceHow}
 use Rattle.pipe_types.specs.declared.step.DrainCause.{DrainCause}
 use Rattle.pipe_types.specs.declared.step.Step.{Step}
-use Rattle.pipe_types.specs.declared.step.Step.TheVariants.{Ask, Fetch, Accept, Dispatch, SourceEnd, Take, Done, Drain}
+use Rattle.pipe_types.specs.declared.step.Step.TheVariants.{Ask, Fetch, Accept, Dispatch, SourceEnd, Drain}
 use Rattle.pipe_types.specs.declared.message.Place.{Place}
-use Rattle.pipe_types.specs.declared.message.Place.TheVariants.{Waiting, Acked}
+use Rattle.pipe_types.specs.declared.message.Place.TheVariants.{Waiting}
 use Rattle.pipe_types.specs.declared.message.Message.{Message}
 use Rattle.std.specs.declared.alloc.Global.{Global}
 use Rattle.std.specs.declared.collections.VecDeque.{VecDeque}
 use Rattle.pipe_types.specs.Numbers.{stage}
-use Rattle.pipe_model.specs.History.{History, accepted, bytes_in}
+use Rattle.pipe_model.specs.History.{accepted, bytes_in}
 use Rattle.pipe_model.specs.Ledger.{due}
 use Rattle.pipe_model.specs.Legal.{allows, may_come, bound}
 use Rattle.pipe_model.specs.Flow.{place, accepted_to}
@@ -26,10 +25,10 @@ use Rattle.pipe_model.specs.Jobs.{fetch_step}
 use Rattle.pipe_journal.specs.Recorded.{Recorded}
 use Rattle.core_flow.specs.declared.state.Core.{Core}
 use Rattle.core_flow.specs.declared.state.Settled.{Settled}
-use Rattle.core_flow.specs.OneEach.{Settings, one_each, the_sub}
-use Rattle.core_flow.specs.Account.{Account, Accounts, accepted_in, places_in, after_ask, after_fetch, after_accept, after_end, new_messages}
+use Rattle.core_flow.specs.OneEach.{one_each, the_sub}
+use Rattle.core_flow.specs.Account.{Accounts, accepted_in, after_ask, after_fetch, after_accept, after_end, new_messages}
 use Rattle.core_flow.specs.Moving.{bound_in}
-use Rattle.core_flow.specs.Stands.{Stands, HasLimits, AreSettledAt, account_of}
+use Rattle.core_flow.specs.Stands.{Stands, AreSettledAt, account_of}
 use Rattle.core_flow.proofs.Allowed.{allows-plain, bound-is}
 use Rattle.core_flow.proofs.Steps.{ask_tells, accept_tells, accounts_accept, accounts_ask, accounts_fetch, accounts_end, accounts_control_end, accounts_drain}
 use Rattle.core_flow.proofs.Named.{fetch_stage, accept_stage, end_stage, ask_sub}
@@ -52,7 +51,7 @@ settled_final core x i row here =
 pub settled_kept : (core : Core) (x : Stands core) (step : Step) → AreSettledAt core.topology (step ∷ core.journal.steps) core.settled.items
 settled_kept core x step i row here =
     ap (λ t. if t then settled_at core.topology core.journal.steps (suc i)
-        else (if is_final (place core.topology (step ∷ core.journal.steps) (suc i)) then length core.journal.steps else 0)) (settled_final core x i row here)
+    else (if is_final (place core.topology (step ∷ core.journal.steps) (suc i)) then length core.journal.steps else 0)) (settled_final core x i row here)
     ∙ x.settled i row here
 
 -- room in the journal changes nothing
@@ -132,8 +131,8 @@ ask_size core u handled x allowed same =
     let only = ask_only core u x allowed in
     let a = account_of core x.chunk in
     let come : may_come (one_each x.settings) core.journal.steps (Ask the_sub (due core.topology core.journal.steps u)) ≡ true =
-        subst (λ v. may_come (one_each x.settings) core.journal.steps (Ask v (due core.topology core.journal.steps u)) ≡ true) only
-        (may core (Ask u (due core.topology core.journal.steps u)) x allowed) in
+    subst (λ v. may_come (one_each x.settings) core.journal.steps (Ask v (due core.topology core.journal.steps u)) ≡ true) only
+    (may core (Ask u (due core.topology core.journal.steps u)) x allowed) in
     let told = ask_tells x.settings core.journal.steps a (due core.topology core.journal.steps u) x.accounts come in
     let ended : length (map (λ (r : Settled). r.outcome) core.settled.items) ≡ length core.settled.items = length-map core.settled.items (λ (r : Settled). r.outcome) in
     by_test (nat_le (core.asked - length (map (λ (r : Settled). r.outcome) core.settled.items)) x.settings.processor.min) told.0 told.1 ended x.limits.max
@@ -162,7 +161,7 @@ bound_from core count left room x counted records asked =
     let a = account_of core x.chunk in
     let here : count ≡ accepted_in a = counted ∙ x.accounts.counts.accepted in
     let is : bound core.topology core.journal.steps (stage 1) ≡ bound_in x.settings a =
-        ap (λ t. bound t core.journal.steps (stage 1)) x.shape ∙ bound-is x.settings core.journal.steps a x.accounts in
+    ap (λ t. bound t core.journal.steps (stage 1)) x.shape ∙ bound-is x.settings core.journal.steps a x.accounts in
     omega (arith, is, here, records, asked, x.limits.records)
 
 -- Ends of sources
@@ -236,7 +235,7 @@ accept_facts core t records x allowed =
     let come = may core (Accept t records) x allowed in
     let producer = accept_stage x.settings core.journal.steps t records come in
     let told = accept_tells x.settings core.journal.steps (account_of core x.chunk) records x.accounts
-        (subst (λ v. may_come (one_each x.settings) core.journal.steps (Accept v records) ≡ true) producer come) in
+    (subst (λ v. may_come (one_each x.settings) core.journal.steps (Accept v records) ≡ true) producer come) in
     let count = x.accounts.counts.accepted in
     record {
       producer = producer;
@@ -250,7 +249,7 @@ accept_settled : (core : Core) (x : Stands core) (records : List (List ℕ)) (i 
     → settled_at core.topology (Dispatch (stage 1) ∷ Accept (stage 1) records ∷ core.journal.steps) (suc i) ≡ row.at
 accept_settled core x records i row here =
     ap (λ t. if t then settled_at core.topology (Accept (stage 1) records ∷ core.journal.steps) (suc i)
-        else (if is_final (place core.topology (Dispatch (stage 1) ∷ Accept (stage 1) records ∷ core.journal.steps) (suc i)) then length (Accept (stage 1) records ∷ core.journal.steps) else 0))
+    else (if is_final (place core.topology (Dispatch (stage 1) ∷ Accept (stage 1) records ∷ core.journal.steps) (suc i)) then length (Accept (stage 1) records ∷ core.journal.steps) else 0))
     (still_final (accepted core.journal.steps) (length records) (suc i) (place core.topology core.journal.steps (suc i)) (settled_final core x i row here))
     ∙ settled_kept core x (Accept (stage 1) records) i row here
   where
@@ -267,9 +266,9 @@ stands_accept core j q t records count bytes x allowed counted size grown is =
     let a = account_of core x.chunk in
     let here : count ≡ accepted_in a = counted ∙ x.accounts.counts.accepted in
     let come : may_come (one_each x.settings) core.journal.steps (Accept (stage 1) records) ≡ true =
-        subst (λ v. may_come (one_each x.settings) core.journal.steps (Accept v records) ≡ true) facts.producer (may core (Accept t records) x allowed) in
+    subst (λ v. may_come (one_each x.settings) core.journal.steps (Accept v records) ≡ true) facts.producer (may core (Accept t records) x allowed) in
     let steps : j.steps ≡ Dispatch (stage 1) ∷ Accept (stage 1) records ∷ core.journal.steps =
-        is ∙ ap (λ v. Dispatch v ∷ Accept v records ∷ core.journal.steps) facts.producer in
+    is ∙ ap (λ v. Dispatch v ∷ Accept v records ∷ core.journal.steps) facts.producer in
     let inbox : q.items ≡ core.inbox.items ++ new_messages (accepted_in a) records = grown ∙ ap (λ c. core.inbox.items ++ new_messages c records) here in
     record {
       settings = x.settings;

@@ -1,15 +1,13 @@
 -- The next move is read off the account.
-use Rattle.std.proofs.Common.{◌≡◌, ℕ, zero, suc, ◌+◌, ◌-◌, ◌<◌, ◌≤◌, List, [], ◌∷◌, ◌++◌, length, take, drop, map, replicate, Bool, true, false, refl, ap, sym, ◌∙◌, Some, None, Option, arith, subst, lit≤}
-use Rattle.std.specs.Prelude.{filter, find, slice_get, if◌then◌else◌, ◌==◌, nat_lt, nat_le, ◌&&◌, ◌||◌, not, min, is_some, unwrap_or, option_map, reverse}
+use Rattle.std.proofs.Common.{◌≡◌, ℕ, zero, suc, ◌+◌, ◌-◌, ◌<◌, ◌≤◌, List, [], ◌∷◌, length, take, drop, map, replicate, Bool, true, false, refl, ap, sym, ◌∙◌, Some, None, Option, arith, lit≤}
+use Rattle.std.specs.Prelude.{filter, find, slice_get, if◌then◌else◌, ◌==◌, nat_lt, nat_le, ◌&&◌, ◌||◌, not, min, is_some, option_map}
 use Rattle.std.specs.List.{list_all, list_any}
 use Rattle.std.proofs.lemmas.Bool.Decides.{nat_tests}
-use Rattle.std.proofs.lemmas.List.{length-append, length-map, length-replicate, append-nil}
+use Rattle.std.proofs.lemmas.List.{length-map}
 use Rattle.pipe_types.specs.declared.numbers.StageNo.{StageNo}
 use Rattle.pipe_types.specs.declared.message.Outcome.{Outcome}
-use Rattle.pipe_types.specs.declared.message.Place.{Place}
-use Rattle.pipe_types.specs.declared.message.Place.TheVariants.{Waiting, Inbox, Running, Acked}
+use Rattle.pipe_types.specs.declared.message.Place.TheVariants.{Inbox, Running, Acked}
 use Rattle.pipe_types.specs.declared.step.DrainCause.TheVariants.{Sources, Limit, Idle}
-use Rattle.pipe_types.specs.declared.step.Step.{Step}
 use Rattle.pipe_types.specs.declared.step.Step.TheVariants.{Ask, Fetch, Dispatch, Take, Gather, Child, Restart, Drain, Halt}
 use Rattle.pipe_types.specs.Numbers.{stage, post, message_no, subscription}
 use Rattle.pipe_types.specs.declared.topology.StageSpec.{StageSpec}
@@ -28,7 +26,7 @@ use Rattle.pipe_model.specs.Flow.{is_gathered_in, place, inbox, units_on, waitin
 use Rattle.pipe_model.specs.Legal.{allows, may_dispatch, needs_restart, no_post_out, may_restart, first_sub, first_unit, bound}
 use Rattle.pipe_model.specs.Moves.{Move, Halted, Drained, StepMove, Job, JobsOut, or_else, if_so, when, all_subs, closable, first_closable, has_job, first_move, move, move_or_pause, jobs_out, is_final, numbers_to, is_drained, has_child, next_in_slot, first_take}
 use Rattle.core_flow.specs.OneEach.{Settings, one_each, producer_of, processor_of, the_sub}
-use Rattle.core_flow.specs.Account.{Account, Accounts, IsPlain, Counts, Queues, Jobs, range, accepted_in, taken_in, places_in}
+use Rattle.core_flow.specs.Account.{Account, Accounts, IsPlain, Queues, range, accepted_in, taken_in, places_in}
 use Rattle.core_flow.specs.Moving.{due_in, bound_in, chunk_in, is_job_out, is_drained_in, is_limit_in, may_take_in, may_fetch_in, move_in}
 use Rattle.core_flow.proofs.Lists.{slice_get-append_left}
 use Rattle.core_flow.proofs.Places.{inbox_is, front, length-front, place_in_inbox, fails-append, fails-acked, fails-replicate}
@@ -317,7 +315,7 @@ first_take-processor s before a x = cases (length a.inbox) refl
         let first = first_of-range (taken_in a) (length a.inbox) (omega (arith, some)) in
         let is : inbox (one_each s) before (stage 2) ≡ (the_sub, taken_in a + 1) ∷ first.0 = inbox_is s before a x.queues ∙ first.1 in
         let count : length (units_on the_sub ((the_sub, taken_in a + 1) ∷ first.0)) ≡ length a.inbox =
-            ap (λ units. length (units_on the_sub units)) (sym is) ∙ inbox_count s before a x.queues in
+        ap (λ units. length (units_on the_sub units)) (sym is) ∙ inbox_count s before a x.queues in
         ap (first_take (one_each s) before (processor_of s)) is
         ∙ (ap (λ n. allows (one_each s) before (Take (stage 2) the_sub (min (s.processor.max - s.processor.min) n))) count
         ∙ take_test s before a first.0 x is)
@@ -383,7 +381,7 @@ job-is : (s : Settings) (before : History) (a : Account) → Accounts s before a
     ≡ or_else (if_so (may_take_in s a) (Job (stage 2))) (if_so (may_fetch_in s a) (Job (stage 1)))
 job-is s before a x =
     (λ i. option_map (λ (spec : StageSpec). Job spec.no)
-        (if takes i then Some (processor_of s) else (if fetches i then Some (producer_of s) else None)))
+    (if takes i then Some (processor_of s) else (if fetches i then Some (producer_of s) else None)))
     ∙ cases (may_take_in s a) (may_fetch_in s a)
   where
     or-false' : (b : Bool) → (b || false) ≡ b
@@ -465,7 +463,7 @@ move-is s before a x =
     ap (λ h. move_or_pause (if h && jobs_out (one_each s) before then Some JobsOut else first_move (one_each s) before)) x.plain.no_halt
     ∙ (ap move_or_pause (first-is s before a x)
     ∙ ap (λ tail. move_or_pause (or_else (if_so (is_drained_in a) Drained)
-        (or_else (if_so (not a.draining && a.ended) (StepMove (Drain Sources)))
-        (or_else (if_so (not a.draining && is_limit_in s a) (StepMove (Drain Limit)))
-        (or_else (if_so (nat_lt 0 (due_in s a)) (StepMove (Ask the_sub (due_in s a)))) tail)))))
-        (or_else-assoc (if_so (may_take_in s a) (Job (stage 2))) (if_so (may_fetch_in s a) (Job (stage 1))) (if_so (is_job_out a) JobsOut)))
+    (or_else (if_so (not a.draining && a.ended) (StepMove (Drain Sources)))
+    (or_else (if_so (not a.draining && is_limit_in s a) (StepMove (Drain Limit)))
+    (or_else (if_so (nat_lt 0 (due_in s a)) (StepMove (Ask the_sub (due_in s a)))) tail)))))
+    (or_else-assoc (if_so (may_take_in s a) (Job (stage 2))) (if_so (may_fetch_in s a) (Job (stage 1))) (if_so (is_job_out a) JobsOut)))

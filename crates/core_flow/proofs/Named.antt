@@ -1,23 +1,21 @@
 -- A step that may come names the stage and the subscription that there are.
-use Rattle.std.proofs.Common.{◌≡◌, ℕ, zero, suc, ◌+◌, ◌-◌, ◌<◌, ◌≤◌, List, [], ◌∷◌, length, map, Bool, true, false, refl, ap, sym, ◌∙◌, Some, None, Option, arith, subst, inl, inr}
-use Rattle.std.specs.Prelude.{if◌then◌else◌, ◌==◌, nat_lt, nat_le, ◌&&◌, ◌||◌, not, min, is_some, ◌⊎◌}
+use Rattle.std.proofs.Common.{◌≡◌, ℕ, ◌-◌, ◌≤◌, List, Bool, true, false, refl, sym, ◌∙◌, arith, inl, inr}
+use Rattle.std.specs.Prelude.{if◌then◌else◌, ◌==◌, nat_le, ◌&&◌, ◌⊎◌}
 use Rattle.std.proofs.lemmas.Bool.Decides.{nat_tests}
 use Rattle.std.proofs.lemmas.Bool.{eqb-true}
 use Rattle.pipe_types.specs.declared.numbers.StageNo.{StageNo}
 use Rattle.pipe_types.specs.declared.numbers.SubNo.{SubNo}
 use Rattle.pipe_types.specs.declared.message.Reply.{Reply}
-use Rattle.pipe_types.specs.declared.topology.Role.{Role}
 use Rattle.pipe_types.specs.declared.step.SourceHow.{SourceHow}
-use Rattle.pipe_types.specs.declared.step.Step.{Step}
 use Rattle.pipe_types.specs.declared.step.Step.TheVariants.{Ask, Fetch, Accept, SourceEnd, Take, Done}
-use Rattle.pipe_types.specs.Numbers.{stage, post, same_stage, same_sub, subscription}
+use Rattle.pipe_types.specs.Numbers.{stage, same_stage, same_sub}
 use Rattle.pipe_types.specs.Stages.{feeds, spec_of}
 use Rattle.pipe_model.specs.History.{History}
 use Rattle.pipe_model.specs.Lives.{is_live, is_live_sub, generation, current_sub}
 use Rattle.pipe_model.specs.Ledger.{due, pending, min_in, max_in}
 use Rattle.pipe_model.specs.Legal.{may_come, has_role, is_producer_role, is_processor_role, takes_role}
 use Rattle.core_flow.specs.OneEach.{Settings, one_each, the_sub}
-use Rattle.core_flow.specs.Account.{Account, Accounts, IsPlain}
+use Rattle.core_flow.specs.Account.{IsPlain}
 use Rattle.core_flow.proofs.Allowed.{and_left, and_right}
 
 stage-is : (t : StageNo) (n : ℕ) → (n == t.0) ≡ true → t ≡ stage n
@@ -89,10 +87,10 @@ pub live_sub_only : (s : Settings) (before : History) (u : SubNo) → IsPlain s 
 live_sub_only s before u p h =
     let feeding : (u.producer ≡ stage 1) × (u.consumer ≡ stage 2) = feeds_only s u.producer u.consumer (and_left (feeds (one_each s) u.producer u.consumer) _ h) in
     let same : same_sub u (current_sub (one_each s) before u.consumer u.producer) ≡ true =
-        and_right (is_live (one_each s) before u.consumer) (same_sub u (current_sub (one_each s) before u.consumer u.producer))
-        (and_right (is_live (one_each s) before u.producer) _ (and_right (feeds (one_each s) u.producer u.consumer) _ h)) in
+    and_right (is_live (one_each s) before u.consumer) (same_sub u (current_sub (one_each s) before u.consumer u.producer))
+    (and_right (is_live (one_each s) before u.producer) _ (and_right (feeds (one_each s) u.producer u.consumer) _ h)) in
     let newest : (u.generation == generation (one_each s) before u.consumer u.producer) ≡ true =
-        and_right (same_stage u.producer u.producer) _ (and_right (same_stage u.consumer u.consumer) _ same) in
+    and_right (same_stage u.producer u.producer) _ (and_right (same_stage u.consumer u.consumer) _ same) in
     let first : u.generation ≡ 1 = eqb-true u.generation (generation (one_each s) before u.consumer u.producer) newest ∙ p.generations u.consumer u.producer in
     λ i. record { consumer = feeding.1 i; producer = feeding.0 i; generation = first i }
 

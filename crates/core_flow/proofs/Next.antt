@@ -1,12 +1,11 @@
 -- The move that the fields give is the first that applies, and what it names is legal.
-use Rattle.std.proofs.Common.{◌≡◌, ◌≢◌, ℕ, zero, suc, ◌+◌, ◌-◌, ◌<◌, ◌≤◌, List, [], ◌∷◌, length, map, Bool, true, false, refl, ap, sym, ◌∙◌, Some, None, Option, arith, subst, inl, inr}
-use Rattle.std.specs.Prelude.{IsTrue, if◌then◌else◌, nat_lt, nat_le, ◌&&◌, ◌||◌, ◌==◌, not, is_some, is_none, min, unwrap_or, ◌⊎◌}
+use Rattle.std.proofs.Common.{◌≡◌, ℕ, zero, suc, ◌+◌, ◌-◌, ◌≤◌, List, [], ◌∷◌, length, map, Bool, true, false, refl, ap, sym, ◌∙◌, Some, None, Option, arith, inl, inr}
+use Rattle.std.specs.Prelude.{if◌then◌else◌, nat_lt, nat_le, ◌&&◌, ◌||◌, ◌==◌, not, is_some, is_none, min, ◌⊎◌}
 use Rattle.std.proofs.lemmas.Bool.Decides.{nat_tests}
 use Rattle.std.proofs.lemmas.List.{length-map}
 use Rattle.pipe_types.specs.declared.numbers.StageNo.{StageNo}
 use Rattle.pipe_types.specs.declared.step.Step.{Step}
 use Rattle.pipe_types.specs.declared.step.Step.TheVariants.{Ask, Drain}
-use Rattle.pipe_types.specs.declared.step.DrainCause.{DrainCause}
 use Rattle.pipe_types.specs.declared.step.DrainCause.TheVariants.{Sources, Limit}
 use Rattle.pipe_types.specs.Numbers.{stage}
 use Rattle.pipe_model.specs.History.{History}
@@ -22,8 +21,8 @@ use Rattle.core_flow.specs.declared.state.Settled.{Settled}
 use Rattle.core_flow.specs.declared.drain.Move.{Move}
 use Rattle.core_flow.specs.declared.drain.Move.TheVariants as value
 use Rattle.core_flow.specs.OneEach.{Settings, one_each, processor_of, the_sub}
-use Rattle.core_flow.specs.Account.{Account, Accounts, accepted_in}
-use Rattle.core_flow.specs.Moving.{due_in, bound_in, chunk_in, is_job_out, is_drained_in, is_limit_in, may_take_in, may_fetch_in, move_in}
+use Rattle.core_flow.specs.Account.{accepted_in}
+use Rattle.core_flow.specs.Moving.{due_in, bound_in, is_job_out, is_drained_in, is_limit_in, may_take_in, may_fetch_in}
 use Rattle.core_flow.specs.Stands.{Stands, account_of}
 use Rattle.core_flow.specs.Next.{held_in, cause_in, due_of, fetches_in, drained_of, takes_in, job_out_of, drain_by, move_of, seen_as, MayBegin, IsLegalMove}
 use Rattle.core_flow.proofs.Allowed.{allows-plain, bound-is, due-is}
@@ -93,8 +92,8 @@ cause-is : (core : Core) (x : Stands core) (rest : Option model.Move)
     (model.or_else (model.if_so (not core.draining && is_limit_in x.settings (account_of core x.chunk)) (model.StepMove (Drain Limit))) rest)
 cause-is core x rest =
     (λ i. model.or_else (drain_by (if core.draining
-        then None
-        else (if core.ended then Some Sources else (if nat_le (x.limits.records i) (held-is core x i) || nat_le (x.limits.bytes i) core.bytes then Some Limit else None)))) rest)
+    then None
+    else (if core.ended then Some Sources else (if nat_le (x.limits.records i) (held-is core x i) || nat_le (x.limits.bytes i) core.bytes then Some Limit else None)))) rest)
     ∙ cases core.draining core.ended (is_limit_in x.settings (account_of core x.chunk))
   where
     cases : (d e l : Bool) → model.or_else (drain_by (if d then None else (if e then Some Sources else (if l then Some Limit else None)))) rest

@@ -1,7 +1,6 @@
 -- The places of an account, and the queues that they make.
-use Rattle.std.proofs.Common.{◌≡◌, ℕ, zero, suc, ◌+◌, ◌-◌, ◌<◌, ◌≤◌, List, [], ◌∷◌, ◌++◌, length, take, drop, map, replicate, Bool, true, false, refl, ap, sym, ◌∙◌, Some, None, Option, arith, subst, add-zero}
-use Rattle.std.specs.Prelude.{filter, slice_get, if◌then◌else◌, ◌==◌, nat_lt, nat_le, ◌&&◌, option_map}
-use Rattle.std.proofs.lemmas.Bool.Decides.{nat_tests}
+use Rattle.std.proofs.Common.{◌≡◌, ℕ, zero, suc, ◌+◌, ◌<◌, List, [], ◌∷◌, ◌++◌, length, map, replicate, Bool, true, false, refl, ap, sym, ◌∙◌, Some, None, Option, arith}
+use Rattle.std.specs.Prelude.{filter, slice_get, if◌then◌else◌}
 use Rattle.std.proofs.lemmas.List.Elements.{filter-append}
 use Rattle.std.proofs.lemmas.List.{length-map, length-append, length-replicate}
 use Rattle.pipe_types.specs.declared.numbers.SubNo.{SubNo}
@@ -11,7 +10,7 @@ use Rattle.pipe_types.specs.declared.message.Place.TheVariants.{Inbox, Running, 
 use Rattle.pipe_types.specs.Numbers.{stage}
 use Rattle.pipe_types.specs.Stages.{spec_of}
 use Rattle.pipe_model.specs.History.{History}
-use Rattle.pipe_model.specs.Flow.{place, waits_in, runs_in, in_inbox_by, inbox, units_on, waiting, view_of, chunk_by, is_batcher, leg_waits_in, batch}
+use Rattle.pipe_model.specs.Flow.{place, waits_in, in_inbox_by, inbox, units_on, is_batcher, leg_waits_in, batch}
 use Rattle.core_flow.specs.OneEach.{Settings, one_each, the_sub}
 use Rattle.core_flow.specs.Account.{Account, Queues, range, taken_in, accepted_in, places_in}
 use Rattle.core_flow.proofs.Lists.{filter-range_none, filter-range_all, range-append, slice_get-append_left, slice_get-append_right}
@@ -110,12 +109,12 @@ inbox_numbers : (s : Settings) (before : History) (a : Account) → Queues s bef
     → filter (on_inbox s before) (range 0 (accepted_in a)) ≡ range (taken_in a) (length a.inbox)
 inbox_numbers s before a q =
     let none : filter (on_inbox s before) (range 0 (taken_in a)) ≡ [] =
-        filter-range_none (on_inbox s before) 0 (taken_in a)
-        (λ i below. on_inbox-is s before a q (suc (0 + i)) i (omega arith) ∙ taken_not_in_inbox a i below) in
+    filter-range_none (on_inbox s before) 0 (taken_in a)
+    (λ i below. on_inbox-is s before a q (suc (0 + i)) i (omega arith) ∙ taken_not_in_inbox a i below) in
     let start : 0 + taken_in a ≡ taken_in a = omega arith in
     let all : filter (on_inbox s before) (range (taken_in a) (length a.inbox)) ≡ range (taken_in a) (length a.inbox) =
-        filter-range_all (on_inbox s before) (taken_in a) (length a.inbox)
-        (λ i below. on_inbox-is s before a q (suc (taken_in a + i)) (taken_in a + i) refl ∙ ap (in_inbox_by the_sub) (place_in_inbox a i below)) in
+    filter-range_all (on_inbox s before) (taken_in a) (length a.inbox)
+    (λ i below. on_inbox-is s before a q (suc (taken_in a + i)) (taken_in a + i) refl ∙ ap (in_inbox_by the_sub) (place_in_inbox a i below)) in
     ap (filter (on_inbox s before)) (sym (range-append 0 (taken_in a) (length a.inbox)))
     ∙ (filter-append (on_inbox s before) (range 0 (taken_in a)) (range (0 + taken_in a) (length a.inbox))
     ∙ (ap (λ xs. xs ++ filter (on_inbox s before) (range (0 + taken_in a) (length a.inbox))) none

@@ -1,17 +1,15 @@
 -- What a demand dispatcher sends to its only subscription.
-use Rattle.std.proofs.Common.{◌≡◌, ℕ, zero, suc, ◌+◌, ◌-◌, ◌<◌, ◌≤◌, List, [], ◌∷◌, ◌++◌, length, map, Bool, true, false, refl, ap, sym, ◌∙◌, arith, subst}
-use Rattle.std.specs.Prelude.{filter, if◌then◌else◌, ◌==◌, nat_lt, nat_le, ◌&&◌, ◌||◌, sum_by}
+use Rattle.std.proofs.Common.{◌≡◌, ℕ, zero, suc, ◌+◌, ◌<◌, ◌≤◌, List, [], ◌∷◌, ◌++◌, length, map, Bool, true, false, refl, ap, ◌∙◌, arith}
+use Rattle.std.specs.Prelude.{if◌then◌else◌, ◌==◌, nat_lt, ◌&&◌, ◌||◌}
 use Rattle.std.proofs.lemmas.Bool.Decides.{nat_tests}
 use Rattle.pipe_types.specs.declared.numbers.SubNo.{SubNo}
 use Rattle.pipe_types.specs.declared.room.Room.{Room}
 use Rattle.pipe_types.specs.declared.room.Sent.{Sent}
 use Rattle.pipe_types.specs.declared.topology.Dispatch.TheVariants.{Demand}
-use Rattle.pipe_types.specs.Numbers.{sub_before, same_sub}
-use Rattle.pipe_types.specs.Dispatchers.{goes, ahead, sends, sends_from, on_each, is_served_before}
-use Rattle.pipe_model.specs.Flow.{subs_of, count_on, delivered_to, unsent, is_empty}
+use Rattle.pipe_types.specs.Dispatchers.{goes, ahead, sends, sends_from, on_each}
+use Rattle.pipe_model.specs.Flow.{subs_of, count_on, delivered_to}
 use Rattle.core_flow.specs.OneEach.{the_sub}
 use Rattle.core_flow.specs.Account.{range}
-use Rattle.core_flow.proofs.Lists.{filter-range_none}
 
 -- the subscription's room
 abbrev pub the_room : (part left : ℕ) → Room
@@ -71,6 +69,8 @@ subs_of-sent b (suc m) zero below =
 subs_of-sent b (suc m) (suc i) below =
     let e : (b + 1 == suc (b + suc i)) ≡ false = grind (arith, nat_tests) in
     let rest : (rest : List SubNo) × (subs_of (map sent_as (range (b + 1) m)) (suc ((b + 1) + i)) ≡ the_sub ∷ rest) = subs_of-sent (b + 1) m i (omega arith) in
-    let same : suc (b + suc i) ≡ suc ((b + 1) + i) = omega arith in
-    (rest.0, ap (λ t. if t then the_sub ∷ subs_of (map sent_as (range (b + 1) m)) (suc (b + suc i)) else subs_of (map sent_as (range (b + 1) m)) (suc (b + suc i))) e
-    ∙ (ap (subs_of (map sent_as (range (b + 1) m))) same ∙ rest.1))
+    let same : suc (b + suc i) ≡ suc ((b + 1) + i) = omega arith in (
+      rest.0,
+      ap (λ t. if t then the_sub ∷ subs_of (map sent_as (range (b + 1) m)) (suc (b + suc i)) else subs_of (map sent_as (range (b + 1) m)) (suc (b + suc i))) e
+          ∙ (ap (subs_of (map sent_as (range (b + 1) m))) same ∙ rest.1),
+    )

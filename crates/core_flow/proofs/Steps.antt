@@ -1,11 +1,10 @@
 -- Each step keeps the account.
-use Rattle.std.proofs.Common.{◌≡◌, ℕ, zero, suc, ◌+◌, ◌-◌, ◌*◌, ◌<◌, ◌≤◌, List, [], ◌∷◌, ◌++◌, length, take, drop, map, replicate, Bool, true, false, refl, ap, sym, ◌∙◌, Some, None, Option, arith, subst, true≢false}
-use Rattle.std.specs.Prelude.{filter, slice_get, if◌then◌else◌, ◌==◌, nat_lt, nat_le, ◌&&◌, ◌||◌, not, min, is_some, unwrap_or, option_map}
+use Rattle.std.proofs.Common.{◌≡◌, ℕ, zero, suc, ◌+◌, ◌-◌, ◌*◌, ◌<◌, ◌≤◌, List, [], ◌∷◌, ◌++◌, length, take, drop, map, replicate, Bool, true, false, refl, ap, sym, ◌∙◌, Some, Option, arith, subst}
+use Rattle.std.specs.Prelude.{slice_get, if◌then◌else◌, ◌==◌, nat_lt, nat_le, ◌&&◌, ◌||◌, not, min, is_some, unwrap_or, option_map}
 use Rattle.std.proofs.lemmas.Bool.Decides.{nat_tests}
 use Rattle.std.proofs.lemmas.Bool.{eqb-true}
-use Rattle.std.proofs.lemmas.List.{length-append, length-map, length-replicate, append_assoc, append-nil, map-append, replicate-append-replicate}
+use Rattle.std.proofs.lemmas.List.{length-append, append_assoc, map-append}
 use Rattle.pipe_types.specs.declared.message.Message.{Message}
-use Rattle.pipe_types.specs.declared.message.Reply.{Reply}
 use Rattle.std.proofs.lemmas.List.{length-take-le, length-drop, take-append-drop}
 use Rattle.core_flow.proofs.Lists.{length-range}
 use Rattle.core_flow.proofs.Places.{inbox_is, units_on-pairs}
@@ -15,19 +14,17 @@ use Rattle.pipe_model.specs.Legal.{first_sub}
 use Rattle.pipe_types.specs.declared.message.Place.TheVariants.{Inbox, Running, Acked}
 use Rattle.pipe_types.specs.declared.step.SourceHow.{SourceHow}
 use Rattle.pipe_types.specs.declared.step.DrainCause.{DrainCause}
-use Rattle.pipe_types.specs.declared.step.DrainCause.TheVariants.{Sources, Limit}
-use Rattle.pipe_types.specs.declared.step.Step.{Step}
-use Rattle.pipe_types.specs.declared.step.Step.TheVariants.{Ask, Fetch, Accept, SourceEnd, Dispatch, Take, Done, Drain}
+use Rattle.pipe_types.specs.declared.step.Step.TheVariants.{Ask, Fetch, Accept, SourceEnd, Dispatch, Take, Drain}
 use Rattle.pipe_types.specs.Numbers.{stage, post}
 use Rattle.std.specs.List.{list_all}
 use Rattle.pipe_types.specs.Lines.{max_bytes}
 use Rattle.pipe_model.specs.History.{History, accepted, bytes_in, incarnation, accepted_bytes}
 use Rattle.pipe_model.specs.Posts.{is_out, out_from}
 use Rattle.pipe_model.specs.Lives.{is_live}
-use Rattle.pipe_model.specs.Flow.{is_empty, deliveries, lost_over, view_of, sent, sent_to, count_on, delivered_to, place}
+use Rattle.pipe_model.specs.Flow.{is_empty, deliveries, lost_over, view_of, sent, sent_to, count_on, delivered_to}
 use Rattle.pipe_model.specs.Legal.{is_legal, has_ended, rests, happened, is_drain, may_come, may_dispatch, bound, fetch_out}
 use Rattle.core_flow.specs.OneEach.{Settings, one_each, the_sub}
-use Rattle.core_flow.specs.Account.{Account, Accounts, IsPlain, Counts, Queues, Jobs, range, accepted_in, taken_in, places_in, after_ask, after_fetch, after_accept, after_take, after_done, after_end, after_drain, new_messages}
+use Rattle.core_flow.specs.Account.{Account, Accounts, Queues, range, accepted_in, taken_in, after_ask, after_fetch, after_accept, after_take, after_end, after_drain, new_messages}
 use Rattle.core_flow.proofs.Alive.{producer_lives}
 use Rattle.core_flow.proofs.Lists.{range-append, numbers_from-range}
 use Rattle.core_flow.proofs.Sends.{sent_as, count_on-sent, delivered_to-sent}
@@ -36,7 +33,7 @@ use Rattle.core_flow.proofs.Places.{front}
 use Rattle.pipe_model.specs.Content.{content, producer_of, is_among_next}
 use Rattle.pipe_types.specs.declared.numbers.StageNo.{StageNo}
 use Rattle.core_flow.proofs.Contents.{length-new_messages, contents_accepted}
-use Rattle.core_flow.proofs.Plain.{plain_ask, plain_fetch, plain_accept, plain_dispatch, plain_take, plain_done, plain_end, plain_drain}
+use Rattle.core_flow.proofs.Plain.{plain_ask, plain_fetch, plain_accept, plain_dispatch, plain_take, plain_end, plain_drain}
 use Rattle.core_flow.proofs.Allowed.{allows-plain, not_true, and_left, and_right, bound-is, due-is}
 use Rattle.pipe_model.specs.Ledger.{due}
 use Rattle.core_flow.specs.Moving.{bound_in, due_in}
@@ -124,8 +121,8 @@ fetch_parts true true true true true true true true false h = cc
 pub fetch_tells : (s : Settings) (before : History) (a : Account) (n : ℕ) → Accounts s before a → may_come (one_each s) before (Fetch (stage 1) n) ≡ true → Fetches s a n
 fetch_tells s before a n x may =
     let parts : (not (is_out before (post (stage 1) 0)) ≡ true) × (nat_le 1 n ≡ true) × ((n == bound (one_each s) before (stage 1)) ≡ true) =
-        fetch_parts (is_live (one_each s) before (stage 1)) true (not (has_ended before (stage 1))) (not (is_out before (post (stage 1) 0))) (not (rests before (stage 1)))
-        (not (happened is_drain before)) (nat_lt (accepted_bytes before) s.whole.byte_limit) (nat_le 1 n) (n == bound (one_each s) before (stage 1)) may in
+    fetch_parts (is_live (one_each s) before (stage 1)) true (not (has_ended before (stage 1))) (not (is_out before (post (stage 1) 0))) (not (rests before (stage 1)))
+    (not (happened is_drain before)) (nat_lt (accepted_bytes before) s.whole.byte_limit) (nat_le 1 n) (n == bound (one_each s) before (stage 1)) may in
     let one : nat_le 1 n ≡ true = parts.1 in
     record {
       idle = sym x.jobs.fetching ∙ not_true (is_out before (post (stage 1) 0)) parts.0;
@@ -330,9 +327,9 @@ pub accept_tells : (s : Settings) (before : History) (a : Account) (records : Li
     → Accepts s.whole.record_limit a records
 accept_tells s before a records x may =
     let parts : (is_out before (post (stage 1) 0) ≡ true) × (nat_le 1 (length records) ≡ true) × (nat_le (length records) (fetch_out before (stage 1)) ≡ true)
-        × (list_all (λ r. nat_le (length r) max_bytes) records ≡ true) =
-        accept_parts (is_live (one_each s) before (stage 1)) true (is_out before (post (stage 1) 0)) (out_from before (post (stage 1) 0) == incarnation before (stage 1))
-        (nat_le 1 (length records)) (nat_le (length records) (fetch_out before (stage 1))) (list_all (λ r. nat_le (length r) max_bytes) records) may in
+    × (list_all (λ r. nat_le (length r) max_bytes) records ≡ true) =
+    accept_parts (is_live (one_each s) before (stage 1)) true (is_out before (post (stage 1) 0)) (out_from before (post (stage 1) 0) == incarnation before (stage 1))
+    (nat_le 1 (length records)) (nat_le (length records) (fetch_out before (stage 1))) (list_all (λ r. nat_le (length r) max_bytes) records) may in
     let one : nat_le 1 (length records) ≡ true = parts.1 in
     let bound : nat_le (length records) (unwrap_or a.fetch 0) ≡ true = ap (nat_le (length records)) (sym x.jobs.bound) ∙ parts.2 in
     let within : length records ≤ unwrap_or a.fetch 0 = grind (arith, nat_tests) in
@@ -353,9 +350,9 @@ pub dispatch_owed : (s : Settings) (before : History) (a : Account) (records : L
     → may_dispatch (one_each s) (Accept (stage 1) records ∷ before) (stage 1) ≡ true
 dispatch_owed s before a records x told =
     let lives : is_live (one_each s) (Accept (stage 1) records ∷ before) (stage 1) ≡ true =
-        producer_lives s (Accept (stage 1) records ∷ before) (plain_accept s before (stage 1) records x.plain) in
+    producer_lives s (Accept (stage 1) records ∷ before) (plain_accept s before (stage 1) records x.plain) in
     let sends : is_empty (deliveries (one_each s) (Accept (stage 1) records ∷ before) (stage 1)) ≡ false =
-        ap is_empty (sends_accepted s before a records x.plain x.counts x.queues told.fits) ∙ sent_something (accepted_in a) (length records) told.some in
+    ap is_empty (sends_accepted s before a records x.plain x.counts x.queues told.fits) ∙ sent_something (accepted_in a) (length records) told.some in
     both _ _ lives (ap (λ e. not e || not (is_empty (lost_over (one_each s) (Accept (stage 1) records ∷ before) (view_of (one_each s) (Accept (stage 1) records ∷ before)) (stage 1)))) sends)
 
 accept_legal : (s : Settings) (before : History) (a : Account) (records : List (List ℕ)) → Accounts s before a → may_come (one_each s) before (Accept (stage 1) records) ≡ true
@@ -383,7 +380,7 @@ contents_more : (s : Settings) (before : History) (a : Account) (records : List 
     → content (Accept (stage 1) records ∷ before) (suc (length a.outcomes + i)) ≡ slice_get (a.chunk ++ (a.inbox ++ new_messages (accepted_in a) records)) i
 contents_more s before a records x i below =
     let same : (a.chunk ++ a.inbox) ++ new_messages (accepted_in a) records ≡ a.chunk ++ (a.inbox ++ new_messages (accepted_in a) records) =
-        append_assoc a.chunk a.inbox (new_messages (accepted_in a) records) in
+    append_assoc a.chunk a.inbox (new_messages (accepted_in a) records) in
     let all : accepted_in a ≡ length a.outcomes + length (a.chunk ++ a.inbox) = simp length-append (omega arith) in
     contents_accepted before (length a.outcomes) (accepted_in a) (a.chunk ++ a.inbox) records x.counts.accepted all x.queues.contents i
     (subst (λ xs. i < length xs) (sym same) below)
@@ -476,9 +473,9 @@ inbox_count s before a q =
 pub take_tells : (s : Settings) (before : History) (a : Account) (k : ℕ) → Accounts s before a → may_come (one_each s) before (Take (stage 2) the_sub k) ≡ true → Takes s a k
 take_tells s before a k x may =
     let parts : (not (is_out before (post (stage 2) 0)) ≡ true) × (nat_le 1 k ≡ true)
-        × ((k == min (s.processor.max - s.processor.min) (length (units_on the_sub (inbox (one_each s) before (stage 2))))) ≡ true) =
-        take_parts (is_live (one_each s) before (stage 2)) true (not (is_out before (post (stage 2) 0))) (first_sub (inbox (one_each s) before (stage 2)) the_sub)
-        (nat_le 1 k) (k == min (s.processor.max - s.processor.min) (length (units_on the_sub (inbox (one_each s) before (stage 2))))) true may in
+    × ((k == min (s.processor.max - s.processor.min) (length (units_on the_sub (inbox (one_each s) before (stage 2))))) ≡ true) =
+    take_parts (is_live (one_each s) before (stage 2)) true (not (is_out before (post (stage 2) 0))) (first_sub (inbox (one_each s) before (stage 2)) the_sub)
+    (nat_le 1 k) (k == min (s.processor.max - s.processor.min) (length (units_on the_sub (inbox (one_each s) before (stage 2))))) true may in
     let one : nat_le 1 k ≡ true = parts.1 in
     record {
       idle = none_runs a.chunk (sym x.jobs.chunk_out ∙ not_true (is_out before (post (stage 2) 0)) parts.0);

@@ -1,19 +1,17 @@
 -- A chunk that is taken leaves the inbox and runs.
-use Rattle.std.proofs.Common.{◌≡◌, ℕ, zero, suc, ◌+◌, ◌-◌, ◌<◌, ◌≤◌, List, [], ◌∷◌, ◌++◌, length, take, drop, map, replicate, Bool, true, false, refl, ap, sym, ◌∙◌, Some, None, Option, arith, subst, inl, inr}
-use Rattle.std.specs.Prelude.{filter, slice_get, if◌then◌else◌, ◌==◌, nat_lt, nat_le, ◌&&◌, ◌||◌, option_map, ◌⊎◌}
+use Rattle.std.proofs.Common.{◌≡◌, ℕ, zero, suc, ◌+◌, ◌-◌, ◌<◌, ◌≤◌, List, [], ◌∷◌, ◌++◌, length, take, map, replicate, Bool, true, false, refl, ap, sym, ◌∙◌, Some, arith, subst, inl, inr}
+use Rattle.std.specs.Prelude.{slice_get, ◌==◌, ◌||◌, option_map, ◌⊎◌}
 use Rattle.std.proofs.lemmas.Bool.Decides.{nat_tests}
 use Rattle.std.proofs.lemmas.List.{length-map, length-append, length-replicate, append-nil}
 use Rattle.std.proofs.lemmas.Option.{slice_get_past}
 use Rattle.pipe_types.specs.declared.message.Outcome.{Outcome}
-use Rattle.pipe_types.specs.declared.message.Message.{Message}
-use Rattle.pipe_types.specs.declared.message.Place.{Place}
-use Rattle.pipe_types.specs.declared.message.Place.TheVariants.{Waiting, Inbox, Running, Acked}
+use Rattle.pipe_types.specs.declared.message.Place.TheVariants.{Inbox, Running, Acked}
 use Rattle.pipe_types.specs.declared.step.Step.TheVariants.{Take}
 use Rattle.pipe_types.specs.Numbers.{stage}
 use Rattle.pipe_model.specs.History.{History}
-use Rattle.pipe_model.specs.Flow.{place, taken, next_units, view_of, units_on, inbox, among}
+use Rattle.pipe_model.specs.Flow.{place, taken, next_units, view_of, units_on, among}
 use Rattle.core_flow.specs.OneEach.{Settings, one_each, the_sub}
-use Rattle.core_flow.specs.Account.{Account, Queues, range, taken_in, accepted_in, places_in, after_take}
+use Rattle.core_flow.specs.Account.{Account, Queues, range, taken_in, places_in}
 use Rattle.core_flow.proofs.Lists.{below_or_behind, take-range, slice_get-append_left, slice_get-append_right}
 use Rattle.core_flow.proofs.Places.{inbox_is, units_on-pairs, slice_get-replicate}
 

@@ -1,7 +1,6 @@
 -- What a journal without kills comes to in a pipeline of one producer and one processor.
-use Rattle.std.specs.Prelude.{◌≡◌, ℕ, zero, suc, ◌+◌, ◌-◌, ◌*◌, ◌≤◌, ◌<◌, Bool, true, false, List, [], ◌∷◌, ◌++◌, length, map, replicate, take, drop, Option, Some, None, is_some, unwrap_or, slice_get, nat_lt}
+use Rattle.std.specs.Prelude.{◌≡◌, ℕ, zero, suc, ◌+◌, ◌*◌, ◌≤◌, ◌<◌, Bool, true, false, List, [], ◌∷◌, ◌++◌, length, map, replicate, take, drop, Option, Some, None, is_some, unwrap_or, slice_get, nat_lt}
 use Rattle.pipe_types.specs.declared.numbers.StageNo.{StageNo}
-use Rattle.pipe_types.specs.declared.numbers.SubNo.{SubNo}
 use Rattle.pipe_types.specs.declared.message.Message.{Message}
 use Rattle.pipe_types.specs.declared.message.Outcome.{Outcome}
 use Rattle.pipe_types.specs.declared.message.Reply.{Reply}

@@ -1,5 +1,5 @@
 -- What comes next, read off an account.
-use Rattle.std.specs.Prelude.{ℕ, ◌+◌, ◌-◌, Bool, true, false, if◌then◌else◌, length, not, ◌==◌, nat_lt, nat_le, ◌&&◌, ◌||◌, min, is_some, unwrap_or}
+use Rattle.std.specs.Prelude.{ℕ, ◌+◌, ◌-◌, Bool, if◌then◌else◌, length, not, ◌==◌, nat_lt, nat_le, ◌&&◌, ◌||◌, min, is_some, unwrap_or}
 use Rattle.pipe_types.specs.declared.step.DrainCause.TheVariants.{Sources, Limit}
 use Rattle.pipe_types.specs.declared.step.Step.TheVariants.{Ask, Drain}
 use Rattle.pipe_types.specs.Numbers.{stage}

@@ -1,5 +1,5 @@
 -- The next move as a value, and that what it names is legal.
-use Rattle.std.specs.Prelude.{◌≡◌, ℕ, ◌+◌, ◌-◌, Bool, true, if◌then◌else◌, not, ◌&&◌, ◌||◌, ◌==◌, nat_le, nat_lt, is_none, is_some, length, Option, Some, None, IsTrue, ◌⊎◌}
+use Rattle.std.specs.Prelude.{ℕ, ◌+◌, ◌-◌, Bool, if◌then◌else◌, not, ◌&&◌, ◌||◌, ◌==◌, nat_le, nat_lt, is_none, is_some, length, Option, Some, None, IsTrue, ◌⊎◌}
 use Rattle.pipe_types.specs.declared.step.DrainCause.{DrainCause}
 use Rattle.pipe_types.specs.declared.step.DrainCause.TheVariants.{Sources, Limit}
 use Rattle.core_flow.specs.declared.state.Core.{Core}

@@ -1,6 +1,5 @@
 -- A pipeline of one pull producer and one processor, which feeds no batcher.
-use Rattle.std.specs.Prelude.{◌≡◌, List, [], ◌∷◌, false}
-use Rattle.pipe_types.specs.declared.numbers.StageNo.{StageNo}
+use Rattle.std.specs.Prelude.{◌≡◌, [], ◌∷◌, false}
 use Rattle.pipe_types.specs.declared.numbers.SubNo.{SubNo}
 use Rattle.pipe_types.specs.declared.topology.Topology.{Topology}
 use Rattle.pipe_types.specs.declared.topology.StageSpec.{StageSpec}

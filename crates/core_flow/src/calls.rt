@@ -89,7 +89,13 @@ impl Core {
         if let Err(error) = self.journal.reserve(2) {
             return Err((records, error));
         }
-        match receive(self.alloc, &mut self.inbox, stage, accepted, records.as_slice()) {
+        match receive(
+            self.alloc,
+            &mut self.inbox,
+            stage,
+            accepted,
+            records.as_slice(),
+        ) {
             Ok(()) => {}
             Err(error) => return Err((records, error)),
         }

@@ -7,8 +7,8 @@
 #![tactic(auto)]
 
 mod calls;
+pub mod drain;
 mod parts;
 pub mod state;
-pub mod drain;
 
 pub use crate::state::{Chunk, Core};

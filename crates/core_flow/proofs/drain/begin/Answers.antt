@@ -1,4 +1,4 @@
-use Rattle.std.proofs.Common.{◌≡◌, ◌∷◌, ◌∙◌, ap}
+use Rattle.std.proofs.Common.{◌∷◌, ◌∙◌, ap}
 use Rattle.pipe_types.specs.declared.step.Step.TheVariants.{Drain}
 use Rattle.core_flow.proofs.Keeps.{stands_roomy, stands_drain}
 use Rattle.core_flow.proofs.drain.begin.Goals as goal

@@ -1,4 +1,4 @@
-use Rattle.std.proofs.Common.{◌≡◌, ◌∙◌}
+use Rattle.std.proofs.Common.{◌∙◌}
 use Rattle.core_flow.proofs.Next.{move_of-is, legal_move}
 use Rattle.core_flow.proofs.drain.next_move.Goals as goal
 

@@ -6,4 +6,5 @@ invariant-loop l = record {
   moved : l.chunk.items ≡ l.fn.chunk.items ++ take l.counter l.fn.inbox.items;
   left : l.inbox.items ≡ drop l.counter l.fn.inbox.items;
   count : vec_len l.chunk ≡ vec_len l.fn.chunk + l.counter;
-  room : vec_capacity l.chunk ≡ vec_capacity l.fn.chunk }
+  room : vec_capacity l.chunk ≡ vec_capacity l.fn.chunk;
+}

@@ -1,7 +1,6 @@
 -- One more record is one more message.
-use Rattle.std.proofs.Common.{◌≡◌, ◌+◌, ◌++◌, ◌∷◌, [], ap, sym, ◌∙◌, take, get_or, rules, arith}
+use Rattle.std.proofs.Common.{◌≡◌, ◌+◌, ◌++◌, ◌∷◌, [], ap, sym, ◌∙◌, take, rules}
 use Rattle.std.proofs.lemmas.List.{append_assoc}
-use Rattle.std.proofs.lemmas.Grind.{common_steps}
 use Rattle.pipe_types.specs.Numbers.{stage}
 use Rattle.pipe_model.specs.Content.{new_message}
 use Rattle.core_flow.specs.Account.{new_messages}
@@ -14,8 +13,8 @@ loop-i-preserved c =
     let copied : c.in_ok-payload.payload ≡ c.index-records-i.result = c.in_ok-payload.ensures in
     let key : c.from_vec.result ≡ [] = search rules in
     let pushed : c.push_back.new.self.items ≡ c.loop-i.inbox.items ++ new_message (stage 1) (c.args.accepted + c.loop-i.i + 1) c.index-records-i.result ∷ [] =
-        c.in_ok-push_back.ensures.items
-        ∙ ap (λ m. c.loop-i.inbox.items ++ m ∷ []) (message-of (c.args.accepted + c.loop-i.i + 1) c.args.stage c.in_ok-payload.payload c.index-records-i.result c.from_vec.result c.requires.producer copied key) in
+    c.in_ok-push_back.ensures.items
+    ∙ ap (λ m. c.loop-i.inbox.items ++ m ∷ []) (message-of (c.args.accepted + c.loop-i.i + 1) c.args.stage c.in_ok-payload.payload c.index-records-i.result c.from_vec.result c.requires.producer copied key) in
     pushed
     ∙ (ap (λ xs. xs ++ new_message (stage 1) (c.args.accepted + c.loop-i.i + 1) c.index-records-i.result ∷ []) c.loop-i.invariant
     ∙ (append_assoc c.args.inbox.now.items (new_messages c.args.accepted (take c.loop-i.i c.args.records.now)) (new_message (stage 1) (c.args.accepted + c.loop-i.i + 1) c.index-records-i.result ∷ [])

@@ -6,4 +6,5 @@ abbrev pub invariant-loop-reply : goal.invariant-loop-reply
 invariant-loop-reply l = record {
   noted : l.settled.items ≡ l.fn.settled.items ++ map (settled_as l.at) (take l.reply-index l.replies);
   count : vec_len l.settled ≡ vec_len l.fn.settled + l.reply-index;
-  room : vec_capacity l.settled ≡ vec_capacity l.fn.settled }
+  room : vec_capacity l.settled ≡ vec_capacity l.fn.settled;
+}

@@ -1,8 +1,7 @@
 -- Records become messages at the end of the inbox.
-use Rattle.std.proofs.Common.{◌≡◌, ◌+◌, ◌<◌, ◌≤◌, ◌∷◌, ◌++◌, ◌∙◌, ap, sym, subst, length, arith, refl}
+use Rattle.std.proofs.Common.{◌≡◌, ◌∷◌, ◌++◌, ◌∙◌, ap, sym, length, arith, refl}
 use Rattle.std.specs.Prelude.{sum_by}
 use Rattle.pipe_types.specs.declared.step.Step.TheVariants.{Accept, Dispatch}
-use Rattle.pipe_model.specs.History.{accepted, bytes_in}
 use Rattle.core_flow.specs.Account.{new_messages}
 use Rattle.core_flow.proofs.Keeps.{stands_roomy, accept_facts, stands_accept}
 use Rattle.core_flow.proofs.Holds.{stands_same, accept_bytes}

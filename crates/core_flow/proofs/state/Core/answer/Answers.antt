@@ -1,5 +1,5 @@
 -- Each reply settles its message.
-use Rattle.std.proofs.Common.{◌≡◌, ◌∷◌, ◌++◌, ◌∙◌, ap, sym, map, length, refl}
+use Rattle.std.proofs.Common.{◌∷◌, ◌++◌, ◌∙◌, ap, map, length, refl}
 use Rattle.pipe_types.specs.declared.step.Step.TheVariants.{Done}
 use Rattle.core_flow.specs.Parts.{settled_as}
 use Rattle.core_flow.proofs.Keeps.{stands_roomy}

@@ -1,5 +1,5 @@
 -- The ask is the one that is due.
-use Rattle.std.proofs.Common.{◌≡◌, ◌-◌, ◌∷◌, ◌∙◌, ap, sym, arith, length, rules}
+use Rattle.std.proofs.Common.{◌≡◌, ◌-◌, ◌∷◌, ◌∙◌, ap, length, rules}
 use Rattle.pipe_types.specs.declared.step.Step.TheVariants.{Ask}
 use Rattle.core_flow.proofs.Keeps.{stands_roomy, stands_asked, ask_size}
 use Rattle.core_flow.proofs.state.Core.ask.Goals as goal

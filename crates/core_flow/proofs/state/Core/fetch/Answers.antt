@@ -1,6 +1,5 @@
 -- The fetch is the producer's, with its bound.
-use Rattle.std.proofs.Common.{◌≡◌, ◌∷◌, ◌∙◌, ap, sym, subst}
-use Rattle.std.specs.Prelude.{IsTrue}
+use Rattle.std.proofs.Common.{◌∷◌, ◌∙◌, ap}
 use Rattle.pipe_types.specs.declared.step.Step.TheVariants.{Fetch}
 use Rattle.core_flow.proofs.Keeps.{stands_roomy, stands_fetched, fetch_size}
 use Rattle.core_flow.proofs.state.Core.fetch.Goals as goal

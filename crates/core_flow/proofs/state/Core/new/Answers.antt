@@ -1,5 +1,5 @@
 -- An empty journal comes to empty fields.
-use Rattle.std.proofs.Common.{◌≡◌, [], None, false}
+use Rattle.std.proofs.Common.{None, false}
 use Rattle.core_flow.proofs.Holds.{stands_new}
 use Rattle.core_flow.proofs.state.Core.new.Goals as goal
 

@@ -1,5 +1,5 @@
 -- The producer's source ends, or the control source.
-use Rattle.std.proofs.Common.{◌≡◌, ◌∷◌, ◌∙◌, ap, sym}
+use Rattle.std.proofs.Common.{◌∷◌, ◌∙◌, ap}
 use Rattle.pipe_types.specs.declared.step.Step.TheVariants.{SourceEnd}
 use Rattle.core_flow.proofs.Keeps.{stands_roomy, stands_end, stands_control_end}
 use Rattle.core_flow.proofs.state.Core.source_end.Goals as goal
