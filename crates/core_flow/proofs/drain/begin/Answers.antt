@@ -1,0 +1,12 @@
+use Rattle.std.proofs.Common.{◌∷◌, ◌∙◌, ap}
+use Rattle.pipe_types.specs.declared.step.Step.TheVariants.{Drain}
+use Rattle.core_flow.proofs.Keeps.{stands_roomy, stands_drain}
+use Rattle.core_flow.proofs.drain.begin.Goals as goal
+
+pub returns-in_err-reserve-clause-stands : goal.returns-in_err-reserve-clause-stands
+returns-in_err-reserve-clause-stands c = stands_roomy c.args.core.now c.reserve.new.self c.requires.stands c.reserve.ensures.same_steps
+
+pub returns-clause-stands : goal.returns-clause-stands
+returns-clause-stands c =
+    stands_drain c.args.core.now c.push_spare.new.self c.args.cause c.requires.stands c.requires.legal
+    (c.push_spare.ensures.written ∙ ap (λ h. Drain c.args.cause ∷ h) c.reserve.ensures.same_steps)

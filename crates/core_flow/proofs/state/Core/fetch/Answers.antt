@@ -1,0 +1,17 @@
+-- The fetch is the producer's, with its bound.
+use Rattle.std.proofs.Common.{◌∷◌, ◌∙◌, ap}
+use Rattle.pipe_types.specs.declared.step.Step.TheVariants.{Fetch}
+use Rattle.core_flow.proofs.Keeps.{stands_roomy, stands_fetched, fetch_size}
+use Rattle.core_flow.proofs.state.Core.fetch.Goals as goal
+
+pub returns-in_err-reserve-clause-stands : goal.returns-in_err-reserve-clause-stands
+returns-in_err-reserve-clause-stands c = stands_roomy c.args.self.now c.reserve.new.self c.requires.stands c.reserve.ensures.same_steps
+
+pub returns-clause-size : goal.returns-clause-size
+returns-clause-size c = c.bound-n.ensures.bound ∙ fetch_size c.args.self.now c.args.stage c.requires.stands c.requires.legal
+
+pub returns-clause-stands : goal.returns-clause-stands
+returns-clause-stands c =
+    stands_fetched c.args.self.now c.push_spare.new.self c.args.stage c.bound-n.result c.requires.stands c.requires.legal
+    (c.bound-n.ensures.bound ∙ fetch_size c.args.self.now c.args.stage c.requires.stands c.requires.legal)
+    (c.push_spare.ensures.written ∙ ap (λ h. Fetch c.args.stage c.bound-n.result ∷ h) c.reserve.ensures.same_steps)

@@ -1,0 +1,41 @@
+-- The chunk is what stands first in the inbox.
+use Rattle.std.proofs.Common.{◌≡◌, ◌-◌, ◌∷◌, ◌++◌, ◌∙◌, ap, take, length, rules}
+use Rattle.std.specs.Prelude.{min}
+use Rattle.pipe_types.specs.declared.step.Step.TheVariants.{Take}
+use Rattle.core_flow.specs.declared.state.Chunk.TheVariants.{Messages}
+use Rattle.core_flow.proofs.Keeps.{stands_roomy}
+use Rattle.core_flow.proofs.Holds.{stands_take, take_gives, take_appends}
+use Rattle.core_flow.proofs.state.Core.take.Goals as goal
+
+pub returns-in_err-reserve-clause-stands : goal.returns-in_err-reserve-clause-stands
+returns-in_err-reserve-clause-stands c = stands_roomy c.args.self.now c.reserve.new.self c.requires.stands c.reserve.ensures.same_steps
+
+pub returns-clause-appended : goal.returns-clause-appended
+returns-clause-appended c =
+    let count : c.len.result ≡ length c.args.self.now.inbox.items = search rules in
+    let size : c.min-k.result ≡ min (c.args.self.now.limits.max - c.args.self.now.limits.min) (length c.args.self.now.inbox.items) =
+    c.min-k.ensures ∙ ap (min (c.args.self.now.limits.max - c.args.self.now.limits.min)) count in
+    c.push_spare.ensures.written
+    ∙ ((λ i. Take c.args.stage (c.the_sub-sub.ensures i) c.min-k.result ∷ c.reserve.ensures.same_steps i)
+    ∙ take_appends c.args.self.now c.args.stage c.min-k.result c.requires.stands c.requires.legal size)
+
+pub returns-clause-chunk : goal.returns-clause-chunk
+returns-clause-chunk c =
+    let count : c.len.result ≡ length c.args.self.now.inbox.items = search rules in
+    let size : c.min-k.result ≡ min (c.args.self.now.limits.max - c.args.self.now.limits.min) (length c.args.self.now.inbox.items) =
+    c.min-k.ensures ∙ ap (min (c.args.self.now.limits.max - c.args.self.now.limits.min)) count in
+    ap Messages
+    (c.from_vec.ensures
+    ∙ (c.move_first.ensures.moved
+    ∙ (ap (λ xs. xs ++ take c.min-k.result c.args.self.now.inbox.items) c.in_ok-chunk.ensures.items
+    ∙ take_gives c.args.self.now c.args.stage c.min-k.result c.requires.stands c.push_spare.new.self.steps c.requires.legal size
+    (c.push_spare.ensures.written ∙ (λ i. Take c.args.stage (c.the_sub-sub.ensures i) c.min-k.result ∷ c.reserve.ensures.same_steps i)))))
+
+pub returns-clause-stands : goal.returns-clause-stands
+returns-clause-stands c =
+    let count : c.len.result ≡ length c.args.self.now.inbox.items = search rules in
+    let size : c.min-k.result ≡ min (c.args.self.now.limits.max - c.args.self.now.limits.min) (length c.args.self.now.inbox.items) =
+    c.min-k.ensures ∙ ap (min (c.args.self.now.limits.max - c.args.self.now.limits.min)) count in
+    stands_take c.args.self.now c.push_spare.new.self c.move_first.new.inbox c.args.stage c.min-k.result c.requires.stands c.requires.legal size
+    c.move_first.ensures.left
+    (c.push_spare.ensures.written ∙ (λ i. Take c.args.stage (c.the_sub-sub.ensures i) c.min-k.result ∷ c.reserve.ensures.same_steps i))

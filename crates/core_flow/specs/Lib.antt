@@ -1,0 +1,7 @@
+pub mod OneEach
+pub mod Account
+pub mod Moving
+pub mod Stands
+pub mod Parts
+pub mod Next
+pub mod Limited
