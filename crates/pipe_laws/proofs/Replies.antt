@@ -8,7 +8,7 @@ use Rattle.pipe_types.specs.declared.topology.Kind.TheVariants.{Steps, Lines, Ow
 use Rattle.pipe_types.specs.declared.message.Message.{Message}
 use Rattle.pipe_types.specs.declared.message.Reply.{Reply}
 use Rattle.pipe_types.specs.declared.message.Reply.TheVariants.{Pass, Failed, Raised, Crashed}
-use Rattle.pipe_types.specs.Handlers.{is_crashed, with_reason, replies_until, chunk_replies, eval, are_own_replies, is_own_reply}
+use Rattle.pipe_types.specs.Handlers.{is_crashed, with_reason, replies_until, chunk_replies, counted, eval, are_own_replies, is_own_reply}
 use Rattle.pipe_model.specs.History.{History}
 use Rattle.pipe_model.specs.Content.{has_crash, content}
 use Rattle.pipe_model.specs.Work.{same_reply, same_replies, are_handled, messages_of}
@@ -60,9 +60,9 @@ crash_stays failed Crashed = refl
 
 chunk_length : (spec : StageSpec) (count : ℕ) (messages : List Message) → has_crash (chunk_replies spec count messages) ≡ false → length (chunk_replies spec count messages) ≡ length messages
 chunk_length spec count [] h = refl
-chunk_length spec count (m ∷ messages) h = either (is_crashed (eval spec count m)) refl h (chunk_length spec (count + 1) messages)
+chunk_length spec count (m ∷ messages) h = either (is_crashed (eval spec count m)) refl h (chunk_length spec (counted count 1) messages)
   where
-    either : (b : Bool) → is_crashed (eval spec count m) ≡ b → has_crash (map (with_reason spec.failed) (if b then eval spec count m ∷ [] else eval spec count m ∷ replies_until is_crashed spec (count + 1) messages)) ≡ false → (has_crash (chunk_replies spec (count + 1) messages) ≡ false → length (chunk_replies spec (count + 1) messages) ≡ length messages) → length (map (with_reason spec.failed) (if b then eval spec count m ∷ [] else eval spec count m ∷ replies_until is_crashed spec (count + 1) messages)) ≡ suc (length messages)
+    either : (b : Bool) → is_crashed (eval spec count m) ≡ b → has_crash (map (with_reason spec.failed) (if b then eval spec count m ∷ [] else eval spec count m ∷ replies_until is_crashed spec (counted count 1) messages)) ≡ false → (has_crash (chunk_replies spec (counted count 1) messages) ≡ false → length (chunk_replies spec (counted count 1) messages) ≡ length messages) → length (map (with_reason spec.failed) (if b then eval spec count m ∷ [] else eval spec count m ∷ replies_until is_crashed spec (counted count 1) messages)) ≡ suc (length messages)
     either true e h rest =
         clash (is_crashed (with_reason spec.failed (eval spec count m))) (crash_stays spec.failed (eval spec count m) ∙ e) (head_safe _ _ h)
     either false e h rest = ap suc (rest (tail_safe (with_reason spec.failed (eval spec count m)) _ h))
