@@ -1,0 +1,34 @@
+-- What was read of a source since it was opened.
+use Rattle.std.specs.Prelude.{◌≡◌, ◌<◌, ◌≤◌, Bool, ℕ, List, ◌++◌, length, All, IsTrue, Option, Some, None}
+use Rattle.pipe_types.specs.Counts.{Rose}
+use Rattle.pipe_types.specs.Lines.{max_bytes}
+use Rattle.pipe_edges.specs.Texts.{IsLine, BeginsTooLong, ended}
+use Rattle.pipe_edges.specs.LineSource.{line_source, waiting, line_end_of}
+use Rattle.pipe_edges.specs.declared.lines.LineSource.{LineSource}
+use Rattle.pipe_edges.specs.declared.reading.LineEnd.{LineEnd}
+use Rattle.pipe_edges.specs.declared.reading.LineEnd.TheVariants as end
+use Rattle.pipe_edges.specs.declared.reading.Fetched.{Fetched}
+use Rattle.pipe_edges.specs.declared.reading.Fetched.TheVariants.{Records, NotYet, End, Fault, TooLong}
+use Rattle.source_lines.specs.Cut.{AreAllLines}
+
+-- the records came, in order, from what the opened source had left
+pub record IsReadFrom {B : Type 0} (told : B → Bool) (taken left : B → List ℕ) (faults waits : B → ℕ) (opened : B) (now : LineSource B) (records : List (List ℕ)) : Type 0 where
+  pub same_telling : told (line_source now) ≡ told opened
+  pub each_is_a_line : All IsLine records
+  pub same_bytes : IsTrue (told opened) → taken (line_source now) ++ left (line_source now) ≡ taken opened ++ left opened
+  pub to_come :
+      IsTrue (told opened) → ¬ (line_end_of now ≡ Some end.End) → left opened ≡ ended records ++ (waiting now ++ left (line_source now))
+  pub at_end : IsTrue (told opened) → line_end_of now ≡ Some end.End → AreAllLines (left opened) records
+  pub at_long : line_end_of now ≡ Some end.TooLong → BeginsTooLong (waiting now)
+  pub at_fault : line_end_of now ≡ Some end.Fault → Rose (faults opened) (faults (line_source now))
+  pub faults_stay : faults opened ≤ faults (line_source now)
+  pub waits_stay : waits opened ≤ waits (line_source now)
+
+-- what each answer says: 1 to max records, none of them too long; that the waits rose; or the end that is known from now on
+abbrev pub IsFetchAnswer : (max waits waits' : ℕ) → Option LineEnd → Fetched → Type 0
+IsFetchAnswer max waits waits' now (Records records) =
+    (1 ≤ length records) × (length records ≤ max) × All (λ r. length r ≤ max_bytes) records × (¬ (now ≡ Some end.Fault)) × (¬ (now ≡ Some end.TooLong))
+IsFetchAnswer max waits waits' now NotYet = Rose waits waits' × (now ≡ None)
+IsFetchAnswer max waits waits' now End = now ≡ Some end.End
+IsFetchAnswer max waits waits' now Fault = now ≡ Some end.Fault
+IsFetchAnswer max waits waits' now TooLong = now ≡ Some end.TooLong
