@@ -1,0 +1,3 @@
+pub mod Followed
+pub mod Kept
+pub mod Read
