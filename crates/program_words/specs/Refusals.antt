@@ -1,0 +1,30 @@
+-- The texts of refusals, each a line.
+use Rattle.std.specs.Prelude.{ℕ, List, [], ◌∷◌, ◌++◌, codes, decimal}
+use Rattle.pipe_types.specs.declared.topology.Kind.{Kind}
+use Rattle.pipe_types.specs.declared.topology.Kind.TheVariants.{Steps, Lines, Own}
+
+abbrev pub lf : List ℕ
+lf = 10 ∷ []
+
+abbrev pub usage_line : List ℕ
+usage_line = codes "usage: flow SOURCE PREFIX; check TOPOLOGY; run TOPOLOGY [--workers N] [--acks] [--steps]" ++ lf
+
+abbrev pub memory_line : List ℕ
+memory_line = codes "memory" ++ lf
+
+-- edge NAME
+abbrev pub edge_line : (name : List ℕ) → List ℕ
+edge_line name = codes "edge " ++ name ++ lf
+
+-- unbuilt WORD
+abbrev pub unbuilt_line : (word : List ℕ) → List ℕ
+unbuilt_line word = codes "unbuilt " ++ word ++ lf
+
+abbrev pub kind_word : Kind → List ℕ
+kind_word Steps = codes "steps"
+kind_word Lines = codes "lines"
+kind_word Own = codes "own"
+
+-- stock KIND need A have B
+abbrev pub stock_line : Kind → (need have : ℕ) → List ℕ
+stock_line kind need have = codes "stock " ++ kind_word kind ++ codes " need " ++ decimal need ++ codes " have " ++ decimal have ++ lf

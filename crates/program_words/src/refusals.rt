@@ -1,0 +1,70 @@
+//! What the program writes to the error output.
+
+ghost use Rattle.std.specs.Prelude.{◌≡◌, IfOk, string_bytes};
+ghost use Rattle.program_words.specs.Refusals as text;
+
+use pipe_types::bytes::Bytes;
+use pipe_types::topology::Kind;
+use std::alloc::{AllocError, Global};
+
+/// The words of the program, where those that it was given are no command.
+pub fn usage_line(alloc: Global) -> Result<Bytes, AllocError>
+    ensures { IfOk result (λ line. line ≡ text.usage_line) }
+{
+    line_of(
+        alloc,
+        "usage: flow SOURCE PREFIX; check TOPOLOGY; run TOPOLOGY [--workers N] [--acks] [--steps]\n",
+    )
+}
+
+/// That memory was wanting.
+pub fn memory_line(alloc: Global) -> Result<Bytes, AllocError>
+    ensures { IfOk result (λ line. line ≡ text.memory_line) }
+{
+    line_of(alloc, "memory\n")
+}
+
+/// What is not built yet.
+pub fn unbuilt_line(alloc: Global, word: &str) -> Result<Bytes, AllocError>
+    ensures { IfOk result (λ line. line ≡ text.unbuilt_line word.now) }
+{
+    bytes_of(format!(in alloc; "unbuilt {word}\n")?)
+}
+
+/// The name with which a call on the outside failed.
+pub fn edge_line(alloc: Global, name: &str) -> Result<Bytes, AllocError>
+    ensures { IfOk result (λ line. line ≡ text.edge_line name.now) }
+{
+    bytes_of(format!(in alloc; "edge {name}\n")?)
+}
+
+#[tactic(auto, using(std::proofs::lemmas::List::append_assoc))]
+/// The kind of callback of which there are fewer boxes than stages need.
+pub fn stock_line(alloc: Global, kind: Kind, need: usize, have: usize) -> Result<Bytes, AllocError>
+    ensures { IfOk result (λ line. line ≡ text.stock_line kind need have) }
+{
+    let kind = kind_word(kind);
+    bytes_of(format!(in alloc; "stock {kind} need {need} have {have}\n")?)
+}
+
+fn kind_word(kind: Kind) -> &'static str
+    ensures { result.now ≡ text.kind_word kind }
+{
+    match kind {
+        Kind::Steps => "steps",
+        Kind::Lines => "lines",
+        Kind::Own => "own",
+    }
+}
+
+fn line_of(alloc: Global, line: &str) -> Result<Bytes, AllocError>
+    ensures { IfOk result (λ copy. copy ≡ line.now) }
+{
+    Ok(Bytes::from_vec(Vec::from_slice(alloc, line.as_bytes())?))
+}
+
+fn bytes_of(line: String) -> Result<Bytes, AllocError>
+    ensures { IfOk result (λ bytes. bytes ≡ string_bytes line) }
+{
+    Ok(Bytes::from_vec(line.into_bytes()))
+}
