@@ -133,6 +133,14 @@ pub take_size : (core : Core) (x : Stands core) (k : ℕ) → k ≡ min (core.li
 take_size core x k is =
     is ∙ (λ i. min (x.limits.max i - x.limits.min i) (length core.inbox.items))
 
+-- a take takes something
+pub take_some : (core : Core) (t : StageNo) (k : ℕ) (x : Stands core) → IsTrue (may_take_next core.topology core.journal.steps t)
+    → k ≡ min (core.limits.max - core.limits.min) (length core.inbox.items) → 1 ≤ k
+take_some core t k x allowed size =
+    let told =
+    take_tells x.settings core.journal.steps (account_of core x.chunk) (chunk_in x.settings (account_of core x.chunk)) x.accounts (known_take core t x allowed).come in
+    omega (arith, told.some, take_size core x k size)
+
 pub stands_take : (core : Core) (j : Recorded) (q : VecDeque Message Global) (t : StageNo) (k : ℕ) (x : Stands core)
     → IsTrue (may_take_next core.topology core.journal.steps t) → k ≡ min (core.limits.max - core.limits.min) (length core.inbox.items)
     → q.items ≡ drop k core.inbox.items → j.steps ≡ Take t the_sub k ∷ core.journal.steps

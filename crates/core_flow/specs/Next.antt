@@ -1,13 +1,16 @@
 -- The next move as a value, and that what it names is legal.
-use Rattle.std.specs.Prelude.{ℕ, ◌+◌, ◌-◌, Bool, if◌then◌else◌, not, ◌&&◌, ◌||◌, ◌==◌, nat_le, nat_lt, is_none, is_some, length, Option, Some, None, IsTrue, ◌⊎◌}
+use Rattle.std.specs.Prelude.{◌≡◌, ℕ, ◌+◌, ◌-◌, Bool, if◌then◌else◌, not, ◌&&◌, ◌||◌, ◌==◌, nat_le, nat_lt, is_none, is_some, length, Option, Some, None, IsTrue, ◌⊎◌}
 use Rattle.pipe_types.specs.declared.step.DrainCause.{DrainCause}
 use Rattle.pipe_types.specs.declared.step.DrainCause.TheVariants.{Sources, Limit}
 use Rattle.core_flow.specs.declared.state.Core.{Core}
 use Rattle.pipe_types.specs.declared.numbers.StageNo.{StageNo}
+use Rattle.pipe_types.specs.declared.numbers.SubNo.{SubNo}
 use Rattle.pipe_types.specs.declared.topology.Topology.{Topology}
 use Rattle.pipe_model.specs.History.{History}
+use Rattle.pipe_types.specs.declared.step.Step.{Step}
 use Rattle.pipe_types.specs.declared.step.Step.TheVariants.{Ask, Drain}
 use Rattle.pipe_types.specs.Numbers.{stage}
+use Rattle.pipe_model.specs.Ledger.{due}
 use Rattle.pipe_model.specs.Legal.{allows, bound}
 use Rattle.core_flow.specs.OneEach.{the_sub}
 use Rattle.pipe_model.specs.Jobs.{fetch_step, may_take_next}
@@ -72,12 +75,31 @@ seen_as (value.Job s) = model.Job s
 seen_as value.JobsOut = model.JobsOut
 seen_as value.Pause = model.Pause
 
--- the stage may begin a fetch or a take
-pub record MayBegin (topology : Topology) (before : History) (s : StageNo) : Type 0 where
-  pub begins : IsTrue (allows topology before (fetch_step topology before s)) ⊎ IsTrue (may_take_next topology before s)
+-- the ask is the one that is due, and it may come
+pub record IsDueAsk (topology : Topology) (before : History) (u : SubNo) (n : ℕ) : Type 0 where
+  pub allowed : IsTrue (allows topology before (Ask u (due topology before u)))
+  pub size : n ≡ due topology before u
 
--- the step, or the job of the stage, is legal
-abbrev pub IsLegalMove : Topology → History → Move → Type 0
-IsLegalMove topology before (value.Step step) = IsTrue (allows topology before step)
-IsLegalMove topology before (value.Job s) = MayBegin topology before s
-IsLegalMove topology before _ = Unit {0}
+-- the drain may begin, since every source has ended or a limit is reached
+pub record MayDrain (topology : Topology) (before : History) (cause : DrainCause) : Type 0 where
+  pub allowed : IsTrue (allows topology before (Drain cause))
+  pub known : (cause ≡ Sources) ⊎ (cause ≡ Limit)
+
+-- the step is an ask or the begin of the drain, and it may come
+abbrev pub IsLegalStep : Topology → History → Step → Type 0
+IsLegalStep topology before (Ask u n) = IsDueAsk topology before u n
+IsLegalStep topology before (Drain cause) = MayDrain topology before cause
+IsLegalStep topology before _ = ⊥
+
+-- the stage is the producer, which may fetch, or the processor, which may take
+pub record MayBegin (topology : Topology) (before : History) (s : StageNo) : Type 0 where
+  pub begins : ((s ≡ stage 1) × IsTrue (allows topology before (fetch_step topology before s))) ⊎ ((s ≡ stage 2) × IsTrue (may_take_next topology before s))
+
+-- the step may come, the job may begin, the drain is done, or a job is out; nothing halts, and something can always be done
+abbrev pub NamesLegalMove : Topology → History → Move → Type 0
+NamesLegalMove topology before value.Halted = ⊥
+NamesLegalMove topology before value.Drained = IsTrue (model.is_drained topology before)
+NamesLegalMove topology before (value.Step step) = IsLegalStep topology before step
+NamesLegalMove topology before (value.Job s) = MayBegin topology before s
+NamesLegalMove topology before value.JobsOut = IsTrue (model.jobs_out topology before)
+NamesLegalMove topology before value.Pause = ⊥

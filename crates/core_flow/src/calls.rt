@@ -1,11 +1,13 @@
 //! The calls that append a step.
 
-ghost use Rattle.std.specs.Prelude.{◌≡◌, ◌∷◌, IfOk, IfErr, OnOk, OnErr, IsTrue, false};
+ghost use Rattle.std.specs.Prelude.{◌≡◌, ◌∷◌, IfOk, IfErr, OnOk, OnErr, IsSome, IsTrue, false};
+ghost use Rattle.pipe_types.specs.Stages.{spec_of};
 ghost use Rattle.pipe_model.specs.Ledger.{due};
 ghost use Rattle.pipe_model.specs.Legal.{allows, bound};
 ghost use Rattle.pipe_model.specs.Content.{has_crash};
 ghost use Rattle.pipe_model.specs.Work.{chunk_of};
 ghost use Rattle.pipe_model.specs.Jobs.{fetch_step, take_step, may_take_next, with_step};
+ghost use Rattle.core_flow.specs.MayAnswer.{MayHandIn, MayEnd, MayReply};
 ghost use Rattle.core_flow.specs.Stands.{Stands};
 
 use crate::parts::{bytes_of, move_first, receive, settle, the_sub};
@@ -35,12 +37,15 @@ impl Core {
         Ok(n)
     }
 
-    /// Appends the fetch of a producer, and answers how many records it may bring.
+    /// Appends the fetch of a producer, and answers how many records it may bring. That many or fewer may be accepted then,
+    /// or the source may end.
     pub fn fetch(&mut self, stage: StageNo) -> Result<u32, AllocError>
         requires stands { Stands self.old }
         requires legal { IsTrue (allows self.old.topology self.old.journal.steps (fetch_step self.old.topology self.old.journal.steps stage)) }
         ensures size { IfOk result (λ n. n ≡ bound self.old.topology self.old.journal.steps stage) }
         ensures appended { IfOk result (λ n. self.new.journal.steps ≡ Step.Fetch stage n ∷ self.old.journal.steps) }
+        ensures may_accept { IfOk result (λ n. MayHandIn self.new.topology self.new.journal.steps stage n) }
+        ensures may_end { OnOk result (MayEnd self.new.topology self.new.journal.steps stage) }
         ensures unchanged { OnErr result (self.new.journal.steps ≡ self.old.journal.steps) }
         ensures topology { self.new.topology ≡ self.old.topology }
         ensures stands { Stands self.new }
@@ -106,12 +111,15 @@ impl Core {
         Ok(())
     }
 
-    /// Appends the take of what stands first in the stage's inbox, and gives it out.
+    /// Appends the take of what stands first in the stage's inbox, and gives it out. The replies of a built-in handler
+    /// may answer it.
     pub fn take(&mut self, stage: StageNo) -> Result<Chunk, AllocError>
         requires stands { Stands self.old }
         requires legal { IsTrue (may_take_next self.old.topology self.old.journal.steps stage) }
         ensures appended { OnOk result (self.new.journal.steps ≡ with_step (take_step self.old.topology self.old.journal.steps stage) self.old.journal.steps) }
         ensures chunk { IfOk result (λ chunk. chunk ≡ Chunk.Messages (chunk_of self.new.topology self.new.journal.steps stage)) }
+        ensures known { OnOk result (IsSome (spec_of self.new.topology stage)) }
+        ensures may_reply { OnOk result (MayReply self.new.topology self.new.journal.steps stage) }
         ensures unchanged { OnErr result (self.new.journal.steps ≡ self.old.journal.steps) }
         ensures topology { self.new.topology ≡ self.old.topology }
         ensures stands { Stands self.new }

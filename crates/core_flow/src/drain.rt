@@ -4,7 +4,7 @@ ghost use Rattle.std.specs.Prelude.{◌≡◌, ◌∷◌, OnOk, OnErr, IsTrue};
 ghost use Rattle.pipe_model.specs.Legal.{allows};
 ghost use Rattle.pipe_model.specs.Moves.{move as next_move_of};
 ghost use Rattle.core_flow.specs.Stands.{Stands};
-ghost use Rattle.core_flow.specs.Next.{seen_as, IsLegalMove, move_of, cause_in, drained_of, takes_in, fetches_in, job_out_of, due_of};
+ghost use Rattle.core_flow.specs.Next.{seen_as, NamesLegalMove, move_of, cause_in, drained_of, takes_in, fetches_in, job_out_of, due_of};
 
 use crate::parts::the_sub;
 use crate::state::Core;
@@ -38,11 +38,12 @@ pub fn begin(core: &mut Core, cause: DrainCause) -> Result<(), AllocError>
     Ok(())
 }
 
-/// The first move that applies; the step or the job that it names is legal.
+/// The first move that applies, of which the step or the job is legal. There is always one: such a pipeline neither
+/// halts nor pauses.
 pub fn next_move(core: &Core) -> Move
     requires stands { Stands core.now }
     ensures first { seen_as result ≡ next_move_of core.now.topology core.now.journal.steps }
-    ensures legal { IsLegalMove core.now.topology core.now.journal.steps result }
+    ensures legal { NamesLegalMove core.now.topology core.now.journal.steps result }
 {
     move_by_fields(core)
 }

@@ -3,7 +3,8 @@
 //!
 //! Each call has the condition that the core stands for its journal and that its step is legal. It appends just that
 //! step, with the one that it owes, and keeps that the core stands; where memory is wanting the journal is as before.
-//! `drain::next_move` answers the first move of the order of moves, with a step or a job that is legal.
+//! `drain::next_move` answers the first move of the order of moves, with a step or a job that is legal, and there is
+//! always one until the drain is done. `fetch` and `take` say which answers are legal then.
 #![tactic(auto)]
 
 mod calls;

@@ -1,6 +1,7 @@
 -- The fetch is the producer's, with its bound.
-use Rattle.std.proofs.Common.{◌∷◌, ◌∙◌, ap}
+use Rattle.std.proofs.Common.{◌∷◌, ◌∙◌, ap, refl, Some}
 use Rattle.pipe_types.specs.declared.step.Step.TheVariants.{Fetch}
+use Rattle.core_flow.proofs.Answerable.{fetch_only, may_hand_in, may_end_source}
 use Rattle.core_flow.proofs.Keeps.{stands_roomy, stands_fetched, fetch_size}
 use Rattle.core_flow.proofs.state.Core.fetch.Goals as goal
 
@@ -15,3 +16,13 @@ returns-clause-stands c =
     stands_fetched c.args.self.now c.push_spare.new.self c.args.stage c.bound-n.result c.requires.stands c.requires.legal
     (c.bound-n.ensures.bound ∙ fetch_size c.args.self.now c.args.stage c.requires.stands c.requires.legal)
     (c.push_spare.ensures.written ∙ ap (λ h. Fetch c.args.stage c.bound-n.result ∷ h) c.reserve.ensures.same_steps)
+
+pub returns-clause-may_accept : goal.returns-clause-may_accept
+returns-clause-may_accept c =
+    may_hand_in (record c.args.self.now { journal = c.push_spare.new.self; fetch = Some c.bound-n.result }) c.args.stage c.bound-n.result
+    (returns-clause-stands c) refl (fetch_only c.args.self.now c.args.stage c.requires.stands c.requires.legal)
+
+pub returns-clause-may_end : goal.returns-clause-may_end
+returns-clause-may_end c =
+    may_end_source (record c.args.self.now { journal = c.push_spare.new.self; fetch = Some c.bound-n.result }) c.args.stage c.bound-n.result
+    (returns-clause-stands c) refl (fetch_only c.args.self.now c.args.stage c.requires.stands c.requires.legal)

@@ -4,7 +4,8 @@ use Rattle.std.specs.Prelude.{min}
 use Rattle.pipe_types.specs.declared.step.Step.TheVariants.{Take}
 use Rattle.core_flow.specs.declared.state.Chunk.TheVariants.{Messages}
 use Rattle.core_flow.proofs.Keeps.{stands_roomy}
-use Rattle.core_flow.proofs.Holds.{stands_take, take_gives, take_appends}
+use Rattle.core_flow.proofs.Answerable.{take_known, may_reply}
+use Rattle.core_flow.proofs.Holds.{known_take, stands_take, take_gives, take_appends, take_some}
 use Rattle.core_flow.proofs.state.Core.take.Goals as goal
 
 pub returns-in_err-reserve-clause-stands : goal.returns-in_err-reserve-clause-stands
@@ -39,3 +40,16 @@ returns-clause-stands c =
     stands_take c.args.self.now c.push_spare.new.self c.move_first.new.inbox c.args.stage c.min-k.result c.requires.stands c.requires.legal size
     c.move_first.ensures.left
     (c.push_spare.ensures.written ∙ (λ i. Take c.args.stage (c.the_sub-sub.ensures i) c.min-k.result ∷ c.reserve.ensures.same_steps i))
+
+pub returns-clause-known : goal.returns-clause-known
+returns-clause-known c =
+    take_known c.args.self.now c.args.stage c.requires.stands (known_take c.args.self.now c.args.stage c.requires.stands c.requires.legal).processor
+
+pub returns-clause-may_reply : goal.returns-clause-may_reply
+returns-clause-may_reply c =
+    let count : c.len.result ≡ length c.args.self.now.inbox.items = search rules in
+    let size : c.min-k.result ≡ min (c.args.self.now.limits.max - c.args.self.now.limits.min) (length c.args.self.now.inbox.items) =
+    c.min-k.ensures ∙ ap (min (c.args.self.now.limits.max - c.args.self.now.limits.min)) count in
+    may_reply (record c.args.self.now { journal = c.push_spare.new.self; inbox = c.move_first.new.inbox; running = c.min-k.result }) c.args.stage
+    (returns-clause-stands c) (take_some c.args.self.now c.args.stage c.min-k.result c.requires.stands c.requires.legal size)
+    (known_take c.args.self.now c.args.stage c.requires.stands c.requires.legal).processor
