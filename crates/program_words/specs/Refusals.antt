@@ -27,4 +27,4 @@ kind_word Own = codes "own"
 
 -- stock KIND need A have B
 abbrev pub stock_line : Kind → (need have : ℕ) → List ℕ
-stock_line kind need have = codes "stock " ++ kind_word kind ++ codes " need " ++ decimal need ++ codes " have " ++ decimal have ++ lf
+stock_line kind need have = codes "stock " ++ (kind_word kind ++ (codes " need " ++ (decimal need ++ (codes " have " ++ (decimal have ++ lf)))))

@@ -38,13 +38,13 @@ pub fn edge_line(alloc: Global, name: &str) -> Result<Bytes, AllocError>
     bytes_of(format!(in alloc; "edge {name}\n")?)
 }
 
-#[tactic(auto, using(std::proofs::lemmas::List::append_assoc))]
 /// The kind of callback of which there are fewer boxes than stages need.
+#[tactic(auto, using(std::proofs::lemmas::List::append_assoc))]
 pub fn stock_line(alloc: Global, kind: Kind, need: usize, have: usize) -> Result<Bytes, AllocError>
     ensures { IfOk result (λ line. line ≡ text.stock_line kind need have) }
 {
-    let kind = kind_word(kind);
-    bytes_of(format!(in alloc; "stock {kind} need {need} have {have}\n")?)
+    let word = kind_word(kind);
+    bytes_of(format!(in alloc; "stock {word} need {need} have {have}\n")?)
 }
 
 fn kind_word(kind: Kind) -> &'static str
