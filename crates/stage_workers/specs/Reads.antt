@@ -1,0 +1,37 @@
+-- What a journal has to do with the moves and with the source that it reads.
+use Rattle.std.specs.Prelude.{◌≡◌, Bool, ℕ, List, [], ◌++◌, IsTrue, Option, Some, None, Result, Ok, Err}
+use Rattle.pipe_types.specs.declared.step.SourceHow.{SourceHow}
+use Rattle.pipe_types.specs.declared.step.SourceHow.TheVariants as how
+use Rattle.pipe_types.specs.declared.topology.Topology.{Topology}
+use Rattle.pipe_types.specs.Numbers.{stage}
+use Rattle.pipe_model.specs.History.{History}
+use Rattle.pipe_model.specs.Outside.{fed, source_end}
+use Rattle.pipe_edges.specs.declared.lines.LineSource.{LineSource}
+use Rattle.pipe_edges.specs.declared.reading.LineEnd.{LineEnd}
+use Rattle.pipe_edges.specs.declared.reading.LineEnd.TheVariants as end
+use Rattle.pipe_edges.specs.LineSource.{line_end_of}
+use Rattle.source_lines.specs.Read.{IsReadFrom}
+use Rattle.run_claims.specs.Followed.{FollowsMoves}
+use Rattle.stage_workers.specs.Steps.{has_flow_steps}
+
+-- how the journal says that the source ended is how it ended
+abbrev pub IsKnownEnd : Option SourceHow → Option LineEnd → Type 0
+IsKnownEnd None now = Unit {0}
+IsKnownEnd (Some how.End) now = now ≡ Some end.End
+IsKnownEnd (Some how.Fault) now = now ≡ Some end.Fault
+IsKnownEnd (Some how.TooLong) now = now ≡ Some end.TooLong
+IsKnownEnd (Some how.Limit) now = ⊥
+
+-- each step was the next move; what was read of the opened source is what the journal accepted, and then these records
+pub record Reads {B : Type 0} (told : B → Bool) (taken left : B → List ℕ) (faults waits : B → ℕ) (opened : B) (source : LineSource B) (topology : Topology) (before : History) (lost : List (List ℕ)) : Type 0 where
+  pub moves : FollowsMoves topology before
+  pub kinds : IsTrue (has_flow_steps before)
+  pub read : IsReadFrom told taken left faults waits opened source (fed before (stage 1) ++ lost)
+  pub known : IsKnownEnd (source_end before (stage 1)) (line_end_of source)
+
+-- the same once more; only where memory was wanting were records read that the journal has not
+abbrev pub ReadsOn : {B T E : Type 0} → (told : B → Bool) → (taken left : B → List ℕ) → (faults waits : B → ℕ) → (opened : B) → (source : LineSource B) → Topology → History → Result T E → Type 0
+ReadsOn told taken left faults waits opened source topology before (Ok done) =
+    Reads told taken left faults waits opened source topology before []
+ReadsOn told taken left faults waits opened source topology before (Err error) =
+    (lost : List (List ℕ)) × Reads told taken left faults waits opened source topology before lost
