@@ -1,0 +1,34 @@
+-- Boxes counted one after another.
+use Rattle.std.proofs.Common.{◌≡◌, ℕ, ◌+◌, ◌<◌, Bool, true, false, cond, List, length, map, take, get_or, sym, ap, ◌∙◌, arith}
+use Rattle.std.proofs.lemmas.List.{length-map, get_or-map}
+use Rattle.std.proofs.lemmas.List.Sums.{count_by_more_yes, count_by_more_no, sum_by-take-le}
+use Rattle.pipe_types.specs.declared.topology.Kind.{Kind}
+use Rattle.stage_job.specs.Boxes.{same_kind, boxes_of_kind}
+
+-- the kind at place i of the list
+kind_there : {A : Type 0} (f : A → Kind) (wanted : Kind) (xs : List A) (i : ℕ) (x : A) (answer : Bool) → i < length xs → x ≡ get_or xs i x
+    → same_kind wanted (f x) ≡ answer → same_kind wanted (get_or (map f xs) i (f x)) ≡ answer
+kind_there f wanted xs i x answer below is same = ap (same_kind wanted) (get_or-map f xs i x (f x) below ∙ ap f (sym is)) ∙ same
+
+in_range : {A : Type 0} (f : A → Kind) (xs : List A) (i : ℕ) → i < length xs → i < length (map f xs)
+in_range f xs i below = omega (arith, length-map xs f)
+
+-- a box of another kind adds none
+pub no_more : {A : Type 0} (f : A → Kind) (wanted : Kind) (xs : List A) (i : ℕ) (x : A) → i < length xs → x ≡ get_or xs i x
+    → same_kind wanted (f x) ≡ false → boxes_of_kind wanted (take (i + 1) (map f xs)) ≡ boxes_of_kind wanted (take i (map f xs))
+no_more f wanted xs i x below is other =
+    count_by_more_no (same_kind wanted) (map f xs) i (f x) (in_range f xs i below) (kind_there f wanted xs i x false below is other)
+
+-- a box of this kind adds one
+pub one_more : {A : Type 0} (f : A → Kind) (wanted : Kind) (xs : List A) (i : ℕ) (x : A) → i < length xs → x ≡ get_or xs i x
+    → same_kind wanted (f x) ≡ true → boxes_of_kind wanted (take (i + 1) (map f xs)) ≡ boxes_of_kind wanted (take i (map f xs)) + 1
+one_more f wanted xs i x below is this =
+    count_by_more_yes (same_kind wanted) (map f xs) i (f x) (in_range f xs i below) (kind_there f wanted xs i x true below is this)
+
+-- where there is a box of this kind their number is not 0
+pub not_none : {A : Type 0} (f : A → Kind) (wanted : Kind) (xs : List A) (i : ℕ) (x : A) → i < length xs → x ≡ get_or xs i x
+    → same_kind wanted (f x) ≡ true → boxes_of_kind wanted (map f xs) ≡ 0 → ⊥
+not_none f wanted xs i x below is this none =
+    let more = one_more f wanted xs i x below is this in
+    let le = sum_by-take-le (λ k. cond (same_kind wanted k) 1 0) (map f xs) (i + 1) in
+    omega (arith, more, le, none)

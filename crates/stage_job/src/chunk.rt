@@ -1,0 +1,166 @@
+//! A chunk of a processor through its callback.
+
+ghost use Rattle.std.specs.Prelude.{◌≡◌, ◌≢◌, ◌≤◌, ◌<◌, ◌^◌, false, IsTrue, IfOk, OnOk, length, count_by};
+ghost use Rattle.std.specs.List.{list_all};
+ghost use Rattle.pipe_types.specs.Counts.{Rose};
+ghost use Rattle.pipe_types.specs.Handlers.{eval, counted, with_reason, reason_of, chunk_replies, is_own_reason, is_own_reply, are_own_replies};
+ghost use Rattle.pipe_model.specs.Content.{has_crash};
+ghost use Rattle.stage_callback.specs.Callbacks.{is_message_for, is_passed};
+ghost use Rattle.stage_job.specs.Chunks.{never_crashes, RoseBy};
+
+use pipe_types::message::{Message, MessageList, Reply, ReplyList};
+use pipe_types::numbers::MsgNo;
+use pipe_types::reason::Reason;
+use pipe_types::topology::Kind;
+use stage_callback::{Callback, FailedReply, Prepared};
+use std::alloc::{AllocError, Global};
+
+/// The replies of a callback to a chunk.
+///
+/// The chunk is first shown to `prepare`. Where it raises, every message fails with that reason; where it crashes,
+/// the crash is the only reply. Otherwise `message` is called on each message in order, and a crash ends the chunk.
+/// `failed` is called on each message that failed, and may replace its reason. An empty chunk calls nothing.
+///
+/// The error is want of memory. The replies are then lost, and the callback may have seen some of the messages.
+pub fn run_chunk(
+    alloc: Global,
+    callback: &mut Box<dyn Callback + Send>,
+    messages: MessageList,
+) -> Result<ReplyList, AllocError>
+    ensures same { (kind callback.new ≡ kind callback.old) × (spec callback.new ≡ spec callback.old)
+        × (told callback.new ≡ told callback.old) }
+    ensures replies { kind callback.old ≢ Kind.Own → IfOk result (λ r.
+        r ≡ chunk_replies (spec callback.old) (count callback.old) messages) }
+    ensures count { kind callback.old ≢ Kind.Own → count callback.old < 2 ^ 64 → IfOk result (λ r.
+        count callback.new ≡ counted (count callback.old) (length r)) }
+    ensures calm { kind callback.old ≢ Kind.Own → IsTrue (never_crashes (spec callback.old).rules)
+        → IfOk result (λ r. has_crash r ≡ false) }
+    ensures no_counts { kind callback.old ≢ Kind.Own
+        → (calls callback.new ≡ calls callback.old) × (bad callback.new ≡ bad callback.old) }
+    ensures never_fall { (calls callback.old ≤ calls callback.new) × (bad callback.old ≤ bad callback.new) }
+    ensures shape { kind callback.old ≡ Kind.Own → IsTrue (list_all (is_message_for (spec callback.old).batchers) messages)
+        → IfOk result (λ r. IsTrue (are_own_replies (spec callback.old).batchers messages r)) }
+    // A user's own kind counts a call for each message that passes, and an answer other than success where one did not.
+    ensures calls { kind callback.old ≡ Kind.Own → IfOk result (λ r.
+        RoseBy (count_by is_passed r) (calls callback.old) (calls callback.new)) }
+    ensures bad { kind callback.old ≡ Kind.Own → IfOk result (λ r.
+        list_all is_passed r ≡ false → Rose (bad callback.old) (bad callback.new)) }
+{
+    let messages = messages.into_vec();
+    if messages.is_empty() {
+        return Ok(ReplyList::from_vec(Vec::new(alloc)));
+    }
+    match callback.prepare(messages.as_slice())? {
+        Prepared::Ready => answer_all(alloc, callback, messages),
+        Prepared::Raised(why) => raise_all(alloc, callback, messages.as_slice(), why),
+        Prepared::Crashed => Ok(ReplyList::from_vec(vec![in alloc; Reply::Crashed]?)),
+    }
+}
+
+/// The replies to these messages in order. A crash ends them.
+fn answer_all(
+    alloc: Global,
+    callback: &mut Box<dyn Callback + Send>,
+    messages: Vec<Message>,
+) -> Result<ReplyList, AllocError>
+    ensures same { (kind callback.new ≡ kind callback.old) × (spec callback.new ≡ spec callback.old)
+        × (told callback.new ≡ told callback.old) }
+    ensures replies { kind callback.old ≢ Kind.Own → IfOk result (λ r.
+        r ≡ chunk_replies (spec callback.old) (count callback.old) messages.items) }
+    ensures count { kind callback.old ≢ Kind.Own → count callback.old < 2 ^ 64 → IfOk result (λ r.
+        count callback.new ≡ counted (count callback.old) (length r)) }
+    ensures no_counts { kind callback.old ≢ Kind.Own
+        → (calls callback.new ≡ calls callback.old) × (bad callback.new ≡ bad callback.old) }
+    ensures never_fall { (calls callback.old ≤ calls callback.new) × (bad callback.old ≤ bad callback.new) }
+    ensures shape { kind callback.old ≡ Kind.Own → IsTrue (list_all (is_message_for (spec callback.old).batchers) messages.items)
+        → IfOk result (λ r. IsTrue (are_own_replies (spec callback.old).batchers messages.items r)) }
+    ensures calls { kind callback.old ≡ Kind.Own → IfOk result (λ r.
+        RoseBy (count_by is_passed r) (calls callback.old) (calls callback.new)) }
+    ensures bad { kind callback.old ≡ Kind.Own → IfOk result (λ r.
+        list_all is_passed r ≡ false → Rose (bad callback.old) (bad callback.new)) }
+{
+    let mut replies = Vec::with_capacity(alloc, messages.len())?;
+    for message in messages {
+        let reply = answer(callback, message)?;
+        let ends = matches!(&reply, Reply::Crashed);
+        replies.push(reply)?;
+        if ends {
+            return Ok(ReplyList::from_vec(replies));
+        }
+    }
+    Ok(ReplyList::from_vec(replies))
+}
+
+/// The replies where `prepare` raised: every message fails with that reason.
+fn raise_all(
+    alloc: Global,
+    callback: &mut Box<dyn Callback + Send>,
+    messages: &[Message],
+    why: Reason,
+) -> Result<ReplyList, AllocError>
+    ensures same { (kind callback.new ≡ kind callback.old) × (spec callback.new ≡ spec callback.old)
+        × (told callback.new ≡ told callback.old) }
+    ensures no_counts { kind callback.old ≢ Kind.Own
+        → (calls callback.new ≡ calls callback.old) × (bad callback.new ≡ bad callback.old) }
+    ensures never_fall { (calls callback.old ≤ calls callback.new) × (bad callback.old ≤ bad callback.new) }
+    ensures shape { kind callback.old ≡ Kind.Own → IsTrue (is_own_reason why)
+        → IfOk result (λ r. IsTrue (are_own_replies (spec callback.old).batchers messages.now r)) }
+    ensures none_passed { IfOk result (λ r. count_by is_passed r ≡ 0) }
+{
+    let mut replies = Vec::with_capacity(alloc, messages.len())?;
+    for message in messages {
+        let reason = reason_for(callback, message.no, why)?;
+        replies.push(Reply::Raised(reason))?;
+    }
+    Ok(ReplyList::from_vec(replies))
+}
+
+/// The reply to one message, with the reason that `failed` leaves it.
+fn answer(
+    callback: &mut Box<dyn Callback + Send>,
+    message: Message,
+) -> Result<Reply, AllocError>
+    ensures same { (kind callback.new ≡ kind callback.old) × (spec callback.new ≡ spec callback.old)
+        × (told callback.new ≡ told callback.old) }
+    ensures built_in { kind callback.old ≢ Kind.Own → IfOk result (λ reply.
+        (reply ≡ with_reason (spec callback.old).failed (eval (spec callback.old) (count callback.old) message))
+        × (count callback.new ≡ counted (count callback.old) 1)) }
+    ensures no_counts { kind callback.old ≢ Kind.Own
+        → (calls callback.new ≡ calls callback.old) × (bad callback.new ≡ bad callback.old) }
+    ensures never_fall { (calls callback.old ≤ calls callback.new) × (bad callback.old ≤ bad callback.new) }
+    ensures shape { kind callback.old ≡ Kind.Own → IsTrue (is_message_for (spec callback.old).batchers message)
+        → IfOk result (λ reply. IsTrue (is_own_reply (spec callback.old).batchers message reply)) }
+    ensures calls { kind callback.old ≡ Kind.Own → OnOk result (Rose (calls callback.old) (calls callback.new)) }
+    ensures bad { kind callback.old ≡ Kind.Own → IfOk result (λ reply.
+        is_passed reply ≡ false → Rose (bad callback.old) (bad callback.new)) }
+{
+    let no = message.no;
+    match callback.message(message)? {
+        Reply::Failed(why) => Ok(Reply::Failed(reason_for(callback, no, why)?)),
+        Reply::Raised(why) => Ok(Reply::Raised(reason_for(callback, no, why)?)),
+        Reply::Pass(passed) => Ok(Reply::Pass(passed)),
+        Reply::Crashed => Ok(Reply::Crashed),
+    }
+}
+
+/// The reason that a failed message keeps, or what the callback puts in its place.
+fn reason_for(
+    callback: &mut Box<dyn Callback + Send>,
+    no: MsgNo,
+    why: Reason,
+) -> Result<Reason, AllocError>
+    ensures same { (kind callback.new ≡ kind callback.old) × (spec callback.new ≡ spec callback.old)
+        × (told callback.new ≡ told callback.old) }
+    ensures built_in { kind callback.old ≢ Kind.Own → IfOk result (λ reason.
+        (reason ≡ reason_of (spec callback.old).failed why) × (count callback.new ≡ count callback.old)) }
+    ensures no_counts { kind callback.old ≢ Kind.Own
+        → (calls callback.new ≡ calls callback.old) × (bad callback.new ≡ bad callback.old) }
+    ensures never_fall { (calls callback.old ≤ calls callback.new) × (bad callback.old ≤ bad callback.new) }
+    ensures own_reason { kind callback.old ≡ Kind.Own → IsTrue (is_own_reason why)
+        → IfOk result (λ reason. IsTrue (is_own_reason reason)) }
+{
+    match callback.failed(no, &why)? {
+        FailedReply::Keep | FailedReply::Raised => Ok(why),
+        FailedReply::Replace(other) => Ok(other),
+    }
+}

@@ -1,0 +1,17 @@
+//! What a worker does with callbacks: it runs a chunk of a processor through one, and arms those of a stock.
+//!
+//! `run_chunk` gives the replies to a chunk. Those of a built-in kind, and the count of messages that they leave, are
+//! exactly the definition of the built-in handlers; those of a user's own kind keep their shape, and no reply that
+//! passes or fails comes without a call that the callback counted. `boxes_of`, `first_of` and `arm_at` read and arm a
+//! stock of boxes.
+#![tactic(auto)]
+
+mod calm;
+mod chunk;
+mod stock;
+#[cfg(test)]
+mod tests;
+
+pub use calm::never_crashes;
+pub use chunk::run_chunk;
+pub use stock::{arm_at, boxes_of, first_of};
