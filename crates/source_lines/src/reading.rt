@@ -1,6 +1,6 @@
 //! One fetch of lines.
 
-ghost use Rattle.std.specs.Prelude.{◌<◌, ◌++◌, ℕ, List, IfOk};
+ghost use Rattle.std.specs.Prelude.{◌≡◌, ◌<◌, ◌++◌, ℕ, List, Some, IfOk, IfSome};
 ghost use Rattle.pipe_edges.specs.LineSource.{line_source, line_end_of};
 ghost use Rattle.pipe_edges.specs.Fetch.{records_in};
 ghost use Rattle.source_lines.specs.Read.{IsReadFrom, IsFetchAnswer};
@@ -19,6 +19,7 @@ pub fn read_lines<B: ByteSource>(
     ensures read { (opened : B) (records : List (List ℕ))
         → IsReadFrom B.told B.taken B.left B.faults B.waits opened source.old records
         → IsReadFrom B.told B.taken B.left B.faults B.waits opened source.new (records ++ records_in result) }
+    ensures end_stays { IfSome (line_end_of source.old) (λ end. line_end_of source.new ≡ Some end) }
     ensures answer { IfOk result (IsFetchAnswer max (B.waits (line_source source.old))
         (B.waits (line_source source.new)) (line_end_of source.new)) }
 {

@@ -61,3 +61,124 @@ pub(crate) fn round<B: ByteSource>(
         Move::Halted | Move::JobsOut | Move::Pause => unreachable!(),
     }
 }
+
+/// Appends a step of the pipeline's own.
+fn own_step(core: &mut Core, step: Step) -> Result<Round, AllocError>
+    requires stands { Stands core.old }
+    requires legal { IsLegalStep core.old.topology core.old.journal.steps step }
+    requires first { next_move_of core.old.topology core.old.journal.steps ≡ StepMove step }
+    ensures stands { Stands core.new }
+    ensures topology { core.new.topology ≡ core.old.topology }
+    ensures on { IfOk result (λ r. r ≡ Round.On) }
+    ensures ready { (kind : Kind) (spec : StageSpec) (seen : ℕ) → IsReady kind spec seen core.old.topology core.old.journal.steps
+        → OnOk result (IsReady kind spec seen core.new.topology core.new.journal.steps) }
+    ensures reads { (S : Type 0) (told : S → Bool) (taken left : S → List ℕ) (faults waits : S → ℕ) (opened : S) (source : LineSource S)
+        → Reads told taken left faults waits opened source core.old.topology core.old.journal.steps []
+        → Reads told taken left faults waits opened source core.new.topology core.new.journal.steps [] }
+    ensures progress { OnOk result (work_left core.new < work_left core.old) }
+{
+    match step {
+        Step::Ask { sub, .. } => {
+            core.ask(sub)?;
+            Ok(Round::On)
+        }
+        Step::Drain { cause } => {
+            drain::begin(core, cause)?;
+            Ok(Round::On)
+        }
+        _ => unreachable!(),
+    }
+}
+
+/// Appends the fetch of the source, reads its next lines, and appends what that came to.
+fn fetch_round<B: ByteSource>(
+    core: &mut Core,
+    source: &mut LineSource<B>,
+) -> Result<Round, AllocError>
+    requires stands { Stands core.old }
+    requires legal { IsTrue (allows core.old.topology core.old.journal.steps (fetch_step core.old.topology core.old.journal.steps (number 1))) }
+    requires first { next_move_of core.old.topology core.old.journal.steps ≡ Job (number 1) }
+    ensures stands { Stands core.new }
+    ensures topology { core.new.topology ≡ core.old.topology }
+    ensures not_drained { IfOk result (λ r. r ≢ Round.Drained) }
+    ensures ready { (kind : Kind) (spec : StageSpec) (seen : ℕ) → IsReady kind spec seen core.old.topology core.old.journal.steps
+        → IfOk result (λ r. r ≢ Round.Waits → IsReady kind spec seen core.new.topology core.new.journal.steps) }
+    ensures reads { (opened : B)
+        → Reads B.told B.taken B.left B.faults B.waits opened source.old core.old.topology core.old.journal.steps []
+        → ReadsOn B.told B.taken B.left B.faults B.waits opened source.new core.new.topology core.new.journal.steps result }
+    ensures progress { result ≡ Ok Round.On → work_left core.new < work_left core.old }
+    ensures waits { result ≡ Ok Round.Waits → Rose (B.waits (line_source source.old)) (B.waits (line_source source.new)) }
+{
+    let most = core.fetch(SOURCE)?;
+    match read_lines(source, most)? {
+        Fetched::Records(records) => hand_in(core, records),
+        Fetched::NotYet => Ok(Round::Waits),
+        Fetched::End => end_source(core, SourceHow::End),
+        Fetched::Fault => end_source(core, SourceHow::Fault),
+        Fetched::TooLong => end_source(core, SourceHow::TooLong),
+    }
+}
+
+/// Appends the records that the fetch brought.
+fn hand_in(core: &mut Core, records: BytesList) -> Result<Round, AllocError>
+    requires stands { Stands core.old }
+    requires legal { IsTrue (allows core.old.topology core.old.journal.steps (Step.Accept (number 1) records)) }
+    ensures stands { Stands core.new }
+    ensures topology { core.new.topology ≡ core.old.topology }
+    ensures on { IfOk result (λ r. r ≡ Round.On) }
+    ensures appended { OnOk result (core.new.journal.steps ≡ Step.Dispatch (number 1) ∷ Step.Accept (number 1) records ∷ core.old.journal.steps) }
+    ensures unchanged { OnErr result (core.new.journal.steps ≡ core.old.journal.steps) }
+    ensures progress { OnOk result (work_left core.new < work_left core.old) }
+{
+    match core.accept(SOURCE, records) {
+        Ok(()) => Ok(Round::On),
+        Err((_, error)) => Err(error),
+    }
+}
+
+/// Appends how the source ended.
+fn end_source(core: &mut Core, how: SourceHow) -> Result<Round, AllocError>
+    requires stands { Stands core.old }
+    requires legal { IsTrue (allows core.old.topology core.old.journal.steps (Step.SourceEnd (number 1) how)) }
+    ensures stands { Stands core.new }
+    ensures topology { core.new.topology ≡ core.old.topology }
+    ensures on { IfOk result (λ r. r ≡ Round.On) }
+    ensures appended { OnOk result (core.new.journal.steps ≡ Step.SourceEnd (number 1) how ∷ core.old.journal.steps) }
+    ensures unchanged { OnErr result (core.new.journal.steps ≡ core.old.journal.steps) }
+    ensures progress { OnOk result (work_left core.new < work_left core.old) }
+{
+    core.source_end(SOURCE, how)?;
+    Ok(Round::On)
+}
+
+/// Appends the take of the processor, handles its messages, and appends their replies.
+fn take_round(
+    alloc: Global,
+    core: &mut Core,
+    callback: &mut Box<dyn Callback + Send>,
+    stage: StageNo,
+) -> Result<Round, AllocError>
+    requires stands { Stands core.old }
+    requires processor { stage ≡ number 2 }
+    requires legal { IsTrue (may_take_next core.old.topology core.old.journal.steps (number 2)) }
+    requires first { next_move_of core.old.topology core.old.journal.steps ≡ Job (number 2) }
+    requires ready { IsReady (kind callback.old) (spec callback.old) (count callback.old) core.old.topology core.old.journal.steps }
+    ensures stands { Stands core.new }
+    ensures topology { core.new.topology ≡ core.old.topology }
+    ensures same { kind callback.new ≡ kind callback.old }
+    ensures on { IfOk result (λ r. r ≡ Round.On) }
+    ensures ready { OnOk result (IsReady (kind callback.new) (spec callback.new) (count callback.new) core.new.topology core.new.journal.steps) }
+    ensures reads { (S : Type 0) (told : S → Bool) (taken left : S → List ℕ) (faults waits : S → ℕ) (opened : S) (source : LineSource S)
+        → Reads told taken left faults waits opened source core.old.topology core.old.journal.steps []
+        → Reads told taken left faults waits opened source core.new.topology core.new.journal.steps [] }
+    ensures progress { OnOk result (work_left core.new < work_left core.old) }
+{
+    let replies = match core.take(stage)? {
+        Chunk::Messages(messages) => run_chunk(alloc, callback, messages)?,
+        Chunk::Batch(_) => unreachable!(),
+    };
+    match core.answer(stage, replies) {
+        Ok(()) => Ok(Round::On),
+        Err((_, error)) => Err(error),
+    }
+}
