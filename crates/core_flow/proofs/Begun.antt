@@ -47,6 +47,7 @@ accounts_new s few =
         fetch_from = λ e. cc;
         fetch_fits = omega arith;
         fetch_within = omega arith;
+        fetch_open = λ e. refl;
         few = few;
         bytes_few = omega arith;
         in_flight = omega arith;
@@ -54,5 +55,6 @@ accounts_new s few =
         chunk_from = λ e. cc;
         chunk_take = λ e. cc;
         chunk_units = λ e. cc;
+        elsewhere = λ t one two. refl;
       };
     }

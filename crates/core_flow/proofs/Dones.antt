@@ -7,7 +7,7 @@ use Rattle.std.proofs.lemmas.Option.{slice_get_within}
 use Rattle.pipe_types.specs.declared.message.Reply.{Reply}
 use Rattle.pipe_types.specs.declared.message.Place.TheVariants.{Inbox, Acked}
 use Rattle.pipe_types.specs.declared.step.Step.TheVariants.{Done}
-use Rattle.pipe_types.specs.Numbers.{stage, post}
+use Rattle.pipe_types.specs.Numbers.{stage, post, same_post}
 use Rattle.pipe_types.specs.Handlers.{outcome_of}
 use Rattle.pipe_model.specs.History.{History, incarnation}
 use Rattle.pipe_model.specs.Posts.{is_out, out_from}
@@ -18,7 +18,7 @@ use Rattle.pipe_model.specs.Legal.{may_come}
 use Rattle.core_flow.specs.OneEach.{Settings, one_each, processor_of, the_sub}
 use Rattle.core_flow.specs.Account.{Account, Accounts, range, accepted_in, after_done}
 use Rattle.core_flow.proofs.Lists.{slice_get-append_left, slice_get-append_right}
-use Rattle.core_flow.proofs.Plain.{plain_done}
+use Rattle.core_flow.proofs.Plain.{plain_done, still_idle}
 use Rattle.core_flow.proofs.Answering.{place_answered}
 use Rattle.core_flow.proofs.Contents.{messages_of-range, content_no}
 use Rattle.core_flow.proofs.Handled.{PassEach, handled_each, handled_length, passed_none}
@@ -33,7 +33,7 @@ pub record Answers (s : Settings) (before : History) (a : Account) (replies : Li
   pub runs : nat_lt 0 (length a.chunk) ≡ true
   pub replied : are_replies_of (processor_of s) (length a.outcomes) a.chunk replies ≡ true
 
-done_parts : (a b c d e : Bool) → (a && (b && ((c && d) && e))) ≡ true → (c ≡ true) × (e ≡ true)
+pub done_parts : (a b c d e : Bool) → (a && (b && ((c && d) && e))) ≡ true → (c ≡ true) × (e ≡ true)
 done_parts true true true true e h = (refl, h)
 done_parts false b c d e h = cc
 done_parts true false c d e h = cc
@@ -136,6 +136,7 @@ accounts_done s before a replies x may calm =
         fetch_from = x.jobs.fetch_from;
         fetch_fits = omega (arith, x.jobs.fetch_fits, end.same);
         fetch_within = omega (arith, x.jobs.fetch_within, end.same);
+        fetch_open = x.jobs.fetch_open;
         few = x.jobs.few;
         bytes_few = omega (arith, x.jobs.bytes_few, end.same);
         in_flight = omega (arith, x.jobs.in_flight, end.outcomes);
@@ -143,5 +144,6 @@ accounts_done s before a replies x may calm =
         chunk_from = λ e. cc;
         chunk_take = λ e. cc;
         chunk_units = λ e. cc;
+        elsewhere = λ t one two. still_idle (same_post (post t 0) (post (stage 2) 0)) (is_out before (post t 0)) (x.jobs.elsewhere t one two);
       };
     }

@@ -20,3 +20,4 @@ pub mod Holds
 pub mod Next
 pub mod Sounds
 pub mod Answerable
+pub mod Progress

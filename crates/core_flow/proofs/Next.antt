@@ -50,7 +50,7 @@ drained-is core x =
     cases true false zero w = let e : zero + w ≡ w = omega arith in ap (λ n. n == 0) (sym e)
     cases true false (suc c) w = let e : (suc c == 0) ≡ false = grind (arith, nat_tests) in let f : nat_lt 0 (suc c) ≡ true = grind (arith, nat_tests) in rw (e, f) refl
 
-due_of-is : (core : Core) (x : Stands core) → due_of core ≡ due_in x.settings (account_of core x.chunk)
+pub due_of-is : (core : Core) (x : Stands core) → due_of core ≡ due_in x.settings (account_of core x.chunk)
 due_of-is core x =
     λ i. if nat_le (core.asked - sym (ended-length core) i) (x.limits.min i) then x.limits.max i - (core.asked - sym (ended-length core) i) else 0
 

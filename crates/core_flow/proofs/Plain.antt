@@ -1,6 +1,6 @@
 -- Steps without kills keep a journal plain.
-use Rattle.std.proofs.Common.{◌≡◌, ℕ, ◌≤◌, List, ◌∷◌, Bool, false, refl, arith}
-use Rattle.std.specs.Prelude.{◌&&◌, ◌||◌, not}
+use Rattle.std.proofs.Common.{◌≡◌, ℕ, ◌≤◌, List, ◌∷◌, Bool, true, false, refl, arith}
+use Rattle.std.specs.Prelude.{◌&&◌, ◌||◌, ◌==◌, not}
 use Rattle.std.proofs.lemmas.Bool.Decides.{nat_tests}
 use Rattle.pipe_types.specs.declared.numbers.StageNo.{StageNo}
 use Rattle.pipe_types.specs.declared.numbers.SubNo.{SubNo}
@@ -24,6 +24,14 @@ answered_slot t u slot old from_one stays = grind (arith, nat_tests)
 ended_slot : (t u : StageNo) (slot : ℕ) (old : Bool) → 1 ≤ slot → old ≡ false
     → (false || (not (not (same_stage u (stage 0)) && same_post (post t slot) (post u 0)) && old)) ≡ false
 ended_slot t u slot old from_one stays = grind (arith, nat_tests)
+
+-- a post that is not out stays so, where another is put out or any is answered
+pub stays_idle : (t n : ℕ) (old : Bool) → (t == n) ≡ false → old ≡ false → (same_post (post (stage t) 0) (post (stage n) 0) || (not false && old)) ≡ false
+stays_idle t n old other idle = rw (other, idle) refl
+
+pub still_idle : (answered old : Bool) → old ≡ false → (false || (not answered && old)) ≡ false
+still_idle true old idle = refl
+still_idle false old idle = idle
 
 pub plain_ask : (s : Settings) (before : History) (u : SubNo) (n : ℕ) → IsPlain s before → IsPlain s (Ask u n ∷ before)
 plain_ask s before u n p =

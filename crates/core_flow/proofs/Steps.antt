@@ -15,7 +15,7 @@ use Rattle.pipe_types.specs.declared.message.Place.TheVariants.{Inbox, Running, 
 use Rattle.pipe_types.specs.declared.step.SourceHow.{SourceHow}
 use Rattle.pipe_types.specs.declared.step.DrainCause.{DrainCause}
 use Rattle.pipe_types.specs.declared.step.Step.TheVariants.{Ask, Fetch, Accept, SourceEnd, Dispatch, Take, Drain}
-use Rattle.pipe_types.specs.Numbers.{stage, post}
+use Rattle.pipe_types.specs.Numbers.{stage, post, same_post}
 use Rattle.std.specs.List.{list_all}
 use Rattle.pipe_types.specs.Lines.{max_bytes}
 use Rattle.pipe_model.specs.History.{History, accepted, bytes_in, incarnation, accepted_bytes}
@@ -33,7 +33,7 @@ use Rattle.core_flow.proofs.Places.{front}
 use Rattle.pipe_model.specs.Content.{content, producer_of, is_among_next}
 use Rattle.pipe_types.specs.declared.numbers.StageNo.{StageNo}
 use Rattle.core_flow.proofs.Contents.{length-new_messages, contents_accepted}
-use Rattle.core_flow.proofs.Plain.{plain_ask, plain_fetch, plain_accept, plain_dispatch, plain_take, plain_end, plain_drain}
+use Rattle.core_flow.proofs.Plain.{stays_idle, still_idle, plain_ask, plain_fetch, plain_accept, plain_dispatch, plain_take, plain_end, plain_drain}
 use Rattle.core_flow.proofs.Allowed.{allows-plain, not_true, and_left, and_right, bound-is, due-is}
 use Rattle.pipe_model.specs.Ledger.{due}
 use Rattle.core_flow.specs.Moving.{bound_in, due_in}
@@ -90,6 +90,7 @@ accounts_ask s before a n x may =
         fetch_from = x.jobs.fetch_from;
         fetch_fits = omega (arith, x.jobs.fetch_fits);
         fetch_within = x.jobs.fetch_within;
+        fetch_open = x.jobs.fetch_open;
         few = x.jobs.few;
         bytes_few = x.jobs.bytes_few;
         in_flight = asked_within s a n told (omega (arith, x.jobs.fetch_fits));
@@ -97,17 +98,19 @@ accounts_ask s before a n x may =
         chunk_from = x.jobs.chunk_from;
         chunk_take = x.jobs.chunk_take;
         chunk_units = x.jobs.chunk_units;
+        elsewhere = x.jobs.elsewhere;
       };
     }
 
 -- what a fetch tells
 pub record Fetches (s : Settings) (a : Account) (n : ℕ) : Type 0 where
+  pub unended : a.ended ≡ false
   pub idle : is_some a.fetch ≡ false
   pub some : 1 ≤ n
   pub is : n ≡ bound_in s a
 
-fetch_parts : (a b c d e f g i j : Bool) → (a && (b && (c && (d && (e && (f && (g && (i && j)))))))) ≡ true → (d ≡ true) × (i ≡ true) × (j ≡ true)
-fetch_parts true true true true true true true true true h = (refl, refl, refl)
+fetch_parts : (a b c d e f g i j : Bool) → (a && (b && (c && (d && (e && (f && (g && (i && j)))))))) ≡ true → (c ≡ true) × (d ≡ true) × (i ≡ true) × (j ≡ true)
+fetch_parts true true true true true true true true true h = (refl, refl, refl, refl)
 fetch_parts false b c d e f g i j h = cc
 fetch_parts true false c d e f g i j h = cc
 fetch_parts true true false d e f g i j h = cc
@@ -120,14 +123,15 @@ fetch_parts true true true true true true true true false h = cc
 
 pub fetch_tells : (s : Settings) (before : History) (a : Account) (n : ℕ) → Accounts s before a → may_come (one_each s) before (Fetch (stage 1) n) ≡ true → Fetches s a n
 fetch_tells s before a n x may =
-    let parts : (not (is_out before (post (stage 1) 0)) ≡ true) × (nat_le 1 n ≡ true) × ((n == bound (one_each s) before (stage 1)) ≡ true) =
+    let parts : (not (has_ended before (stage 1)) ≡ true) × (not (is_out before (post (stage 1) 0)) ≡ true) × (nat_le 1 n ≡ true) × ((n == bound (one_each s) before (stage 1)) ≡ true) =
     fetch_parts (is_live (one_each s) before (stage 1)) true (not (has_ended before (stage 1))) (not (is_out before (post (stage 1) 0))) (not (rests before (stage 1)))
     (not (happened is_drain before)) (nat_lt (accepted_bytes before) s.whole.byte_limit) (nat_le 1 n) (n == bound (one_each s) before (stage 1)) may in
-    let one : nat_le 1 n ≡ true = parts.1 in
+    let one : nat_le 1 n ≡ true = parts.2 in
     record {
-      idle = sym x.jobs.fetching ∙ not_true (is_out before (post (stage 1) 0)) parts.0;
+      unended = sym x.counts.ended ∙ not_true (has_ended before (stage 1)) parts.0;
+      idle = sym x.jobs.fetching ∙ not_true (is_out before (post (stage 1) 0)) parts.1;
       some = grind (arith, nat_tests);
-      is = eqb-true n (bound (one_each s) before (stage 1)) parts.2 ∙ bound-is s before a x;
+      is = eqb-true n (bound (one_each s) before (stage 1)) parts.3 ∙ bound-is s before a x;
     }
 
 pub accounts_fetch : (s : Settings) (before : History) (a : Account) (n : ℕ) → Accounts s before a → may_come (one_each s) before (Fetch (stage 1) n) ≡ true
@@ -162,6 +166,7 @@ accounts_fetch s before a n x may =
         fetch_from = λ e. x.plain.incarnations (stage 1);
         fetch_fits = omega (arith, told.some, told.is);
         fetch_within = omega (arith, told.some, told.is);
+        fetch_open = λ e. told.unended;
         few = x.jobs.few;
         bytes_few = x.jobs.bytes_few;
         in_flight = x.jobs.in_flight;
@@ -169,6 +174,7 @@ accounts_fetch s before a n x may =
         chunk_from = x.jobs.chunk_from;
         chunk_take = x.jobs.chunk_take;
         chunk_units = x.jobs.chunk_units;
+        elsewhere = λ t one two. stays_idle t.0 1 (is_out before (post t 0)) one (x.jobs.elsewhere t one two);
       };
     }
 
@@ -203,6 +209,7 @@ accounts_end s before a how x may =
         fetch_from = λ e. cc;
         fetch_fits = omega (arith, x.jobs.fetch_fits);
         fetch_within = omega (arith, x.jobs.fetch_within);
+        fetch_open = λ e. cc;
         few = x.jobs.few;
         bytes_few = x.jobs.bytes_few;
         in_flight = x.jobs.in_flight;
@@ -210,6 +217,7 @@ accounts_end s before a how x may =
         chunk_from = x.jobs.chunk_from;
         chunk_take = x.jobs.chunk_take;
         chunk_units = x.jobs.chunk_units;
+        elsewhere = λ t one two. still_idle (same_post (post t 0) (post (stage 1) 0)) (is_out before (post t 0)) (x.jobs.elsewhere t one two);
       };
     }
 
@@ -245,6 +253,7 @@ accounts_control_end s before a how x may =
         fetch_from = x.jobs.fetch_from;
         fetch_fits = x.jobs.fetch_fits;
         fetch_within = x.jobs.fetch_within;
+        fetch_open = x.jobs.fetch_open;
         few = x.jobs.few;
         bytes_few = x.jobs.bytes_few;
         in_flight = x.jobs.in_flight;
@@ -252,6 +261,7 @@ accounts_control_end s before a how x may =
         chunk_from = x.jobs.chunk_from;
         chunk_take = x.jobs.chunk_take;
         chunk_units = x.jobs.chunk_units;
+        elsewhere = x.jobs.elsewhere;
       };
     }
 
@@ -286,6 +296,7 @@ accounts_drain s before a cause x may =
         fetch_from = x.jobs.fetch_from;
         fetch_fits = x.jobs.fetch_fits;
         fetch_within = x.jobs.fetch_within;
+        fetch_open = x.jobs.fetch_open;
         few = x.jobs.few;
         bytes_few = x.jobs.bytes_few;
         in_flight = x.jobs.in_flight;
@@ -293,6 +304,7 @@ accounts_drain s before a cause x may =
         chunk_from = x.jobs.chunk_from;
         chunk_take = x.jobs.chunk_take;
         chunk_units = x.jobs.chunk_units;
+        elsewhere = x.jobs.elsewhere;
       };
     }
 
@@ -436,6 +448,7 @@ accounts_accept s before a records x may =
         fetch_from = λ e. cc;
         fetch_fits = omega (arith, told.fits, more);
         fetch_within = omega (arith, told.within, more);
+        fetch_open = λ e. cc;
         few = x.jobs.few;
         bytes_few = omega (arith, x.jobs.bytes_few, told.short, more);
         in_flight = x.jobs.in_flight;
@@ -443,6 +456,7 @@ accounts_accept s before a records x may =
         chunk_from = x.jobs.chunk_from;
         chunk_take = x.jobs.chunk_take;
         chunk_units = x.jobs.chunk_units;
+        elsewhere = λ t one two. still_idle (same_post (post t 0) (post (stage 1) 0)) (is_out before (post t 0)) (x.jobs.elsewhere t one two);
       };
     }
 
@@ -544,6 +558,7 @@ accounts_take s before a k x may =
         fetch_from = x.jobs.fetch_from;
         fetch_fits = omega (arith, x.jobs.fetch_fits, split.same);
         fetch_within = omega (arith, x.jobs.fetch_within, split.same);
+        fetch_open = x.jobs.fetch_open;
         few = x.jobs.few;
         bytes_few = omega (arith, x.jobs.bytes_few, split.same);
         in_flight = x.jobs.in_flight;
@@ -552,5 +567,6 @@ accounts_take s before a k x may =
         chunk_take = λ e. ap (λ m. Some (the_sub, m)) (sym split.taken);
         chunk_units = λ e.
             next_units_are s before a k x.queues fits ∙ (ap (λ b. range b k) split.ended ∙ ap (range (length a.outcomes)) (sym split.taken));
+        elsewhere = λ t one two. stays_idle t.0 2 (is_out before (post t 0)) two (x.jobs.elsewhere t one two);
       };
     }

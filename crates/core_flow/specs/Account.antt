@@ -1,5 +1,5 @@
 -- What a journal without kills comes to in a pipeline of one producer and one processor.
-use Rattle.std.specs.Prelude.{◌≡◌, ℕ, zero, suc, ◌+◌, ◌*◌, ◌≤◌, ◌<◌, Bool, true, false, List, [], ◌∷◌, ◌++◌, length, map, replicate, take, drop, Option, Some, None, is_some, unwrap_or, slice_get, nat_lt}
+use Rattle.std.specs.Prelude.{◌≡◌, ℕ, zero, suc, ◌+◌, ◌*◌, ◌≤◌, ◌<◌, Bool, true, false, List, [], ◌∷◌, ◌++◌, length, map, replicate, take, drop, Option, Some, None, is_some, unwrap_or, slice_get, nat_lt, ◌==◌}
 use Rattle.pipe_types.specs.declared.numbers.StageNo.{StageNo}
 use Rattle.pipe_types.specs.declared.message.Message.{Message}
 use Rattle.pipe_types.specs.declared.message.Outcome.{Outcome}
@@ -115,6 +115,7 @@ pub record Jobs (s : Settings) (before : History) (a : Account) : Type 0 where
   pub fetch_from : is_some a.fetch ≡ true → out_from before (post (stage 1) 0) ≡ 1
   pub fetch_fits : unwrap_or a.fetch 0 + accepted_in a ≤ a.asked
   pub fetch_within : unwrap_or a.fetch 0 + accepted_in a ≤ s.whole.record_limit
+  pub fetch_open : is_some a.fetch ≡ true → a.ended ≡ false
   pub few : s.whole.record_limit ≤ 200000
   pub bytes_few : a.bytes ≤ accepted_in a * 65536
   pub in_flight : a.asked ≤ length a.outcomes + s.processor.max
@@ -122,6 +123,7 @@ pub record Jobs (s : Settings) (before : History) (a : Account) : Type 0 where
   pub chunk_from : nat_lt 0 (length a.chunk) ≡ true → out_from before (post (stage 2) 0) ≡ 1
   pub chunk_take : nat_lt 0 (length a.chunk) ≡ true → last_take before (stage 2) ≡ Some (the_sub, length a.chunk)
   pub chunk_units : nat_lt 0 (length a.chunk) ≡ true → taken_units (one_each s) before (stage 2) ≡ range (length a.outcomes) (length a.chunk)
+  pub elsewhere : (t : StageNo) → (t.0 == 1) ≡ false → (t.0 == 2) ≡ false → is_out before (post t 0) ≡ false
 
 -- the account is what the legal journal comes to
 pub record Accounts (s : Settings) (before : History) (a : Account) : Type 0 where

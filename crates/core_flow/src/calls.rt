@@ -1,6 +1,6 @@
 //! The calls that append a step.
 
-ghost use Rattle.std.specs.Prelude.{◌≡◌, ◌∷◌, IfOk, IfErr, OnOk, OnErr, IsSome, IsTrue, false};
+ghost use Rattle.std.specs.Prelude.{◌≡◌, ◌≢◌, ◌<◌, ◌≤◌, ◌∷◌, IfOk, IfErr, OnOk, OnErr, IsSome, IsTrue, false};
 ghost use Rattle.pipe_types.specs.Stages.{spec_of};
 ghost use Rattle.pipe_model.specs.Ledger.{due};
 ghost use Rattle.pipe_model.specs.Legal.{allows, bound};
@@ -8,6 +8,7 @@ ghost use Rattle.pipe_model.specs.Content.{has_crash};
 ghost use Rattle.pipe_model.specs.Work.{chunk_of};
 ghost use Rattle.pipe_model.specs.Jobs.{fetch_step, take_step, may_take_next, with_step};
 ghost use Rattle.core_flow.specs.MayAnswer.{MayHandIn, MayEnd, MayReply};
+ghost use Rattle.core_flow.specs.Progress.{work_left};
 ghost use Rattle.core_flow.specs.Stands.{Stands};
 
 use crate::parts::{bytes_of, move_first, receive, settle, the_sub};
@@ -28,6 +29,8 @@ impl Core {
         ensures unchanged { OnErr result (self.new.journal.steps ≡ self.old.journal.steps) }
         ensures topology { self.new.topology ≡ self.old.topology }
         ensures stands { Stands self.new }
+        ensures progress { OnOk result (work_left self.new < work_left self.old) }
+        ensures work_stays { OnErr result (work_left self.new ≡ work_left self.old) }
     {
         let handled = self.settled.len() as u64;
         let n = self.limits.max - (self.asked - handled) as u32;
@@ -49,6 +52,7 @@ impl Core {
         ensures unchanged { OnErr result (self.new.journal.steps ≡ self.old.journal.steps) }
         ensures topology { self.new.topology ≡ self.old.topology }
         ensures stands { Stands self.new }
+        ensures work { work_left self.new ≤ work_left self.old }
     {
         let n = self.bound();
         self.journal.reserve(1)?;
@@ -65,6 +69,8 @@ impl Core {
         ensures unchanged { OnErr result (self.new.journal.steps ≡ self.old.journal.steps) }
         ensures topology { self.new.topology ≡ self.old.topology }
         ensures stands { Stands self.new }
+        ensures progress { OnOk result (stage.0 ≢ 0 → work_left self.new < work_left self.old) }
+        ensures work_stays { OnErr result (work_left self.new ≡ work_left self.old) }
     {
         self.journal.reserve(1)?;
         self.journal.push_spare(Step::SourceEnd { stage, how });
@@ -88,6 +94,8 @@ impl Core {
         ensures unchanged { OnErr result (self.new.journal.steps ≡ self.old.journal.steps) }
         ensures topology { self.new.topology ≡ self.old.topology }
         ensures stands { Stands self.new }
+        ensures progress { OnOk result (work_left self.new < work_left self.old) }
+        ensures work_stays { OnErr result (work_left self.new ≡ work_left self.old) }
     {
         let accepted = self.accepted();
         let bytes = bytes_of(records.as_slice());
@@ -123,6 +131,7 @@ impl Core {
         ensures unchanged { OnErr result (self.new.journal.steps ≡ self.old.journal.steps) }
         ensures topology { self.new.topology ≡ self.old.topology }
         ensures stands { Stands self.new }
+        ensures work { work_left self.new ≤ work_left self.old }
     {
         let most = self.limits.max - self.limits.min;
         let k = most.min(self.inbox.len() as u32);
@@ -149,6 +158,8 @@ impl Core {
         ensures unchanged { OnErr result (self.new.journal.steps ≡ self.old.journal.steps) }
         ensures topology { self.new.topology ≡ self.old.topology }
         ensures stands { Stands self.new }
+        ensures progress { OnOk result (work_left self.new < work_left self.old) }
+        ensures work_stays { OnErr result (work_left self.new ≡ work_left self.old) }
     {
         if let Err(error) = self.journal.reserve(1) {
             return Err((replies, error));

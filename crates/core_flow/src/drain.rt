@@ -1,8 +1,9 @@
 //! The drain, and what comes next.
 
-ghost use Rattle.std.specs.Prelude.{◌≡◌, ◌∷◌, OnOk, OnErr, IsTrue};
+ghost use Rattle.std.specs.Prelude.{◌≡◌, ◌<◌, ◌∷◌, OnOk, OnErr, IsTrue};
 ghost use Rattle.pipe_model.specs.Legal.{allows};
 ghost use Rattle.pipe_model.specs.Moves.{move as next_move_of};
+ghost use Rattle.core_flow.specs.Progress.{work_left};
 ghost use Rattle.core_flow.specs.Stands.{Stands};
 ghost use Rattle.core_flow.specs.Next.{seen_as, NamesLegalMove, move_of, cause_in, drained_of, takes_in, fetches_in, job_out_of, due_of};
 
@@ -31,6 +32,8 @@ pub fn begin(core: &mut Core, cause: DrainCause) -> Result<(), AllocError>
     ensures unchanged { OnErr result (core.new.journal.steps ≡ core.old.journal.steps) }
     ensures topology { core.new.topology ≡ core.old.topology }
     ensures stands { Stands core.new }
+    ensures progress { OnOk result (work_left core.new < work_left core.old) }
+    ensures work_stays { OnErr result (work_left core.new ≡ work_left core.old) }
 {
     core.journal.reserve(1)?;
     core.journal.push_spare(Step::Drain { cause });

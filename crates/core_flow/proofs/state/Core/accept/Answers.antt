@@ -6,6 +6,7 @@ use Rattle.core_flow.specs.Account.{new_messages}
 use Rattle.core_flow.proofs.Keeps.{stands_roomy, accept_facts, stands_accept}
 use Rattle.core_flow.proofs.Holds.{stands_same, accept_bytes}
 use Rattle.core_flow.proofs.Messages.{bytes_in-sum}
+use Rattle.core_flow.proofs.Progress.{work_same, accept_less}
 use Rattle.core_flow.proofs.state.Core.accept.Goals as goal
 
 pub returns-in-Err-clause-stands : goal.returns-in-Err-clause-stands
@@ -45,3 +46,16 @@ returns-clause-stands c =
     (c.in-Ok.ensures.received ∙ ap (λ records. c.args.self.now.inbox.items ++ new_messages c.accepted-accepted.result records) c.as_slice-2.ensures)
     (c.push_spare-2.ensures.written
     ∙ ap (λ h. Dispatch c.args.stage ∷ h) (c.push_spare.ensures.written ∙ ap (λ h. Accept c.args.stage c.args.records ∷ h) c.reserve.ensures.same_steps))
+
+pub returns-in-Err-clause-work_stays : goal.returns-in-Err-clause-work_stays
+returns-in-Err-clause-work_stays c = work_same c.args.self.now c.reserve.new.self c.args.self.now.inbox c.args.self.now.settled refl refl
+
+pub returns-in-Err-receive-clause-work_stays : goal.returns-in-Err-receive-clause-work_stays
+returns-in-Err-receive-clause-work_stays c =
+    work_same c.args.self.now c.reserve.new.self c.receive.new.inbox c.args.self.now.settled c.in-Err-receive.ensures.unchanged refl
+
+pub returns-clause-progress : goal.returns-clause-progress
+returns-clause-progress c =
+    accept_less c.args.self.now c.push_spare-2.new.self c.receive.new.inbox c.args.stage c.args.records c.accepted-accepted.result c.bytes_of-bytes.result
+    c.requires.stands c.requires.legal
+    (c.in-Ok.ensures.received ∙ ap (λ records. c.args.self.now.inbox.items ++ new_messages c.accepted-accepted.result records) c.as_slice-2.ensures)

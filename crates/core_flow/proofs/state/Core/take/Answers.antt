@@ -1,11 +1,12 @@
 -- The chunk is what stands first in the inbox.
-use Rattle.std.proofs.Common.{◌≡◌, ◌-◌, ◌∷◌, ◌++◌, ◌∙◌, ap, take, length, rules}
+use Rattle.std.proofs.Common.{◌≡◌, ◌-◌, ◌∷◌, ◌++◌, ◌∙◌, ap, take, length, rules, refl, arith}
 use Rattle.std.specs.Prelude.{min}
 use Rattle.pipe_types.specs.declared.step.Step.TheVariants.{Take}
 use Rattle.core_flow.specs.declared.state.Chunk.TheVariants.{Messages}
 use Rattle.core_flow.proofs.Keeps.{stands_roomy}
 use Rattle.core_flow.proofs.Answerable.{take_known, may_reply}
 use Rattle.core_flow.proofs.Holds.{known_take, stands_take, take_gives, take_appends, take_some}
+use Rattle.core_flow.proofs.Progress.{work_same, take_keeps}
 use Rattle.core_flow.proofs.state.Core.take.Goals as goal
 
 pub returns-in_err-reserve-clause-stands : goal.returns-in_err-reserve-clause-stands
@@ -53,3 +54,14 @@ returns-clause-may_reply c =
     may_reply (record c.args.self.now { journal = c.push_spare.new.self; inbox = c.move_first.new.inbox; running = c.min-k.result }) c.args.stage
     (returns-clause-stands c) (take_some c.args.self.now c.args.stage c.min-k.result c.requires.stands c.requires.legal size)
     (known_take c.args.self.now c.args.stage c.requires.stands c.requires.legal).processor
+
+pub returns-in_err-reserve-clause-work : goal.returns-in_err-reserve-clause-work
+returns-in_err-reserve-clause-work c =
+    omega (arith, work_same c.args.self.now c.reserve.new.self c.args.self.now.inbox c.args.self.now.settled refl refl)
+
+pub returns-clause-work : goal.returns-clause-work
+returns-clause-work c =
+    let count : c.len.result ≡ length c.args.self.now.inbox.items = search rules in
+    let size : c.min-k.result ≡ min (c.args.self.now.limits.max - c.args.self.now.limits.min) (length c.args.self.now.inbox.items) =
+    c.min-k.ensures ∙ ap (min (c.args.self.now.limits.max - c.args.self.now.limits.min)) count in
+    take_keeps c.args.self.now c.push_spare.new.self c.move_first.new.inbox c.args.stage c.min-k.result c.requires.stands c.requires.legal size c.move_first.ensures.left
