@@ -1,11 +1,15 @@
 //! One round: the next move, and where it is a job, its answer.
 
-ghost use Rattle.std.specs.Prelude.{◌≡◌, ◌≢◌, ◌<◌, ◌∷◌, [], Ok, IfOk, OnOk, OnErr, IsTrue};
+ghost use Rattle.std.specs.Prelude.{◌≡◌, ◌≢◌, ◌<◌, ◌∷◌, Bool, ℕ, List, [], Ok, IfOk, OnOk, OnErr, IsTrue};
 ghost use Rattle.pipe_types.specs.Counts.{Rose};
 ghost use Rattle.pipe_types.specs.Numbers.{stage as number};
 ghost use Rattle.pipe_model.specs.Legal.{allows};
 ghost use Rattle.pipe_model.specs.Jobs.{fetch_step, may_take_next};
-ghost use Rattle.pipe_model.specs.Moves.{move as next_move_of, Job, is_drained};
+ghost use Rattle.pipe_model.specs.Moves.{move as next_move_of, StepMove, Job, is_drained};
+ghost use Rattle.pipe_types.specs.declared.topology.Kind.{Kind};
+ghost use Rattle.pipe_types.specs.declared.topology.StageSpec.{StageSpec};
+ghost use Rattle.pipe_edges.specs.declared.lines.LineSource.{LineSource};
+ghost use Rattle.core_flow.specs.Next.{IsLegalStep};
 ghost use Rattle.pipe_edges.specs.LineSource.{line_source, line_end_of};
 ghost use Rattle.core_flow.specs.Stands.{Stands};
 ghost use Rattle.core_flow.specs.Progress.{work_left};
@@ -15,6 +19,7 @@ ghost use Rattle.stage_workers.specs.Reads.{Reads, ReadsOn};
 use core_flow::drain::{self, Move};
 use core_flow::{Chunk, Core};
 use pipe_edges::{ByteSource, Fetched, LineSource};
+use pipe_types::bytes::BytesList;
 use pipe_types::numbers::StageNo;
 use pipe_types::step::{SourceHow, Step};
 use source_lines::read_lines;
@@ -24,7 +29,7 @@ use std::alloc::{AllocError, Global};
 
 /// What a round came to: more is to do, the pipeline is drained, or the source had nothing ready.
 #[derive(Clone, Copy, Debug, PartialEq, Eq)]
-pub(crate) enum Round {
+pub(crate) enum RoundEnd {
     On,
     Drained,
     Waits,
@@ -38,23 +43,23 @@ pub(crate) fn round<B: ByteSource>(
     core: &mut Core,
     source: &mut LineSource<B>,
     callback: &mut Box<dyn Callback + Send>,
-) -> Result<Round, AllocError>
+) -> Result<RoundEnd, AllocError>
     requires stands { Stands core.old }
     requires ready { IsReady (kind callback.old) (spec callback.old) (count callback.old) core.old.topology core.old.journal.steps }
     ensures stands { Stands core.new }
     ensures topology { core.new.topology ≡ core.old.topology }
     ensures same { kind callback.new ≡ kind callback.old }
-    ensures ready { IfOk result (λ r. r ≢ Round.Waits
+    ensures ready { IfOk result (λ r. r ≢ RoundEnd.Waits
         → IsReady (kind callback.new) (spec callback.new) (count callback.new) core.new.topology core.new.journal.steps) }
     ensures reads { (opened : B)
         → Reads B.told B.taken B.left B.faults B.waits opened source.old core.old.topology core.old.journal.steps []
         → ReadsOn B.told B.taken B.left B.faults B.waits opened source.new core.new.topology core.new.journal.steps result }
-    ensures progress { result ≡ Ok Round.On → work_left core.new < work_left core.old }
-    ensures drained { result ≡ Ok Round.Drained → IsTrue (is_drained core.new.topology core.new.journal.steps) }
-    ensures waits { result ≡ Ok Round.Waits → Rose (B.waits (line_source source.old)) (B.waits (line_source source.new)) }
+    ensures progress { result ≡ Ok RoundEnd.On → work_left core.new < work_left core.old }
+    ensures drained { result ≡ Ok RoundEnd.Drained → IsTrue (is_drained core.new.topology core.new.journal.steps) }
+    ensures waits { result ≡ Ok RoundEnd.Waits → Rose (B.waits (line_source source.old)) (B.waits (line_source source.new)) }
 {
     match drain::next_move(core) {
-        Move::Drained => Ok(Round::Drained),
+        Move::Drained => Ok(RoundEnd::Drained),
         Move::Step(step) => own_step(core, step),
         Move::Job(stage) if stage == SOURCE => fetch_round(core, source),
         Move::Job(stage) => take_round(alloc, core, callback, stage),
@@ -63,13 +68,13 @@ pub(crate) fn round<B: ByteSource>(
 }
 
 /// Appends a step of the pipeline's own.
-fn own_step(core: &mut Core, step: Step) -> Result<Round, AllocError>
+fn own_step(core: &mut Core, step: Step) -> Result<RoundEnd, AllocError>
     requires stands { Stands core.old }
     requires legal { IsLegalStep core.old.topology core.old.journal.steps step }
     requires first { next_move_of core.old.topology core.old.journal.steps ≡ StepMove step }
     ensures stands { Stands core.new }
     ensures topology { core.new.topology ≡ core.old.topology }
-    ensures on { IfOk result (λ r. r ≡ Round.On) }
+    ensures on { IfOk result (λ r. r ≡ RoundEnd.On) }
     ensures ready { (kind : Kind) (spec : StageSpec) (seen : ℕ) → IsReady kind spec seen core.old.topology core.old.journal.steps
         → OnOk result (IsReady kind spec seen core.new.topology core.new.journal.steps) }
     ensures reads { (S : Type 0) (told : S → Bool) (taken left : S → List ℕ) (faults waits : S → ℕ) (opened : S) (source : LineSource S)
@@ -80,11 +85,11 @@ fn own_step(core: &mut Core, step: Step) -> Result<Round, AllocError>
     match step {
         Step::Ask { sub, .. } => {
             core.ask(sub)?;
-            Ok(Round::On)
+            Ok(RoundEnd::On)
         }
         Step::Drain { cause } => {
             drain::begin(core, cause)?;
-            Ok(Round::On)
+            Ok(RoundEnd::On)
         }
         _ => unreachable!(),
     }
@@ -94,25 +99,25 @@ fn own_step(core: &mut Core, step: Step) -> Result<Round, AllocError>
 fn fetch_round<B: ByteSource>(
     core: &mut Core,
     source: &mut LineSource<B>,
-) -> Result<Round, AllocError>
+) -> Result<RoundEnd, AllocError>
     requires stands { Stands core.old }
     requires legal { IsTrue (allows core.old.topology core.old.journal.steps (fetch_step core.old.topology core.old.journal.steps (number 1))) }
     requires first { next_move_of core.old.topology core.old.journal.steps ≡ Job (number 1) }
     ensures stands { Stands core.new }
     ensures topology { core.new.topology ≡ core.old.topology }
-    ensures not_drained { IfOk result (λ r. r ≢ Round.Drained) }
+    ensures not_drained { IfOk result (λ r. r ≢ RoundEnd.Drained) }
     ensures ready { (kind : Kind) (spec : StageSpec) (seen : ℕ) → IsReady kind spec seen core.old.topology core.old.journal.steps
-        → IfOk result (λ r. r ≢ Round.Waits → IsReady kind spec seen core.new.topology core.new.journal.steps) }
+        → IfOk result (λ r. r ≢ RoundEnd.Waits → IsReady kind spec seen core.new.topology core.new.journal.steps) }
     ensures reads { (opened : B)
         → Reads B.told B.taken B.left B.faults B.waits opened source.old core.old.topology core.old.journal.steps []
         → ReadsOn B.told B.taken B.left B.faults B.waits opened source.new core.new.topology core.new.journal.steps result }
-    ensures progress { result ≡ Ok Round.On → work_left core.new < work_left core.old }
-    ensures waits { result ≡ Ok Round.Waits → Rose (B.waits (line_source source.old)) (B.waits (line_source source.new)) }
+    ensures progress { result ≡ Ok RoundEnd.On → work_left core.new < work_left core.old }
+    ensures waits { result ≡ Ok RoundEnd.Waits → Rose (B.waits (line_source source.old)) (B.waits (line_source source.new)) }
 {
     let most = core.fetch(SOURCE)?;
     match read_lines(source, most)? {
         Fetched::Records(records) => hand_in(core, records),
-        Fetched::NotYet => Ok(Round::Waits),
+        Fetched::NotYet => Ok(RoundEnd::Waits),
         Fetched::End => end_source(core, SourceHow::End),
         Fetched::Fault => end_source(core, SourceHow::Fault),
         Fetched::TooLong => end_source(core, SourceHow::TooLong),
@@ -120,35 +125,35 @@ fn fetch_round<B: ByteSource>(
 }
 
 /// Appends the records that the fetch brought.
-fn hand_in(core: &mut Core, records: BytesList) -> Result<Round, AllocError>
+fn hand_in(core: &mut Core, records: BytesList) -> Result<RoundEnd, AllocError>
     requires stands { Stands core.old }
     requires legal { IsTrue (allows core.old.topology core.old.journal.steps (Step.Accept (number 1) records)) }
     ensures stands { Stands core.new }
     ensures topology { core.new.topology ≡ core.old.topology }
-    ensures on { IfOk result (λ r. r ≡ Round.On) }
+    ensures on { IfOk result (λ r. r ≡ RoundEnd.On) }
     ensures appended { OnOk result (core.new.journal.steps ≡ Step.Dispatch (number 1) ∷ Step.Accept (number 1) records ∷ core.old.journal.steps) }
     ensures unchanged { OnErr result (core.new.journal.steps ≡ core.old.journal.steps) }
     ensures progress { OnOk result (work_left core.new < work_left core.old) }
 {
     match core.accept(SOURCE, records) {
-        Ok(()) => Ok(Round::On),
+        Ok(()) => Ok(RoundEnd::On),
         Err((_, error)) => Err(error),
     }
 }
 
 /// Appends how the source ended.
-fn end_source(core: &mut Core, how: SourceHow) -> Result<Round, AllocError>
+fn end_source(core: &mut Core, how: SourceHow) -> Result<RoundEnd, AllocError>
     requires stands { Stands core.old }
     requires legal { IsTrue (allows core.old.topology core.old.journal.steps (Step.SourceEnd (number 1) how)) }
     ensures stands { Stands core.new }
     ensures topology { core.new.topology ≡ core.old.topology }
-    ensures on { IfOk result (λ r. r ≡ Round.On) }
+    ensures on { IfOk result (λ r. r ≡ RoundEnd.On) }
     ensures appended { OnOk result (core.new.journal.steps ≡ Step.SourceEnd (number 1) how ∷ core.old.journal.steps) }
     ensures unchanged { OnErr result (core.new.journal.steps ≡ core.old.journal.steps) }
     ensures progress { OnOk result (work_left core.new < work_left core.old) }
 {
     core.source_end(SOURCE, how)?;
-    Ok(Round::On)
+    Ok(RoundEnd::On)
 }
 
 /// Appends the take of the processor, handles its messages, and appends their replies.
@@ -157,7 +162,7 @@ fn take_round(
     core: &mut Core,
     callback: &mut Box<dyn Callback + Send>,
     stage: StageNo,
-) -> Result<Round, AllocError>
+) -> Result<RoundEnd, AllocError>
     requires stands { Stands core.old }
     requires processor { stage ≡ number 2 }
     requires legal { IsTrue (may_take_next core.old.topology core.old.journal.steps (number 2)) }
@@ -166,7 +171,7 @@ fn take_round(
     ensures stands { Stands core.new }
     ensures topology { core.new.topology ≡ core.old.topology }
     ensures same { kind callback.new ≡ kind callback.old }
-    ensures on { IfOk result (λ r. r ≡ Round.On) }
+    ensures on { IfOk result (λ r. r ≡ RoundEnd.On) }
     ensures ready { OnOk result (IsReady (kind callback.new) (spec callback.new) (count callback.new) core.new.topology core.new.journal.steps) }
     ensures reads { (S : Type 0) (told : S → Bool) (taken left : S → List ℕ) (faults waits : S → ℕ) (opened : S) (source : LineSource S)
         → Reads told taken left faults waits opened source core.old.topology core.old.journal.steps []
@@ -178,7 +183,7 @@ fn take_round(
         Chunk::Batch(_) => unreachable!(),
     };
     match core.answer(stage, replies) {
-        Ok(()) => Ok(Round::On),
+        Ok(()) => Ok(RoundEnd::On),
         Err((_, error)) => Err(error),
     }
 }

@@ -8,7 +8,7 @@ ghost use Rattle.core_flow.specs.Stands.{Stands};
 ghost use Rattle.stage_workers.specs.Ready.{IsReady};
 ghost use Rattle.stage_workers.specs.Reads.{Reads, ReadsOn};
 
-use crate::round::{Round, round};
+use crate::round::{RoundEnd, round};
 use core_flow::Core;
 use pipe_edges::{ByteSource, LineSource};
 use stage_callback::Callback;
@@ -43,9 +43,9 @@ pub fn run_here<B: ByteSource>(
 {
     loop {
         match round(alloc, core, source, callback)? {
-            Round::On => {}
-            Round::Drained => return Ok(RunStop::Drained),
-            Round::Waits => return Ok(RunStop::Waits),
+            RoundEnd::On => {}
+            RoundEnd::Drained => return Ok(RunStop::Drained),
+            RoundEnd::Waits => return Ok(RunStop::Waits),
         }
     }
 }

@@ -1,0 +1,221 @@
+-- What a round does to how a pipeline stands.
+use Rattle.std.proofs.Common.{◌≡◌, ◌≢◌, ℕ, ◌+◌, ◌<◌, ◌≤◌, ◌^◌, List, [], ◌∷◌, ◌++◌, length, Bool, true, false, arith, refl, ap, sym, ◌∙◌, inl, inr, Some, None}
+use Rattle.std.specs.Prelude.{IsTrue, IsSome, IfSome, Option, ◌⊎◌, ◌&&◌, ◌||◌, not, min, if◌then◌else◌, is_some}
+use Rattle.std.specs.List.{list_any}
+use Rattle.std.proofs.lemmas.List.{append-nil}
+use Rattle.pipe_types.specs.declared.numbers.StageNo.{StageNo}
+use Rattle.pipe_types.specs.declared.numbers.SubNo.{SubNo}
+use Rattle.pipe_types.specs.declared.numbers.Post.{Post}
+use Rattle.pipe_types.specs.declared.message.Reply.{Reply}
+use Rattle.pipe_types.specs.declared.step.DrainCause.{DrainCause}
+use Rattle.pipe_types.specs.declared.step.DrainCause.TheVariants.{Sources, Limit}
+use Rattle.pipe_types.specs.declared.step.SourceHow.{SourceHow}
+use Rattle.pipe_types.specs.declared.step.SourceHow.TheVariants as how
+use Rattle.pipe_types.specs.declared.step.Step.{Step}
+use Rattle.pipe_types.specs.declared.step.Step.TheVariants.{Ask, Fetch, Accept, SourceEnd, Dispatch, Take, Done, Drain}
+use Rattle.pipe_types.specs.declared.topology.Kind.{Kind}
+use Rattle.pipe_types.specs.declared.topology.StageSpec.{StageSpec}
+use Rattle.pipe_types.specs.declared.topology.Topology.{Topology}
+use Rattle.pipe_types.specs.Handlers.{counted}
+use Rattle.pipe_types.specs.Numbers.{stage, post, same_post}
+use Rattle.pipe_model.specs.History.{History}
+use Rattle.pipe_model.specs.Posts.{is_out, has_post_out, slots}
+use Rattle.pipe_model.specs.Legal.{allows, may_dispatch, is_dispatch_of, owed}
+use Rattle.pipe_model.specs.Moves.{Move, StepMove, Job, move, jobs_out}
+use Rattle.pipe_model.specs.Outside.{fed, source_end}
+use Rattle.pipe_model.specs.Work.{count}
+use Rattle.pipe_edges.specs.declared.lines.LineSource.{LineSource}
+use Rattle.pipe_edges.specs.declared.reading.LineEnd.{LineEnd}
+use Rattle.pipe_edges.specs.declared.reading.LineEnd.TheVariants as end
+use Rattle.pipe_edges.specs.LineSource.{line_end_of}
+use Rattle.source_lines.specs.Read.{IsReadFrom}
+use Rattle.run_claims.specs.Followed.{FollowsMoves}
+use Rattle.stage_workers.specs.Steps.{has_flow_steps}
+use Rattle.stage_workers.specs.Ready.{IsReady}
+use Rattle.stage_workers.specs.Reads.{Reads, IsKnownEnd}
+
+-- Posts
+
+none_of : {X : Type 0} (f g : X → Bool) (xs : List X) → ((x : X) → f x ≡ false → g x ≡ false) → list_any f xs ≡ false → list_any g xs ≡ false
+none_of f g [] less none = refl
+none_of f g (x ∷ xs) less none = by_head (f x) refl none
+  where
+    by_head : (b : Bool) → f x ≡ b → (b || list_any f xs) ≡ false → (g x || list_any g xs) ≡ false
+    by_head true is n = grind arith
+    by_head false is n = rw (less x is) (none_of f g xs less n)
+
+-- where no post is out that was not out before, no job is
+jobs_stay_home : (topology : Topology) (old new : History) → ((p : Post) → is_out old p ≡ false → is_out new p ≡ false)
+    → jobs_out topology old ≡ false → jobs_out topology new ≡ false
+jobs_stay_home topology old new less none =
+    none_of (λ spec. has_post_out old spec.no) (λ spec. has_post_out new spec.no) topology.stages
+    (λ spec home. none_of (λ slot. is_out old (post spec.no slot)) (λ slot. is_out new (post spec.no slot)) slots (λ slot h. less (post spec.no slot) h) home)
+    none
+
+-- a post that is put out and answered is home
+answered : (same out : Bool) → out ≡ false → (not same && (same || out)) ≡ false
+answered true out home = refl
+answered false out home = home
+
+fetch_answered : (topology : Topology) (before : History) (s : StageNo) (n : ℕ) (records : List (List ℕ))
+    → jobs_out topology before ≡ false → jobs_out topology (Dispatch s ∷ Accept s records ∷ Fetch s n ∷ before) ≡ false
+fetch_answered topology before s n records =
+    jobs_stay_home topology before (Dispatch s ∷ Accept s records ∷ Fetch s n ∷ before) (λ p home. answered (same_post p (post s 0)) (is_out before p) home)
+
+fetch_ended : (topology : Topology) (before : History) (n : ℕ) (how : SourceHow)
+    → jobs_out topology before ≡ false → jobs_out topology (SourceEnd (stage 1) how ∷ Fetch (stage 1) n ∷ before) ≡ false
+fetch_ended topology before n how =
+    jobs_stay_home topology before (SourceEnd (stage 1) how ∷ Fetch (stage 1) n ∷ before)
+    (λ p home. answered (same_post p (post (stage 1) 0)) (is_out before p) home)
+
+take_answered : (topology : Topology) (before : History) (s : StageNo) (u : SubNo) (k : ℕ) (replies : List Reply)
+    → jobs_out topology before ≡ false → jobs_out topology (Done s replies ∷ Take s u k ∷ before) ≡ false
+take_answered topology before s u k replies =
+    jobs_stay_home topology before (Done s replies ∷ Take s u k ∷ before) (λ p home. answered (same_post p (post s 0)) (is_out before p) home)
+
+-- Ready
+
+stays_ready : {kind : Kind} {spec : StageSpec} {seen : ℕ} {topology : Topology} {old : History} (new : History)
+    → IsReady kind spec seen topology old → jobs_out topology new ≡ false → count topology new (stage 2) ≡ count topology old (stage 2)
+    → IsReady kind spec seen topology new
+stays_ready new r home same = record {
+  none_out = home;
+  is_processor = r.is_processor;
+  built_in = r.built_in;
+  wants_built_in = r.wants_built_in;
+  calm = r.calm;
+  counted = r.counted ∙ sym same;
+  few = r.few;
+}
+
+pub ready_ask : (kind : Kind) (spec : StageSpec) (seen : ℕ) (topology : Topology) (before : History) (u : SubNo) (n : ℕ)
+    → IsReady kind spec seen topology before → IsReady kind spec seen topology (Ask u n ∷ before)
+ready_ask kind spec seen topology before u n r = stays_ready (Ask u n ∷ before) r r.none_out refl
+
+pub ready_drain : (kind : Kind) (spec : StageSpec) (seen : ℕ) (topology : Topology) (before : History) (cause : DrainCause)
+    → IsReady kind spec seen topology before → IsReady kind spec seen topology (Drain cause ∷ before)
+ready_drain kind spec seen topology before cause r = stays_ready (Drain cause ∷ before) r r.none_out refl
+
+pub ready_accept : (kind : Kind) (spec : StageSpec) (seen : ℕ) (topology : Topology) (before : History) (s : StageNo) (n : ℕ) (records : List (List ℕ))
+    → IsReady kind spec seen topology before → IsReady kind spec seen topology (Dispatch s ∷ Accept s records ∷ Fetch s n ∷ before)
+ready_accept kind spec seen topology before s n records r =
+    stays_ready (Dispatch s ∷ Accept s records ∷ Fetch s n ∷ before) r (fetch_answered topology before s n records r.none_out) refl
+
+pub ready_end : (kind : Kind) (spec : StageSpec) (seen : ℕ) (topology : Topology) (before : History) (n : ℕ) (how : SourceHow)
+    → IsReady kind spec seen topology before → IsReady kind spec seen topology (SourceEnd (stage 1) how ∷ Fetch (stage 1) n ∷ before)
+ready_end kind spec seen topology before n how r =
+    stays_ready (SourceEnd (stage 1) how ∷ Fetch (stage 1) n ∷ before) r (fetch_ended topology before n how r.none_out) refl
+
+counted_few : (seen n : ℕ) → counted seen n < 2 ^ 64
+counted_few seen n = grind arith
+
+pub ready_done : (kind kind' : Kind) (spec spec' : StageSpec) (seen seen' : ℕ) (topology : Topology) (before : History) (u : SubNo) (k : ℕ) (replies : List Reply)
+    → IsReady kind spec seen topology before → kind' ≡ kind → spec' ≡ spec → seen' ≡ counted seen (length replies)
+    → IsReady kind' spec' seen' topology (Done (stage 2) replies ∷ Take (stage 2) u k ∷ before)
+ready_done kind kind' spec spec' seen seen' topology before u k replies r same_kind same_spec is = record {
+  none_out = take_answered topology before (stage 2) u k replies r.none_out;
+  is_processor = rw same_spec r.is_processor;
+  built_in = rw same_kind r.built_in;
+  wants_built_in = rw same_spec r.wants_built_in;
+  calm = rw same_spec r.calm;
+  counted = rw (is, r.counted) refl;
+  few = rw is (counted_few seen (length replies));
+}
+
+-- Reads
+
+pub reads_ask : {B : Type 0} (told : B → Bool) (taken left : B → List ℕ) (faults waits : B → ℕ) (opened : B) (source : LineSource B) (topology : Topology) (before : History) (u : SubNo) (n : ℕ)
+    → Reads told taken left faults waits opened source topology before [] → move topology before ≡ StepMove (Ask u n)
+    → Reads told taken left faults waits opened source topology (Ask u n ∷ before) []
+reads_ask told taken left faults waits opened source topology before u n r first = record {
+  moves = (r.moves, first);
+  kinds = r.kinds;
+  read = r.read;
+  known = r.known;
+}
+
+pub reads_drain : {B : Type 0} (told : B → Bool) (taken left : B → List ℕ) (faults waits : B → ℕ) (opened : B) (source : LineSource B) (topology : Topology) (before : History) (cause : DrainCause)
+    → Reads told taken left faults waits opened source topology before [] → move topology before ≡ StepMove (Drain cause) → (cause ≡ Sources) ⊎ (cause ≡ Limit)
+    → Reads told taken left faults waits opened source topology (Drain cause ∷ before) []
+reads_drain told taken left faults waits opened source topology before cause r first (inl is) = rw is (record {
+  moves = (r.moves, rw is at first);
+  kinds = r.kinds;
+  read = r.read;
+  known = r.known;
+})
+reads_drain told taken left faults waits opened source topology before cause r first (inr is) = rw is (record {
+  moves = (r.moves, rw is at first);
+  kinds = r.kinds;
+  read = r.read;
+  known = r.known;
+})
+
+pub reads_done : {B : Type 0} (told : B → Bool) (taken left : B → List ℕ) (faults waits : B → ℕ) (opened : B) (source : LineSource B) (topology : Topology) (before : History) (s : StageNo) (u : SubNo) (k : ℕ) (replies : List Reply)
+    → Reads told taken left faults waits opened source topology before [] → move topology before ≡ Job s
+    → Reads told taken left faults waits opened source topology (Done s replies ∷ Take s u k ∷ before) []
+reads_done told taken left faults waits opened source topology before s u k replies r first = record {
+  moves = ((r.moves, first), tt);
+  kinds = r.kinds;
+  read = r.read;
+  known = r.known;
+}
+
+pub reads_take : {B : Type 0} (told : B → Bool) (taken left : B → List ℕ) (faults waits : B → ℕ) (opened : B) (source : LineSource B) (topology : Topology) (before : History) (s : StageNo) (u : SubNo) (k : ℕ)
+    → Reads told taken left faults waits opened source topology before [] → move topology before ≡ Job s
+    → Reads told taken left faults waits opened source topology (Take s u k ∷ before) []
+reads_take told taken left faults waits opened source topology before s u k r first = record {
+  moves = (r.moves, first);
+  kinds = r.kinds;
+  read = r.read;
+  known = r.known;
+}
+
+-- an end that is known stays known
+end_known : (ended : Option SourceHow) (old new : Option LineEnd) → IfSome old (λ e. new ≡ Some e) → IsKnownEnd ended old → IsKnownEnd ended new
+end_known None old new stays known = tt
+end_known (Some how.End) old new stays known = rw known at stays
+end_known (Some how.Fault) old new stays known = rw known at stays
+end_known (Some how.TooLong) old new stays known = rw known at stays
+end_known (Some how.Limit) old new stays known = known
+
+pub reads_fetch : {B : Type 0} (told : B → Bool) (taken left : B → List ℕ) (faults waits : B → ℕ) (opened : B) (old new : LineSource B) (topology : Topology) (before : History) (n : ℕ) (records : List (List ℕ))
+    → Reads told taken left faults waits opened old topology before [] → move topology before ≡ Job (stage 1)
+    → IfSome (line_end_of old) (λ e. line_end_of new ≡ Some e)
+    → IsReadFrom told taken left faults waits opened new ((fed before (stage 1) ++ []) ++ records)
+    → Reads told taken left faults waits opened new topology (Fetch (stage 1) n ∷ before) records
+reads_fetch told taken left faults waits opened old new topology before n records r first stays read = record {
+  moves = (r.moves, first);
+  kinds = r.kinds;
+  read = rw append-nil at read;
+  known = end_known (source_end before (stage 1)) (line_end_of old) (line_end_of new) stays r.known;
+}
+
+-- where the dispatch comes after the accept, the accept owed it
+owes : (topology : Topology) (before : History) (s : StageNo) (records : List (List ℕ))
+    → allows topology (Accept s records ∷ before) (Dispatch s) ≡ true → IsSome (owed topology (Accept s records ∷ before))
+owes topology before s records allowed = by_test (may_dispatch topology (Accept s records ∷ before) s) refl
+  where
+    by_test : (b : Bool) → may_dispatch topology (Accept s records ∷ before) s ≡ b → IsSome (owed topology (Accept s records ∷ before))
+    by_test true is = rw is refl
+    by_test false is = ?
+
+pub reads_accept : {B : Type 0} (told : B → Bool) (taken left : B → List ℕ) (faults waits : B → ℕ) (opened : B) (source : LineSource B) (topology : Topology) (before : History) (records : List (List ℕ))
+    → Reads told taken left faults waits opened source topology before records
+    → allows topology (Accept (stage 1) records ∷ before) (Dispatch (stage 1)) ≡ true
+    → Reads told taken left faults waits opened source topology (Dispatch (stage 1) ∷ Accept (stage 1) records ∷ before) []
+reads_accept told taken left faults waits opened source topology before records r allowed = record {
+  moves = ((r.moves, tt), inl (owes topology before (stage 1) records allowed));
+  kinds = r.kinds;
+  read = rw append-nil r.read;
+  known = r.known;
+}
+
+pub reads_end : {B : Type 0} (told : B → Bool) (taken left : B → List ℕ) (faults waits : B → ℕ) (opened : B) (source : LineSource B) (topology : Topology) (before : History) (h : SourceHow)
+    → Reads told taken left faults waits opened source topology before [] → IsKnownEnd (Some h) (line_end_of source)
+    → Reads told taken left faults waits opened source topology (SourceEnd (stage 1) h ∷ before) []
+reads_end told taken left faults waits opened source topology before h r known = record {
+  moves = (r.moves, tt);
+  kinds = r.kinds;
+  read = r.read;
+  known = known;
+}
