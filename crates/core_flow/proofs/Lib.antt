@@ -21,3 +21,4 @@ pub mod Next
 pub mod Sounds
 pub mod Answerable
 pub mod Progress
+pub mod Outside

@@ -11,6 +11,7 @@
 mod calls;
 pub mod drain;
 mod parts;
+mod posts;
 pub mod state;
 
 pub use crate::state::{Chunk, Core};
