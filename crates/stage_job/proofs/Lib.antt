@@ -1,1 +1,4 @@
+pub mod CallCounts
+pub mod CalmRules
+pub mod ChunkSteps
 pub mod KindCounts

@@ -3,7 +3,7 @@
 ghost use Rattle.std.specs.Prelude.{◌≡◌, ◌≢◌, ◌≤◌, ◌<◌, ◌^◌, false, IsTrue, IfOk, OnOk, length, count_by};
 ghost use Rattle.std.specs.List.{list_all};
 ghost use Rattle.pipe_types.specs.Counts.{Rose};
-ghost use Rattle.pipe_types.specs.Handlers.{eval, counted, with_reason, reason_of, chunk_replies, is_own_reason, is_own_reply, are_own_replies};
+ghost use Rattle.pipe_types.specs.Handlers.{eval, counted, with_reason, reason_of, chunk_replies, is_crashed, is_own_reason, is_own_reply, are_own_replies};
 ghost use Rattle.pipe_model.specs.Content.{has_crash};
 ghost use Rattle.stage_callback.specs.Callbacks.{is_message_for, is_passed};
 ghost use Rattle.stage_job.specs.Chunks.{never_crashes, RoseBy};
@@ -82,13 +82,19 @@ fn answer_all(
     let mut replies = Vec::with_capacity(alloc, messages.len())?;
     for message in messages {
         let reply = answer(callback, message)?;
-        let ends = matches!(&reply, Reply::Crashed);
+        let crashed = is_crash(&reply);
         replies.push(reply)?;
-        if ends {
+        if crashed {
             return Ok(ReplyList::from_vec(replies));
         }
     }
     Ok(ReplyList::from_vec(replies))
+}
+
+fn is_crash(reply: &Reply) -> bool
+    ensures { result ≡ is_crashed reply.now }
+{
+    matches!(reply, Reply::Crashed)
 }
 
 /// The replies where `prepare` raised: every message fails with that reason.

@@ -1,0 +1,124 @@
+-- A chunk, message by message.
+use Rattle.std.proofs.Common.{◌≡◌, ℕ, ◌+◌, ◌^◌, ◌<◌, true, false, cond, ◌==◌, List, [], ◌∷◌, ◌++◌, length, map, refl, sym, ap, ◌∙◌, arith, append_assoc, append-nil, length-append}
+use Rattle.std.specs.List.{list_all}
+use Rattle.std.proofs.lemmas.Bool.{and_parts, and_from}
+use Rattle.pipe_types.specs.declared.message.Message.{Message}
+use Rattle.pipe_types.specs.declared.message.Reply.{Reply}
+use Rattle.pipe_types.specs.declared.message.Reply.TheVariants.{Pass as Passed, Failed, Raised, Crashed}
+use Rattle.pipe_types.specs.declared.topology.StageSpec.{StageSpec}
+use Rattle.pipe_types.specs.Handlers.{eval, counted, is_crashed, with_reason, replies_until, chunk_replies, is_own_reply, are_own_replies}
+use Rattle.stage_callback.specs.Callbacks.{is_message_for}
+
+-- A built-in kind
+
+-- the replies so far and those to the rest are those to the chunk
+pub record BuiltInSoFar (spec : StageSpec) (first : ℕ) (messages rest : List Message) (seen : ℕ) (replies : List Reply) : Type 0 where
+  pub replies_so_far : replies ++ chunk_replies spec seen rest ≡ chunk_replies spec first messages
+  pub counted_so_far : first < 2 ^ 64 → seen ≡ counted first (length replies)
+
+-- the reply to the next message before those to the rest, unless it is a crash
+abbrev with_next : Reply → List Reply → List Reply
+with_next reply replies = cond (is_crashed reply) (reply ∷ []) (reply ∷ replies)
+
+chunk-next : (spec : StageSpec) (seen : ℕ) (m : Message) (rest : List Message)
+    → chunk_replies spec seen (m ∷ rest) ≡ with_next (with_reason spec.failed (eval spec seen m)) (chunk_replies spec (counted seen 1) rest)
+chunk-next spec seen m rest = by_reply (eval spec seen m) (replies_until is_crashed spec (counted seen 1) rest)
+  where
+    by_reply : (reply : Reply) (replies : List Reply) → map (with_reason spec.failed) (cond (is_crashed reply) (reply ∷ []) (reply ∷ replies)) ≡ with_next (with_reason spec.failed reply) (map (with_reason spec.failed) replies)
+    by_reply (Passed p) replies = refl
+    by_reply (Failed why) replies = refl
+    by_reply (Raised why) replies = refl
+    by_reply Crashed replies = refl
+
+counted_one_more : (first n seen : ℕ) → seen ≡ counted first n → counted seen 1 ≡ counted first (n + 1)
+counted_one_more first n seen e = omega arith
+
+module _ (spec : StageSpec) (first : ℕ) (messages : List Message) (m : Message) (rest : List Message) (seen : ℕ) (replies : List Reply) (reply : Reply) where
+  next_is : reply ≡ with_reason spec.failed (eval spec seen m) → chunk_replies spec seen (m ∷ rest) ≡ with_next reply (chunk_replies spec (counted seen 1) rest)
+  next_is is = chunk-next spec seen m rest ∙ ap (λ r. with_next r (chunk_replies spec (counted seen 1) rest)) (sym is)
+
+  counted_next : BuiltInSoFar spec first messages (m ∷ rest) seen replies → first < 2 ^ 64 → counted seen 1 ≡ counted first (length (replies ++ reply ∷ []))
+  counted_next so_far below = counted_one_more first (length replies) seen (so_far.counted_so_far below) ∙ ap (counted first) (sym (length-append replies (reply ∷ [])))
+
+  goes_on : is_crashed reply ≡ false → reply ≡ with_reason spec.failed (eval spec seen m)
+      → BuiltInSoFar spec first messages (m ∷ rest) seen replies
+      → BuiltInSoFar spec first messages rest (counted seen 1) (replies ++ reply ∷ [])
+  goes_on calm is so_far =
+      let later = chunk_replies spec (counted seen 1) rest in
+      let e : chunk_replies spec seen (m ∷ rest) ≡ reply ∷ later = next_is is ∙ ap (λ b. cond b (reply ∷ []) (reply ∷ later)) calm in
+      record {
+        replies_so_far = append_assoc replies (reply ∷ []) later ∙ (ap (λ rs. replies ++ rs) (sym e) ∙ so_far.replies_so_far);
+        counted_so_far = counted_next so_far;
+      }
+
+  crash_ends : is_crashed reply ≡ true → reply ≡ with_reason spec.failed (eval spec seen m)
+      → BuiltInSoFar spec first messages (m ∷ rest) seen replies
+      → replies ++ reply ∷ [] ≡ chunk_replies spec first messages
+  crash_ends crash is so_far =
+      let later = chunk_replies spec (counted seen 1) rest in
+      let e : chunk_replies spec seen (m ∷ rest) ≡ reply ∷ [] = next_is is ∙ ap (λ b. cond b (reply ∷ []) (reply ∷ later)) crash in
+      ap (λ rs. replies ++ rs) (sym e) ∙ so_far.replies_so_far
+
+-- what a built-in kind answers to the next message
+abbrev pub Answers : StageSpec → (seen : ℕ) → Message → Reply → (seen_then : ℕ) → Type 0
+Answers spec seen m reply seen_then = (reply ≡ with_reason spec.failed (eval spec seen m)) × (seen_then ≡ counted seen 1)
+
+module _ (spec spec_now : StageSpec) (first : ℕ) (messages : List Message) (m : Message) (left rest : List Message) (seen seen_then : ℕ) (replies replies_then : List Reply) (reply : Reply)
+    (same : spec_now ≡ spec) (next : left ≡ m ∷ rest) (grown : replies_then ≡ replies ++ reply ∷ []) (answers : Answers spec_now seen m reply seen_then)
+    (so_far : BuiltInSoFar spec first messages left seen replies) where
+  -- a reply that is no crash
+  pub built_in_next : is_crashed reply ≡ false → BuiltInSoFar spec first messages rest seen_then replies_then
+  built_in_next calm = rw (answers.1, grown) (goes_on spec first messages m rest seen replies reply calm (rw same at answers.0) (rw next at so_far))
+
+  -- a crash is the last reply
+  pub built_in_last : is_crashed reply ≡ true → replies_then ≡ chunk_replies spec first messages
+  built_in_last crash = grown ∙ crash_ends spec first messages m rest seen replies reply crash (rw same at answers.0) (rw next at so_far)
+
+  pub built_in_count : first < 2 ^ 64 → seen_then ≡ counted first (length replies_then)
+  built_in_count below = rw (answers.1, grown) (counted_next spec first messages m rest seen replies reply (rw next at so_far) below)
+
+-- no message is left
+pub all_answered : (spec : StageSpec) (first : ℕ) (messages left : List Message) (seen : ℕ) (replies : List Reply) → left ≡ []
+    → BuiltInSoFar spec first messages left seen replies → replies ≡ chunk_replies spec first messages
+all_answered spec first messages left seen replies none so_far =
+    let at_end : BuiltInSoFar spec first messages [] seen replies = rw none at so_far in
+    sym (append-nil replies) ∙ at_end.replies_so_far
+
+-- A user's own kind
+
+-- replies that fit the rest make with those so far replies that fit the chunk
+pub record OwnSoFar (batchers : ℕ) (messages rest : List Message) (replies : List Reply) : Type 0 where
+  pub rest_fits : list_all (is_message_for batchers) messages ≡ true → list_all (is_message_for batchers) rest ≡ true
+  pub replies_fit : list_all (is_message_for batchers) messages ≡ true → (later : List Reply) → are_own_replies batchers rest later ≡ true → are_own_replies batchers messages (replies ++ later) ≡ true
+
+module _ (batchers : ℕ) (messages : List Message) (m : Message) (left rest : List Message) (replies replies_then : List Reply) (reply : Reply)
+    (next : left ≡ m ∷ rest) (grown : replies_then ≡ replies ++ reply ∷ []) (own : is_message_for batchers m ≡ true → is_own_reply batchers m reply ≡ true)
+    (so_far : OwnSoFar batchers messages left replies) where
+  -- the next message and the rest are for the stage
+  parts_fit : list_all (is_message_for batchers) messages ≡ true → (is_message_for batchers m ≡ true) × (list_all (is_message_for batchers) rest ≡ true)
+  parts_fit all = and_parts (is_message_for batchers m) (list_all (is_message_for batchers) rest) (rw next at (so_far.rest_fits all))
+
+  with_next_fit : list_all (is_message_for batchers) messages ≡ true → (later : List Reply)
+      → cond (is_crashed reply) (length later == 0) (are_own_replies batchers rest later) ≡ true → are_own_replies batchers messages (replies_then ++ later) ≡ true
+  with_next_fit all later fit =
+      let last : are_own_replies batchers left (reply ∷ later) ≡ true = rw next (and_from (is_own_reply batchers m reply) _ (own (parts_fit all).0) fit) in
+      ap (λ rs. are_own_replies batchers messages (rs ++ later)) grown
+      ∙ (ap (are_own_replies batchers messages) (append_assoc replies (reply ∷ []) later) ∙ so_far.replies_fit all (reply ∷ later) last)
+
+  -- a reply that is no crash
+  pub own_next : is_crashed reply ≡ false → OwnSoFar batchers messages rest replies_then
+  own_next calm = record {
+    rest_fits = λ all. (parts_fit all).1;
+    replies_fit = λ all later fit. with_next_fit all later (ap (λ b. cond b (length later == 0) (are_own_replies batchers rest later)) calm ∙ fit);
+  }
+
+  -- a crash is the last reply
+  pub own_last : is_crashed reply ≡ true → list_all (is_message_for batchers) messages ≡ true → are_own_replies batchers messages replies_then ≡ true
+  own_last crash all =
+      ap (are_own_replies batchers messages) (sym (append-nil replies_then)) ∙ with_next_fit all [] (ap (λ b. cond b true (are_own_replies batchers rest [])) crash)
+
+-- no message is left
+pub all_fit : (batchers : ℕ) (messages left : List Message) (replies : List Reply) → left ≡ [] → OwnSoFar batchers messages left replies
+    → list_all (is_message_for batchers) messages ≡ true → are_own_replies batchers messages replies ≡ true
+all_fit batchers messages left replies none so_far all =
+    ap (are_own_replies batchers messages) (sym (append-nil replies)) ∙ so_far.replies_fit all [] (rw none refl)
