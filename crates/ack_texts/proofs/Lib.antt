@@ -1,0 +1,4 @@
+pub mod Settling
+pub mod Rows
+pub mod Texts
+pub mod Grouping

@@ -1,0 +1,15 @@
+//! The text of the acknowledgements of a run, from the places of its messages.
+//!
+//! `ack_text` writes exactly the text that the specification of `journal_texts` defines: a line for each
+//! acknowledgement, in the order of the steps. It groups the acknowledged messages by the step that acknowledged them,
+//! in time linear in messages and steps for each stage. Only want of memory makes it fail.
+#![tactic(auto)]
+
+mod acks;
+mod groups;
+mod lines;
+#[cfg(test)]
+mod tests;
+mod words;
+
+pub use acks::ack_text;
