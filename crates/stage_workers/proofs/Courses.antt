@@ -8,7 +8,7 @@ use Rattle.pipe_types.specs.declared.numbers.SubNo.{SubNo}
 use Rattle.pipe_types.specs.declared.numbers.Post.{Post}
 use Rattle.pipe_types.specs.declared.message.Reply.{Reply}
 use Rattle.pipe_types.specs.declared.step.DrainCause.{DrainCause}
-use Rattle.pipe_types.specs.declared.step.DrainCause.TheVariants.{Sources, Limit}
+use Rattle.pipe_types.specs.declared.step.DrainCause.TheVariants.{Sources, Limit, Control, Idle}
 use Rattle.pipe_types.specs.declared.step.SourceHow.{SourceHow}
 use Rattle.pipe_types.specs.declared.step.SourceHow.TheVariants as how
 use Rattle.pipe_types.specs.declared.step.Step.{Step}
@@ -20,7 +20,7 @@ use Rattle.pipe_types.specs.Handlers.{counted}
 use Rattle.pipe_types.specs.Numbers.{stage, post, same_post}
 use Rattle.pipe_model.specs.History.{History}
 use Rattle.pipe_model.specs.Posts.{is_out, has_post_out, slots}
-use Rattle.pipe_model.specs.Legal.{allows, may_dispatch, is_dispatch_of, owed}
+use Rattle.pipe_model.specs.Legal.{allows, may_dispatch, is_dispatch_of, owed, passes, happened, is_halt, is_late}
 use Rattle.pipe_model.specs.Moves.{Move, StepMove, Job, move, jobs_out}
 use Rattle.pipe_model.specs.Outside.{fed, source_end}
 use Rattle.pipe_model.specs.Work.{count}
@@ -32,17 +32,17 @@ use Rattle.source_lines.specs.Read.{IsReadFrom}
 use Rattle.run_claims.specs.Followed.{FollowsMoves}
 use Rattle.stage_workers.specs.Steps.{has_flow_steps}
 use Rattle.stage_workers.specs.Ready.{IsReady}
-use Rattle.stage_workers.specs.Reads.{Reads, IsKnownEnd}
+use Rattle.stage_workers.specs.Reads.{Reads, StaysOn, IsKnownEnd}
 
 -- Posts
 
+none_in : (f g rest more : Bool) → (f ≡ false → g ≡ false) → (rest ≡ false → more ≡ false) → (f || rest) ≡ false → (g || more) ≡ false
+none_in true g rest more less fewer none = grind arith
+none_in false g rest more less fewer none = rw (less refl) (fewer none)
+
 none_of : {X : Type 0} (f g : X → Bool) (xs : List X) → ((x : X) → f x ≡ false → g x ≡ false) → list_any f xs ≡ false → list_any g xs ≡ false
 none_of f g [] less none = refl
-none_of f g (x ∷ xs) less none = by_head (f x) refl none
-  where
-    by_head : (b : Bool) → f x ≡ b → (b || list_any f xs) ≡ false → (g x || list_any g xs) ≡ false
-    by_head true is n = grind arith
-    by_head false is n = rw (less x is) (none_of f g xs less n)
+none_of f g (x ∷ xs) less none = none_in (f x) (g x) (list_any f xs) (list_any g xs) (less x) (none_of f g xs less) none
 
 -- where no post is out that was not out before, no job is
 jobs_stay_home : (topology : Topology) (old new : History) → ((p : Post) → is_out old p ≡ false → is_out new p ≡ false)
@@ -124,50 +124,66 @@ ready_done kind kind' spec spec' seen seen' topology before u k replies r same_k
 
 -- Reads
 
-pub reads_ask : {B : Type 0} (told : B → Bool) (taken left : B → List ℕ) (faults waits : B → ℕ) (opened : B) (source : LineSource B) (topology : Topology) (before : History) (u : SubNo) (n : ℕ)
-    → Reads told taken left faults waits opened source topology before [] → move topology before ≡ StepMove (Ask u n)
-    → Reads told taken left faults waits opened source topology (Ask u n ∷ before) []
-reads_ask told taken left faults waits opened source topology before u n r first = record {
-  moves = (r.moves, first);
-  kinds = r.kinds;
-  read = r.read;
-  known = r.known;
+pub stays_same : (topology : Topology) (before : History) → StaysOn topology before before
+stays_same topology before = record {
+  moves = λ m. m;
+  kinds = λ k. k;
+  accepted = refl;
+  ended = refl;
 }
 
-pub reads_drain : {B : Type 0} (told : B → Bool) (taken left : B → List ℕ) (faults waits : B → ℕ) (opened : B) (source : LineSource B) (topology : Topology) (before : History) (cause : DrainCause)
-    → Reads told taken left faults waits opened source topology before [] → move topology before ≡ StepMove (Drain cause) → (cause ≡ Sources) ⊎ (cause ≡ Limit)
-    → Reads told taken left faults waits opened source topology (Drain cause ∷ before) []
-reads_drain told taken left faults waits opened source topology before cause r first (inl is) = rw is (record {
-  moves = (r.moves, rw is at first);
-  kinds = r.kinds;
-  read = r.read;
-  known = r.known;
-})
-reads_drain told taken left faults waits opened source topology before cause r first (inr is) = rw is (record {
-  moves = (r.moves, rw is at first);
-  kinds = r.kinds;
-  read = r.read;
-  known = r.known;
-})
-
-pub reads_done : {B : Type 0} (told : B → Bool) (taken left : B → List ℕ) (faults waits : B → ℕ) (opened : B) (source : LineSource B) (topology : Topology) (before : History) (s : StageNo) (u : SubNo) (k : ℕ) (replies : List Reply)
-    → Reads told taken left faults waits opened source topology before [] → move topology before ≡ Job s
-    → Reads told taken left faults waits opened source topology (Done s replies ∷ Take s u k ∷ before) []
-reads_done told taken left faults waits opened source topology before s u k replies r first = record {
-  moves = ((r.moves, first), tt);
-  kinds = r.kinds;
-  read = r.read;
-  known = r.known;
+pub stays_ask : (topology : Topology) (before : History) (u : SubNo) (n : ℕ) → move topology before ≡ StepMove (Ask u n)
+    → StaysOn topology before (Ask u n ∷ before)
+stays_ask topology before u n first = record {
+  moves = λ m. (m, first);
+  kinds = λ k. k;
+  accepted = refl;
+  ended = refl;
 }
 
-pub reads_take : {B : Type 0} (told : B → Bool) (taken left : B → List ℕ) (faults waits : B → ℕ) (opened : B) (source : LineSource B) (topology : Topology) (before : History) (s : StageNo) (u : SubNo) (k : ℕ)
-    → Reads told taken left faults waits opened source topology before [] → move topology before ≡ Job s
-    → Reads told taken left faults waits opened source topology (Take s u k ∷ before) []
-reads_take told taken left faults waits opened source topology before s u k r first = record {
-  moves = (r.moves, first);
-  kinds = r.kinds;
-  read = r.read;
-  known = r.known;
+pub stays_drain : (topology : Topology) (before : History) (cause : DrainCause) → move topology before ≡ StepMove (Drain cause)
+    → (cause ≡ Sources) ⊎ (cause ≡ Limit) → StaysOn topology before (Drain cause ∷ before)
+stays_drain topology before Sources first known = record {
+  moves = λ m. (m, first);
+  kinds = λ k. k;
+  accepted = refl;
+  ended = refl;
+}
+stays_drain topology before Limit first known = record {
+  moves = λ m. (m, first);
+  kinds = λ k. k;
+  accepted = refl;
+  ended = refl;
+}
+stays_drain topology before Control first known = grind arith
+stays_drain topology before Idle first known = grind arith
+
+pub stays_take : (topology : Topology) (before : History) (s : StageNo) (u : SubNo) (k : ℕ) → move topology before ≡ Job s
+    → StaysOn topology before (Take s u k ∷ before)
+stays_take topology before s u k first = record {
+  moves = λ m. (m, first);
+  kinds = λ k. k;
+  accepted = refl;
+  ended = refl;
+}
+
+pub stays_done : (topology : Topology) (before : History) (s : StageNo) (u : SubNo) (k : ℕ) (replies : List Reply) → move topology before ≡ Job s
+    → StaysOn topology before (Done s replies ∷ Take s u k ∷ before)
+stays_done topology before s u k replies first = record {
+  moves = λ m. ((m, first), tt);
+  kinds = λ k. k;
+  accepted = refl;
+  ended = refl;
+}
+
+pub reads_on : {B : Type 0} (told : B → Bool) (taken left : B → List ℕ) (faults waits : B → ℕ) (opened : B) (source : LineSource B) (topology : Topology) (old new : History)
+    → StaysOn topology old new → Reads told taken left faults waits opened source topology old []
+    → Reads told taken left faults waits opened source topology new []
+reads_on told taken left faults waits opened source topology old new on r = record {
+  moves = on.moves r.moves;
+  kinds = on.kinds r.kinds;
+  read = rw on.accepted r.read;
+  known = rw on.ended r.known;
 }
 
 -- an end that is known stays known
@@ -191,13 +207,17 @@ reads_fetch told taken left faults waits opened old new topology before n record
 }
 
 -- where the dispatch comes after the accept, the accept owed it
+owes_by : (may going : Bool) (test : Step → Bool) (step : Step) → (going && passes (if may then Some test else None) step may) ≡ true
+    → IsSome (if may then Some test else None)
+owes_by true going test step allowed = refl
+owes_by false true test step allowed = grind arith
+owes_by false false test step allowed = grind arith
+
 owes : (topology : Topology) (before : History) (s : StageNo) (records : List (List ℕ))
     → allows topology (Accept s records ∷ before) (Dispatch s) ≡ true → IsSome (owed topology (Accept s records ∷ before))
-owes topology before s records allowed = by_test (may_dispatch topology (Accept s records ∷ before) s) refl
-  where
-    by_test : (b : Bool) → may_dispatch topology (Accept s records ∷ before) s ≡ b → IsSome (owed topology (Accept s records ∷ before))
-    by_test true is = rw is refl
-    by_test false is = ?
+owes topology before s records allowed =
+    owes_by (may_dispatch topology (Accept s records ∷ before) s) (not (happened is_halt (Accept s records ∷ before)) || false) (is_dispatch_of s) (Dispatch s)
+    allowed
 
 pub reads_accept : {B : Type 0} (told : B → Bool) (taken left : B → List ℕ) (faults waits : B → ℕ) (opened : B) (source : LineSource B) (topology : Topology) (before : History) (records : List (List ℕ))
     → Reads told taken left faults waits opened source topology before records

@@ -35,3 +35,10 @@ ReadsOn told taken left faults waits opened source topology before (Ok done) =
     Reads told taken left faults waits opened source topology before []
 ReadsOn told taken left faults waits opened source topology before (Err error) =
     (lost : List (List ℕ)) × Reads told taken left faults waits opened source topology before lost
+
+-- steps that read nothing: each was the next move, and what was accepted of the source is as before
+pub record StaysOn (topology : Topology) (old new : History) : Type 0 where
+  pub moves : FollowsMoves topology old → FollowsMoves topology new
+  pub kinds : IsTrue (has_flow_steps old) → IsTrue (has_flow_steps new)
+  pub accepted : fed new (stage 1) ≡ fed old (stage 1)
+  pub ended : source_end new (stage 1) ≡ source_end old (stage 1)

@@ -1,6 +1,6 @@
 //! One round: the next move, and where it is a job, its answer.
 
-ghost use Rattle.std.specs.Prelude.{◌≡◌, ◌≢◌, ◌<◌, ◌∷◌, Bool, ℕ, List, [], Ok, IfOk, OnOk, OnErr, IsTrue};
+ghost use Rattle.std.specs.Prelude.{◌≡◌, ◌≢◌, ◌<◌, ◌∷◌, ℕ, [], Ok, IfOk, OnOk, OnErr, IsTrue};
 ghost use Rattle.pipe_types.specs.Counts.{Rose};
 ghost use Rattle.pipe_types.specs.Numbers.{stage as number};
 ghost use Rattle.pipe_model.specs.Legal.{allows};
@@ -8,13 +8,12 @@ ghost use Rattle.pipe_model.specs.Jobs.{fetch_step, may_take_next};
 ghost use Rattle.pipe_model.specs.Moves.{move as next_move_of, StepMove, Job, is_drained};
 ghost use Rattle.pipe_types.specs.declared.topology.Kind.{Kind};
 ghost use Rattle.pipe_types.specs.declared.topology.StageSpec.{StageSpec};
-ghost use Rattle.pipe_edges.specs.declared.lines.LineSource.{LineSource};
 ghost use Rattle.core_flow.specs.Next.{IsLegalStep};
 ghost use Rattle.pipe_edges.specs.LineSource.{line_source, line_end_of};
 ghost use Rattle.core_flow.specs.Stands.{Stands};
 ghost use Rattle.core_flow.specs.Progress.{work_left};
 ghost use Rattle.stage_workers.specs.Ready.{IsReady};
-ghost use Rattle.stage_workers.specs.Reads.{Reads, ReadsOn};
+ghost use Rattle.stage_workers.specs.Reads.{Reads, ReadsOn, StaysOn};
 
 use core_flow::drain::{self, Move};
 use core_flow::{Chunk, Core};
@@ -77,9 +76,7 @@ fn own_step(core: &mut Core, step: Step) -> Result<RoundEnd, AllocError>
     ensures on { IfOk result (λ r. r ≡ RoundEnd.On) }
     ensures ready { (kind : Kind) (spec : StageSpec) (seen : ℕ) → IsReady kind spec seen core.old.topology core.old.journal.steps
         → OnOk result (IsReady kind spec seen core.new.topology core.new.journal.steps) }
-    ensures reads { (S : Type 0) (told : S → Bool) (taken left : S → List ℕ) (faults waits : S → ℕ) (opened : S) (source : LineSource S)
-        → Reads told taken left faults waits opened source core.old.topology core.old.journal.steps []
-        → Reads told taken left faults waits opened source core.new.topology core.new.journal.steps [] }
+    ensures course { StaysOn core.new.topology core.old.journal.steps core.new.journal.steps }
     ensures progress { OnOk result (work_left core.new < work_left core.old) }
 {
     match step {
@@ -173,9 +170,7 @@ fn take_round(
     ensures same { kind callback.new ≡ kind callback.old }
     ensures on { IfOk result (λ r. r ≡ RoundEnd.On) }
     ensures ready { OnOk result (IsReady (kind callback.new) (spec callback.new) (count callback.new) core.new.topology core.new.journal.steps) }
-    ensures reads { (S : Type 0) (told : S → Bool) (taken left : S → List ℕ) (faults waits : S → ℕ) (opened : S) (source : LineSource S)
-        → Reads told taken left faults waits opened source core.old.topology core.old.journal.steps []
-        → Reads told taken left faults waits opened source core.new.topology core.new.journal.steps [] }
+    ensures course { StaysOn core.new.topology core.old.journal.steps core.new.journal.steps }
     ensures progress { OnOk result (work_left core.new < work_left core.old) }
 {
     let replies = match core.take(stage)? {
