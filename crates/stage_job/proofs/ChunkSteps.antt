@@ -122,3 +122,8 @@ pub all_fit : (batchers : ℕ) (messages left : List Message) (replies : List Re
     → list_all (is_message_for batchers) messages ≡ true → are_own_replies batchers messages replies ≡ true
 all_fit batchers messages left replies none so_far all =
     ap (are_own_replies batchers messages) (sym (append-nil replies)) ∙ so_far.replies_fit all [] (rw none refl)
+
+-- a crash alone answers a chunk of at least one message
+pub crash_fits : (batchers : ℕ) (messages : List Message) → (length messages == 0) ≡ false → are_own_replies batchers messages (Crashed ∷ []) ≡ true
+crash_fits batchers [] some = cc
+crash_fits batchers (m ∷ messages) some = refl

@@ -5,7 +5,7 @@ ghost use Rattle.std.specs.List.{list_all};
 ghost use Rattle.pipe_types.specs.Counts.{Rose};
 ghost use Rattle.pipe_types.specs.Handlers.{eval, counted, with_reason, reason_of, chunk_replies, is_crashed, is_own_reason, is_own_reply, are_own_replies};
 ghost use Rattle.pipe_model.specs.Content.{has_crash};
-ghost use Rattle.stage_callback.specs.Callbacks.{is_message_for, is_passed};
+ghost use Rattle.stage_callback.specs.Callbacks.{is_message_for, is_passed, is_ready, is_prepared_answer};
 ghost use Rattle.stage_job.specs.Chunks.{never_crashes, RoseBy};
 
 use pipe_types::message::{Message, MessageList, Reply, ReplyList};
@@ -50,11 +50,30 @@ pub fn run_chunk(
     if messages.is_empty() {
         return Ok(ReplyList::from_vec(Vec::new(alloc)));
     }
-    match callback.prepare(messages.as_slice())? {
+    match show(callback, messages.as_slice())? {
         Prepared::Ready => answer_all(alloc, callback, messages),
         Prepared::Raised(why) => raise_all(alloc, callback, messages.as_slice(), why),
         Prepared::Crashed => Ok(ReplyList::from_vec(vec![in alloc; Reply::Crashed]?)),
     }
+}
+
+/// Shows the chunk to `prepare`.
+fn show(
+    callback: &mut Box<dyn Callback + Send>,
+    messages: &[Message],
+) -> Result<Prepared, AllocError>
+    ensures same { (kind callback.new ≡ kind callback.old) × (spec callback.new ≡ spec callback.old)
+        × (told callback.new ≡ told callback.old) }
+    ensures built_in { kind callback.old ≢ Kind.Own → IfOk result (λ answer.
+        (answer ≡ Prepared.Ready) × (count callback.new ≡ count callback.old)) }
+    ensures no_counts { kind callback.old ≢ Kind.Own
+        → (calls callback.new ≡ calls callback.old) × (bad callback.new ≡ bad callback.old) }
+    ensures never_fall { (calls callback.old ≤ calls callback.new) × (bad callback.old ≤ bad callback.new) }
+    ensures shape { IfOk result (λ answer. IsTrue (is_prepared_answer answer)) }
+    ensures bad { kind callback.old ≡ Kind.Own → IfOk result (λ answer.
+        is_ready answer ≡ false → Rose (bad callback.old) (bad callback.new)) }
+{
+    callback.prepare(messages)
 }
 
 /// The replies to these messages in order. A crash ends them.
@@ -110,7 +129,7 @@ fn raise_all(
         → (calls callback.new ≡ calls callback.old) × (bad callback.new ≡ bad callback.old) }
     ensures never_fall { (calls callback.old ≤ calls callback.new) × (bad callback.old ≤ bad callback.new) }
     ensures shape { kind callback.old ≡ Kind.Own → IsTrue (is_own_reason why)
-        → IfOk result (λ r. IsTrue (are_own_replies (spec callback.old).batchers messages.now r)) }
+        → IsTrue (list_all (is_message_for (spec callback.old).batchers) messages.now) → IfOk result (λ r. IsTrue (are_own_replies (spec callback.old).batchers messages.now r)) }
     ensures none_passed { IfOk result (λ r. count_by is_passed r ≡ 0) }
 {
     let mut replies = Vec::with_capacity(alloc, messages.len())?;
