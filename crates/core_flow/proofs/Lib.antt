@@ -19,3 +19,4 @@ pub mod Messages
 pub mod Holds
 pub mod Next
 pub mod Sounds
+pub mod Rows

@@ -5,3 +5,4 @@ pub mod Stands
 pub mod Parts
 pub mod Next
 pub mod Limited
+pub mod Rows

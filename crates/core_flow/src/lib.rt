@@ -9,6 +9,7 @@
 mod calls;
 pub mod drain;
 mod parts;
+mod readers;
 pub mod state;
 
 pub use crate::state::{Chunk, Core};
