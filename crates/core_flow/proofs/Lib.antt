@@ -22,3 +22,4 @@ pub mod Sounds
 pub mod Answerable
 pub mod Progress
 pub mod Outside
+pub mod Rows

@@ -7,3 +7,4 @@ pub mod Next
 pub mod Limited
 pub mod MayAnswer
 pub mod Progress
+pub mod Rows

@@ -12,6 +12,7 @@ mod calls;
 pub mod drain;
 mod parts;
 mod posts;
+mod readers;
 pub mod state;
 
 pub use crate::state::{Chunk, Core};

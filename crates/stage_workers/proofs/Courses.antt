@@ -1,6 +1,6 @@
 -- What a round does to how a pipeline stands.
-use Rattle.std.proofs.Common.{◌≡◌, ◌≢◌, ℕ, ◌+◌, ◌<◌, ◌≤◌, ◌^◌, List, [], ◌∷◌, ◌++◌, length, Bool, true, false, arith, refl, ap, sym, ◌∙◌, inl, inr, Some, None}
-use Rattle.std.specs.Prelude.{IsTrue, IsSome, IfSome, Option, ◌⊎◌, ◌&&◌, ◌||◌, not, min, if◌then◌else◌, is_some}
+use Rattle.std.proofs.Common.{◌≡◌, ◌≢◌, ℕ, ◌+◌, ◌<◌, ◌≤◌, ◌^◌, List, [], ◌∷◌, ◌++◌, length, Bool, true, false, arith, refl, ap, sym, ◌∙◌, inl, inr, Some, None, Ok, Err}
+use Rattle.std.specs.Prelude.{Result, IfOk, OnOk, OnErr, nat_le, IsTrue, IsSome, IfSome, Option, ◌⊎◌, ◌&&◌, ◌||◌, not, min, if◌then◌else◌, is_some}
 use Rattle.std.specs.List.{list_any}
 use Rattle.std.proofs.lemmas.List.{append-nil}
 use Rattle.pipe_types.specs.declared.numbers.StageNo.{StageNo}
@@ -20,7 +20,7 @@ use Rattle.pipe_types.specs.Handlers.{counted}
 use Rattle.pipe_types.specs.Numbers.{stage, post, same_post}
 use Rattle.pipe_model.specs.History.{History}
 use Rattle.pipe_model.specs.Posts.{is_out, has_post_out, slots}
-use Rattle.pipe_model.specs.Legal.{allows, may_dispatch, is_dispatch_of, owed, passes, happened, is_halt, is_late}
+use Rattle.pipe_model.specs.Legal.{allows, may_dispatch, is_dispatch_of, owed, passes, happened, is_halt, is_legal, may_come}
 use Rattle.pipe_model.specs.Moves.{Move, StepMove, Job, move, jobs_out}
 use Rattle.pipe_model.specs.Outside.{fed, source_end}
 use Rattle.pipe_model.specs.Work.{count}
@@ -30,9 +30,14 @@ use Rattle.pipe_edges.specs.declared.reading.LineEnd.TheVariants as end
 use Rattle.pipe_edges.specs.LineSource.{line_end_of}
 use Rattle.source_lines.specs.Read.{IsReadFrom}
 use Rattle.run_claims.specs.Followed.{FollowsMoves}
+use Rattle.core_flow.specs.declared.state.Core.{Core}
+use Rattle.core_flow.specs.Stands.{Stands}
+use Rattle.core_flow.proofs.Allowed.{and_left, and_right}
+use Rattle.core_flow.proofs.Keeps.{may}
+use Rattle.std.proofs.lemmas.Bool.Decides.{nat_tests}
 use Rattle.stage_workers.specs.Steps.{has_flow_steps}
 use Rattle.stage_workers.specs.Ready.{IsReady}
-use Rattle.stage_workers.specs.Reads.{Reads, StaysOn, IsKnownEnd}
+use Rattle.stage_workers.specs.Reads.{Reads, ReadsOn, StaysOn, IsKnownEnd}
 
 -- Posts
 
@@ -239,3 +244,45 @@ reads_end told taken left faults waits opened source topology before h r known =
   read = r.read;
   known = known;
 }
+
+-- Calls of the core
+
+legal_of : (core : Core) → Stands core → is_legal core.topology core.journal.steps ≡ true
+legal_of core x = ap (λ t. is_legal t core.journal.steps) x.shape ∙ x.accounts.legal
+
+-- a fetch brings one record at least
+pub fetch_some : (core : Core) (s : StageNo) (n : ℕ) → Stands core → IsTrue (allows core.topology core.journal.steps (Fetch s n)) → 0 < n
+fetch_some core s n x allowed =
+    let come = may core (Fetch s n) x allowed in
+    some (and_left (nat_le 1 n) _ (and_right _ _ (and_right _ _ (and_right _ _ (and_right _ _ (and_right _ _ (and_right _ _ (and_right _ _ come))))))))
+  where
+    some : nat_le 1 n ≡ true → 0 < n
+    some test = grind (arith, nat_tests)
+
+pub if_ok : {T E : Type 0} (P Q : T → Type 0) (result : Result T E) → IfOk result P → ((x : T) → P x → Q x) → IfOk result Q
+if_ok P Q (Ok x) holds so = so x holds
+if_ok P Q (Err e) holds so = tt
+
+-- what accepting the records of a fetch comes to
+pub accept_reads : {B T E : Type 0} (told : B → Bool) (taken left : B → List ℕ) (faults waits : B → ℕ) (opened : B) (source : LineSource B) (topology : Topology) (before : History) (records : List (List ℕ)) (core : Core) (result : Result T E)
+    → Reads told taken left faults waits opened source topology before records → Stands core → core.topology ≡ topology
+    → OnOk result (core.journal.steps ≡ Dispatch (stage 1) ∷ Accept (stage 1) records ∷ before) → OnErr result (core.journal.steps ≡ before)
+    → ReadsOn told taken left faults waits opened source core.topology core.journal.steps result
+accept_reads told taken left faults waits opened source topology before records core (Ok x) r stands same appended unchanged =
+    let legal : is_legal topology (Dispatch (stage 1) ∷ Accept (stage 1) records ∷ before) ≡ true =
+        sym (ap (λ t. is_legal t core.journal.steps) same ∙ ap (is_legal topology) appended) ∙ legal_of core stands in
+    rw (same, appended)
+    (reads_accept told taken left faults waits opened source topology before records r
+    (and_right (is_legal topology (Accept (stage 1) records ∷ before)) _ legal))
+accept_reads told taken left faults waits opened source topology before records core (Err e) r stands same appended unchanged =
+    (records, rw (same, unchanged) r)
+
+-- what recording the end of a source comes to
+pub end_reads : {B T E : Type 0} (told : B → Bool) (taken left : B → List ℕ) (faults waits : B → ℕ) (opened : B) (source : LineSource B) (topology : Topology) (before : History) (how : SourceHow) (core : Core) (result : Result T E)
+    → Reads told taken left faults waits opened source topology before [] → IsKnownEnd (Some how) (line_end_of source) → core.topology ≡ topology
+    → OnOk result (core.journal.steps ≡ SourceEnd (stage 1) how ∷ before) → OnErr result (core.journal.steps ≡ before)
+    → ReadsOn told taken left faults waits opened source core.topology core.journal.steps result
+end_reads told taken left faults waits opened source topology before how core (Ok x) r known same appended unchanged =
+    rw (same, appended) (reads_end told taken left faults waits opened source topology before how r known)
+end_reads told taken left faults waits opened source topology before how core (Err e) r known same appended unchanged =
+    ([], rw (same, unchanged) r)
