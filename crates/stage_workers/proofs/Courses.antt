@@ -1,12 +1,14 @@
 -- What a round does to how a pipeline stands.
 use Rattle.std.proofs.Common.{◌≡◌, ◌≢◌, ℕ, ◌+◌, ◌<◌, ◌≤◌, ◌^◌, List, [], ◌∷◌, ◌++◌, length, Bool, true, false, arith, refl, ap, sym, ◌∙◌, inl, inr, Some, None, Ok, Err}
-use Rattle.std.specs.Prelude.{Result, IfOk, OnOk, OnErr, nat_le, IsTrue, IsSome, IfSome, Option, ◌⊎◌, ◌&&◌, ◌||◌, not, min, if◌then◌else◌, is_some}
+use Rattle.std.specs.Prelude.{Result, IfOk, OnOk, OnErr, nat_le, nat_lt, ◌==◌, IsTrue, IsSome, IfSome, Option, ◌⊎◌, ◌&&◌, ◌||◌, not, min, if◌then◌else◌, is_some}
 use Rattle.std.specs.List.{list_any}
 use Rattle.std.proofs.lemmas.List.{append-nil}
 use Rattle.pipe_types.specs.declared.numbers.StageNo.{StageNo}
 use Rattle.pipe_types.specs.declared.numbers.SubNo.{SubNo}
 use Rattle.pipe_types.specs.declared.numbers.Post.{Post}
+use Rattle.pipe_types.specs.declared.message.Message.{Message}
 use Rattle.pipe_types.specs.declared.message.Reply.{Reply}
+use Rattle.pipe_types.specs.Stages.{spec_of}
 use Rattle.pipe_types.specs.declared.step.DrainCause.{DrainCause}
 use Rattle.pipe_types.specs.declared.step.DrainCause.TheVariants.{Sources, Limit, Control, Idle}
 use Rattle.pipe_types.specs.declared.step.SourceHow.{SourceHow}
@@ -16,21 +18,32 @@ use Rattle.pipe_types.specs.declared.step.Step.TheVariants.{Ask, Fetch, Accept, 
 use Rattle.pipe_types.specs.declared.topology.Kind.{Kind}
 use Rattle.pipe_types.specs.declared.topology.StageSpec.{StageSpec}
 use Rattle.pipe_types.specs.declared.topology.Topology.{Topology}
-use Rattle.pipe_types.specs.Handlers.{counted}
+use Rattle.pipe_types.specs.Counts.{Rose}
+use Rattle.pipe_types.specs.Handlers.{counted, chunk_replies}
 use Rattle.pipe_types.specs.Numbers.{stage, post, same_post}
-use Rattle.pipe_model.specs.History.{History}
+use Rattle.pipe_model.specs.History.{History, accepted_bytes}
+use Rattle.pipe_model.specs.Lives.{is_live}
 use Rattle.pipe_model.specs.Posts.{is_out, has_post_out, slots}
-use Rattle.pipe_model.specs.Legal.{allows, may_dispatch, is_dispatch_of, owed, passes, happened, is_halt, is_legal, may_come}
+use Rattle.pipe_model.specs.Legal.{allows, may_dispatch, is_dispatch_of, owed, passes, happened, is_halt, is_drain, is_legal, has_role, is_producer_role, has_ended, rests, bound, chunk_size}
 use Rattle.pipe_model.specs.Moves.{Move, StepMove, Job, move, jobs_out}
 use Rattle.pipe_model.specs.Outside.{fed, source_end}
-use Rattle.pipe_model.specs.Work.{count}
+use Rattle.pipe_model.specs.Flow.{inbox, units_on}
+use Rattle.pipe_model.specs.Jobs.{fetch_step, take_first, take_step, allows_some, may_take_next, with_step}
+use Rattle.pipe_model.specs.Work.{count, chunk_of}
 use Rattle.pipe_edges.specs.declared.lines.LineSource.{LineSource}
 use Rattle.pipe_edges.specs.declared.reading.LineEnd.{LineEnd}
 use Rattle.pipe_edges.specs.declared.reading.LineEnd.TheVariants as end
 use Rattle.pipe_edges.specs.LineSource.{line_end_of}
-use Rattle.source_lines.specs.Read.{IsReadFrom}
+use Rattle.pipe_edges.specs.declared.reading.Fetched.{Fetched}
+use Rattle.pipe_edges.specs.declared.reading.Fetched.TheVariants.{Records}
+use Rattle.core_flow.specs.Next.{MayBegin}
+use Rattle.core_flow.specs.MayAnswer.{MayHandIn, MayReply}
+use Rattle.source_lines.specs.Read.{IsReadFrom, IsFetchAnswer}
 use Rattle.run_claims.specs.Followed.{FollowsMoves}
 use Rattle.core_flow.specs.declared.state.Core.{Core}
+use Rattle.core_flow.specs.declared.state.Chunk.{Chunk}
+use Rattle.core_flow.specs.declared.state.Chunk.TheVariants.{Messages, Batch as InBatch}
+use Rattle.core_flow.specs.OneEach.{one_each}
 use Rattle.core_flow.specs.Stands.{Stands}
 use Rattle.core_flow.proofs.Allowed.{and_left, and_right}
 use Rattle.core_flow.proofs.Keeps.{may}
@@ -250,14 +263,30 @@ reads_end told taken left faults waits opened source topology before h r known =
 legal_of : (core : Core) → Stands core → is_legal core.topology core.journal.steps ≡ true
 legal_of core x = ap (λ t. is_legal t core.journal.steps) x.shape ∙ x.accounts.legal
 
+eighth : (a b c d e f g h i : Bool) → (a && (b && (c && (d && (e && (f && (g && (h && i)))))))) ≡ true → h ≡ true
+eighth a b c d e f g h i all =
+    and_left h i
+    (and_right g (h && i)
+    (and_right f (g && (h && i))
+    (and_right e (f && (g && (h && i)))
+    (and_right d (e && (f && (g && (h && i))))
+    (and_right c (d && (e && (f && (g && (h && i)))))
+    (and_right b (c && (d && (e && (f && (g && (h && i))))))
+    (and_right a (b && (c && (d && (e && (f && (g && (h && i)))))))
+    all)))))))
+
+some_of : (n : ℕ) → nat_le 1 n ≡ true → 0 < n
+some_of n test = grind (arith, nat_tests)
+
 -- a fetch brings one record at least
 pub fetch_some : (core : Core) (s : StageNo) (n : ℕ) → Stands core → IsTrue (allows core.topology core.journal.steps (Fetch s n)) → 0 < n
 fetch_some core s n x allowed =
-    let come = may core (Fetch s n) x allowed in
-    some (and_left (nat_le 1 n) _ (and_right _ _ (and_right _ _ (and_right _ _ (and_right _ _ (and_right _ _ (and_right _ _ (and_right _ _ come))))))))
-  where
-    some : nat_le 1 n ≡ true → 0 < n
-    some test = grind (arith, nat_tests)
+    let t : Topology = one_each x.settings in
+    let before : History = core.journal.steps in
+    some_of n
+    (eighth (is_live t before s) (has_role t s is_producer_role) (not (has_ended before s)) (not (is_out before (post s 0))) (not (rests before s))
+    (not (happened is_drain before)) (nat_lt (accepted_bytes before) t.byte_limit) (nat_le 1 n) (n == bound t before s)
+    (may core (Fetch s n) x allowed))
 
 pub if_ok : {T E : Type 0} (P Q : T → Type 0) (result : Result T E) → IfOk result P → ((x : T) → P x → Q x) → IfOk result Q
 if_ok P Q (Ok x) holds so = so x holds
@@ -286,3 +315,115 @@ end_reads told taken left faults waits opened source topology before how core (O
     rw (same, appended) (reads_end told taken left faults waits opened source topology before how r known)
 end_reads told taken left faults waits opened source topology before how core (Err e) r known same appended unchanged =
     ([], rw (same, unchanged) r)
+
+-- what a fetch read, where the journal has the fetch
+pub reads_fetched : {B : Type 0} (told : B → Bool) (taken left : B → List ℕ) (faults waits : B → ℕ) (opened : B) (old new : LineSource B) (topology : Topology) (before : History) (n : ℕ) (records : List (List ℕ)) (core : Core)
+    → core.topology ≡ topology → core.journal.steps ≡ Fetch (stage 1) n ∷ before
+    → Reads told taken left faults waits opened old topology before [] → move topology before ≡ Job (stage 1)
+    → IfSome (line_end_of old) (λ e. line_end_of new ≡ Some e)
+    → IsReadFrom told taken left faults waits opened new ((fed before (stage 1) ++ []) ++ records)
+    → Reads told taken left faults waits opened new core.topology core.journal.steps records
+reads_fetched told taken left faults waits opened old new topology before n records core same appended r first stays read =
+    rw (same, appended) (reads_fetch told taken left faults waits opened old new topology before n records r first stays read)
+
+pub accepted_ready : {T E : Type 0} (P : T → Type 0) (kind : Kind) (spec : StageSpec) (seen : ℕ) (topology : Topology) (before : History) (n : ℕ) (records : List (List ℕ)) (core core' : Core) (result : Result T E)
+    → IsReady kind spec seen topology before → core.topology ≡ topology → core.journal.steps ≡ Fetch (stage 1) n ∷ before
+    → core'.topology ≡ core.topology → OnOk result (core'.journal.steps ≡ Dispatch (stage 1) ∷ Accept (stage 1) records ∷ core.journal.steps)
+    → IfOk result (λ x. P x → IsReady kind spec seen core'.topology core'.journal.steps)
+accepted_ready P kind spec seen topology before n records core core' (Ok x) ready same fetched same' appended = λ p.
+    rw (same', same, appended, fetched) (ready_accept kind spec seen topology before (stage 1) n records ready)
+accepted_ready P kind spec seen topology before n records core core' (Err e) ready same fetched same' appended = tt
+
+pub ended_ready : {T E : Type 0} (P : T → Type 0) (kind : Kind) (spec : StageSpec) (seen : ℕ) (topology : Topology) (before : History) (n : ℕ) (how : SourceHow) (core core' : Core) (result : Result T E)
+    → IsReady kind spec seen topology before → core.topology ≡ topology → core.journal.steps ≡ Fetch (stage 1) n ∷ before
+    → core'.topology ≡ core.topology → OnOk result (core'.journal.steps ≡ SourceEnd (stage 1) how ∷ core.journal.steps)
+    → IfOk result (λ x. P x → IsReady kind spec seen core'.topology core'.journal.steps)
+ended_ready P kind spec seen topology before n how core core' (Ok x) ready same fetched same' appended = λ p.
+    rw (same', same, appended, fetched) (ready_end kind spec seen topology before n how ready)
+ended_ready P kind spec seen topology before n how core core' (Err e) ready same fetched same' appended = tt
+
+pub hands_in : (most waits waits' : ℕ) (now : Option LineEnd) (answer : Fetched) (records : List (List ℕ)) (topology : Topology) (before : History) → answer ≡ Records records
+    → MayHandIn topology before (stage 1) most → IsFetchAnswer most waits waits' now answer
+    → IsTrue (allows topology before (Accept (stage 1) records))
+hands_in most waits waits' now answer records topology before is may_hand answers =
+    let a = rw is at answers in
+    may_hand records a.0 a.1 a.2
+
+-- Takes
+
+-- the journal has a take of the stage
+pub record HasTaken (before : History) (s : StageNo) (steps : History) : Type 0 where
+  pub sub : SubNo
+  pub count : ℕ
+  pub is : steps ≡ Take s sub count ∷ before
+
+taken_of : (topology : Topology) (before : History) (spec : Option StageSpec) (s : StageNo) (units : List (SubNo × ℕ)) (steps : History)
+    → allows_some topology before (take_first spec s units) ≡ true → steps ≡ with_step (take_first spec s units) before → HasTaken before s steps
+taken_of topology before spec s [] steps may appended = grind arith
+taken_of topology before spec s (d ∷ units) steps may appended = record {
+  sub = d.0;
+  count = chunk_size spec (length (units_on d.0 (d ∷ units)));
+  is = appended;
+}
+
+pub has_taken : (topology : Topology) (before : History) (s : StageNo) (steps : History) → may_take_next topology before s ≡ true
+    → steps ≡ with_step (take_step topology before s) before → HasTaken before s steps
+has_taken topology before s steps may appended = taken_of topology before (spec_of topology s) s (inbox topology before s) steps may appended
+
+pub take_course : (topology now : Topology) (before steps : History) (s : StageNo) → now ≡ topology → s ≡ stage 2 → move topology before ≡ Job (stage 2)
+    → HasTaken before s steps → StaysOn now before steps
+take_course topology now before steps s same is first taken =
+    rw (same, taken.is) (stays_take topology before s taken.sub taken.count (rw is first))
+
+pub done_course : {T E : Type 0} (topology : Topology) (before : History) (s : StageNo) (replies : List Reply) (core core' : Core) (result : Result T E)
+    → core.topology ≡ topology → s ≡ stage 2 → move topology before ≡ Job (stage 2) → HasTaken before s core.journal.steps
+    → core'.topology ≡ core.topology → OnOk result (core'.journal.steps ≡ Done s replies ∷ core.journal.steps) → OnErr result (core'.journal.steps ≡ core.journal.steps)
+    → StaysOn core'.topology before core'.journal.steps
+done_course topology before s replies core core' (Ok x) same is first taken same' appended unchanged =
+    rw (same', same, appended, taken.is) (stays_done topology before s taken.sub taken.count replies (rw is first))
+done_course topology before s replies core core' (Err e) same is first taken same' appended unchanged =
+    rw (same', same, unchanged, taken.is) (stays_take topology before s taken.sub taken.count (rw is first))
+
+same_messages : (a b : List Message) → Messages a ≡ Messages b → a ≡ b
+same_messages a b is = ap messages_in is
+  where
+    messages_in : Chunk → List Message
+    messages_in (Messages m) = m
+    messages_in (InBatch b) = []
+
+pub reply_legal : (kind : Kind) (spec : StageSpec) (seen : ℕ) (topology : Topology) (before : History) (s : StageNo) (messages : List Message) (chunk : Chunk) (replies : List Reply) (core : Core)
+    → IsReady kind spec seen topology before → core.topology ≡ topology → s ≡ stage 2 → HasTaken before s core.journal.steps
+    → chunk ≡ Messages messages → chunk ≡ Messages (chunk_of core.topology core.journal.steps s)
+    → MayReply core.topology core.journal.steps s → replies ≡ chunk_replies spec seen messages
+    → IsTrue (allows core.topology core.journal.steps (Done s replies))
+reply_legal kind spec seen topology before s messages chunk replies core ready same is taken a b may_reply are =
+    let m : messages ≡ chunk_of core.topology core.journal.steps s = same_messages messages (chunk_of core.topology core.journal.steps s) (sym a ∙ b) in
+    let n : seen ≡ count core.topology core.journal.steps s = rw (same, taken.is, is) ready.counted in
+    may_reply spec replies (rw (same, is) ready.is_processor) ready.wants_built_in (are ∙ (λ i. chunk_replies spec (n i) (m i)))
+
+pub done_ready : {T E : Type 0} (kind kind' : Kind) (spec spec' : StageSpec) (seen seen' : ℕ) (topology : Topology) (before : History) (s : StageNo) (replies : List Reply) (core core' : Core) (result : Result T E)
+    → IsReady kind spec seen topology before → kind' ≡ kind → spec' ≡ spec → seen' ≡ counted seen (length replies)
+    → core.topology ≡ topology → s ≡ stage 2 → HasTaken before s core.journal.steps
+    → core'.topology ≡ core.topology → OnOk result (core'.journal.steps ≡ Done s replies ∷ core.journal.steps)
+    → OnOk result (IsReady kind' spec' seen' core'.topology core'.journal.steps)
+done_ready kind kind' spec spec' seen seen' topology before s replies core core' (Ok x) ready k c n same is taken same' appended =
+    rw (same', same, appended, taken.is, is) (ready_done kind kind' spec spec' seen seen' topology before taken.sub taken.count replies ready k c n)
+done_ready kind kind' spec spec' seen seen' topology before s replies core core' (Err e) ready k c n same is taken same' appended = tt
+
+-- The next move
+
+not_one : true ≡ (2 == 1) → ⊥
+not_one e = cc
+
+pub fetch_begins : (topology : Topology) (before : History) (s : StageNo) → MayBegin topology before s → true ≡ (s.0 == 1)
+    → IsTrue (allows topology before (fetch_step topology before (stage 1)))
+fetch_begins topology before s begins is = by_case begins.begins
+  where
+    by_case : ((s ≡ stage 1) × IsTrue (allows topology before (fetch_step topology before s))) ⊎ ((s ≡ stage 2) × IsTrue (may_take_next topology before s))
+        → IsTrue (allows topology before (fetch_step topology before (stage 1)))
+    by_case (inl fetch) = rw fetch.0 at fetch.1
+    by_case (inr take) = absurd (not_one (rw take.0 at is))
+
+pub rose_since : (a b c : ℕ) → a ≤ b → Rose b c → Rose a c
+rose_since a b c le (inl below) = inl (omega (arith, le, below))
+rose_since a b c le (inr full) = inr full

@@ -1,8 +1,9 @@
 //! One round: the next move, and where it is a job, its answer.
 
-ghost use Rattle.std.specs.Prelude.{◌≡◌, ◌≢◌, ◌<◌, ◌∷◌, ℕ, [], Ok, IfOk, OnOk, OnErr, IsTrue};
+ghost use Rattle.std.specs.Prelude.{◌≡◌, ◌≢◌, ◌<◌, ◌∷◌, ℕ, [], false, Ok, IfOk, OnOk, OnErr, IsTrue};
 ghost use Rattle.pipe_types.specs.Counts.{Rose};
 ghost use Rattle.pipe_types.specs.Numbers.{stage as number};
+ghost use Rattle.pipe_model.specs.Content.{has_crash};
 ghost use Rattle.pipe_model.specs.Legal.{allows};
 ghost use Rattle.pipe_model.specs.Jobs.{fetch_step, may_take_next};
 ghost use Rattle.pipe_model.specs.Moves.{move as next_move_of, StepMove, Job, is_drained};
@@ -19,6 +20,7 @@ use core_flow::drain::{self, Move};
 use core_flow::{Chunk, Core};
 use pipe_edges::{ByteSource, Fetched, LineSource};
 use pipe_types::bytes::BytesList;
+use pipe_types::message::ReplyList;
 use pipe_types::numbers::StageNo;
 use pipe_types::step::{SourceHow, Step};
 use source_lines::read_lines;
@@ -112,12 +114,13 @@ fn fetch_round<B: ByteSource>(
     ensures waits { result ≡ Ok RoundEnd.Waits → Rose (B.waits (line_source source.old)) (B.waits (line_source source.new)) }
 {
     let most = core.fetch(SOURCE)?;
-    match read_lines(source, most)? {
-        Fetched::Records(records) => hand_in(core, records),
-        Fetched::NotYet => Ok(RoundEnd::Waits),
-        Fetched::End => end_source(core, SourceHow::End),
-        Fetched::Fault => end_source(core, SourceHow::Fault),
-        Fetched::TooLong => end_source(core, SourceHow::TooLong),
+    match read_lines(source, most) {
+        Ok(Fetched::Records(records)) => hand_in(core, records),
+        Ok(Fetched::NotYet) => Ok(RoundEnd::Waits),
+        Ok(Fetched::End) => end_source(core, SourceHow::End),
+        Ok(Fetched::Fault) => end_source(core, SourceHow::Fault),
+        Ok(Fetched::TooLong) => end_source(core, SourceHow::TooLong),
+        Err(error) => Err(error),
     }
 }
 
@@ -173,10 +176,27 @@ fn take_round(
     ensures course { StaysOn core.new.topology core.old.journal.steps core.new.journal.steps }
     ensures progress { OnOk result (work_left core.new < work_left core.old) }
 {
-    let replies = match core.take(stage)? {
-        Chunk::Messages(messages) => run_chunk(alloc, callback, messages)?,
+    match core.take(stage)? {
+        Chunk::Messages(messages) => {
+            let replies = run_chunk(alloc, callback, messages)?;
+            hand_back(core, stage, replies)
+        }
         Chunk::Batch(_) => unreachable!(),
-    };
+    }
+}
+
+/// Appends the replies to the chunk that is out.
+fn hand_back(core: &mut Core, stage: StageNo, replies: ReplyList) -> Result<RoundEnd, AllocError>
+    requires stands { Stands core.old }
+    requires legal { IsTrue (allows core.old.topology core.old.journal.steps (Step.Done stage replies)) }
+    requires calm { has_crash replies ≡ false }
+    ensures stands { Stands core.new }
+    ensures topology { core.new.topology ≡ core.old.topology }
+    ensures on { IfOk result (λ r. r ≡ RoundEnd.On) }
+    ensures appended { OnOk result (core.new.journal.steps ≡ Step.Done stage replies ∷ core.old.journal.steps) }
+    ensures unchanged { OnErr result (core.new.journal.steps ≡ core.old.journal.steps) }
+    ensures progress { OnOk result (work_left core.new < work_left core.old) }
+{
     match core.answer(stage, replies) {
         Ok(()) => Ok(RoundEnd::On),
         Err((_, error)) => Err(error),
