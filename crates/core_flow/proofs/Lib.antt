@@ -20,3 +20,5 @@ pub mod Holds
 pub mod Next
 pub mod Sounds
 pub mod Rows
+pub mod Controls
+pub mod Permits

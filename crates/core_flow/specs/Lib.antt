@@ -6,3 +6,4 @@ pub mod Parts
 pub mod Next
 pub mod Limited
 pub mod Rows
+pub mod Allowing

@@ -6,6 +6,7 @@
 //! `drain::next_move` answers the first move of the order of moves, with a step or a job that is legal.
 #![tactic(auto)]
 
+mod allowing;
 mod calls;
 pub mod drain;
 mod parts;
