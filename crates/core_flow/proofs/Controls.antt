@@ -1,5 +1,5 @@
 -- What the journal tells of control lines, read oldest first.
-use Rattle.std.proofs.Common.{◌≡◌, ℕ, ◌+◌, List, [], ◌∷◌, reverse, Bool, true, false, refl, sym, ◌∙◌, arith}
+use Rattle.std.proofs.Common.{◌≡◌, ℕ, ◌+◌, List, reverse, Bool, refl, sym, ◌∙◌, arith}
 use Rattle.std.specs.Prelude.{cond, count_by}
 use Rattle.std.specs.List.{list_any}
 use Rattle.std.proofs.lemmas.List.Sorted.{IsPermutation-reverse, list_any-IsPermutation, sum_by-IsPermutation}

@@ -1,7 +1,6 @@
 -- The test of a step by the fields is that of the model.
-use Rattle.std.proofs.Common.{◌≡◌, ℕ, zero, suc, ◌+◌, ◌-◌, ◌<◌, ◌≤◌, List, [], ◌∷◌, length, map, Bool, true, false, refl, ap, sym, ◌∙◌, subst, Some, None, Option, arith}
+use Rattle.std.proofs.Common.{◌≡◌, ℕ, zero, suc, ◌-◌, ◌≤◌, List, length, map, Bool, true, false, refl, ap, sym, ◌∙◌, subst, arith}
 use Rattle.std.specs.Prelude.{if◌then◌else◌, nat_lt, nat_le, ◌&&◌, ◌||◌, ◌==◌, not, is_some, is_none, min, unwrap_or}
-use Rattle.std.specs.List.{list_any}
 use Rattle.std.proofs.lemmas.Bool.Decides.{nat_tests}
 use Rattle.std.proofs.lemmas.Bool.{eqb-true}
 use Rattle.pipe_types.specs.declared.numbers.StageNo.{StageNo}
@@ -22,24 +21,25 @@ use Rattle.pipe_types.specs.Numbers.{stage, post, same_stage, same_sub}
 use Rattle.pipe_types.specs.Stages.{spec_of}
 use Rattle.pipe_model.specs.History.{History, incarnation, controls}
 use Rattle.pipe_model.specs.Posts.{is_out, out_from}
-use Rattle.pipe_model.specs.Lives.{is_live, death}
+use Rattle.pipe_model.specs.Lives.{is_live}
 use Rattle.pipe_model.specs.Ledger.{due}
 use Rattle.pipe_model.specs.Flow.{inbox}
+use Rattle.pipe_model.specs.Work.{chunk_of, count, are_handled}
 use Rattle.pipe_model.specs.Legal.{allows, may_come, may_dispatch, bound, has_role, is_producer_role, is_processor_role, is_supervisor_role, is_batcher_role, is_batch_processor_role, is_current, are_records, fetch_out, is_limit, same_truth, has_ended, may_control, needs_restart, no_post_out, may_restart, late_fits, ends_batch, first_sub, happened, is_halt, is_drain}
 use Rattle.core_flow.specs.declared.state.Core.{Core}
-use Rattle.core_flow.specs.OneEach.{Settings, one_each, producer_of, processor_of, the_sub}
+use Rattle.core_flow.specs.OneEach.{Settings, one_each, the_sub}
 use Rattle.core_flow.specs.Account.{Account, Accounts, IsPlain, range, taken_in}
 use Rattle.core_flow.specs.Moving.{chunk_in}
 use Rattle.core_flow.specs.Stands.{Stands, account_of}
-use Rattle.core_flow.specs.Next.{held_in, due_of, fetches_in, takes_in}
-use Rattle.core_flow.specs.Allowing.{allows_but_replies, is_control_kill, ends_in, drains_in, takes_so_many, allows_in}
+use Rattle.core_flow.specs.Next.{due_of, fetches_in, takes_in}
+use Rattle.core_flow.specs.Allowing.{allows_but_replies, are_replies_handled, is_control_kill, ends_in, drains_in, takes_so_many, allows_in}
 use Rattle.core_flow.proofs.Alive.{producer_lives, processor_lives}
-use Rattle.core_flow.proofs.Allowed.{allows-plain, and_left, and_right, bound-is, due-is, waiting-none}
+use Rattle.core_flow.proofs.Allowed.{allows-plain, and_left, and_right, due-is, waiting-none}
 use Rattle.core_flow.proofs.Places.{inbox_is}
 use Rattle.core_flow.proofs.Steps.{take_tells}
 use Rattle.core_flow.proofs.Named.{ask_sub, take_stage}
 use Rattle.core_flow.proofs.Holds.{known_take, take_size}
-use Rattle.core_flow.proofs.Moving.{drain_sources-is, drain_limit-is, drain_idle-is, no_restart-is, idle_dispatch, processor_waits}
+use Rattle.core_flow.proofs.Moving.{drain_sources-is, drain_limit-is, drain_idle-is, idle_dispatch, processor_waits}
 use Rattle.core_flow.proofs.Next.{due_of-is, held-is, none-not, takes-is, take_legal}
 
 -- Tests
@@ -480,3 +480,19 @@ allows_in-is core x (ChildEnd t slot reply) =
 allows_in-is core x (Late t slot i answer) = never core x (Late t slot i answer) (no_late x.settings core.journal.steps (account_of core x.chunk) t slot i answer x.accounts)
 allows_in-is core x (Restart t) = never core x (Restart t) (first_fails (needs_restart (one_each x.settings) core.journal.steps t) _ (restart_none x.settings core.journal.steps t x.accounts.plain))
 allows_in-is core x Halt = never core x Halt (no_halting x.settings core.journal.steps x.accounts.plain)
+
+regrouped : (a b c d : Bool) → (a && (b && (c && d))) ≡ ((a && (b && c)) && d)
+regrouped true true c d = refl
+regrouped true false c d = refl
+regrouped false b c d = refl
+
+-- the whole test of the model
+pub whole-is : (core : Core) → Stands core → (step : Step)
+    → allows core.topology core.journal.steps step
+    ≡ (allows_but_replies core.topology core.journal.steps step && are_replies_handled core.topology core.journal.steps step)
+whole-is core x (Done t replies) =
+    come-is core x (Done t replies)
+    ∙ (ap (λ p. may_come p core.journal.steps (Done t replies)) (sym x.shape)
+    ∙ regrouped (is_live core.topology core.journal.steps t) (has_role core.topology t is_processor_role) (is_current core.journal.steps t 0)
+    (are_handled (spec_of core.topology t) (count core.topology core.journal.steps t) (chunk_of core.topology core.journal.steps t) replies))
+whole-is core x step = sym (and-true (allows core.topology core.journal.steps step))

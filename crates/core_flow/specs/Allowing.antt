@@ -11,7 +11,9 @@ use Rattle.pipe_types.specs.declared.step.Step.{Step}
 use Rattle.pipe_types.specs.declared.step.Step.TheVariants.{Ask, Fetch, Accept, Quiet, SourceEnd, Take, Done, Kill, Tick, Drain, Refuse}
 use Rattle.pipe_types.specs.Numbers.{stage, same_stage, same_sub}
 use Rattle.pipe_model.specs.History.{History, controls}
+use Rattle.pipe_types.specs.Stages.{spec_of}
 use Rattle.pipe_model.specs.Lives.{is_live}
+use Rattle.pipe_model.specs.Work.{chunk_of, count, are_handled}
 use Rattle.pipe_model.specs.Legal.{allows, bound, has_role, is_processor_role, is_current, are_records, is_limit, same_truth, has_ended, may_control}
 use Rattle.core_flow.specs.declared.state.Core.{Core}
 use Rattle.core_flow.specs.OneEach.{the_sub}
@@ -23,6 +25,11 @@ abbrev pub allows_but_replies : Topology → History → Step → Bool
 allows_but_replies topology before (Done s replies) =
     is_live topology before s && (has_role topology s is_processor_role && is_current before s 0)
 allows_but_replies topology before step = allows topology before step
+
+-- where the step is an answer to a chunk, the replies are the handlers'
+abbrev pub are_replies_handled : Topology → History → Step → Bool
+are_replies_handled topology before (Done s replies) = are_handled (spec_of topology s) (count topology before s) (chunk_of topology before s) replies
+are_replies_handled topology before step = true
 
 -- a control line kills so
 abbrev pub is_control_kill : Why → Bool

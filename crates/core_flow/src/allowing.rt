@@ -5,11 +5,11 @@ ghost use Rattle.std.specs.List.{list_all, list_any};
 ghost use Rattle.pipe_types.specs.Lines.{max_bytes};
 ghost use Rattle.pipe_types.specs.Numbers.{stage, same_sub};
 ghost use Rattle.pipe_model.specs.History.{controls};
-ghost use Rattle.pipe_model.specs.Legal.{are_records, ends_source, has_ended, may_control};
+ghost use Rattle.pipe_model.specs.Legal.{allows, are_records, ends_source, has_ended, may_control};
 ghost use Rattle.core_flow.specs.OneEach.{the_sub as only_sub};
 ghost use Rattle.core_flow.specs.Stands.{Stands};
 ghost use Rattle.core_flow.specs.Next.{due_of, fetches_in, takes_in};
-ghost use Rattle.core_flow.specs.Allowing.{allows_but_replies, allows_in, ends_in, drains_in, takes_so_many, is_control, is_control_kill};
+ghost use Rattle.core_flow.specs.Allowing.{allows_but_replies, are_replies_handled, allows_in, ends_in, drains_in, takes_so_many, is_control, is_control_kill};
 
 use crate::parts::the_sub;
 use crate::state::Core;
@@ -30,6 +30,7 @@ impl Core {
     pub fn allows(&self, step: &Step) -> bool
         requires stands { Stands self.now }
         ensures allows { result ≡ allows_but_replies self.now.topology self.now.journal.steps step.now }
+        ensures legal { allows self.now.topology self.now.journal.steps step.now ≡ (result && are_replies_handled self.now.topology self.now.journal.steps step.now) }
     {
         self.allows_by_fields(step)
     }
