@@ -23,3 +23,5 @@ pub mod Answerable
 pub mod Progress
 pub mod Outside
 pub mod Rows
+pub mod Controls
+pub mod Permits

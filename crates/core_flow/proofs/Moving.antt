@@ -146,7 +146,7 @@ drain_limit-is s before a x =
     ∙ (λ i. not (x.counts.drain i) && (nat_le s.whole.record_limit (x.counts.accepted i) || nat_le s.whole.byte_limit (x.counts.bytes i)))
 
 -- no row of quiet steps begins the drain
-drain_idle-is : (s : Settings) (before : History) (a : Account) → Accounts s before a → allows (one_each s) before (Drain Idle) ≡ false
+pub drain_idle-is : (s : Settings) (before : History) (a : Account) → Accounts s before a → allows (one_each s) before (Drain Idle) ≡ false
 drain_idle-is s before a x =
     allows-plain s before a (Drain Idle) x
     ∙ ((λ i. not (x.counts.drain i) && (nat_le 1 s.whole.idle_limit && nat_le s.whole.idle_limit (x.plain.no_quiet i))) ∙ never a.draining s.whole.idle_limit)
@@ -160,7 +160,7 @@ drain_idle-is s before a x =
 
 -- Stages that do nothing of their own
 
-no_restart-is : (s : Settings) (before : History) (t : StageNo) → IsPlain s before → is_live (one_each s) before t ≡ true → needs_restart (one_each s) before t ≡ false
+pub no_restart-is : (s : Settings) (before : History) (t : StageNo) → IsPlain s before → is_live (one_each s) before t ≡ true → needs_restart (one_each s) before t ≡ false
 no_restart-is s before t p lives = rw lives (second (is_some (spec_of (one_each s) t)))
   where
     second : (b : Bool) → (b && false) ≡ false
@@ -182,7 +182,7 @@ waits_nowhere : (s : Settings) (before : History) (a : Account) (t : StageNo) (n
 waits_nowhere s before a t zero q = ap (waits_in t) q.none
 waits_nowhere s before a t (suc i) q = ap (waits_in t) (q.places i) ∙ not_waiting t a i
 
-processor_waits : (s : Settings) (before : History) (a : Account) → Queues s before a → waiting (one_each s) before (stage 2) ≡ []
+pub processor_waits : (s : Settings) (before : History) (a : Account) → Queues s before a → waiting (one_each s) before (stage 2) ≡ []
 processor_waits s before a q =
     filter-none (λ n. waits_in (stage 2) (place (one_each s) before n)) (arrivals before (stage 2)) (λ n. waits_nowhere s before a (stage 2) n q)
 
@@ -209,7 +209,7 @@ sends_of s before t units =
     (map (λ n. (n, partition_in before (view_of (one_each s) before) (spec_of (one_each s) t) n)) units)
 
 -- a stage where nothing waits does not dispatch
-idle_dispatch : (s : Settings) (before : History) (t : StageNo) → waiting (one_each s) before t ≡ [] → may_dispatch (one_each s) before t ≡ false
+pub idle_dispatch : (s : Settings) (before : History) (t : StageNo) → waiting (one_each s) before t ≡ [] → may_dispatch (one_each s) before t ≡ false
 idle_dispatch s before t none =
     (λ i.
     is_live (one_each s) before t

@@ -29,14 +29,14 @@ use Rattle.core_flow.specs.Next.{held_in, cause_in, due_of, fetches_in, drained_
 use Rattle.core_flow.proofs.Allowed.{allows-plain, bound-is, due-is}
 use Rattle.core_flow.proofs.Moving.{move-is, is_drained-is, jobs_out-is, drain_sources-is, drain_limit-is, fetch-is, first_take-processor}
 
-none-not : {A : Type 0} → (o : Option A) → is_none o ≡ not (is_some o)
+pub none-not : {A : Type 0} → (o : Option A) → is_none o ≡ not (is_some o)
 none-not None = refl
 none-not (Some x) = refl
 
 ended-length : (core : Core) → length (map (λ (r : Settled). r.outcome) core.settled.items) ≡ length core.settled.items
 ended-length core = length-map core.settled.items (λ (r : Settled). r.outcome)
 
-held-is : (core : Core) (x : Stands core) → held_in core ≡ accepted_in (account_of core x.chunk)
+pub held-is : (core : Core) (x : Stands core) → held_in core ≡ accepted_in (account_of core x.chunk)
 held-is core x = omega (arith, x.running, ended-length core)
 
 drained-is : (core : Core) (x : Stands core) → drained_of core ≡ is_drained_in (account_of core x.chunk)
@@ -54,7 +54,7 @@ pub due_of-is : (core : Core) (x : Stands core) → due_of core ≡ due_in x.set
 due_of-is core x =
     λ i. if nat_le (core.asked - sym (ended-length core) i) (x.limits.min i) then x.limits.max i - (core.asked - sym (ended-length core) i) else 0
 
-takes-is : (core : Core) (x : Stands core) → takes_in core ≡ may_take_in x.settings (account_of core x.chunk)
+pub takes-is : (core : Core) (x : Stands core) → takes_in core ≡ may_take_in x.settings (account_of core x.chunk)
 takes-is core x =
     (λ i. (x.running i == 0) && not (length core.inbox.items == 0))
     ∙ cases (length x.chunk) (length core.inbox.items) (x.settings.processor.max - x.settings.processor.min) room
@@ -167,7 +167,7 @@ take_as_first : (s : Settings) (before : History) (units : List (SubNo × ℕ))
 take_as_first s before [] = refl
 take_as_first s before (d ∷ units) = refl
 
-take_legal : (core : Core) (x : Stands core) → may_take_in x.settings (account_of core x.chunk) ≡ true → may_take_next core.topology core.journal.steps (stage 2) ≡ true
+pub take_legal : (core : Core) (x : Stands core) → may_take_in x.settings (account_of core x.chunk) ≡ true → may_take_next core.topology core.journal.steps (stage 2) ≡ true
 take_legal core x e =
     ap (λ t. may_take_next t core.journal.steps (stage 2)) x.shape
     ∙ (take_as_first x.settings core.journal.steps (inbox (one_each x.settings) core.journal.steps (stage 2))

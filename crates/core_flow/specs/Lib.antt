@@ -8,3 +8,4 @@ pub mod Limited
 pub mod MayAnswer
 pub mod Progress
 pub mod Rows
+pub mod Allowing

@@ -8,6 +8,7 @@
 //! work than there was (`work_left`), but for the end of the control source, so a loop that makes the moves ends.
 #![tactic(auto)]
 
+mod allowing;
 mod calls;
 pub mod drain;
 mod parts;
