@@ -141,10 +141,7 @@ fn raise_all(
 }
 
 /// The reply to one message, with the reason that `failed` leaves it.
-fn answer(
-    callback: &mut Box<dyn Callback + Send>,
-    message: Message,
-) -> Result<Reply, AllocError>
+fn answer(callback: &mut Box<dyn Callback + Send>, message: Message) -> Result<Reply, AllocError>
     ensures same { (kind callback.new ≡ kind callback.old) × (spec callback.new ≡ spec callback.old)
         × (told callback.new ≡ told callback.old) }
     ensures built_in { kind callback.old ≢ Kind.Own → IfOk result (λ reply.
