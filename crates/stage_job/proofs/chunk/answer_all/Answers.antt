@@ -1,8 +1,10 @@
-use Rattle.std.proofs.Common.{length, ap, sym, ◌∙◌, arith}
+use Rattle.std.proofs.Common.{length, refl, ap, sym, ◌∙◌, arith}
 use Rattle.std.proofs.lemmas.List.{nil_from_length}
 use Rattle.std.specs.Vec.Iter.{into_iter_items}
 use Rattle.stage_job.proofs.CallCounts.{one_call_more}
 use Rattle.stage_job.proofs.ChunkSteps.{built_in_next, own_next, all_answered, all_fit}
+use Rattle.stage_job.specs.Told.{replies_by}
+use Rattle.stage_job.proofs.ToldSteps.{told_more, all_told}
 use Rattle.stage_job.proofs.chunk.answer_all.Goals as goal
 
 pub loop-message-preserved : goal.loop-message-preserved
@@ -34,6 +36,9 @@ loop-message-preserved g c =
       counts = λ is_own.
           rw c.in_ok-push.ensures.items
           (one_call_more _ _ _ _ _ _ _ c.in_ok-reply.reply answered.never_fall.0 (answered.calls (so_far.same_kind ∙ is_own)) so_far.bad_kept answered.never_fall.1 (answered.bad (so_far.same_kind ∙ is_own)) (so_far.counts is_own));
+      told = λ is_told.
+          rw c.in_ok-push.ensures.items
+          (told_more replies_by _ _ _ _ c.in_ok-reply.reply (answered.by_answers (rw so_far.same_told is_told)) (so_far.told is_told));
     }
 
 pub returns-clause-replies : goal.returns-clause-replies
@@ -45,3 +50,13 @@ pub returns-clause-shape : goal.returns-clause-shape
 returns-clause-shape g c = λ is_own all.
     let none = nil_from_length (into_iter_items c.loop-message.message-iterator) (c.loop-message.invariant.left ∙ c.in-None.ensures.steps.0) in
     rw c.from_vec-2.ensures (all_fit _ _ _ _ none (c.loop-message.invariant.own is_own) all)
+
+pub returns-clause-by_answers : goal.returns-clause-by_answers
+returns-clause-by_answers g c = λ is_told.
+    rw c.from_vec-2.ensures (all_told replies_by _ _ _ refl (c.loop-message.invariant.told is_told))
+
+pub returns-then-crashed-clause-by_answers : goal.returns-then-crashed-clause-by_answers
+returns-then-crashed-clause-by_answers g c = λ is_told.
+    let so_far = c.loop-message.invariant in
+    let more = told_more replies_by _ _ _ _ c.in_ok-reply.reply (c.in_ok-reply.ensures.by_answers (rw so_far.same_told is_told)) (so_far.told is_told) in
+    rw (c.from_vec.ensures, c.in_ok-push.ensures.items) (all_told replies_by _ _ _ refl more)
