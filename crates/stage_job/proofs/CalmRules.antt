@@ -1,6 +1,5 @@
 -- Rules that never crash.
-use Rattle.std.proofs.Common.{◌≡◌, ℕ, ◌%◌, Bool, true, false, cond, not, ◌&&◌, ◌==◌, List, [], ◌∷◌, ◌++◌, length, map, refl, nat_lt}
-use Rattle.std.specs.List.{list_all}
+use Rattle.std.proofs.Common.{◌≡◌, ℕ, ◌%◌, true, false, cond, not, ◌==◌, List, [], ◌∷◌, ◌++◌, length, map, refl, nat_lt}
 use Rattle.std.specs.Str.{bytes_eq}
 use Rattle.std.proofs.lemmas.Bool.{and_parts, cond_both}
 use Rattle.pipe_types.specs.declared.message.Message.{Message}

@@ -2,3 +2,4 @@ pub mod CallCounts
 pub mod CalmRules
 pub mod ChunkSteps
 pub mod KindCounts
+pub mod ToldSteps

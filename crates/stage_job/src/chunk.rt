@@ -1,11 +1,14 @@
 //! A chunk of a processor through its callback.
 
-ghost use Rattle.std.specs.Prelude.{◌≡◌, ◌≢◌, ◌≤◌, ◌<◌, ◌^◌, false, IsTrue, IfOk, OnOk, length, count_by};
+ghost use Rattle.std.specs.Prelude.{◌≡◌, ◌≢◌, ◌≤◌, ◌<◌, ◌^◌, false, List, [], ◌∷◌, ◌++◌, IsTrue, IfOk, OnOk, length, count_by};
 ghost use Rattle.std.specs.List.{list_all};
 ghost use Rattle.pipe_types.specs.Counts.{Rose};
 ghost use Rattle.pipe_types.specs.Handlers.{eval, counted, with_reason, reason_of, chunk_replies, is_crashed, is_own_reason, is_own_reply, are_own_replies};
 ghost use Rattle.pipe_model.specs.Content.{has_crash};
 ghost use Rattle.stage_callback.specs.Callbacks.{is_message_for, is_passed, is_ready, is_prepared_answer};
+ghost use Rattle.stage_callback.specs.declared.answers.FailedReply.{FailedReply};
+ghost use Rattle.stage_callback.specs.declared.answers.Said.{Said};
+ghost use Rattle.stage_job.specs.Told.{chunk_by, replies_by, raised_by, reason_by, MakeReply};
 ghost use Rattle.stage_job.specs.Chunks.{never_crashes, RoseBy};
 
 use pipe_types::message::{Message, MessageList, Reply, ReplyList};
@@ -45,6 +48,9 @@ pub fn run_chunk(
         RoseBy (count_by is_passed r) (calls callback.old) (calls callback.new)) }
     ensures bad { kind callback.old ≡ Kind.Own → IfOk result (λ r.
         list_all is_passed r ≡ false → Rose (bad callback.old) (bad callback.new)) }
+    // Where it tells its answers, the replies are made of those that it gave in this call.
+    ensures by_answers { IsTrue (told callback.old) → IfOk result (λ r. (answers : List Said)
+        × (said callback.new ≡ said callback.old ++ answers) × (r ≡ chunk_by answers)) }
 {
     let messages = messages.into_vec();
     if messages.is_empty() {
@@ -72,6 +78,8 @@ fn show(
     ensures shape { IfOk result (λ answer. IsTrue (is_prepared_answer answer)) }
     ensures bad { kind callback.old ≡ Kind.Own → IfOk result (λ answer.
         is_ready answer ≡ false → Rose (bad callback.old) (bad callback.new)) }
+    ensures said { IsTrue (told callback.old) → IfOk result (λ answer.
+        said callback.new ≡ said callback.old ++ Said.Prepared answer ∷ []) }
 {
     callback.prepare(messages)
 }
@@ -97,6 +105,8 @@ fn answer_all(
         RoseBy (count_by is_passed r) (calls callback.old) (calls callback.new)) }
     ensures bad { kind callback.old ≡ Kind.Own → IfOk result (λ r.
         list_all is_passed r ≡ false → Rose (bad callback.old) (bad callback.new)) }
+    ensures by_answers { IsTrue (told callback.old) → IfOk result (λ r. (answers : List Said)
+        × (said callback.new ≡ said callback.old ++ answers) × (r ≡ replies_by answers)) }
 {
     let mut replies = Vec::with_capacity(alloc, messages.len())?;
     for message in messages {
@@ -131,6 +141,8 @@ fn raise_all(
     ensures shape { kind callback.old ≡ Kind.Own → IsTrue (is_own_reason why)
         → IsTrue (list_all (is_message_for (spec callback.old).batchers) messages.now) → IfOk result (λ r. IsTrue (are_own_replies (spec callback.old).batchers messages.now r)) }
     ensures none_passed { IfOk result (λ r. count_by is_passed r ≡ 0) }
+    ensures by_answers { IsTrue (told callback.old) → IfOk result (λ r. (answers : List Said)
+        × (said callback.new ≡ said callback.old ++ answers) × (r ≡ raised_by why answers)) }
 {
     let mut replies = Vec::with_capacity(alloc, messages.len())?;
     for message in messages {
@@ -141,10 +153,7 @@ fn raise_all(
 }
 
 /// The reply to one message, with the reason that `failed` leaves it.
-fn answer(
-    callback: &mut Box<dyn Callback + Send>,
-    message: Message,
-) -> Result<Reply, AllocError>
+fn answer(callback: &mut Box<dyn Callback + Send>, message: Message) -> Result<Reply, AllocError>
     ensures same { (kind callback.new ≡ kind callback.old) × (spec callback.new ≡ spec callback.old)
         × (told callback.new ≡ told callback.old) }
     ensures built_in { kind callback.old ≢ Kind.Own → IfOk result (λ reply.
@@ -158,14 +167,37 @@ fn answer(
     ensures calls { kind callback.old ≡ Kind.Own → OnOk result (Rose (calls callback.old) (calls callback.new)) }
     ensures bad { kind callback.old ≡ Kind.Own → IfOk result (λ reply.
         is_passed reply ≡ false → Rose (bad callback.old) (bad callback.new)) }
+    ensures by_answers { IsTrue (told callback.old) → IfOk result (λ reply. (answers : List Said)
+        × (said callback.new ≡ said callback.old ++ answers) × MakeReply answers reply) }
 {
     let no = message.no;
-    match callback.message(message)? {
+    match ask(callback, message)? {
         Reply::Failed(why) => Ok(Reply::Failed(reason_for(callback, no, why)?)),
         Reply::Raised(why) => Ok(Reply::Raised(reason_for(callback, no, why)?)),
         Reply::Pass(passed) => Ok(Reply::Pass(passed)),
         Reply::Crashed => Ok(Reply::Crashed),
     }
+}
+
+/// Calls `message`.
+fn ask(callback: &mut Box<dyn Callback + Send>, message: Message) -> Result<Reply, AllocError>
+    ensures same { (kind callback.new ≡ kind callback.old) × (spec callback.new ≡ spec callback.old)
+        × (told callback.new ≡ told callback.old) }
+    ensures built_in { kind callback.old ≢ Kind.Own → IfOk result (λ reply.
+        (reply ≡ eval (spec callback.old) (count callback.old) message)
+        × (count callback.new ≡ counted (count callback.old) 1)) }
+    ensures no_counts { kind callback.old ≢ Kind.Own
+        → (calls callback.new ≡ calls callback.old) × (bad callback.new ≡ bad callback.old) }
+    ensures never_fall { (calls callback.old ≤ calls callback.new) × (bad callback.old ≤ bad callback.new) }
+    ensures shape { IsTrue (is_message_for (spec callback.old).batchers message)
+        → IfOk result (λ reply. IsTrue (is_own_reply (spec callback.old).batchers message reply)) }
+    ensures calls { kind callback.old ≡ Kind.Own → OnOk result (Rose (calls callback.old) (calls callback.new)) }
+    ensures bad { kind callback.old ≡ Kind.Own → IfOk result (λ reply.
+        is_passed reply ≡ false → Rose (bad callback.old) (bad callback.new)) }
+    ensures said { IsTrue (told callback.old) → IfOk result (λ reply.
+        said callback.new ≡ said callback.old ++ Said.Message reply ∷ []) }
+{
+    callback.message(message)
 }
 
 /// The reason that a failed message keeps, or what the callback puts in its place.
@@ -183,6 +215,8 @@ fn reason_for(
     ensures never_fall { (calls callback.old ≤ calls callback.new) × (bad callback.old ≤ bad callback.new) }
     ensures own_reason { kind callback.old ≡ Kind.Own → IsTrue (is_own_reason why)
         → IfOk result (λ reason. IsTrue (is_own_reason reason)) }
+    ensures by_answer { IsTrue (told callback.old) → IfOk result (λ reason. (by : FailedReply)
+        × (said callback.new ≡ said callback.old ++ Said.Failed by ∷ []) × (reason ≡ reason_by by why)) }
 {
     match callback.failed(no, &why)? {
         FailedReply::Keep | FailedReply::Raised => Ok(why),

@@ -1,9 +1,9 @@
 //! What a worker does with callbacks: it runs a chunk of a processor through one, and arms those of a stock.
 //!
 //! `run_chunk` gives the replies to a chunk. Those of a built-in kind, and the count of messages that they leave, are
-//! exactly the definition of the built-in handlers; those of a user's own kind keep their shape, and no reply that
-//! passes or fails comes without a call that the callback counted. `boxes_of`, `first_of` and `arm_at` read and arm a
-//! stock of boxes.
+//! exactly the definition of the built-in handlers. Those of a user's own kind keep their shape, the callback counted
+//! a call for each that passes and a bad answer where one does not, and where it tells its answers the replies are
+//! made of these. `boxes_of`, `first_of` and `arm_at` read and arm a stock of boxes.
 #![tactic(auto)]
 
 mod calm;

@@ -48,7 +48,7 @@ fn is_same(wanted: Kind, found: Kind) -> bool
     wanted == found
 }
 
-/// Arms the box at this place. After want of memory every box is as it was.
+/// Arms the box at this place. After want of memory it has the spec and the counts that it had.
 pub fn arm_at(
     stock: &mut Vec<Box<dyn Callback + Send>>,
     at: usize,

@@ -46,7 +46,9 @@ fn a_chunk_fails_the_message_that_lacks_the_prefix(rt: HostRuntime) -> Result<()
     let replies = replies.as_slice();
     assert_eq!(rt; replies.len(), 3);
     assert!(rt; matches!(&replies[0], Reply::Pass(m) if m.no == MsgNo(1)));
-    assert!(rt; matches!(&replies[1], Reply::Failed(why) if why.as_bytes() == b"require".as_slice()));
+    assert!(rt;
+        matches!(&replies[1], Reply::Failed(why) if why.as_bytes() == b"require".as_slice())
+    );
     assert!(rt; matches!(&replies[2], Reply::Pass(m) if m.no == MsgNo(3)));
     Ok(())
 }

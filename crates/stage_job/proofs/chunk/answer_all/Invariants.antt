@@ -1,7 +1,9 @@
-use Rattle.std.proofs.Common.{◌≡◌, ◌≢◌, ◌≤◌, length}
+use Rattle.std.proofs.Common.{◌≡◌, ◌≢◌, ◌≤◌, length, IsTrue}
 use Rattle.std.specs.Vec.Iter.{into_iter_items, into_iter_len}
 use Rattle.pipe_types.specs.declared.topology.Kind.TheVariants.{Own}
 use Rattle.stage_job.proofs.CallCounts.{CallsSoFar}
+use Rattle.stage_job.specs.Told.{replies_by}
+use Rattle.stage_job.proofs.ToldSteps.{ToldSoFar}
 use Rattle.stage_job.proofs.ChunkSteps.{BuiltInSoFar, OwnSoFar}
 use Rattle.stage_job.proofs.chunk.answer_all.Given as goal
 
@@ -26,4 +28,5 @@ invariant-loop-message g l =
       bad_kept : first.bad l.initial.callback.value ≤ now.bad l.callback.value;
       own : kind ≡ Own → OwnSoFar spec.batchers messages rest l.replies.items;
       counts : kind ≡ Own → CallsSoFar (first.calls l.initial.callback.value) (now.calls l.callback.value) (first.bad l.initial.callback.value) (now.bad l.callback.value) l.replies.items;
+      told : IsTrue (first.told l.initial.callback.value) → ToldSoFar replies_by (first.said l.initial.callback.value) (now.said l.callback.value) l.replies.items;
     }

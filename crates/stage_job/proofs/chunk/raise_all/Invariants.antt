@@ -1,7 +1,9 @@
-use Rattle.std.proofs.Common.{◌≡◌, ◌≢◌, ◌≤◌, true, drop, count_by}
+use Rattle.std.proofs.Common.{◌≡◌, ◌≢◌, ◌≤◌, true, IsTrue, drop, count_by}
 use Rattle.pipe_types.specs.declared.topology.Kind.TheVariants.{Own}
 use Rattle.pipe_types.specs.Handlers.{is_own_reason}
 use Rattle.stage_callback.specs.Callbacks.{is_passed}
+use Rattle.stage_job.specs.Told.{raised_by}
+use Rattle.stage_job.proofs.ToldSteps.{ToldSoFar}
 use Rattle.stage_job.proofs.ChunkSteps.{OwnSoFar}
 use Rattle.stage_job.proofs.chunk.raise_all.Given as goal
 
@@ -19,5 +21,6 @@ invariant-loop-message g l =
       calls_kept : first.calls l.initial.callback.value ≤ now.calls l.callback.value;
       bad_kept : first.bad l.initial.callback.value ≤ now.bad l.callback.value;
       own : kind ≡ Own → is_own_reason l.why ≡ true → OwnSoFar spec.batchers l.messages (drop l.message-index l.messages) l.replies.items;
+      told : IsTrue (first.told l.initial.callback.value) → ToldSoFar (raised_by l.why) (first.said l.initial.callback.value) (now.said l.callback.value) l.replies.items;
       none_passed : count_by is_passed l.replies.items ≡ 0;
     }
