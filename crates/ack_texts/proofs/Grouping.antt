@@ -1,9 +1,9 @@
 -- Steps of the loops that put messages into groups.
 use Rattle.std.proofs.Common.{◌≡◌, ℕ, zero, suc, ◌+◌, ◌<◌, ◌≤◌, List, [], ◌∷◌, ◌++◌, length, map, get_or, set, take, replicate, Bool, true, false, refl, ap, sym, ◌∙◌, append-nil, Some, None, Option, inl, inr, Vec, Global, arith}
 use Rattle.std.specs.Prelude.{if◌then◌else◌, ◌==◌, option_to_list, ◌⊎◌}
-use Rattle.std.specs.List.{filter_map, cons_option, flat_map}
+use Rattle.std.specs.List.{cons_option, flat_map}
 use Rattle.std.proofs.lemmas.Bool.{eq-eqb, ne_eqb, cases_eq}
-use Rattle.std.proofs.lemmas.List.{length-set, get_or-set_other, get_or_append_left, get_or_push, length_push, length-map, get_or-map, ext_get_or, map_push, map-set, length-replicate, get_or-replicate, replicate_more, take_all}
+use Rattle.std.proofs.lemmas.List.{length-set, get_or-set_other, get_or_append_left, get_or_push, length_push, length-map, get_or-map, ext_get_or, map-set, length-replicate, get_or-replicate, take_all}
 use Rattle.std.proofs.lemmas.List.Elements.{filter_map-append}
 use Rattle.std.proofs.lemmas.Grind.{take_at_read, get_or-set_at}
 use Rattle.pipe_types.specs.declared.topology.StageSpec.{StageSpec}

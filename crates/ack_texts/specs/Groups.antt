@@ -1,5 +1,5 @@
 -- The acknowledged messages by the steps that acknowledged them, and their lines.
-use Rattle.std.specs.Prelude.{◌≡◌, ℕ, zero, suc, ◌<◌, Bool, true, false, if◌then◌else◌, not, ◌&&◌, ◌==◌, List, [], ◌∷◌, ◌++◌, length, map, filter, Option, Some, None, Vec, option_to_list, slice_index_or}
+use Rattle.std.specs.Prelude.{◌≡◌, ℕ, zero, suc, ◌<◌, true, false, if◌then◌else◌, not, ◌&&◌, ◌==◌, List, [], ◌∷◌, ◌++◌, length, map, filter, Option, Some, None, Vec, option_to_list, slice_index_or}
 use Rattle.std.specs.List.{flat_map, filter_map}
 use Rattle.std.specs.Global.{Global}
 use Rattle.pipe_types.specs.declared.numbers.StageNo.{StageNo}
