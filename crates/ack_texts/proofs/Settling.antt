@@ -1,4 +1,4 @@
--- When a message is settled, and what a step acknowledges, by the places and the settling steps at the end.
+-- What a step acknowledges, read from the places at the end and the steps that settled each message.
 use Rattle.std.proofs.Common.{◌≡◌, ℕ, zero, suc, ◌<◌, ◌≤◌, List, [], ◌∷◌, ◌++◌, length, Bool, true, false, refl, ap, sym, ◌∙◌, append-nil, Some, None, Option, inl, inr, arith}
 use Rattle.std.specs.Prelude.{if◌then◌else◌, not, ◌==◌, ◌&&◌, is_some, filter, IsTrue, ◌⊎◌}
 use Rattle.std.proofs.lemmas.Bool.{eq-eqb, ne_eqb, cases_eq, cases_lt, false_from_ne_true}
