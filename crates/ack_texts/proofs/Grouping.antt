@@ -1,16 +1,14 @@
 -- Steps of the loops that put messages into groups.
 use Rattle.std.proofs.Common.{◌≡◌, ℕ, zero, suc, ◌+◌, ◌<◌, ◌≤◌, List, [], ◌∷◌, ◌++◌, length, map, get_or, set, take, replicate, Bool, true, false, refl, ap, sym, ◌∙◌, append-nil, Some, None, Option, inl, inr, Vec, Global, arith}
 use Rattle.std.specs.Prelude.{if◌then◌else◌, ◌==◌, option_to_list, ◌⊎◌}
-use Rattle.std.specs.List.{filter_map, cons_option, flat_map}
+use Rattle.std.specs.List.{cons_option}
 use Rattle.std.proofs.lemmas.Bool.{eq-eqb, ne_eqb, cases_eq}
-use Rattle.std.proofs.lemmas.List.{length-set, get_or-set_other, get_or_append_left, get_or_push, length_push, length-map, get_or-map, ext_get_or, map_push, map-set, length-replicate, get_or-replicate, replicate_more, take_all}
+use Rattle.std.proofs.lemmas.List.{length-set, get_or-set_other, get_or_append_left, get_or_push, length_push, length-map, get_or-map, ext_get_or, map-set, length-replicate, get_or-replicate, take_all}
 use Rattle.std.proofs.lemmas.List.Elements.{filter_map-append}
 use Rattle.std.proofs.lemmas.Grind.{take_at_read, get_or-set_at}
-use Rattle.pipe_types.specs.declared.topology.StageSpec.{StageSpec}
 use Rattle.pipe_types.specs.declared.state.PlaceRow.{PlaceRow}
 use Rattle.ack_texts.specs.declared.groups.AckedMessage.{AckedMessage}
-use Rattle.ack_texts.specs.Groups.{acked_of, acked_at, group, indices, lists, Adds, lines_of}
-use Rattle.journal_texts.proofs.Lists.{flat_map_step}
+use Rattle.ack_texts.specs.Groups.{acked_of, acked_at, group, indices, lists, Adds}
 
 -- One row
 
@@ -111,20 +109,3 @@ at_last groups rows steps held =
 -- the groups of all rows, step by step
 pub holds_all : (groups : List (List AckedMessage)) (rows : List PlaceRow) (steps i : ℕ) → length rows ≤ i → Holds groups (take i rows) steps → groups ≡ map (group rows) (indices steps)
 holds_all groups rows steps i last held = at_last groups (take i rows) steps held ∙ ap (λ rs. map (group rs) (indices steps)) (take_all i rows last)
-
--- the lines of one more group
-pub lines_step : (stages : List StageSpec) (start : List ℕ) (groups : List (Vec AckedMessage Global)) (i : ℕ) (group : Vec AckedMessage Global) (now next : List ℕ) → i < length groups → group ≡ get_or groups i group
-    → now ≡ start ++ flat_map (lines_of stages) (take i (lists groups)) → next ≡ now ++ lines_of stages group.items → next ≡ start ++ flat_map (lines_of stages) (take (i + 1) (lists groups))
-lines_step stages start groups i group now next within read so_far written =
-    flat_map_step (lines_of stages) start (lists groups) i group.items now next
-    (let len : length (lists groups) ≡ length groups = length-map groups items_of in omega arith)
-    (ap items_of read ∙ sym (get_or-map items_of groups i group group.items within)) so_far written
-
-lines_of_none : (stages : List StageSpec) → lines_of stages [] ≡ []
-lines_of_none [] = refl
-lines_of_none (spec ∷ stages) = lines_of_none stages
-
--- an empty group has no lines
-pub no_lines : (start : List ℕ) (stages : List StageSpec) (group : List AckedMessage) → length group ≡ 0 → start ++ lines_of stages group ≡ start
-no_lines start stages [] e = ap (λ text. start ++ text) (lines_of_none stages) ∙ append-nil start
-no_lines start stages (message ∷ group) e = absurd (omega arith)

@@ -2,3 +2,4 @@ pub mod Settling
 pub mod Rows
 pub mod Texts
 pub mod Grouping
+pub mod Writing

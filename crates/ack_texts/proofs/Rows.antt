@@ -1,7 +1,7 @@
 -- The numbers that a step settled, from the rows of the places.
-use Rattle.std.proofs.Common.{◌≡◌, ℕ, zero, suc, ◌+◌, ◌<◌, List, [], ◌∷◌, ◌++◌, length, map, Bool, true, false, refl, ap, sym, ◌∙◌, Some, None, Option, All, arith}
+use Rattle.std.proofs.Common.{◌≡◌, ℕ, suc, List, [], ◌∷◌, map, Bool, true, false, refl, ap, sym, ◌∙◌, Some, None, Option, All, arith}
 use Rattle.std.specs.Prelude.{if◌then◌else◌, not, ◌==◌, ◌&&◌, cond, filter}
-use Rattle.std.specs.List.{filter_map, cons_option}
+use Rattle.std.specs.List.{cons_option}
 use Rattle.pipe_types.specs.declared.numbers.StageNo.{StageNo}
 use Rattle.pipe_types.specs.declared.numbers.MsgNo.{MsgNo}
 use Rattle.pipe_types.specs.declared.topology.Topology.{Topology}
@@ -10,11 +10,11 @@ use Rattle.pipe_types.specs.declared.message.Place.TheVariants.{Waiting, Inbox, 
 use Rattle.pipe_types.specs.declared.message.Outcome.TheVariants.{Successful, Failed}
 use Rattle.pipe_types.specs.declared.state.PlaceRow.{PlaceRow}
 use Rattle.pipe_types.specs.Numbers.{same_stage}
-use Rattle.pipe_model.specs.History.{History, accepted}
+use Rattle.pipe_model.specs.History.{History}
 use Rattle.pipe_model.specs.Content.{producer_of}
 use Rattle.pipe_model.specs.Flow.{place}
 use Rattle.pipe_model.specs.Places.{ArePlaces, settled_at}
-use Rattle.pipe_model.specs.Acknowledgements.{numbers_upto, is_acked, is_acked_successful, is_acked_failed, is_producer}
+use Rattle.pipe_model.specs.Acknowledgements.{is_acked_successful, is_acked_failed, is_producer}
 use Rattle.ack_texts.specs.declared.groups.AckedMessage.{AckedMessage}
 use Rattle.ack_texts.specs.Groups.{acked_in, acked_of, acked_at, group, successful_of, failed_of}
 use Rattle.ack_texts.proofs.Settling.{IsSide, settles, settled_in}

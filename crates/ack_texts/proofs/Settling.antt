@@ -1,7 +1,7 @@
--- When a message is settled, and what a step acknowledges, by the places and the settling steps at the end.
-use Rattle.std.proofs.Common.{◌≡◌, ℕ, zero, suc, ◌+◌, ◌<◌, ◌≤◌, List, [], ◌∷◌, ◌++◌, length, Bool, true, false, refl, ap, sym, ◌∙◌, append-nil, Some, None, Option, inl, inr, arith}
-use Rattle.std.specs.Prelude.{if◌then◌else◌, not, ◌==◌, ◌&&◌, is_some, cond, filter, IsTrue, ◌⊎◌}
-use Rattle.std.proofs.lemmas.Bool.{eqb-true, eq-eqb, ne_eqb, cases_eq, cases_lt, false_from_ne_true}
+-- What a step acknowledges, read from the places at the end and the steps that settled each message.
+use Rattle.std.proofs.Common.{◌≡◌, ℕ, zero, suc, ◌<◌, ◌≤◌, List, [], ◌∷◌, ◌++◌, length, Bool, true, false, refl, ap, sym, ◌∙◌, append-nil, Some, None, Option, inl, inr, arith}
+use Rattle.std.specs.Prelude.{if◌then◌else◌, not, ◌==◌, ◌&&◌, is_some, filter, IsTrue, ◌⊎◌}
+use Rattle.std.proofs.lemmas.Bool.{eq-eqb, ne_eqb, cases_eq, cases_lt, false_from_ne_true}
 use Rattle.std.proofs.lemmas.List.Elements.{filter-append, filter_agree}
 use Rattle.pipe_types.specs.declared.numbers.StageNo.{StageNo}
 use Rattle.pipe_types.specs.declared.topology.Topology.{Topology}
@@ -16,7 +16,6 @@ use Rattle.pipe_model.specs.Flow.{place}
 use Rattle.pipe_model.specs.Moves.{is_final}
 use Rattle.pipe_model.specs.Places.{settled_at}
 use Rattle.pipe_model.specs.Acknowledgements.{settled_by, numbers_upto, is_acked, is_producer}
-use Rattle.pipe_laws.proofs.Tests.{clash}
 use Rattle.pipe_laws.proofs.Settled.{stays_settled}
 use Rattle.pipe_laws.proofs.Accepted.{placed_accepted, among_next}
 

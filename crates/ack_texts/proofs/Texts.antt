@@ -1,8 +1,7 @@
 -- The text of the acknowledgements from the groups.
-use Rattle.std.proofs.Common.{◌≡◌, ℕ, zero, suc, ◌+◌, ◌<◌, ◌≤◌, List, [], ◌∷◌, ◌++◌, length, map, Bool, true, false, refl, ap, sym, ◌∙◌, append-nil, Some, None, Option, arith}
-use Rattle.std.specs.Prelude.{cond}
+use Rattle.std.proofs.Common.{◌≡◌, ℕ, zero, suc, ◌<◌, List, [], ◌∷◌, ◌++◌, length, map, true, false, refl, ap, sym, ◌∙◌, append-nil, Some, Option, arith}
 use Rattle.std.specs.List.{flat_map}
-use Rattle.std.proofs.lemmas.Bool.{eq-eqb, ne_eqb}
+use Rattle.std.proofs.lemmas.Bool.{ne_eqb}
 use Rattle.std.proofs.lemmas.List.Concat.{flat_map-append}
 use Rattle.std.proofs.lemmas.List.Folds.{flat_map-map}
 use Rattle.pipe_types.specs.declared.numbers.StageNo.{StageNo}
@@ -20,7 +19,7 @@ use Rattle.pipe_model.specs.History.{History}
 use Rattle.pipe_model.specs.Places.{ArePlaces}
 use Rattle.pipe_model.specs.Acknowledgements.{Acknowledgement, acknowledgements, acknowledged_by, settled_by, entry, is_acked_successful, is_acked_failed}
 use Rattle.journal_texts.specs.Acks.{name_in, ack_line, ack_text}
-use Rattle.ack_texts.specs.Groups.{group, indices, line_if_any, line_of, lines_of}
+use Rattle.ack_texts.specs.Groups.{group, indices, line_if_any, lines_of}
 use Rattle.ack_texts.proofs.Settling.{settled_in, settled_before, settled_last}
 use Rattle.ack_texts.proofs.Rows.{successful_is_side, failed_is_side, successful_numbers, failed_numbers}
 

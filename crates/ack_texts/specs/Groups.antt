@@ -1,6 +1,6 @@
 -- The acknowledged messages by the steps that acknowledged them, and their lines.
 use Rattle.std.specs.Prelude.{◌≡◌, ℕ, zero, suc, ◌<◌, Bool, true, false, if◌then◌else◌, not, ◌&&◌, ◌==◌, List, [], ◌∷◌, ◌++◌, length, map, filter, Option, Some, None, Vec, option_to_list, slice_index_or}
-use Rattle.std.specs.List.{flat_map, filter_map}
+use Rattle.std.specs.List.{flat_map, filter_map, list_any}
 use Rattle.std.specs.Global.{Global}
 use Rattle.pipe_types.specs.declared.numbers.StageNo.{StageNo}
 use Rattle.pipe_types.specs.declared.numbers.MsgNo.{MsgNo}
@@ -43,6 +43,10 @@ lists groups = map (λ group. group.items) groups
 -- the row's message stands in the group of its step besides
 abbrev pub Adds : (old : List (List AckedMessage)) → PlaceRow → (new : List (List AckedMessage)) → Type 0
 Adds old row new = (length new ≡ length old) × ((at : ℕ) → at < length old → slice_index_or new at [] ≡ slice_index_or old at [] ++ option_to_list (acked_at at row))
+
+-- a message of the group is the producer's
+abbrev pub has_any_of : List AckedMessage → StageNo → Bool
+has_any_of group p = list_any (λ message. same_stage message.producer p) group
 
 -- the numbers of the producer's messages that succeeded
 abbrev pub successful_of : List AckedMessage → StageNo → List ℕ

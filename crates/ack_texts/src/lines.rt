@@ -3,13 +3,20 @@
 ghost use Rattle.std.specs.Prelude.{◌≡◌, ◌++◌, IfOk, OnOk, codes};
 ghost use Rattle.std.specs.List.{flat_map};
 ghost use Rattle.journal_texts.specs.Acks.{ack_line};
-ghost use Rattle.ack_texts.specs.Groups.{lists, successful_of, failed_of, line_of, lines_of};
+ghost use Rattle.ack_texts.specs.Groups.{lists, has_any_of, successful_of, failed_of, line_of, lines_of};
 
 use crate::groups::AckedMessage;
 use crate::words::{put, put_numbers};
 use pipe_types::numbers::StageNo;
 use pipe_types::topology::StageSpec;
 use std::alloc::{AllocError, Global};
+
+/// Whether there is a message of the producer.
+fn has_any(group: &[AckedMessage], producer: StageNo) -> bool
+    ensures { result ≡ has_any_of group.now producer }
+{
+    group.iter().any(|message| message.producer.0 == producer.0)
+}
 
 /// The numbers of the producer's messages that succeeded, in their order.
 fn successful(
@@ -65,16 +72,16 @@ fn put_line_of(
 ) -> Result<(), AllocError>
     ensures { OnOk result (out.new.items ≡ out.old.items ++ line_of group.now spec.now) }
 {
-    let successful = successful(alloc, group, spec.no)?;
-    let failed = failed(alloc, group, spec.no)?;
-    if successful.is_empty() && failed.is_empty() {
+    if !has_any(group, spec.no) {
         return Ok(());
     }
+    let successful = successful(alloc, group, spec.no)?;
+    let failed = failed(alloc, group, spec.no)?;
     put_line(out, spec.name.as_str().as_bytes(), &successful, &failed)
 }
 
 /// Writes the lines of what one step acknowledged, in the order of the stages.
-#[tactic(auto, using(crate::proofs::Grouping::no_lines))]
+#[tactic(auto, using(crate::proofs::Writing::no_lines))]
 fn put_lines_of(
     alloc: Global,
     out: &mut Vec<u8>,

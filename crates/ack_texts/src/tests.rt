@@ -38,47 +38,57 @@ fn producer(alloc: Global, no: u16, name: &str) -> Result<StageSpec, AllocError>
     })
 }
 
-fn row(no: u32, producer: u16, place: Place, at: u64) -> PlaceRow {
-    PlaceRow {
-        no: MsgNo(no),
-        producer: StageNo(producer),
-        place,
-        at,
+fn place_of(word: &str) -> Place {
+    match (word, Reason::new(b"require")) {
+        ("passed", _) => Place::Acked(Outcome::Successful),
+        ("failed", Some(why)) => Place::Acked(Outcome::Failed(why)),
+        ("lost", _) => Place::Lost(Loss::Overflow(StageNo(1))),
+        _ => Place::Waiting(StageNo(1)),
     }
 }
 
-/// The text of these rows, of the producers `p` and `q`.
-fn text(alloc: Global, rows: &[PlaceRow], steps: usize) -> Result<Vec<u8>, AllocError> {
+/// The text of these rows, each a number, a producer, a place and a step, of the producers `p` and `q`.
+fn text(
+    alloc: Global,
+    told: &[(u32, u16, &str, u64)],
+    steps: usize,
+) -> Result<Vec<u8>, AllocError> {
     let mut stages = Vec::new(alloc);
     stages.push(producer(alloc, 1, "p")?)?;
     stages.push(producer(alloc, 2, "q")?)?;
-    text_of_rows(alloc, &stages, rows, steps)
+    let mut rows = Vec::new(alloc);
+    for (no, producer, word, at) in told {
+        rows.push(PlaceRow {
+            no: MsgNo(*no),
+            producer: StageNo(*producer),
+            place: place_of(word),
+            at: *at,
+        })?;
+    }
+    text_of_rows(alloc, &stages, &rows, steps)
 }
 
 #[test]
 fn each_step_has_its_lines(rt: HostRuntime) -> Result<(), AllocError> {
-    let passed = Place::Acked(Outcome::Successful);
     let batches = [
-        row(1, 1, passed, 9),
-        row(2, 1, passed, 14),
-        row(3, 1, passed, 9),
-        row(4, 1, passed, 9),
+        (1, 1, "passed", 9),
+        (2, 1, "passed", 14),
+        (3, 1, "passed", 9),
+        (4, 1, "passed", 9),
     ];
     let out = text(rt.alloc(), &batches, 16)?;
-    assert!(rt; out.as_slice() == b"ack p ok 1,3,4 failed -\nack p ok 2 failed -\n".as_slice());
-    if let Some(why) = Reason::new(b"require") {
-        let failed = Place::Acked(Outcome::Failed(why));
-        let mixed = [
-            row(1, 2, failed, 3),
-            row(2, 1, Place::Waiting(StageNo(1)), 0),
-            row(3, 1, passed, 3),
-            row(4, 2, passed, 0),
-            row(5, 1, failed, 3),
-            row(6, 2, Place::Lost(Loss::Overflow(StageNo(2))), 2),
-        ];
-        let out = text(rt.alloc(), &mixed, 4)?;
-        let want = b"ack q ok 4 failed -\nack p ok 3 failed 5\nack q ok - failed 1\n";
-        assert!(rt; out.as_slice() == want.as_slice());
-    }
+    let want = b"ack p ok 1,3,4 failed -\nack p ok 2 failed -\n";
+    assert!(rt; out.as_slice() == want.as_slice());
+    let mixed = [
+        (1, 2, "failed", 3),
+        (2, 1, "waits", 0),
+        (3, 1, "passed", 3),
+        (4, 2, "passed", 0),
+        (5, 1, "failed", 3),
+        (6, 2, "lost", 2),
+    ];
+    let out = text(rt.alloc(), &mixed, 4)?;
+    let want = b"ack q ok 4 failed -\nack p ok 3 failed 5\nack q ok - failed 1\n";
+    assert!(rt; out.as_slice() == want.as_slice());
     Ok(())
 }

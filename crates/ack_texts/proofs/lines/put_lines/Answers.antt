@@ -1,6 +1,6 @@
 use Rattle.std.proofs.Common.{ap, ◌++◌, ◌∙◌}
 use Rattle.ack_texts.specs.Groups.{lines_of}
-use Rattle.ack_texts.proofs.Grouping.{lines_step}
+use Rattle.ack_texts.proofs.Writing.{lines_step}
 use Rattle.ack_texts.proofs.lines.put_lines.Goals as goal
 
 pub loop-group-preserved : goal.loop-group-preserved
