@@ -1,0 +1,209 @@
+-- From what a command comes to, to what its status says.
+use Rattle.std.proofs.Common.{◌≡◌, ◌≢◌, ℕ, ◌≤◌, List, [], ◌∷◌, ◌++◌, take, Bool, Option, Some, None, refl, sym, ◌∙◌, ap, inl, inr, arith}
+use Rattle.std.specs.Prelude.{◌⊎◌, IsTrue}
+use Rattle.std.proofs.lemmas.List.{append-nil}
+use Rattle.std.proofs.Math.Seq.{take-nil}
+use Rattle.pipe_types.specs.Counts.{Rose}
+use Rattle.pipe_types.specs.declared.topology.Topology.{Topology}
+use Rattle.pipe_model.specs.History.{History}
+use Rattle.pipe_edges.specs.declared.edges.EdgeKind.{EdgeKind}
+use Rattle.program_words.specs.Words.{Command, Flow, Unbuilt as NotBuilt}
+use Rattle.pipe_top.specs.Verdicts.{AddsPrefix, refusal_text, refusal_status, out_text_of, err_text_of, status_in}
+use Rattle.pipe_top.specs.Runs.{IsEndOf, IsEnded, IsReadBack, IsPartlyRead, IsFlow, Asks, report_of, error_text, calls_of}
+use Rattle.pipe_top.specs.Flows.{IsReport, IsRunVerdict, FlowRuns, StockRuns, BackBy, AskedBy}
+use Rattle.pipe_top.specs.Commands.{CommandRuns}
+use Rattle.pipe_top.specs.declared.verdict.Refusal.{Refusal}
+use Rattle.pipe_top.specs.declared.verdict.Refusal.TheVariants.{Usage, Unbuilt, Wait, Stock, Edge, Memory}
+use Rattle.pipe_top.specs.declared.verdict.Verdict.{Verdict}
+use Rattle.pipe_top.specs.declared.verdict.Verdict.TheVariants.{Refused, Done}
+
+-- a number for each verdict
+abbrev tag : Verdict → ℕ
+tag (Done text status) = 0
+tag (Refused Usage) = 1
+tag (Refused Unbuilt) = 2
+tag (Refused Wait) = 3
+tag (Refused Stock) = 4
+tag (Refused (Edge name)) = 5
+tag (Refused Memory) = 6
+
+differ : (verdict other : Verdict) → verdict ≡ other → tag verdict ≢ tag other → ⊥
+differ verdict other is apart = apart (ap tag is)
+
+not_refused : (refusal : Refusal) (verdict : Verdict) (text : List ℕ) (status : ℕ) → verdict ≡ Done text status → verdict ≡ Refused refusal → ⊥
+not_refused Usage verdict text status done refused = differ (Done text status) (Refused Usage) (sym done ∙ refused) (λ e. cc)
+not_refused Unbuilt verdict text status done refused = differ (Done text status) (Refused Unbuilt) (sym done ∙ refused) (λ e. cc)
+not_refused Wait verdict text status done refused = differ (Done text status) (Refused Wait) (sym done ∙ refused) (λ e. cc)
+not_refused Stock verdict text status done refused = differ (Done text status) (Refused Stock) (sym done ∙ refused) (λ e. cc)
+not_refused (Edge name) verdict text status done refused = differ (Done text status) (Refused (Edge name)) (sym done ∙ refused) (λ e. cc)
+not_refused Memory verdict text status done refused = differ (Done text status) (Refused Memory) (sym done ∙ refused) (λ e. cc)
+
+-- a run of `flow` is not refused as not built
+flow_built : (source prefix : List ℕ) (boxes faults faults' : ℕ) (topology : Option Topology) (before : History) → StockRuns boxes source prefix faults faults' topology before (Refused Unbuilt) → ⊥
+flow_built source prefix boxes faults faults' None before (inl r) = r.1.1
+flow_built source prefix boxes faults faults' (Some t) before (inl r) = r.1.2
+flow_built source prefix boxes faults faults' topology before (inr r) = differ (Refused Unbuilt) (Refused Stock) r.refused (λ e. cc)
+
+unbuilt_flow : (command : Option Command) (boxes faults faults' : ℕ) (topology : Option Topology) (before : History) → IsFlow command
+    → CommandRuns command boxes faults faults' topology before (Refused Unbuilt) → ⊥
+unbuilt_flow command boxes faults faults' topology before flow r = flow_built flow.source flow.prefix boxes faults faults' topology before (rw flow.is at r)
+
+-- the name with which an opening failed
+edge_name : (source prefix name : List ℕ) (boxes faults faults' : ℕ) (topology : Option Topology) (before : History) → StockRuns boxes source prefix faults faults' topology before (Refused (Edge name)) → name ≡ source
+edge_name source prefix name boxes faults faults' None before (inl r) = r.1.1.0
+edge_name source prefix name boxes faults faults' (Some t) before (inl r) = absurd r.1.2
+edge_name source prefix name boxes faults faults' topology before (inr r) = absurd (differ (Refused (Edge name)) (Refused Stock) r.refused (λ e. cc))
+
+-- a report has a run of `flow` behind it
+pub record IsReported (command : Option Command) (topology : Option Topology) (before : History) (text : List ℕ) (status : ℕ) : Type 0 where
+  pub end_of : IsEndOf command topology before status
+  pub by_journal : text ≡ report_of topology before
+
+reported_flow : (source prefix text : List ℕ) (status faults faults' : ℕ) (topology : Option Topology) (before : History)
+    → FlowRuns source prefix faults faults' topology before (Done text status) → IsReported (Some (Flow source prefix)) topology before text status
+reported_flow source prefix text status faults faults' None before r = absurd r.1
+reported_flow source prefix text status faults faults' (Some t) before r = record {
+  end_of = record {
+    source = source;
+    prefix = prefix;
+    is_flow = refl;
+    own = ap Some r.0;
+    ended = rw r.0 at r.2.ended;
+  };
+  by_journal = r.2.by_journal;
+}
+
+pub reported : (command : Option Command) (boxes faults faults' : ℕ) (topology : Option Topology) (before : History) (verdict : Verdict) (text : List ℕ) (status : ℕ) → verdict ≡ Done text status
+    → CommandRuns command boxes faults faults' topology before verdict → IsReported command topology before text status
+reported None boxes faults faults' topology before verdict text status is r = absurd (not_refused Usage verdict text status is r.refused)
+reported (Some NotBuilt) boxes faults faults' topology before verdict text status is r = absurd (not_refused Unbuilt verdict text status is r.refused)
+reported (Some (Flow source prefix)) boxes faults faults' topology before verdict text status is (inl r) =
+    reported_flow source prefix text status faults faults' topology before (rw is at r.1)
+reported (Some (Flow source prefix)) boxes faults faults' topology before verdict text status is (inr r) = absurd (not_refused Stock verdict text status is r.refused)
+
+-- 0 to 4
+
+pub ended_by : (command : Option Command) (boxes faults faults' : ℕ) (topology : Option Topology) (before : History) (verdict : Verdict) (status : ℕ)
+    → CommandRuns command boxes faults faults' topology before verdict → (status ≡ status_in verdict) ⊎ ((status ≡ 8) ⊎ (status ≡ 9)) → status ≤ 4
+    → IsEndOf command topology before status
+ended_by command boxes faults faults' topology before (Done text s) status r (inl is) few = rw is (reported command boxes faults faults' topology before (Done text s) text s refl r).end_of
+ended_by command boxes faults faults' topology before (Refused Usage) status r (inl is) few = absurd (omega (arith, is, few))
+ended_by command boxes faults faults' topology before (Refused Unbuilt) status r (inl is) few = absurd (omega (arith, is, few))
+ended_by command boxes faults faults' topology before (Refused Wait) status r (inl is) few = absurd (omega (arith, is, few))
+ended_by command boxes faults faults' topology before (Refused Stock) status r (inl is) few = absurd (omega (arith, is, few))
+ended_by command boxes faults faults' topology before (Refused (Edge name)) status r (inl is) few = absurd (omega (arith, is, few))
+ended_by command boxes faults faults' topology before (Refused Memory) status r (inl is) few = absurd (omega (arith, is, few))
+ended_by command boxes faults faults' topology before verdict status r (inr (inl is)) few = absurd (omega (arith, is, few))
+ended_by command boxes faults faults' topology before verdict status r (inr (inr is)) few = absurd (omega (arith, is, few))
+
+-- The output
+
+pub begun_by : (command : Option Command) (boxes faults faults' : ℕ) (topology : Option Topology) (before : History) (verdict : Verdict) (held held' : List ℕ)
+    → CommandRuns command boxes faults faults' topology before verdict → AddsPrefix held held' (out_text_of verdict) → AddsPrefix held held' (report_of topology before)
+begun_by command boxes faults faults' topology before (Done text s) held held' r begun =
+    rw (reported command boxes faults faults' topology before (Done text s) text s refl r).by_journal at begun
+begun_by command boxes faults faults' topology before (Refused refusal) held held' r begun = record {
+  count = 0;
+  is = begun.is ∙ ap (λ x. held ++ x) (take-nil begun.count);
+}
+
+three_small : (s : ℕ) → (s ≡ 0) ⊎ ((s ≡ 1) ⊎ (s ≡ 4)) → s ≢ 8
+three_small s (inl is) eight = absurd (omega (arith, is, eight))
+three_small s (inr (inl is)) eight = absurd (omega (arith, is, eight))
+three_small s (inr (inr is)) eight = absurd (omega (arith, is, eight))
+
+-- 8 is no status of a verdict
+pub never_eight : (command : Option Command) (boxes faults faults' : ℕ) (topology : Option Topology) (before : History) (verdict : Verdict)
+    → CommandRuns command boxes faults faults' topology before verdict → status_in verdict ≢ 8
+never_eight command boxes faults faults' topology before (Done text s) r =
+    three_small s (reported command boxes faults faults' topology before (Done text s) text s refl r).end_of.ended.possible
+never_eight command boxes faults faults' topology before (Refused Usage) r = λ e. cc
+never_eight command boxes faults faults' topology before (Refused Unbuilt) r = λ e. cc
+never_eight command boxes faults faults' topology before (Refused Wait) r = λ e. cc
+never_eight command boxes faults faults' topology before (Refused Stock) r = λ e. cc
+never_eight command boxes faults faults' topology before (Refused (Edge name)) r = λ e. cc
+never_eight command boxes faults faults' topology before (Refused Memory) r = λ e. cc
+
+-- The error output
+
+-- each refusal's text is that of its status
+pub error_by : (command : Option Command) (boxes faults faults' : ℕ) (topology : Option Topology) (before : History) (verdict : Verdict)
+    → CommandRuns command boxes faults faults' topology before verdict → (s : ℕ) × (err_text_of verdict ≡ error_text s command)
+error_by command boxes faults faults' topology before (Done text s) r = (0, refl)
+error_by command boxes faults faults' topology before (Refused Usage) r = (7, refl)
+error_by command boxes faults faults' topology before (Refused Stock) r = (6, refl)
+error_by command boxes faults faults' topology before (Refused Memory) r = (9, refl)
+error_by None boxes faults faults' topology before (Refused Unbuilt) r = absurd (differ (Refused Unbuilt) (Refused Usage) r.refused (λ e. cc))
+error_by (Some NotBuilt) boxes faults faults' topology before (Refused Unbuilt) r = (10, refl)
+error_by (Some (Flow source prefix)) boxes faults faults' topology before (Refused Unbuilt) r = absurd (flow_built source prefix boxes faults faults' topology before r)
+error_by None boxes faults faults' topology before (Refused Wait) r = absurd (differ (Refused Wait) (Refused Usage) r.refused (λ e. cc))
+error_by (Some NotBuilt) boxes faults faults' topology before (Refused Wait) r = absurd (differ (Refused Wait) (Refused Unbuilt) r.refused (λ e. cc))
+error_by (Some (Flow source prefix)) boxes faults faults' topology before (Refused Wait) r = (10, refl)
+error_by None boxes faults faults' topology before (Refused (Edge name)) r = absurd (differ (Refused (Edge name)) (Refused Usage) r.refused (λ e. cc))
+error_by (Some NotBuilt) boxes faults faults' topology before (Refused (Edge name)) r = absurd (differ (Refused (Edge name)) (Refused Unbuilt) r.refused (λ e. cc))
+error_by (Some (Flow source prefix)) boxes faults faults' topology before (Refused (Edge name)) r =
+    (5, ap (λ n. 101 ∷ 100 ∷ 103 ∷ 101 ∷ 32 ∷ (n ++ 10 ∷ [])) (edge_name source prefix name boxes faults faults' topology before r))
+
+pub error_begun : (command : Option Command) (boxes faults faults' : ℕ) (topology : Option Topology) (before : History) (verdict : Verdict) (held held' : List ℕ)
+    → CommandRuns command boxes faults faults' topology before verdict → AddsPrefix held held' (err_text_of verdict) → (s : ℕ) × AddsPrefix held held' (error_text s command)
+error_begun command boxes faults faults' topology before verdict held held' r begun =
+    let e = error_by command boxes faults faults' topology before verdict r in
+    (e.0, rw e.1 at begun)
+
+-- The source
+
+no_run : (s status : ℕ) (command : Option Command) → status ≡ s → (s ≤ 4 → ⊥) → s ≢ 10 → (status ≤ 4) ⊎ ((status ≡ 10) × IsFlow command) → ⊥
+no_run s status command is more other (inl few) = more (rw is at few)
+no_run s status command is more other (inr ten) = other (sym is ∙ ten.0)
+
+read_as : {E S : Type 0} {told_names : E → Bool} {named : E → EdgeKind → List ℕ → List ℕ} {back : E → List (List ℕ × S)} {told : S → Bool} {taken left : S → List ℕ} {faults waits : S → ℕ} {old new : E} {name : List ℕ} {before : History} {waited : Type 0} (waits_now : Type 0)
+    → (waits_now → waited) → IsReadBack told_names named back told taken left faults waits old new name before waited
+    → IsReadBack told_names named back told taken left faults waits old new name before waits_now
+read_as waits_now so r = record {
+  source = r.source;
+  given = r.given;
+  reads = r.reads;
+  opened = r.opened;
+  wait = λ w. r.wait (so w);
+}
+
+pub source_by : {E S : Type 0} (told_names : E → Bool) (named : E → EdgeKind → List ℕ → List ℕ) (back : E → List (List ℕ × S)) (told : S → Bool) (taken left : S → List ℕ) (faults waits : S → ℕ) (old new : E) (name : List ℕ) (before : History) (same partly : Type 0)
+    (command : Option Command) (boxes f f' : ℕ) (topology : Option Topology) (verdict : Verdict) (status : ℕ)
+    → CommandRuns command boxes f f' topology before verdict → (status ≡ status_in verdict) ⊎ ((status ≡ 8) ⊎ (status ≡ 9))
+    → (status ≤ 4) ⊎ ((status ≡ 10) × IsFlow command)
+    → BackBy verdict same (IsReadBack told_names named back told taken left faults waits old new name before (verdict ≡ Refused Wait)) partly
+    → IsReadBack told_names named back told taken left faults waits old new name before (status ≡ 10)
+source_by told_names named back told taken left faults waits old new name before same partly command boxes f f' topology (Done text s) status r (inl is) ran b =
+    read_as (status ≡ 10) (λ ten. absurd (three_not_ten s (reported command boxes f f' topology before (Done text s) text s refl r).end_of.ended.possible (sym is ∙ ten))) b
+  where
+    three_not_ten : (s : ℕ) → (s ≡ 0) ⊎ ((s ≡ 1) ⊎ (s ≡ 4)) → s ≡ 10 → ⊥
+    three_not_ten s (inl is) ten = omega (arith, is, ten)
+    three_not_ten s (inr (inl is)) ten = omega (arith, is, ten)
+    three_not_ten s (inr (inr is)) ten = omega (arith, is, ten)
+source_by told_names named back told taken left faults waits old new name before same partly command boxes f f' topology (Refused Wait) status r (inl is) ran b =
+    read_as (status ≡ 10) (λ ten. refl) b
+source_by told_names named back told taken left faults waits old new name before same partly command boxes f f' topology (Refused Usage) status r (inl is) ran b = absurd (no_run 7 status command is (λ e. omega (arith, e)) (λ e. cc) ran)
+source_by told_names named back told taken left faults waits old new name before same partly command boxes f f' topology (Refused Stock) status r (inl is) ran b = absurd (no_run 6 status command is (λ e. omega (arith, e)) (λ e. cc) ran)
+source_by told_names named back told taken left faults waits old new name before same partly command boxes f f' topology (Refused (Edge n)) status r (inl is) ran b = absurd (no_run 5 status command is (λ e. omega (arith, e)) (λ e. cc) ran)
+source_by told_names named back told taken left faults waits old new name before same partly command boxes f f' topology (Refused Memory) status r (inl is) ran b = absurd (no_run 9 status command is (λ e. omega (arith, e)) (λ e. cc) ran)
+source_by told_names named back told taken left faults waits old new name before same partly command boxes f f' topology (Refused Unbuilt) status r (inl is) (inl few) b = absurd (omega (arith, is, few))
+source_by told_names named back told taken left faults waits old new name before same partly command boxes f f' topology (Refused Unbuilt) status r (inl is) (inr ran) b =
+    absurd (unbuilt_flow command boxes f f' topology before ran.1 r)
+source_by told_names named back told taken left faults waits old new name before same partly command boxes f f' topology verdict status r (inr (inl is)) ran b = absurd (no_run 8 status command is (λ e. omega (arith, e)) (λ e. cc) ran)
+source_by told_names named back told taken left faults waits old new name before same partly command boxes f f' topology verdict status r (inr (inr is)) ran b = absurd (no_run 9 status command is (λ e. omega (arith, e)) (λ e. cc) ran)
+
+-- The calls
+
+all_of : (command : Option Command) (asked asked' : List (EdgeKind × List ℕ)) → asked' ≡ asked ++ calls_of command → Asks (calls_of command) asked asked'
+all_of None asked asked' is = record { count = 1; is = is; }
+all_of (Some NotBuilt) asked asked' is = record { count = 1; is = is; }
+all_of (Some (Flow source prefix)) asked asked' is = record { count = 1; is = is; }
+
+pub asks_by : (command : Option Command) (verdict : Verdict) (asked asked' : List (EdgeKind × List ℕ)) → AskedBy verdict (calls_of command) asked asked' → Asks (calls_of command) asked asked'
+asks_by command (Done text s) asked asked' is = all_of command asked asked' is
+asks_by command (Refused Wait) asked asked' is = all_of command asked asked' is
+asks_by command (Refused (Edge name)) asked asked' is = all_of command asked asked' is
+asks_by command (Refused Memory) asked asked' is = is
+asks_by command (Refused Usage) asked asked' is = record { count = 0; is = is ∙ sym (append-nil asked); }
+asks_by command (Refused Unbuilt) asked asked' is = record { count = 0; is = is ∙ sym (append-nil asked); }
+asks_by command (Refused Stock) asked asked' is = record { count = 0; is = is ∙ sym (append-nil asked); }

@@ -1,0 +1,5 @@
+pub mod Quiets
+pub mod Sources
+pub mod Statuses
+pub mod Asking
+pub mod Calls

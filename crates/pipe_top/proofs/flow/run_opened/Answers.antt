@@ -1,0 +1,14 @@
+use Rattle.std.proofs.Common.{◌≡◌}
+use Rattle.pipe_top.proofs.Sources.{unread_back}
+use Rattle.pipe_top.proofs.flow.run_opened.Goals as goal
+
+pub returns-in-Ok-clause-back : goal.returns-in-Ok-clause-back
+returns-in-Ok-clause-back g c not_memory =
+    rw c.in-Ok.ensures.ok.0 at (c.run_lines.ensures.back not_memory)
+
+pub returns-in-Err-clause-back_or_not : goal.returns-in-Err-clause-back_or_not
+returns-in-Err-clause-back_or_not g c =
+    let s = g.E.Source.ByteSource in
+    let new = c.in-Err.ensures.err in
+    unread_back g.E.Edges.sources_back s.told s.taken s.left _ c.args.edges.now c.back_source.new.self c.args.name.now c.refused.result.journal.steps c.back_source.result
+    c.back_source.ensures.back c.refused.ensures.no_run.1

@@ -1,0 +1,24 @@
+use Rattle.std.proofs.Common.{◌≡◌}
+use Rattle.pipe_top.proofs.Calls.{ended_by, begun_by, never_eight, error_begun, source_by, asks_by}
+use Rattle.pipe_top.proofs.program.run_program.Goals as goal
+
+pub returns-clause-ended : goal.returns-clause-ended
+returns-clause-ended g c few = ended_by _ _ _ _ _ _ c.run_words-verdict.result.verdict c.write_verdict-status.result c.run_words-verdict.ensures.run c.write_verdict-status.ensures.status few
+
+pub returns-clause-output : goal.returns-clause-output
+returns-clause-output g c told = begun_by _ _ _ _ _ _ c.run_words-verdict.result.verdict _ _ c.run_words-verdict.ensures.run (c.write_verdict-status.ensures.out_begun told)
+
+pub returns-clause-errors_begun : goal.returns-clause-errors_begun
+returns-clause-errors_begun g c told = error_begun _ _ _ _ _ _ c.run_words-verdict.result.verdict _ _ c.run_words-verdict.ensures.run (c.write_verdict-status.ensures.err_begun told)
+
+pub returns-clause-output_fault : goal.returns-clause-output_fault
+returns-clause-output_fault g c eight =
+    c.write_verdict-status.ensures.fault eight (never_eight _ _ _ _ _ _ c.run_words-verdict.result.verdict c.run_words-verdict.ensures.run)
+
+pub returns-clause-source : goal.returns-clause-source
+returns-clause-source g c ran =
+    source_by _ _ _ _ _ _ _ _ _ _ _ _ _ _ _ _ _ _ _ c.run_words-verdict.result.verdict c.write_verdict-status.result c.run_words-verdict.ensures.run c.write_verdict-status.ensures.status ran
+    c.run_words-verdict.ensures.back
+
+pub returns-clause-asks : goal.returns-clause-asks
+returns-clause-asks g c told = asks_by _ c.run_words-verdict.result.verdict _ _ (c.run_words-verdict.ensures.asked told)

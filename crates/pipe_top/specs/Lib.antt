@@ -1,0 +1,4 @@
+pub mod Verdicts
+pub mod Runs
+pub mod Flows
+pub mod Commands
