@@ -33,49 +33,30 @@ chunk-next spec seen m rest = by_reply (eval spec seen m) (replies_until is_cras
 counted_one_more : (first n seen : ℕ) → seen ≡ counted first n → counted seen 1 ≡ counted first (n + 1)
 counted_one_more first n seen e = omega arith
 
-module _ (spec : StageSpec) (first : ℕ) (messages : List Message) (m : Message) (rest : List Message) (seen : ℕ) (replies : List Reply) (reply : Reply) where
-  next_is : reply ≡ with_reason spec.failed (eval spec seen m) → chunk_replies spec seen (m ∷ rest) ≡ with_next reply (chunk_replies spec (counted seen 1) rest)
-  next_is is = chunk-next spec seen m rest ∙ ap (λ r. with_next r (chunk_replies spec (counted seen 1) rest)) (sym is)
-
-  counted_next : BuiltInSoFar spec first messages (m ∷ rest) seen replies → first < 2 ^ 64 → counted seen 1 ≡ counted first (length (replies ++ reply ∷ []))
-  counted_next so_far below = counted_one_more first (length replies) seen (so_far.counted_so_far below) ∙ ap (counted first) (sym (length-append replies (reply ∷ [])))
-
-  goes_on : is_crashed reply ≡ false → reply ≡ with_reason spec.failed (eval spec seen m)
-      → BuiltInSoFar spec first messages (m ∷ rest) seen replies
-      → BuiltInSoFar spec first messages rest (counted seen 1) (replies ++ reply ∷ [])
-  goes_on calm is so_far =
-      let later = chunk_replies spec (counted seen 1) rest in
-      let e : chunk_replies spec seen (m ∷ rest) ≡ reply ∷ later = next_is is ∙ ap (λ b. cond b (reply ∷ []) (reply ∷ later)) calm in
-      record {
-        replies_so_far = append_assoc replies (reply ∷ []) later ∙ (ap (λ rs. replies ++ rs) (sym e) ∙ so_far.replies_so_far);
-        counted_so_far = counted_next so_far;
-      }
-
-  crash_ends : is_crashed reply ≡ true → reply ≡ with_reason spec.failed (eval spec seen m)
-      → BuiltInSoFar spec first messages (m ∷ rest) seen replies
-      → replies ++ reply ∷ [] ≡ chunk_replies spec first messages
-  crash_ends crash is so_far =
-      let later = chunk_replies spec (counted seen 1) rest in
-      let e : chunk_replies spec seen (m ∷ rest) ≡ reply ∷ [] = next_is is ∙ ap (λ b. cond b (reply ∷ []) (reply ∷ later)) crash in
-      ap (λ rs. replies ++ rs) (sym e) ∙ so_far.replies_so_far
-
 -- what a built-in kind answers to the next message
 abbrev pub Answers : StageSpec → (seen : ℕ) → Message → Reply → (seen_then : ℕ) → Type 0
 Answers spec seen m reply seen_then = (reply ≡ with_reason spec.failed (eval spec seen m)) × (seen_then ≡ counted seen 1)
 
-module _ (spec spec_now : StageSpec) (first : ℕ) (messages : List Message) (m : Message) (left rest : List Message) (seen seen_then : ℕ) (replies replies_then : List Reply) (reply : Reply)
-    (same : spec_now ≡ spec) (next : left ≡ m ∷ rest) (grown : replies_then ≡ replies ++ reply ∷ []) (answers : Answers spec_now seen m reply seen_then)
-    (so_far : BuiltInSoFar spec first messages left seen replies) where
-  -- a reply that is no crash
-  pub built_in_next : is_crashed reply ≡ false → BuiltInSoFar spec first messages rest seen_then replies_then
-  built_in_next calm = rw (answers.1, grown) (goes_on spec first messages m rest seen replies reply calm (rw same at answers.0) (rw next at so_far))
+goes_on : (spec : StageSpec) (first : ℕ) (messages : List Message) (m : Message) (rest : List Message) (seen : ℕ) (replies : List Reply) (reply : Reply)
+    → is_crashed reply ≡ false → reply ≡ with_reason spec.failed (eval spec seen m)
+    → BuiltInSoFar spec first messages (m ∷ rest) seen replies
+    → BuiltInSoFar spec first messages rest (counted seen 1) (replies ++ reply ∷ [])
+goes_on spec first messages m rest seen replies reply calm is so_far =
+    let later = chunk_replies spec (counted seen 1) rest in
+    let e : chunk_replies spec seen (m ∷ rest) ≡ reply ∷ later =
+    chunk-next spec seen m rest ∙ (ap (λ r. with_next r later) (sym is) ∙ ap (λ b. cond b (reply ∷ []) (reply ∷ later)) calm) in
+    record {
+      replies_so_far = append_assoc replies (reply ∷ []) later ∙ (ap (λ rs. replies ++ rs) (sym e) ∙ so_far.replies_so_far);
+      counted_so_far = λ below.
+          counted_one_more first (length replies) seen (so_far.counted_so_far below) ∙ ap (counted first) (sym (length-append replies (reply ∷ [])));
+    }
 
-  -- a crash is the last reply
-  pub built_in_last : is_crashed reply ≡ true → replies_then ≡ chunk_replies spec first messages
-  built_in_last crash = grown ∙ crash_ends spec first messages m rest seen replies reply crash (rw same at answers.0) (rw next at so_far)
-
-  pub built_in_count : first < 2 ^ 64 → seen_then ≡ counted first (length replies_then)
-  built_in_count below = rw (answers.1, grown) (counted_next spec first messages m rest seen replies reply (rw next at so_far) below)
+-- a reply that is no crash
+pub built_in_next : (spec spec_now : StageSpec) (first : ℕ) (messages : List Message) (m : Message) (left rest : List Message) (seen seen_then : ℕ) (replies replies_then : List Reply) (reply : Reply)
+    → spec_now ≡ spec → left ≡ m ∷ rest → replies_then ≡ replies ++ reply ∷ [] → Answers spec_now seen m reply seen_then
+    → is_crashed reply ≡ false → BuiltInSoFar spec first messages left seen replies → BuiltInSoFar spec first messages rest seen_then replies_then
+built_in_next spec spec_now first messages m left rest seen seen_then replies replies_then reply same next grown answers calm so_far =
+    rw (answers.1, grown) (goes_on spec first messages m rest seen replies reply calm (rw same at answers.0) (rw next at so_far))
 
 -- no message is left
 pub all_answered : (spec : StageSpec) (first : ℕ) (messages left : List Message) (seen : ℕ) (replies : List Reply) → left ≡ []
@@ -91,31 +72,25 @@ pub record OwnSoFar (batchers : ℕ) (messages rest : List Message) (replies : L
   pub rest_fits : list_all (is_message_for batchers) messages ≡ true → list_all (is_message_for batchers) rest ≡ true
   pub replies_fit : list_all (is_message_for batchers) messages ≡ true → (later : List Reply) → are_own_replies batchers rest later ≡ true → are_own_replies batchers messages (replies ++ later) ≡ true
 
-module _ (batchers : ℕ) (messages : List Message) (m : Message) (left rest : List Message) (replies replies_then : List Reply) (reply : Reply)
-    (next : left ≡ m ∷ rest) (grown : replies_then ≡ replies ++ reply ∷ []) (own : is_message_for batchers m ≡ true → is_own_reply batchers m reply ≡ true)
-    (so_far : OwnSoFar batchers messages left replies) where
-  -- the next message and the rest are for the stage
-  parts_fit : list_all (is_message_for batchers) messages ≡ true → (is_message_for batchers m ≡ true) × (list_all (is_message_for batchers) rest ≡ true)
-  parts_fit all = and_parts (is_message_for batchers m) (list_all (is_message_for batchers) rest) (rw next at (so_far.rest_fits all))
-
-  with_next_fit : list_all (is_message_for batchers) messages ≡ true → (later : List Reply)
-      → cond (is_crashed reply) (length later == 0) (are_own_replies batchers rest later) ≡ true → are_own_replies batchers messages (replies_then ++ later) ≡ true
-  with_next_fit all later fit =
-      let last : are_own_replies batchers left (reply ∷ later) ≡ true = rw next (and_from (is_own_reply batchers m reply) _ (own (parts_fit all).0) fit) in
+-- a reply that is no crash
+pub own_next : (batchers : ℕ) (messages : List Message) (m : Message) (left rest : List Message) (replies replies_then : List Reply) (reply : Reply)
+    → left ≡ m ∷ rest → replies_then ≡ replies ++ reply ∷ [] → (is_message_for batchers m ≡ true → is_own_reply batchers m reply ≡ true)
+    → is_crashed reply ≡ false → OwnSoFar batchers messages left replies → OwnSoFar batchers messages rest replies_then
+own_next batchers messages m left rest replies replies_then reply next grown own calm so_far = record {
+  rest_fits = λ all. (parts_fit all).1;
+  replies_fit = λ all later fit.
       ap (λ rs. are_own_replies batchers messages (rs ++ later)) grown
-      ∙ (ap (are_own_replies batchers messages) (append_assoc replies (reply ∷ []) later) ∙ so_far.replies_fit all (reply ∷ later) last)
+      ∙ (ap (are_own_replies batchers messages) (append_assoc replies (reply ∷ []) later) ∙ so_far.replies_fit all (reply ∷ later) (rw next (with_next_fit all later fit)));
+}
+  where
+    -- the next message and the rest are for the stage
+    parts_fit : list_all (is_message_for batchers) messages ≡ true → (is_message_for batchers m ≡ true) × (list_all (is_message_for batchers) rest ≡ true)
+    parts_fit all = and_parts (is_message_for batchers m) (list_all (is_message_for batchers) rest) (rw next at (so_far.rest_fits all))
 
-  -- a reply that is no crash
-  pub own_next : is_crashed reply ≡ false → OwnSoFar batchers messages rest replies_then
-  own_next calm = record {
-    rest_fits = λ all. (parts_fit all).1;
-    replies_fit = λ all later fit. with_next_fit all later (ap (λ b. cond b (length later == 0) (are_own_replies batchers rest later)) calm ∙ fit);
-  }
-
-  -- a crash is the last reply
-  pub own_last : is_crashed reply ≡ true → list_all (is_message_for batchers) messages ≡ true → are_own_replies batchers messages replies_then ≡ true
-  own_last crash all =
-      ap (are_own_replies batchers messages) (sym (append-nil replies_then)) ∙ with_next_fit all [] (ap (λ b. cond b true (are_own_replies batchers rest [])) crash)
+    with_next_fit : list_all (is_message_for batchers) messages ≡ true → (later : List Reply) → are_own_replies batchers rest later ≡ true → are_own_replies batchers (m ∷ rest) (reply ∷ later) ≡ true
+    with_next_fit all later fit =
+        and_from (is_own_reply batchers m reply) (cond (is_crashed reply) (length later == 0) (are_own_replies batchers rest later))
+        (own (parts_fit all).0) (ap (λ b. cond b (length later == 0) (are_own_replies batchers rest later)) calm ∙ fit)
 
 -- no message is left
 pub all_fit : (batchers : ℕ) (messages left : List Message) (replies : List Reply) → left ≡ [] → OwnSoFar batchers messages left replies

@@ -1,5 +1,5 @@
 -- What a callback told, message by message.
-use Rattle.std.proofs.Common.{◌≡◌, List, [], ◌∷◌, ◌++◌, refl, sym, ap, ◌∙◌, append_assoc, append-nil}
+use Rattle.std.proofs.Common.{◌≡◌, List, [], ◌∷◌, ◌++◌, sym, ap, ◌∙◌, append_assoc, append-nil}
 use Rattle.pipe_types.specs.declared.message.Reply.{Reply}
 use Rattle.stage_callback.specs.declared.answers.Said.{Said}
 use Rattle.stage_callback.specs.declared.answers.Said.TheVariants.{Message}
@@ -9,10 +9,6 @@ pub record ToldSoFar (made_of : List Said → List Reply) (first now : List Said
   pub answers : List Said
   pub grown : now ≡ first ++ answers
   pub made : (later : List Said) → made_of (answers ++ later) ≡ replies ++ made_of later
-
--- nothing was answered yet
-pub nothing_told : (made_of : List Said → List Reply) (first : List Said) → ToldSoFar made_of first first []
-nothing_told made_of first = record { answers = []; grown = sym (append-nil first); made = λ later. refl }
 
 -- the answers that make one reply more
 pub told_more : (made_of : List Said → List Reply) (first now then : List Said) (replies : List Reply) (reply : Reply)

@@ -24,7 +24,7 @@ loop-message-preserved g c =
       same_told = answered.same.2 ∙ so_far.same_told;
       built_in = λ not_own.
           built_in_next spec (now.spec c.loop-message.callback.value) (first.count c.args.callback.now.value) c.args.messages.items c.in-Some.message _ _ _ _ _ _ c.in_ok-reply.reply
-          so_far.same_spec c.in-Some.ensures.steps.0 c.in_ok-push.ensures.items (answered.built_in (rw so_far.same_kind not_own)) (so_far.built_in not_own) calm;
+          so_far.same_spec c.in-Some.ensures.steps.0 c.in_ok-push.ensures.items (answered.built_in (rw so_far.same_kind not_own)) calm (so_far.built_in not_own);
       no_counts = λ not_own.
           let kept = answered.no_counts (rw so_far.same_kind not_own) in
           (kept.0 ∙ (so_far.no_counts not_own).0, kept.1 ∙ (so_far.no_counts not_own).1);
@@ -32,7 +32,7 @@ loop-message-preserved g c =
       bad_kept = omega arith;
       own = λ is_own.
           own_next spec.batchers c.args.messages.items c.in-Some.message _ _ _ _ c.in_ok-reply.reply
-          c.in-Some.ensures.steps.0 c.in_ok-push.ensures.items (rw so_far.same_spec at (answered.shape (so_far.same_kind ∙ is_own))) (so_far.own is_own) calm;
+          c.in-Some.ensures.steps.0 c.in_ok-push.ensures.items (rw so_far.same_spec at (answered.shape (so_far.same_kind ∙ is_own))) calm (so_far.own is_own);
       counts = λ is_own.
           rw c.in_ok-push.ensures.items
           (one_call_more _ _ _ _ _ _ _ c.in_ok-reply.reply answered.never_fall.0 (answered.calls (so_far.same_kind ∙ is_own)) so_far.bad_kept answered.never_fall.1 (answered.bad (so_far.same_kind ∙ is_own)) (so_far.counts is_own));
