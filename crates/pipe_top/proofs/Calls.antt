@@ -1,16 +1,15 @@
 -- From what a command comes to, to what its status says.
-use Rattle.std.proofs.Common.{◌≡◌, ◌≢◌, ℕ, ◌≤◌, List, [], ◌∷◌, ◌++◌, take, Bool, Option, Some, None, refl, sym, ◌∙◌, ap, inl, inr, arith}
-use Rattle.std.specs.Prelude.{◌⊎◌, IsTrue}
+use Rattle.std.proofs.Common.{◌≡◌, ◌≢◌, ℕ, ◌≤◌, List, [], ◌∷◌, ◌++◌, Bool, Option, Some, None, refl, sym, ◌∙◌, ap, inl, inr, arith}
+use Rattle.std.specs.Prelude.{◌⊎◌}
 use Rattle.std.proofs.lemmas.List.{append-nil}
 use Rattle.std.proofs.Math.Seq.{take-nil}
-use Rattle.pipe_types.specs.Counts.{Rose}
 use Rattle.pipe_types.specs.declared.topology.Topology.{Topology}
 use Rattle.pipe_model.specs.History.{History}
 use Rattle.pipe_edges.specs.declared.edges.EdgeKind.{EdgeKind}
 use Rattle.program_words.specs.Words.{Command, Flow, Unbuilt as NotBuilt}
-use Rattle.pipe_top.specs.Verdicts.{AddsPrefix, refusal_text, refusal_status, out_text_of, err_text_of, status_in}
-use Rattle.pipe_top.specs.Runs.{IsEndOf, IsEnded, IsReadBack, IsPartlyRead, IsFlow, Asks, report_of, error_text, calls_of}
-use Rattle.pipe_top.specs.Flows.{IsReport, IsRunVerdict, FlowRuns, StockRuns, BackBy, AskedBy}
+use Rattle.pipe_top.specs.Verdicts.{AddsPrefix, out_text_of, err_text_of, status_in}
+use Rattle.pipe_top.specs.Runs.{IsEndOf, IsReadBack, IsFlow, Asks, report_of, error_text, calls_of}
+use Rattle.pipe_top.specs.Flows.{FlowRuns, StockRuns, BackBy, AskedBy}
 use Rattle.pipe_top.specs.Commands.{CommandRuns}
 use Rattle.pipe_top.specs.declared.verdict.Refusal.{Refusal}
 use Rattle.pipe_top.specs.declared.verdict.Refusal.TheVariants.{Usage, Unbuilt, Wait, Stock, Edge, Memory}
@@ -195,15 +194,15 @@ source_by told_names named back told taken left faults waits old new name before
 -- The calls
 
 all_of : (command : Option Command) (asked asked' : List (EdgeKind × List ℕ)) → asked' ≡ asked ++ calls_of command → Asks (calls_of command) asked asked'
-all_of None asked asked' is = record { count = 1; is = is; }
-all_of (Some NotBuilt) asked asked' is = record { count = 1; is = is; }
-all_of (Some (Flow source prefix)) asked asked' is = record { count = 1; is = is; }
+all_of None asked asked' is = record { count = 1; is = is }
+all_of (Some NotBuilt) asked asked' is = record { count = 1; is = is }
+all_of (Some (Flow source prefix)) asked asked' is = record { count = 1; is = is }
 
 pub asks_by : (command : Option Command) (verdict : Verdict) (asked asked' : List (EdgeKind × List ℕ)) → AskedBy verdict (calls_of command) asked asked' → Asks (calls_of command) asked asked'
 asks_by command (Done text s) asked asked' is = all_of command asked asked' is
 asks_by command (Refused Wait) asked asked' is = all_of command asked asked' is
 asks_by command (Refused (Edge name)) asked asked' is = all_of command asked asked' is
 asks_by command (Refused Memory) asked asked' is = is
-asks_by command (Refused Usage) asked asked' is = record { count = 0; is = is ∙ sym (append-nil asked); }
-asks_by command (Refused Unbuilt) asked asked' is = record { count = 0; is = is ∙ sym (append-nil asked); }
-asks_by command (Refused Stock) asked asked' is = record { count = 0; is = is ∙ sym (append-nil asked); }
+asks_by command (Refused Usage) asked asked' is = record { count = 0; is = is ∙ sym (append-nil asked) }
+asks_by command (Refused Unbuilt) asked asked' is = record { count = 0; is = is ∙ sym (append-nil asked) }
+asks_by command (Refused Stock) asked asked' is = record { count = 0; is = is ∙ sym (append-nil asked) }

@@ -1,6 +1,5 @@
 -- What a journal of these kinds of step does not have.
-use Rattle.std.proofs.Common.{◌≡◌, ℕ, ◌+◌, ◌∷◌, [], Bool, true, false, refl, sym, ◌∙◌, arith, None}
-use Rattle.std.specs.Prelude.{not, max, ◌&&◌, if◌then◌else◌}
+use Rattle.std.proofs.Common.{◌≡◌, ◌∷◌, [], true, refl, None}
 use Rattle.pipe_types.specs.declared.step.DrainCause.TheVariants.{Sources, Control, Limit, Idle}
 use Rattle.pipe_types.specs.declared.step.Step.{Step}
 use Rattle.pipe_types.specs.declared.step.Step.TheVariants.{Ask, Fetch, Accept, Quiet, SourceEnd, Dispatch, Take, Done, Gather, Close, Wrote, Child, ChildEnd, Kill, Late, Restart, Tick, Drain, Halt, Refuse}
@@ -19,14 +18,14 @@ pub record IsBusy (before : History) : Type 0 where
   pub no_tick : latest_tick before ≡ 0
 
 one_more : (step : Step) (before : History) → is_flow_step step ≡ true → IsBusy before → IsBusy (step ∷ before)
-one_more (Ask u n) before flow b = record { no_control = b.no_control; no_end = b.no_end; no_quiet = b.no_quiet; no_tick = b.no_tick; }
-one_more (Fetch s n) before flow b = record { no_control = b.no_control; no_end = b.no_end; no_quiet = b.no_quiet; no_tick = b.no_tick; }
-one_more (Accept s r) before flow b = record { no_control = b.no_control; no_end = b.no_end; no_quiet = b.no_quiet; no_tick = b.no_tick; }
-one_more (Dispatch s) before flow b = record { no_control = b.no_control; no_end = b.no_end; no_quiet = b.no_quiet; no_tick = b.no_tick; }
-one_more (Take s u k) before flow b = record { no_control = b.no_control; no_end = b.no_end; no_quiet = b.no_quiet; no_tick = b.no_tick; }
-one_more (Done s r) before flow b = record { no_control = b.no_control; no_end = b.no_end; no_quiet = b.no_quiet; no_tick = b.no_tick; }
-one_more (Drain Sources) before flow b = record { no_control = b.no_control; no_end = b.no_end; no_quiet = b.no_quiet; no_tick = b.no_tick; }
-one_more (Drain Limit) before flow b = record { no_control = b.no_control; no_end = b.no_end; no_quiet = b.no_quiet; no_tick = b.no_tick; }
+one_more (Ask u n) before flow b = record { no_control = b.no_control; no_end = b.no_end; no_quiet = b.no_quiet; no_tick = b.no_tick }
+one_more (Fetch s n) before flow b = record { no_control = b.no_control; no_end = b.no_end; no_quiet = b.no_quiet; no_tick = b.no_tick }
+one_more (Accept s r) before flow b = record { no_control = b.no_control; no_end = b.no_end; no_quiet = b.no_quiet; no_tick = b.no_tick }
+one_more (Dispatch s) before flow b = record { no_control = b.no_control; no_end = b.no_end; no_quiet = b.no_quiet; no_tick = b.no_tick }
+one_more (Take s u k) before flow b = record { no_control = b.no_control; no_end = b.no_end; no_quiet = b.no_quiet; no_tick = b.no_tick }
+one_more (Done s r) before flow b = record { no_control = b.no_control; no_end = b.no_end; no_quiet = b.no_quiet; no_tick = b.no_tick }
+one_more (Drain Sources) before flow b = record { no_control = b.no_control; no_end = b.no_end; no_quiet = b.no_quiet; no_tick = b.no_tick }
+one_more (Drain Limit) before flow b = record { no_control = b.no_control; no_end = b.no_end; no_quiet = b.no_quiet; no_tick = b.no_tick }
 one_more (SourceEnd s how) before flow b = record {
   no_control = b.no_control;
   no_end = rw (not_true (same_stage s (stage 0)) flow) b.no_end;

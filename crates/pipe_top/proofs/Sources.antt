@@ -1,6 +1,6 @@
 -- From what was read of the opened source to what the journal says of it.
-use Rattle.std.proofs.Common.{◌≡◌, ℕ, ◌+◌, ◌<◌, ◌≤◌, List, [], ◌∷◌, ◌++◌, length, take, Bool, true, arith, refl, ap, sym, ◌∙◌, inl, inr, Option, Some, None, Result, Ok, Err}
-use Rattle.std.specs.Prelude.{All, IsTrue, IsOk, ◌⊎◌, false}
+use Rattle.std.proofs.Common.{◌≡◌, ℕ, ◌+◌, List, [], ◌∷◌, ◌++◌, Bool, true, arith, refl, ap, sym, ◌∙◌, inl, inr, Option, Some, None, Result, Ok, Err}
+use Rattle.std.specs.Prelude.{IsTrue, IsOk, ◌⊎◌, false}
 use Rattle.std.proofs.lemmas.List.{append_assoc, append-nil, take-append-le, length-append}
 use Rattle.std.proofs.lemmas.List.Elements.{All-nil}
 use Rattle.pipe_types.specs.Counts.{Rose}
@@ -16,9 +16,9 @@ use Rattle.pipe_edges.specs.declared.reading.LineEnd.{LineEnd}
 use Rattle.pipe_edges.specs.declared.reading.LineEnd.TheVariants as end
 use Rattle.pipe_edges.specs.LineSource.{line_source, waiting, line_end_of}
 use Rattle.pipe_edges.specs.Named.{IsFreshSource}
-use Rattle.pipe_edges.specs.Texts.{IsLine, BeginsTooLong, ended}
+use Rattle.pipe_edges.specs.Texts.{IsLine, BeginsTooLong}
 use Rattle.pipe_edges.proofs.TextLaws.{lines_ended, lines_too_long}
-use Rattle.source_lines.specs.Cut.{AreFirstLines, AreAllLines, AreLinesBeforeLong}
+use Rattle.source_lines.specs.Cut.{AreFirstLines, AreLinesBeforeLong}
 use Rattle.source_lines.specs.Read.{IsReadFrom}
 use Rattle.pipe_model.specs.Legal.{is_legal}
 use Rattle.pipe_edges.specs.Named.{AddsBack}
@@ -105,10 +105,10 @@ before_long : {B : Type 0} {told : B → Bool} {taken left : B → List ℕ} {fa
 before_long {left = left} {l = l} {records = records} is r t =
     let come = r.to_come t (not_end_by (line_end_of l) end.TooLong is (λ e. cc)) in record {
       all = sym (
-        ap lines come
-        ∙ lines_ended records (waiting l ++ left (line_source l)) r.each_is_a_line
-        ∙ ap (λ x. records ++ x) (lines_too_long (waiting l) (left (line_source l)) (r.at_long is))
-        ∙ append-nil records);
+          ap lines come
+          ∙ lines_ended records (waiting l ++ left (line_source l)) r.each_is_a_line
+          ∙ ap (λ x. records ++ x) (lines_too_long (waiting l) (left (line_source l)) (r.at_long is))
+          ∙ append-nil records);
       rest = waiting l ++ left (line_source l);
       parts = come;
       long = long_append (waiting l) (left (line_source l)) (r.at_long is);
@@ -218,6 +218,6 @@ pub unread_back : {E S T F : Type 0} (back : E → List (List ℕ × S)) (told :
 unread_back back told taken left source old new name steps (Ok x) adds empty = inr (record {
   source = source;
   given = adds;
-  reads = λ t. rw empty (record { others = lines (taken source ++ left source); parts = refl; });
+  reads = λ t. rw empty (record { others = lines (taken source ++ left source); parts = refl });
 })
 unread_back back told taken left source old new name steps (Err e) adds empty = inl adds

@@ -1,12 +1,12 @@
 -- Which statuses a drained run has.
-use Rattle.std.proofs.Common.{◌≡◌, ◌⊎◌, ℕ, Bool, true, false, List, [], ◌∷◌, refl, ap, sym, ◌∙◌, inl, inr}
-use Rattle.std.specs.Prelude.{All, IsTrue, map, if◌then◌else◌}
+use Rattle.std.proofs.Common.{◌≡◌, ◌⊎◌, ℕ, Bool, true, false, List, [], ◌∷◌, refl, ap, ◌∙◌, inl, inr}
+use Rattle.std.specs.Prelude.{All, IsTrue, map}
 use Rattle.std.specs.List.{list_any}
 use Rattle.std.proofs.lemmas.List.Elements.{All-head, All-tail}
 use Rattle.pipe_types.specs.declared.state.PlaceRow.{PlaceRow}
 use Rattle.pipe_types.specs.declared.message.Place.{Place}
 use Rattle.pipe_types.specs.declared.message.Place.TheVariants.{Waiting, Inbox, Running, Gathered, InBatch, Acked, Lost}
-use Rattle.pipe_model.specs.Legal.{happened, is_halt}
+use Rattle.pipe_model.specs.Legal.{happened}
 use Rattle.pipe_model.specs.Moves.{is_drained}
 use Rattle.pipe_model.specs.Places.{ArePlaces}
 use Rattle.journal_texts.specs.Report.{places, is_lost as is_lost_place, is_failed, is_source_fault, gravest_of, report_text, status_of}
@@ -14,7 +14,6 @@ use Rattle.journal_texts.proofs.Reports.{places_are}
 use Rattle.core_flow.specs.declared.state.Core.{Core}
 use Rattle.core_flow.specs.Rows.{is_lost}
 use Rattle.core_flow.specs.Stands.{Stands}
-use Rattle.pipe_top.specs.Runs.{IsEnded}
 use Rattle.pipe_top.specs.Flows.{IsReport}
 
 same_loss : (p : Place) → is_lost p ≡ false → is_lost_place p ≡ false
@@ -46,7 +45,7 @@ report_is core rows text status x drained are none texts is = record {
     by_journal = is;
     possible =
         let lost : list_any is_lost_place (places core.topology core.journal.steps) ≡ false =
-            ap (list_any is_lost_place) (places_are core.topology core.journal.steps rows are) ∙ none_is_lost rows none in
+        ap (list_any is_lost_place) (places_are core.topology core.journal.steps rows are) ∙ none_is_lost rows none in
         three (happened is_source_fault core.journal.steps) (list_any is_failed (places core.topology core.journal.steps)) status
         (is ∙ (λ i. gravest_of (happened is_source_fault core.journal.steps) (x.accounts.plain.no_halt i) (lost i) (list_any is_failed (places core.topology core.journal.steps))));
   };

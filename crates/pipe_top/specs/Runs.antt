@@ -12,12 +12,11 @@ use Rattle.config_flow.specs.Flow.{flow_topology_of}
 use Rattle.journal_texts.specs.Report.{report_text, status_of}
 use Rattle.pipe_types.specs.declared.topology.Kind.TheVariants.{Steps}
 use Rattle.program_words.specs.Refusals.{usage_line, unbuilt_line, stock_line, edge_line, memory_line}
-use Rattle.program_words.specs.Words.{Command, Flow, Unbuilt}
+use Rattle.program_words.specs.Words.{Command, Flow}
 use Rattle.source_lines.specs.Cut.{AreFirstLines}
 use Rattle.run_claims.specs.Kept.{KeepsClaims}
 use Rattle.run_claims.specs.Followed.{FollowsMoves}
 use Rattle.run_claims.specs.Read.{ReadsSource, HasNoControl, latest_tick}
-use Rattle.stage_workers.specs.Steps.{has_flow_steps}
 
 -- the journal is legal and keeps every claim, each step was the next move, nothing comes from a control source, and no
 -- time has passed

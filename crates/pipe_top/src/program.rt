@@ -111,7 +111,7 @@ fn run_words<E: Edges>(
         (E.faults edges.old) (E.faults edges.new) result.topology result.journal.steps result.verdict }
     ensures back { BackBy result.verdict (E.sources_back edges.new ≡ E.sources_back edges.old)
         (IsReadBack E.told E.named E.sources_back E.Source.told E.Source.taken E.Source.left E.Source.faults E.Source.waits
-            edges.old edges.new (source_name (command_of (texts_of words.now.items))) result.journal.steps (result.verdict ≡ Verdict.Refused Refusal.Wait))
+        edges.old edges.new (source_name (command_of (texts_of words.now.items))) result.journal.steps (result.verdict ≡ Verdict.Refused Refusal.Wait))
         (IsPartlyRead E.sources_back E.Source.told E.Source.taken E.Source.left edges.old edges.new (source_name (command_of (texts_of words.now.items))) result.journal.steps) }
     ensures asked { IsTrue (E.told edges.old) → AskedBy result.verdict (calls_of (command_of (texts_of words.now.items))) (E.asked edges.old) (E.asked edges.new) }
     ensures sinks { E.sinks_back edges.new ≡ E.sinks_back edges.old }

@@ -1,5 +1,5 @@
 -- Steps that a pipeline takes of its own accord.
-use Rattle.std.specs.Prelude.{◌≡◌, ◌⊎◌, List, [], ◌∷◌, IsSome}
+use Rattle.std.specs.Prelude.{◌≡◌, ◌⊎◌, [], ◌∷◌, IsSome}
 use Rattle.pipe_types.specs.declared.topology.Topology.{Topology}
 use Rattle.pipe_types.specs.declared.step.DrainCause.TheVariants.{Control}
 use Rattle.pipe_types.specs.declared.step.Step.{Step}

@@ -1,6 +1,6 @@
 -- What one fetch adds to what was read.
-use Rattle.std.proofs.Common.{◌≡◌, Bool, ℕ, ◌+◌, ◌<◌, ◌≤◌, List, [], ◌∷◌, ◌++◌, length, arith, refl, ap, sym, ◌∙◌, inl, inr}
-use Rattle.std.specs.Prelude.{All, IsTrue, IsNone, IfOk, IfSome, ◌⊎◌, Option, Some, None, Result, Ok, Err}
+use Rattle.std.proofs.Common.{◌≡◌, Bool, ℕ, ◌≤◌, List, [], ◌∷◌, ◌++◌, length, arith, refl, ap, sym, ◌∙◌, inl, inr}
+use Rattle.std.specs.Prelude.{All, IsTrue, IsNone, IfOk, IfSome, Option, Some, None, Result, Ok, Err}
 use Rattle.std.proofs.lemmas.List.{append_assoc, append-nil}
 use Rattle.std.proofs.lemmas.List.Elements.{All-nil, All-cons, All-append, All-head, All-tail}
 use Rattle.pipe_types.specs.Counts.{Rose}
@@ -8,7 +8,7 @@ use Rattle.pipe_types.specs.Lines.{max_bytes, lines}
 use Rattle.pipe_edges.specs.Texts.{IsLine, BeginsTooLong, ended, joined}
 use Rattle.pipe_edges.specs.LineSource.{line_source, waiting, line_end_of}
 use Rattle.pipe_edges.specs.Handed.{Handed}
-use Rattle.pipe_edges.specs.Fetch.{answer_of, records_of, records_in, text_of, FetchHasCause, Remembers}
+use Rattle.pipe_edges.specs.Fetch.{answer_of, records_in, text_of, FetchHasCause, Remembers}
 use Rattle.pipe_edges.specs.declared.lines.LineSource.{LineSource}
 use Rattle.pipe_edges.specs.declared.reading.LineEnd.{LineEnd}
 use Rattle.pipe_edges.specs.declared.reading.LineEnd.TheVariants as end
@@ -16,7 +16,7 @@ use Rattle.pipe_edges.specs.declared.reading.Fetched.{Fetched}
 use Rattle.pipe_edges.specs.declared.reading.Fetched.TheVariants.{Records, NotYet, End, Fault, TooLong}
 use Rattle.pipe_edges.proofs.TextLaws.{lines_ended, lines_nil}
 use Rattle.pipe_edges.proofs.HandLaws.{to_come as rest_of}
-use Rattle.source_lines.specs.Cut.{HasShortLines, AreAllLines}
+use Rattle.source_lines.specs.Cut.{AreAllLines}
 use Rattle.source_lines.specs.Read.{IsReadFrom}
 use Rattle.source_lines.proofs.Pieces.{ended_append, pieces_ended, short_joined}
 
@@ -121,19 +121,19 @@ read_open told taken left faults waits opened old new records max result none f 
       ∙ r.same_bytes t);
   to_come = λ t no_end.
       let e : waiting old ++ left (line_source old) ≡ ended (records_in result) ++ (waiting new ++ left (line_source new)) =
-          rw (text_open (line_end_of new) (records_in result) no_end) at (rest_of f.handed (rw r.same_telling t)) in
+      rw (text_open (line_end_of new) (records_in result) no_end) at (rest_of f.handed (rw r.same_telling t)) in
       rw (r.to_come t (is_open none), e, ended_append records (records_in result))
       (sym (append_assoc (ended records) (ended (records_in result)) (waiting new ++ left (line_source new))));
   at_end = λ t is_end.
       let nothing = f.nothing_left (rw none refl) is_end in
       let e : waiting old ++ left (line_source old) ≡ joined (records_in result) =
-          rest_of f.handed (rw r.same_telling t)
-          ∙ no_rest _ (waiting new) (left (line_source new)) nothing.0 (nothing.1 (rw r.same_telling t))
-          ∙ text_closed (line_end_of new) (records_in result) is_end in
+      rest_of f.handed (rw r.same_telling t)
+      ∙ no_rest _ (waiting new) (left (line_source new)) nothing.0 (nothing.1 (rw r.same_telling t))
+      ∙ text_closed (line_end_of new) (records_in result) is_end in
       let all : lines (joined (records_in result)) ≡ records_in result =
-          ap lines (sym e)
-          ∙ f.in_order (rw r.same_telling t)
-          ∙ no_lines _ (waiting new) (left (line_source new)) nothing.0 (nothing.1 (rw r.same_telling t)) in
+      ap lines (sym e)
+      ∙ f.in_order (rw r.same_telling t)
+      ∙ no_lines _ (waiting new) (left (line_source new)) nothing.0 (nothing.1 (rw r.same_telling t)) in
       all_lines (left opened) records (records_in result) r.each_is_a_line f.each_is_a_line (rw (r.to_come t (is_open none), e) refl) all;
   at_long = λ is. long_cause (line_end_of new) max _ _ _ _ (waiting new) result f.remembers is (opens _ result f.cause none);
   at_fault = λ is. rose_from (faults opened) (faults (line_source old)) (faults (line_source new)) r.faults_stay

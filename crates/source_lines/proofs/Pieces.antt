@@ -1,5 +1,5 @@
 -- Pieces and lines of bytes that begin with whole lines.
-use Rattle.std.proofs.Common.{◌≡◌, ℕ, ◌+◌, ◌<◌, ◌≤◌, List, [], ◌∷◌, ◌++◌, length, arith, refl, ap, sym, ◌∙◌}
+use Rattle.std.proofs.Common.{◌≡◌, ℕ, ◌≤◌, List, [], ◌∷◌, ◌++◌, length, arith, refl, sym}
 use Rattle.std.specs.Prelude.{All, Bool, true, false, nat_lt, if◌then◌else◌, ◌≢◌}
 use Rattle.std.proofs.lemmas.Bool.Decides.{nat_tests}
 use Rattle.std.proofs.lemmas.List.{append_assoc, append-nil}
@@ -27,7 +27,7 @@ pieces_ended [] w each = refl
 pieces_ended (r ∷ rs) w each =
     let e : (r ++ 10 ∷ ended rs) ++ w ≡ r ++ 10 ∷ (ended rs ++ w) = append_assoc r (10 ∷ ended rs) w in
     let f : pieces (r ++ 10 ∷ (ended rs ++ w)) ≡ (r ++ []) ∷ pieces (ended rs ++ w) =
-        pieces_front r (10 ∷ (ended rs ++ w)) [] (pieces (ended rs ++ w)) (All-head IsLine r rs each).unbroken (pieces_lf (ended rs ++ w)) in
+    pieces_front r (10 ∷ (ended rs ++ w)) [] (pieces (ended rs ++ w)) (All-head IsLine r rs each).unbroken (pieces_lf (ended rs ++ w)) in
     rw (e, f, append-nil, pieces_ended rs w (All-tail IsLine r rs each)) refl
 
 no_lf_joined : (records : List (List ℕ)) → All IsLine records → HasNoLf (joined records)

@@ -1,5 +1,5 @@
 -- What was read of a source since it was opened.
-use Rattle.std.specs.Prelude.{◌≡◌, ◌<◌, ◌≤◌, Bool, ℕ, List, ◌++◌, length, All, IsTrue, Option, Some, None}
+use Rattle.std.specs.Prelude.{◌≡◌, ◌≤◌, Bool, ℕ, List, ◌++◌, length, All, IsTrue, Option, Some, None}
 use Rattle.pipe_types.specs.Counts.{Rose}
 use Rattle.pipe_types.specs.Lines.{max_bytes}
 use Rattle.pipe_edges.specs.Texts.{IsLine, BeginsTooLong, ended}

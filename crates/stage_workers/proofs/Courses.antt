@@ -1,6 +1,6 @@
 -- What a round does to how a pipeline stands.
-use Rattle.std.proofs.Common.{◌≡◌, ◌≢◌, ℕ, ◌+◌, ◌<◌, ◌≤◌, ◌^◌, List, [], ◌∷◌, ◌++◌, length, Bool, true, false, arith, refl, ap, sym, ◌∙◌, inl, inr, Some, None, Ok, Err}
-use Rattle.std.specs.Prelude.{Result, IfOk, OnOk, OnErr, nat_le, nat_lt, ◌==◌, IsTrue, IsSome, IfSome, Option, ◌⊎◌, ◌&&◌, ◌||◌, not, min, if◌then◌else◌, is_some}
+use Rattle.std.proofs.Common.{◌≡◌, ℕ, ◌<◌, ◌≤◌, ◌^◌, List, [], ◌∷◌, ◌++◌, length, Bool, true, false, arith, refl, ap, sym, ◌∙◌, inl, inr, Some, None, Ok, Err}
+use Rattle.std.specs.Prelude.{Result, IfOk, OnOk, OnErr, nat_le, nat_lt, ◌==◌, IsTrue, IsSome, IfSome, Option, ◌⊎◌, ◌&&◌, ◌||◌, not, if◌then◌else◌}
 use Rattle.std.specs.List.{list_any}
 use Rattle.std.proofs.lemmas.List.{append-nil}
 use Rattle.pipe_types.specs.declared.numbers.StageNo.{StageNo}
@@ -25,21 +25,19 @@ use Rattle.pipe_model.specs.History.{History, accepted_bytes}
 use Rattle.pipe_model.specs.Lives.{is_live}
 use Rattle.pipe_model.specs.Posts.{is_out, has_post_out, slots}
 use Rattle.pipe_model.specs.Legal.{allows, may_dispatch, is_dispatch_of, owed, passes, happened, is_halt, is_drain, is_legal, has_role, is_producer_role, has_ended, rests, bound, chunk_size}
-use Rattle.pipe_model.specs.Moves.{Move, StepMove, Job, move, jobs_out}
+use Rattle.pipe_model.specs.Moves.{StepMove, Job, move, jobs_out}
 use Rattle.pipe_model.specs.Outside.{fed, source_end}
 use Rattle.pipe_model.specs.Flow.{inbox, units_on}
 use Rattle.pipe_model.specs.Jobs.{fetch_step, take_first, take_step, allows_some, may_take_next, with_step}
 use Rattle.pipe_model.specs.Work.{count, chunk_of}
 use Rattle.pipe_edges.specs.declared.lines.LineSource.{LineSource}
 use Rattle.pipe_edges.specs.declared.reading.LineEnd.{LineEnd}
-use Rattle.pipe_edges.specs.declared.reading.LineEnd.TheVariants as end
 use Rattle.pipe_edges.specs.LineSource.{line_end_of}
 use Rattle.pipe_edges.specs.declared.reading.Fetched.{Fetched}
 use Rattle.pipe_edges.specs.declared.reading.Fetched.TheVariants.{Records}
 use Rattle.core_flow.specs.Next.{MayBegin}
 use Rattle.core_flow.specs.MayAnswer.{MayHandIn, MayReply}
 use Rattle.source_lines.specs.Read.{IsReadFrom, IsFetchAnswer}
-use Rattle.run_claims.specs.Followed.{FollowsMoves}
 use Rattle.core_flow.specs.declared.state.Core.{Core}
 use Rattle.core_flow.specs.declared.state.Chunk.{Chunk}
 use Rattle.core_flow.specs.declared.state.Chunk.TheVariants.{Messages, Batch as InBatch}
@@ -48,7 +46,6 @@ use Rattle.core_flow.specs.Stands.{Stands}
 use Rattle.core_flow.proofs.Allowed.{and_left, and_right}
 use Rattle.core_flow.proofs.Keeps.{may}
 use Rattle.std.proofs.lemmas.Bool.Decides.{nat_tests}
-use Rattle.stage_workers.specs.Steps.{has_flow_steps}
 use Rattle.stage_workers.specs.Ready.{IsReady}
 use Rattle.stage_workers.specs.Reads.{Reads, ReadsOn, StaysOn, IsKnownEnd}
 
@@ -299,7 +296,7 @@ pub accept_reads : {B T E : Type 0} (told : B → Bool) (taken left : B → List
     → ReadsOn told taken left faults waits opened source core.topology core.journal.steps result
 accept_reads told taken left faults waits opened source topology before records core (Ok x) r stands same appended unchanged =
     let legal : is_legal topology (Dispatch (stage 1) ∷ Accept (stage 1) records ∷ before) ≡ true =
-        sym (ap (λ t. is_legal t core.journal.steps) same ∙ ap (is_legal topology) appended) ∙ legal_of core stands in
+    sym (ap (λ t. is_legal t core.journal.steps) same ∙ ap (is_legal topology) appended) ∙ legal_of core stands in
     rw (same, appended)
     (reads_accept told taken left faults waits opened source topology before records r
     (and_right (is_legal topology (Accept (stage 1) records ∷ before)) _ legal))

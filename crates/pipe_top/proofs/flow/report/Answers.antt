@@ -1,4 +1,3 @@
-use Rattle.std.proofs.Common.{◌≡◌}
 use Rattle.pipe_top.proofs.Statuses.{report_is}
 use Rattle.pipe_top.proofs.flow.report.Goals as goal
 

@@ -1,4 +1,4 @@
-use Rattle.std.proofs.Common.{◌≡◌, inr}
+use Rattle.std.proofs.Common.{inr}
 use Rattle.pipe_edges.specs.LineSource.{line_source}
 use Rattle.pipe_top.proofs.Sources.{read_none, run_of, gives_back, partly_back}
 use Rattle.pipe_top.proofs.flow.run_lines.Goals as goal

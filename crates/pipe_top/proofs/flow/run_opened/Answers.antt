@@ -1,4 +1,3 @@
-use Rattle.std.proofs.Common.{◌≡◌}
 use Rattle.pipe_top.proofs.Sources.{unread_back}
 use Rattle.pipe_top.proofs.flow.run_opened.Goals as goal
 

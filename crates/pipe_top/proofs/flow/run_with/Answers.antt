@@ -1,4 +1,4 @@
-use Rattle.std.proofs.Common.{◌≡◌, refl, sym, ◌∙◌}
+use Rattle.std.proofs.Common.{◌∙◌}
 use Rattle.pipe_top.proofs.Asking.{asked_ran, asked_none}
 use Rattle.pipe_top.proofs.flow.run_with.Goals as goal
 

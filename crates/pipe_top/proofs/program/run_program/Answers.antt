@@ -1,4 +1,3 @@
-use Rattle.std.proofs.Common.{◌≡◌}
 use Rattle.pipe_top.proofs.Calls.{ended_by, begun_by, never_eight, error_begun, source_by, asks_by}
 use Rattle.pipe_top.proofs.program.run_program.Goals as goal
 

@@ -1,4 +1,3 @@
-use Rattle.std.proofs.Common.{◌≡◌}
 use Rattle.program_words.proofs.refusals.stock_line.Goals as goal
 
 -- src/refusals.rt:41:1

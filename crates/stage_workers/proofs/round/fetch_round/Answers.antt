@@ -1,4 +1,4 @@
-use Rattle.std.proofs.Common.{◌≡◌, [], refl}
+use Rattle.std.proofs.Common.{[], refl}
 use Rattle.pipe_types.specs.Numbers.{stage as number}
 use Rattle.pipe_types.specs.declared.step.SourceHow.TheVariants.{End, Fault, TooLong}
 use Rattle.stage_workers.proofs.Courses.{fetch_some, reads_fetched, accept_reads, end_reads, accepted_ready, ended_ready, hands_in}

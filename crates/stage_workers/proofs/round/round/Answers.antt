@@ -1,4 +1,3 @@
-use Rattle.std.proofs.Common.{◌≡◌}
 use Rattle.stage_workers.proofs.Courses.{fetch_begins, if_ok}
 use Rattle.stage_workers.proofs.round.round.Goals as goal
 

@@ -1,5 +1,3 @@
-use Rattle.std.proofs.Common.{◌≡◌}
-use Rattle.pipe_types.specs.Numbers.{stage as number}
 use Rattle.stage_workers.proofs.Courses.{has_taken, take_course, done_course, reply_legal, done_ready}
 use Rattle.stage_workers.proofs.round.take_round.Goals as goal
 
