@@ -3,3 +3,6 @@ pub mod Sources
 pub mod Statuses
 pub mod Asking
 pub mod Calls
+pub mod Endings
+pub mod Longs
+pub mod Completes

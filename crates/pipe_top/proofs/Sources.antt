@@ -153,6 +153,7 @@ run_by core x moves kinds =
     let quiet = busy core.journal.steps kinds in record {
       claims = keeps_claims core.topology core.journal.steps x.sound (ap (λ t. is_legal t core.journal.steps) x.shape ∙ x.accounts.legal);
       moves = moves;
+      kinds = kinds;
       control = record {
         no_step = quiet.no_control;
         no_end = quiet.no_end;

@@ -1,11 +1,16 @@
 -- What a run promises of its journal, its report, its source and the calls by name.
-use Rattle.std.specs.Prelude.{◌≡◌, ◌≤◌, ◌⊎◌, Bool, ℕ, List, [], ◌∷◌, ◌++◌, take, IsTrue, Option, Some, None, codes, if◌then◌else◌, ◌==◌}
+use Rattle.std.specs.Prelude.{◌≡◌, ◌≢◌, ◌≤◌, ◌⊎◌, Bool, true, false, ℕ, List, [], ◌∷◌, ◌++◌, take, IsTrue, Option, Some, None, codes, if◌then◌else◌, ◌==◌}
 use Rattle.pipe_types.specs.Counts.{Rose}
 use Rattle.pipe_types.specs.Numbers.{stage}
+use Rattle.pipe_types.specs.declared.step.DrainCause.TheVariants.{Limit}
+use Rattle.pipe_types.specs.declared.step.SourceHow.TheVariants.{End}
+use Rattle.pipe_types.specs.declared.step.Step.{Step}
+use Rattle.pipe_types.specs.declared.step.Step.TheVariants.{Drain}
 use Rattle.pipe_types.specs.declared.topology.Topology.{Topology}
 use Rattle.pipe_model.specs.History.{History}
 use Rattle.pipe_model.specs.Moves.{is_drained}
-use Rattle.pipe_model.specs.Outside.{fed}
+use Rattle.pipe_model.specs.Legal.{happened}
+use Rattle.pipe_model.specs.Outside.{fed, source_end}
 use Rattle.pipe_edges.specs.declared.edges.EdgeKind.{EdgeKind}
 use Rattle.pipe_edges.specs.declared.edges.EdgeKind.TheVariants.{Source}
 use Rattle.config_flow.specs.Flow.{flow_topology_of}
@@ -13,16 +18,18 @@ use Rattle.journal_texts.specs.Report.{report_text, status_of}
 use Rattle.pipe_types.specs.declared.topology.Kind.TheVariants.{Steps}
 use Rattle.program_words.specs.Refusals.{usage_line, unbuilt_line, stock_line, edge_line, memory_line}
 use Rattle.program_words.specs.Words.{Command, Flow}
-use Rattle.source_lines.specs.Cut.{AreFirstLines}
+use Rattle.source_lines.specs.Cut.{AreFirstLines, HasShortLines}
+use Rattle.stage_workers.specs.Steps.{has_flow_steps}
 use Rattle.run_claims.specs.Kept.{KeepsClaims}
 use Rattle.run_claims.specs.Followed.{FollowsMoves}
 use Rattle.run_claims.specs.Read.{ReadsSource, HasNoControl, latest_tick}
 
--- the journal is legal and keeps every claim, each step was the next move, nothing comes from a control source, and no
--- time has passed
+-- the journal is legal and keeps every claim, each step was the next move, none kills, restarts or waits, nothing comes from
+-- a control source, and no time has passed
 pub record IsRun (topology : Topology) (before : History) : Type 0 where
   pub claims : KeepsClaims topology before
   pub moves : FollowsMoves topology before
+  pub kinds : IsTrue (has_flow_steps before)
   pub control : HasNoControl before
   pub tick : latest_tick before ≡ 0
 
@@ -73,6 +80,23 @@ source_name _ = []
 abbrev pub calls_of : Option Command → List (EdgeKind × List ℕ)
 calls_of (Some (Flow source prefix)) = (Source, source) ∷ []
 calls_of _ = []
+
+-- the source had no fault and no wait, and it tells its bytes, of which no line is too long
+pub record IsFaultless {S : Type 0} (told : S → Bool) (taken left : S → List ℕ) (faults waits : S → ℕ) (source : S) : Type 0 where
+  pub no_fault : ¬ Rose 0 (faults source)
+  pub no_wait : ¬ Rose 0 (waits source)
+  pub tells : IsTrue (told source)
+  pub short : HasShortLines (taken source ++ left source)
+
+-- the step begins the drain since a limit is reached
+abbrev pub is_limit_drain : Step → Bool
+is_limit_drain (Drain Limit) = true
+is_limit_drain _ = false
+
+-- the run came to its end, unless memory was wanting; then the source ended, or a limit was reached
+pub record IsComplete (before : History) (status : ℕ) : Type 0 where
+  pub status_is : (status ≡ 0) ⊎ ((status ≡ 1) ⊎ (status ≡ 9))
+  pub whole : status ≢ 9 → IsTrue (happened is_limit_drain before) ⊎ (source_end before (stage 1) ≡ Some End)
 
 -- the first so many of these calls were made
 pub record Asks (calls asked asked' : List (EdgeKind × List ℕ)) : Type 0 where

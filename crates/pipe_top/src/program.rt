@@ -1,11 +1,11 @@
 //! The top call.
 
-ghost use Rattle.std.specs.Prelude.{◌≡◌, ◌≢◌, ◌⊎◌, ◌≤◌, ◌++◌, ℕ, None, Some, IsTrue, map};
+ghost use Rattle.std.specs.Prelude.{◌≡◌, ◌≢◌, ◌⊎◌, ◌≤◌, ◌++◌, ◌∷◌, [], ℕ, None, Some, IsTrue, map};
 ghost use Rattle.pipe_types.specs.Counts.{Rose};
 ghost use Rattle.program_words.specs.Words.{command_of, texts_of, Unbuilt};
 ghost use Rattle.stage_job.specs.Boxes.{boxes_of_kind};
 ghost use Rattle.pipe_top.specs.Verdicts.{Adds, AddsPrefix};
-ghost use Rattle.pipe_top.specs.Runs.{IsRunOrNone, IsEndOf, IsReadBack, IsPartlyRead, IsFlow, IsEndStatus, IsRefusalStatus, IsOr, Asks, report_of, error_text, source_name, calls_of};
+ghost use Rattle.pipe_top.specs.Runs.{IsRunOrNone, IsEndOf, IsReadBack, IsPartlyRead, IsFlow, IsEndStatus, IsRefusalStatus, IsOr, IsFaultless, IsComplete, Asks, report_of, error_text, source_name, calls_of};
 ghost use Rattle.pipe_top.specs.Flows.{BackBy, AskedBy};
 ghost use Rattle.pipe_top.specs.Commands.{CommandRuns};
 
@@ -66,6 +66,14 @@ pub fn run_program<E: Edges, C: Clock + Send + Drop>(
     ensures no_stock { IsFlow (command_of (texts_of words.now.items)) → boxes_of_kind Kind.Steps (map (λ b. kind b) stock.items) ≡ 0
         → IsOr 6 result.status }
     ensures edge { result.status ≡ 5 → IsFlow (command_of (texts_of words.now.items)) × Rose (E.faults edges.old) (E.faults edges.new) }
+
+    // Where the stock has a box and nothing failed at the edges, the run came to its end, unless memory was wanting.
+    ensures complete { IsFlow (command_of (texts_of words.now.items)) → boxes_of_kind Kind.Steps (map (λ b. kind b) stock.items) ≢ 0
+        → ¬ Rose (E.faults edges.old) (E.faults edges.new)
+        → ¬ Rose (E.Out.faults out.old) (E.Out.faults out.new) → ¬ Rose (E.Out.faults err.old) (E.Out.faults err.new)
+        → ((source : E.Source) → E.sources_back edges.new ≡ E.sources_back edges.old ++ (source_name (command_of (texts_of words.now.items)), source) ∷ []
+        → IsFaultless E.Source.told E.Source.taken E.Source.left E.Source.faults E.Source.waits source)
+        → IsComplete result.journal.steps result.status }
 
     // Where there was a run the source was given back, its lines are the journal's, and under 10 its waits rose.
     ensures source { IsEndStatus result.status ⊎ ((result.status ≡ 10) × IsFlow (command_of (texts_of words.now.items)))

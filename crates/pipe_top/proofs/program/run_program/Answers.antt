@@ -1,4 +1,5 @@
 use Rattle.pipe_top.proofs.Calls.{ended_by, begun_by, never_eight, error_begun, source_by, asks_by}
+use Rattle.pipe_top.proofs.Completes.{complete_by, unwritten}
 use Rattle.pipe_top.proofs.program.run_program.Goals as goal
 
 pub returns-clause-ended : goal.returns-clause-ended
@@ -21,3 +22,9 @@ returns-clause-source g c ran =
 
 pub returns-clause-asks : goal.returns-clause-asks
 returns-clause-asks g c told = asks_by _ c.run_words-verdict.result.verdict _ _ (c.run_words-verdict.ensures.asked told)
+
+pub returns-clause-complete : goal.returns-clause-complete
+returns-clause-complete g c flow stocked calm out_calm err_calm fine =
+    complete_by _ _ _ _ _ _ _ _ _ _ _ _ _ _ _ _ _ _ _ c.run_words-verdict.result.verdict c.write_verdict-status.result flow stocked calm
+    (unwritten _ _ _ _ c.write_verdict-status.result out_calm err_calm (λ eight. c.write_verdict-status.ensures.fault eight (never_eight _ _ _ _ _ _ c.run_words-verdict.result.verdict c.run_words-verdict.ensures.run)))
+    fine c.run_words-verdict.ensures.run c.write_verdict-status.ensures.status c.run_words-verdict.ensures.back
