@@ -8,8 +8,8 @@ use Rattle.pipe_model.specs.History.{History}
 use Rattle.pipe_edges.specs.declared.edges.EdgeKind.{EdgeKind}
 use Rattle.program_words.specs.Words.{Command, Flow, Unbuilt as NotBuilt}
 use Rattle.pipe_top.specs.Verdicts.{AddsPrefix, out_text_of, err_text_of, status_in}
-use Rattle.pipe_top.specs.Runs.{IsEndOf, IsReadBack, IsFlow, Asks, report_of, error_text, calls_of}
-use Rattle.pipe_top.specs.Flows.{FlowRuns, StockRuns, BackBy, AskedBy}
+use Rattle.pipe_top.specs.Runs.{IsEndOf, IsReadBack, IsFlow, IsUnopenedStatus, Asks, report_of, error_text, calls_of}
+use Rattle.pipe_top.specs.Flows.{IsRunVerdict, FlowRuns, StockRuns, BackBy, AskedBy}
 use Rattle.pipe_top.specs.Commands.{CommandRuns}
 use Rattle.pipe_top.specs.declared.verdict.Refusal.{Refusal}
 use Rattle.pipe_top.specs.declared.verdict.Refusal.TheVariants.{Usage, Unbuilt, Wait, Stock, Edge, Memory}
@@ -206,3 +206,36 @@ asks_by command (Refused Memory) asked asked' is = is
 asks_by command (Refused Usage) asked asked' is = record { count = 0; is = is ∙ sym (append-nil asked) }
 asks_by command (Refused Unbuilt) asked asked' is = record { count = 0; is = is ∙ sym (append-nil asked) }
 asks_by command (Refused Stock) asked asked' is = record { count = 0; is = is ∙ sym (append-nil asked) }
+
+-- Calls without a run
+
+not_unopened : (s status : ℕ) → status ≡ s → s ≢ 5 → s ≢ 6 → s ≢ 7 → IsUnopenedStatus status → ⊥
+not_unopened s status is a b c (inl five) = a (sym is ∙ five)
+not_unopened s status is a b c (inr (inl six)) = b (sym is ∙ six)
+not_unopened s status is a b c (inr (inr seven)) = c (sym is ∙ seven)
+
+small_opened : (s status : ℕ) → (s ≡ 0) ⊎ ((s ≡ 1) ⊎ (s ≡ 4)) → status ≡ s → IsUnopenedStatus status → ⊥
+small_opened s status (inl e) is u = not_unopened 0 status (is ∙ e) (λ x. cc) (λ x. cc) (λ x. cc) u
+small_opened s status (inr (inl e)) is u = not_unopened 1 status (is ∙ e) (λ x. cc) (λ x. cc) (λ x. cc) u
+small_opened s status (inr (inr e)) is u = not_unopened 4 status (is ∙ e) (λ x. cc) (λ x. cc) (λ x. cc) u
+
+ran_opened : (topology : Topology) (before : History) (verdict : Verdict) (status : ℕ) → IsRunVerdict verdict topology before
+    → (status ≡ status_in verdict) ⊎ ((status ≡ 8) ⊎ (status ≡ 9)) → IsUnopenedStatus status → ⊥
+ran_opened topology before (Done text s) status v (inl is) u = small_opened s status v.ended.possible is u
+ran_opened topology before (Refused Wait) status v (inl is) u = not_unopened 10 status is (λ x. cc) (λ x. cc) (λ x. cc) u
+ran_opened topology before (Refused Memory) status v (inl is) u = not_unopened 9 status is (λ x. cc) (λ x. cc) (λ x. cc) u
+ran_opened topology before (Refused Usage) status v (inl is) u = v
+ran_opened topology before (Refused Unbuilt) status v (inl is) u = v
+ran_opened topology before (Refused Stock) status v (inl is) u = v
+ran_opened topology before (Refused (Edge name)) status v (inl is) u = v
+ran_opened topology before verdict status v (inr (inl is)) u = not_unopened 8 status is (λ x. cc) (λ x. cc) (λ x. cc) u
+ran_opened topology before verdict status v (inr (inr is)) u = not_unopened 9 status is (λ x. cc) (λ x. cc) (λ x. cc) u
+
+pub none_ran : (command : Option Command) (boxes faults faults' : ℕ) (topology : Option Topology) (before : History) (verdict : Verdict) (status : ℕ)
+    → CommandRuns command boxes faults faults' topology before verdict → (status ≡ status_in verdict) ⊎ ((status ≡ 8) ⊎ (status ≡ 9))
+    → IsUnopenedStatus status → (topology ≡ None) × (before ≡ [])
+none_ran None boxes faults faults' topology before verdict status r is u = (r.no_topology, r.no_step)
+none_ran (Some NotBuilt) boxes faults faults' topology before verdict status r is u = (r.no_topology, r.no_step)
+none_ran (Some (Flow source prefix)) boxes faults faults' topology before verdict status (inr r) is u = (r.no_topology, r.no_step)
+none_ran (Some (Flow source prefix)) boxes faults faults' None before verdict status (inl r) is u = (refl, r.1.0)
+none_ran (Some (Flow source prefix)) boxes faults faults' (Some t) before verdict status (inl r) is u = absurd (ran_opened t before verdict status r.1.2 is u)

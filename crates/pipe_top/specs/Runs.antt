@@ -110,6 +110,10 @@ IsEndStatus status = status ≤ 4
 abbrev pub IsRefusalStatus : ℕ → Type 0
 IsRefusalStatus status = (status ≡ 5) ⊎ ((status ≡ 6) ⊎ ((status ≡ 7) ⊎ (status ≡ 10)))
 
+-- the statuses of a call that opened nothing
+abbrev pub IsUnopenedStatus : ℕ → Type 0
+IsUnopenedStatus status = (status ≡ 5) ⊎ ((status ≡ 6) ⊎ (status ≡ 7))
+
 -- this status, unless a write failed or memory was wanting
 abbrev pub IsOr : (wanted status : ℕ) → Type 0
 IsOr wanted status = (status ≡ wanted) ⊎ ((status ≡ 8) ⊎ (status ≡ 9))

@@ -5,7 +5,7 @@ ghost use Rattle.pipe_types.specs.Counts.{Rose};
 ghost use Rattle.program_words.specs.Words.{command_of, texts_of, Unbuilt};
 ghost use Rattle.stage_job.specs.Boxes.{boxes_of_kind};
 ghost use Rattle.pipe_top.specs.Verdicts.{Adds, AddsPrefix};
-ghost use Rattle.pipe_top.specs.Runs.{IsRunOrNone, IsEndOf, IsReadBack, IsPartlyRead, IsFlow, IsEndStatus, IsRefusalStatus, IsOr, IsFaultless, IsComplete, Asks, report_of, error_text, source_name, calls_of};
+ghost use Rattle.pipe_top.specs.Runs.{IsRunOrNone, IsEndOf, IsReadBack, IsPartlyRead, IsFlow, IsEndStatus, IsRefusalStatus, IsUnopenedStatus, IsOr, IsFaultless, IsComplete, Asks, report_of, error_text, source_name, calls_of};
 ghost use Rattle.pipe_top.specs.Flows.{BackBy, AskedBy};
 ghost use Rattle.pipe_top.specs.Commands.{CommandRuns};
 
@@ -54,6 +54,10 @@ pub fn run_program<E: Edges, C: Clock + Send + Drop>(
         → Adds (E.Out.held err.old) (E.Out.held err.new) (error_text result.status (command_of (texts_of words.now.items))) }
     ensures errors_begun { IsTrue (E.Out.told err.old) → (status : ℕ)
         × AddsPrefix (E.Out.held err.old) (E.Out.held err.new) (error_text status (command_of (texts_of words.now.items))) }
+
+    // Under 5, 6 and 7 nothing was opened, and there is no run.
+    ensures no_run { IsUnopenedStatus result.status → (result.topology ≡ None) × (result.journal.steps ≡ []) }
+    ensures not_opened { IsUnopenedStatus result.status → E.sources_back edges.new ≡ E.sources_back edges.old }
 
     // When each other status comes: 8, 7, 10, 6, 5; 9 is want of memory.
     ensures output_fault { result.status ≡ 8 → Rose (E.Out.faults out.old) (E.Out.faults out.new) ⊎ Rose (E.Out.faults err.old) (E.Out.faults err.new) }

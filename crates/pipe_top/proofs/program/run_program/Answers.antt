@@ -1,4 +1,4 @@
-use Rattle.pipe_top.proofs.Calls.{ended_by, begun_by, never_eight, error_begun, source_by, asks_by}
+use Rattle.pipe_top.proofs.Calls.{none_ran, ended_by, begun_by, never_eight, error_begun, source_by, asks_by}
 use Rattle.pipe_top.proofs.Completes.{complete_by, unwritten}
 use Rattle.pipe_top.proofs.program.run_program.Goals as goal
 
@@ -28,3 +28,6 @@ returns-clause-complete g c flow stocked calm out_calm err_calm fine =
     complete_by _ _ _ _ _ _ _ _ _ _ _ _ _ _ _ _ _ _ _ c.run_words-verdict.result.verdict c.write_verdict-status.result flow stocked calm
     (unwritten _ _ _ _ c.write_verdict-status.result out_calm err_calm (λ eight. c.write_verdict-status.ensures.fault eight (never_eight _ _ _ _ _ _ c.run_words-verdict.result.verdict c.run_words-verdict.ensures.run)))
     fine c.run_words-verdict.ensures.run c.write_verdict-status.ensures.status c.run_words-verdict.ensures.back
+
+pub returns-clause-no_run : goal.returns-clause-no_run
+returns-clause-no_run g c unopened = none_ran _ _ _ _ _ _ c.run_words-verdict.result.verdict c.write_verdict-status.result c.run_words-verdict.ensures.run c.write_verdict-status.ensures.status unopened
