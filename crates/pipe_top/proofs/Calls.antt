@@ -239,3 +239,25 @@ none_ran (Some NotBuilt) boxes faults faults' topology before verdict status r i
 none_ran (Some (Flow source prefix)) boxes faults faults' topology before verdict status (inr r) is u = (r.no_topology, r.no_step)
 none_ran (Some (Flow source prefix)) boxes faults faults' None before verdict status (inl r) is u = (refl, r.1.0)
 none_ran (Some (Flow source prefix)) boxes faults faults' (Some t) before verdict status (inl r) is u = absurd (ran_opened t before verdict status r.1.2 is u)
+
+three_known : (s : ℕ) → (s ≡ 0) ⊎ ((s ≡ 1) ⊎ (s ≡ 4)) → s ≤ 10
+three_known s (inl is) = omega (arith, is)
+three_known s (inr (inl is)) = omega (arith, is)
+three_known s (inr (inr is)) = omega (arith, is)
+
+verdict_known : (command : Option Command) (boxes faults faults' : ℕ) (topology : Option Topology) (before : History) (verdict : Verdict)
+    → CommandRuns command boxes faults faults' topology before verdict → status_in verdict ≤ 10
+verdict_known command boxes faults faults' topology before (Done text s) r =
+    three_known s (reported command boxes faults faults' topology before (Done text s) text s refl r).end_of.ended.possible
+verdict_known command boxes faults faults' topology before (Refused Usage) r = omega arith
+verdict_known command boxes faults faults' topology before (Refused Unbuilt) r = omega arith
+verdict_known command boxes faults faults' topology before (Refused Wait) r = omega arith
+verdict_known command boxes faults faults' topology before (Refused Stock) r = omega arith
+verdict_known command boxes faults faults' topology before (Refused (Edge name)) r = omega arith
+verdict_known command boxes faults faults' topology before (Refused Memory) r = omega arith
+
+pub known_by : (command : Option Command) (boxes faults faults' : ℕ) (topology : Option Topology) (before : History) (verdict : Verdict) (status : ℕ)
+    → CommandRuns command boxes faults faults' topology before verdict → (status ≡ status_in verdict) ⊎ ((status ≡ 8) ⊎ (status ≡ 9)) → status ≤ 10
+known_by command boxes faults faults' topology before verdict status r (inl is) = rw is (verdict_known command boxes faults faults' topology before verdict r)
+known_by command boxes faults faults' topology before verdict status r (inr (inl is)) = omega (arith, is)
+known_by command boxes faults faults' topology before verdict status r (inr (inr is)) = omega (arith, is)

@@ -39,6 +39,7 @@ pub fn run_program<E: Edges, C: Clock + Send + Drop>(
     out: &mut E::Out,
     err: &mut E::Out,
 ) -> RunEnd<C>
+    ensures known { result.status ≤ 10 }
     // The journal is legal and keeps every claim, and each step was the next move.
     ensures run { IsRunOrNone result.topology result.journal.steps }
     // Under 0 to 4 the run of `flow` is drained, and the status is the journal's; so is the output.

@@ -1,4 +1,4 @@
-use Rattle.pipe_top.proofs.Calls.{none_ran, ended_by, begun_by, never_eight, error_begun, source_by, asks_by}
+use Rattle.pipe_top.proofs.Calls.{known_by, none_ran, ended_by, begun_by, never_eight, error_begun, source_by, asks_by}
 use Rattle.pipe_top.proofs.Completes.{complete_by, unwritten}
 use Rattle.pipe_top.proofs.program.run_program.Goals as goal
 
@@ -31,3 +31,6 @@ returns-clause-complete g c flow stocked calm out_calm err_calm fine =
 
 pub returns-clause-no_run : goal.returns-clause-no_run
 returns-clause-no_run g c unopened = none_ran _ _ _ _ _ _ c.run_words-verdict.result.verdict c.write_verdict-status.result c.run_words-verdict.ensures.run c.write_verdict-status.ensures.status unopened
+
+pub returns-clause-known : goal.returns-clause-known
+returns-clause-known g c = known_by _ _ _ _ _ _ c.run_words-verdict.result.verdict c.write_verdict-status.result c.run_words-verdict.ensures.run c.write_verdict-status.ensures.status
