@@ -1,14 +1,14 @@
 -- From what a command comes to, to what its status says.
 use Rattle.std.proofs.Common.{◌≡◌, ◌≢◌, ℕ, ◌≤◌, List, [], ◌∷◌, ◌++◌, Bool, Option, Some, None, refl, sym, ◌∙◌, ap, inl, inr, arith}
-use Rattle.std.specs.Prelude.{◌⊎◌}
+use Rattle.std.specs.Prelude.{◌⊎◌, IsSome}
 use Rattle.std.proofs.lemmas.List.{append-nil}
 use Rattle.std.proofs.Math.Seq.{take-nil}
 use Rattle.pipe_types.specs.declared.topology.Topology.{Topology}
 use Rattle.pipe_model.specs.History.{History}
 use Rattle.pipe_edges.specs.declared.edges.EdgeKind.{EdgeKind}
 use Rattle.program_words.specs.Words.{Command, Flow, Unbuilt as NotBuilt}
-use Rattle.pipe_top.specs.Verdicts.{AddsPrefix, out_text_of, err_text_of, status_in}
-use Rattle.pipe_top.specs.Runs.{IsEndOf, IsReadBack, IsFlow, IsUnopenedStatus, Asks, report_of, error_text, calls_of}
+use Rattle.pipe_top.specs.Verdicts.{AddsPrefix, out_text_of, err_text_of, status_in, FaultBy}
+use Rattle.pipe_top.specs.Runs.{IsEndOf, IsReadBack, IsFlow, IsUnopenedStatus, IsOwnTopology, IsReportOf, Lost, Asks, report_of, error_text, calls_of}
 use Rattle.pipe_top.specs.Flows.{IsRunVerdict, FlowRuns, StockRuns, BackBy, AskedBy}
 use Rattle.pipe_top.specs.Commands.{CommandRuns}
 use Rattle.pipe_top.specs.declared.verdict.Refusal.{Refusal}
@@ -261,3 +261,76 @@ pub known_by : (command : Option Command) (boxes faults faults' : ℕ) (topology
 known_by command boxes faults faults' topology before verdict status r (inl is) = rw is (verdict_known command boxes faults faults' topology before verdict r)
 known_by command boxes faults faults' topology before verdict status r (inr (inl is)) = omega (arith, is)
 known_by command boxes faults faults' topology before verdict status r (inr (inr is)) = omega (arith, is)
+
+-- The topology
+
+pub own_by : (command : Option Command) (boxes faults faults' : ℕ) (topology : Option Topology) (before : History) (verdict : Verdict)
+    → CommandRuns command boxes faults faults' topology before verdict → IsOwnTopology command topology before
+own_by None boxes faults faults' topology before verdict r = (r.no_topology, r.no_step)
+own_by (Some NotBuilt) boxes faults faults' topology before verdict r = (r.no_topology, r.no_step)
+own_by (Some (Flow source prefix)) boxes faults faults' None before verdict (inl r) = r.1.0
+own_by (Some (Flow source prefix)) boxes faults faults' (Some t) before verdict (inl r) = r.1.0
+own_by (Some (Flow source prefix)) boxes faults faults' None before verdict (inr r) = r.no_step
+own_by (Some (Flow source prefix)) boxes faults faults' (Some t) before verdict (inr r) = absurd (no_some t r.no_topology)
+  where
+    no_some : (t : Topology) → Some t ≡ None → ⊥
+    no_some t e = cc
+
+-- A write that failed
+
+pub lost_by : (command : Option Command) (boxes faults faults' : ℕ) (topology : Option Topology) (before : History) (verdict : Verdict) (same read unread partly out_fault err_fault : Type 0)
+    → CommandRuns command boxes faults faults' topology before verdict → FaultBy verdict out_fault err_fault → BackBy verdict same read partly → (read → unread)
+    → Lost (IsReportOf command topology before) out_fault unread err_fault
+lost_by command boxes faults faults' topology before (Done text s) same read unread partly out_fault err_fault r fault back so =
+    inl (
+      record {
+        status = s;
+        end_of = (reported command boxes faults faults' topology before (Done text s) text s refl r).end_of;
+      },
+      fault,
+      so back,
+    )
+lost_by command boxes faults faults' topology before (Refused refusal) same read unread partly out_fault err_fault r fault back so = inr fault
+
+pub read_unread : {E S : Type 0} {told_names : E → Bool} {named : E → EdgeKind → List ℕ → List ℕ} {back : E → List (List ℕ × S)} {told : S → Bool} {taken left : S → List ℕ} {faults waits : S → ℕ} {old new : E} {name : List ℕ} {before : History} {waited : Type 0}
+    → IsReadBack told_names named back told taken left faults waits old new name before waited
+    → IsReadBack told_names named back told taken left faults waits old new name before ⊥
+read_unread r = read_as ⊥ (λ never. absurd never) r
+
+-- A run that waited
+
+pub waiting_by : (command : Option Command) (boxes faults faults' : ℕ) (topology : Option Topology) (before : History) (verdict : Verdict) (status : ℕ)
+    → CommandRuns command boxes faults faults' topology before verdict → (status ≡ status_in verdict) ⊎ ((status ≡ 8) ⊎ (status ≡ 9))
+    → status ≡ 10 → IsFlow command → IsSome topology
+waiting_by command boxes faults faults' topology before verdict status r is ten flow =
+    by_case boxes flow.source flow.prefix faults faults' topology before verdict status (rw flow.is at r) is ten
+  where
+    by_run : (topology : Option Topology) (before : History) (source prefix : List ℕ) (f f' : ℕ) (verdict : Verdict) (status : ℕ) → FlowRuns source prefix f f' topology before verdict
+        → (status ≡ status_in verdict) ⊎ ((status ≡ 8) ⊎ (status ≡ 9)) → status ≡ 10 → IsSome topology
+    by_run (Some t) before source prefix f f' verdict status r is ten = refl
+    by_run None before source prefix f f' (Refused Memory) status r (inl is) ten = absurd (omega (arith, is, ten))
+    by_run None before source prefix f f' (Refused (Edge n)) status r (inl is) ten = absurd (omega (arith, is, ten))
+    by_run None before source prefix f f' (Refused Usage) status r (inl is) ten = absurd r.1
+    by_run None before source prefix f f' (Refused Unbuilt) status r (inl is) ten = absurd r.1
+    by_run None before source prefix f f' (Refused Wait) status r (inl is) ten = absurd r.1
+    by_run None before source prefix f f' (Refused Stock) status r (inl is) ten = absurd r.1
+    by_run None before source prefix f f' (Done text s) status r (inl is) ten = absurd r.1
+    by_run None before source prefix f f' verdict status r (inr (inl is)) ten = absurd (omega (arith, is, ten))
+    by_run None before source prefix f f' verdict status r (inr (inr is)) ten = absurd (omega (arith, is, ten))
+
+    six : (status : ℕ) → status ≡ 6 → status ≡ 10 → ⊥
+    six status is ten = omega (arith, is, ten)
+
+    stock_status : (verdict : Verdict) (status : ℕ) → verdict ≡ Refused Stock → (status ≡ status_in verdict) ⊎ ((status ≡ 8) ⊎ (status ≡ 9)) → status ≡ 10 → ⊥
+    stock_status verdict status e (inl is) ten = six status (is ∙ ap status_in e) ten
+    stock_status verdict status e (inr (inl is)) ten = omega (arith, is, ten)
+    stock_status verdict status e (inr (inr is)) ten = omega (arith, is, ten)
+
+    by_case : (boxes : ℕ) (source prefix : List ℕ) (f f' : ℕ) (topology : Option Topology) (before : History) (verdict : Verdict) (status : ℕ) → StockRuns boxes source prefix f f' topology before verdict
+        → (status ≡ status_in verdict) ⊎ ((status ≡ 8) ⊎ (status ≡ 9)) → status ≡ 10 → IsSome topology
+    by_case boxes source prefix f f' topology before verdict status (inl r) is ten = by_run topology before source prefix f f' verdict status r.1 is ten
+    by_case boxes source prefix f f' topology before verdict status (inr r) is ten = absurd (stock_status verdict status r.refused is ten)
+
+pub fault_by : (verdict : Verdict) (out err : Type 0) → FaultBy verdict out err → out ⊎ err
+fault_by (Done text s) out err fault = inl fault
+fault_by (Refused refusal) out err fault = inr fault

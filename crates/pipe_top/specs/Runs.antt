@@ -24,7 +24,7 @@ use Rattle.run_claims.specs.Kept.{KeepsClaims}
 use Rattle.run_claims.specs.Followed.{FollowsMoves}
 use Rattle.run_claims.specs.Read.{ReadsSource, HasNoControl, latest_tick}
 
--- the journal is legal and keeps every claim, each step was the next move, none kills, restarts or waits, nothing comes from
+-- the journal is legal and keeps every claim, each step of the pipeline's own accord was the next move, none kills, restarts or waits, nothing comes from
 -- a control source, and no time has passed
 pub record IsRun (topology : Topology) (before : History) : Type 0 where
   pub claims : KeepsClaims topology before
@@ -66,7 +66,7 @@ pub record IsReadBack {E S : Type 0} (told_names : E → Bool) (named : E → Ed
   pub opened : IsTrue (told_names old) → IsTrue (told source) × (taken source ++ left source ≡ named old Source name)
   pub wait : waited → Rose 0 (waits source)
 
--- nothing was given back, or a source of whose lines the journal has the first
+-- a source was given back, of whose lines the journal has the first
 pub record IsPartlyRead {E S : Type 0} (back : E → List (List ℕ × S)) (told : S → Bool) (taken left : S → List ℕ) (old new : E) (name : List ℕ) (before : History) : Type 0 where
   pub source : S
   pub given : back new ≡ back old ++ (name, source) ∷ []
@@ -110,7 +110,7 @@ IsEndStatus status = status ≤ 4
 abbrev pub IsRefusalStatus : ℕ → Type 0
 IsRefusalStatus status = (status ≡ 5) ⊎ ((status ≡ 6) ⊎ ((status ≡ 7) ⊎ (status ≡ 10)))
 
--- the statuses of a call that opened nothing
+-- 5, 6 and 7
 abbrev pub IsUnopenedStatus : ℕ → Type 0
 IsUnopenedStatus status = (status ≡ 5) ⊎ ((status ≡ 6) ⊎ (status ≡ 7))
 
@@ -136,3 +136,18 @@ error_text status command =
     else (if status == 7 then usage_line
     else (if status == 9 then memory_line
     else (if status == 10 then unbuilt_line (unbuilt_word command) else []))))
+
+-- the topology is that of `flow` with its two words; without a run, and for another command, there is no step
+abbrev pub IsOwnTopology : Option Command → Option Topology → History → Type 0
+IsOwnTopology (Some (Flow source prefix)) (Some topology) before = topology ≡ flow_topology_of source prefix
+IsOwnTopology (Some (Flow source prefix)) None before = before ≡ []
+IsOwnTopology _ topology before = (topology ≡ None) × (before ≡ [])
+
+-- the call came to a report, whatever its status
+pub record IsReportOf (command : Option Command) (topology : Option Topology) (before : History) : Type 0 where
+  pub status : ℕ
+  pub end_of : IsEndOf command topology before status
+
+-- a write failed: of the report of a run whose source was given back, or of a refusal
+abbrev pub Lost : (reported out_fault back err_fault : Type 0) → Type 0
+Lost reported out_fault back err_fault = (reported × out_fault × back) ⊎ err_fault

@@ -44,3 +44,8 @@ err_text_of (Refused refusal) = refusal_text refusal
 abbrev pub status_in : Verdict → ℕ
 status_in (Done text status) = status
 status_in (Refused refusal) = refusal_status refusal
+
+-- a report fails at the output, a refusal at the error output
+abbrev pub FaultBy : Verdict → (out err : Type 0) → Type 0
+FaultBy (Done text status) out err = out
+FaultBy (Refused refusal) out err = err

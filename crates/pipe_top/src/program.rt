@@ -1,11 +1,11 @@
 //! The top call.
 
-ghost use Rattle.std.specs.Prelude.{◌≡◌, ◌≢◌, ◌⊎◌, ◌≤◌, ◌++◌, ◌∷◌, [], ℕ, None, Some, IsTrue, map};
+ghost use Rattle.std.specs.Prelude.{◌≡◌, ◌≢◌, ◌⊎◌, ◌≤◌, ◌++◌, ◌∷◌, [], ℕ, None, Some, IsSome, IsTrue, map};
 ghost use Rattle.pipe_types.specs.Counts.{Rose};
 ghost use Rattle.program_words.specs.Words.{command_of, texts_of, Unbuilt};
 ghost use Rattle.stage_job.specs.Boxes.{boxes_of_kind};
 ghost use Rattle.pipe_top.specs.Verdicts.{Adds, AddsPrefix};
-ghost use Rattle.pipe_top.specs.Runs.{IsRunOrNone, IsEndOf, IsReadBack, IsPartlyRead, IsFlow, IsEndStatus, IsRefusalStatus, IsUnopenedStatus, IsOr, IsFaultless, IsComplete, Asks, report_of, error_text, source_name, calls_of};
+ghost use Rattle.pipe_top.specs.Runs.{IsRunOrNone, IsEndOf, IsReadBack, IsPartlyRead, IsOwnTopology, IsReportOf, Lost, IsFlow, IsEndStatus, IsRefusalStatus, IsUnopenedStatus, IsOr, IsFaultless, IsComplete, Asks, report_of, error_text, source_name, calls_of};
 ghost use Rattle.pipe_top.specs.Flows.{BackBy, AskedBy};
 ghost use Rattle.pipe_top.specs.Commands.{CommandRuns};
 
@@ -40,8 +40,9 @@ pub fn run_program<E: Edges, C: Clock + Send + Drop>(
     err: &mut E::Out,
 ) -> RunEnd<C>
     ensures known { result.status ≤ 10 }
-    // The journal is legal and keeps every claim, and each step was the next move.
+    // The journal is legal and keeps every claim, and each step of its own accord was the next move.
     ensures run { IsRunOrNone result.topology result.journal.steps }
+    ensures own { IsOwnTopology (command_of (texts_of words.now.items)) result.topology result.journal.steps }
     // Under 0 to 4 the run of `flow` is drained, and the status is the journal's; so is the output.
     ensures ended { IsEndStatus result.status
         → IsEndOf (command_of (texts_of words.now.items)) result.topology result.journal.steps result.status }
@@ -62,6 +63,12 @@ pub fn run_program<E: Edges, C: Clock + Send + Drop>(
 
     // When each other status comes: 8, 7, 10, 6, 5; 9 is want of memory.
     ensures output_fault { result.status ≡ 8 → Rose (E.Out.faults out.old) (E.Out.faults out.new) ⊎ Rose (E.Out.faults err.old) (E.Out.faults err.new) }
+    // A report that is lost is that of a whole run, whose source was given back; else a refusal was lost.
+    ensures lost { result.status ≡ 8 → Lost (IsReportOf (command_of (texts_of words.now.items)) result.topology result.journal.steps)
+        (Rose (E.Out.faults out.old) (E.Out.faults out.new))
+        (IsReadBack E.told E.named E.sources_back E.Source.told E.Source.taken E.Source.left E.Source.faults E.Source.waits
+        edges.old edges.new (source_name (command_of (texts_of words.now.items))) result.journal.steps ⊥)
+        (Rose (E.Out.faults err.old) (E.Out.faults err.new)) }
     ensures usage { result.status ≡ 7 → command_of (texts_of words.now.items) ≡ None }
     ensures no_command { command_of (texts_of words.now.items) ≡ None → IsOr 7 result.status }
     ensures unbuilt { command_of (texts_of words.now.items) ≡ Some Unbuilt → IsOr 10 result.status }
@@ -72,7 +79,8 @@ pub fn run_program<E: Edges, C: Clock + Send + Drop>(
         → IsOr 6 result.status }
     ensures edge { result.status ≡ 5 → IsFlow (command_of (texts_of words.now.items)) × Rose (E.faults edges.old) (E.faults edges.new) }
 
-    // Where the stock has a box and nothing failed at the edges, the run came to its end, unless memory was wanting.
+    // Where the stock has a box, no call by name and no write failed, and the source tells its bytes, never failed or waited
+    // and has no line that is too long, the run came to its end, unless memory was wanting.
     ensures complete { IsFlow (command_of (texts_of words.now.items)) → boxes_of_kind Kind.Steps (map (λ b. kind b) stock.items) ≢ 0
         → ¬ Rose (E.faults edges.old) (E.faults edges.new)
         → ¬ Rose (E.Out.faults out.old) (E.Out.faults out.new) → ¬ Rose (E.Out.faults err.old) (E.Out.faults err.new)
@@ -80,7 +88,8 @@ pub fn run_program<E: Edges, C: Clock + Send + Drop>(
         → IsFaultless E.Source.told E.Source.taken E.Source.left E.Source.faults E.Source.waits source)
         → IsComplete result.journal.steps result.status }
 
-    // Where there was a run the source was given back, its lines are the journal's, and under 10 its waits rose.
+    // Where a run ended or waited the source was given back, its lines are the journal's, and under 10 its waits rose.
+    ensures waiting { result.status ≡ 10 → IsFlow (command_of (texts_of words.now.items)) → IsSome result.topology }
     ensures source { IsEndStatus result.status ⊎ ((result.status ≡ 10) × IsFlow (command_of (texts_of words.now.items)))
         → IsReadBack E.told E.named E.sources_back E.Source.told E.Source.taken E.Source.left E.Source.faults E.Source.waits
         edges.old edges.new (source_name (command_of (texts_of words.now.items))) result.journal.steps (result.status ≡ 10) }
@@ -89,7 +98,7 @@ pub fn run_program<E: Edges, C: Clock + Send + Drop>(
         edges.old edges.new (source_name (command_of (texts_of words.now.items))) result.journal.steps }
     // The only call by name opens the source.
     ensures asks { IsTrue (E.told edges.old) → Asks (calls_of (command_of (texts_of words.now.items))) (E.asked edges.old) (E.asked edges.new) }
-    ensures asks_all { IsEndStatus result.status ⊎ (result.status ≡ 5) → IsTrue (E.told edges.old)
+    ensures asks_all { IsEndStatus result.status ⊎ ((result.status ≡ 5) ⊎ (result.status ≡ 10)) → IsTrue (E.told edges.old)
         → E.asked edges.new ≡ E.asked edges.old ++ calls_of (command_of (texts_of words.now.items)) }
     ensures no_sink { E.sinks_back edges.new ≡ E.sinks_back edges.old }
 

@@ -2,7 +2,7 @@
 
 ghost use Rattle.std.specs.Prelude.{◌≡◌, ◌≢◌, ◌⊎◌, IsTrue, IfOk};
 ghost use Rattle.pipe_types.specs.Counts.{Rose};
-ghost use Rattle.pipe_top.specs.Verdicts.{refusal_text, refusal_status, out_text_of, err_text_of, status_in, Adds, AddsPrefix};
+ghost use Rattle.pipe_top.specs.Verdicts.{refusal_text, refusal_status, out_text_of, err_text_of, status_in, Adds, AddsPrefix, FaultBy};
 
 use pipe_edges::{ByteSink, PutEnd, put_all};
 use pipe_types::bytes::{Bytes, Text};
@@ -41,7 +41,7 @@ pub(crate) fn write_verdict<K: ByteSink>(
     err: &mut K,
 ) -> u8
     ensures status { (result ≡ status_in verdict.now) ⊎ ((result ≡ 8) ⊎ (result ≡ 9)) }
-    ensures fault { result ≡ 8 → status_in verdict.now ≢ 8 → Rose (K.faults out.old) (K.faults out.new) ⊎ Rose (K.faults err.old) (K.faults err.new) }
+    ensures fault { result ≡ 8 → status_in verdict.now ≢ 8 → FaultBy verdict.now (Rose (K.faults out.old) (K.faults out.new)) (Rose (K.faults err.old) (K.faults err.new)) }
     ensures out { result ≢ 8 → IsTrue (K.told out.old) → Adds (K.held out.old) (K.held out.new) (out_text_of verdict.now) }
     ensures out_begun { IsTrue (K.told out.old) → AddsPrefix (K.held out.old) (K.held out.new) (out_text_of verdict.now) }
     ensures err { result ≢ 8 → result ≢ 9 → IsTrue (K.told err.old) → Adds (K.held err.old) (K.held err.new) (err_text_of verdict.now) }
