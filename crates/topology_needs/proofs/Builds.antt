@@ -1,7 +1,7 @@
 -- A sound topology of which nothing is unbuilt is built.
-use Rattle.std.proofs.Common.{◌≡◌, ◌≢◌, ℕ, Bool, true, false, not, ◌&&◌, ◌||◌, ◌==◌, cond, List, [], ◌∷◌, length, filter, Option, Some, None, is_some, refl, sym, ap, ◌∙◌, subst, nat_lt, nat_le, rules}
+use Rattle.std.proofs.Common.{◌≡◌, ◌≢◌, ℕ, Bool, true, false, not, ◌&&◌, ◌||◌, ◌==◌, List, [], ◌∷◌, length, Option, Some, None, is_some, refl, sym, ap, ◌∙◌, subst, nat_lt, nat_le, rules}
 use Rattle.std.specs.List.{list_any, list_all}
-use Rattle.std.proofs.lemmas.Bool.{true≢false, and_parts, or_parts, eqb-true, not-false, cond-true, cond-false}
+use Rattle.std.proofs.lemmas.Bool.{true≢false, and_parts, or_parts, eqb-true, not-false}
 use Rattle.pipe_types.specs.declared.numbers.StageNo.{StageNo}
 use Rattle.pipe_types.specs.declared.topology.Topology.{Topology}
 use Rattle.pipe_types.specs.declared.topology.StageSpec.{StageSpec}
@@ -10,9 +10,9 @@ use Rattle.pipe_types.specs.declared.topology.Role.TheVariants.{Producer, Proces
 use Rattle.pipe_types.specs.declared.topology.Dispatch.{Dispatch}
 use Rattle.pipe_types.specs.declared.topology.Dispatch.TheVariants.{Demand, Broadcast, Partition}
 use Rattle.pipe_types.specs.declared.topology.Kind.TheVariants.{Own}
-use Rattle.pipe_types.specs.Numbers.{stage, same_stage}
-use Rattle.pipe_types.specs.Sound.{IsSound, is_producer, is_processor, is_batcher, producers, processors, batchers, has_fields, has_fields_of, is_producer_in, is_processor_in, by_demand, by_partition, is_size, no_batcher, no_demand, no_handler, no_batching, no_children, no_batchers, no_buffer, no_edge, asks_up_to, is_lines, are_rules, is_reason}
-use Rattle.pipe_types.specs.Stages.{spec_in, spec_of}
+use Rattle.pipe_types.specs.Numbers.{stage}
+use Rattle.pipe_types.specs.Sound.{IsSound, producers, processors, batchers, has_fields, has_fields_of, is_producer_in, is_processor_in, by_demand, by_partition, is_size, no_batcher, no_demand, no_handler, no_batching, no_children, no_batchers, no_buffer, no_edge, asks_up_to, is_lines, are_rules, is_reason}
+use Rattle.pipe_types.specs.Stages.{spec_in}
 use Rattle.core_flow.specs.OneEach.{IsOneEach, one_each}
 use Rattle.stage_job.specs.Chunks.{never_crashes}
 use Rattle.topology_needs.specs.Unbuilt.{unbuilt_of, is_own, is_partition, stage_may_crash, any_partition}
@@ -72,10 +72,10 @@ no_is s n is = ap stage is
 
 producer_is : (s : StageSpec) → s.no ≡ stage 1 → s.role ≡ Producer → s.dispatch ≡ Demand → s.push ≡ false → s.batchers ≡ 0
     → s ≡ record s { no = stage 1; role = Producer; dispatch = Demand; push = false; batchers = 0 }
-producer_is s no role dispatch push none = search rules
+producer_is s numbered role dispatch push none = search rules
 
 processor_is : (s : StageSpec) → s.no ≡ stage 2 → s.role ≡ Processor → s.batchers ≡ 0 → s ≡ record s { no = stage 2; role = Processor; batchers = 0 }
-processor_is s no role none = search rules
+processor_is s numbered role none = search rules
 
 -- ---- the groups of the two stages
 

@@ -1,6 +1,6 @@
 -- What a sound topology needs and what it begins with are small numbers.
-use Rattle.std.proofs.Common.{◌≡◌, ℕ, ◌*◌, ◌<◌, ◌≤◌, ◌^◌, true, ◌&&◌, not, nat_lt, nat_le, List, length, get_or, filter, arith, lit<, lit≤}
-use Rattle.std.specs.List.{All, sum_by}
+use Rattle.std.proofs.Common.{◌≡◌, ◌<◌, ◌≤◌, ◌^◌, true, ◌&&◌, not, nat_lt, nat_le, List, get_or, arith, lit≤}
+use Rattle.std.specs.List.{All}
 use Rattle.std.proofs.lemmas.Bool.{and_parts, leb-true}
 use Rattle.std.proofs.lemmas.List.Elements.{All-weaker, All-filter}
 use Rattle.std.proofs.lemmas.List.Sums.{AllPass-from_list_all, sum_by-le, count_by-le-length, length-filter}

@@ -1,5 +1,5 @@
 -- Stages in their order, of which there is no supervisor, no batcher and no second of a group, are a producer and a processor.
-use Rattle.std.proofs.Common.{◌≡◌, ℕ, ◌+◌, Bool, true, false, ◌&&◌, ◌==◌, List, [], ◌∷◌, length, filter, ◌⊎◌, inl, inr, refl, sym, ap, ◌∙◌, subst, nat_lt, arith}
+use Rattle.std.proofs.Common.{◌≡◌, ◌+◌, Bool, true, false, ◌&&◌, ◌==◌, List, [], ◌∷◌, length, filter, ◌⊎◌, inl, inr, refl, sym, ap, ◌∙◌, subst, nat_lt, arith}
 use Rattle.std.specs.List.{list_any}
 use Rattle.std.proofs.lemmas.Bool.{true≢false, and_parts, or_parts, eqb-true, lt-ltb, cond-false}
 use Rattle.pipe_types.specs.declared.topology.StageSpec.{StageSpec}
