@@ -1,5 +1,5 @@
--- The texts of refusals, each a line.
-use Rattle.std.specs.Prelude.{ℕ, List, [], ◌∷◌, ◌++◌, codes, decimal}
+-- The texts of refusals, each a line, and the line of what was counted.
+use Rattle.std.specs.Prelude.{ℕ, List, [], ◌∷◌, ◌++◌, Option, codes, decimal, unwrap_or}
 use Rattle.pipe_types.specs.declared.topology.Kind.{Kind}
 use Rattle.pipe_types.specs.declared.topology.Kind.TheVariants.{Steps, Lines, Own}
 
@@ -28,3 +28,11 @@ kind_word Own = codes "own"
 -- stock KIND need A have B
 abbrev pub stock_line : Kind → (need have : ℕ) → List ℕ
 stock_line kind need have = codes "stock " ++ (kind_word kind ++ (codes " need " ++ (decimal need ++ (codes " have " ++ (decimal have ++ lf)))))
+
+-- topology NUMBER PATH, and `-` where there is no path
+abbrev pub topology_line : (number : ℕ) → (path : Option (List ℕ)) → List ℕ
+topology_line number path = codes "topology " ++ (decimal number ++ (codes " " ++ (unwrap_or path (codes "-") ++ lf)))
+
+-- stages N subscriptions M
+abbrev pub counts_line : (stages subscriptions : ℕ) → List ℕ
+counts_line stages subscriptions = codes "stages " ++ (decimal stages ++ (codes " subscriptions " ++ (decimal subscriptions ++ lf)))

@@ -1,24 +1,99 @@
--- Which words are a command.
-use Rattle.std.specs.Prelude.{ℕ, List, [], ◌∷◌, Option, Some, None, codes, map, if◌then◌else◌, ◌||◌, string_bytes}
+-- Which words are a command. Words whose first is `flow` are taken as they stand. All others are what clap takes.
+use Rattle.std.specs.Prelude.{ℕ, List, [], ◌∷◌, Bool, true, Option, Some, None, codes, map, find, if◌then◌else◌, string_bytes, decimal, option_and_then, option_map}
+use Rattle.std.specs.List.{range_with_len}
+use Rattle.std.specs.Option.{option_map_or}
 use Rattle.std.specs.Str.{bytes_eq}
 use Rattle.std.specs.declared.string.String.{String}
 use Rattle.std.specs.declared.alloc.Global.{Global}
+use Rattle.clap.specs.Words.{App, Row, Rule, Text, fault_of, first_of, new_app, new_rule, subcommand_of, with_rule, with_subcommand}
+use Rattle.clap.specs.Walk.{is_empty}
+use Rattle.clap.specs.Simple.{on_top}
+use Rattle.clap.specs.Takes.{is_given}
+use Rattle.clap.specs.declared.builder.ArgAction.TheVariants.{SetTrue}
 use Rattle.program_words.specs.declared.words.Command as code
 use Rattle.program_words.specs.declared.words.Command.TheVariants as coded
 
--- `flow` with the name of a source and a prefix, or a command that is not built yet
+-- `flow` with the name of a source and a prefix, `check` with a topology file, and `run` with one, the number of
+-- workers, and whether the acknowledgements and the steps are asked for
 pub data Command : Type 0 where
   Flow : (source prefix : List ℕ) → Command
-  Unbuilt : Command
+  Check : (topology : List ℕ) → Command
+  Run : (topology : List ℕ) → (workers : ℕ) → (acks steps : Bool) → Command
 
-abbrev pub is_unbuilt : List ℕ → Option Command
-is_unbuilt word = if bytes_eq word (codes "check") || bytes_eq word (codes "run") then Some Unbuilt else None
+-- ---- `flow`
 
--- exactly `flow SOURCE PREFIX`; and any words whose first is `check` or `run`
+-- the words after `flow`, which are exactly two
+abbrev pub flow_of : List Text → Option Command
+flow_of (source ∷ prefix ∷ []) = Some (Flow source prefix)
+flow_of _ = None
+
+-- ---- what clap takes
+
+-- the topology file, which has to be named
+abbrev pub topology_rule : Rule
+topology_rule = record (new_rule (codes "topology")) { required = true }
+
+-- `--workers N` or `--workers=N`
+abbrev pub workers_rule : Rule
+workers_rule = record (new_rule (codes "workers")) { long = Some (codes "workers") }
+
+-- an option that takes no value
+abbrev pub flag_rule : Text → Rule
+flag_rule name = record (new_rule name) { long = Some name; action = Some SetTrue }
+
+-- `check TOPOLOGY`
+abbrev pub check_grammar : App
+check_grammar = with_rule (new_app (codes "check")) topology_rule
+
+-- `run TOPOLOGY [--workers N] [--acks] [--steps]`
+abbrev pub run_grammar : App
+run_grammar = with_rule (with_rule (with_rule (with_rule (new_app (codes "run"))
+    topology_rule) workers_rule) (flag_rule (codes "acks"))) (flag_rule (codes "steps"))
+
+-- a program whose words come without its name, and which has no help
+abbrev pub bare_grammar : App
+bare_grammar = on_top (λ s. record s {
+  no_binary_name = true;
+  disable_help_flag = true;
+  disable_help_subcommand = true;
+}) (new_app (codes "wamiondry"))
+
+-- `check` or `run`, each with its own words after it
+abbrev pub grammar : App
+grammar = with_subcommand (with_subcommand bare_grammar check_grammar.top) run_grammar.top
+
+-- ---- from clap's matches to the command
+
+-- the number from 1 to 16 whose decimal spelling the text is
+abbrev pub workers_of : Text → Option ℕ
+workers_of text = find (λ n. bytes_eq text (decimal n)) (range_with_len 1 16)
+
+-- the N of `--workers`, and 1 where the option is not given
+abbrev pub workers_in : List Row → Option ℕ
+workers_in rows = option_map_or workers_of (first_of (codes "workers") rows) (Some 1)
+
+abbrev pub check_in : List Row → Option Command
+check_in rows = option_map Check (first_of (codes "topology") rows)
+
+abbrev pub run_in : List Row → Option Command
+run_in rows = option_and_then (λ topology. option_map (λ workers.
+    Run topology workers (is_given (codes "acks") rows) (is_given (codes "steps") rows))
+    (workers_in rows)) (first_of (codes "topology") rows)
+
+-- the command of this name, by what was found of its own words
+abbrev pub named_in : Text × List Row → Option Command
+named_in entered = if bytes_eq entered.0 (codes "check") then check_in entered.1
+    else (if bytes_eq entered.0 (codes "run") then run_in entered.1 else None)
+
+-- what clap takes: it finds no fault in the words, and they name a command
+unfoldable pub taken_of : List Text → Option Command
+taken_of words = if is_empty (fault_of grammar words) then option_and_then named_in (subcommand_of grammar words) else None
+
+-- ---- the command that the words are
+
 abbrev pub command_of : List (List ℕ) → Option Command
 command_of [] = None
-command_of (word ∷ source ∷ prefix ∷ []) = if bytes_eq word (codes "flow") then Some (Flow source prefix) else is_unbuilt word
-command_of (word ∷ words) = is_unbuilt word
+command_of (word ∷ words) = if bytes_eq word (codes "flow") then flow_of words else taken_of (word ∷ words)
 
 -- the words as bytes
 abbrev pub texts_of : List (String Global) → List (List ℕ)
@@ -28,4 +103,5 @@ texts_of words = map string_bytes words
 abbrev pub seen_as : Option code.Command → Option Command
 seen_as None = None
 seen_as (Some (coded.Flow words)) = Some (Flow words.source.now words.prefix.now)
-seen_as (Some coded.Unbuilt) = Some Unbuilt
+seen_as (Some (coded.Check topology)) = Some (Check topology.now)
+seen_as (Some (coded.Run words)) = Some (Run words.topology.now words.workers words.acks words.steps)

@@ -1,10 +1,15 @@
-//! The words of the program, and what it writes to the error output.
+//! The words of the program, and what it writes of its own.
 //!
-//! `read_words` says which command the words are, if any. The other functions write the texts of refusals.
+//! `read_words` says which command the words are, if any. The other functions write the texts of refusals, and the line
+//! of what `check` counted.
 #![tactic(auto)]
 
 pub mod refusals;
+#[cfg(test)]
+mod tests;
 pub mod words;
 
-pub use refusals::{edge_line, memory_line, stock_line, unbuilt_line, usage_line};
-pub use words::{Command, FlowWords, read_words};
+pub use refusals::{
+    counts_line, edge_line, memory_line, stock_line, topology_line, unbuilt_line, usage_line,
+};
+pub use words::{Command, FlowWords, RunWords, read_words};

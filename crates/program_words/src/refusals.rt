@@ -1,6 +1,6 @@
-//! What the program writes to the error output.
+//! What the program writes to the error output, and what `check` writes of a topology that it accepts.
 
-ghost use Rattle.std.specs.Prelude.{◌≡◌, IfOk, string_bytes};
+ghost use Rattle.std.specs.Prelude.{◌≡◌, IfOk, codes, option_map, string_bytes, unwrap_or};
 ghost use Rattle.program_words.specs.Refusals as text;
 
 use pipe_types::bytes::Bytes;
@@ -45,6 +45,32 @@ pub fn stock_line(alloc: Global, kind: Kind, need: usize, have: usize) -> Result
 {
     let word = kind_word(kind);
     bytes_of(format!(in alloc; "stock {word} need {need} have {have}\n")?)
+}
+
+/// What is wrong with a topology: the number of the fault and the path at which it stands, `-` where it has none.
+#[tactic(auto, using(std::proofs::lemmas::List::append_assoc))]
+pub fn topology_line(alloc: Global, number: u8, path: Option<&str>) -> Result<Bytes, AllocError>
+    ensures { IfOk result (λ line. line ≡ text.topology_line number (option_map (λ p. p.now) path.entry)) }
+{
+    let place = path_word(path);
+    bytes_of(format!(in alloc; "topology {number} {place}\n")?)
+}
+
+/// How many stages and how many subscriptions a topology has.
+#[tactic(auto, using(std::proofs::lemmas::List::append_assoc))]
+pub fn counts_line(alloc: Global, stages: usize, subscriptions: usize) -> Result<Bytes, AllocError>
+    ensures { IfOk result (λ line. line ≡ text.counts_line stages subscriptions) }
+{
+    bytes_of(format!(in alloc; "stages {stages} subscriptions {subscriptions}\n")?)
+}
+
+fn path_word<'a>(path: Option<&'a str>) -> &'a str
+    ensures { result.now ≡ unwrap_or (option_map (λ p. p.now) path.entry) (codes "-") }
+{
+    match path {
+        Some(path) => path,
+        None => "-",
+    }
 }
 
 fn kind_word(kind: Kind) -> &'static str

@@ -1,7 +1,15 @@
 //! Which command the words are.
 
-ghost use Rattle.std.specs.Prelude.{◌≡◌};
-ghost use Rattle.program_words.specs.Words.{command_of, texts_of, seen_as};
+ghost use Rattle.std.specs.Prelude.{◌≡◌, IfOk, Some, string_bytes, map};
+ghost use Rattle.clap.specs.Words.{app_of, found_of, rows_of, rule_of, subcommand_rows_of};
+ghost use Rattle.clap.specs.Takes.{is_given};
+ghost use Rattle.program_words.specs.Words.{command_of, texts_of, seen_as, flow_of, taken_of, named_in, check_in, run_in, workers_in, workers_of, grammar, check_grammar, run_grammar, flag_rule, topology_rule};
+ghost use Rattle.std.specs.Prelude.{option_and_then};
+
+use clap::error::ErrorKind;
+use clap::parser::ValueSource;
+use clap::{Arg, ArgAction, ArgMatches};
+use std::alloc::{AllocError, Global};
 
 /// `flow SOURCE PREFIX`: the name of a source, and what each line is to begin with.
 #[derive(Clone, Copy, Drop, Debug)]
@@ -10,24 +18,159 @@ pub struct FlowWords<'a> {
     pub prefix: &'a str,
 }
 
+/// `run TOPOLOGY [--workers N] [--acks] [--steps]`: the name of a topology file, how many workers are to run it, from 1
+/// to 16, and whether its acknowledgements and its steps are to be written before the report.
+#[derive(Clone, Copy, Drop, Debug)]
+pub struct RunWords<'a> {
+    pub topology: &'a str,
+    pub workers: u16,
+    pub acks: bool,
+    pub steps: bool,
+}
+
 /// A command of the program.
 #[derive(Clone, Copy, Drop, Debug)]
 pub enum Command<'a> {
     Flow(FlowWords<'a>),
-    /// A command that is not built yet.
-    Unbuilt,
+    /// `check TOPOLOGY`: the name of a topology file.
+    Check(&'a str),
+    Run(RunWords<'a>),
 }
 
-/// The command, and none where the words are no command. The words come without the program's name.
-pub fn read_words(words: &[String]) -> Option<Command<'_>>
-    ensures { seen_as result ≡ command_of (texts_of words.now) }
+/// The command, and none where the words are no command. The words come without the program's name. The error is want
+/// of memory.
+pub fn read_words(alloc: Global, words: &[String]) -> Result<Option<Command<'_>>, AllocError>
+    ensures { IfOk result (λ command. seen_as command ≡ command_of (texts_of words.now)) }
 {
     match words {
-        [word, source, prefix] if word.as_str() == "flow" => Some(Command::Flow(FlowWords {
+        [] => Ok(None),
+        [word, others @ ..] if word.as_str() == "flow" => Ok(flow_command(others)),
+        _ => taken_command(alloc, words),
+    }
+}
+
+/// The words after `flow`, which are taken as they stand.
+fn flow_command(words: &[String]) -> Option<Command<'_>>
+    ensures { seen_as result ≡ flow_of (texts_of words.now) }
+{
+    match words {
+        [source, prefix] => Some(Command::Flow(FlowWords {
             source: source.as_str(),
             prefix: prefix.as_str(),
         })),
-        [word, ..] if word.as_str() == "check" || word.as_str() == "run" => Some(Command::Unbuilt),
         _ => None,
     }
+}
+
+/// What clap takes of the words.
+fn taken_command<'a>(alloc: Global, words: &'a [String]) -> Result<Option<Command<'a>>, AllocError>
+    ensures { IfOk result (λ command. seen_as command ≡ taken_of (texts_of words.now)) }
+{
+    match clap_program(alloc)?.try_get_matches_from(words) {
+        Ok(matches) => Ok(matched_command(&matches)),
+        Err(error) => match error.kind() {
+            ErrorKind::OutOfMemory => Err(AllocError),
+            _ => Ok(None),
+        },
+    }
+}
+
+/// The command that the matches name.
+fn matched_command<'a>(matches: &ArgMatches<'a>) -> Option<Command<'a>>
+    ensures { seen_as result ≡ option_and_then named_in (subcommand_rows_of matches.now) }
+{
+    let (name, found) = matches.subcommand()?;
+    match name {
+        "check" => check_words(found),
+        "run" => run_words(found),
+        _ => None,
+    }
+}
+
+fn check_words<'a>(matches: &ArgMatches<'a>) -> Option<Command<'a>>
+    ensures { seen_as result ≡ check_in (rows_of (found_of matches.now)) }
+{
+    Some(Command::Check(matches.get_str("topology")?))
+}
+
+fn run_words<'a>(matches: &ArgMatches<'a>) -> Option<Command<'a>>
+    ensures { seen_as result ≡ run_in (rows_of (found_of matches.now)) }
+{
+    Some(Command::Run(RunWords {
+        topology: matches.get_str("topology")?,
+        workers: workers(matches)?,
+        acks: has_option(matches, "acks"),
+        steps: has_option(matches, "steps"),
+    }))
+}
+
+/// The number of workers that the words ask for, 1 where they ask for none, and none where they spell no such number.
+fn workers(matches: &ArgMatches<'_>) -> Option<u16>
+    ensures { result ≡ workers_in (rows_of (found_of matches.now)) }
+{
+    match matches.get_str("workers") {
+        Some(text) => spelled_workers(text),
+        None => Some(1),
+    }
+}
+
+/// The number from 1 to 16 that the text spells, without sign or leading zero.
+fn spelled_workers(text: &str) -> Option<u16>
+    ensures { result ≡ workers_of text.now }
+{
+    match text.as_bytes() {
+        [ones @ b'1'..=b'9'] => Some(u16::from(*ones - b'0')),
+        [b'1', ones @ b'0'..=b'6'] => Some(10 + u16::from(*ones - b'0')),
+        _ => None,
+    }
+}
+
+/// Whether the words give the option, which else has its default.
+fn has_option(matches: &ArgMatches<'_>, name: &str) -> bool
+    ensures { result ≡ is_given name.now (rows_of (found_of matches.now)) }
+{
+    matches.contains_id(name) && matches.value_source(name) != Some(ValueSource::DefaultValue)
+}
+
+/// What clap is to take. A call for help is no command.
+fn clap_program<'a>(alloc: Global) -> Result<clap::Command<'a>, AllocError>
+    ensures { IfOk result (λ command. app_of command ≡ grammar) }
+{
+    clap::Command::new(alloc, "wamiondry")
+        .no_binary_name(true)
+        .disable_help_flag(true)
+        .disable_help_subcommand(true)
+        .subcommand(check_command(alloc)?)?
+        .subcommand(run_command(alloc)?)
+}
+
+fn check_command<'a>(alloc: Global) -> Result<clap::Command<'a>, AllocError>
+    ensures { IfOk result (λ command. app_of command ≡ check_grammar) }
+{
+    clap::Command::new(alloc, "check").arg(topology_arg(alloc))
+}
+
+fn run_command<'a>(alloc: Global) -> Result<clap::Command<'a>, AllocError>
+    ensures { IfOk result (λ command. app_of command ≡ run_grammar) }
+{
+    let workers = Arg::new(alloc, "workers").long("workers");
+    clap::Command::new(alloc, "run")
+        .arg(topology_arg(alloc))?
+        .arg(workers)?
+        .arg(flag(alloc, "acks"))?
+        .arg(flag(alloc, "steps"))
+}
+
+/// The name of a topology file.
+fn topology_arg<'a>(alloc: Global) -> Arg<'a>
+    ensures { rule_of result ≡ topology_rule }
+{
+    Arg::new(alloc, "topology").required(true)
+}
+
+/// An option that takes no value.
+fn flag<'a>(alloc: Global, name: &'a str) -> Arg<'a>
+    ensures { rule_of result ≡ flag_rule name.entry.now }
+{
+    Arg::new(alloc, name).long(name).action(ArgAction::SetTrue)
 }
