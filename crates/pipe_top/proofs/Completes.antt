@@ -1,5 +1,5 @@
 -- Where nothing failed, the run came to its end.
-use Rattle.std.proofs.Common.{◌≡◌, ◌≢◌, ℕ, List, [], ◌∷◌, ◌++◌, Bool, true, false, refl, sym, ◌∙◌, inl, inr, Option, Some, None, arith}
+use Rattle.std.proofs.Common.{◌≡◌, ◌≢◌, ℕ, List, [], ◌∷◌, ◌++◌, Bool, true, false, refl, sym, ap, ◌∙◌, inl, inr, Option, Some, None, arith}
 use Rattle.std.specs.Prelude.{◌⊎◌, is_some}
 use Rattle.pipe_types.specs.Counts.{Rose}
 use Rattle.pipe_types.specs.Numbers.{stage}
@@ -10,22 +10,22 @@ use Rattle.pipe_model.specs.History.{History}
 use Rattle.pipe_model.specs.Legal.{happened, is_drain, is_halt, has_ended}
 use Rattle.pipe_model.specs.Outside.{fed, source_end}
 use Rattle.pipe_edges.specs.declared.edges.EdgeKind.{EdgeKind}
-use Rattle.config_flow.specs.Flow.{source_stage, require_stage, flow_topology_of}
-use Rattle.core_flow.specs.OneEach.{Settings}
+use Rattle.core_flow.specs.OneEach.{Settings, one_each}
 use Rattle.core_flow.proofs.Allowed.{and_left}
 use Rattle.journal_texts.specs.Report.{places, is_lost, is_failed, is_source_fault, gravest_of}
 use Rattle.std.specs.List.{list_any}
-use Rattle.program_words.specs.Words.{Command}
 use Rattle.run_claims.specs.Read.{ReadsSource}
 use Rattle.pipe_top.specs.Verdicts.{status_in}
-use Rattle.pipe_top.specs.Runs.{IsRun, IsEnded, IsReadBack, IsFlow, IsFaultless, IsComplete, is_limit_drain}
-use Rattle.pipe_top.specs.Flows.{FlowRuns, StockRuns, BackBy}
-use Rattle.pipe_top.specs.Commands.{CommandRuns}
-use Rattle.pipe_top.specs.declared.verdict.Refusal.TheVariants.{Usage, Unbuilt, Wait, Stock, Edge, Memory}
+use Rattle.pipe_top.specs.Runs.{IsRun, IsEnded, IsReadBack, IsFaultless, IsComplete, IsCompleteIn, is_limit_drain}
+use Rattle.pipe_top.specs.Cases.{Case, NoCommand, NoTopology as BadTopology, TooFew, NotBuilt, Checks, Runs, source_of}
+use Rattle.pipe_top.specs.Flows.{Outcome, RunBack, BackBy}
+use Rattle.pipe_top.specs.declared.verdict.Refusal.TheVariants.{Wait, Memory}
+use Rattle.pipe_top.specs.declared.verdict.Shows.{Shows}
 use Rattle.pipe_top.specs.declared.verdict.Verdict.{Verdict}
 use Rattle.pipe_top.specs.declared.verdict.Verdict.TheVariants.{Refused, Done}
 use Rattle.pipe_top.proofs.Endings.{EndsOnce, ends_once, ends_badly, ends_limited}
 use Rattle.pipe_top.proofs.Longs.{not_long}
+use Rattle.pipe_top.proofs.Outcomes.{Fails, early, Reported, ran}
 
 -- a faultless source did not end with a fault or with a line that is too long
 fine_end : {S : Type 0} (told : S → Bool) (taken left : S → List ℕ) (faults waits : S → ℕ) (before : History) (source : S) (end : Option SourceHow) → source_end before (stage 1) ≡ end
@@ -55,19 +55,16 @@ not_four false false true failed status none is (inr (inr four)) = absurd (omega
 not_four false false false true status none is (inr (inr four)) = absurd (omega (arith, is, four))
 not_four false false false false status none is (inr (inr four)) = absurd (omega (arith, is, four))
 
-abbrev settings_of : (source prefix : List ℕ) → Settings
-settings_of source prefix = record { producer = source_stage source; processor = require_stage prefix; whole = flow_topology_of source prefix }
-
 -- a run that was reported
-ended_whole : {S : Type 0} (told : S → Bool) (taken left : S → List ℕ) (faults waits : S → ℕ) (before : History) (now : S) (source prefix : List ℕ) (status : ℕ)
-    → IsRun (flow_topology_of source prefix) before → IsEnded (flow_topology_of source prefix) before status
+ended_whole : {S : Type 0} (told : S → Bool) (taken left : S → List ℕ) (faults waits : S → ℕ) (before : History) (now : S) (settings : Settings) (topology : Topology) (status : ℕ)
+    → topology ≡ one_each settings → IsRun topology before → IsEnded topology before status
     → ReadsSource told taken left faults waits before (stage 1) now → IsFaultless told taken left faults waits now → IsComplete before status
-ended_whole told taken left faults waits before now source prefix status run ended reads fine =
-    let once : EndsOnce before = ends_once (settings_of source prefix) before run.claims.legal run.kinds in
+ended_whole told taken left faults waits before now settings topology status shape run ended reads fine =
+    let once : EndsOnce before = ends_once settings before (rw shape at run.claims.legal) run.kinds in
     let good : ends_badly (source_end before (stage 1)) ≡ false = fine_end told taken left faults waits before now (source_end before (stage 1)) refl reads fine in
     record {
-      status_is = not_four (happened is_source_fault before) (happened is_halt before) (list_any is_lost (places (flow_topology_of source prefix) before))
-          (list_any is_failed (places (flow_topology_of source prefix) before)) status (once.fault ∙ good) ended.by_journal ended.possible;
+      status_is = not_four (happened is_source_fault before) (happened is_halt before) (list_any is_lost (places topology before))
+          (list_any is_failed (places topology before)) status (once.fault ∙ good) ended.by_journal ended.possible;
       whole = λ other. by_drain once good (once.drain (and_left (happened is_drain before) _ ended.drained));
     }
   where
@@ -83,46 +80,45 @@ wanting before status is = record {
   whole = λ other. absurd (other is);
 }
 
-flow_complete : {E S : Type 0} (told_names : E → Bool) (named : E → EdgeKind → List ℕ → List ℕ) (back : E → List (List ℕ × S)) (told : S → Bool) (taken left : S → List ℕ) (faults waits : S → ℕ) (old new : E) (name : List ℕ) (before : History) (same partly : Type 0)
-    (source prefix : List ℕ) (f f' : ℕ) (topology : Option Topology) (verdict : Verdict) (status : ℕ)
-    → FlowRuns source prefix f f' topology before verdict → status ≡ status_in verdict → ¬ Rose f f'
-    → ((now : S) → back new ≡ back old ++ (name, now) ∷ [] → IsFaultless told taken left faults waits now)
-    → BackBy verdict same (IsReadBack told_names named back told taken left faults waits old new name before (verdict ≡ Refused Wait)) partly
-    → IsComplete before status
-flow_complete told_names named back told taken left faults waits old new name before same partly source prefix f f' (Some t) (Done text s) status r is calm fine b =
-    rw is (ended_whole told taken left faults waits before b.source source prefix s (rw r.0 at r.1) (rw r.0 at r.2.ended) b.reads (fine b.source b.given))
-flow_complete told_names named back told taken left faults waits old new name before same partly source prefix f f' (Some t) (Refused Wait) status r is calm fine b =
-    absurd ((fine b.source b.given).no_wait (b.wait refl))
-flow_complete told_names named back told taken left faults waits old new name before same partly source prefix f f' (Some t) (Refused Memory) status r is calm fine b = wanting before status is
-flow_complete told_names named back told taken left faults waits old new name before same partly source prefix f f' (Some t) (Refused Usage) status r is calm fine b = absurd r.2
-flow_complete told_names named back told taken left faults waits old new name before same partly source prefix f f' (Some t) (Refused Unbuilt) status r is calm fine b = absurd r.2
-flow_complete told_names named back told taken left faults waits old new name before same partly source prefix f f' (Some t) (Refused Stock) status r is calm fine b = absurd r.2
-flow_complete told_names named back told taken left faults waits old new name before same partly source prefix f f' (Some t) (Refused (Edge n)) status r is calm fine b = absurd r.2
-flow_complete told_names named back told taken left faults waits old new name before same partly source prefix f f' None (Refused Memory) status r is calm fine b = wanting before status is
-flow_complete told_names named back told taken left faults waits old new name before same partly source prefix f f' None (Refused (Edge n)) status r is calm fine b = absurd (calm r.1.1)
-flow_complete told_names named back told taken left faults waits old new name before same partly source prefix f f' None (Done text s) status r is calm fine b = absurd r.1
-flow_complete told_names named back told taken left faults waits old new name before same partly source prefix f f' None (Refused Usage) status r is calm fine b = absurd r.1
-flow_complete told_names named back told taken left faults waits old new name before same partly source prefix f f' None (Refused Unbuilt) status r is calm fine b = absurd r.1
-flow_complete told_names named back told taken left faults waits old new name before same partly source prefix f f' None (Refused Wait) status r is calm fine b = absurd r.1
-flow_complete told_names named back told taken left faults waits old new name before same partly source prefix f f' None (Refused Stock) status r is calm fine b = absurd r.1
+memory_or : (fails : List ℕ → Type 0) (before : History) (verdict : Verdict) (status : ℕ) → status ≡ status_in verdict → (verdict ≡ Refused Memory) ⊎ Fails fails verdict
+    → ((name : List ℕ) → fails name → ⊥) → IsComplete before status
+memory_or fails before verdict status is (inl memory) calm = wanting before status (is ∙ ap status_in memory)
+memory_or fails before verdict status is (inr f) calm = absurd (calm f.name f.so)
 
-pub complete_by : {E S : Type 0} (told_names : E → Bool) (named : E → EdgeKind → List ℕ → List ℕ) (back : E → List (List ℕ × S)) (told : S → Bool) (taken left : S → List ℕ) (faults waits : S → ℕ) (old new : E) (name : List ℕ) (before : History) (same partly : Type 0)
-    (command : Option Command) (boxes f f' : ℕ) (topology : Option Topology) (verdict : Verdict) (status : ℕ)
-    → IsFlow command → boxes ≢ 0 → ¬ Rose f f' → status ≢ 8
-    → ((now : S) → back new ≡ back old ++ (name, now) ∷ [] → IsFaultless told taken left faults waits now)
-    → CommandRuns command boxes f f' topology before verdict → (status ≡ status_in verdict) ⊎ ((status ≡ 8) ⊎ (status ≡ 9))
-    → BackBy verdict same (IsReadBack told_names named back told taken left faults waits old new name before (verdict ≡ Refused Wait)) partly
-    → IsComplete before status
-complete_by told_names named back told taken left faults waits old new name before same partly command boxes f f' topology verdict status flow stocked calm written fine r (inl is) b =
-    by_stock (rw flow.is at r)
+pub complete_in : {E S : Type 0} (told_names : E → Bool) (named : E → EdgeKind → List ℕ → List ℕ) (back : E → List (List ℕ × S)) (told : S → Bool) (taken left : S → List ℕ) (faults waits : S → ℕ) (old new : E)
+    (case : Case) (same : Type 0) (partly : List ℕ → Type 0) (fails : List ℕ → Type 0) (topology : Option Topology) (before : History) (verdict : Verdict) (status : ℕ)
+    → status ≡ status_in verdict → ((name : List ℕ) → fails name → ⊥)
+    → ((name : List ℕ) (now : S) → back new ≡ back old ++ (name, now) ∷ [] → IsFaultless told taken left faults waits now)
+    → Outcome case fails topology before verdict
+    → BackBy case topology verdict same (λ name. IsReadBack told_names named back told taken left faults waits old new name before (verdict ≡ Refused Wait)) partly
+    → IsCompleteIn before status case
+complete_in told_names named back told taken left faults waits old new NoCommand same partly fails topology before verdict status is calm fine o b = tt
+complete_in told_names named back told taken left faults waits old new (BadTopology fault) same partly fails topology before verdict status is calm fine o b = tt
+complete_in told_names named back told taken left faults waits old new (TooFew shortage) same partly fails topology before verdict status is calm fine o b = tt
+complete_in told_names named back told taken left faults waits old new (NotBuilt missing) same partly fails topology before verdict status is calm fine o b = tt
+complete_in told_names named back told taken left faults waits old new (Checks wanted) same partly fails topology before verdict status is calm fine o b = tt
+complete_in told_names named back told taken left faults waits old new (Runs shows wanted) same partly fails topology before verdict status is calm fine (inl e) b =
+    memory_or fails before verdict status is (early fails topology before verdict e).why calm
+complete_in {E} {S} told_names named back told taken left faults waits old new (Runs shows wanted) same partly fails topology before verdict status is calm fine (inr r) b =
+    by_run (ran verdict shows wanted before r.comes_to)
   where
-    by_stock : StockRuns boxes flow.source flow.prefix f f' topology before verdict → IsComplete before status
-    by_stock (inl ran) = flow_complete told_names named back told taken left faults waits old new name before same partly flow.source flow.prefix f f' topology verdict status ran.1 is calm fine b
-    by_stock (inr without) = absurd (stocked without.none)
-complete_by told_names named back told taken left faults waits old new name before same partly command boxes f f' topology verdict status flow stocked calm written fine r (inr (inl is)) b =
-    absurd (written is)
-complete_by told_names named back told taken left faults waits old new name before same partly command boxes f f' topology verdict status flow stocked calm written fine r (inr (inr is)) b =
-    wanting before status is
+    Back : Type 0
+    Back = IsReadBack told_names named back told taken left faults waits old new (source_of wanted) before (verdict ≡ Refused Wait)
+
+    given : RunBack (Some wanted) verdict same Back (partly (source_of wanted))
+    given = rw r.own at b
+
+    by_report : Reported shows wanted before verdict → Back → IsComplete before status
+    by_report v back_as =
+        rw (is ∙ ap status_in v.is) (ended_whole told taken left faults waits before back_as.source r.runnable.one_each.settings wanted v.status r.runnable.one_each.is r.run v.report.ended back_as.reads
+        (fine (source_of wanted) back_as.source back_as.given))
+
+    by_run : Reported shows wanted before verdict ⊎ ((verdict ≡ Refused Wait) ⊎ (verdict ≡ Refused Memory)) → IsComplete before status
+    by_run (inl v) = by_report v (rw v.is at given)
+    by_run (inr (inl waits_is)) =
+        let back_as : Back = rw waits_is at given in
+        absurd ((fine (source_of wanted) back_as.source back_as.given).no_wait (back_as.wait waits_is))
+    by_run (inr (inr memory)) = wanting before status (is ∙ ap status_in memory)
 
 -- where no write failed, the status is not 8
 pub unwritten : (out out' err err' status : ℕ) → ¬ Rose out out' → ¬ Rose err err' → (status ≡ 8 → Rose out out' ⊎ Rose err err') → status ≢ 8

@@ -1,8 +1,10 @@
+pub mod Completes
+pub mod Endings
+pub mod Longs
+pub mod Outcomes
+pub mod Clauses
+pub mod Reading
+pub mod Runnables
 pub mod Quiets
 pub mod Sources
 pub mod Statuses
-pub mod Asking
-pub mod Calls
-pub mod Endings
-pub mod Longs
-pub mod Completes

@@ -9,12 +9,16 @@ use Rattle.pipe_types.specs.declared.message.Place.TheVariants.{Waiting, Inbox, 
 use Rattle.pipe_model.specs.Legal.{happened}
 use Rattle.pipe_model.specs.Moves.{is_drained}
 use Rattle.pipe_model.specs.Places.{ArePlaces}
-use Rattle.journal_texts.specs.Report.{places, is_lost as is_lost_place, is_failed, is_source_fault, gravest_of, report_text, status_of}
+use Rattle.journal_texts.specs.Report.{places, is_lost as is_lost_place, is_failed, is_source_fault, gravest_of, status_of}
 use Rattle.journal_texts.proofs.Reports.{places_are}
 use Rattle.core_flow.specs.declared.state.Core.{Core}
 use Rattle.core_flow.specs.Rows.{is_lost}
 use Rattle.core_flow.specs.Stands.{Stands}
+use Rattle.pipe_top.specs.Verdicts.{whole_text}
+use Rattle.pipe_top.specs.Runs.{run_text}
 use Rattle.pipe_top.specs.Flows.{IsReport}
+use Rattle.pipe_top.specs.declared.verdict.Shows.{Shows}
+use Rattle.pipe_top.specs.declared.verdict.Texts.{Texts}
 
 same_loss : (p : Place) → is_lost p ≡ false → is_lost_place p ≡ false
 same_loss (Waiting s) e = refl
@@ -35,11 +39,11 @@ three true failed status is = inr (inr is)
 three false true status is = inr (inl is)
 three false false status is = inl is
 
-pub report_is : (core : Core) (rows : List PlaceRow) (text : List ℕ) (status : ℕ) → Stands core → IsTrue (is_drained core.topology core.journal.steps)
+pub report_is : (core : Core) (rows : List PlaceRow) (shows : Shows) (texts : Texts) (status : ℕ) → Stands core → IsTrue (is_drained core.topology core.journal.steps)
     → ArePlaces core.topology core.journal.steps rows → All (λ row. is_lost row.place ≡ false) rows
-    → text ≡ report_text core.topology core.journal.steps → status ≡ status_of core.topology core.journal.steps
-    → IsReport core.topology core.journal.steps text status
-report_is core rows text status x drained are none texts is = record {
+    → whole_text texts ≡ run_text shows core.topology core.journal.steps → status ≡ status_of core.topology core.journal.steps
+    → IsReport shows core.topology core.journal.steps texts status
+report_is core rows shows texts status x drained are none texts_are is = record {
   ended = record {
     drained = drained;
     by_journal = is;
@@ -49,5 +53,5 @@ report_is core rows text status x drained are none texts is = record {
         three (happened is_source_fault core.journal.steps) (list_any is_failed (places core.topology core.journal.steps)) status
         (is ∙ (λ i. gravest_of (happened is_source_fault core.journal.steps) (x.accounts.plain.no_halt i) (lost i) (list_any is_failed (places core.topology core.journal.steps))));
   };
-  by_journal = texts;
+  by_journal = texts_are;
 }

@@ -1,41 +1,73 @@
--- What the parts of a run of `flow` come to.
-use Rattle.std.specs.Prelude.{◌≡◌, ◌≢◌, ◌⊎◌, Bool, ℕ, List, [], ◌∷◌, ◌++◌, IsTrue, Option, Some, None}
+-- What the parts of a call come to.
+use Rattle.std.specs.Prelude.{◌≡◌, ◌≢◌, ◌≤◌, ◌⊎◌, Bool, ℕ, List, [], ◌∷◌, ◌++◌, length, IsTrue, Option, Some, None, Result, Ok, Err}
 use Rattle.pipe_types.specs.Counts.{Rose}
 use Rattle.pipe_types.specs.Numbers.{stage}
+use Rattle.pipe_types.specs.Sound.{IsSound}
+use Rattle.pipe_types.specs.declared.topology.StageSpec.{StageSpec}
 use Rattle.pipe_types.specs.declared.topology.Topology.{Topology}
+use Rattle.pipe_types.specs.declared.topology.Kind.TheVariants.{Steps}
+use Rattle.pipe_types.specs.Stages.{spec_of}
 use Rattle.pipe_model.specs.History.{History}
-use Rattle.config_flow.specs.Flow.{flow_topology_of}
-use Rattle.journal_texts.specs.Report.{report_text}
-use Rattle.run_claims.specs.Read.{ReadsSource}
 use Rattle.pipe_edges.specs.declared.edges.EdgeKind.{EdgeKind}
-use Rattle.pipe_top.specs.Runs.{IsEnded, IsRun, Asks}
-use Rattle.pipe_top.specs.declared.verdict.Refusal.TheVariants.{Wait, Stock, Edge, Memory}
+use Rattle.pipe_edges.specs.declared.edges.EdgeKind.TheVariants.{File, Source}
+use Rattle.config_table.specs.declared.fault.ConfigFault.{ConfigFault}
+use Rattle.program_words.specs.Refusals.{counts_line}
+use Rattle.program_words.specs.Words.{Command}
+use Rattle.stage_job.specs.Chunks.{never_crashes}
+use Rattle.stage_callback.specs.Callbacks.{can_arm}
+use Rattle.topology_needs.specs.Needs.{subscriptions_of}
+use Rattle.topology_needs.specs.declared.stock.Boxes.{Boxes}
+use Rattle.topology_needs.specs.declared.stock.Shortage.{Shortage}
+use Rattle.topology_needs.specs.declared.unbuilt.Unbuilt.{Unbuilt as Missing}
+use Rattle.core_flow.specs.OneEach.{IsOneEach}
+use Rattle.run_claims.specs.Read.{ReadsSource}
+use Rattle.pipe_top.specs.Cases.{Case, NoCommand, NoTopology as BadTopology, TooFew, NotBuilt, Checks, Runs, case_of, calls_of, file_name, source_of, IsNamedFile}
+use Rattle.pipe_top.specs.Verdicts.{whole_text}
+use Rattle.pipe_top.specs.Runs.{IsEnded, IsRun, IsReadBack, IsPartlyRead, Asks, FailsAt, run_text}
+use Rattle.pipe_top.specs.declared.verdict.Refusal.{Refusal}
+use Rattle.pipe_top.specs.declared.verdict.Refusal.TheVariants.{Usage, Topology as NoTopology, Stock, Unbuilt, Wait, Edge, Memory}
+use Rattle.pipe_top.specs.declared.verdict.Shows.{Shows}
+use Rattle.pipe_top.specs.declared.verdict.Texts.{Texts}
 use Rattle.pipe_top.specs.declared.verdict.Verdict.{Verdict}
 use Rattle.pipe_top.specs.declared.verdict.Verdict.TheVariants.{Refused, Done}
 
--- the topology is that of `flow` with some two words
-pub record IsFlowTopology (topology : Topology) : Type 0 where
-  pub source : List ℕ
-  pub prefix : List ℕ
-  pub is : topology ≡ flow_topology_of source prefix
+-- a sound topology that runs today: one pull producer with its source, and one processor of rules of which none crashes
+pub record IsRunnable (topology : Topology) : Type 0 where
+  pub sound : IsSound topology
+  pub one_each : IsOneEach topology
+  pub producer : StageSpec
+  pub processor : StageSpec
+  pub stages : topology.stages ≡ producer ∷ processor ∷ []
+  pub second : spec_of topology (stage 2) ≡ Some processor
+  pub steps : processor.kind ≡ Steps
+  pub calm : IsTrue (never_crashes processor.rules)
+  pub armable : IsTrue (can_arm processor)
+  pub source : producer.edge ≡ Some (source_of topology)
 
--- the report is the journal's, and so is the status
-pub record IsReport (topology : Topology) (before : History) (text : List ℕ) (status : ℕ) : Type 0 where
+-- its processor can be armed, and never crashes
+pub record IsProcessorOf (topology : Topology) (spec : StageSpec) : Type 0 where
+  pub second : spec_of topology (stage 2) ≡ Some spec
+  pub steps : spec.kind ≡ Steps
+  pub calm : IsTrue (never_crashes spec.rules)
+  pub armable : IsTrue (can_arm spec)
+
+-- the texts are the journal's, and so is the status
+pub record IsReport (shows : Shows) (topology : Topology) (before : History) (texts : Texts) (status : ℕ) : Type 0 where
   pub ended : IsEnded topology before status
-  pub by_journal : text ≡ report_text topology before
+  pub by_journal : whole_text texts ≡ run_text shows topology before
 
 -- the verdict of a drained run: its report, unless memory was wanting
-abbrev pub IsJudgement : Verdict → Topology → History → Type 0
-IsJudgement (Done text status) topology before = IsReport topology before text status
-IsJudgement (Refused Memory) topology before = Unit {0}
-IsJudgement _ topology before = ⊥
+abbrev pub IsJudgement : Verdict → Shows → Topology → History → Type 0
+IsJudgement (Done texts status) shows topology before = IsReport shows topology before texts status
+IsJudgement (Refused Memory) shows topology before = Unit {0}
+IsJudgement _ shows topology before = ⊥
 
 -- the verdict of a run: its report, or that it waited, or that memory was wanting
-abbrev pub IsRunVerdict : Verdict → Topology → History → Type 0
-IsRunVerdict (Done text status) topology before = IsReport topology before text status
-IsRunVerdict (Refused Memory) topology before = Unit {0}
-IsRunVerdict (Refused Wait) topology before = Unit {0}
-IsRunVerdict _ topology before = ⊥
+abbrev pub IsRunVerdict : Verdict → Shows → Topology → History → Type 0
+IsRunVerdict (Done texts status) shows topology before = IsReport shows topology before texts status
+IsRunVerdict (Refused Memory) shows topology before = Unit {0}
+IsRunVerdict (Refused Wait) shows topology before = Unit {0}
+IsRunVerdict _ shows topology before = ⊥
 
 -- what became of the opened source: the journal's records are its lines, and it has the same bytes in all
 pub record IsReadOff {S : Type 0} (told : S → Bool) (taken left : S → List ℕ) (faults waits : S → ℕ) (opened source : S) (before : History) (waited : Type 0) : Type 0 where
@@ -58,45 +90,119 @@ pub record KeepsEdges {E K : Type 0} (told : E → Bool) (asked : E → List (Ed
   pub same_sinks : sinks_back new ≡ sinks_back old
 
 -- a run on this topology, or none for want of memory
-abbrev pub RunsOrNot : (wanted : Topology) → Option Topology → History → Verdict → Type 0
-RunsOrNot wanted None before verdict = (before ≡ []) × (verdict ≡ Refused Memory)
-RunsOrNot wanted (Some topology) before verdict = (topology ≡ wanted) × IsRun topology before × IsRunVerdict verdict topology before
+abbrev pub RunsOrNot : Shows → (wanted : Topology) → Option Topology → History → Verdict → Type 0
+RunsOrNot shows wanted None before verdict = (before ≡ []) × (verdict ≡ Refused Memory)
+RunsOrNot shows wanted (Some topology) before verdict = (topology ≡ wanted) × IsRun topology before × IsRunVerdict verdict shows topology before
 
--- why there was no run: memory was wanting, or the source was not opened
-abbrev pub IsEarly : Verdict → (name : List ℕ) → (faults faults' : ℕ) → Type 0
-IsEarly (Refused Memory) name faults faults' = Unit {0}
-IsEarly (Refused (Edge other)) name faults faults' = (other ≡ name) × Rose faults faults'
-IsEarly _ name faults faults' = ⊥
-
--- `flow` ran on its own topology, or not at all
-abbrev pub FlowRuns : (source prefix : List ℕ) → (faults faults' : ℕ) → Option Topology → History → Verdict → Type 0
-FlowRuns source prefix faults faults' None before verdict = (before ≡ []) × IsEarly verdict source faults faults'
-FlowRuns source prefix faults faults' (Some topology) before verdict =
-    (topology ≡ flow_topology_of source prefix) × IsRun topology before × IsRunVerdict verdict topology before
-
--- it was refused where the stock has no box of the kind that it wants
-pub record IsWithoutBox (boxes : ℕ) (topology : Option Topology) (before : History) (verdict : Verdict) : Type 0 where
-  pub none : boxes ≡ 0
-  pub refused : verdict ≡ Refused Stock
+-- there was no run, for this reason
+pub record IsRefusedBy (refusal : Refusal) (topology : Option Topology) (before : History) (verdict : Verdict) : Type 0 where
+  pub refused : verdict ≡ Refused refusal
   pub no_topology : topology ≡ None
   pub no_step : before ≡ []
 
--- it ran with a box, or was refused without one
-abbrev pub StockRuns : (boxes : ℕ) → (source prefix : List ℕ) → (faults faults' : ℕ) → Option Topology → History → Verdict → Type 0
-StockRuns boxes source prefix faults faults' topology before verdict =
-    ((boxes ≢ 0) × FlowRuns source prefix faults faults' topology before verdict) ⊎ IsWithoutBox boxes topology before verdict
+-- there was no run, since a call by this name failed or memory was wanting
+abbrev pub IsEarly : (fails : List ℕ → Type 0) → Option Topology → History → Verdict → Type 0
+IsEarly fails None before (Refused Memory) = before ≡ []
+IsEarly fails None before (Refused (Edge name)) = (before ≡ []) × fails name
+IsEarly fails topology before verdict = ⊥
 
--- what became of the source: it was read and given back where there was a run; for want of memory maybe so; and else none was opened
-abbrev pub BackBy : Verdict → (same read partly : Type 0) → Type 0
-BackBy (Done text status) same read partly = read
-BackBy (Refused Wait) same read partly = read
-BackBy (Refused Memory) same read partly = same ⊎ partly
-BackBy _ same read partly = same
+-- the topology was only checked
+pub record IsChecked (wanted : Topology) (topology : Option Topology) (before : History) (verdict : Verdict) : Type 0 where
+  pub texts : Texts
+  pub counted : verdict ≡ Done texts 0
+  pub counts : whole_text texts ≡ counts_line (length wanted.stages) (subscriptions_of wanted)
+  pub no_topology : topology ≡ None
+  pub no_step : before ≡ []
 
--- which calls were made: all of them where the source was opened or not found
+-- it was checked, unless memory was wanting
+abbrev pub IsCheckedOrNot : (wanted : Topology) → Option Topology → History → Verdict → Type 0
+IsCheckedOrNot wanted topology before verdict = IsRefusedBy Memory topology before verdict ⊎ IsChecked wanted topology before verdict
+
+-- a run on this topology
+pub record IsRunOn (shows : Shows) (wanted : Topology) (topology : Option Topology) (before : History) (verdict : Verdict) : Type 0 where
+  pub runnable : IsRunnable wanted
+  pub own : topology ≡ Some wanted
+  pub run : IsRun wanted before
+  pub comes_to : IsRunVerdict verdict shows wanted before
+
+-- what each case comes to, where no call by name failed and memory was found before the run
+abbrev pub ComesTo : Case → Option Topology → History → Verdict → Type 0
+ComesTo NoCommand topology before verdict = IsRefusedBy Usage topology before verdict
+ComesTo (BadTopology fault) topology before verdict = IsRefusedBy (NoTopology fault) topology before verdict
+ComesTo (TooFew shortage) topology before verdict = IsRefusedBy (Stock shortage) topology before verdict
+ComesTo (NotBuilt missing) topology before verdict = IsRefusedBy (Unbuilt missing) topology before verdict
+ComesTo (Checks wanted) topology before verdict = IsChecked wanted topology before verdict
+ComesTo (Runs shows wanted) topology before verdict = IsRunOn shows wanted topology before verdict
+
+-- the case's outcome, or there was no run before it came to one
+abbrev pub Outcome : Case → (fails : List ℕ → Type 0) → Option Topology → History → Verdict → Type 0
+Outcome case fails topology before verdict = IsEarly fails topology before verdict ⊎ ComesTo case topology before verdict
+
+-- the refusal of a topology that does not run
+abbrev pub refusal_in : Option Shortage → Option Missing → Option Refusal
+refusal_in (Some shortage) missing = Some (Stock shortage)
+refusal_in None (Some missing) = Some (Unbuilt missing)
+refusal_in None None = None
+
+-- what became of the source of a run: it was read and given back, for want of memory maybe so; and where there was no run none was opened
+abbrev pub RunBack : Option Topology → Verdict → (same read partly : Type 0) → Type 0
+RunBack topology (Refused Memory) same read partly = same ⊎ partly
+RunBack (Some topology) verdict same read partly = read
+RunBack None verdict same read partly = same
+
+-- a source is opened by a run alone
+abbrev pub BackBy : Case → Option Topology → Verdict → (same : Type 0) → (read partly : List ℕ → Type 0) → Type 0
+BackBy (Runs shows wanted) topology verdict same read partly = RunBack topology verdict same (read (source_of wanted)) (partly (source_of wanted))
+BackBy _ topology verdict same read partly = same
+
+-- which calls were made: some of them where memory was wanting; else all, but for one that failed
 abbrev pub AskedBy : Verdict → (calls asked asked' : List (EdgeKind × List ℕ)) → Type 0
-AskedBy (Done text status) calls asked asked' = asked' ≡ asked ++ calls
-AskedBy (Refused Wait) calls asked asked' = asked' ≡ asked ++ calls
-AskedBy (Refused (Edge name)) calls asked asked' = asked' ≡ asked ++ calls
+AskedBy (Refused (Edge name)) calls asked asked' = Unit {0}
 AskedBy (Refused Memory) calls asked asked' = Asks calls asked asked'
-AskedBy _ calls asked asked' = asked' ≡ asked
+AskedBy _ calls asked asked' = asked' ≡ asked ++ calls
+
+-- what a call comes to in a case, with the calls by name that the case makes
+pub record ComesBy {E S K : Type 0} (told : E → Bool) (named : E → EdgeKind → List ℕ → List ℕ) (asked : E → List (EdgeKind × List ℕ)) (edge_faults : E → ℕ) (back : E → List (List ℕ × S)) (sinks_back : E → List (List ℕ × K)) (source_told : S → Bool) (taken left : S → List ℕ) (faults waits : S → ℕ) (old new : E)
+    (case : Case) (calls : List (EdgeKind × List ℕ)) (topology : Option Topology) (before : History) (verdict : Verdict) : Type 0 where
+  pub outcome : Outcome case (FailsAt (told old) calls (asked old) (asked new) (Rose (edge_faults old) (edge_faults new))) topology before verdict
+  pub back_by : BackBy case topology verdict (back new ≡ back old)
+      (λ name. IsReadBack told named back source_told taken left faults waits old new name before (verdict ≡ Refused Wait))
+      (λ name. IsPartlyRead back source_told taken left old new name before)
+  pub asked_by : IsTrue (told old) → AskedBy verdict calls (asked old) (asked new)
+  pub no_sinks : sinks_back new ≡ sinks_back old
+
+-- the same in the case of the command, for the bytes of its file
+pub record Came {E S K : Type 0} (told : E → Bool) (named : E → EdgeKind → List ℕ → List ℕ) (asked : E → List (EdgeKind × List ℕ)) (edge_faults : E → ℕ) (back : E → List (List ℕ × S)) (sinks_back : E → List (List ℕ × K)) (source_told : S → Bool) (taken left : S → List ℕ) (faults waits : S → ℕ) (old new : E)
+    (command : Option Command) (boxes : Boxes) (topology : Option Topology) (before : History) (verdict : Verdict) : Type 0 where
+  pub file : List ℕ
+  pub is_file : IsNamedFile (told old) (named old) (file_name command) file
+  pub comes : ComesBy told named asked edge_faults back sinks_back source_told taken left faults waits old new
+      (case_of command file boxes) (calls_of command (case_of command file boxes)) topology before verdict
+
+-- ---- the topology file
+
+-- the file's topology, or why there is none
+abbrev pub ReadsTopology : (expected : Result Topology ConfigFault) → (name : List ℕ) → (edge_fault : Type 0) → Result Topology Refusal → Type 0
+ReadsTopology expected name edge_fault (Ok topology) = (expected ≡ Ok topology) × IsSound topology
+ReadsTopology expected name edge_fault (Err (NoTopology fault)) = expected ≡ Err fault
+ReadsTopology expected name edge_fault (Err (Edge other)) = (other ≡ name) × edge_fault
+ReadsTopology expected name edge_fault (Err Memory) = Unit {0}
+ReadsTopology expected name edge_fault (Err _) = ⊥
+
+-- the call by name was made, unless memory was wanting
+abbrev pub AskedFile : Result Topology Refusal → (call : EdgeKind × List ℕ) → (asked asked' : List (EdgeKind × List ℕ)) → Type 0
+AskedFile (Err Memory) call asked asked' = Asks (call ∷ []) asked asked'
+AskedFile _ call asked asked' = asked' ≡ asked ++ call ∷ []
+
+-- what reading the topology file came to
+pub record ReadsFile {E S K : Type 0} (told : E → Bool) (named : E → EdgeKind → List ℕ → List ℕ) (asked : E → List (EdgeKind × List ℕ)) (faults : E → ℕ) (sources_back : E → List (List ℕ × S)) (sinks_back : E → List (List ℕ × K)) (old new : E)
+    (name : List ℕ) (expected : List ℕ → Result Topology ConfigFault) (result : Result Topology Refusal) : Type 0 where
+  pub file : List ℕ
+  pub is_file : IsNamedFile (told old) (named old) (Some name) file
+  pub reads : ReadsTopology (expected file) name (Rose (faults old) (faults new)) result
+  pub asked_by : IsTrue (told old) → AskedFile result (File, name) (asked old) (asked new)
+  pub same_telling : told new ≡ told old
+  pub same_names : IsTrue (told old) → (kind : EdgeKind) (other : List ℕ) → named new kind other ≡ named old kind other
+  pub same_sources : sources_back new ≡ sources_back old
+  pub same_sinks : sinks_back new ≡ sinks_back old
+  pub faults_stay : faults old ≤ faults new

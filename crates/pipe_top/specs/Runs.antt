@@ -1,5 +1,5 @@
--- What a run promises of its journal, its report, its source and the calls by name.
-use Rattle.std.specs.Prelude.{◌≡◌, ◌≢◌, ◌≤◌, ◌⊎◌, Bool, true, false, ℕ, List, [], ◌∷◌, ◌++◌, take, IsTrue, Option, Some, None, codes, if◌then◌else◌, ◌==◌}
+-- What a run promises of its journal, its texts, its source and the calls by name.
+use Rattle.std.specs.Prelude.{◌≡◌, ◌≢◌, ◌≤◌, ◌⊎◌, Bool, true, false, ℕ, List, [], ◌∷◌, ◌++◌, take, length, IsTrue, Option, Some, None, codes, if◌then◌else◌, nat_le}
 use Rattle.pipe_types.specs.Counts.{Rose}
 use Rattle.pipe_types.specs.Numbers.{stage}
 use Rattle.pipe_types.specs.declared.step.DrainCause.TheVariants.{Limit}
@@ -13,16 +13,21 @@ use Rattle.pipe_model.specs.Legal.{happened}
 use Rattle.pipe_model.specs.Outside.{fed, source_end}
 use Rattle.pipe_edges.specs.declared.edges.EdgeKind.{EdgeKind}
 use Rattle.pipe_edges.specs.declared.edges.EdgeKind.TheVariants.{Source}
-use Rattle.config_flow.specs.Flow.{flow_topology_of}
+use Rattle.config_table.specs.Fault.{number_of}
+use Rattle.journal_texts.specs.Steps.{journal_text}
 use Rattle.journal_texts.specs.Report.{report_text, status_of}
-use Rattle.pipe_types.specs.declared.topology.Kind.TheVariants.{Steps}
-use Rattle.program_words.specs.Refusals.{usage_line, unbuilt_line, stock_line, edge_line, memory_line}
-use Rattle.program_words.specs.Words.{Command, Flow}
+use Rattle.journal_texts.specs.Acks.{ack_text}
+use Rattle.program_words.specs.Refusals.{usage_line, topology_line, unbuilt_line, stock_line, edge_line, memory_line, counts_line}
+use Rattle.topology_needs.specs.Needs.{subscriptions_of}
+use Rattle.topology_needs.specs.Unbuilt.{word_of}
 use Rattle.source_lines.specs.Cut.{AreFirstLines, HasShortLines}
 use Rattle.stage_workers.specs.Steps.{has_flow_steps}
 use Rattle.run_claims.specs.Kept.{KeepsClaims}
 use Rattle.run_claims.specs.Followed.{FollowsMoves}
 use Rattle.run_claims.specs.Read.{ReadsSource, HasNoControl, latest_tick}
+use Rattle.pipe_top.specs.Cases.{source_of, Case, NoCommand, NoTopology, TooFew, NotBuilt, Checks, Runs}
+use Rattle.pipe_top.specs.Verdicts.{Adds, AddsPrefix, path_of}
+use Rattle.pipe_top.specs.declared.verdict.Shows.{Shows}
 
 -- the journal is legal and keeps every claim, each step of the pipeline's own accord was the next move, none kills, restarts or waits, nothing comes from
 -- a control source, and no time has passed
@@ -44,18 +49,78 @@ pub record IsEnded (topology : Topology) (before : History) (status : ℕ) : Typ
   pub by_journal : status ≡ status_of topology before
   pub possible : (status ≡ 0) ⊎ ((status ≡ 1) ⊎ (status ≡ 4))
 
--- the topology is that of `flow` with the two words, and the run is ended
-pub record IsEndOf (command : Option Command) (topology : Option Topology) (before : History) (status : ℕ) : Type 0 where
-  pub source : List ℕ
-  pub prefix : List ℕ
-  pub is_flow : command ≡ Some (Flow source prefix)
-  pub own : topology ≡ Some (flow_topology_of source prefix)
-  pub ended : IsEnded (flow_topology_of source prefix) before status
+-- a run is ended on its topology, or a topology was checked
+abbrev pub IsEndOf : Option Topology → History → (status : ℕ) → Case → Type 0
+IsEndOf topology before status (Runs shows wanted) = (topology ≡ Some wanted) × IsEnded wanted before status
+IsEndOf topology before status (Checks wanted) = (status ≡ 0) × (topology ≡ None) × (before ≡ [])
+IsEndOf topology before status _ = ⊥
 
--- the report of the run, or nothing where there was none
-abbrev pub report_of : Option Topology → History → List ℕ
-report_of None before = []
-report_of (Some topology) before = report_text topology before
+-- a run that waits has its topology; what is not built has no run
+abbrev pub IsStopOf : Option Topology → History → Case → Type 0
+IsStopOf topology before (Runs shows wanted) = topology ≡ Some wanted
+IsStopOf topology before (NotBuilt missing) = (topology ≡ None) × (before ≡ [])
+IsStopOf topology before _ = ⊥
+
+-- a run has its topology; without a run, and in every other case, there is no step
+abbrev pub IsOwnTopology : Option Topology → History → Case → Type 0
+IsOwnTopology (Some topology) before (Runs shows wanted) = topology ≡ wanted
+IsOwnTopology None before (Runs shows wanted) = before ≡ []
+IsOwnTopology topology before _ = (topology ≡ None) × (before ≡ [])
+
+-- ---- texts
+
+abbrev pub shown : Bool → List ℕ → List ℕ
+shown wanted text = if wanted then text else []
+
+-- the journal and the acknowledgements, where they are shown, and then the report
+abbrev pub run_text : Shows → Topology → History → List ℕ
+run_text shows topology before = shown shows.steps (journal_text before) ++ (shown shows.acks (ack_text topology before) ++ report_text topology before)
+
+-- what is written to the output: the texts of a run, or the counts of a topology that is only checked
+abbrev pub out_text : History → Case → List ℕ
+out_text before (Checks topology) = counts_line (length topology.stages) (subscriptions_of topology)
+out_text before (Runs shows topology) = run_text shows topology before
+out_text before _ = []
+
+-- why there is no run, but for a call by name that failed and want of memory; a run that cannot wait has a text of its own
+abbrev pub case_line : Case → List ℕ
+case_line NoCommand = usage_line
+case_line (NoTopology fault) = topology_line (number_of fault) (path_of fault)
+case_line (TooFew shortage) = stock_line shortage.kind shortage.need shortage.have
+case_line (NotBuilt missing) = unbuilt_line (word_of missing)
+case_line (Checks topology) = []
+case_line (Runs shows topology) = unbuilt_line (codes "wait")
+
+-- what is written to the error output under a status that is none of 5, 8 and 9
+abbrev pub error_text : (status : ℕ) → Case → List ℕ
+error_text status case = if nat_le status 4 then [] else case_line case
+
+-- ---- statuses
+
+-- the statuses of a run that went to its end, or of a check; those of a refusal; and 5, 6 and 7
+abbrev pub IsEndStatus : ℕ → Type 0
+IsEndStatus status = status ≤ 4
+
+abbrev pub IsRefusalStatus : ℕ → Type 0
+IsRefusalStatus status = (status ≡ 5) ⊎ ((status ≡ 6) ⊎ ((status ≡ 7) ⊎ (status ≡ 10)))
+
+abbrev pub IsUnopenedStatus : ℕ → Type 0
+IsUnopenedStatus status = (status ≡ 5) ⊎ ((status ≡ 6) ⊎ (status ≡ 7))
+
+-- this status, unless a write failed or memory was wanting
+abbrev pub IsOr : (wanted status : ℕ) → Type 0
+IsOr wanted status = (status ≡ wanted) ⊎ ((status ≡ 8) ⊎ (status ≡ 9))
+
+-- the status of each case, but for 5, 8 and 9: a run ends or waits
+abbrev pub IsStatusOf : (status : ℕ) → Case → Type 0
+IsStatusOf status NoCommand = status ≡ 7
+IsStatusOf status (NoTopology fault) = status ≡ 6
+IsStatusOf status (TooFew shortage) = status ≡ 6
+IsStatusOf status (NotBuilt missing) = status ≡ 10
+IsStatusOf status (Checks topology) = status ≡ 0
+IsStatusOf status (Runs shows topology) = IsEndStatus status ⊎ (status ≡ 10)
+
+-- ---- the source
 
 -- the source that was opened was given back under its name; its bytes are those that stood there, and the journal's records
 -- are its lines. Where the run waited, its waits rose
@@ -71,15 +136,6 @@ pub record IsPartlyRead {E S : Type 0} (back : E → List (List ℕ × S)) (told
   pub source : S
   pub given : back new ≡ back old ++ (name, source) ∷ []
   pub reads : IsTrue (told source) → AreFirstLines (taken source ++ left source) (fed before (stage 1))
-
-abbrev pub source_name : Option Command → List ℕ
-source_name (Some (Flow source prefix)) = source
-source_name _ = []
-
--- the calls that the command makes by name: it opens its source
-abbrev pub calls_of : Option Command → List (EdgeKind × List ℕ)
-calls_of (Some (Flow source prefix)) = (Source, source) ∷ []
-calls_of _ = []
 
 -- the source had no fault and no wait, and it tells its bytes, of which no line is too long
 pub record IsFaultless {S : Type 0} (told : S → Bool) (taken left : S → List ℕ) (faults waits : S → ℕ) (source : S) : Type 0 where
@@ -98,56 +154,58 @@ pub record IsComplete (before : History) (status : ℕ) : Type 0 where
   pub status_is : (status ≡ 0) ⊎ ((status ≡ 1) ⊎ (status ≡ 9))
   pub whole : status ≢ 9 → IsTrue (happened is_limit_drain before) ⊎ (source_end before (stage 1) ≡ Some End)
 
+-- a run is complete
+abbrev pub IsCompleteIn : History → (status : ℕ) → Case → Type 0
+IsCompleteIn before status (Runs shows topology) = IsComplete before status
+IsCompleteIn before status _ = Unit {0}
+
+-- what holds of the source of a run, and what holds where none is opened
+abbrev pub ForSource : (of_source : List ℕ → Type 0) → (of_none : Type 0) → Case → Type 0
+ForSource of_source of_none (Runs shows topology) = of_source (source_of topology)
+ForSource of_source of_none _ = of_none
+
+-- the call came to a report, whatever its status
+pub record IsReportOf (topology : Option Topology) (before : History) (case : Case) : Type 0 where
+  pub status : ℕ
+  pub end_of : IsEndOf topology before status case
+
+-- a write failed: of the texts of a whole run, whose source was given back, or of a refusal
+abbrev pub Lost : (reported out_fault back err_fault : Type 0) → Type 0
+Lost reported out_fault back err_fault = (reported × out_fault × back) ⊎ err_fault
+
+-- ---- calls by name
+
 -- the first so many of these calls were made
 pub record Asks (calls asked asked' : List (EdgeKind × List ℕ)) : Type 0 where
   pub count : ℕ
   pub is : asked' ≡ asked ++ take count calls
 
--- the statuses of a run that went to its end, and those of a refusal
-abbrev pub IsEndStatus : ℕ → Type 0
-IsEndStatus status = status ≤ 4
+-- a call by this name failed, and it was the last
+pub record FailsAt (told : Bool) (calls asked asked' : List (EdgeKind × List ℕ)) (fault : Type 0) (name : List ℕ) : Type 0 where
+  pub kind : EdgeKind
+  pub front : List (EdgeKind × List ℕ)
+  pub rest : List (EdgeKind × List ℕ)
+  pub parts : calls ≡ front ++ (kind, name) ∷ rest
+  pub is_last : IsTrue told → asked' ≡ asked ++ (front ++ (kind, name) ∷ [])
+  pub rose : fault
 
-abbrev pub IsRefusalStatus : ℕ → Type 0
-IsRefusalStatus status = (status ≡ 5) ⊎ ((status ≡ 6) ⊎ ((status ≡ 7) ⊎ (status ≡ 10)))
+-- the call that failed is named on the error output
+pub record NamesFault (told : Bool) (calls asked asked' : List (EdgeKind × List ℕ)) (fault : Type 0) (err_told : Bool) (held held' : List ℕ) : Type 0 where
+  pub name : List ℕ
+  pub fails : FailsAt told calls asked asked' fault name
+  pub written : IsTrue err_told → Adds held held' (edge_line name)
 
--- 5, 6 and 7
-abbrev pub IsUnopenedStatus : ℕ → Type 0
-IsUnopenedStatus status = (status ≡ 5) ⊎ ((status ≡ 6) ⊎ (status ≡ 7))
+-- the line names a call that failed
+pub record IsEdgeLine (calls : List (EdgeKind × List ℕ)) (text : List ℕ) : Type 0 where
+  pub kind : EdgeKind
+  pub name : List ℕ
+  pub front : List (EdgeKind × List ℕ)
+  pub rest : List (EdgeKind × List ℕ)
+  pub parts : calls ≡ front ++ (kind, name) ∷ rest
+  pub is : text ≡ edge_line name
 
--- this status, unless a write failed or memory was wanting
-abbrev pub IsOr : (wanted status : ℕ) → Type 0
-IsOr wanted status = (status ≡ wanted) ⊎ ((status ≡ 8) ⊎ (status ≡ 9))
-
--- the command is `flow` with some two words
-pub record IsFlow (command : Option Command) : Type 0 where
-  pub source : List ℕ
-  pub prefix : List ℕ
-  pub is : command ≡ Some (Flow source prefix)
-
-abbrev pub unbuilt_word : Option Command → List ℕ
-unbuilt_word (Some (Flow source prefix)) = codes "wait"
-unbuilt_word _ = codes "command"
-
--- what is written to the error output with each status
-abbrev pub error_text : (status : ℕ) → Option Command → List ℕ
-error_text status command =
-    if status == 5 then edge_line (source_name command)
-    else (if status == 6 then stock_line Steps 1 0
-    else (if status == 7 then usage_line
-    else (if status == 9 then memory_line
-    else (if status == 10 then unbuilt_line (unbuilt_word command) else []))))
-
--- the topology is that of `flow` with its two words; without a run, and for another command, there is no step
-abbrev pub IsOwnTopology : Option Command → Option Topology → History → Type 0
-IsOwnTopology (Some (Flow source prefix)) (Some topology) before = topology ≡ flow_topology_of source prefix
-IsOwnTopology (Some (Flow source prefix)) None before = before ≡ []
-IsOwnTopology _ topology before = (topology ≡ None) × (before ≡ [])
-
--- the call came to a report, whatever its status
-pub record IsReportOf (command : Option Command) (topology : Option Topology) (before : History) : Type 0 where
-  pub status : ℕ
-  pub end_of : IsEndOf command topology before status
-
--- a write failed: of the report of a run whose source was given back, or of a refusal
-abbrev pub Lost : (reported out_fault back err_fault : Type 0) → Type 0
-Lost reported out_fault back err_fault = (reported × out_fault × back) ⊎ err_fault
+-- a front of one line was written: of the case, of want of memory, or of a call that failed
+pub record BeginsLine (calls : List (EdgeKind × List ℕ)) (held held' : List ℕ) (case : Case) : Type 0 where
+  pub text : List ℕ
+  pub is_one : (text ≡ []) ⊎ ((text ≡ case_line case) ⊎ ((text ≡ memory_line) ⊎ IsEdgeLine calls text))
+  pub begun : AddsPrefix held held' text

@@ -5,8 +5,9 @@
 //! claim, that the records are the source's lines and the output is the journal's report, and when each status comes.
 #![tactic(auto)]
 
-mod flow;
+mod file;
 mod program;
+mod run;
 mod verdict;
 
 pub use program::{RunEnd, run_program};

@@ -1,39 +1,62 @@
 //! What a call comes to, and how that is written.
 
-ghost use Rattle.std.specs.Prelude.{◌≡◌, ◌≢◌, ◌⊎◌, IsTrue, IfOk};
+ghost use Rattle.std.specs.Prelude.{◌≡◌, ◌≢◌, ◌⊎◌, ◌≤◌, ◌++◌, true, false, IsTrue, IfOk, option_map};
 ghost use Rattle.pipe_types.specs.Counts.{Rose};
-ghost use Rattle.pipe_top.specs.Verdicts.{refusal_text, refusal_status, out_text_of, err_text_of, status_in, Adds, AddsPrefix, FaultBy};
+ghost use Rattle.pipe_top.specs.Verdicts.{path_of, refusal_text, refusal_status, or_nothing, whole_text, out_text_of, err_text_of, status_in, Adds, AddsPrefix, FaultBy};
 
+use pipe_config::{ConfigFault, fault_number};
 use pipe_edges::{ByteSink, PutEnd, put_all};
 use pipe_types::bytes::{Bytes, Text};
-use pipe_types::topology::Kind;
-use program_words::{edge_line, memory_line, stock_line, unbuilt_line, usage_line};
+use program_words::{
+    edge_line, memory_line, stock_line, topology_line, unbuilt_line, usage_line,
+};
 use std::alloc::{AllocError, Global};
+use topology_needs::{Shortage, Unbuilt};
+
+/// Which texts stand before the report.
+#[derive(Clone, Copy, Drop, Debug)]
+pub(crate) struct Shows {
+    /// The journal.
+    pub(crate) steps: bool,
+    /// The acknowledgements.
+    pub(crate) acks: bool,
+}
 
 /// Why there is no report.
 #[derive(Drop)]
 pub(crate) enum Refusal {
     /// The words are no command.
     Usage,
-    /// The command is not built yet.
-    Unbuilt,
+    /// The file is no topology.
+    Topology(ConfigFault),
+    /// The stock has too few callbacks of a kind.
+    Stock(Shortage),
+    /// The topology has something that is not built yet.
+    Unbuilt(Unbuilt),
     /// The source had nothing ready, for which no run waits yet.
     Wait,
-    /// The stock has no callback of the kind that the processor wants.
-    Stock,
-    /// No source of this name was opened.
+    /// Nothing of this name was read or opened.
     Edge(Text),
     Memory,
 }
 
-/// What a call comes to: a refusal, or a report with its status.
+/// What is written to the output: the journal and the acknowledgements, where they are shown, and then the report. Of
+/// a topology that is only checked the last text has its counts.
+#[derive(Drop)]
+pub(crate) struct Texts {
+    pub(crate) steps: Option<Bytes>,
+    pub(crate) acks: Option<Bytes>,
+    pub(crate) last: Bytes,
+}
+
+/// What a call comes to: a refusal, or texts with a status.
 #[derive(Drop)]
 pub(crate) enum Verdict {
     Refused(Refusal),
-    Done { text: Bytes, status: u8 },
+    Done { texts: Texts, status: u8 },
 }
 
-/// Writes the report or the refusal, and answers the status: 8 where a write failed, 9 where memory was wanting.
+/// Writes the texts or the refusal, and answers the status: 8 where a write failed, 9 where memory was wanting.
 pub(crate) fn write_verdict<K: ByteSink>(
     alloc: Global,
     verdict: &Verdict,
@@ -48,11 +71,39 @@ pub(crate) fn write_verdict<K: ByteSink>(
     ensures err_begun { IsTrue (K.told err.old) → AddsPrefix (K.held err.old) (K.held err.new) (err_text_of verdict.now) }
 {
     match verdict {
-        Verdict::Done { text, status } => put_text(out, text, *status),
+        Verdict::Done { texts, status } => put_texts(out, texts, *status),
         Verdict::Refused(refusal) => match refusal_line(alloc, refusal) {
             Ok(line) => put_text(err, &line, status_of(refusal)),
             Err(_) => 9,
         },
+    }
+}
+
+/// Writes the texts in their order, each by itself, and answers the status, or 8 where the sink failed.
+fn put_texts<K: ByteSink>(sink: &mut K, texts: &Texts, status: u8) -> u8
+    ensures status { (result ≡ status) ⊎ (result ≡ 8) }
+    ensures fault { result ≡ 8 → (status ≡ 8) ⊎ Rose (K.faults sink.old) (K.faults sink.new) }
+    ensures whole { result ≢ 8 → IsTrue (K.told sink.old) → Adds (K.held sink.old) (K.held sink.new) (whole_text texts.now) }
+    ensures begun { IsTrue (K.told sink.old) → AddsPrefix (K.held sink.old) (K.held sink.new) (whole_text texts.now) }
+{
+    if put_optional(sink, &texts.steps) && put_optional(sink, &texts.acks) {
+        put_text(sink, &texts.last, status)
+    } else {
+        8
+    }
+}
+
+/// Writes the text, if there is one, and answers whether all of it was written.
+fn put_optional<K: ByteSink>(sink: &mut K, text: &Option<Bytes>) -> bool
+    ensures told { K.told sink.new ≡ K.told sink.old }
+    ensures stay { K.faults sink.old ≤ K.faults sink.new }
+    ensures fault { result ≡ false → Rose (K.faults sink.old) (K.faults sink.new) }
+    ensures whole { result ≡ true → IsTrue (K.told sink.old) → Adds (K.held sink.old) (K.held sink.new) (or_nothing text.now) }
+    ensures begun { IsTrue (K.told sink.old) → AddsPrefix (K.held sink.old) (K.held sink.new) (or_nothing text.now) }
+{
+    match text {
+        None => true,
+        Some(text) => matches!(put_all(sink, text), PutEnd::All),
     }
 }
 
@@ -74,8 +125,8 @@ fn status_of(refusal: &Refusal) -> u8
 {
     match refusal {
         Refusal::Usage => 7,
-        Refusal::Unbuilt | Refusal::Wait => 10,
-        Refusal::Stock => 6,
+        Refusal::Unbuilt(_) | Refusal::Wait => 10,
+        Refusal::Topology(_) | Refusal::Stock(_) => 6,
         Refusal::Edge(_) => 5,
         Refusal::Memory => 9,
     }
@@ -86,10 +137,34 @@ fn refusal_line(alloc: Global, refusal: &Refusal) -> Result<Bytes, AllocError>
 {
     match refusal {
         Refusal::Usage => usage_line(alloc),
-        Refusal::Unbuilt => unbuilt_line(alloc, "command"),
+        Refusal::Topology(fault) => topology_line(alloc, fault_number(fault), path_in(fault)),
+        Refusal::Stock(shortage) => {
+            stock_line(alloc, shortage.kind, shortage.need, shortage.have)
+        }
+        Refusal::Unbuilt(missing) => unbuilt_line(alloc, missing.word()),
         Refusal::Wait => unbuilt_line(alloc, "wait"),
-        Refusal::Stock => stock_line(alloc, Kind::Steps, 1, 0),
         Refusal::Edge(name) => edge_line(alloc, name.as_str()),
         Refusal::Memory => memory_line(alloc),
+    }
+}
+
+/// The place in the file that the fault names.
+fn path_in(fault: &ConfigFault) -> Option<&str>
+    ensures { option_map (λ path. path.now) result ≡ path_of fault.now }
+{
+    match fault {
+        ConfigFault::NotToml
+        | ConfigFault::NoStage
+        | ConfigFault::TooManyStages
+        | ConfigFault::OutOfMemory => None,
+        ConfigFault::Version(path)
+        | ConfigFault::UnknownKey(path)
+        | ConfigFault::Missing(path)
+        | ConfigFault::WrongType(path)
+        | ConfigFault::OutOfRange(path)
+        | ConfigFault::DuplicateName(path)
+        | ConfigFault::UnknownBatcher(path)
+        | ConfigFault::BadDispatch(path)
+        | ConfigFault::Unreachable(path) => Some(path.as_str()),
     }
 }

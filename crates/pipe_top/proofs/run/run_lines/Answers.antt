@@ -1,7 +1,7 @@
 use Rattle.std.proofs.Common.{inr}
 use Rattle.pipe_edges.specs.LineSource.{line_source}
 use Rattle.pipe_top.proofs.Sources.{read_none, run_of, gives_back, partly_back}
-use Rattle.pipe_top.proofs.flow.run_lines.Goals as goal
+use Rattle.pipe_top.proofs.run.run_lines.Goals as goal
 
 pub returns-in-Ok-clause-run : goal.returns-in-Ok-clause-run
 returns-in-Ok-clause-run g c =

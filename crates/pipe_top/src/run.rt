@@ -1,38 +1,40 @@
-//! The run of one pull producer and one processor.
+//! The run of a topology.
 
 ghost use Rattle.std.specs.Prelude.{◌≡◌, ◌≢◌, ◌⊎◌, ◌≤◌, ◌++◌, ◌∷◌, [], false, Some, None, Ok, IfOk, IsOk, OnOk, IsTrue, All, map};
 ghost use Rattle.pipe_types.specs.Counts.{Rose};
-ghost use Rattle.pipe_types.specs.Numbers.{stage as number};
+ghost use Rattle.pipe_types.specs.Sound.{IsSound};
 ghost use Rattle.pipe_model.specs.Moves.{is_drained};
+ghost use Rattle.pipe_model.specs.Places.{ArePlaces};
 ghost use Rattle.pipe_edges.specs.declared.edges.EdgeKind.{EdgeKind};
 ghost use Rattle.pipe_edges.specs.LineSource.{line_source, line_end_of, waiting};
 ghost use Rattle.pipe_edges.specs.Named.{IsFreshSource};
-ghost use Rattle.config_flow.specs.Flow.{flow_topology_of, require_stage};
+ghost use Rattle.core_flow.specs.Rows.{is_lost};
 ghost use Rattle.core_flow.specs.Stands.{Stands};
 ghost use Rattle.stage_workers.specs.Ready.{IsReady};
-ghost use Rattle.stage_workers.specs.Reads.{Reads, ReadsOn};
 ghost use Rattle.stage_job.specs.Boxes.{boxes_of_kind};
-ghost use Rattle.pipe_top.specs.Runs.{IsRunOrNone, IsReadBack, IsPartlyRead, Asks};
-ghost use Rattle.pipe_model.specs.Places.{ArePlaces};
-ghost use Rattle.core_flow.specs.Rows.{is_lost};
-ghost use Rattle.pipe_top.specs.Flows.{IsFlowTopology, IsJudgement, IsRunVerdict, GivesBack, KeepsEdges, RunsOrNot, FlowRuns, StockRuns, BackBy, AskedBy};
-ghost use Rattle.pipe_top.specs.Runs.{IsRun};
+ghost use Rattle.topology_needs.specs.Needs.{shortage_of};
+ghost use Rattle.topology_needs.specs.Unbuilt.{unbuilt_of};
+ghost use Rattle.pipe_top.specs.Cases.{Runs, run_case, boxes_in as boxes_of_kinds, source_of, source_calls};
+ghost use Rattle.pipe_top.specs.Verdicts.{whole_text};
+ghost use Rattle.pipe_top.specs.Runs.{IsRun, IsPartlyRead, run_text};
+ghost use Rattle.pipe_top.specs.Flows.{IsRunnable, IsProcessorOf, IsJudgement, IsRunVerdict, GivesBack, KeepsEdges, RunsOrNot, ComesBy, refusal_in};
 
-use crate::verdict::{Refusal, Verdict};
-use config_flow::flow_topology;
+use crate::verdict::{Refusal, Shows, Texts, Verdict};
+use ack_texts::ack_text;
 use core_flow::Core;
+use journal_texts::lines::journal_text;
 use journal_texts::report::report_text;
 use journal_texts::status::status;
 use pipe_edges::{EdgeEnd, Edges, LineSource};
 use pipe_journal::Journal;
 use pipe_types::bytes::Text;
 use pipe_types::state::PlaceList;
-use pipe_types::topology::{Kind, Topology};
-use program_words::FlowWords;
+use pipe_types::topology::{Kind, StageSpec, Topology};
 use stage_callback::Callback;
-use stage_job::first_of;
+use stage_job::{boxes_of, first_of};
 use stage_workers::{RunStop, run_here};
 use std::alloc::{AllocError, Global};
+use topology_needs::{Boxes, first_unbuilt, shortage};
 
 /// What a call came to, with the topology and the journal of its run, if there was one.
 #[derive(Drop)]
@@ -54,81 +56,132 @@ pub(crate) fn refused(alloc: Global, refusal: Refusal) -> Ran
     }
 }
 
-/// Runs `flow` with a callback of the stock.
-pub(crate) fn run_flow<E: Edges>(
+/// Runs the topology on so many workers with callbacks of the stock, if it can run.
+pub(crate) fn run_topology<E: Edges>(
     alloc: Global,
-    words: FlowWords<'_>,
+    topology: Topology,
+    workers: u16,
+    shows: Shows,
     stock: &mut Vec<Box<dyn Callback + Send>>,
     edges: &mut E,
 ) -> Ran
+    requires sound { IsSound topology }
     ensures same_kinds { map (λ b. kind b) stock.new.items ≡ map (λ b. kind b) stock.old.items }
-    ensures run { StockRuns (boxes_of_kind Kind.Steps (map (λ b. kind b) stock.old.items)) words.entry.source.now words.entry.prefix.now
-        (E.faults edges.old) (E.faults edges.new) result.topology result.journal.steps result.verdict }
-    ensures back { BackBy result.verdict (E.sources_back edges.new ≡ E.sources_back edges.old)
-        (IsReadBack E.told E.named E.sources_back E.Source.told E.Source.taken E.Source.left E.Source.faults E.Source.waits
-        edges.old edges.new words.entry.source.now result.journal.steps (result.verdict ≡ Verdict.Refused Refusal.Wait))
-        (IsPartlyRead E.sources_back E.Source.told E.Source.taken E.Source.left edges.old edges.new words.entry.source.now result.journal.steps) }
-    ensures asked { IsTrue (E.told edges.old) → AskedBy result.verdict ((EdgeKind.Source, words.entry.source.now) ∷ []) (E.asked edges.old) (E.asked edges.new) }
-    ensures sinks { E.sinks_back edges.new ≡ E.sinks_back edges.old }
+    ensures comes { ComesBy E.told E.named E.asked E.faults E.sources_back E.sinks_back E.Source.told E.Source.taken E.Source.left E.Source.faults E.Source.waits
+        edges.old edges.new (run_case (boxes_of_kinds (map (λ b. kind b) stock.old.items)) workers shows topology)
+        (source_calls (run_case (boxes_of_kinds (map (λ b. kind b) stock.old.items)) workers shows topology)) result.topology result.journal.steps result.verdict }
 {
-    match first_of(stock.as_slice(), Kind::Steps) {
-        Some(at) => run_with(alloc, words, &mut stock[at], edges),
-        None => refused(alloc, Refusal::Stock),
+    match refusal_of(&topology, workers, &boxes_in(stock)) {
+        Some(refusal) => refused(alloc, refusal),
+        None => run_runnable(alloc, topology, shows, stock, edges),
     }
 }
 
-/// Opens the source and runs `flow` on it with this callback.
+/// The boxes of the stock by kind.
+fn boxes_in(stock: &Vec<Box<dyn Callback + Send>>) -> Boxes
+    ensures { result ≡ boxes_of_kinds (map (λ b. kind b) stock.now.items) }
+{
+    let stock = stock.as_slice();
+    Boxes {
+        steps: boxes_of(stock, Kind::Steps),
+        lines: boxes_of(stock, Kind::Lines),
+        own: boxes_of(stock, Kind::Own),
+    }
+}
+
+/// Why the topology cannot run on so many workers with these boxes.
+fn refusal_of(topology: &Topology, workers: u16, boxes: &Boxes) -> Option<Refusal>
+    requires sound { IsSound topology.now }
+    ensures { result ≡ refusal_in (shortage_of topology.now boxes.now) (unbuilt_of workers topology.now) }
+{
+    match shortage(topology, boxes) {
+        Some(shortage) => Some(Refusal::Stock(shortage)),
+        None => first_unbuilt(topology, workers).map(Refusal::Unbuilt),
+    }
+}
+
+/// Runs the topology with a callback of the stock.
+fn run_runnable<E: Edges>(
+    alloc: Global,
+    topology: Topology,
+    shows: Shows,
+    stock: &mut Vec<Box<dyn Callback + Send>>,
+    edges: &mut E,
+) -> Ran
+    requires runnable { IsRunnable topology }
+    requires stocked { boxes_of_kind Kind.Steps (map (λ b. kind b) stock.old.items) ≢ 0 }
+    ensures same_kinds { map (λ b. kind b) stock.new.items ≡ map (λ b. kind b) stock.old.items }
+    ensures comes { ComesBy E.told E.named E.asked E.faults E.sources_back E.sinks_back E.Source.told E.Source.taken E.Source.left E.Source.faults E.Source.waits
+        edges.old edges.new (Runs shows topology) ((EdgeKind.Source, source_of topology) ∷ []) result.topology result.journal.steps result.verdict }
+{
+    match first_of(stock.as_slice(), Kind::Steps) {
+        Some(at) => run_with(alloc, topology, shows, &mut stock[at], edges),
+        None => unreachable!(),
+    }
+}
+
+/// Opens the source and runs the topology on it with this callback.
 fn run_with<E: Edges>(
     alloc: Global,
-    words: FlowWords<'_>,
+    topology: Topology,
+    shows: Shows,
     callback: &mut Box<dyn Callback + Send>,
     edges: &mut E,
 ) -> Ran
+    requires runnable { IsRunnable topology }
     requires steps { kind callback.old ≡ Kind.Steps }
     ensures same { kind callback.new ≡ kind callback.old }
-    ensures run { FlowRuns words.entry.source.now words.entry.prefix.now (E.faults edges.old) (E.faults edges.new)
-        result.topology result.journal.steps result.verdict }
-    ensures back { BackBy result.verdict (E.sources_back edges.new ≡ E.sources_back edges.old)
-        (IsReadBack E.told E.named E.sources_back E.Source.told E.Source.taken E.Source.left E.Source.faults E.Source.waits
-        edges.old edges.new words.entry.source.now result.journal.steps (result.verdict ≡ Verdict.Refused Refusal.Wait))
-        (IsPartlyRead E.sources_back E.Source.told E.Source.taken E.Source.left edges.old edges.new words.entry.source.now result.journal.steps) }
-    ensures asked { IsTrue (E.told edges.old) → AskedBy result.verdict ((EdgeKind.Source, words.entry.source.now) ∷ []) (E.asked edges.old) (E.asked edges.new) }
-    ensures sinks { E.sinks_back edges.new ≡ E.sinks_back edges.old }
+    ensures comes { ComesBy E.told E.named E.asked E.faults E.sources_back E.sinks_back E.Source.told E.Source.taken E.Source.left E.Source.faults E.Source.waits
+        edges.old edges.new (Runs shows topology) ((EdgeKind.Source, source_of topology) ∷ []) result.topology result.journal.steps result.verdict }
 {
-    let Ok(name) = text_of(alloc, words.source) else {
+    let Ok(name) = source_in(alloc, &topology) else {
         return refused(alloc, Refusal::Memory);
     };
-    let Ok(core) = armed_core(alloc, words, callback) else {
+    let Ok(core) = armed_core(alloc, topology, callback) else {
         return refused(alloc, Refusal::Memory);
     };
     match edges.open_source(&name) {
-        Ok(source) => run_opened(alloc, core, source, &name, callback, edges),
+        Ok(source) => run_opened(alloc, core, shows, source, &name, callback, edges),
         Err(EdgeEnd::Failed) => refused(alloc, Refusal::Edge(name)),
         Err(EdgeEnd::OutOfMemory) => refused(alloc, Refusal::Memory),
     }
 }
 
-fn text_of(alloc: Global, word: &str) -> Result<Text, AllocError>
+pub(crate) fn text_of(alloc: Global, word: &str) -> Result<Text, AllocError>
     ensures { IfOk result (λ text. text ≡ word.now) }
 {
     Ok(Text::from_string(String::from_str(alloc, word)?))
 }
 
-/// The core of `flow` before its first step, with the callback armed for its processor.
+/// The name of the producer's source.
+fn source_in(alloc: Global, topology: &Topology) -> Result<Text, AllocError>
+    requires runnable { IsRunnable topology.now }
+    ensures { IfOk result (λ name. name ≡ source_of topology.now) }
+{
+    match topology.stages.as_slice() {
+        [producer, ..] => match &producer.edge {
+            Some(name) => text_of(alloc, name.as_str()),
+            None => unreachable!(),
+        },
+        _ => unreachable!(),
+    }
+}
+
+/// The core before its first step, with the callback armed for the processor.
 fn armed_core(
     alloc: Global,
-    words: FlowWords<'_>,
+    topology: Topology,
     callback: &mut Box<dyn Callback + Send>,
 ) -> Result<Core, AllocError>
+    requires runnable { IsRunnable topology }
     requires steps { kind callback.old ≡ Kind.Steps }
     ensures same { kind callback.new ≡ kind callback.old }
-    ensures topology { IfOk result (λ core. core.topology ≡ flow_topology_of words.entry.source.now words.entry.prefix.now) }
+    ensures topology { IfOk result (λ core. core.topology ≡ topology) }
     ensures empty { IfOk result (λ core. core.journal.steps ≡ []) }
     ensures stands { IfOk result (λ core. Stands core) }
     ensures ready { IfOk result (λ core.
         IsReady (kind callback.new) (spec callback.new) (count callback.new) core.topology core.journal.steps) }
 {
-    let topology = flow_topology(alloc, words.source, words.prefix)?;
     arm_processor(callback, &topology)?;
     match Core::new(alloc, topology) {
         Ok(core) => Ok(core),
@@ -142,12 +195,20 @@ fn arm_processor(
     topology: &Topology,
 ) -> Result<(), AllocError>
     requires steps { kind callback.old ≡ Kind.Steps }
-    requires flow { IsFlowTopology topology.now }
+    requires runnable { IsRunnable topology.now }
     ensures same { kind callback.new ≡ kind callback.old }
     ensures ready { OnOk result (IsReady (kind callback.new) (spec callback.new) (count callback.new) topology.now []) }
 {
+    callback.arm(processor_of(topology))
+}
+
+/// The processor.
+fn processor_of(topology: &Topology) -> &StageSpec
+    requires runnable { IsRunnable topology.now }
+    ensures { IsProcessorOf topology.now result.now }
+{
     match topology.stages.as_slice() {
-        [_, processor] => callback.arm(processor),
+        [_, processor] => processor,
         _ => unreachable!(),
     }
 }
@@ -156,6 +217,7 @@ fn arm_processor(
 fn run_opened<E: Edges>(
     alloc: Global,
     core: Core,
+    shows: Shows,
     source: E::Source,
     name: &Text,
     callback: &mut Box<dyn Callback + Send>,
@@ -166,7 +228,7 @@ fn run_opened<E: Edges>(
     requires ready { IsReady (kind callback.old) (spec callback.old) (count callback.old) core.topology core.journal.steps }
     requires fresh { IsFreshSource E.Source.taken E.Source.faults E.Source.waits source }
     ensures same { kind callback.new ≡ kind callback.old }
-    ensures run { RunsOrNot core.topology result.topology result.journal.steps result.verdict }
+    ensures run { RunsOrNot shows core.topology result.topology result.journal.steps result.verdict }
     ensures back { result.verdict ≢ Verdict.Refused Refusal.Memory
         → GivesBack E.sources_back E.Source.told E.Source.taken E.Source.left E.Source.faults E.Source.waits source
         edges.old edges.new name.now result.journal.steps (result.verdict ≡ Verdict.Refused Refusal.Wait) }
@@ -175,7 +237,7 @@ fn run_opened<E: Edges>(
     ensures edges { KeepsEdges E.told E.asked E.faults E.sinks_back edges.old edges.new }
 {
     match LineSource::new(alloc, source) {
-        Ok(lines) => run_lines(alloc, core, lines, name, callback, edges),
+        Ok(lines) => run_lines(alloc, core, shows, lines, name, callback, edges),
         Err((source, _)) => {
             let _ = edges.back_source(name, source);
             refused(alloc, Refusal::Memory)
@@ -187,6 +249,7 @@ fn run_opened<E: Edges>(
 fn run_lines<E: Edges>(
     alloc: Global,
     core: Core,
+    shows: Shows,
     lines: LineSource<E::Source>,
     name: &Text,
     callback: &mut Box<dyn Callback + Send>,
@@ -200,7 +263,7 @@ fn run_lines<E: Edges>(
     ensures same { kind callback.new ≡ kind callback.old }
     ensures topology { result.topology ≡ Some core.topology }
     ensures run { IsRun core.topology result.journal.steps }
-    ensures verdict { IsRunVerdict result.verdict core.topology result.journal.steps }
+    ensures verdict { IsRunVerdict result.verdict shows core.topology result.journal.steps }
     ensures back { result.verdict ≢ Verdict.Refused Refusal.Memory
         → GivesBack E.sources_back E.Source.told E.Source.taken E.Source.left E.Source.faults E.Source.waits (line_source lines)
         edges.old edges.new name.now result.journal.steps (result.verdict ≡ Verdict.Refused Refusal.Wait) }
@@ -212,23 +275,23 @@ fn run_lines<E: Edges>(
     let mut lines = lines;
     let stop = run_here(alloc, &mut core, &mut lines, callback);
     match edges.back_source(name, lines.into_inner()) {
-        Ok(()) => conclude(alloc, core, stop),
-        Err(error) => conclude(alloc, core, Err(error)),
+        Ok(()) => conclude(alloc, core, shows, stop),
+        Err(error) => conclude(alloc, core, shows, Err(error)),
     }
 }
 
 /// What the run comes to.
-fn conclude(alloc: Global, core: Core, stop: Result<RunStop, AllocError>) -> Ran
+fn conclude(alloc: Global, core: Core, shows: Shows, stop: Result<RunStop, AllocError>) -> Ran
     requires stands { Stands core }
     requires drained { stop ≡ Ok RunStop.Drained → IsTrue (is_drained core.topology core.journal.steps) }
     ensures topology { result.topology ≡ Some core.topology }
     ensures journal { result.journal.steps ≡ core.journal.steps }
-    ensures verdict { IsRunVerdict result.verdict core.topology core.journal.steps }
+    ensures verdict { IsRunVerdict result.verdict shows core.topology core.journal.steps }
     ensures waits { result.verdict ≡ Verdict.Refused Refusal.Wait → stop ≡ Ok RunStop.Waits }
     ensures memory { result.verdict ≢ Verdict.Refused Refusal.Memory → IsOk stop }
 {
     let verdict = match stop {
-        Ok(RunStop::Drained) => judge(alloc, &core),
+        Ok(RunStop::Drained) => judge(alloc, &core, shows),
         Ok(RunStop::Waits) => Verdict::Refused(Refusal::Wait),
         Err(_) => Verdict::Refused(Refusal::Memory),
     };
@@ -240,32 +303,56 @@ fn conclude(alloc: Global, core: Core, stop: Result<RunStop, AllocError>) -> Ran
     }
 }
 
-/// The report and the status of a drained run.
-fn judge(alloc: Global, core: &Core) -> Verdict
+/// The texts and the status of a drained run.
+fn judge(alloc: Global, core: &Core, shows: Shows) -> Verdict
     requires stands { Stands core.now }
     requires drained { IsTrue (is_drained core.now.topology core.now.journal.steps) }
-    ensures { IsJudgement result core.now.topology core.now.journal.steps }
+    ensures { IsJudgement result shows core.now.topology core.now.journal.steps }
 {
     match core.places() {
-        Ok(places) => report(alloc, core, &places),
+        Ok(places) => report(alloc, core, shows, &places),
         Err(_) => Verdict::Refused(Refusal::Memory),
     }
 }
 
-fn report(alloc: Global, core: &Core, places: &PlaceList) -> Verdict
+fn report(alloc: Global, core: &Core, shows: Shows, places: &PlaceList) -> Verdict
     requires stands { Stands core.now }
     requires drained { IsTrue (is_drained core.now.topology core.now.journal.steps) }
     requires places { ArePlaces core.now.topology core.now.journal.steps places.now }
     requires none_lost { All (λ row. is_lost row.place ≡ false) places.now }
-    ensures { IsJudgement result core.now.topology core.now.journal.steps }
+    ensures { IsJudgement result shows core.now.topology core.now.journal.steps }
 {
-    let topology = core.topology();
-    let journal = core.journal();
-    match report_text(alloc, topology, journal, places) {
-        Ok(text) => {
-            let status = status(topology, journal, places);
-            Verdict::Done { text, status }
+    match texts_of(alloc, core.topology(), core.journal(), shows, places) {
+        Ok(texts) => {
+            let status = status(core.topology(), core.journal(), places);
+            Verdict::Done { texts, status }
         }
         Err(_) => Verdict::Refused(Refusal::Memory),
     }
+}
+
+/// The texts of a run: those that are shown, and the report.
+fn texts_of(
+    alloc: Global,
+    topology: &Topology,
+    journal: &Journal,
+    shows: Shows,
+    places: &PlaceList,
+) -> Result<Texts, AllocError>
+    requires sound { IsSound topology.now }
+    requires places { ArePlaces topology.now journal.now.steps places.now }
+    ensures { IfOk result (λ texts. whole_text texts ≡ run_text shows topology.now journal.now.steps) }
+{
+    let steps = if shows.steps {
+        Some(journal_text(alloc, journal)?)
+    } else {
+        None
+    };
+    let acks = if shows.acks {
+        Some(ack_text(alloc, topology, journal, places)?)
+    } else {
+        None
+    };
+    let last = report_text(alloc, topology, journal, places)?;
+    Ok(Texts { steps, acks, last })
 }

@@ -1,5 +1,5 @@
 use Rattle.pipe_top.proofs.Sources.{unread_back}
-use Rattle.pipe_top.proofs.flow.run_opened.Goals as goal
+use Rattle.pipe_top.proofs.run.run_opened.Goals as goal
 
 pub returns-in-Ok-clause-back : goal.returns-in-Ok-clause-back
 returns-in-Ok-clause-back g c not_memory =

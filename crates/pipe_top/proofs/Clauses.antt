@@ -1,0 +1,583 @@
+-- From what a call came to, to the clauses of the top call.
+use Rattle.std.proofs.Common.{◌≡◌, ◌≢◌, ℕ, ◌≤◌, ◌<◌, List, [], ◌∷◌, ◌++◌, length, take, Bool, true, false, Option, Some, None, Result, Ok, Err, refl, sym, ◌∙◌, ap, inl, inr, arith}
+use Rattle.std.specs.Prelude.{◌⊎◌, nat_le, if◌then◌else◌, IsTrue}
+use Rattle.std.proofs.lemmas.List.{append-nil, append_assoc, take_all, take_at}
+use Rattle.std.proofs.Math.Seq.{take-nil}
+use Rattle.pipe_types.specs.declared.topology.Topology.{Topology}
+use Rattle.pipe_model.specs.History.{History}
+use Rattle.pipe_edges.specs.declared.edges.EdgeKind.{EdgeKind}
+use Rattle.program_words.specs.Refusals.{memory_line, edge_line}
+use Rattle.program_words.specs.Words.{Command, Flow, Check, Run}
+use Rattle.topology_needs.specs.declared.stock.Boxes.{Boxes}
+use Rattle.topology_needs.specs.declared.stock.Shortage.{Shortage}
+use Rattle.topology_needs.specs.declared.unbuilt.Unbuilt.{Unbuilt as Missing}
+use Rattle.topology_needs.specs.Needs.{shortage_of}
+use Rattle.topology_needs.specs.Unbuilt.{unbuilt_of}
+use Rattle.config_table.specs.declared.fault.ConfigFault.{ConfigFault}
+use Rattle.config_flow.specs.Flow.{flow_topology_of}
+use Rattle.pipe_config.specs.File.{topology_of_file}
+use Rattle.pipe_top.specs.Cases.{Case, NoCommand, NoTopology as BadTopology, TooFew, NotBuilt, Checks, Runs, case_of, run_case, unless_short, unless_unbuilt, for_topology, report_alone, source_of}
+use Rattle.pipe_top.specs.Verdicts.{Adds, AddsPrefix, out_text_of, err_text_of, status_in, FaultBy}
+use Rattle.pipe_top.specs.Runs.{IsRunOrNone, IsEndOf, IsStopOf, IsOwnTopology, IsStatusOf, IsReportOf, Lost, IsReadBack, IsPartlyRead, ForSource, IsRefusalStatus, IsUnopenedStatus, IsOr, Asks, FailsAt, NamesFault, IsEdgeLine, BeginsLine, out_text, case_line, error_text}
+use Rattle.pipe_top.specs.Flows.{IsRunVerdict, IsEarly, Outcome, RunBack, BackBy, AskedBy}
+use Rattle.pipe_top.specs.declared.verdict.Refusal.{Refusal}
+use Rattle.pipe_top.specs.declared.verdict.Refusal.TheVariants.{Usage, Topology as NoTopology, Stock, Unbuilt, Wait, Edge, Memory}
+use Rattle.pipe_top.specs.declared.verdict.Shows.{Shows}
+use Rattle.pipe_top.specs.declared.verdict.Verdict.{Verdict}
+use Rattle.pipe_top.specs.declared.verdict.Verdict.TheVariants.{Refused, Done}
+use Rattle.pipe_top.proofs.Outcomes.{Fails, Early, early, Reported, ran, settled, is_status, is_small, not_small, not_both, small_of}
+
+-- ---- the statuses of verdicts
+
+early_status : {fails : List ℕ → Type 0} (verdict : Verdict) → (verdict ≡ Refused Memory) ⊎ Fails fails verdict → (status_in verdict ≡ 9) ⊎ (status_in verdict ≡ 5)
+early_status verdict (inl is) = inl (ap status_in is)
+early_status verdict (inr f) = inr (ap status_in f.is)
+
+early_at : (fails : List ℕ → Type 0) (topology : Option Topology) (before : History) (verdict : Verdict) → IsEarly fails topology before verdict → (status_in verdict ≡ 9) ⊎ (status_in verdict ≡ 5)
+early_at fails topology before verdict e = early_status verdict (early fails topology before verdict e).why
+
+nine_or_five : (s n : ℕ) → (s ≡ 9) ⊎ (s ≡ 5) → s ≡ n → n ≢ 9 → n ≢ 5 → ⊥
+nine_or_five s n (inl is) at a b = a (omega (arith, is, at))
+nine_or_five s n (inr is) at a b = b (omega (arith, is, at))
+
+early_big : (s : ℕ) → (s ≡ 9) ⊎ (s ≡ 5) → s ≤ 4 → ⊥
+early_big s (inl is) few = omega (arith, is, few)
+early_big s (inr is) few = omega (arith, is, few)
+
+pub known : (case : Case) (fails : List ℕ → Type 0) (topology : Option Topology) (before : History) (verdict : Verdict) → Outcome case fails topology before verdict → status_in verdict ≤ 10
+known case fails topology before verdict (inl e) = by_early (status_in verdict) (early_at fails topology before verdict e)
+  where
+    by_early : (s : ℕ) → (s ≡ 9) ⊎ (s ≡ 5) → s ≤ 10
+    by_early s (inl is) = omega (arith, is)
+    by_early s (inr is) = omega (arith, is)
+known NoCommand fails topology before verdict (inr r) = rw r.refused (omega arith)
+known (BadTopology fault) fails topology before verdict (inr r) = rw r.refused (omega arith)
+known (TooFew shortage) fails topology before verdict (inr r) = rw r.refused (omega arith)
+known (NotBuilt missing) fails topology before verdict (inr r) = rw r.refused (omega arith)
+known (Checks wanted) fails topology before verdict (inr r) = rw r.counted (omega arith)
+known (Runs shows wanted) fails topology before verdict (inr r) = by_run (ran verdict shows wanted before r.comes_to)
+  where
+    by_run : Reported shows wanted before verdict ⊎ ((verdict ≡ Refused Wait) ⊎ (verdict ≡ Refused Memory)) → status_in verdict ≤ 10
+    by_run (inl v) = rw v.is (omega (arith, small_of v.status v.report.ended.possible))
+    by_run (inr (inl is)) = rw is (omega arith)
+    by_run (inr (inr is)) = rw is (omega arith)
+
+-- 8 is no status of a verdict
+pub never_eight : (case : Case) (fails : List ℕ → Type 0) (topology : Option Topology) (before : History) (verdict : Verdict) → Outcome case fails topology before verdict → status_in verdict ≢ 8
+never_eight case fails topology before verdict (inl e) = λ at. nine_or_five (status_in verdict) 8 (early_at fails topology before verdict e) at (λ x. cc) (λ x. cc)
+never_eight NoCommand fails topology before verdict (inr r) = rw r.refused (λ x. cc)
+never_eight (BadTopology fault) fails topology before verdict (inr r) = rw r.refused (λ x. cc)
+never_eight (TooFew shortage) fails topology before verdict (inr r) = rw r.refused (λ x. cc)
+never_eight (NotBuilt missing) fails topology before verdict (inr r) = rw r.refused (λ x. cc)
+never_eight (Checks wanted) fails topology before verdict (inr r) = rw r.counted (λ x. cc)
+never_eight (Runs shows wanted) fails topology before verdict (inr r) = by_run (ran verdict shows wanted before r.comes_to)
+  where
+    by_run : Reported shows wanted before verdict ⊎ ((verdict ≡ Refused Wait) ⊎ (verdict ≡ Refused Memory)) → status_in verdict ≢ 8
+    by_run (inl v) = rw v.is (λ at. omega (arith, at, small_of v.status v.report.ended.possible))
+    by_run (inr (inl is)) = rw is (λ x. cc)
+    by_run (inr (inr is)) = rw is (λ x. cc)
+
+-- ---- the topology and the end
+
+pub own : (case : Case) (fails : List ℕ → Type 0) (topology : Option Topology) (before : History) (verdict : Verdict) → Outcome case fails topology before verdict → IsOwnTopology topology before case
+own case fails topology before verdict (inl e) = by_case case (early fails topology before verdict e).no_topology (early fails topology before verdict e).no_step
+  where
+    by_case : (case : Case) → topology ≡ None → before ≡ [] → IsOwnTopology topology before case
+    by_case NoCommand none empty = rw none (refl, empty)
+    by_case (BadTopology fault) none empty = rw none (refl, empty)
+    by_case (TooFew shortage) none empty = rw none (refl, empty)
+    by_case (NotBuilt missing) none empty = rw none (refl, empty)
+    by_case (Checks wanted) none empty = rw none (refl, empty)
+    by_case (Runs shows wanted) none empty = rw none empty
+own NoCommand fails topology before verdict (inr r) = rw r.no_topology (refl, r.no_step)
+own (BadTopology fault) fails topology before verdict (inr r) = rw r.no_topology (refl, r.no_step)
+own (TooFew shortage) fails topology before verdict (inr r) = rw r.no_topology (refl, r.no_step)
+own (NotBuilt missing) fails topology before verdict (inr r) = rw r.no_topology (refl, r.no_step)
+own (Checks wanted) fails topology before verdict (inr r) = rw r.no_topology (refl, r.no_step)
+own (Runs shows wanted) fails topology before verdict (inr r) = rw r.own refl
+
+pub run : (case : Case) (fails : List ℕ → Type 0) (topology : Option Topology) (before : History) (verdict : Verdict) → Outcome case fails topology before verdict → IsRunOrNone topology before
+run case fails topology before verdict (inl e) = rw (early fails topology before verdict e).no_topology (early fails topology before verdict e).no_step
+run NoCommand fails topology before verdict (inr r) = rw r.no_topology r.no_step
+run (BadTopology fault) fails topology before verdict (inr r) = rw r.no_topology r.no_step
+run (TooFew shortage) fails topology before verdict (inr r) = rw r.no_topology r.no_step
+run (NotBuilt missing) fails topology before verdict (inr r) = rw r.no_topology r.no_step
+run (Checks wanted) fails topology before verdict (inr r) = rw r.no_topology r.no_step
+run (Runs shows wanted) fails topology before verdict (inr r) = rw r.own r.run
+
+ended_in : (case : Case) (fails : List ℕ → Type 0) (topology : Option Topology) (before : History) (verdict : Verdict) → Outcome case fails topology before verdict → status_in verdict ≤ 4
+    → IsEndOf topology before (status_in verdict) case
+ended_in case fails topology before verdict (inl e) few = absurd (early_big (status_in verdict) (early_at fails topology before verdict e) few)
+ended_in NoCommand fails topology before verdict (inr r) few = absurd (not_small 7 (status_in verdict) (ap status_in r.refused) (omega arith) few)
+ended_in (BadTopology fault) fails topology before verdict (inr r) few = absurd (not_small 6 (status_in verdict) (ap status_in r.refused) (omega arith) few)
+ended_in (TooFew shortage) fails topology before verdict (inr r) few = absurd (not_small 6 (status_in verdict) (ap status_in r.refused) (omega arith) few)
+ended_in (NotBuilt missing) fails topology before verdict (inr r) few = absurd (not_small 10 (status_in verdict) (ap status_in r.refused) (omega arith) few)
+ended_in (Checks wanted) fails topology before verdict (inr r) few = (ap status_in r.counted, r.no_topology, r.no_step)
+ended_in (Runs shows wanted) fails topology before verdict (inr r) few = by_run (ran verdict shows wanted before r.comes_to)
+  where
+    by_run : Reported shows wanted before verdict ⊎ ((verdict ≡ Refused Wait) ⊎ (verdict ≡ Refused Memory)) → IsEndOf topology before (status_in verdict) (Runs shows wanted)
+    by_run (inl v) = (r.own, rw v.is v.report.ended)
+    by_run (inr (inl is)) = absurd (not_small 10 (status_in verdict) (ap status_in is) (omega arith) few)
+    by_run (inr (inr is)) = absurd (not_small 9 (status_in verdict) (ap status_in is) (omega arith) few)
+
+pub ended : (case : Case) (fails : List ℕ → Type 0) (topology : Option Topology) (before : History) (verdict : Verdict) (status : ℕ) → Outcome case fails topology before verdict
+    → (status ≡ status_in verdict) ⊎ ((status ≡ 8) ⊎ (status ≡ 9)) → status ≤ 4 → IsEndOf topology before status case
+ended case fails topology before verdict status o is few =
+    let e = is_small status (status_in verdict) is few in
+    rw e (ended_in case fails topology before verdict o (rw e at few))
+
+pub stopped : (case : Case) (fails : List ℕ → Type 0) (topology : Option Topology) (before : History) (verdict : Verdict) → Outcome case fails topology before verdict → status_in verdict ≡ 10
+    → IsStopOf topology before case
+stopped case fails topology before verdict (inl e) ten = absurd (nine_or_five (status_in verdict) 10 (early_at fails topology before verdict e) ten (λ x. cc) (λ x. cc))
+stopped NoCommand fails topology before verdict (inr r) ten = absurd (not_both 7 10 (status_in verdict) (ap status_in r.refused) ten (λ x. cc))
+stopped (BadTopology fault) fails topology before verdict (inr r) ten = absurd (not_both 6 10 (status_in verdict) (ap status_in r.refused) ten (λ x. cc))
+stopped (TooFew shortage) fails topology before verdict (inr r) ten = absurd (not_both 6 10 (status_in verdict) (ap status_in r.refused) ten (λ x. cc))
+stopped (NotBuilt missing) fails topology before verdict (inr r) ten = (r.no_topology, r.no_step)
+stopped (Checks wanted) fails topology before verdict (inr r) ten = absurd (not_both 0 10 (status_in verdict) (ap status_in r.counted) ten (λ x. cc))
+stopped (Runs shows wanted) fails topology before verdict (inr r) ten = r.own
+
+-- ---- the output
+
+small_text : (before : History) (case : Case) (fails : List ℕ → Type 0) (topology : Option Topology) (verdict : Verdict) → Outcome case fails topology before verdict → status_in verdict ≤ 4
+    → out_text_of verdict ≡ out_text before case
+small_text before case fails topology verdict (inl e) few = absurd (early_big (status_in verdict) (early_at fails topology before verdict e) few)
+small_text before NoCommand fails topology verdict (inr r) few = absurd (not_small 7 (status_in verdict) (ap status_in r.refused) (omega arith) few)
+small_text before (BadTopology fault) fails topology verdict (inr r) few = absurd (not_small 6 (status_in verdict) (ap status_in r.refused) (omega arith) few)
+small_text before (TooFew shortage) fails topology verdict (inr r) few = absurd (not_small 6 (status_in verdict) (ap status_in r.refused) (omega arith) few)
+small_text before (NotBuilt missing) fails topology verdict (inr r) few = absurd (not_small 10 (status_in verdict) (ap status_in r.refused) (omega arith) few)
+small_text before (Checks wanted) fails topology verdict (inr r) few = rw r.counted r.counts
+small_text before (Runs shows wanted) fails topology verdict (inr r) few = by_run (ran verdict shows wanted before r.comes_to)
+  where
+    by_run : Reported shows wanted before verdict ⊎ ((verdict ≡ Refused Wait) ⊎ (verdict ≡ Refused Memory)) → out_text_of verdict ≡ out_text before (Runs shows wanted)
+    by_run (inl v) = rw v.is v.report.by_journal
+    by_run (inr (inl is)) = absurd (not_small 10 (status_in verdict) (ap status_in is) (omega arith) few)
+    by_run (inr (inr is)) = absurd (not_small 9 (status_in verdict) (ap status_in is) (omega arith) few)
+
+pub reported : (case : Case) (fails : List ℕ → Type 0) (topology : Option Topology) (before : History) (verdict : Verdict) (status : ℕ) (held held' : List ℕ) → Outcome case fails topology before verdict
+    → (status ≡ status_in verdict) ⊎ ((status ≡ 8) ⊎ (status ≡ 9)) → status ≤ 4 → Adds held held' (out_text_of verdict) → Adds held held' (out_text before case)
+reported case fails topology before verdict status held held' o is few adds =
+    adds ∙ ap (λ text. held ++ text) (small_text before case fails topology verdict o (rw (is_small status (status_in verdict) is few) at few))
+
+begun_nothing : (held held' text : List ℕ) → AddsPrefix held held' [] → AddsPrefix held held' text
+begun_nothing held held' text begun = record {
+  count = 0;
+  is = begun.is ∙ ap (λ x. held ++ x) (take-nil begun.count);
+}
+
+begun_refusal : (held held' text : List ℕ) (verdict : Verdict) (refusal : Refusal) → verdict ≡ Refused refusal → AddsPrefix held held' (out_text_of verdict) → AddsPrefix held held' text
+begun_refusal held held' text verdict refusal is begun = begun_nothing held held' text (rw is at begun)
+
+begun_early : (fails : List ℕ → Type 0) (held held' text : List ℕ) (verdict : Verdict) → (verdict ≡ Refused Memory) ⊎ Fails fails verdict → AddsPrefix held held' (out_text_of verdict) → AddsPrefix held held' text
+begun_early fails held held' text verdict (inl is) begun = begun_refusal held held' text verdict Memory is begun
+begun_early fails held held' text verdict (inr f) begun = begun_refusal held held' text verdict (Edge f.name) f.is begun
+
+pub begun : (case : Case) (fails : List ℕ → Type 0) (topology : Option Topology) (before : History) (verdict : Verdict) (held held' : List ℕ) → Outcome case fails topology before verdict
+    → AddsPrefix held held' (out_text_of verdict) → AddsPrefix held held' (out_text before case)
+begun case fails topology before verdict held held' (inl e) b = begun_early fails held held' (out_text before case) verdict (early fails topology before verdict e).why b
+begun NoCommand fails topology before verdict held held' (inr r) b = begun_refusal held held' [] verdict Usage r.refused b
+begun (BadTopology fault) fails topology before verdict held held' (inr r) b = begun_refusal held held' [] verdict (NoTopology fault) r.refused b
+begun (TooFew shortage) fails topology before verdict held held' (inr r) b = begun_refusal held held' [] verdict (Stock shortage) r.refused b
+begun (NotBuilt missing) fails topology before verdict held held' (inr r) b = begun_refusal held held' [] verdict (Unbuilt missing) r.refused b
+begun (Checks wanted) fails topology before verdict held held' (inr r) b =
+    let counted : AddsPrefix held held' (out_text_of (Done r.texts 0)) = rw r.counted at b in
+    rw r.counts at counted
+begun (Runs shows wanted) fails topology before verdict held held' (inr r) b = by_run (ran verdict shows wanted before r.comes_to)
+  where
+    by_run : Reported shows wanted before verdict ⊎ ((verdict ≡ Refused Wait) ⊎ (verdict ≡ Refused Memory)) → AddsPrefix held held' (out_text before (Runs shows wanted))
+    by_run (inl v) =
+        let written : AddsPrefix held held' (out_text_of (Done v.texts v.status)) = rw v.is at b in
+        rw v.report.by_journal at written
+    by_run (inr (inl is)) = begun_refusal held held' (out_text before (Runs shows wanted)) verdict Wait is b
+    by_run (inr (inr is)) = begun_refusal held held' (out_text before (Runs shows wanted)) verdict Memory is b
+
+-- texts are written with 0 to 4 alone
+texts_small : (case : Case) (fails : List ℕ → Type 0) (topology : Option Topology) (before : History) (verdict : Verdict) → Outcome case fails topology before verdict
+    → (status_in verdict ≤ 4) ⊎ (out_text_of verdict ≡ [])
+texts_small case fails topology before verdict (inl e) = by_early (early fails topology before verdict e).why
+  where
+    by_early : (verdict ≡ Refused Memory) ⊎ Fails fails verdict → (status_in verdict ≤ 4) ⊎ (out_text_of verdict ≡ [])
+    by_early (inl is) = inr (ap out_text_of is)
+    by_early (inr f) = inr (ap out_text_of f.is)
+texts_small NoCommand fails topology before verdict (inr r) = inr (ap out_text_of r.refused)
+texts_small (BadTopology fault) fails topology before verdict (inr r) = inr (ap out_text_of r.refused)
+texts_small (TooFew shortage) fails topology before verdict (inr r) = inr (ap out_text_of r.refused)
+texts_small (NotBuilt missing) fails topology before verdict (inr r) = inr (ap out_text_of r.refused)
+texts_small (Checks wanted) fails topology before verdict (inr r) = inl (rw r.counted (omega arith))
+texts_small (Runs shows wanted) fails topology before verdict (inr r) = by_run (ran verdict shows wanted before r.comes_to)
+  where
+    by_run : Reported shows wanted before verdict ⊎ ((verdict ≡ Refused Wait) ⊎ (verdict ≡ Refused Memory)) → (status_in verdict ≤ 4) ⊎ (out_text_of verdict ≡ [])
+    by_run (inl v) = inl (rw v.is (small_of v.status v.report.ended.possible))
+    by_run (inr (inl is)) = inr (ap out_text_of is)
+    by_run (inr (inr is)) = inr (ap out_text_of is)
+
+-- the numbers of a refusal
+refusal_is : (s : ℕ) → IsRefusalStatus s → (4 < s) × (s ≢ 8) × (s ≢ 9)
+refusal_is s (inl a) = (omega (arith, a), (λ at. omega (arith, a, at)), (λ at. omega (arith, a, at)))
+refusal_is s (inr (inl a)) = (omega (arith, a), (λ at. omega (arith, a, at)), (λ at. omega (arith, a, at)))
+refusal_is s (inr (inr (inl a))) = (omega (arith, a), (λ at. omega (arith, a, at)), (λ at. omega (arith, a, at)))
+refusal_is s (inr (inr (inr a))) = (omega (arith, a), (λ at. omega (arith, a, at)), (λ at. omega (arith, a, at)))
+
+-- under a refusal nothing is written to the output
+pub unwritten_out : (case : Case) (fails : List ℕ → Type 0) (topology : Option Topology) (before : History) (verdict : Verdict) (status : ℕ) (held held' : List ℕ) → Outcome case fails topology before verdict
+    → (status ≡ status_in verdict) ⊎ ((status ≡ 8) ⊎ (status ≡ 9)) → IsRefusalStatus status → (status ≢ 8 → Adds held held' (out_text_of verdict)) → held' ≡ held
+unwritten_out case fails topology before verdict status held held' o is refusal adds =
+    let r = refusal_is status refusal in
+    let s = settled status (status_in verdict) is r.1 r.2 in
+    adds r.1 ∙ ap (λ text. held ++ text) (no_text s r.0 (texts_small case fails topology before verdict o)) ∙ append-nil held
+  where
+    no_text : status ≡ status_in verdict → 4 < status → (status_in verdict ≤ 4) ⊎ (out_text_of verdict ≡ []) → out_text_of verdict ≡ []
+    no_text s more (inl few) = absurd (omega (arith, s, more, few))
+    no_text s more (inr none) = none
+
+-- ---- statuses and lines
+
+pub status_is : (case : Case) (fails : List ℕ → Type 0) (topology : Option Topology) (before : History) (verdict : Verdict) → Outcome case fails topology before verdict
+    → status_in verdict ≢ 5 → status_in verdict ≢ 9 → IsStatusOf (status_in verdict) case
+status_is case fails topology before verdict (inl e) a b = absurd (by_early (early_at fails topology before verdict e))
+  where
+    by_early : (status_in verdict ≡ 9) ⊎ (status_in verdict ≡ 5) → ⊥
+    by_early (inl is) = b is
+    by_early (inr is) = a is
+status_is NoCommand fails topology before verdict (inr r) a b = ap status_in r.refused
+status_is (BadTopology fault) fails topology before verdict (inr r) a b = ap status_in r.refused
+status_is (TooFew shortage) fails topology before verdict (inr r) a b = ap status_in r.refused
+status_is (NotBuilt missing) fails topology before verdict (inr r) a b = ap status_in r.refused
+status_is (Checks wanted) fails topology before verdict (inr r) a b = ap status_in r.counted
+status_is (Runs shows wanted) fails topology before verdict (inr r) a b = by_run (ran verdict shows wanted before r.comes_to)
+  where
+    by_run : Reported shows wanted before verdict ⊎ ((verdict ≡ Refused Wait) ⊎ (verdict ≡ Refused Memory)) → IsStatusOf (status_in verdict) (Runs shows wanted)
+    by_run (inl v) = inl (rw v.is (small_of v.status v.report.ended.possible))
+    by_run (inr (inl is)) = inr (ap status_in is)
+    by_run (inr (inr is)) = absurd (b (ap status_in is))
+
+pub line_is : (case : Case) (fails : List ℕ → Type 0) (topology : Option Topology) (before : History) (verdict : Verdict) → Outcome case fails topology before verdict
+    → status_in verdict ≢ 5 → status_in verdict ≢ 9 → err_text_of verdict ≡ error_text (status_in verdict) case
+line_is case fails topology before verdict (inl e) a b = absurd (by_early (early_at fails topology before verdict e))
+  where
+    by_early : (status_in verdict ≡ 9) ⊎ (status_in verdict ≡ 5) → ⊥
+    by_early (inl is) = b is
+    by_early (inr is) = a is
+line_is NoCommand fails topology before verdict (inr r) a b = rw r.refused refl
+line_is (BadTopology fault) fails topology before verdict (inr r) a b = rw r.refused refl
+line_is (TooFew shortage) fails topology before verdict (inr r) a b = rw r.refused refl
+line_is (NotBuilt missing) fails topology before verdict (inr r) a b = rw r.refused refl
+line_is (Checks wanted) fails topology before verdict (inr r) a b = rw r.counted refl
+line_is (Runs shows wanted) fails topology before verdict (inr r) a b = by_run (ran verdict shows wanted before r.comes_to)
+  where
+    small_line : (s : ℕ) → (s ≡ 0) ⊎ ((s ≡ 1) ⊎ (s ≡ 4)) → [] ≡ error_text s (Runs shows wanted)
+    small_line s (inl is) = rw is refl
+    small_line s (inr (inl is)) = rw is refl
+    small_line s (inr (inr is)) = rw is refl
+
+    by_run : Reported shows wanted before verdict ⊎ ((verdict ≡ Refused Wait) ⊎ (verdict ≡ Refused Memory)) → err_text_of verdict ≡ error_text (status_in verdict) (Runs shows wanted)
+    by_run (inl v) = rw v.is (small_line v.status v.report.ended.possible)
+    by_run (inr (inl is)) = rw is refl
+    by_run (inr (inr is)) = absurd (b (ap status_in is))
+
+-- which line a verdict writes
+one_line : (case : Case) (told : Bool) (calls asked asked' : List (EdgeKind × List ℕ)) (fault : Type 0) (topology : Option Topology) (before : History) (verdict : Verdict)
+    → Outcome case (FailsAt told calls asked asked' fault) topology before verdict
+    → (err_text_of verdict ≡ []) ⊎ ((err_text_of verdict ≡ case_line case) ⊎ ((err_text_of verdict ≡ memory_line) ⊎ IsEdgeLine calls (err_text_of verdict)))
+one_line case told calls asked asked' fault topology before verdict (inl e) = by_early (early (FailsAt told calls asked asked' fault) topology before verdict e).why
+  where
+    by_early : (verdict ≡ Refused Memory) ⊎ Fails (FailsAt told calls asked asked' fault) verdict
+        → (err_text_of verdict ≡ []) ⊎ ((err_text_of verdict ≡ case_line case) ⊎ ((err_text_of verdict ≡ memory_line) ⊎ IsEdgeLine calls (err_text_of verdict)))
+    by_early (inl is) = inr (inr (inl (ap err_text_of is)))
+    by_early (inr f) = inr (inr (inr (record {
+      kind = f.so.kind;
+      name = f.name;
+      front = f.so.front;
+      rest = f.so.rest;
+      parts = f.so.parts;
+      is = ap err_text_of f.is;
+    })))
+one_line NoCommand told calls asked asked' fault topology before verdict (inr r) = inr (inl (ap err_text_of r.refused))
+one_line (BadTopology f) told calls asked asked' fault topology before verdict (inr r) = inr (inl (ap err_text_of r.refused))
+one_line (TooFew shortage) told calls asked asked' fault topology before verdict (inr r) = inr (inl (ap err_text_of r.refused))
+one_line (NotBuilt missing) told calls asked asked' fault topology before verdict (inr r) = inr (inl (ap err_text_of r.refused))
+one_line (Checks wanted) told calls asked asked' fault topology before verdict (inr r) = inl (ap err_text_of r.counted)
+one_line (Runs shows wanted) told calls asked asked' fault topology before verdict (inr r) = by_run (ran verdict shows wanted before r.comes_to)
+  where
+    by_run : Reported shows wanted before verdict ⊎ ((verdict ≡ Refused Wait) ⊎ (verdict ≡ Refused Memory))
+        → (err_text_of verdict ≡ []) ⊎ ((err_text_of verdict ≡ case_line (Runs shows wanted)) ⊎ ((err_text_of verdict ≡ memory_line) ⊎ IsEdgeLine calls (err_text_of verdict)))
+    by_run (inl v) = inl (ap err_text_of v.is)
+    by_run (inr (inl is)) = inr (inl (ap err_text_of is))
+    by_run (inr (inr is)) = inr (inr (inl (ap err_text_of is)))
+
+pub line_begun : (case : Case) (told : Bool) (calls asked asked' : List (EdgeKind × List ℕ)) (fault : Type 0) (topology : Option Topology) (before : History) (verdict : Verdict) (held held' : List ℕ)
+    → Outcome case (FailsAt told calls asked asked' fault) topology before verdict → AddsPrefix held held' (err_text_of verdict) → BeginsLine calls held held' case
+line_begun case told calls asked asked' fault topology before verdict held held' o b = record {
+  text = err_text_of verdict;
+  is_one = one_line case told calls asked asked' fault topology before verdict o;
+  begun = b;
+}
+
+-- ---- a call by name that failed
+
+pub named_fault : (case : Case) (told : Bool) (calls asked asked' : List (EdgeKind × List ℕ)) (fault : Type 0) (err_told : Bool) (topology : Option Topology) (before : History) (verdict : Verdict) (held held' : List ℕ)
+    → Outcome case (FailsAt told calls asked asked' fault) topology before verdict → status_in verdict ≡ 5 → (IsTrue err_told → Adds held held' (err_text_of verdict))
+    → NamesFault told calls asked asked' fault err_told held held'
+named_fault case told calls asked asked' fault err_told topology before verdict held held' (inl e) five adds = by_early (early (FailsAt told calls asked asked' fault) topology before verdict e).why
+  where
+    by_early : (verdict ≡ Refused Memory) ⊎ Fails (FailsAt told calls asked asked' fault) verdict → NamesFault told calls asked asked' fault err_told held held'
+    by_early (inl is) = absurd (not_both 9 5 (status_in verdict) (ap status_in is) five (λ x. cc))
+    by_early (inr f) = record {
+      name = f.name;
+      fails = f.so;
+      written = λ t. adds t ∙ ap (λ text. held ++ text) (ap err_text_of f.is);
+    }
+named_fault NoCommand told calls asked asked' fault err_told topology before verdict held held' (inr r) five adds = absurd (not_both 7 5 (status_in verdict) (ap status_in r.refused) five (λ x. cc))
+named_fault (BadTopology f) told calls asked asked' fault err_told topology before verdict held held' (inr r) five adds = absurd (not_both 6 5 (status_in verdict) (ap status_in r.refused) five (λ x. cc))
+named_fault (TooFew shortage) told calls asked asked' fault err_told topology before verdict held held' (inr r) five adds = absurd (not_both 6 5 (status_in verdict) (ap status_in r.refused) five (λ x. cc))
+named_fault (NotBuilt missing) told calls asked asked' fault err_told topology before verdict held held' (inr r) five adds = absurd (not_both 10 5 (status_in verdict) (ap status_in r.refused) five (λ x. cc))
+named_fault (Checks wanted) told calls asked asked' fault err_told topology before verdict held held' (inr r) five adds = absurd (not_both 0 5 (status_in verdict) (ap status_in r.counted) five (λ x. cc))
+named_fault (Runs shows wanted) told calls asked asked' fault err_told topology before verdict held held' (inr r) five adds = absurd (by_run (ran verdict shows wanted before r.comes_to))
+  where
+    by_run : Reported shows wanted before verdict ⊎ ((verdict ≡ Refused Wait) ⊎ (verdict ≡ Refused Memory)) → ⊥
+    by_run (inl v) = not_small 5 (status_in verdict) five (omega arith) (rw v.is (small_of v.status v.report.ended.possible))
+    by_run (inr (inl is)) = not_both 10 5 (status_in verdict) (ap status_in is) five (λ x. cc)
+    by_run (inr (inr is)) = not_both 9 5 (status_in verdict) (ap status_in is) five (λ x. cc)
+
+-- ---- a write that failed
+
+pub fault_by : (verdict : Verdict) (out err : Type 0) → FaultBy verdict out err → out ⊎ err
+fault_by (Done texts s) out err fault = inl fault
+fault_by (Refused refusal) out err fault = inr fault
+
+-- ---- the words
+
+-- 0 for words that are no command
+abbrev number : Case → ℕ
+number NoCommand = 0
+number (BadTopology fault) = 1
+number (TooFew shortage) = 1
+number (NotBuilt missing) = 1
+number (Checks wanted) = 1
+number (Runs shows wanted) = 1
+
+short_case : (short : Option Shortage) (case : Case) → number case ≡ 1 → number (unless_short short case) ≡ 1
+short_case None case is = is
+short_case (Some shortage) case is = refl
+
+unbuilt_case : (missing : Option Missing) (case : Case) → number case ≡ 1 → number (unless_unbuilt missing case) ≡ 1
+unbuilt_case None case is = is
+unbuilt_case (Some missing) case is = refl
+
+run_number : (boxes : Boxes) (workers : ℕ) (shows : Shows) (topology : Topology) → number (run_case boxes workers shows topology) ≡ 1
+run_number boxes workers shows topology = short_case (shortage_of topology boxes) _ (unbuilt_case (unbuilt_of workers topology) (Runs shows topology) refl)
+
+checked_number : (read : Result Topology ConfigFault) → number (for_topology read Checks) ≡ 1
+checked_number (Ok topology) = refl
+checked_number (Err fault) = refl
+
+loaded_number : (read : Result Topology ConfigFault) (boxes : Boxes) (workers : ℕ) (shows : Shows) → number (for_topology read (run_case boxes workers shows)) ≡ 1
+loaded_number (Ok topology) boxes workers shows = run_number boxes workers shows topology
+loaded_number (Err fault) boxes workers shows = refl
+
+some_number : (command : Command) (file : List ℕ) (boxes : Boxes) → number (case_of (Some command) file boxes) ≡ 1
+some_number (Flow source prefix) file boxes = run_number boxes 1 report_alone (flow_topology_of source prefix)
+some_number (Check path) file boxes = checked_number (topology_of_file file)
+some_number (Run path workers acks steps) file boxes = loaded_number (topology_of_file file) boxes workers (record { steps = steps; acks = acks })
+
+of_seven : (case : Case) → IsStatusOf 7 case → number case ≡ 0
+of_seven NoCommand is = refl
+of_seven (BadTopology fault) is = absurd (omega (arith, is))
+of_seven (TooFew shortage) is = absurd (omega (arith, is))
+of_seven (NotBuilt missing) is = absurd (omega (arith, is))
+of_seven (Checks wanted) is = absurd (omega (arith, is))
+of_seven (Runs shows wanted) (inl few) = absurd (omega (arith, few))
+of_seven (Runs shows wanted) (inr ten) = absurd (omega (arith, ten))
+
+-- the status 7 comes where the words are no command
+pub usage_by : (command : Option Command) (file : List ℕ) (boxes : Boxes) → IsStatusOf 7 (case_of command file boxes) → command ≡ None
+usage_by None file boxes is = refl
+usage_by (Some command) file boxes is = absurd (omega (arith, some_number command file boxes, of_seven (case_of (Some command) file boxes) is))
+
+no_call : (front rest : List (EdgeKind × List ℕ)) (call : EdgeKind × List ℕ) → [] ≡ front ++ call ∷ rest → ⊥
+no_call [] rest call e = cc
+no_call (first ∷ front) rest call e = cc
+
+-- words that are no command come to 7
+pub no_command_by : (told : Bool) (asked asked' : List (EdgeKind × List ℕ)) (fault : Type 0) (topology : Option Topology) (before : History) (verdict : Verdict) (status : ℕ)
+    → Outcome NoCommand (FailsAt told [] asked asked' fault) topology before verdict → (status ≡ status_in verdict) ⊎ ((status ≡ 8) ⊎ (status ≡ 9)) → IsOr 7 status
+no_command_by told asked asked' fault topology before verdict status o (inr is) = inr is
+no_command_by told asked asked' fault topology before verdict status (inr r) (inl is) = inl (is ∙ ap status_in r.refused)
+no_command_by told asked asked' fault topology before verdict status (inl e) (inl is) = by_why (early (FailsAt told [] asked asked' fault) topology before verdict e).why
+  where
+    by_why : (verdict ≡ Refused Memory) ⊎ Fails (FailsAt told [] asked asked' fault) verdict → IsOr 7 status
+    by_why (inl memory) = inr (inr (is ∙ ap status_in memory))
+    by_why (inr f) = absurd (no_call f.so.front f.so.rest (f.so.kind, f.name) f.so.parts)
+
+-- ---- calls without a run
+
+unopened_is : (s : ℕ) → IsUnopenedStatus s → (4 < s) × (s ≢ 8) × (s ≢ 9) × (s ≢ 10)
+unopened_is s (inl a) = (omega (arith, a), (λ at. omega (arith, a, at)), (λ at. omega (arith, a, at)), (λ at. omega (arith, a, at)))
+unopened_is s (inr (inl a)) = (omega (arith, a), (λ at. omega (arith, a, at)), (λ at. omega (arith, a, at)), (λ at. omega (arith, a, at)))
+unopened_is s (inr (inr a)) = (omega (arith, a), (λ at. omega (arith, a, at)), (λ at. omega (arith, a, at)), (λ at. omega (arith, a, at)))
+
+-- a run has no such status
+run_opened : (verdict : Verdict) (shows : Shows) (wanted : Topology) (before : History)
+    → Reported shows wanted before verdict ⊎ ((verdict ≡ Refused Wait) ⊎ (verdict ≡ Refused Memory)) → IsUnopenedStatus (status_in verdict) → ⊥
+run_opened verdict shows wanted before (inl v) u = not_small (status_in verdict) (status_in verdict) refl (unopened_is (status_in verdict) u).0 (rw v.is (small_of v.status v.report.ended.possible))
+run_opened verdict shows wanted before (inr (inl is)) u = (unopened_is (status_in verdict) u).3 (ap status_in is)
+run_opened verdict shows wanted before (inr (inr is)) u = (unopened_is (status_in verdict) u).2 (ap status_in is)
+
+pub none_ran : (case : Case) (fails : List ℕ → Type 0) (topology : Option Topology) (before : History) (verdict : Verdict) → Outcome case fails topology before verdict
+    → IsUnopenedStatus (status_in verdict) → (topology ≡ None) × (before ≡ [])
+none_ran case fails topology before verdict (inl e) u = ((early fails topology before verdict e).no_topology, (early fails topology before verdict e).no_step)
+none_ran NoCommand fails topology before verdict (inr r) u = (r.no_topology, r.no_step)
+none_ran (BadTopology fault) fails topology before verdict (inr r) u = (r.no_topology, r.no_step)
+none_ran (TooFew shortage) fails topology before verdict (inr r) u = (r.no_topology, r.no_step)
+none_ran (NotBuilt missing) fails topology before verdict (inr r) u = (r.no_topology, r.no_step)
+none_ran (Checks wanted) fails topology before verdict (inr r) u = (r.no_topology, r.no_step)
+none_ran (Runs shows wanted) fails topology before verdict (inr r) u = absurd (run_opened verdict shows wanted before (ran verdict shows wanted before r.comes_to) u)
+
+pub not_opened : (case : Case) (fails : List ℕ → Type 0) (topology : Option Topology) (before : History) (verdict : Verdict) (same : Type 0) (read partly : List ℕ → Type 0)
+    → Outcome case fails topology before verdict → IsUnopenedStatus (status_in verdict) → BackBy case topology verdict same read partly → same
+not_opened NoCommand fails topology before verdict same read partly o u back = back
+not_opened (BadTopology fault) fails topology before verdict same read partly o u back = back
+not_opened (TooFew shortage) fails topology before verdict same read partly o u back = back
+not_opened (NotBuilt missing) fails topology before verdict same read partly o u back = back
+not_opened (Checks wanted) fails topology before verdict same read partly o u back = back
+not_opened (Runs shows wanted) fails topology before verdict same read partly (inl e) u back = by_early (early fails topology before verdict e)
+  where
+    by_why : RunBack None verdict same (read (source_of wanted)) (partly (source_of wanted)) → (verdict ≡ Refused Memory) ⊎ Fails fails verdict → same
+    by_why b (inl is) = absurd ((unopened_is (status_in verdict) u).2 (ap status_in is))
+    by_why b (inr f) = rw f.is at b
+
+    by_early : Early fails topology before verdict → same
+    by_early v = by_why (rw v.no_topology at back) v.why
+not_opened (Runs shows wanted) fails topology before verdict same read partly (inr r) u back = absurd (run_opened verdict shows wanted before (ran verdict shows wanted before r.comes_to) u)
+
+-- ---- the source
+
+-- where a run ended or waited its source was read and given back
+pub read_back : (case : Case) (fails : List ℕ → Type 0) (topology : Option Topology) (before : History) (verdict : Verdict) (same : Type 0) (read partly now : List ℕ → Type 0)
+    → ((name : List ℕ) → (status_in verdict ≡ 10 → verdict ≡ Refused Wait) → read name → now name)
+    → Outcome case fails topology before verdict → (status_in verdict ≤ 4) ⊎ (status_in verdict ≡ 10) → BackBy case topology verdict same read partly → ForSource now same case
+read_back NoCommand fails topology before verdict same read partly now as_now o ran_on back = back
+read_back (BadTopology fault) fails topology before verdict same read partly now as_now o ran_on back = back
+read_back (TooFew shortage) fails topology before verdict same read partly now as_now o ran_on back = back
+read_back (NotBuilt missing) fails topology before verdict same read partly now as_now o ran_on back = back
+read_back (Checks wanted) fails topology before verdict same read partly now as_now o ran_on back = back
+read_back (Runs shows wanted) fails topology before verdict same read partly now as_now (inl e) ran_on back = absurd (by_early (early_at fails topology before verdict e) ran_on)
+  where
+    by_early : (status_in verdict ≡ 9) ⊎ (status_in verdict ≡ 5) → (status_in verdict ≤ 4) ⊎ (status_in verdict ≡ 10) → ⊥
+    by_early (inl is) (inl few) = omega (arith, is, few)
+    by_early (inl is) (inr ten) = omega (arith, is, ten)
+    by_early (inr is) (inl few) = omega (arith, is, few)
+    by_early (inr is) (inr ten) = omega (arith, is, ten)
+read_back (Runs shows wanted) fails topology before verdict same read partly now as_now (inr r) ran_on back = by_run (ran verdict shows wanted before r.comes_to)
+  where
+    b : RunBack (Some wanted) verdict same (read (source_of wanted)) (partly (source_of wanted))
+    b = rw r.own at back
+
+    nine : verdict ≡ Refused Memory → (status_in verdict ≤ 4) ⊎ (status_in verdict ≡ 10) → ⊥
+    nine is (inl few) = not_small 9 (status_in verdict) (ap status_in is) (omega arith) few
+    nine is (inr ten) = not_both 9 10 (status_in verdict) (ap status_in is) ten (λ x. cc)
+
+    ten_small : (s : ℕ) → s ≤ 4 → s ≡ 10 → ⊥
+    ten_small s few ten = omega (arith, few, ten)
+
+    by_run : Reported shows wanted before verdict ⊎ ((verdict ≡ Refused Wait) ⊎ (verdict ≡ Refused Memory)) → now (source_of wanted)
+    by_run (inl v) = as_now (source_of wanted) (λ ten. absurd (ten_small (status_in verdict) (rw v.is (small_of v.status v.report.ended.possible)) ten)) (rw v.is at b)
+    by_run (inr (inl is)) = as_now (source_of wanted) (λ ten. is) (rw is at b)
+    by_run (inr (inr is)) = absurd (nine is ran_on)
+
+-- and whatever the status is, no other source was given back than one of whose lines the journal has the first
+pub maybe_read : (case : Case) (fails : List ℕ → Type 0) (topology : Option Topology) (before : History) (verdict : Verdict) (same : Type 0) (read partly : List ℕ → Type 0)
+    → ((name : List ℕ) → read name → partly name)
+    → Outcome case fails topology before verdict → BackBy case topology verdict same read partly → ForSource (λ name. same ⊎ partly name) same case
+maybe_read NoCommand fails topology before verdict same read partly as_part o back = back
+maybe_read (BadTopology fault) fails topology before verdict same read partly as_part o back = back
+maybe_read (TooFew shortage) fails topology before verdict same read partly as_part o back = back
+maybe_read (NotBuilt missing) fails topology before verdict same read partly as_part o back = back
+maybe_read (Checks wanted) fails topology before verdict same read partly as_part o back = back
+maybe_read (Runs shows wanted) fails topology before verdict same read partly as_part (inl e) back = by_early (early fails topology before verdict e)
+  where
+    by_why : RunBack None verdict same (read (source_of wanted)) (partly (source_of wanted)) → (verdict ≡ Refused Memory) ⊎ Fails fails verdict → same ⊎ partly (source_of wanted)
+    by_why b (inl is) = rw is at b
+    by_why b (inr f) = inl (rw f.is at b)
+
+    by_early : Early fails topology before verdict → same ⊎ partly (source_of wanted)
+    by_early v = by_why (rw v.no_topology at back) v.why
+maybe_read (Runs shows wanted) fails topology before verdict same read partly as_part (inr r) back = by_run (ran verdict shows wanted before r.comes_to)
+  where
+    b : RunBack (Some wanted) verdict same (read (source_of wanted)) (partly (source_of wanted))
+    b = rw r.own at back
+
+    by_run : Reported shows wanted before verdict ⊎ ((verdict ≡ Refused Wait) ⊎ (verdict ≡ Refused Memory)) → same ⊎ partly (source_of wanted)
+    by_run (inl v) = inr (as_part (source_of wanted) (rw v.is at b))
+    by_run (inr (inl is)) = inr (as_part (source_of wanted) (rw is at b))
+    by_run (inr (inr is)) = rw is at b
+
+-- ---- a text that was lost
+
+refusal_lost : (verdict : Verdict) (refusal : Refusal) (reported out_fault back err_fault : Type 0) → verdict ≡ Refused refusal → FaultBy verdict out_fault err_fault → Lost reported out_fault back err_fault
+refusal_lost verdict refusal reported out_fault back err_fault is fault = inr (rw is at fault)
+
+pub lost_by : (case : Case) (fails : List ℕ → Type 0) (topology : Option Topology) (before : History) (verdict : Verdict) (same : Type 0) (read partly now : List ℕ → Type 0) (out_fault err_fault : Type 0)
+    → ((name : List ℕ) → read name → now name)
+    → Outcome case fails topology before verdict → FaultBy verdict out_fault err_fault → BackBy case topology verdict same read partly
+    → Lost (IsReportOf topology before case) out_fault (ForSource now same case) err_fault
+lost_by case fails topology before verdict same read partly now out_fault err_fault as_now (inl e) fault back = by_why (early fails topology before verdict e).why
+  where
+    by_why : (verdict ≡ Refused Memory) ⊎ Fails fails verdict → Lost (IsReportOf topology before case) out_fault (ForSource now same case) err_fault
+    by_why (inl is) = refusal_lost verdict Memory _ out_fault _ err_fault is fault
+    by_why (inr f) = refusal_lost verdict (Edge f.name) _ out_fault _ err_fault f.is fault
+lost_by NoCommand fails topology before verdict same read partly now out_fault err_fault as_now (inr r) fault back = refusal_lost verdict Usage _ out_fault _ err_fault r.refused fault
+lost_by (BadTopology f) fails topology before verdict same read partly now out_fault err_fault as_now (inr r) fault back = refusal_lost verdict (NoTopology f) _ out_fault _ err_fault r.refused fault
+lost_by (TooFew shortage) fails topology before verdict same read partly now out_fault err_fault as_now (inr r) fault back = refusal_lost verdict (Stock shortage) _ out_fault _ err_fault r.refused fault
+lost_by (NotBuilt missing) fails topology before verdict same read partly now out_fault err_fault as_now (inr r) fault back = refusal_lost verdict (Unbuilt missing) _ out_fault _ err_fault r.refused fault
+lost_by (Checks wanted) fails topology before verdict same read partly now out_fault err_fault as_now (inr r) fault back =
+    inl (record { status = 0; end_of = (refl, r.no_topology, r.no_step) }, rw r.counted at fault, back)
+lost_by (Runs shows wanted) fails topology before verdict same read partly now out_fault err_fault as_now (inr r) fault back = by_run (ran verdict shows wanted before r.comes_to)
+  where
+    b : RunBack (Some wanted) verdict same (read (source_of wanted)) (partly (source_of wanted))
+    b = rw r.own at back
+
+    by_run : Reported shows wanted before verdict ⊎ ((verdict ≡ Refused Wait) ⊎ (verdict ≡ Refused Memory))
+        → Lost (IsReportOf topology before (Runs shows wanted)) out_fault (now (source_of wanted)) err_fault
+    by_run (inl v) = inl (record { status = v.status; end_of = (r.own, v.report.ended) }, rw v.is at fault, as_now (source_of wanted) (rw v.is at b))
+    by_run (inr (inl is)) = refusal_lost verdict Wait _ out_fault _ err_fault is fault
+    by_run (inr (inr is)) = refusal_lost verdict Memory _ out_fault _ err_fault is fault
+
+-- ---- the calls
+
+all_asked : (calls asked asked' : List (EdgeKind × List ℕ)) → asked' ≡ asked ++ calls → Asks calls asked asked'
+all_asked calls asked asked' is = record {
+  count = length calls;
+  is = is ∙ ap (λ x. asked ++ x) (sym (take_all (length calls) calls (omega arith)));
+}
+
+up_to : (calls asked asked' front rest : List (EdgeKind × List ℕ)) (call : EdgeKind × List ℕ) → calls ≡ front ++ call ∷ rest → asked' ≡ asked ++ (front ++ call ∷ []) → Asks calls asked asked'
+up_to calls asked asked' front rest call parts is =
+    let n = length (front ++ call ∷ []) in
+    let whole : calls ≡ (front ++ call ∷ []) ++ rest = parts ∙ sym (append_assoc front (call ∷ []) rest) in
+    record {
+      count = n;
+      is = is ∙ ap (λ x. asked ++ x) (sym (ap (take n) whole ∙ take_at (front ++ call ∷ []) rest n refl));
+    }
+
+pub asks : (case : Case) (told : Bool) (calls asked asked' : List (EdgeKind × List ℕ)) (fault : Type 0) (topology : Option Topology) (before : History) (verdict : Verdict)
+    → Outcome case (FailsAt told calls asked asked' fault) topology before verdict → IsTrue told → AskedBy verdict calls asked asked' → Asks calls asked asked'
+asks case told calls asked asked' fault topology before (Done texts s) o t a = all_asked calls asked asked' a
+asks case told calls asked asked' fault topology before (Refused Memory) o t a = a
+asks case told calls asked asked' fault topology before (Refused Usage) o t a = all_asked calls asked asked' a
+asks case told calls asked asked' fault topology before (Refused (NoTopology f)) o t a = all_asked calls asked asked' a
+asks case told calls asked asked' fault topology before (Refused (Stock s)) o t a = all_asked calls asked asked' a
+asks case told calls asked asked' fault topology before (Refused (Unbuilt m)) o t a = all_asked calls asked asked' a
+asks case told calls asked asked' fault topology before (Refused Wait) o t a = all_asked calls asked asked' a
+asks case told calls asked asked' fault topology before (Refused (Edge name)) o t a =
+    let f = named_fault case told calls asked asked' fault Bool.false topology before (Refused (Edge name)) [] [] o refl (λ never. cc) in
+    up_to calls asked asked' f.fails.front f.fails.rest (f.fails.kind, f.name) f.fails.parts (f.fails.is_last t)
+
+pub asks_all : (verdict : Verdict) (calls asked asked' : List (EdgeKind × List ℕ)) → status_in verdict ≢ 5 → status_in verdict ≢ 9 → AskedBy verdict calls asked asked' → asked' ≡ asked ++ calls
+asks_all (Done texts s) calls asked asked' a b is = is
+asks_all (Refused Memory) calls asked asked' a b is = absurd (b refl)
+asks_all (Refused Usage) calls asked asked' a b is = is
+asks_all (Refused (NoTopology f)) calls asked asked' a b is = is
+asks_all (Refused (Stock s)) calls asked asked' a b is = is
+asks_all (Refused (Unbuilt m)) calls asked asked' a b is = is
+asks_all (Refused Wait) calls asked asked' a b is = is
+asks_all (Refused (Edge name)) calls asked asked' a b is = absurd (a refl)

@@ -1,0 +1,97 @@
+-- What the words, the topology file and the stock of callbacks come to.
+use Rattle.std.specs.Prelude.{◌≡◌, ℕ, Bool, false, List, [], ◌∷◌, ◌++◌, take, IsTrue, Option, Some, None, Result, Ok, Err, option_and_then, unwrap_or}
+use Rattle.pipe_types.specs.declared.topology.Kind.{Kind}
+use Rattle.pipe_types.specs.declared.topology.Kind.TheVariants.{Steps, Lines, Own}
+use Rattle.pipe_types.specs.declared.topology.Topology.{Topology}
+use Rattle.pipe_types.specs.Numbers.{stage}
+use Rattle.pipe_types.specs.Stages.{spec_of}
+use Rattle.pipe_edges.specs.declared.edges.EdgeKind.{EdgeKind}
+use Rattle.pipe_edges.specs.declared.edges.EdgeKind.TheVariants.{File, Source}
+use Rattle.config_table.specs.declared.fault.ConfigFault.{ConfigFault}
+use Rattle.pipe_config.specs.File.{topology_of_file}
+use Rattle.config_flow.specs.Flow.{flow_topology_of}
+use Rattle.program_words.specs.Words.{Command, Flow, Check, Run}
+use Rattle.stage_job.specs.Boxes.{boxes_of_kind}
+use Rattle.topology_needs.specs.declared.stock.Boxes.{Boxes}
+use Rattle.topology_needs.specs.declared.stock.Shortage.{Shortage}
+use Rattle.topology_needs.specs.declared.unbuilt.Unbuilt.{Unbuilt}
+use Rattle.topology_needs.specs.Needs.{shortage_of}
+use Rattle.topology_needs.specs.Unbuilt.{unbuilt_of}
+use Rattle.pipe_top.specs.declared.verdict.Shows.{Shows}
+
+-- the words are no command; the file is no topology; the stock has too few boxes of a kind; the topology is not built for;
+-- it is only checked; or it runs, and shows these texts
+pub data Case : Type 0 where
+  NoCommand : Case
+  NoTopology : ConfigFault → Case
+  TooFew : Shortage → Case
+  NotBuilt : Unbuilt → Case
+  Checks : Topology → Case
+  Runs : Shows → Topology → Case
+
+-- the topology of the file, or why there is none
+abbrev pub for_topology : Result Topology ConfigFault → (Topology → Case) → Case
+for_topology (Ok topology) case = case topology
+for_topology (Err fault) case = NoTopology fault
+
+abbrev pub unless_short : Option Shortage → Case → Case
+unless_short None case = case
+unless_short (Some shortage) case = TooFew shortage
+
+abbrev pub unless_unbuilt : Option Unbuilt → Case → Case
+unless_unbuilt None case = case
+unless_unbuilt (Some missing) case = NotBuilt missing
+
+-- it runs where the stock has enough boxes of each kind and nothing in it is not built
+abbrev pub run_case : Boxes → (workers : ℕ) → Shows → Topology → Case
+run_case boxes workers shows topology = unless_short (shortage_of topology boxes) (unless_unbuilt (unbuilt_of workers topology) (Runs shows topology))
+
+-- only the report
+abbrev pub report_alone : Shows
+report_alone = record { steps = false; acks = false }
+
+-- `flow` has a topology of its own; `check` and `run` have that of the file
+abbrev pub case_of : Option Command → (file : List ℕ) → Boxes → Case
+case_of None file boxes = NoCommand
+case_of (Some (Flow source prefix)) file boxes = run_case boxes 1 report_alone (flow_topology_of source prefix)
+case_of (Some (Check path)) file boxes = for_topology (topology_of_file file) Checks
+case_of (Some (Run path workers acks steps)) file boxes = for_topology (topology_of_file file) (run_case boxes workers (record { steps = steps; acks = acks }))
+
+-- the boxes of a stock with these kinds
+abbrev pub boxes_in : List Kind → Boxes
+boxes_in kinds = record { steps = boxes_of_kind Steps kinds; lines = boxes_of_kind Lines kinds; own = boxes_of_kind Own kinds }
+
+-- ---- names
+
+-- the topology file that the command names
+abbrev pub file_name : Option Command → Option (List ℕ)
+file_name (Some (Check path)) = Some path
+file_name (Some (Run path workers acks steps)) = Some path
+file_name _ = None
+
+-- the bytes are those that stand under the file's name, at most one more than a topology may have
+abbrev pub IsNamedFile : (told : Bool) → (named : EdgeKind → List ℕ → List ℕ) → (name : Option (List ℕ)) → (file : List ℕ) → Type 0
+IsNamedFile told named None file = Unit {0}
+IsNamedFile told named (Some name) file = IsTrue told → file ≡ take 1048577 (named File name)
+
+-- the source of the producer
+abbrev pub source_of : Topology → List ℕ
+source_of topology = unwrap_or (option_and_then (λ producer. producer.edge) (spec_of topology (stage 1))) []
+
+abbrev pub file_calls : Option (List ℕ) → List (EdgeKind × List ℕ)
+file_calls None = []
+file_calls (Some name) = (File, name) ∷ []
+
+abbrev pub source_calls : Case → List (EdgeKind × List ℕ)
+source_calls (Runs shows topology) = (Source, source_of topology) ∷ []
+source_calls _ = []
+
+-- the calls by name: first the topology file is read, where one is named, and then the source of a run is opened
+abbrev pub calls_of : Option Command → Case → List (EdgeKind × List ℕ)
+calls_of command case = file_calls (file_name command) ++ source_calls case
+
+-- what holds in the case of the command, for the bytes of its file
+pub record InCase (told : Bool) (named : EdgeKind → List ℕ → List ℕ) (command : Option Command) (boxes : Boxes) (holds : Case → Type 0) : Type 0 where
+  pub file : List ℕ
+  pub is_file : IsNamedFile told named (file_name command) file
+  pub it_holds : holds (case_of command file boxes)

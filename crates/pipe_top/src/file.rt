@@ -1,0 +1,70 @@
+//! The topology file.
+
+ghost use Rattle.std.specs.Prelude.{◌≡◌, ◌⊎◌, ◌≤◌, [], Ok, Some, None, IsTrue, IfOk, IfErr};
+ghost use Rattle.pipe_types.specs.Counts.{Rose};
+ghost use Rattle.pipe_types.specs.Sound.{IsSound};
+ghost use Rattle.pipe_config.specs.File.{topology_of_file};
+ghost use Rattle.pipe_top.specs.Flows.{ReadsFile, ReadsTopology, IsChecked, IsCheckedOrNot};
+
+use crate::run::{Ran, refused, text_of};
+use crate::verdict::{Refusal, Texts, Verdict};
+use pipe_config::{ConfigFault, read_topology};
+use pipe_edges::{EdgeEnd, Edges};
+use pipe_journal::Journal;
+use pipe_types::bytes::Bytes;
+use pipe_types::topology::Topology;
+use program_words::counts_line;
+use std::alloc::Global;
+use topology_needs::subscriptions;
+
+/// The topology of the file with this name, or why there is none.
+pub(crate) fn read_named<E: Edges>(
+    alloc: Global,
+    name: &str,
+    edges: &mut E,
+) -> Result<Topology, Refusal>
+    ensures { ReadsFile E.told E.named E.asked E.faults E.sources_back E.sinks_back edges.old edges.new name.now topology_of_file result }
+{
+    let Ok(name) = text_of(alloc, name) else {
+        return Err(Refusal::Memory);
+    };
+    match edges.read_file(&name) {
+        Ok(bytes) => topology_in(alloc, &bytes),
+        Err(EdgeEnd::Failed) => Err(Refusal::Edge(name)),
+        Err(EdgeEnd::OutOfMemory) => Err(Refusal::Memory),
+    }
+}
+
+/// The topology that the bytes are, or why they are none.
+fn topology_in(alloc: Global, bytes: &Bytes) -> Result<Topology, Refusal>
+    ensures { ReadsTopology (topology_of_file bytes.now) [] ⊥ result }
+{
+    match read_topology(alloc, bytes.as_slice()) {
+        Ok(topology) => Ok(topology),
+        Err(ConfigFault::OutOfMemory) => Err(Refusal::Memory),
+        Err(fault) => Err(Refusal::Topology(fault)),
+    }
+}
+
+/// The counts of a topology that is only checked.
+pub(crate) fn checked(alloc: Global, topology: &Topology) -> Ran
+    requires sound { IsSound topology.now }
+    ensures { IsCheckedOrNot topology.now result.topology result.journal.steps result.verdict }
+{
+    let stages = topology.stages.as_slice().len();
+    match counts_line(alloc, stages, subscriptions(topology)) {
+        Ok(last) => Ran {
+            verdict: Verdict::Done {
+                texts: Texts {
+                    steps: None,
+                    acks: None,
+                    last,
+                },
+                status: 0,
+            },
+            topology: None,
+            journal: Journal::new(alloc),
+        },
+        Err(_) => refused(alloc, Refusal::Memory),
+    }
+}
