@@ -274,6 +274,23 @@ line_is (Runs shows wanted) fails topology before verdict (inr r) a b = by_run (
     by_run (inr (inl is)) = rw is refl
     by_run (inr (inr is)) = absurd (b (ap status_in is))
 
+pub statuses : (case : Case) (fails : List ℕ → Type 0) (topology : Option Topology) (before : History) (verdict : Verdict) (status : ℕ) → Outcome case fails topology before verdict
+    → (status ≡ status_in verdict) ⊎ ((status ≡ 8) ⊎ (status ≡ 9)) → status ≢ 5 → status ≢ 8 → status ≢ 9 → IsStatusOf status case
+statuses case fails topology before verdict status o is a b d =
+    let s = settled status (status_in verdict) is b d in
+    rw s (status_is case fails topology before verdict o (λ x. a (s ∙ x)) (λ x. d (s ∙ x)))
+
+pub lines : (case : Case) (fails : List ℕ → Type 0) (topology : Option Topology) (before : History) (verdict : Verdict) (status : ℕ) (held held' : List ℕ) → Outcome case fails topology before verdict
+    → (status ≡ status_in verdict) ⊎ ((status ≡ 8) ⊎ (status ≡ 9)) → status ≢ 5 → status ≢ 8 → status ≢ 9 → Adds held held' (err_text_of verdict) → Adds held held' (error_text status case)
+lines case fails topology before verdict status held held' o is a b d adds =
+    let s = settled status (status_in verdict) is b d in
+    adds ∙ ap (λ text. held ++ text) (line_is case fails topology before verdict o (λ x. a (s ∙ x)) (λ x. d (s ∙ x)) ∙ ap (λ n. error_text n case) (sym s))
+
+pub of_status_seven : (case : Case) (fails : List ℕ → Type 0) (topology : Option Topology) (before : History) (verdict : Verdict) (status : ℕ) → Outcome case fails topology before verdict
+    → (status ≡ status_in verdict) ⊎ ((status ≡ 8) ⊎ (status ≡ 9)) → status ≡ 7 → IsStatusOf 7 case
+of_status_seven case fails topology before verdict status o is seven =
+    rw seven at (statuses case fails topology before verdict status o is (λ x. not_both 5 7 status x seven (λ y. cc)) (λ x. not_both 8 7 status x seven (λ y. cc)) (λ x. not_both 9 7 status x seven (λ y. cc)))
+
 -- which line a verdict writes
 one_line : (case : Case) (told : Bool) (calls asked asked' : List (EdgeKind × List ℕ)) (fault : Type 0) (topology : Option Topology) (before : History) (verdict : Verdict)
     → Outcome case (FailsAt told calls asked asked' fault) topology before verdict
@@ -450,6 +467,17 @@ not_opened (Runs shows wanted) fails topology before verdict same read partly (i
 not_opened (Runs shows wanted) fails topology before verdict same read partly (inr r) u back = absurd (run_opened verdict shows wanted before (ran verdict shows wanted before r.comes_to) u)
 
 -- ---- the source
+
+pub read_as : {E S : Type 0} {told_names : E → Bool} {named : E → EdgeKind → List ℕ → List ℕ} {back : E → List (List ℕ × S)} {told : S → Bool} {taken left : S → List ℕ} {faults waits : S → ℕ} {old new : E} {name : List ℕ} {before : History} {waited : Type 0} (waits_now : Type 0)
+    → (waits_now → waited) → IsReadBack told_names named back told taken left faults waits old new name before waited
+    → IsReadBack told_names named back told taken left faults waits old new name before waits_now
+read_as waits_now so r = record {
+  source = r.source;
+  given = r.given;
+  reads = r.reads;
+  opened = r.opened;
+  wait = λ w. r.wait (so w);
+}
 
 -- where a run ended or waited its source was read and given back
 pub read_back : (case : Case) (fails : List ℕ → Type 0) (topology : Option Topology) (before : History) (verdict : Verdict) (same : Type 0) (read partly now : List ℕ → Type 0)

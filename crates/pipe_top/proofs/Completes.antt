@@ -21,6 +21,7 @@ use Rattle.pipe_top.specs.Cases.{Case, NoCommand, NoTopology as BadTopology, Too
 use Rattle.pipe_top.specs.Flows.{Outcome, RunBack, BackBy}
 use Rattle.pipe_top.specs.declared.verdict.Refusal.TheVariants.{Wait, Memory}
 use Rattle.pipe_top.specs.declared.verdict.Shows.{Shows}
+use Rattle.pipe_top.specs.declared.verdict.Texts.{Texts}
 use Rattle.pipe_top.specs.declared.verdict.Verdict.{Verdict}
 use Rattle.pipe_top.specs.declared.verdict.Verdict.TheVariants.{Refused, Done}
 use Rattle.pipe_top.proofs.Endings.{EndsOnce, ends_once, ends_badly, ends_limited}
@@ -85,6 +86,12 @@ memory_or : (fails : List ℕ → Type 0) (before : History) (verdict : Verdict)
 memory_or fails before verdict status is (inl memory) calm = wanting before status (is ∙ ap status_in memory)
 memory_or fails before verdict status is (inr f) calm = absurd (calm f.name f.so)
 
+read_done : (wanted : Topology) (verdict : Verdict) (same read partly : Type 0) (texts : Texts) (s : ℕ) → verdict ≡ Done texts s → RunBack (Some wanted) verdict same read partly → read
+read_done wanted verdict same read partly texts s is b = rw is at b
+
+read_wait : (wanted : Topology) (verdict : Verdict) (same read partly : Type 0) → verdict ≡ Refused Wait → RunBack (Some wanted) verdict same read partly → read
+read_wait wanted verdict same read partly is b = rw is at b
+
 pub complete_in : {E S : Type 0} (told_names : E → Bool) (named : E → EdgeKind → List ℕ → List ℕ) (back : E → List (List ℕ × S)) (told : S → Bool) (taken left : S → List ℕ) (faults waits : S → ℕ) (old new : E)
     (case : Case) (same : Type 0) (partly : List ℕ → Type 0) (fails : List ℕ → Type 0) (topology : Option Topology) (before : History) (verdict : Verdict) (status : ℕ)
     → status ≡ status_in verdict → ((name : List ℕ) → fails name → ⊥)
@@ -114,11 +121,31 @@ complete_in {E} {S} told_names named back told taken left faults waits old new (
         (fine (source_of wanted) back_as.source back_as.given))
 
     by_run : Reported shows wanted before verdict ⊎ ((verdict ≡ Refused Wait) ⊎ (verdict ≡ Refused Memory)) → IsComplete before status
-    by_run (inl v) = by_report v (rw v.is at given)
+    by_run (inl v) = by_report v (read_done wanted verdict same Back (partly (source_of wanted)) v.texts v.status v.is given)
     by_run (inr (inl waits_is)) =
-        let back_as : Back = rw waits_is at given in
+        let back_as : Back = read_wait wanted verdict same Back (partly (source_of wanted)) waits_is given in
         absurd ((fine (source_of wanted) back_as.source back_as.given).no_wait (back_as.wait waits_is))
     by_run (inr (inr memory)) = wanting before status (is ∙ ap status_in memory)
+
+nine_complete : (case : Case) (before : History) (status : ℕ) → status ≡ 9 → IsCompleteIn before status case
+nine_complete NoCommand before status is = tt
+nine_complete (BadTopology fault) before status is = tt
+nine_complete (TooFew shortage) before status is = tt
+nine_complete (NotBuilt missing) before status is = tt
+nine_complete (Checks wanted) before status is = tt
+nine_complete (Runs shows wanted) before status is = wanting before status is
+
+pub complete_by : {E S : Type 0} (told_names : E → Bool) (named : E → EdgeKind → List ℕ → List ℕ) (back : E → List (List ℕ × S)) (told : S → Bool) (taken left : S → List ℕ) (faults waits : S → ℕ) (old new : E)
+    (case : Case) (same : Type 0) (partly : List ℕ → Type 0) (fails : List ℕ → Type 0) (topology : Option Topology) (before : History) (verdict : Verdict) (status : ℕ)
+    → (status ≡ status_in verdict) ⊎ ((status ≡ 8) ⊎ (status ≡ 9)) → status ≢ 8 → ((name : List ℕ) → fails name → ⊥)
+    → ((name : List ℕ) (now : S) → back new ≡ back old ++ (name, now) ∷ [] → IsFaultless told taken left faults waits now)
+    → Outcome case fails topology before verdict
+    → BackBy case topology verdict same (λ name. IsReadBack told_names named back told taken left faults waits old new name before (verdict ≡ Refused Wait)) partly
+    → IsCompleteIn before status case
+complete_by told_names named back told taken left faults waits old new case same partly fails topology before verdict status (inl is) written calm fine o b =
+    complete_in told_names named back told taken left faults waits old new case same partly fails topology before verdict status is calm fine o b
+complete_by told_names named back told taken left faults waits old new case same partly fails topology before verdict status (inr (inl is)) written calm fine o b = absurd (written is)
+complete_by told_names named back told taken left faults waits old new case same partly fails topology before verdict status (inr (inr is)) written calm fine o b = nine_complete case before status is
 
 -- where no write failed, the status is not 8
 pub unwritten : (out out' err err' status : ℕ) → ¬ Rose out out' → ¬ Rose err err' → (status ≡ 8 → Rose out out' ⊎ Rose err err') → status ≢ 8

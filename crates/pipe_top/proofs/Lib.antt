@@ -1,10 +1,13 @@
 pub mod Completes
 pub mod Endings
+pub mod Fronts
 pub mod Longs
+pub mod Openings
 pub mod Outcomes
 pub mod Clauses
 pub mod Reading
 pub mod Runnables
+pub mod Promises
 pub mod Quiets
 pub mod Sources
 pub mod Statuses

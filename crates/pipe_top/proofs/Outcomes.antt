@@ -86,3 +86,19 @@ pub small_of : (s : ℕ) → (s ≡ 0) ⊎ ((s ≡ 1) ⊎ (s ≡ 4)) → s ≤ 4
 small_of s (inl is) = omega (arith, is)
 small_of s (inr (inl is)) = omega (arith, is)
 small_of s (inr (inr is)) = omega (arith, is)
+
+pub within : (status wanted : ℕ) → (status ≡ wanted) ⊎ ((status ≡ 8) ⊎ (status ≡ 9)) → wanted ≤ 10 → status ≤ 10
+within status wanted (inl is) few = omega (arith, is, few)
+within status wanted (inr (inl is)) few = omega (arith, is)
+within status wanted (inr (inr is)) few = omega (arith, is)
+
+-- so is a status that is 5, 6 or 7 ..
+pub unopened_as : (status wanted : ℕ) → (status ≡ wanted) ⊎ ((status ≡ 8) ⊎ (status ≡ 9)) → (status ≡ 5) ⊎ ((status ≡ 6) ⊎ (status ≡ 7)) → (wanted ≡ 5) ⊎ ((wanted ≡ 6) ⊎ (wanted ≡ 7))
+unopened_as status wanted is (inl five) = inl (is_status status wanted 5 is five (λ x. cc) (λ x. cc))
+unopened_as status wanted is (inr (inl six)) = inr (inl (is_status status wanted 6 is six (λ x. cc) (λ x. cc)))
+unopened_as status wanted is (inr (inr seven)) = inr (inr (is_status status wanted 7 is seven (λ x. cc) (λ x. cc)))
+
+-- .. or that of a run that ended or waited
+pub ran_as : (status wanted : ℕ) → (status ≡ wanted) ⊎ ((status ≡ 8) ⊎ (status ≡ 9)) → (status ≤ 4) ⊎ (status ≡ 10) → (wanted ≤ 4) ⊎ (wanted ≡ 10)
+ran_as status wanted is (inl few) = let e = is_small status wanted is few in inl (omega (arith, e, few))
+ran_as status wanted is (inr ten) = inr (is_status status wanted 10 is ten (λ x. cc) (λ x. cc))

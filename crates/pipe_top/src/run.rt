@@ -90,14 +90,18 @@ fn boxes_in(stock: &Vec<Box<dyn Callback + Send>>) -> Boxes
 }
 
 /// Why the topology cannot run on so many workers with these boxes.
+#[tactic(auto, using(crate::proofs::Runnables::runnable, crate::proofs::Openings::stocked))]
 fn refusal_of(topology: &Topology, workers: u16, boxes: &Boxes) -> Option<Refusal>
     requires sound { IsSound topology.now }
-    ensures { result ≡ refusal_in (shortage_of topology.now boxes.now) (unbuilt_of workers topology.now) }
+    ensures refusal { result ≡ refusal_in (shortage_of topology.now boxes.now) (unbuilt_of workers topology.now) }
+    ensures runnable { result ≡ None → IsRunnable topology.now }
+    ensures stocked { result ≡ None → boxes.now.steps ≢ 0 }
 {
-    match shortage(topology, boxes) {
-        Some(shortage) => Some(Refusal::Stock(shortage)),
-        None => first_unbuilt(topology, workers).map(Refusal::Unbuilt),
+    if let Some(shortage) = shortage(topology, boxes) {
+        return Some(Refusal::Stock(shortage));
     }
+    let missing = first_unbuilt(topology, workers)?;
+    Some(Refusal::Unbuilt(missing))
 }
 
 /// Runs the topology with a callback of the stock.

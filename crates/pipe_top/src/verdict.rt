@@ -86,11 +86,13 @@ fn put_texts<K: ByteSink>(sink: &mut K, texts: &Texts, status: u8) -> u8
     ensures whole { result ≢ 8 → IsTrue (K.told sink.old) → Adds (K.held sink.old) (K.held sink.new) (whole_text texts.now) }
     ensures begun { IsTrue (K.told sink.old) → AddsPrefix (K.held sink.old) (K.held sink.new) (whole_text texts.now) }
 {
-    if put_optional(sink, &texts.steps) && put_optional(sink, &texts.acks) {
-        put_text(sink, &texts.last, status)
-    } else {
-        8
+    if !put_optional(sink, &texts.steps) {
+        return 8;
     }
+    if !put_optional(sink, &texts.acks) {
+        return 8;
+    }
+    put_text(sink, &texts.last, status)
 }
 
 /// Writes the text, if there is one, and answers whether all of it was written.

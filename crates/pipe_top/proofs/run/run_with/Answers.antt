@@ -1,14 +1,48 @@
-use Rattle.std.proofs.Common.{◌∙◌}
-use Rattle.pipe_top.proofs.Asking.{asked_ran, asked_none}
-use Rattle.pipe_top.proofs.flow.run_with.Goals as goal
+use Rattle.std.proofs.Common.{refl}
+use Rattle.pipe_top.proofs.Openings.{opened, unopened, unopened_memory}
+use Rattle.pipe_top.proofs.run.run_with.Goals as goal
 
-pub returns-in-Ok-open_source-clause-asked : goal.returns-in-Ok-open_source-clause-asked
-returns-in-Ok-open_source-clause-asked g c told =
+pub returns-in_default-clause-comes : goal.returns-in_default-clause-comes
+returns-in_default-clause-comes g c =
+    let e = g.E.Edges in
+    let s = g.E.Source.ByteSource in
+    unopened_memory e.told e.named e.asked e.faults e.sources_back e.sinks_back s.told s.taken s.left s.faults s.waits c.args.edges.now c.args.edges.now c.args.shows c.args.topology
+    c.refused.result.topology c.refused.result.journal.steps c.refused.result.verdict (λ t. refl) refl refl c.refused.ensures.verdict c.refused.ensures.no_run
+
+pub returns-in_default-armed_core-clause-comes : goal.returns-in_default-armed_core-clause-comes
+returns-in_default-armed_core-clause-comes g c =
+    let e = g.E.Edges in
+    let s = g.E.Source.ByteSource in
+    let r = c.refused-in_default-armed_core in
+    unopened_memory e.told e.named e.asked e.faults e.sources_back e.sinks_back s.told s.taken s.left s.faults s.waits c.args.edges.now c.args.edges.now c.args.shows c.args.topology
+    r.result.topology r.result.journal.steps r.result.verdict (λ t. refl) refl refl r.ensures.verdict r.ensures.no_run
+
+pub returns-in-Ok-open_source-clause-comes : goal.returns-in-Ok-open_source-clause-comes
+returns-in-Ok-open_source-clause-comes g c =
+    let e = g.E.Edges in
+    let s = g.E.Source.ByteSource in
     let o = c.in-Ok-open_source.ensures in
     let r = c.run_opened.ensures in
-    asked_ran c.in-Ok-armed_core.core.topology c.run_opened.result.topology c.run_opened.result.journal.steps c.run_opened.result.verdict _ _ _ r.run
-    (r.edges.same_calls (rw o.same_telling told) ∙ rw c.in-Ok.ensures at (o.asked told))
+    opened e.told e.named e.asked e.faults e.sources_back e.sinks_back s.told s.taken s.left s.faults s.waits c.args.edges.now c.open_source.new.self c.run_opened.new.edges c.args.shows c.args.topology
+    c.in-Ok.name c.in-Ok-open_source.source c.run_opened.result.topology c.run_opened.result.journal.steps c.run_opened.result.verdict
+    c.requires.runnable c.in-Ok.ensures o.same_telling o.fresh o.given o.asked o.back
+    (rw c.in-Ok-armed_core.ensures.topology at r.run) r.back r.back_or_not r.edges
 
-pub returns-in-Err-OutOfMemory-clause-asked : goal.returns-in-Err-OutOfMemory-clause-asked
-returns-in-Err-OutOfMemory-clause-asked g c told =
-    asked_none c.refused-in-Err-OutOfMemory.result.verdict _ _ _ c.refused-in-Err-OutOfMemory.ensures.verdict (rw c.in-Err-OutOfMemory.field-0-is at (c.in-Err-OutOfMemory.ensures.asked told))
+pub returns-in-Err-Failed-clause-comes : goal.returns-in-Err-Failed-clause-comes
+returns-in-Err-Failed-clause-comes g c =
+    let e = g.E.Edges in
+    let s = g.E.Source.ByteSource in
+    let o = c.in-Err-Failed.ensures in
+    let r = c.refused-in-Err-Failed in
+    unopened e.told e.named e.asked e.faults e.sources_back e.sinks_back s.told s.taken s.left s.faults s.waits c.args.edges.now c.open_source.new.self c.args.shows c.args.topology
+    c.in-Ok.name r.result.topology r.result.journal.steps r.result.verdict
+    c.in-Ok.ensures (rw c.in-Err-Failed.field-0-is at o.asked) o.back (rw c.in-Err-Failed.field-0-is at o.cause) r.ensures.verdict r.ensures.no_run
+
+pub returns-in-Err-OutOfMemory-clause-comes : goal.returns-in-Err-OutOfMemory-clause-comes
+returns-in-Err-OutOfMemory-clause-comes g c =
+    let e = g.E.Edges in
+    let s = g.E.Source.ByteSource in
+    let o = c.in-Err-OutOfMemory.ensures in
+    let r = c.refused-in-Err-OutOfMemory in
+    unopened_memory e.told e.named e.asked e.faults e.sources_back e.sinks_back s.told s.taken s.left s.faults s.waits c.args.edges.now c.open_source.new.self c.args.shows c.args.topology
+    r.result.topology r.result.journal.steps r.result.verdict (rw c.in-Err-OutOfMemory.field-0-is at o.asked) o.back.sources o.back.sinks r.ensures.verdict r.ensures.no_run

@@ -1,0 +1,31 @@
+-- Fronts of texts that are written one after another.
+use Rattle.std.proofs.Common.{◌≡◌, ℕ, zero, suc, ◌+◌, List, [], ◌∷◌, ◌++◌, length, take, refl, sym, ◌∙◌, ap}
+use Rattle.std.proofs.lemmas.List.{append_assoc}
+use Rattle.std.proofs.Math.Seq.{take-nil}
+use Rattle.pipe_top.specs.Verdicts.{Adds, AddsPrefix}
+
+-- a front of the first text is a front of both
+front_of : (count : ℕ) (first second : List ℕ) → (n : ℕ) × (take count first ≡ take n (first ++ second))
+front_of count [] second = (0, take-nil count)
+front_of zero (b ∷ first) second = (0, refl)
+front_of (suc count) (b ∷ first) second =
+    let r = front_of count first second in
+    (suc r.0, ap (λ l. b ∷ l) r.1)
+
+past : (first second : List ℕ) (count : ℕ) → first ++ take count second ≡ take (length first + count) (first ++ second)
+past [] second count = refl
+past (b ∷ first) second count = ap (λ l. b ∷ l) (past first second count)
+
+pub front : (held held' first second : List ℕ) → AddsPrefix held held' first → AddsPrefix held held' (first ++ second)
+front held held' first second begun =
+    let r = front_of begun.count first second in
+    record {
+      count = r.0;
+      is = begun.is ∙ ap (λ l. held ++ l) r.1;
+    }
+
+pub after_first : (held middle held' first second : List ℕ) → Adds held middle first → AddsPrefix middle held' second → AddsPrefix held held' (first ++ second)
+after_first held middle held' first second adds begun = record {
+  count = length first + begun.count;
+  is = begun.is ∙ ap (λ l. l ++ take begun.count second) adds ∙ append_assoc held first (take begun.count second) ∙ ap (λ l. held ++ l) (past first second begun.count);
+}
