@@ -1,5 +1,5 @@
 -- Which number of workers a text spells.
-use Rattle.std.proofs.Common.{◌≡◌, ◌≢◌, ◌∙◌, ◌+◌, ◌<◌, ◌≤◌, ◌^◌, ℕ, zero, suc, Bool, true, false, List, [], ◌∷◌, Option, Some, None, Result, Ok, Err, cond, find, get_or, arith, refl, sym, ap, decimal, true≢false, eqb-true, ◌==◌, ◌||◌}
+use Rattle.std.proofs.Common.{◌≡◌, ◌≢◌, ◌∙◌, ◌+◌, ◌<◌, ◌≤◌, ◌^◌, ℕ, zero, suc, Bool, true, false, List, Option, Some, None, Result, Ok, Err, cond, find, get_or, arith, refl, sym, ap, decimal, true≢false, eqb-true, ◌==◌, ◌||◌}
 use Rattle.std.specs.List.{range_with_len}
 use Rattle.std.specs.Str.{bytes_eq}
 use Rattle.std.specs.Str.Parse.{AllDigits, ParsesUnsigned, digits_value}

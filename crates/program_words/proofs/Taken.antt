@@ -1,5 +1,5 @@
 -- From the clauses of clap's calls to what clap takes.
-use Rattle.std.proofs.Common.{◌≡◌, ◌⊎◌, ◌∙◌, ℕ, Bool, true, false, zero, suc, List, [], ◌∷◌, Option, Some, None, codes, cond, length, inl, inr, refl, sym, subst, ap, arith, ne_eqb, not, is_some, option_and_then, true≢false}
+use Rattle.std.proofs.Common.{◌≡◌, ◌⊎◌, ◌∙◌, ℕ, Bool, true, false, List, [], ◌∷◌, Option, Some, None, codes, inl, inr, refl, sym, subst, ap, arith, ne_eqb, not, is_some, option_and_then, true≢false}
 use Rattle.std.specs.Option.{option_eq, option_map_or}
 use Rattle.clap.specs.Words.{App, IsAmong, Kinds, Row, Text, app_of, fault_of, first_of, new_app, subcommand_of}
 use Rattle.clap.specs.Walk.{is_empty}
@@ -12,7 +12,7 @@ use Rattle.clap.specs.declared.builder.command.Command.{Command as Program}
 use Rattle.clap.specs.declared.builder.command.Command.TheViews.{out-Command}
 use Rattle.clap.specs.declared.error.ErrorKind.{ErrorKind}
 use Rattle.clap.specs.declared.error.ErrorKind.TheVariants.{OutOfMemory}
-use Rattle.program_words.specs.Words.{Command, Run, bare_grammar, grammar, named_in, run_in, taken_of, workers_in}
+use Rattle.program_words.specs.Words.{Run, bare_grammar, grammar, named_in, run_in, taken_of, workers_in}
 
 -- where clap finds no fault, the command is that of the subcommand it found
 pub no_fault : (words : List Text) (entered : Option (Text × List Row)) → fault_of grammar words ≡ [] → entered ≡ subcommand_of grammar words

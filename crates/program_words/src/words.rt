@@ -10,6 +10,9 @@ use clap::parser::ValueSource;
 use clap::{Arg, ArgAction, ArgMatches};
 use std::alloc::{AllocError, Global};
 
+/// As many workers as a run may have.
+const MOST_WORKERS: u16 = 16;
+
 /// `flow SOURCE PREFIX`: the name of a source, and what each line is to begin with.
 #[derive(Clone, Copy, Drop, Debug)]
 pub struct FlowWords<'a> {
@@ -121,7 +124,7 @@ fn spelled_workers(text: &str) -> Option<u16>
         return None;
     }
     match text.parse::<u16>() {
-        Ok(workers) if workers <= 16 => Some(workers),
+        Ok(workers) if workers <= MOST_WORKERS => Some(workers),
         _ => None,
     }
 }
