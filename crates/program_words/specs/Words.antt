@@ -65,7 +65,7 @@ grammar = with_subcommand (with_subcommand bare_grammar check_grammar.top) run_g
 -- ---- from clap's matches to the command
 
 -- the number from 1 to 16 whose decimal spelling the text is
-abbrev pub workers_of : Text → Option ℕ
+unfoldable pub workers_of : Text → Option ℕ
 workers_of text = find (λ n. bytes_eq text (decimal n)) (range_with_len 1 16)
 
 -- the N of `--workers`, and 1 where the option is not given

@@ -10,7 +10,7 @@ use std::test::Fail;
 
 /// Words, each parted from the next by one space, and the command that they are: its words in the order of its fields,
 /// an option without a value as whether it is given.
-const COMMANDS: [(&str, &str); 43] = [
+static COMMANDS: [(&str, &str); 43] = [
     ("flow a b", "flow a b"),
     ("flow --help x", "flow --help x"),
     ("flow -- --acks", "flow -- --acks"),
@@ -57,8 +57,12 @@ const COMMANDS: [(&str, &str); 43] = [
 ];
 
 /// Words that are no command.
-const OTHERS: [&str; 96] = [
+static OTHERS: [&str; 100] = [
     "",
+    "x",
+    "x run",
+    "runs x",
+    "gen 7 3 x",
     "flow",
     "flow a",
     "flow a b c",
@@ -187,11 +191,11 @@ fn words_are_commands_or_not(rt: HostRuntime) -> Result<(), Fail> {
     let alloc = rt.alloc();
     let words: Vec<String> = Vec::new(alloc);
     assert!(rt; read_words(alloc, words.as_slice())?.is_none());
-    for (words, want) in COMMANDS {
+    for (words, want) in &COMMANDS {
         let shown = read(alloc, words)?;
-        assert!(rt; shown.as_str() == want, "{words}: {shown}");
+        assert!(rt; shown.as_str() == *want, "{words}: {shown}");
     }
-    for words in OTHERS {
+    for words in &OTHERS {
         let shown = read(alloc, words)?;
         assert!(rt; shown.as_str() == "none", "{words}: {shown}");
     }

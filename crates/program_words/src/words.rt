@@ -1,15 +1,17 @@
 //! Which command the words are.
 
-ghost use Rattle.std.specs.Prelude.{◌≡◌, IfOk, Some, string_bytes, map};
+ghost use Rattle.std.specs.Prelude.{◌≡◌, ◌==◌, ◌||◌, IfOk, false, option_and_then, slice_index};
 ghost use Rattle.clap.specs.Words.{app_of, found_of, rows_of, rule_of, subcommand_rows_of};
 ghost use Rattle.clap.specs.Takes.{is_given};
 ghost use Rattle.program_words.specs.Words.{command_of, texts_of, seen_as, flow_of, taken_of, named_in, check_in, run_in, workers_in, workers_of, grammar, check_grammar, run_grammar, flag_rule, topology_rule};
-ghost use Rattle.std.specs.Prelude.{option_and_then};
 
 use clap::error::ErrorKind;
 use clap::parser::ValueSource;
 use clap::{Arg, ArgAction, ArgMatches};
 use std::alloc::{AllocError, Global};
+
+/// As many workers as a run may have.
+const MOST_WORKERS: u16 = 16;
 
 /// `flow SOURCE PREFIX`: the name of a source, and what each line is to begin with.
 #[derive(Clone, Copy, Drop, Debug)]
@@ -118,10 +120,21 @@ fn workers(matches: &ArgMatches<'_>) -> Option<u16>
 fn spelled_workers(text: &str) -> Option<u16>
     ensures { result ≡ workers_of text.now }
 {
-    match text.as_bytes() {
-        [ones @ b'1'..=b'9'] => Some(u16::from(*ones - b'0')),
-        [b'1', ones @ b'0'..=b'6'] => Some(10 + u16::from(*ones - b'0')),
+    if begins_with_plus_or_zero(text) {
+        return None;
+    }
+    match text.parse::<u16>() {
+        Ok(workers) if workers <= MOST_WORKERS => Some(workers),
         _ => None,
+    }
+}
+
+fn begins_with_plus_or_zero(text: &str) -> bool
+    ensures { result ≡ (slice_index text.now 0 == 43 || slice_index text.now 0 == 48) }
+{
+    match text.as_bytes() {
+        [first, ..] => *first == b'+' || *first == b'0',
+        [] => false,
     }
 }
 
@@ -163,14 +176,16 @@ fn run_command<'a>(alloc: Global) -> Result<clap::Command<'a>, AllocError>
 
 /// The name of a topology file.
 fn topology_arg<'a>(alloc: Global) -> Arg<'a>
-    ensures { rule_of result ≡ topology_rule }
+    ensures rule { rule_of result ≡ topology_rule }
+    ensures local { result.global ≡ false }
 {
     Arg::new(alloc, "topology").required(true)
 }
 
 /// An option that takes no value.
 fn flag<'a>(alloc: Global, name: &'a str) -> Arg<'a>
-    ensures { rule_of result ≡ flag_rule name.entry.now }
+    ensures rule { rule_of result ≡ flag_rule name.entry.now }
+    ensures local { result.global ≡ false }
 {
     Arg::new(alloc, name).long(name).action(ArgAction::SetTrue)
 }

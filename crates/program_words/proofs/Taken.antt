@@ -1,0 +1,72 @@
+-- From the clauses of clap's calls to what clap takes.
+use Rattle.std.proofs.Common.{◌≡◌, ◌⊎◌, ◌∙◌, ℕ, Bool, true, false, List, [], ◌∷◌, Option, Some, None, codes, inl, inr, refl, sym, subst, ap, arith, ne_eqb, not, is_some, option_and_then, true≢false}
+use Rattle.std.specs.Option.{option_eq, option_map_or}
+use Rattle.clap.specs.Words.{App, IsAmong, Kinds, Row, Text, app_of, fault_of, first_of, new_app, subcommand_of}
+use Rattle.clap.specs.Walk.{is_empty}
+use Rattle.clap.specs.Simple.{Shape, app_of_fields, on_top}
+use Rattle.clap.specs.Takes.{is_given}
+use Rattle.clap.specs.Facts.{explicit_source}
+use Rattle.clap.specs.declared.parser.ValueSource.{ValueSource}
+use Rattle.clap.specs.declared.parser.ValueSource.TheVariants.{CommandLine, DefaultValue}
+use Rattle.clap.specs.declared.builder.command.Command.{Command as Program}
+use Rattle.clap.specs.declared.builder.command.Command.TheViews.{out-Command}
+use Rattle.clap.specs.declared.error.ErrorKind.{ErrorKind}
+use Rattle.clap.specs.declared.error.ErrorKind.TheVariants.{OutOfMemory}
+use Rattle.program_words.specs.Words.{Run, bare_grammar, grammar, named_in, run_in, taken_of, workers_in}
+
+-- where clap finds no fault, the command is that of the subcommand it found
+pub no_fault : (words : List Text) (entered : Option (Text × List Row)) → fault_of grammar words ≡ [] → entered ≡ subcommand_of grammar words
+    → option_and_then named_in entered ≡ taken_of words
+unfolding taken_of
+no_fault words entered none is = ap (option_and_then named_in) is ∙ sym (rw none refl)
+
+not_taken : (words : List Text) → is_empty (fault_of grammar words) ≡ false → None ≡ taken_of words
+unfolding taken_of
+not_taken words some = rw some refl
+
+-- where it finds one, there is none
+pub fault : (a : App) (words : List Text) (k e : ErrorKind) → a ≡ grammar → e ≡ k → (e ≡ OutOfMemory → ⊥) → (k ≡ OutOfMemory) ⊎ IsAmong k (fault_of a words)
+    → None ≡ taken_of words
+fault a words k e is kind other (inl memory) = absurd (other (kind ∙ memory))
+fault a words k e is kind other (inr among) = go (fault_of grammar words) refl (subst (λ x. IsAmong k (fault_of x words)) is among)
+  where
+    go : (kinds : Kinds) → fault_of grammar words ≡ kinds → IsAmong k kinds → None ≡ taken_of words
+    go [] at h = absurd h
+    go (x ∷ xs) at h = not_taken words (ap is_empty at ∙ ne_eqb _ _ (λ e. omega arith))
+
+-- the settings of a program without its name and without help
+pub bare : (start named flag sub : Program) → app_of start ≡ new_app (codes "wamiondry")
+    → out-Command named ≡ record (out-Command start) { no_binary_name = true }
+    → out-Command flag ≡ record (out-Command named) { disable_help_flag = true }
+    → out-Command sub ≡ record (out-Command flag) { disable_help_subcommand = true } → app_of sub ≡ bare_grammar
+bare start named flag sub new first second third =
+    ap app_of_fields third ∙ ap (on_top (λ (s : Shape). record s { disable_help_subcommand = true }))
+    (ap app_of_fields second ∙ ap (on_top (λ (s : Shape). record s { disable_help_flag = true }))
+    (ap app_of_fields first ∙ ap (on_top (λ (s : Shape). record s { no_binary_name = true })) new))
+
+-- a run, by its parts
+pub run_read : (rows : List Row) (topology : Text) (workers : ℕ) (acks steps : Bool) → Some topology ≡ first_of (codes "topology") rows → Some workers ≡ workers_in rows
+    → acks ≡ is_given (codes "acks") rows → steps ≡ is_given (codes "steps") rows → Some (Run topology workers acks steps) ≡ run_in rows
+run_read rows topology workers acks steps named number first second = go (first_of (codes "topology") rows) (workers_in rows) named number
+  where
+    go : (t : Option Text) (n : Option ℕ) → Some topology ≡ t → Some workers ≡ n
+        → Some (Run topology workers acks steps)
+        ≡ option_and_then (λ topology. Rattle.std.specs.Option.option_map (λ workers. Run topology workers (is_given (codes "acks") rows) (is_given (codes "steps") rows)) n) t
+    go t n named number = rw (← named, ← number, first, second) refl
+
+-- something whose source is no default is given
+pub explicit : {A : Type 0} (of : A → Option ValueSource) (eq : ValueSource → ValueSource → Bool) (found : Option A) (source : Option ValueSource) (b : Bool)
+    → eq DefaultValue DefaultValue ≡ true → eq CommandLine DefaultValue ≡ false
+    → source ≡ option_and_then of found → b ≡ not (option_eq eq source (Some DefaultValue)) → true ≡ is_some found
+    → b ≡ option_map_or (λ a. explicit_source (of a)) found false
+explicit of eq None source b same other is differs some = absurd (true≢false some)
+explicit of eq (Some a) source b same other is differs some = differs ∙ ap (λ o. not (option_eq eq o (Some DefaultValue))) is ∙ go (of a)
+  where
+    go : (o : Option ValueSource) → not (option_eq eq o (Some DefaultValue)) ≡ explicit_source o
+    go None = refl
+    go (Some DefaultValue) = ap not same
+    go (Some CommandLine) = ap not other
+
+pub absent : {A : Type 0} (of : A → Option ValueSource) (found : Option A) → false ≡ is_some found → false ≡ option_map_or (λ a. explicit_source (of a)) found false
+absent of None none = refl
+absent of (Some a) none = absurd (true≢false (sym none))
