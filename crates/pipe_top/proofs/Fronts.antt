@@ -1,5 +1,5 @@
 -- Fronts of texts that are written one after another.
-use Rattle.std.proofs.Common.{◌≡◌, ℕ, zero, suc, ◌+◌, List, [], ◌∷◌, ◌++◌, length, take, refl, sym, ◌∙◌, ap}
+use Rattle.std.proofs.Common.{◌≡◌, ℕ, zero, suc, ◌+◌, List, [], ◌∷◌, ◌++◌, length, take, refl, ◌∙◌, ap, arith}
 use Rattle.std.proofs.lemmas.List.{append_assoc}
 use Rattle.std.proofs.Math.Seq.{take-nil}
 use Rattle.pipe_top.specs.Verdicts.{Adds, AddsPrefix}
@@ -13,8 +13,12 @@ front_of (suc count) (b ∷ first) second =
     (suc r.0, ap (λ l. b ∷ l) r.1)
 
 past : (first second : List ℕ) (count : ℕ) → first ++ take count second ≡ take (length first + count) (first ++ second)
-past [] second count = refl
-past (b ∷ first) second count = ap (λ l. b ∷ l) (past first second count)
+past [] second count =
+    let same : count ≡ 0 + count = omega arith in
+    ap (λ n. take n second) same
+past (b ∷ first) second count =
+    let same : suc (length first + count) ≡ suc (length first) + count = omega arith in
+    ap (λ l. b ∷ l) (past first second count) ∙ ap (λ n. take n (b ∷ (first ++ second))) same
 
 pub front : (held held' first second : List ℕ) → AddsPrefix held held' first → AddsPrefix held held' (first ++ second)
 front held held' first second begun =

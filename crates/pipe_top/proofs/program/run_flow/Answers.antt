@@ -1,4 +1,4 @@
-use Rattle.pipe_top.proofs.Reading.{came_by_flow, came_to_nothing}
+use Rattle.pipe_top.proofs.Reading.{came_to_nothing}
 use Rattle.pipe_top.proofs.program.run_flow.Goals as goal
 
 pub returns-in_default-clause-came : goal.returns-in_default-clause-came
@@ -8,11 +8,3 @@ returns-in_default-clause-came g c =
     let r = c.refused in
     came_to_nothing e.told e.named e.asked e.faults e.sources_back e.sinks_back s.told s.taken s.left s.faults s.waits c.args.edges.now _ _ r.result.topology r.result.journal.steps r.result.verdict
     r.ensures.verdict r.ensures.no_run
-
-pub returns-in-Ok-clause-came : goal.returns-in-Ok-clause-came
-returns-in-Ok-clause-came g c =
-    let e = g.E.Edges in
-    let s = g.E.Source.ByteSource in
-    let r = c.run_topology in
-    came_by_flow e.told e.named e.asked e.faults e.sources_back e.sinks_back s.told s.taken s.left s.faults s.waits c.args.edges.now r.new.edges _ c.args.words.source.now c.args.words.prefix.now c.in-Ok.topology
-    r.result.topology r.result.journal.steps r.result.verdict c.in-Ok.ensures.value r.ensures.comes
