@@ -1,3 +1,4 @@
 pub mod Needs
 pub mod Unbuilt
 pub mod Built
+pub mod Samples

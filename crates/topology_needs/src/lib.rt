@@ -10,6 +10,8 @@ mod feeding;
 pub mod laws;
 mod needs;
 mod stock;
+#[cfg(test)]
+mod tests;
 mod unbuilt;
 
 pub use feeding::subscriptions;
