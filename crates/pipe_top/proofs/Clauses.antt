@@ -1,12 +1,12 @@
 -- From what a call came to, to the clauses of the top call.
-use Rattle.std.proofs.Common.{◌≡◌, ◌≢◌, ℕ, ◌≤◌, ◌<◌, List, [], ◌∷◌, ◌++◌, length, take, Bool, true, false, Option, Some, None, Result, Ok, Err, refl, sym, ◌∙◌, ap, inl, inr, arith}
-use Rattle.std.specs.Prelude.{◌⊎◌, nat_le, if◌then◌else◌, IsTrue}
+use Rattle.std.proofs.Common.{◌≡◌, ◌≢◌, ℕ, ◌≤◌, ◌<◌, List, [], ◌∷◌, ◌++◌, length, take, Bool, Option, Some, None, Result, Ok, Err, refl, sym, ◌∙◌, ap, inl, inr, arith}
+use Rattle.std.specs.Prelude.{◌⊎◌, IsTrue}
 use Rattle.std.proofs.lemmas.List.{append-nil, append_assoc, take_all, take_at}
 use Rattle.std.proofs.Math.Seq.{take-nil}
 use Rattle.pipe_types.specs.declared.topology.Topology.{Topology}
 use Rattle.pipe_model.specs.History.{History}
 use Rattle.pipe_edges.specs.declared.edges.EdgeKind.{EdgeKind}
-use Rattle.program_words.specs.Refusals.{memory_line, edge_line}
+use Rattle.program_words.specs.Refusals.{memory_line}
 use Rattle.program_words.specs.Words.{Command, Flow, Check, Run}
 use Rattle.topology_needs.specs.declared.stock.Boxes.{Boxes}
 use Rattle.topology_needs.specs.declared.stock.Shortage.{Shortage}
@@ -18,14 +18,14 @@ use Rattle.config_flow.specs.Flow.{flow_topology_of}
 use Rattle.pipe_config.specs.File.{topology_of_file}
 use Rattle.pipe_top.specs.Cases.{Case, NoCommand, NoTopology as BadTopology, TooFew, NotBuilt, Checks, Runs, case_of, run_case, unless_short, unless_unbuilt, for_topology, report_alone, source_of}
 use Rattle.pipe_top.specs.Verdicts.{Adds, AddsPrefix, out_text_of, err_text_of, status_in, FaultBy}
-use Rattle.pipe_top.specs.Runs.{IsRunOrNone, IsEndOf, IsStopOf, IsOwnTopology, IsStatusOf, IsReportOf, Lost, IsReadBack, IsPartlyRead, ForSource, IsRefusalStatus, IsUnopenedStatus, IsOr, Asks, FailsAt, NamesFault, IsEdgeLine, BeginsLine, out_text, case_line, error_text}
-use Rattle.pipe_top.specs.Flows.{IsRunVerdict, IsEarly, Outcome, RunBack, BackBy, AskedBy}
+use Rattle.pipe_top.specs.Runs.{IsRunOrNone, IsEndOf, IsStopOf, IsOwnTopology, IsStatusOf, IsReportOf, Lost, IsReadBack, ForSource, IsRefusalStatus, IsUnopenedStatus, IsOr, Asks, FailsAt, NamesFault, IsEdgeLine, BeginsLine, out_text, case_line, error_text}
+use Rattle.pipe_top.specs.Flows.{IsEarly, Outcome, RunBack, BackBy, AskedBy}
 use Rattle.pipe_top.specs.declared.verdict.Refusal.{Refusal}
 use Rattle.pipe_top.specs.declared.verdict.Refusal.TheVariants.{Usage, Topology as NoTopology, Stock, Unbuilt, Wait, Edge, Memory}
 use Rattle.pipe_top.specs.declared.verdict.Shows.{Shows}
 use Rattle.pipe_top.specs.declared.verdict.Verdict.{Verdict}
 use Rattle.pipe_top.specs.declared.verdict.Verdict.TheVariants.{Refused, Done}
-use Rattle.pipe_top.proofs.Outcomes.{Fails, Early, early, Reported, ran, settled, is_status, is_small, not_small, not_both, small_of}
+use Rattle.pipe_top.proofs.Outcomes.{Fails, Early, early, Reported, ran, settled, is_small, not_small, not_both, small_of}
 
 -- ---- the statuses of verdicts
 

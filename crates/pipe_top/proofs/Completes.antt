@@ -20,7 +20,6 @@ use Rattle.pipe_top.specs.Runs.{IsRun, IsEnded, IsReadBack, IsFaultless, IsCompl
 use Rattle.pipe_top.specs.Cases.{Case, NoCommand, NoTopology as BadTopology, TooFew, NotBuilt, Checks, Runs, source_of}
 use Rattle.pipe_top.specs.Flows.{Outcome, RunBack, BackBy}
 use Rattle.pipe_top.specs.declared.verdict.Refusal.TheVariants.{Wait, Memory}
-use Rattle.pipe_top.specs.declared.verdict.Shows.{Shows}
 use Rattle.pipe_top.specs.declared.verdict.Texts.{Texts}
 use Rattle.pipe_top.specs.declared.verdict.Verdict.{Verdict}
 use Rattle.pipe_top.specs.declared.verdict.Verdict.TheVariants.{Refused, Done}

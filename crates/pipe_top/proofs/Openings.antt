@@ -1,6 +1,6 @@
 -- What comes of a topology: it is refused, its source is not opened, or it runs.
-use Rattle.std.proofs.Common.{◌≡◌, ◌≢◌, ℕ, ◌+◌, ◌≤◌, ◌<◌, List, [], ◌∷◌, ◌++◌, length, take, Bool, true, false, Option, Some, None, refl, sym, ◌∙◌, ap, inl, inr, arith}
-use Rattle.std.specs.Prelude.{◌⊎◌, IsTrue, nat_lt, cond, find, filter, sum_by, unwrap_or}
+use Rattle.std.proofs.Common.{◌≡◌, ◌≢◌, ℕ, ◌≤◌, List, [], ◌∷◌, ◌++◌, length, Bool, true, false, Option, Some, None, refl, sym, ◌∙◌, ap, inl, inr, arith}
+use Rattle.std.specs.Prelude.{◌⊎◌, IsTrue, cond, find, filter, sum_by, unwrap_or}
 use Rattle.std.specs.Option.{option_map}
 use Rattle.std.proofs.lemmas.Bool.{ltb-false}
 use Rattle.std.proofs.lemmas.List.{append-nil, take_all}
@@ -13,7 +13,7 @@ use Rattle.pipe_types.specs.declared.topology.Topology.{Topology}
 use Rattle.pipe_model.specs.History.{History}
 use Rattle.pipe_edges.specs.declared.edges.EdgeKind.{EdgeKind}
 use Rattle.pipe_edges.specs.declared.edges.EdgeKind.TheVariants.{Source}
-use Rattle.pipe_edges.specs.Named.{IsFreshSource, GivesSource, StandsAsBefore, KeepsBack}
+use Rattle.pipe_edges.specs.Named.{IsFreshSource, GivesSource, KeepsBack}
 use Rattle.stage_job.specs.Boxes.{same_kind}
 use Rattle.topology_needs.specs.declared.stock.Boxes.{Boxes}
 use Rattle.topology_needs.specs.declared.stock.Shortage.{Shortage}
@@ -21,15 +21,15 @@ use Rattle.topology_needs.specs.declared.unbuilt.Unbuilt.{Unbuilt as Missing}
 use Rattle.topology_needs.specs.Needs.{shortage_of, is_short, need_and_have, need_of, posts_of}
 use Rattle.topology_needs.specs.Unbuilt.{unbuilt_of}
 use Rattle.topology_needs.proofs.Builds.{is_built}
-use Rattle.pipe_top.specs.Cases.{Case, Runs, TooFew, NotBuilt, run_case, unless_short, unless_unbuilt, source_of, source_calls}
-use Rattle.pipe_top.specs.Runs.{IsReadBack, IsPartlyRead, Asks, FailsAt}
+use Rattle.pipe_top.specs.Cases.{Runs, run_case, unless_short, unless_unbuilt, source_of, source_calls}
+use Rattle.pipe_top.specs.Runs.{IsReadBack, IsPartlyRead, FailsAt}
 use Rattle.pipe_top.specs.Flows.{IsRunnable, GivesBack, KeepsEdges, RunsOrNot, RunBack, AskedBy, ComesBy, IsEarly, IsRunOn, refusal_in}
 use Rattle.pipe_top.specs.declared.verdict.Refusal.{Refusal}
 use Rattle.pipe_top.specs.declared.verdict.Refusal.TheVariants.{Usage, Topology as NoTopology, Stock, Unbuilt, Wait, Edge, Memory}
 use Rattle.pipe_top.specs.declared.verdict.Shows.{Shows}
 use Rattle.pipe_top.specs.declared.verdict.Verdict.{Verdict}
 use Rattle.pipe_top.specs.declared.verdict.Verdict.TheVariants.{Refused, Done}
-use Rattle.pipe_top.proofs.Reading.{none_back, wanting}
+use Rattle.pipe_top.proofs.Reading.{wanting}
 use Rattle.pipe_top.proofs.Runnables.{runnable}
 
 -- ---- the stock
@@ -195,8 +195,7 @@ opened {E} {S} {K} told named asked edge_faults back sinks_back source_told take
           given = g.given ∙ ap (λ l. l ++ (name, g.source) ∷ []) keeps.sources ∙ ap (λ n. back old ++ (n, g.source) ∷ []) name_is;
           reads = g.read.reads;
           opened = λ t.
-              let s = given t in
-              (
+              let s = given t in (
                 rw g.read.same_telling s.tells,
                 g.read.same_bytes s.tells ∙ ap (λ l. l ++ left source) fresh.nothing_taken ∙ s.has_left ∙ ap (named old Source) name_is,
               );
@@ -219,14 +218,17 @@ pub unopened : {E S K : Type 0} (told : E → Bool) (named : E → EdgeKind → 
     → ComesBy told named asked edge_faults back sinks_back source_told taken left faults waits old new (Runs shows wanted) ((Source, source_of wanted) ∷ []) topology before verdict
 unopened told named asked edge_faults back sinks_back source_told taken left faults waits old new shows wanted name topology before verdict name_is calls keeps rose is none =
     rw (is, none.0) (record {
-      outcome = inl (none.1, record {
-        kind = Source;
-        front = [];
-        rest = [];
-        parts = ap (λ n. (Source, n) ∷ []) (sym name_is);
-        is_last = calls;
-        rose = rose;
-      });
+      outcome = inl (
+        none.1,
+        record {
+          kind = Source;
+          front = [];
+          rest = [];
+          parts = ap (λ n. (Source, n) ∷ []) (sym name_is);
+          is_last = calls;
+          rose = rose;
+        },
+      );
       back_by = keeps.sources;
       asked_by = λ t. tt;
       no_sinks = keeps.sinks;

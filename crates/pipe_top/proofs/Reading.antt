@@ -1,10 +1,9 @@
 -- What a call comes to after its topology file was read.
-use Rattle.std.proofs.Common.{◌≡◌, ℕ, zero, suc, ◌≤◌, ◌<◌, ◌+◌, ◌^◌, List, [], ◌∷◌, ◌++◌, take, Bool, Option, Some, None, Result, Ok, Err, refl, sym, ◌∙◌, ap, inl, inr, arith}
-use Rattle.std.specs.Prelude.{◌⊎◌, IsTrue}
+use Rattle.std.proofs.Common.{◌≡◌, ℕ, zero, suc, ◌≤◌, List, [], ◌∷◌, ◌++◌, take, Bool, Option, Some, None, Result, Ok, Err, refl, sym, ◌∙◌, ap, inl, inr, arith}
+use Rattle.std.specs.Prelude.{IsTrue}
 use Rattle.std.proofs.lemmas.List.{append-nil, append_assoc}
 use Rattle.std.proofs.Math.Seq.{take-nil}
 use Rattle.pipe_types.specs.Counts.{Rose}
-use Rattle.pipe_types.specs.Numbers.{stage}
 use Rattle.pipe_types.specs.declared.topology.Topology.{Topology}
 use Rattle.pipe_model.specs.History.{History}
 use Rattle.pipe_edges.specs.declared.edges.EdgeKind.{EdgeKind}
@@ -15,12 +14,11 @@ use Rattle.pipe_config.specs.File.{topology_of_file}
 use Rattle.config_flow.specs.Flow.{flow_topology_of}
 use Rattle.program_words.specs.Words.{Command, Flow, Check, Run}
 use Rattle.topology_needs.specs.declared.stock.Boxes.{Boxes}
-use Rattle.pipe_top.specs.Cases.{Case, NoCommand, NoTopology as BadTopology, TooFew, NotBuilt, Checks, Runs, case_of, calls_of, run_case, for_topology, report_alone, source_of, source_calls, file_name, IsNamedFile}
-use Rattle.pipe_top.specs.Runs.{IsReadBack, IsPartlyRead, Asks, FailsAt}
+use Rattle.pipe_top.specs.Cases.{Case, NoCommand, NoTopology as BadTopology, TooFew, NotBuilt, Checks, Runs, case_of, run_case, for_topology, report_alone, source_of, source_calls, file_name, IsNamedFile}
+use Rattle.pipe_top.specs.Runs.{Asks, FailsAt}
 use Rattle.pipe_top.specs.Flows.{IsEarly, IsCheckedOrNot, Outcome, RunBack, BackBy, AskedBy, ComesBy, Came, ReadsFile, ReadsTopology, AskedFile}
 use Rattle.pipe_top.specs.declared.verdict.Refusal.{Refusal}
 use Rattle.pipe_top.specs.declared.verdict.Refusal.TheVariants.{Usage, Topology as NoTopology, Stock, Unbuilt, Wait, Edge, Memory}
-use Rattle.pipe_top.specs.declared.verdict.Shows.{Shows}
 use Rattle.pipe_top.specs.declared.verdict.Verdict.{Verdict}
 use Rattle.pipe_top.specs.declared.verdict.Verdict.TheVariants.{Refused, Done}
 
@@ -189,14 +187,17 @@ unread told named asked edge_faults back sinks_back source_told taken left fault
     (λ t. one_of_more (File, name) (source_calls (for_topology (topology_of_file r.file) go)) (asked old) (asked new) (r.asked_by t))
 unread told named asked edge_faults back sinks_back source_told taken left faults waits old new go name (Edge other) topology before verdict is none r =
     rw (is, none.0) (record {
-      outcome = inl (none.1, record {
-        kind = File;
-        front = [];
-        rest = source_calls (for_topology (topology_of_file r.file) go);
-        parts = ap (λ n. (File, n) ∷ source_calls (for_topology (topology_of_file r.file) go)) (sym r.reads.0);
-        is_last = λ t. r.asked_by t ∙ ap (λ n. asked old ++ (File, n) ∷ []) (sym r.reads.0);
-        rose = r.reads.1;
-      });
+      outcome = inl (
+        none.1,
+        record {
+          kind = File;
+          front = [];
+          rest = source_calls (for_topology (topology_of_file r.file) go);
+          parts = ap (λ n. (File, n) ∷ source_calls (for_topology (topology_of_file r.file) go)) (sym r.reads.0);
+          is_last = λ t. r.asked_by t ∙ ap (λ n. asked old ++ (File, n) ∷ []) (sym r.reads.0);
+          rose = r.reads.1;
+        },
+      );
       back_by = none_back (for_topology (topology_of_file r.file) go) (Edge other) _ _ _ r.same_sources;
       asked_by = λ t. tt;
       no_sinks = r.same_sinks;

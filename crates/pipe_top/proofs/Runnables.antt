@@ -1,8 +1,8 @@
 -- A sound topology of which nothing is unbuilt runs.
-use Rattle.std.proofs.Common.{◌≡◌, ◌≢◌, ℕ, ◌<◌, ◌≤◌, List, [], ◌∷◌, Bool, true, false, Option, Some, None, refl, sym, ◌∙◌, ap, arith}
+use Rattle.std.proofs.Common.{◌≡◌, ◌≢◌, ℕ, ◌≤◌, List, [], ◌∷◌, true, Option, Some, None, refl, sym, ◌∙◌, ap, arith}
 use Rattle.std.proofs.lemmas.Bool.{leb-true}
 use Rattle.std.proofs.lemmas.Bool.Decides.{nat_tests}
-use Rattle.std.specs.Prelude.{◌&&◌, not, nat_le, nat_lt, IsTrue, unwrap_or, option_and_then}
+use Rattle.std.specs.Prelude.{◌&&◌, not, nat_le, nat_lt, unwrap_or, option_and_then}
 use Rattle.std.specs.List.{list_all}
 use Rattle.pipe_types.specs.declared.topology.Kind.{Kind}
 use Rattle.pipe_types.specs.declared.topology.Kind.TheVariants.{Steps, Lines, Own}
@@ -16,10 +16,7 @@ use Rattle.pipe_types.specs.Sound.{IsSound, has_fields, has_fields_of, is_rule, 
 use Rattle.pipe_types.specs.Stages.{spec_of}
 use Rattle.core_flow.proofs.Allowed.{and_left, and_right}
 use Rattle.stage_callback.specs.Callbacks.{can_arm, is_countable, routes_below}
-use Rattle.topology_needs.specs.Built.{IsBuilt}
 use Rattle.topology_needs.specs.Unbuilt.{unbuilt_of}
-use Rattle.topology_needs.specs.Needs.{shortage_of}
-use Rattle.topology_needs.specs.declared.stock.Boxes.{Boxes}
 use Rattle.topology_needs.proofs.Builds.{is_built}
 use Rattle.pipe_top.specs.Cases.{source_of}
 use Rattle.pipe_top.specs.Flows.{IsRunnable}

@@ -1,5 +1,5 @@
 -- What the parts of a call come to.
-use Rattle.std.specs.Prelude.{◌≡◌, ◌≢◌, ◌≤◌, ◌⊎◌, Bool, ℕ, List, [], ◌∷◌, ◌++◌, length, IsTrue, Option, Some, None, Result, Ok, Err}
+use Rattle.std.specs.Prelude.{◌≡◌, ◌≤◌, ◌⊎◌, Bool, ℕ, List, [], ◌∷◌, ◌++◌, length, IsTrue, Option, Some, None, Result, Ok, Err}
 use Rattle.pipe_types.specs.Counts.{Rose}
 use Rattle.pipe_types.specs.Numbers.{stage}
 use Rattle.pipe_types.specs.Sound.{IsSound}
@@ -9,7 +9,7 @@ use Rattle.pipe_types.specs.declared.topology.Kind.TheVariants.{Steps}
 use Rattle.pipe_types.specs.Stages.{spec_of}
 use Rattle.pipe_model.specs.History.{History}
 use Rattle.pipe_edges.specs.declared.edges.EdgeKind.{EdgeKind}
-use Rattle.pipe_edges.specs.declared.edges.EdgeKind.TheVariants.{File, Source}
+use Rattle.pipe_edges.specs.declared.edges.EdgeKind.TheVariants.{File}
 use Rattle.config_table.specs.declared.fault.ConfigFault.{ConfigFault}
 use Rattle.program_words.specs.Refusals.{counts_line}
 use Rattle.program_words.specs.Words.{Command}

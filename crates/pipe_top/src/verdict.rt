@@ -7,9 +7,7 @@ ghost use Rattle.pipe_top.specs.Verdicts.{path_of, refusal_text, refusal_status,
 use pipe_config::{ConfigFault, fault_number};
 use pipe_edges::{ByteSink, PutEnd, put_all};
 use pipe_types::bytes::{Bytes, Text};
-use program_words::{
-    edge_line, memory_line, stock_line, topology_line, unbuilt_line, usage_line,
-};
+use program_words::{edge_line, memory_line, stock_line, topology_line, unbuilt_line, usage_line};
 use std::alloc::{AllocError, Global};
 use topology_needs::{Shortage, Unbuilt};
 
