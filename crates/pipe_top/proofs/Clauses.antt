@@ -16,10 +16,11 @@ use Rattle.topology_needs.specs.Unbuilt.{unbuilt_of}
 use Rattle.config_table.specs.declared.fault.ConfigFault.{ConfigFault}
 use Rattle.config_flow.specs.Flow.{flow_topology_of}
 use Rattle.pipe_config.specs.File.{topology_of_file}
+use Rattle.stage_workers.specs.Steps.{ends_in_fetch}
 use Rattle.pipe_top.specs.Cases.{Case, NoCommand, NoTopology as BadTopology, TooFew, NotBuilt, Checks, Runs, case_of, run_case, unless_short, unless_unbuilt, for_topology, report_alone, source_of}
-use Rattle.pipe_top.specs.Verdicts.{Adds, AddsPrefix, out_text_of, err_text_of, status_in, FaultBy}
+use Rattle.pipe_top.specs.Verdicts.{Adds, AddsPrefix, out_text_of, err_text_of, status_in, FaultBy, QuietBy}
 use Rattle.pipe_top.specs.Runs.{IsRunOrNone, IsEndOf, IsStopOf, IsOwnTopology, IsStatusOf, IsReportOf, Lost, IsReadBack, ForSource, IsRefusalStatus, IsUnopenedStatus, IsOr, Asks, FailsAt, NamesFault, IsEdgeLine, BeginsLine, out_text, case_line, error_text}
-use Rattle.pipe_top.specs.Flows.{IsEarly, Outcome, RunBack, BackBy, AskedBy}
+use Rattle.pipe_top.specs.Flows.{IsRunVerdict, IsEarly, Outcome, RunBack, BackBy, AskedBy}
 use Rattle.pipe_top.specs.declared.verdict.Refusal.{Refusal}
 use Rattle.pipe_top.specs.declared.verdict.Refusal.TheVariants.{Usage, Topology as NoTopology, Stock, Unbuilt, Wait, Edge, Memory}
 use Rattle.pipe_top.specs.declared.verdict.Shows.{Shows}
@@ -80,20 +81,12 @@ never_eight (Runs shows wanted) fails topology before verdict (inr r) = by_run (
 -- ---- the topology and the end
 
 pub own : (case : Case) (fails : List ℕ → Type 0) (topology : Option Topology) (before : History) (verdict : Verdict) → Outcome case fails topology before verdict → IsOwnTopology topology before case
-own case fails topology before verdict (inl e) = by_case case (early fails topology before verdict e).no_topology (early fails topology before verdict e).no_step
-  where
-    by_case : (case : Case) → topology ≡ None → before ≡ [] → IsOwnTopology topology before case
-    by_case NoCommand none empty = rw none (refl, empty)
-    by_case (BadTopology fault) none empty = rw none (refl, empty)
-    by_case (TooFew shortage) none empty = rw none (refl, empty)
-    by_case (NotBuilt missing) none empty = rw none (refl, empty)
-    by_case (Checks wanted) none empty = rw none (refl, empty)
-    by_case (Runs shows wanted) none empty = rw none empty
-own NoCommand fails topology before verdict (inr r) = rw r.no_topology (refl, r.no_step)
-own (BadTopology fault) fails topology before verdict (inr r) = rw r.no_topology (refl, r.no_step)
-own (TooFew shortage) fails topology before verdict (inr r) = rw r.no_topology (refl, r.no_step)
-own (NotBuilt missing) fails topology before verdict (inr r) = rw r.no_topology (refl, r.no_step)
-own (Checks wanted) fails topology before verdict (inr r) = rw r.no_topology (refl, r.no_step)
+own case fails topology before verdict (inl e) = rw (early fails topology before verdict e).no_topology (early fails topology before verdict e).no_step
+own NoCommand fails topology before verdict (inr r) = rw r.no_topology r.no_step
+own (BadTopology fault) fails topology before verdict (inr r) = rw r.no_topology r.no_step
+own (TooFew shortage) fails topology before verdict (inr r) = rw r.no_topology r.no_step
+own (NotBuilt missing) fails topology before verdict (inr r) = rw r.no_topology r.no_step
+own (Checks wanted) fails topology before verdict (inr r) = rw r.own (refl, r.no_step)
 own (Runs shows wanted) fails topology before verdict (inr r) = rw r.own refl
 
 pub run : (case : Case) (fails : List ℕ → Type 0) (topology : Option Topology) (before : History) (verdict : Verdict) → Outcome case fails topology before verdict → IsRunOrNone topology before
@@ -102,7 +95,7 @@ run NoCommand fails topology before verdict (inr r) = rw r.no_topology r.no_step
 run (BadTopology fault) fails topology before verdict (inr r) = rw r.no_topology r.no_step
 run (TooFew shortage) fails topology before verdict (inr r) = rw r.no_topology r.no_step
 run (NotBuilt missing) fails topology before verdict (inr r) = rw r.no_topology r.no_step
-run (Checks wanted) fails topology before verdict (inr r) = rw r.no_topology r.no_step
+run (Checks wanted) fails topology before verdict (inr r) = rw r.own r.run
 run (Runs shows wanted) fails topology before verdict (inr r) = rw r.own r.run
 
 ended_in : (case : Case) (fails : List ℕ → Type 0) (topology : Option Topology) (before : History) (verdict : Verdict) → Outcome case fails topology before verdict → status_in verdict ≤ 4
@@ -112,7 +105,7 @@ ended_in NoCommand fails topology before verdict (inr r) few = absurd (not_small
 ended_in (BadTopology fault) fails topology before verdict (inr r) few = absurd (not_small 6 (status_in verdict) (ap status_in r.refused) (omega arith) few)
 ended_in (TooFew shortage) fails topology before verdict (inr r) few = absurd (not_small 6 (status_in verdict) (ap status_in r.refused) (omega arith) few)
 ended_in (NotBuilt missing) fails topology before verdict (inr r) few = absurd (not_small 10 (status_in verdict) (ap status_in r.refused) (omega arith) few)
-ended_in (Checks wanted) fails topology before verdict (inr r) few = (ap status_in r.counted, r.no_topology, r.no_step)
+ended_in (Checks wanted) fails topology before verdict (inr r) few = (ap status_in r.counted, r.own, r.no_step)
 ended_in (Runs shows wanted) fails topology before verdict (inr r) few = by_run (ran verdict shows wanted before r.comes_to)
   where
     by_run : Reported shows wanted before verdict ⊎ ((verdict ≡ Refused Wait) ⊎ (verdict ≡ Refused Memory)) → IsEndOf topology before (status_in verdict) (Runs shows wanted)
@@ -134,7 +127,17 @@ stopped (BadTopology fault) fails topology before verdict (inr r) ten = absurd (
 stopped (TooFew shortage) fails topology before verdict (inr r) ten = absurd (not_both 6 10 (status_in verdict) (ap status_in r.refused) ten (λ x. cc))
 stopped (NotBuilt missing) fails topology before verdict (inr r) ten = (r.no_topology, r.no_step)
 stopped (Checks wanted) fails topology before verdict (inr r) ten = absurd (not_both 0 10 (status_in verdict) (ap status_in r.counted) ten (λ x. cc))
-stopped (Runs shows wanted) fails topology before verdict (inr r) ten = r.own
+stopped (Runs shows wanted) fails topology before verdict (inr r) ten = by_run (ran verdict shows wanted before r.comes_to)
+  where
+    waits : verdict ≡ Refused Wait → IsTrue (ends_in_fetch before)
+    waits is =
+        let v : IsRunVerdict (Refused Wait) shows wanted before = rw is at r.comes_to in
+        v
+
+    by_run : Reported shows wanted before verdict ⊎ ((verdict ≡ Refused Wait) ⊎ (verdict ≡ Refused Memory)) → IsStopOf topology before (Runs shows wanted)
+    by_run (inl v) = absurd (not_small 10 (status_in verdict) ten (omega arith) (rw v.is (small_of v.status v.report.ended.possible)))
+    by_run (inr (inl is)) = (r.own, waits is)
+    by_run (inr (inr is)) = absurd (not_both 9 10 (status_in verdict) (ap status_in is) ten (λ x. cc))
 
 -- ---- the output
 
@@ -446,7 +449,9 @@ none_ran NoCommand fails topology before verdict (inr r) u = (r.no_topology, r.n
 none_ran (BadTopology fault) fails topology before verdict (inr r) u = (r.no_topology, r.no_step)
 none_ran (TooFew shortage) fails topology before verdict (inr r) u = (r.no_topology, r.no_step)
 none_ran (NotBuilt missing) fails topology before verdict (inr r) u = (r.no_topology, r.no_step)
-none_ran (Checks wanted) fails topology before verdict (inr r) u = (r.no_topology, r.no_step)
+none_ran (Checks wanted) fails topology before verdict (inr r) u =
+    let counted : status_in verdict ≡ 0 = ap status_in r.counted in
+    absurd (omega (arith, counted, (unopened_is (status_in verdict) u).0))
 none_ran (Runs shows wanted) fails topology before verdict (inr r) u = absurd (run_opened verdict shows wanted before (ran verdict shows wanted before r.comes_to) u)
 
 pub not_opened : (case : Case) (fails : List ℕ → Type 0) (topology : Option Topology) (before : History) (verdict : Verdict) (same : Type 0) (read partly : List ℕ → Type 0)
@@ -541,34 +546,34 @@ maybe_read (Runs shows wanted) fails topology before verdict same read partly as
 
 -- ---- a text that was lost
 
-refusal_lost : (verdict : Verdict) (refusal : Refusal) (reported out_fault back err_fault : Type 0) → verdict ≡ Refused refusal → FaultBy verdict out_fault err_fault → Lost reported out_fault back err_fault
-refusal_lost verdict refusal reported out_fault back err_fault is fault = inr (rw is at fault)
+refusal_lost : (verdict : Verdict) (refusal : Refusal) (reported out_fault back quiet err_fault : Type 0) → verdict ≡ Refused refusal → FaultBy verdict out_fault err_fault → Lost reported out_fault back quiet err_fault
+refusal_lost verdict refusal reported out_fault back quiet err_fault is fault = inr (rw is at fault)
 
-pub lost_by : (case : Case) (fails : List ℕ → Type 0) (topology : Option Topology) (before : History) (verdict : Verdict) (same : Type 0) (read partly now : List ℕ → Type 0) (out_fault err_fault : Type 0)
+pub lost_by : (case : Case) (fails : List ℕ → Type 0) (topology : Option Topology) (before : History) (verdict : Verdict) (same : Type 0) (read partly now : List ℕ → Type 0) (out_fault err_fault quiet : Type 0)
     → ((name : List ℕ) → read name → now name)
-    → Outcome case fails topology before verdict → FaultBy verdict out_fault err_fault → BackBy case topology verdict same read partly
-    → Lost (IsReportOf topology before case) out_fault (ForSource now same case) err_fault
-lost_by case fails topology before verdict same read partly now out_fault err_fault as_now (inl e) fault back = by_why (early fails topology before verdict e).why
+    → Outcome case fails topology before verdict → FaultBy verdict out_fault err_fault → BackBy case topology verdict same read partly → QuietBy verdict quiet
+    → Lost (IsReportOf topology before case) out_fault (ForSource now same case) quiet err_fault
+lost_by case fails topology before verdict same read partly now out_fault err_fault quiet as_now (inl e) fault back q = by_why (early fails topology before verdict e).why
   where
-    by_why : (verdict ≡ Refused Memory) ⊎ Fails fails verdict → Lost (IsReportOf topology before case) out_fault (ForSource now same case) err_fault
-    by_why (inl is) = refusal_lost verdict Memory _ out_fault _ err_fault is fault
-    by_why (inr f) = refusal_lost verdict (Edge f.name) _ out_fault _ err_fault f.is fault
-lost_by NoCommand fails topology before verdict same read partly now out_fault err_fault as_now (inr r) fault back = refusal_lost verdict Usage _ out_fault _ err_fault r.refused fault
-lost_by (BadTopology f) fails topology before verdict same read partly now out_fault err_fault as_now (inr r) fault back = refusal_lost verdict (NoTopology f) _ out_fault _ err_fault r.refused fault
-lost_by (TooFew shortage) fails topology before verdict same read partly now out_fault err_fault as_now (inr r) fault back = refusal_lost verdict (Stock shortage) _ out_fault _ err_fault r.refused fault
-lost_by (NotBuilt missing) fails topology before verdict same read partly now out_fault err_fault as_now (inr r) fault back = refusal_lost verdict (Unbuilt missing) _ out_fault _ err_fault r.refused fault
-lost_by (Checks wanted) fails topology before verdict same read partly now out_fault err_fault as_now (inr r) fault back =
-    inl (record { status = 0; end_of = (refl, r.no_topology, r.no_step) }, rw r.counted at fault, back)
-lost_by (Runs shows wanted) fails topology before verdict same read partly now out_fault err_fault as_now (inr r) fault back = by_run (ran verdict shows wanted before r.comes_to)
+    by_why : (verdict ≡ Refused Memory) ⊎ Fails fails verdict → Lost (IsReportOf topology before case) out_fault (ForSource now same case) quiet err_fault
+    by_why (inl is) = refusal_lost verdict Memory _ out_fault _ quiet err_fault is fault
+    by_why (inr f) = refusal_lost verdict (Edge f.name) _ out_fault _ quiet err_fault f.is fault
+lost_by NoCommand fails topology before verdict same read partly now out_fault err_fault quiet as_now (inr r) fault back q = refusal_lost verdict Usage _ out_fault _ quiet err_fault r.refused fault
+lost_by (BadTopology f) fails topology before verdict same read partly now out_fault err_fault quiet as_now (inr r) fault back q = refusal_lost verdict (NoTopology f) _ out_fault _ quiet err_fault r.refused fault
+lost_by (TooFew shortage) fails topology before verdict same read partly now out_fault err_fault quiet as_now (inr r) fault back q = refusal_lost verdict (Stock shortage) _ out_fault _ quiet err_fault r.refused fault
+lost_by (NotBuilt missing) fails topology before verdict same read partly now out_fault err_fault quiet as_now (inr r) fault back q = refusal_lost verdict (Unbuilt missing) _ out_fault _ quiet err_fault r.refused fault
+lost_by (Checks wanted) fails topology before verdict same read partly now out_fault err_fault quiet as_now (inr r) fault back q =
+    inl (record { status = 0; end_of = (refl, r.own, r.no_step) }, rw r.counted at fault, back, rw r.counted at q)
+lost_by (Runs shows wanted) fails topology before verdict same read partly now out_fault err_fault quiet as_now (inr r) fault back q = by_run (ran verdict shows wanted before r.comes_to)
   where
     b : RunBack (Some wanted) verdict same (read (source_of wanted)) (partly (source_of wanted))
     b = rw r.own at back
 
     by_run : Reported shows wanted before verdict ⊎ ((verdict ≡ Refused Wait) ⊎ (verdict ≡ Refused Memory))
-        → Lost (IsReportOf topology before (Runs shows wanted)) out_fault (now (source_of wanted)) err_fault
-    by_run (inl v) = inl (record { status = v.status; end_of = (r.own, v.report.ended) }, rw v.is at fault, as_now (source_of wanted) (rw v.is at b))
-    by_run (inr (inl is)) = refusal_lost verdict Wait _ out_fault _ err_fault is fault
-    by_run (inr (inr is)) = refusal_lost verdict Memory _ out_fault _ err_fault is fault
+        → Lost (IsReportOf topology before (Runs shows wanted)) out_fault (now (source_of wanted)) quiet err_fault
+    by_run (inl v) = inl (record { status = v.status; end_of = (r.own, v.report.ended) }, rw v.is at fault, as_now (source_of wanted) (rw v.is at b), rw v.is at q)
+    by_run (inr (inl is)) = refusal_lost verdict Wait _ out_fault _ quiet err_fault is fault
+    by_run (inr (inr is)) = refusal_lost verdict Memory _ out_fault _ quiet err_fault is fault
 
 -- ---- the calls
 

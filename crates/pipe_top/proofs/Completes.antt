@@ -1,7 +1,6 @@
 -- Where nothing failed, the run came to its end.
 use Rattle.std.proofs.Common.{◌≡◌, ◌≢◌, ℕ, List, [], ◌∷◌, ◌++◌, Bool, true, false, refl, sym, ap, ◌∙◌, inl, inr, Option, Some, None, arith}
 use Rattle.std.specs.Prelude.{◌⊎◌, is_some}
-use Rattle.pipe_types.specs.Counts.{Rose}
 use Rattle.pipe_types.specs.Numbers.{stage}
 use Rattle.pipe_types.specs.declared.step.SourceHow.{SourceHow}
 use Rattle.pipe_types.specs.declared.step.SourceHow.TheVariants as how
@@ -146,10 +145,7 @@ complete_by told_names named back told taken left faults waits old new case same
 complete_by told_names named back told taken left faults waits old new case same partly fails topology before verdict status (inr (inl is)) written calm fine o b = absurd (written is)
 complete_by told_names named back told taken left faults waits old new case same partly fails topology before verdict status (inr (inr is)) written calm fine o b = nine_complete case before status is
 
--- where no write failed, the status is not 8
-pub unwritten : (out out' err err' status : ℕ) → ¬ Rose out out' → ¬ Rose err err' → (status ≡ 8 → Rose out out' ⊎ Rose err err') → status ≢ 8
-unwritten out out' err err' status out_calm err_calm fault eight = by_fault (fault eight)
-  where
-    by_fault : Rose out out' ⊎ Rose err err' → ⊥
-    by_fault (inl rose) = out_calm rose
-    by_fault (inr rose) = err_calm rose
+-- where no write failed, no text was lost
+pub unwritten : {out err : Type 0} → out ⊎ err → ¬ out → ¬ err → ⊥
+unwritten (inl lost) out_calm err_calm = out_calm lost
+unwritten (inr lost) out_calm err_calm = err_calm lost

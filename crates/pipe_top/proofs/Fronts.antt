@@ -1,8 +1,11 @@
 -- Fronts of texts that are written one after another.
-use Rattle.std.proofs.Common.{◌≡◌, ℕ, zero, suc, ◌+◌, List, [], ◌∷◌, ◌++◌, length, take, refl, ◌∙◌, ap, arith}
-use Rattle.std.proofs.lemmas.List.{append_assoc}
+use Rattle.std.proofs.Common.{◌≡◌, ℕ, zero, suc, ◌+◌, List, [], ◌∷◌, ◌++◌, length, take, refl, sym, ◌∙◌, ap, arith}
+use Rattle.std.proofs.lemmas.List.{append-nil, append_assoc}
 use Rattle.std.proofs.Math.Seq.{take-nil}
-use Rattle.pipe_top.specs.Verdicts.{Adds, AddsPrefix}
+use Rattle.program_words.specs.Refusals.{memory_line}
+use Rattle.pipe_top.specs.Verdicts.{Adds, AddsPrefix, refusal_text, refusal_status}
+use Rattle.pipe_top.specs.declared.verdict.Refusal.{Refusal}
+use Rattle.pipe_top.specs.declared.verdict.Refusal.TheVariants.{Usage, Topology, Stock, Unbuilt, Wait, Edge, Memory}
 
 -- a front of the first text is a front of both
 front_of : (count : ℕ) (first second : List ℕ) → (n : ℕ) × (take count first ≡ take n (first ++ second))
@@ -33,3 +36,17 @@ after_first held middle held' first second adds begun = record {
   count = length first + begun.count;
   is = begun.is ∙ ap (λ l. l ++ take begun.count second) adds ∙ append_assoc held first (take begun.count second) ∙ ap (λ l. held ++ l) (past first second begun.count);
 }
+
+-- nothing is a front of every text
+pub nothing : (held text : List ℕ) → AddsPrefix held held text
+nothing held text = record { count = 0; is = sym (append-nil held) }
+
+-- the line of a refusal with the status 9 is that of wanting memory
+pub memory_front : (refusal : Refusal) (held held' : List ℕ) → refusal_status refusal ≡ 9 → AddsPrefix held held' (refusal_text refusal) → AddsPrefix held held' memory_line
+memory_front Memory held held' nine begun = begun
+memory_front Usage held held' nine begun = absurd (omega (arith, nine))
+memory_front (Topology fault) held held' nine begun = absurd (omega (arith, nine))
+memory_front (Stock shortage) held held' nine begun = absurd (omega (arith, nine))
+memory_front (Unbuilt missing) held held' nine begun = absurd (omega (arith, nine))
+memory_front Wait held held' nine begun = absurd (omega (arith, nine))
+memory_front (Edge name) held held' nine begun = absurd (omega (arith, nine))

@@ -6,6 +6,7 @@ use Rattle.std.proofs.lemmas.List.Elements.{All-nil}
 use Rattle.pipe_types.specs.Counts.{Rose}
 use Rattle.pipe_types.specs.Lines.{max_bytes, lines}
 use Rattle.pipe_types.specs.Numbers.{stage}
+use Rattle.pipe_types.specs.Sound.{IsSound}
 use Rattle.pipe_types.specs.declared.step.SourceHow.{SourceHow}
 use Rattle.pipe_types.specs.declared.step.SourceHow.TheVariants as how
 use Rattle.pipe_types.specs.declared.topology.Topology.{Topology}
@@ -160,6 +161,19 @@ run_by core x moves kinds =
       };
       tick = quiet.no_tick;
     }
+
+-- no step is a run
+pub unrun : (topology : Topology) → IsSound topology → IsRun topology []
+unrun topology sound = record {
+  claims = keeps_claims topology [] sound refl;
+  moves = tt;
+  kinds = refl;
+  control = record {
+    no_step = refl;
+    no_end = refl;
+  };
+  tick = refl;
+}
 
 -- Results
 

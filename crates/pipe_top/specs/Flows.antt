@@ -21,6 +21,7 @@ use Rattle.topology_needs.specs.declared.stock.Shortage.{Shortage}
 use Rattle.topology_needs.specs.declared.unbuilt.Unbuilt.{Unbuilt as Missing}
 use Rattle.core_flow.specs.OneEach.{IsOneEach}
 use Rattle.run_claims.specs.Read.{ReadsSource}
+use Rattle.stage_workers.specs.Steps.{ends_in_fetch}
 use Rattle.pipe_top.specs.Cases.{Case, NoCommand, NoTopology as BadTopology, TooFew, NotBuilt, Checks, Runs, case_of, calls_of, file_name, source_of, IsNamedFile}
 use Rattle.pipe_top.specs.Verdicts.{whole_text}
 use Rattle.pipe_top.specs.Runs.{IsEnded, IsRun, IsReadBack, IsPartlyRead, Asks, FailsAt, run_text}
@@ -62,11 +63,11 @@ IsJudgement (Done texts status) shows topology before = IsReport shows topology 
 IsJudgement (Refused Memory) shows topology before = Unit {0}
 IsJudgement _ shows topology before = ⊥
 
--- the verdict of a run: its report, or that it waited, or that memory was wanting
+-- the verdict of a run: its report, or that it waited with a fetch that had no answer, or that memory was wanting
 abbrev pub IsRunVerdict : Verdict → Shows → Topology → History → Type 0
 IsRunVerdict (Done texts status) shows topology before = IsReport shows topology before texts status
 IsRunVerdict (Refused Memory) shows topology before = Unit {0}
-IsRunVerdict (Refused Wait) shows topology before = Unit {0}
+IsRunVerdict (Refused Wait) shows topology before = IsTrue (ends_in_fetch before)
 IsRunVerdict _ shows topology before = ⊥
 
 -- what became of the opened source: the journal's records are its lines, and it has the same bytes in all
@@ -111,7 +112,8 @@ pub record IsChecked (wanted : Topology) (topology : Option Topology) (before : 
   pub texts : Texts
   pub counted : verdict ≡ Done texts 0
   pub counts : whole_text texts ≡ counts_line (length wanted.stages) (subscriptions_of wanted)
-  pub no_topology : topology ≡ None
+  pub own : topology ≡ Some wanted
+  pub run : IsRun wanted before
   pub no_step : before ≡ []
 
 -- it was checked, unless memory was wanting

@@ -21,11 +21,12 @@ use Rattle.program_words.specs.Refusals.{usage_line, topology_line, unbuilt_line
 use Rattle.topology_needs.specs.Needs.{subscriptions_of}
 use Rattle.topology_needs.specs.Unbuilt.{word_of}
 use Rattle.source_lines.specs.Cut.{AreFirstLines, HasShortLines}
-use Rattle.stage_workers.specs.Steps.{has_flow_steps}
+use Rattle.stage_workers.specs.Steps.{has_flow_steps, ends_in_fetch}
 use Rattle.run_claims.specs.Kept.{KeepsClaims}
 use Rattle.run_claims.specs.Followed.{FollowsMoves}
 use Rattle.run_claims.specs.Read.{ReadsSource, HasNoControl, latest_tick}
-use Rattle.pipe_top.specs.Cases.{source_of, Case, NoCommand, NoTopology, TooFew, NotBuilt, Checks, Runs}
+use Rattle.program_words.specs.Words.{Command}
+use Rattle.pipe_top.specs.Cases.{source_of, calls_of, Case, NoCommand, NoTopology, TooFew, NotBuilt, Checks, Runs}
 use Rattle.pipe_top.specs.Verdicts.{Adds, AddsPrefix, path_of}
 use Rattle.pipe_top.specs.declared.verdict.Shows.{Shows}
 
@@ -52,20 +53,21 @@ pub record IsEnded (topology : Topology) (before : History) (status : ℕ) : Typ
 -- a run is ended on its topology, or a topology was checked
 abbrev pub IsEndOf : Option Topology → History → (status : ℕ) → Case → Type 0
 IsEndOf topology before status (Runs shows wanted) = (topology ≡ Some wanted) × IsEnded wanted before status
-IsEndOf topology before status (Checks wanted) = (status ≡ 0) × (topology ≡ None) × (before ≡ [])
+IsEndOf topology before status (Checks wanted) = (status ≡ 0) × (topology ≡ Some wanted) × (before ≡ [])
 IsEndOf topology before status _ = ⊥
 
--- a run that waits has its topology; what is not built has no run
+-- a run that would wait has its topology, and its last step is the fetch that had no answer; what is not built has no run
 abbrev pub IsStopOf : Option Topology → History → Case → Type 0
-IsStopOf topology before (Runs shows wanted) = topology ≡ Some wanted
+IsStopOf topology before (Runs shows wanted) = (topology ≡ Some wanted) × IsTrue (ends_in_fetch before)
 IsStopOf topology before (NotBuilt missing) = (topology ≡ None) × (before ≡ [])
 IsStopOf topology before _ = ⊥
 
--- a run has its topology; without a run, and in every other case, there is no step
+-- a run and a check have the case's topology, a check without any step; all else has none
 abbrev pub IsOwnTopology : Option Topology → History → Case → Type 0
+IsOwnTopology None before case = before ≡ []
 IsOwnTopology (Some topology) before (Runs shows wanted) = topology ≡ wanted
-IsOwnTopology None before (Runs shows wanted) = before ≡ []
-IsOwnTopology topology before _ = (topology ≡ None) × (before ≡ [])
+IsOwnTopology (Some topology) before (Checks wanted) = (topology ≡ wanted) × (before ≡ [])
+IsOwnTopology (Some topology) before _ = ⊥
 
 -- ---- texts
 
@@ -169,9 +171,10 @@ pub record IsReportOf (topology : Option Topology) (before : History) (case : Ca
   pub status : ℕ
   pub end_of : IsEndOf topology before status case
 
--- a write failed: of the texts of a whole run, whose source was given back, or of a refusal
-abbrev pub Lost : (reported out_fault back err_fault : Type 0) → Type 0
-Lost reported out_fault back err_fault = (reported × out_fault × back) ⊎ err_fault
+-- a write failed: of the texts of a whole run, whose source was given back, and nothing was written to the error output; or of
+-- a refusal
+abbrev pub Lost : (reported out_fault back quiet err_fault : Type 0) → Type 0
+Lost reported out_fault back quiet err_fault = (reported × out_fault × back × quiet) ⊎ err_fault
 
 -- ---- calls by name
 
@@ -209,3 +212,39 @@ pub record BeginsLine (calls : List (EdgeKind × List ℕ)) (held held' : List �
   pub text : List ℕ
   pub is_one : (text ≡ []) ⊎ ((text ≡ case_line case) ⊎ ((text ≡ memory_line) ⊎ IsEdgeLine calls text))
   pub begun : AddsPrefix held held' text
+
+-- ---- the call
+
+-- what a call comes to in its case
+pub record IsCall {E S : Type 0} (told : E → Bool) (named : E → EdgeKind → List ℕ → List ℕ) (asked : E → List (EdgeKind × List ℕ)) (edge_faults : E → ℕ) (back : E → List (List ℕ × S)) (source_told : S → Bool) (taken left : S → List ℕ) (faults waits : S → ℕ) (old new : E)
+    (out_told : Bool) (out_held out_held' : List ℕ) (out_fault : Type 0) (err_told : Bool) (err_held err_held' : List ℕ) (err_fault : Type 0)
+    (command : Option Command) (topology : Option Topology) (before : History) (status : ℕ) (case : Case) : Type 0 where
+  pub own : IsOwnTopology topology before case
+  -- under 0 to 4 the run is drained, and the status is the journal's, or a topology was checked; the output is its text
+  pub ended : IsEndStatus status → IsEndOf topology before status case
+  pub report : IsEndStatus status → IsTrue out_told → Adds out_held out_held' (out_text before case)
+  -- under every status the output is a front of that text
+  pub output : IsTrue out_told → AddsPrefix out_held out_held' (out_text before case)
+  -- each case has its status, and the error output its text, but for 5, 8 and 9
+  pub has_status : status ≢ 5 → status ≢ 8 → status ≢ 9 → IsStatusOf status case
+  pub errors : status ≢ 5 → status ≢ 8 → status ≢ 9 → IsTrue err_told → Adds err_held err_held' (error_text status case)
+  pub errors_begun : IsTrue err_told → BeginsLine (calls_of command case) err_held err_held' case
+  -- 5: a call by name failed, and it was the last; the error output names it
+  pub edge : status ≡ 5 → NamesFault (told old) (calls_of command case) (asked old) (asked new) (Rose (edge_faults old) (edge_faults new)) err_told err_held err_held'
+  pub lost : status ≡ 8 → Lost (IsReportOf topology before case) out_fault
+      (ForSource (λ name. IsReadBack told named back source_told taken left faults waits old new name before ⊥) (back new ≡ back old) case)
+      (IsTrue err_told → err_held' ≡ err_held) err_fault
+  -- 10: what is not built, or a run that would wait
+  pub stopped : status ≡ 10 → IsStopOf topology before case
+  -- where no call by name and no write failed, and the source tells its bytes, never failed or waited and has no line that is
+  -- too long, a run came to its end, unless memory was wanting
+  pub complete : ¬ Rose (edge_faults old) (edge_faults new) → ¬ out_fault → ¬ err_fault
+      → ((name : List ℕ) (source : S) → back new ≡ back old ++ (name, source) ∷ [] → IsFaultless source_told taken left faults waits source)
+      → IsCompleteIn before status case
+  -- where a run ended or waited the source was given back, its lines are the journal's, and under 10 its waits rose
+  pub source : IsEndStatus status ⊎ (status ≡ 10)
+      → ForSource (λ name. IsReadBack told named back source_told taken left faults waits old new name before (status ≡ 10)) (back new ≡ back old) case
+  pub source_or_none : ForSource (λ name. (back new ≡ back old) ⊎ IsPartlyRead back source_told taken left old new name before) (back new ≡ back old) case
+  -- the calls by name: the topology file is read, and then the source of a run is opened
+  pub asks : IsTrue (told old) → Asks (calls_of command case) (asked old) (asked new)
+  pub asks_all : status ≢ 5 → status ≢ 8 → status ≢ 9 → IsTrue (told old) → asked new ≡ asked old ++ calls_of command case

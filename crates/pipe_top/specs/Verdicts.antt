@@ -79,3 +79,8 @@ status_in (Refused refusal) = refusal_status refusal
 abbrev pub FaultBy : Verdict → (out err : Type 0) → Type 0
 FaultBy (Done texts status) out err = out
 FaultBy (Refused refusal) out err = err
+
+-- with a report nothing is written to the error output
+abbrev pub QuietBy : Verdict → (quiet : Type 0) → Type 0
+QuietBy (Done texts status) quiet = quiet
+QuietBy (Refused refusal) quiet = Unit {0}

@@ -47,12 +47,12 @@ fn topology_in(alloc: Global, bytes: &Bytes) -> Result<Topology, Refusal>
 }
 
 /// The counts of a topology that is only checked.
-pub(crate) fn checked(alloc: Global, topology: &Topology) -> Ran
-    requires sound { IsSound topology.now }
-    ensures { IsCheckedOrNot topology.now result.topology result.journal.steps result.verdict }
+pub(crate) fn checked(alloc: Global, topology: Topology) -> Ran
+    requires sound { IsSound topology }
+    ensures { IsCheckedOrNot topology result.topology result.journal.steps result.verdict }
 {
     let stages = topology.stages.as_slice().len();
-    match counts_line(alloc, stages, subscriptions(topology)) {
+    match counts_line(alloc, stages, subscriptions(&topology)) {
         Ok(last) => Ran {
             verdict: Verdict::Done {
                 texts: Texts {
@@ -62,7 +62,7 @@ pub(crate) fn checked(alloc: Global, topology: &Topology) -> Ran
                 },
                 status: 0,
             },
-            topology: None,
+            topology: Some(topology),
             journal: Journal::new(alloc),
         },
         Err(_) => refused(alloc, Refusal::Memory),

@@ -1,11 +1,12 @@
 //! The top call.
 
-ghost use Rattle.std.specs.Prelude.{◌≡◌, ◌≢◌, ◌⊎◌, ◌≤◌, ◌++◌, ◌∷◌, [], ℕ, List, None, Some, IsTrue, map};
+ghost use Rattle.std.specs.Prelude.{◌≡◌, ◌⊎◌, ◌≤◌, [], None, Some, IsTrue, map};
 ghost use Rattle.pipe_types.specs.Counts.{Rose};
+ghost use Rattle.program_words.specs.Refusals.{memory_line};
 ghost use Rattle.program_words.specs.Words.{command_of, texts_of, Flow, Check, Run};
-ghost use Rattle.pipe_top.specs.Cases.{InCase, boxes_in, calls_of};
-ghost use Rattle.pipe_top.specs.Verdicts.{Adds, AddsPrefix};
-ghost use Rattle.pipe_top.specs.Runs.{IsRunOrNone, IsEndOf, IsStopOf, IsOwnTopology, IsStatusOf, IsReportOf, Lost, IsReadBack, IsPartlyRead, ForSource, IsEndStatus, IsRefusalStatus, IsUnopenedStatus, IsOr, IsFaultless, IsCompleteIn, Asks, NamesFault, BeginsLine, out_text, error_text};
+ghost use Rattle.pipe_top.specs.Cases.{InCase, boxes_in};
+ghost use Rattle.pipe_top.specs.Verdicts.{AddsPrefix};
+ghost use Rattle.pipe_top.specs.Runs.{IsRunOrNone, IsCall, IsRefusalStatus, IsUnopenedStatus, IsOr};
 ghost use Rattle.pipe_top.specs.Flows.{Came};
 ghost use Rattle.topology_needs.specs.declared.stock.Boxes.{Boxes};
 
@@ -44,71 +45,21 @@ pub fn run_program<E: Edges, C: Clock + Send + Drop>(
     ensures known { result.status ≤ 10 }
     // The journal is legal and keeps every claim, and each step of its own accord was the next move.
     ensures run { IsRunOrNone result.topology result.journal.steps }
-    ensures own { InCase (E.told edges.old) (E.named edges.old) (command_of (texts_of words.now.items)) (boxes_in (map (λ b. kind b) stock.items))
-        (IsOwnTopology result.topology result.journal.steps) }
-    // Under 0 to 4 the run is drained, and the status is the journal's, or a topology was checked; the output is its text.
-    ensures ended { IsEndStatus result.status → InCase (E.told edges.old) (E.named edges.old) (command_of (texts_of words.now.items)) (boxes_in (map (λ b. kind b) stock.items))
-        (IsEndOf result.topology result.journal.steps result.status) }
-    ensures report { IsEndStatus result.status → IsTrue (E.Out.told out.old) → InCase (E.told edges.old) (E.named edges.old) (command_of (texts_of words.now.items)) (boxes_in (map (λ b. kind b) stock.items))
-        (λ case. Adds (E.Out.held out.old) (E.Out.held out.new) (out_text result.journal.steps case)) }
-    // Under every status the output is a front of that text, and under 5, 6, 7 and 10 nothing.
-    ensures output { IsTrue (E.Out.told out.old) → InCase (E.told edges.old) (E.named edges.old) (command_of (texts_of words.now.items)) (boxes_in (map (λ b. kind b) stock.items))
-        (λ case. AddsPrefix (E.Out.held out.old) (E.Out.held out.new) (out_text result.journal.steps case)) }
-    ensures no_output { IsRefusalStatus result.status → IsTrue (E.Out.told out.old) → E.Out.held out.new ≡ E.Out.held out.old }
-
-    // Each case has its status, and the error output its text, but for 5, 8 and 9; 9 is want of memory.
-    ensures statuses { result.status ≢ 5 → result.status ≢ 8 → result.status ≢ 9
-        → InCase (E.told edges.old) (E.named edges.old) (command_of (texts_of words.now.items)) (boxes_in (map (λ b. kind b) stock.items))
-        (IsStatusOf result.status) }
-    ensures errors { result.status ≢ 5 → result.status ≢ 8 → result.status ≢ 9 → IsTrue (E.Out.told err.old)
-        → InCase (E.told edges.old) (E.named edges.old) (command_of (texts_of words.now.items)) (boxes_in (map (λ b. kind b) stock.items))
-        (λ case. Adds (E.Out.held err.old) (E.Out.held err.new) (error_text result.status case)) }
-    ensures errors_begun { IsTrue (E.Out.told err.old) → InCase (E.told edges.old) (E.named edges.old) (command_of (texts_of words.now.items)) (boxes_in (map (λ b. kind b) stock.items))
-        (λ case. BeginsLine (calls_of (command_of (texts_of words.now.items)) case) (E.Out.held err.old) (E.Out.held err.new) case) }
+    // What the call comes to in the case of its words, of the bytes of their topology file, and of the stock.
+    ensures call { InCase (E.told edges.old) (E.named edges.old) (command_of (texts_of words.now.items)) (boxes_in (map (λ b. kind b) stock.items))
+        (IsCall E.told E.named E.asked E.faults E.sources_back E.Source.told E.Source.taken E.Source.left E.Source.faults E.Source.waits edges.old edges.new
+        (E.Out.told out.old) (E.Out.held out.old) (E.Out.held out.new) (Rose (E.Out.faults out.old) (E.Out.faults out.new))
+        (E.Out.told err.old) (E.Out.held err.old) (E.Out.held err.new) (Rose (E.Out.faults err.old) (E.Out.faults err.new))
+        (command_of (texts_of words.now.items)) result.topology result.journal.steps result.status) }
+    // 7 comes exactly where the words are no command, 8 only where a write failed; 9 is want of memory.
     ensures usage { result.status ≡ 7 → command_of (texts_of words.now.items) ≡ None }
     ensures no_command { command_of (texts_of words.now.items) ≡ None → IsOr 7 result.status }
-    // 5: a call by name failed, and it was the last. The error output names it.
-    ensures edge { result.status ≡ 5 → InCase (E.told edges.old) (E.named edges.old) (command_of (texts_of words.now.items)) (boxes_in (map (λ b. kind b) stock.items))
-        (λ case. NamesFault (E.told edges.old) (calls_of (command_of (texts_of words.now.items)) case) (E.asked edges.old) (E.asked edges.new)
-        (Rose (E.faults edges.old) (E.faults edges.new)) (E.Out.told err.old) (E.Out.held err.old) (E.Out.held err.new)) }
-    // 8: a write failed. A report that is lost is that of a whole run, whose source was given back; else a refusal was lost.
     ensures output_fault { result.status ≡ 8 → Rose (E.Out.faults out.old) (E.Out.faults out.new) ⊎ Rose (E.Out.faults err.old) (E.Out.faults err.new) }
-    ensures lost { result.status ≡ 8 → InCase (E.told edges.old) (E.named edges.old) (command_of (texts_of words.now.items)) (boxes_in (map (λ b. kind b) stock.items))
-        (λ case. Lost (IsReportOf result.topology result.journal.steps case) (Rose (E.Out.faults out.old) (E.Out.faults out.new))
-        (ForSource (λ name. IsReadBack E.told E.named E.sources_back E.Source.told E.Source.taken E.Source.left E.Source.faults E.Source.waits
-        edges.old edges.new name result.journal.steps ⊥) (E.sources_back edges.new ≡ E.sources_back edges.old) case)
-        (Rose (E.Out.faults err.old) (E.Out.faults err.new))) }
-
-    // Under 5, 6 and 7 nothing was opened, and there is no run. Under 10 there is one only where it waited.
+    ensures memory { result.status ≡ 9 → IsTrue (E.Out.told err.old) → AddsPrefix (E.Out.held err.old) (E.Out.held err.new) memory_line }
+    // Under 5, 6 and 7 nothing was opened, and there is no run; and under these and 10 nothing was written to the output.
     ensures no_run { IsUnopenedStatus result.status → (result.topology ≡ None) × (result.journal.steps ≡ []) }
     ensures not_opened { IsUnopenedStatus result.status → E.sources_back edges.new ≡ E.sources_back edges.old }
-    ensures stopped { result.status ≡ 10 → InCase (E.told edges.old) (E.named edges.old) (command_of (texts_of words.now.items)) (boxes_in (map (λ b. kind b) stock.items))
-        (IsStopOf result.topology result.journal.steps) }
-
-    // Where no call by name and no write failed, and the source tells its bytes, never failed or waited and has no line that
-    // is too long, a run came to its end, unless memory was wanting.
-    ensures complete { ¬ Rose (E.faults edges.old) (E.faults edges.new)
-        → ¬ Rose (E.Out.faults out.old) (E.Out.faults out.new) → ¬ Rose (E.Out.faults err.old) (E.Out.faults err.new)
-        → ((name : List ℕ) (source : E.Source) → E.sources_back edges.new ≡ E.sources_back edges.old ++ (name, source) ∷ []
-        → IsFaultless E.Source.told E.Source.taken E.Source.left E.Source.faults E.Source.waits source)
-        → InCase (E.told edges.old) (E.named edges.old) (command_of (texts_of words.now.items)) (boxes_in (map (λ b. kind b) stock.items))
-        (IsCompleteIn result.journal.steps result.status) }
-
-    // Where a run ended or waited the source was given back, its lines are the journal's, and under 10 its waits rose.
-    ensures source { IsEndStatus result.status ⊎ (result.status ≡ 10)
-        → InCase (E.told edges.old) (E.named edges.old) (command_of (texts_of words.now.items)) (boxes_in (map (λ b. kind b) stock.items))
-        (ForSource (λ name. IsReadBack E.told E.named E.sources_back E.Source.told E.Source.taken E.Source.left E.Source.faults E.Source.waits
-        edges.old edges.new name result.journal.steps (result.status ≡ 10)) (E.sources_back edges.new ≡ E.sources_back edges.old)) }
-    ensures source_or_none { InCase (E.told edges.old) (E.named edges.old) (command_of (texts_of words.now.items)) (boxes_in (map (λ b. kind b) stock.items))
-        (ForSource (λ name. (E.sources_back edges.new ≡ E.sources_back edges.old)
-        ⊎ IsPartlyRead E.sources_back E.Source.told E.Source.taken E.Source.left edges.old edges.new name result.journal.steps)
-        (E.sources_back edges.new ≡ E.sources_back edges.old)) }
-    // The calls by name: the topology file is read, and then the source of a run is opened.
-    ensures asks { IsTrue (E.told edges.old) → InCase (E.told edges.old) (E.named edges.old) (command_of (texts_of words.now.items)) (boxes_in (map (λ b. kind b) stock.items))
-        (λ case. Asks (calls_of (command_of (texts_of words.now.items)) case) (E.asked edges.old) (E.asked edges.new)) }
-    ensures asks_all { result.status ≢ 5 → result.status ≢ 8 → result.status ≢ 9 → IsTrue (E.told edges.old)
-        → InCase (E.told edges.old) (E.named edges.old) (command_of (texts_of words.now.items)) (boxes_in (map (λ b. kind b) stock.items))
-        (λ case. E.asked edges.new ≡ E.asked edges.old ++ calls_of (command_of (texts_of words.now.items)) case) }
+    ensures no_output { IsRefusalStatus result.status → IsTrue (E.Out.told out.old) → E.Out.held out.new ≡ E.Out.held out.old }
     ensures no_sink { E.sinks_back edges.new ≡ E.sinks_back edges.old }
 
     ensures clock { result.clock ≡ clock }
@@ -178,7 +129,7 @@ fn check_file<E: Edges>(alloc: Global, path: &str, edges: &mut E) -> Ran
         edges.old edges.new (Some (Check path.now)) boxes result.topology result.journal.steps result.verdict }
 {
     match read_named(alloc, path, edges) {
-        Ok(topology) => checked(alloc, &topology),
+        Ok(topology) => checked(alloc, topology),
         Err(refusal) => refused(alloc, refusal),
     }
 }

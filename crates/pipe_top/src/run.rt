@@ -11,6 +11,7 @@ ghost use Rattle.pipe_edges.specs.Named.{IsFreshSource};
 ghost use Rattle.core_flow.specs.Rows.{is_lost};
 ghost use Rattle.core_flow.specs.Stands.{Stands};
 ghost use Rattle.stage_workers.specs.Ready.{IsReady};
+ghost use Rattle.stage_workers.specs.Steps.{ends_in_fetch};
 ghost use Rattle.stage_job.specs.Boxes.{boxes_of_kind};
 ghost use Rattle.topology_needs.specs.Needs.{shortage_of};
 ghost use Rattle.topology_needs.specs.Unbuilt.{unbuilt_of};
@@ -288,6 +289,7 @@ fn run_lines<E: Edges>(
 fn conclude(alloc: Global, core: Core, shows: Shows, stop: Result<RunStop, AllocError>) -> Ran
     requires stands { Stands core }
     requires drained { stop ≡ Ok RunStop.Drained → IsTrue (is_drained core.topology core.journal.steps) }
+    requires out { stop ≡ Ok RunStop.Waits → IsTrue (ends_in_fetch core.journal.steps) }
     ensures topology { result.topology ≡ Some core.topology }
     ensures journal { result.journal.steps ≡ core.journal.steps }
     ensures verdict { IsRunVerdict result.verdict shows core.topology core.journal.steps }

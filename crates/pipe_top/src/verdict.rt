@@ -2,7 +2,8 @@
 
 ghost use Rattle.std.specs.Prelude.{◌≡◌, ◌≢◌, ◌⊎◌, ◌≤◌, ◌++◌, true, false, IsTrue, IfOk, option_map};
 ghost use Rattle.pipe_types.specs.Counts.{Rose};
-ghost use Rattle.pipe_top.specs.Verdicts.{path_of, refusal_text, refusal_status, or_nothing, whole_text, out_text_of, err_text_of, status_in, Adds, AddsPrefix, FaultBy};
+ghost use Rattle.pipe_top.specs.Verdicts.{path_of, refusal_text, refusal_status, or_nothing, whole_text, out_text_of, err_text_of, status_in, Adds, AddsPrefix, FaultBy, QuietBy};
+ghost use Rattle.program_words.specs.Refusals.{memory_line as memory_text};
 
 use pipe_config::{ConfigFault, fault_number};
 use pipe_edges::{ByteSink, PutEnd, put_all};
@@ -54,7 +55,7 @@ pub(crate) enum Verdict {
     Done { texts: Texts, status: u8 },
 }
 
-/// Writes the texts or the refusal, and answers the status: 8 where a write failed, 9 where memory was wanting.
+/// Writes the texts or the refusal, and answers the status: 9 where memory was wanting, 8 where a write failed.
 pub(crate) fn write_verdict<K: ByteSink>(
     alloc: Global,
     verdict: &Verdict,
@@ -67,11 +68,13 @@ pub(crate) fn write_verdict<K: ByteSink>(
     ensures out_begun { IsTrue (K.told out.old) → AddsPrefix (K.held out.old) (K.held out.new) (out_text_of verdict.now) }
     ensures err { result ≢ 8 → result ≢ 9 → IsTrue (K.told err.old) → Adds (K.held err.old) (K.held err.new) (err_text_of verdict.now) }
     ensures err_begun { IsTrue (K.told err.old) → AddsPrefix (K.held err.old) (K.held err.new) (err_text_of verdict.now) }
+    ensures memory { result ≡ 9 → IsTrue (K.told err.old) → AddsPrefix (K.held err.old) (K.held err.new) memory_text }
+    ensures quiet { IsTrue (K.told err.old) → QuietBy verdict.now (K.held err.new ≡ K.held err.old) }
 {
     match verdict {
         Verdict::Done { texts, status } => put_texts(out, texts, *status),
         Verdict::Refused(refusal) => match refusal_line(alloc, refusal) {
-            Ok(line) => put_text(err, &line, status_of(refusal)),
+            Ok(line) => put_line(err, &line, status_of(refusal)),
             Err(_) => 9,
         },
     }
@@ -117,6 +120,19 @@ fn put_text<K: ByteSink>(sink: &mut K, text: &Bytes, status: u8) -> u8
     match put_all(sink, text) {
         PutEnd::All => status,
         PutEnd::Failed(_) => 8,
+    }
+}
+
+/// Writes the line of a refusal, and answers its status, or 8 where the sink failed; want of memory stays 9.
+fn put_line<K: ByteSink>(sink: &mut K, line: &Bytes, status: u8) -> u8
+    ensures status { (result ≡ status) ⊎ (result ≡ 8) }
+    ensures fault { result ≡ 8 → (status ≡ 8) ⊎ Rose (K.faults sink.old) (K.faults sink.new) }
+    ensures whole { result ≢ 8 → result ≢ 9 → IsTrue (K.told sink.old) → Adds (K.held sink.old) (K.held sink.new) line.now }
+    ensures begun { IsTrue (K.told sink.old) → AddsPrefix (K.held sink.old) (K.held sink.new) line.now }
+{
+    match put_all(sink, line) {
+        PutEnd::All => status,
+        PutEnd::Failed(_) => { if status == 9 { 9 } else { 8 } }
     }
 }
 

@@ -58,7 +58,9 @@ bare_grammar = on_top (λ s. record s {
   disable_help_subcommand = true;
 }) (new_app (codes "wamiondry"))
 
--- `check` or `run`, each with its own words after it
+-- `check` or `run`, each with its own words after it. By what clap takes of it: the command's word comes first; after it
+-- options and the topology stand in any order; an option is written in full and at most once, `--workers N` or
+-- `--workers=N`, `--acks` and `--steps` without a value; `--` ends the options; there is no help and no version
 abbrev pub grammar : App
 grammar = with_subcommand (with_subcommand bare_grammar check_grammar.top) run_grammar.top
 

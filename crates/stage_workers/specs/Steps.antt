@@ -1,5 +1,5 @@
 -- The kinds of step of a pipeline in which nothing waits and nothing is killed.
-use Rattle.std.specs.Prelude.{Bool, true, false, not}
+use Rattle.std.specs.Prelude.{Bool, true, false, not, [], ◌∷◌}
 use Rattle.std.specs.List.{list_all}
 use Rattle.pipe_types.specs.declared.step.DrainCause.TheVariants.{Sources, Limit}
 use Rattle.pipe_types.specs.declared.step.Step.{Step}
@@ -23,3 +23,9 @@ is_flow_step _ = false
 -- every step is one of these
 abbrev pub has_flow_steps : History → Bool
 has_flow_steps before = list_all is_flow_step before
+
+-- the last step is a fetch, whose answer is still to come
+abbrev pub ends_in_fetch : History → Bool
+ends_in_fetch [] = false
+ends_in_fetch (Fetch s n ∷ before) = true
+ends_in_fetch (step ∷ before) = false

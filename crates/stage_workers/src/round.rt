@@ -14,6 +14,7 @@ ghost use Rattle.pipe_edges.specs.LineSource.{line_source, line_end_of};
 ghost use Rattle.core_flow.specs.Stands.{Stands};
 ghost use Rattle.core_flow.specs.Progress.{work_left};
 ghost use Rattle.stage_workers.specs.Ready.{IsReady};
+ghost use Rattle.stage_workers.specs.Steps.{ends_in_fetch};
 ghost use Rattle.stage_workers.specs.Reads.{Reads, ReadsOn, StaysOn};
 
 use core_flow::drain::{self, Move};
@@ -58,6 +59,7 @@ pub(crate) fn round<B: ByteSource>(
     ensures progress { result ≡ Ok RoundEnd.On → work_left core.new < work_left core.old }
     ensures drained { result ≡ Ok RoundEnd.Drained → IsTrue (is_drained core.new.topology core.new.journal.steps) }
     ensures waits { result ≡ Ok RoundEnd.Waits → Rose (B.waits (line_source source.old)) (B.waits (line_source source.new)) }
+    ensures out { result ≡ Ok RoundEnd.Waits → IsTrue (ends_in_fetch core.new.journal.steps) }
 {
     match drain::next_move(core) {
         Move::Drained => Ok(RoundEnd::Drained),
@@ -112,6 +114,7 @@ fn fetch_round<B: ByteSource>(
         → ReadsOn B.told B.taken B.left B.faults B.waits opened source.new core.new.topology core.new.journal.steps result }
     ensures progress { result ≡ Ok RoundEnd.On → work_left core.new < work_left core.old }
     ensures waits { result ≡ Ok RoundEnd.Waits → Rose (B.waits (line_source source.old)) (B.waits (line_source source.new)) }
+    ensures out { result ≡ Ok RoundEnd.Waits → IsTrue (ends_in_fetch core.new.journal.steps) }
 {
     let most = core.fetch(SOURCE)?;
     match read_lines(source, most) {

@@ -6,6 +6,7 @@ ghost use Rattle.pipe_model.specs.Moves.{is_drained};
 ghost use Rattle.pipe_edges.specs.LineSource.{line_source};
 ghost use Rattle.core_flow.specs.Stands.{Stands};
 ghost use Rattle.stage_workers.specs.Ready.{IsReady};
+ghost use Rattle.stage_workers.specs.Steps.{ends_in_fetch};
 ghost use Rattle.stage_workers.specs.Reads.{Reads, ReadsOn};
 
 use crate::round::{RoundEnd, round};
@@ -40,6 +41,7 @@ pub fn run_here<B: ByteSource>(
     ensures drained { result ≡ Ok RunStop.Drained → IsTrue (is_drained core.new.topology core.new.journal.steps) }
     ensures waits { (opened : B) → Reads B.told B.taken B.left B.faults B.waits opened source.old core.old.topology core.old.journal.steps []
         → result ≡ Ok RunStop.Waits → Rose (B.waits opened) (B.waits (line_source source.new)) }
+    ensures out { result ≡ Ok RunStop.Waits → IsTrue (ends_in_fetch core.new.journal.steps) }
 {
     loop {
         match round(alloc, core, source, callback)? {

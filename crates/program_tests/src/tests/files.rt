@@ -150,7 +150,7 @@ fn a_run_needs_a_box_for_each_post_and_a_check_none(rt: HostRuntime) -> Result<(
             ..on(words, ONE_STAGE, "x\n")
         };
         let came = expect(&rt, alloc, given, status, out, err)?;
-        assert_eq!(rt; (came.ran, came.steps), (false, 0), "{words}");
+        assert_eq!(rt; (came.ran, came.steps), (status == 0, 0), "{words}");
     }
     Ok(())
 }

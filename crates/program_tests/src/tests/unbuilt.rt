@@ -138,7 +138,7 @@ fn expect_unopened(
         ..on(words, file, "x\n")
     };
     let came = expect(rt, alloc, given, status, out, err)?;
-    assert_eq!(rt; (came.ran, came.steps), (false, 0), "{words}: {file}");
+    assert_eq!(rt; (came.ran, came.steps), (status == 0, 0), "{words}: {file}");
     Ok(())
 }
 

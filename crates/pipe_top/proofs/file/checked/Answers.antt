@@ -1,0 +1,17 @@
+use Rattle.std.proofs.Common.{None, refl, inr}
+use Rattle.pipe_top.proofs.Sources.{unrun}
+use Rattle.pipe_top.proofs.file.checked.Goals as goal
+
+pub returns-in-Ok : goal.returns-in-Ok
+returns-in-Ok c = inr (record {
+  texts = record {
+    steps = None;
+    acks = None;
+    last = c.in-Ok.last;
+  };
+  counted = refl;
+  counts = rw (c.subscriptions.ensures, c.as_slice-stages.ensures) at c.in-Ok.ensures;
+  own = refl;
+  run = rw c.new.ensures (unrun c.args.topology c.requires.sound);
+  no_step = c.new.ensures;
+})
