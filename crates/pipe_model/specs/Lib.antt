@@ -14,3 +14,4 @@ pub mod Outside
 pub mod Begins
 pub mod Claims
 pub mod Places
+pub mod Standing

@@ -1,0 +1,2 @@
+//! What bounds the steps of a legal journal of a sound topology.
+#![tactic(auto)]

@@ -1,0 +1,2 @@
+//! What holds of the stages of a legal journal of a sound topology.
+#![tactic(auto)]
