@@ -20,12 +20,12 @@ use Rattle.pipe_model.specs.Lives.{KillSet, reason_in}
 use Rattle.pipe_model.specs.Flow.{place, view_of, batch, among, is_batcher, leg_waits, leg_waits_in, in_inbox_by, runs_in, change_place, new_batch, next_units, closing}
 use Rattle.pipe_model.specs.Moves.{is_final}
 use Rattle.pipe_laws.proofs.Tests.{same_stage-true, same_sub-true, same_sub-self}
-use Rattle.pipe_laws.proofs.Lists.{as_number}
 use Rattle.pipe_laws.proofs.Places.{Move, stays, comes, comes_lost, sent_on, runs, waits, is_gathered, joins, ends, move_by}
 use Rattle.pipe_laws.proofs.Levels.{rank, feeds_down}
 use Rattle.pipe_laws.proofs.Entries.{EntryFits, MessageFits, is_sent_batch, sent_exists}
 use Rattle.pipe_laws.proofs.Settled.{batch_closed}
 use Rattle.pipe_model.specs.Standing.{is_at_work, leg_works, works_at, leg_works_in, works}
+use Rattle.pipe_model.specs.Counting.{as_number}
 
 -- Legs at work
 

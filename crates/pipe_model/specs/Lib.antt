@@ -15,3 +15,4 @@ pub mod Begins
 pub mod Claims
 pub mod Places
 pub mod Standing
+pub mod Counting

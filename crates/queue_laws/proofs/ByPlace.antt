@@ -24,7 +24,7 @@ use Rattle.pipe_model.specs.Flow.{place, batch, view_of, waiting, inbox, sent, s
 use Rattle.pipe_model.specs.Ledger.{handled}
 use Rattle.pipe_model.specs.Legal.{is_legal}
 use Rattle.pipe_laws.proofs.Tests.{clash, same_sub-true}
-use Rattle.pipe_laws.proofs.Lists.{Each, each_weaker, as_number, weigh}
+use Rattle.pipe_laws.proofs.Lists.{Each, each_weaker, weigh}
 use Rattle.pipe_laws.proofs.Settled.{batch_closed}
 use Rattle.pipe_laws.proofs.Entries.{is_waiting}
 use Rattle.pipe_laws.proofs.Allowed.{legal_before}
@@ -36,6 +36,7 @@ use Rattle.queue_laws.proofs.Distinct.{distinct, itself}
 use Rattle.queue_laws.proofs.Fits.{Fits}
 use Rattle.queue_laws.proofs.Counts.{counts}
 use Rattle.pipe_model.specs.Standing.{working_on, in_inbox, works, leg_works, leg_works_in, works_at, is_at_work, in_hands}
+use Rattle.pipe_model.specs.Counting.{as_number}
 
 abbrev named : (ℕ → ℕ) → SentUnit → SentUnit
 named f d = record { unit = f d.unit; sub = d.sub }

@@ -1,5 +1,5 @@
 -- How many messages and batches there are.
-use Rattle.std.proofs.Common.{◌≡◌, ℕ, zero, suc, ◌+◌, ◌*◌, ◌-◌, ◌<◌, ◌≤◌, List, [], ◌∷◌, ◌++◌, map, length, Bool, true, false, refl, ap, sym, ◌∙◌, subst, Some, None, Option, arith, min}
+use Rattle.std.proofs.Common.{◌≡◌, ℕ, zero, suc, ◌+◌, ◌*◌, ◌-◌, ◌≤◌, List, [], ◌∷◌, ◌++◌, length, Bool, true, false, refl, ap, sym, ◌∙◌, subst, Some, None, Option, arith}
 use Rattle.std.specs.Prelude.{if◌then◌else◌, ◌&&◌, ◌||◌, ◌==◌, not, filter, cond, is_some, nat_le, option_map, bytes_eq}
 use Rattle.std.proofs.lemmas.Bool.{eqb-true, eq-eqb, ne_eqb, leb-true}
 use Rattle.std.proofs.lemmas.Bool.Decides.{nat_tests}
@@ -14,29 +14,27 @@ use Rattle.pipe_types.specs.declared.step.Step.{Step}
 use Rattle.pipe_types.specs.declared.step.Step.TheVariants.{Close, Dispatch, Take, Wrote, Kill, Halt}
 use Rattle.pipe_types.specs.Numbers.{same_stage, same_sub, batch_no}
 use Rattle.pipe_types.specs.Stages.{spec_of}
-use Rattle.pipe_types.specs.Sound.{IsSound}
-use Rattle.pipe_model.specs.History.{History, accepted, closed, closed_after}
+use Rattle.pipe_model.specs.History.{History, accepted, closed}
 use Rattle.pipe_types.specs.declared.message.BatchEnd.TheVariants.{Outcomes}
 use Rattle.pipe_types.specs.declared.room.Sent.{Sent as SentUnit}
 use Rattle.pipe_model.specs.Lives.{is_live}
 use Rattle.pipe_model.specs.Batches.{Batch}
 use Rattle.pipe_model.specs.Content.{arrivals, gathers, content, key_in}
-use Rattle.pipe_model.specs.Flow.{place, batch, view_of, sent, sent_to, waiting, is_batcher, is_gathered_in, among, first_in, closing, units_on, put_in_batch, is_empty, new_batch, next_units, batch_waits_in, waits_in, count_on, delivered_to, deliveries}
+use Rattle.pipe_model.specs.Flow.{place, batch, view_of, sent, sent_to, waiting, is_batcher, is_gathered_in, among, first_in, closing, units_on, put_in_batch, new_batch, next_units, batch_waits_in, waits_in, count_on, delivered_to, deliveries}
 use Rattle.pipe_model.specs.Legal.{is_legal, allows, has_role, is_batcher_role}
 use Rattle.pipe_model.specs.Ledger.{handled}
-use Rattle.pipe_laws.proofs.Tests.{clash, and_left, and_right, same_stage-true, same_stage-self, same_sub-true}
-use Rattle.pipe_laws.proofs.Lists.{Each, each_always, each_weaker, each_both, each-append, each_filter}
-use Rattle.pipe_laws.proofs.Places.{Move, move_by}
+use Rattle.pipe_laws.proofs.Tests.{clash, and_left, and_right, same_stage-self, same_sub-true}
+use Rattle.pipe_laws.proofs.Lists.{Each, each_always, each_weaker, each_filter}
+use Rattle.pipe_laws.proofs.Places.{move_by}
 use Rattle.pipe_laws.proofs.Levels.{rank, rank_most, level, level_grows, feeds_down}
 use Rattle.pipe_laws.proofs.Accepted.{placed_accepted}
 use Rattle.pipe_laws.proofs.Settled.{batch_closed, is_some_map}
 use Rattle.pipe_laws.proofs.Allowed.{legal_before, legal_step, unowed}
-use Rattle.pipe_laws.proofs.Entries.{EntryFits, entries_fit, sent_exists, is_sent_batch}
+use Rattle.pipe_laws.proofs.Entries.{EntryFits, entries_fit, sent_exists}
 use Rattle.pipe_laws.proofs.Handled.{handled_within}
 use Rattle.queue_laws.proofs.Apart.{Apart, apart_kept, each_kept, apart_mapped, each_mapped}
 use Rattle.queue_laws.proofs.Fits.{Fits}
-use Rattle.queue_laws.proofs.Distinct.{Distinct, distinct, Arrived, itself, unit_of}
-use Rattle.queue_laws.proofs.Batched.{close_some}
+use Rattle.queue_laws.proofs.Distinct.{distinct, Arrived, itself, unit_of}
 use Rattle.queue_laws.proofs.Gathering.{gathered_here}
 
 -- different numbers from 1 to n are at most n

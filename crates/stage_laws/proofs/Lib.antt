@@ -8,3 +8,5 @@ pub mod Firsts
 pub mod Records
 pub mod Bounds
 pub mod Settling
+pub mod FewSlots
+pub mod Laws

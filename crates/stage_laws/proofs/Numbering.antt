@@ -1,5 +1,5 @@
 -- The stages of a sound topology by number.
-use Rattle.std.proofs.Common.{◌≡◌, ℕ, zero, suc, ◌+◌, ◌<◌, ◌≤◌, List, [], ◌∷◌, length, Bool, true, false, refl, ap, sym, ◌∙◌, subst, Some, None, Option, arith}
+use Rattle.std.proofs.Common.{◌≡◌, ℕ, zero, suc, ◌+◌, ◌<◌, ◌≤◌, List, [], ◌∷◌, length, Bool, true, false, refl, ap, sym, ◌∙◌, subst, Some, arith}
 use Rattle.std.specs.Prelude.{slice_get, ◌==◌, ◌&&◌, ◌||◌, not, if◌then◌else◌, find, nat_lt, nat_le, is_some}
 use Rattle.std.proofs.lemmas.Bool.{eqb-true, ltb-true}
 use Rattle.pipe_types.specs.declared.numbers.StageNo.{StageNo}
@@ -8,8 +8,8 @@ use Rattle.pipe_types.specs.declared.topology.StageSpec.{StageSpec}
 use Rattle.pipe_types.specs.declared.topology.Role.{Role}
 use Rattle.pipe_types.specs.declared.topology.Role.TheVariants.{Producer, Processor, Supervisor, Batcher, BatchProcessor}
 use Rattle.pipe_types.specs.Numbers.{same_stage}
-use Rattle.pipe_types.specs.Stages.{spec_of, spec_in}
-use Rattle.pipe_types.specs.Sound.{IsSound, is_ordered, may_begin, may_go_on, may_follow, batchers, has_fields, has_fields_of, asks_up_to, is_producer_in, is_processor_in, is_supervisor_in, is_batcher_in, is_batch_processor_in, by_demand, by_partition, by_broadcast, processors, batch_processors, is_size, no_batcher, no_demand, never_cancels, is_lines, are_rules, is_reason, is_between}
+use Rattle.pipe_types.specs.Stages.{spec_in}
+use Rattle.pipe_types.specs.Sound.{IsSound, is_ordered, may_begin, may_go_on, may_follow, batchers, has_fields, has_fields_of, asks_up_to, by_demand, by_partition, by_broadcast, processors, batch_processors, is_size, no_batcher, no_demand, never_cancels, is_lines, are_rules, is_reason, is_between}
 use Rattle.pipe_laws.proofs.Tests.{and_left, and_right, same_stage-true}
 use Rattle.pipe_laws.proofs.Lists.{Each}
 use Rattle.pipe_laws.proofs.Sounds.{sound_ascends}

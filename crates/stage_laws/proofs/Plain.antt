@@ -1,6 +1,6 @@
 -- Messages stand in inboxes that messages come to, and run at level 2.
-use Rattle.std.proofs.Common.{◌≡◌, ℕ, ◌+◌, ◌*◌, ◌≤◌, List, [], ◌∷◌, map, Bool, true, false, refl, ap, sym, ◌∙◌, subst, Some, None, Option, arith}
-use Rattle.std.specs.Prelude.{if◌then◌else◌, ◌&&◌, ◌||◌, ◌==◌, not, filter}
+use Rattle.std.proofs.Common.{◌≡◌, ℕ, List, [], ◌∷◌, map, Bool, true, false, refl, sym, ◌∙◌, subst, Some, None, Option, arith}
+use Rattle.std.specs.Prelude.{◌&&◌, ◌||◌, ◌==◌}
 use Rattle.std.proofs.lemmas.Bool.{eqb-true}
 use Rattle.pipe_types.specs.declared.numbers.SubNo.{SubNo}
 use Rattle.pipe_types.specs.declared.numbers.StageNo.{StageNo}
@@ -15,18 +15,18 @@ use Rattle.pipe_types.specs.declared.step.Step.TheVariants.{Take, Child}
 use Rattle.pipe_types.specs.Numbers.{same_stage, same_sub}
 use Rattle.pipe_types.specs.Stages.{spec_of, feeds}
 use Rattle.pipe_model.specs.History.{History}
-use Rattle.pipe_model.specs.Flow.{place, batch, view_of, sent_to, is_batcher, runs_in, chunk_by}
+use Rattle.pipe_model.specs.Flow.{place, sent_to, is_batcher, runs_in}
 use Rattle.pipe_model.specs.Moves.{is_final}
 use Rattle.pipe_model.specs.Legal.{is_legal, allows, has_role, takes_role, is_processor_role, is_supervisor_role}
 use Rattle.pipe_laws.proofs.Tests.{clash, and_left, and_right, same_stage-true, same_sub-true}
 use Rattle.pipe_laws.proofs.Lists.{Each, each_always}
-use Rattle.pipe_laws.proofs.Places.{Move, stays, comes, comes_lost, sent_on, runs, waits, is_gathered, joins, ends, IsOn, move_by, starts}
+use Rattle.pipe_laws.proofs.Places.{Move, stays, comes, comes_lost, sent_on, runs, waits, is_gathered, joins, ends, move_by, starts}
 use Rattle.pipe_laws.proofs.Levels.{rank, rank_in, rank_of, feeds_down}
 use Rattle.pipe_laws.proofs.Allowed.{legal_before, legal_step, take_facts, child_facts}
 use Rattle.pipe_laws.proofs.Entries.{EntryFits, entries_fit}
 use Rattle.pipe_laws.proofs.Kept.{runs_here}
 use Rattle.queue_laws.proofs.Fits.{Fits}
-use Rattle.queue_laws.proofs.Roles.{rank_batcher, batcher_rank}
+use Rattle.queue_laws.proofs.Roles.{rank_batcher}
 use Rattle.queue_laws.proofs.Filters.{filter_none}
 use Rattle.queue_laws.proofs.Listed.{ListedAt, listed}
 use Rattle.pipe_model.specs.Standing.{has_entry, running}

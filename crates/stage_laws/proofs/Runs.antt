@@ -1,6 +1,6 @@
 -- What runs in a stage after a step.
-use Rattle.std.proofs.Common.{◌≡◌, ℕ, ◌+◌, ◌*◌, ◌≤◌, List, [], ◌∷◌, ◌++◌, map, take, Bool, true, false, refl, ap, sym, ◌∙◌, subst, Some, None, Option, arith}
-use Rattle.std.specs.Prelude.{if◌then◌else◌, ◌&&◌, ◌||◌, ◌==◌, not, filter, option_map, is_some}
+use Rattle.std.proofs.Common.{◌≡◌, ℕ, ◌+◌, List, [], ◌∷◌, ◌++◌, map, take, Bool, true, false, refl, ap, sym, ◌∙◌, Some, None, Option, arith}
+use Rattle.std.specs.Prelude.{if◌then◌else◌, ◌&&◌, ◌==◌, not, filter, option_map, is_some, length}
 use Rattle.std.proofs.lemmas.List.{append-nil, map-append}
 use Rattle.pipe_types.specs.declared.numbers.SubNo.{SubNo}
 use Rattle.pipe_types.specs.declared.numbers.StageNo.{StageNo}
@@ -19,27 +19,28 @@ use Rattle.queue_laws.proofs.Unseen.{joined_unseen}
 use Rattle.pipe_types.specs.Numbers.{same_stage, post}
 use Rattle.pipe_types.specs.Stages.{spec_of}
 use Rattle.pipe_model.specs.History.{History, accepted, closed, incarnation}
-use Rattle.pipe_model.specs.Posts.{is_out, out_from}
+use Rattle.pipe_model.specs.Posts.{out_from}
 use Rattle.pipe_model.specs.Lives.{KillSet, reason_in, kill_set, is_live}
-use Rattle.pipe_model.specs.Content.{has_crash}
-use Rattle.pipe_model.specs.Flow.{place, batch, view_of, inbox, sent_to, is_batcher, runs_in, chunk_by, deliveries, delivered_to, subs_of, lost_over, dispatched, waiting_after, taken, next_units, units_on, among, is_empty, accepted_to, done, answered, reply_to, has_batchers_in, closing}
+use Rattle.pipe_model.specs.Content.{has_crash, is_among_next}
+use Rattle.pipe_model.specs.Flow.{place, batch, view_of, inbox, sent_to, is_batcher, runs_in, chunk_by, deliveries, delivered_to, subs_of, lost_over, dispatched, waiting_after, taken, next_units, units_on, among, accepted_to, done, answered, reply_to, has_batchers_in, closing, batch_waits_in, waits_in}
 use Rattle.pipe_model.specs.Work.{taken_units}
 use Rattle.pipe_model.specs.Legal.{is_legal, allows, has_role, is_processor_role, is_current}
-use Rattle.pipe_laws.proofs.Tests.{clash, and_left, and_right, same_stage-true, same_stage-self}
-use Rattle.pipe_laws.proofs.Lists.{Each, each_always, each_weaker, each_both, each_map}
+use Rattle.pipe_laws.proofs.Tests.{clash, same_stage-true, same_stage-self, both}
+use Rattle.pipe_laws.proofs.Lists.{each_always, each_map}
 use Rattle.pipe_laws.proofs.Places.{IsOn, sends_on}
 use Rattle.pipe_laws.proofs.Levels.{rank, feeds_down}
-use Rattle.pipe_laws.proofs.Entries.{is_waiting, waiting_each, waits_here, delivered_each, sends_somewhere}
-use Rattle.pipe_laws.proofs.Allowed.{legal_before, legal_step, TakeFacts, take_facts, done_facts}
-use Rattle.pipe_laws.proofs.Chunks.{owes_crash}
+use Rattle.pipe_laws.proofs.Entries.{is_waiting, waiting_each, waits_here, delivered_each}
+use Rattle.pipe_laws.proofs.Allowed.{legal_step, take_facts, done_facts}
+use Rattle.pipe_laws.proofs.Chunks.{owes_crash, owed_dies}
 use Rattle.queue_laws.specs.Queues.{unless_killed}
-use Rattle.queue_laws.proofs.Filters.{filter_each, filter_alike, filter_both, filter_split, filter_all, filter_none}
+use Rattle.queue_laws.proofs.Filters.{filter_alike, filter_both, filter_split, filter_all, filter_none}
 use Rattle.queue_laws.proofs.Waits.{TestsIn, holder, killed_test}
 use Rattle.queue_laws.proofs.Fits.{Fits}
 use Rattle.queue_laws.proofs.Roles.{batcher_rank}
 use Rattle.queue_laws.proofs.Working.{chunk_is}
 use Rattle.pipe_model.specs.Standing.{running}
-use Rattle.stage_laws.proofs.Plain.{nothing_runs, none_runs, processor_rank}
+use Rattle.stage_laws.proofs.Plain.{none_runs}
+use Rattle.std.proofs.lemmas.Bool.{eq-eqb}
 
 abbrev numbers : Topology → History → StageNo → List ℕ
 numbers topology before s = map (λ d. d.1) (sent_to topology before s)
@@ -56,9 +57,9 @@ runs_still topology before step s same_list same =
 pub runs_accepted : (topology : Topology) (before : History) (t s : StageNo) (records : List (List ℕ)) → running topology (Accept t records ∷ before) s ≡ running topology before s
 runs_accepted topology before t s records = runs_still topology before (Accept t records) s refl (λ n. by n (place topology before n))
   where
-    by : (n : ℕ) (p : Option Place) → runs_in s (accepted_to (accepted before) (Rattle.std.specs.Prelude.length records) (Waiting t) n p) ≡ runs_in s p
+    by : (n : ℕ) (p : Option Place) → runs_in s (accepted_to (accepted before) (length records) (Waiting t) n p) ≡ runs_in s p
     by n (Some p) = refl
-    by n None = either (Rattle.pipe_model.specs.Content.is_among_next (accepted before) (Rattle.std.specs.Prelude.length records) n)
+    by n None = either (is_among_next (accepted before) (length records) n)
       where
         either : (b : Bool) → runs_in s (if b then Some (Waiting t) else None) ≡ false
         either true = refl
@@ -95,7 +96,7 @@ runs_dispatched topology before t s fit h =
     fresh : (d : SentUnit) → IsOn topology before t d.sub × (is_waiting topology before t d.unit ≡ true) → d.sub.consumer ≡ s → runs_in s (place topology (Dispatch t ∷ before) d.unit) ≡ false
     fresh d p there = same d.unit ∙ by (is_batcher (spec_of topology t)) refl p.1
       where
-        by : (b : Bool) → is_batcher (spec_of topology t) ≡ b → (if b then Rattle.pipe_model.specs.Flow.batch_waits_in t (batch topology before d.unit) else Rattle.pipe_model.specs.Flow.waits_in t (place topology before d.unit)) ≡ true → runs_in s (place topology before d.unit) ≡ false
+        by : (b : Bool) → is_batcher (spec_of topology t) ≡ b → (if b then batch_waits_in t (batch topology before d.unit) else waits_in t (place topology before d.unit)) ≡ true → runs_in s (place topology before d.unit) ≡ false
         by false e w = ap (runs_in s) (waits_here t (place topology before d.unit) w)
         by true e w =
             let two : rank topology t ≡ 2 = batcher_rank (spec_of topology t) e in
@@ -132,7 +133,7 @@ calm topology before step s h live = by (owes_crash before s) refl
   where
     by : (b : Bool) → owes_crash before s ≡ b → b ≡ false
     by false e = refl
-    by true e = clash (is_live topology (step ∷ before) s) live (Rattle.pipe_laws.proofs.Chunks.owed_dies topology before step s e h)
+    by true e = clash (is_live topology (step ∷ before) s) live (owed_dies topology before step s e h)
 
 pub runs_idle : (topology : Topology) (before : History) (s : StageNo) (u : SubNo) (k : ℕ) → Fits topology → is_legal topology before ≡ true → has_role topology s is_processor_role ≡ true → allows topology before (Take s u k) ≡ true → running topology before s ≡ []
 runs_idle topology before s u k fit h role allowed =
@@ -145,13 +146,13 @@ pub runs_taken : (topology : Topology) (before : History) (s : StageNo) (u : Sub
 runs_taken topology before s u k fit h role allowed =
     let facts = take_facts topology before s u k allowed in
     let self : same_stage s s ≡ true = same_stage-self s in
-    let legal : is_legal topology (Take s u k ∷ before) ≡ true = Rattle.pipe_laws.proofs.Tests.both (is_legal topology before) (allows topology before (Take s u k)) h allowed in
+    let legal : is_legal topology (Take s u k ∷ before) ≡ true = both (is_legal topology before) (allows topology before (Take s u k)) h allowed in
     chunk_is topology (Take s u k ∷ before) s fit legal role facts.live refl
     ∙ (ap (λ b. if b then taken_units topology (Take s u k ∷ before) s else []) current
     ∙ ap (λ b. if b then take k (units_on u (inbox topology before s)) else taken_units topology before s) self)
   where
     current : is_current (Take s u k ∷ before) s 0 ≡ true
-    current = rw (same_stage-self s) (Rattle.std.proofs.lemmas.Bool.eq-eqb (incarnation before s) (incarnation before s) refl)
+    current = rw (same_stage-self s) (eq-eqb (incarnation before s) (incarnation before s) refl)
 
 -- Kill and Halt
 

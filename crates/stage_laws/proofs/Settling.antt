@@ -1,16 +1,14 @@
 -- A batch's messages after a leg was answered.
-use Rattle.std.proofs.Common.{◌≡◌, ℕ, zero, suc, ◌+◌, ◌-◌, ◌<◌, ◌≤◌, List, [], ◌∷◌, ◌++◌, length, Bool, true, false, refl, ap, sym, ◌∙◌, Some, None, Option, arith, subst}
+use Rattle.std.proofs.Common.{◌≡◌, ℕ, ◌+◌, ◌-◌, List, [], ◌∷◌, Bool, true, false, refl, ap, sym, ◌∙◌, Some, None, Option, subst}
 use Rattle.std.specs.Prelude.{option_map, if◌then◌else◌, ◌==◌, ◌&&◌, ◌||◌, not, is_some, unwrap_or, position}
-use Rattle.std.proofs.lemmas.Bool.{eq-eqb, eqb-true, ne_eqb, false_from_ne_true}
+use Rattle.std.proofs.lemmas.Bool.{eq-eqb, eqb-true, false_from_ne_true}
 use Rattle.pipe_types.specs.declared.numbers.StageNo.{StageNo}
-use Rattle.pipe_types.specs.declared.numbers.MsgNo.{MsgNo}
 use Rattle.pipe_types.specs.declared.numbers.BatchNo.{BatchNo}
 use Rattle.pipe_types.specs.declared.topology.Topology.{Topology}
 use Rattle.pipe_types.specs.declared.message.Outcome.{Outcome}
 use Rattle.pipe_types.specs.declared.message.Place.{Place}
 use Rattle.pipe_types.specs.declared.message.Place.TheVariants.{Waiting, Inbox, Running, Gathered, InBatch, Acked, Lost}
 use Rattle.pipe_types.specs.declared.message.BatchEnd.TheVariants.{Outcomes}
-use Rattle.pipe_types.specs.declared.message.Trigger.{Trigger}
 use Rattle.pipe_types.specs.declared.step.Step.{Step}
 use Rattle.pipe_types.specs.declared.step.Step.TheVariants.{Close, Wrote}
 use Rattle.pipe_types.specs.Numbers.{same_stage, batch_no}
@@ -21,13 +19,14 @@ use Rattle.pipe_model.specs.Work.{taken_units}
 use Rattle.pipe_model.specs.Moves.{is_final}
 use Rattle.pipe_model.specs.Legal.{is_legal}
 use Rattle.pipe_laws.proofs.Tests.{clash}
-use Rattle.pipe_laws.proofs.Lists.{Each, each_among}
+use Rattle.pipe_laws.proofs.Lists.{each_among}
 use Rattle.pipe_laws.proofs.Places.{Move, stays, comes, comes_lost, sent_on, runs, waits, is_gathered, joins, ends, move_by, closes}
-use Rattle.pipe_laws.proofs.Progress.{going, in_progress, in_batch_going}
+use Rattle.pipe_laws.proofs.Progress.{in_batch_going}
 use Rattle.pipe_laws.proofs.Allowed.{legal_before}
 use Rattle.queue_laws.proofs.Batched.{BatchHolds, batch_holds}
 use Rattle.queue_laws.proofs.Writes.{wrote_others}
 use Rattle.queue_laws.proofs.OneLeg.{numbers_kept}
+use Rattle.pipe_model.specs.Standing.{going, in_progress}
 
 in_progress_some : (o : Option Batch) → in_progress o ≡ true → is_some o ≡ true
 in_progress_some None k = cc
