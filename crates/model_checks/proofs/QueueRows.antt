@@ -59,7 +59,7 @@ works_as_taken = refl
 -- what was sent is handled, in the inbox, or at work
 ledger : map
     (λ n. sent both (first n until_taken) (sub 4 3 1) ∷ handled both (first n until_taken) (sub 4 3 1)
-        ∷ length (units_on (sub 4 3 1) (inbox both (first n until_taken) (stage 4))) ∷ length (working_on both (first n until_taken) (sub 4 3 1)) ∷ [])
+    ∷ length (units_on (sub 4 3 1) (inbox both (first n until_taken) (stage 4))) ∷ length (working_on both (first n until_taken) (sub 4 3 1)) ∷ [])
     (13 ∷ 14 ∷ 15 ∷ [])
     ≡ (0 ∷ 0 ∷ 0 ∷ 0 ∷ []) ∷ (1 ∷ 0 ∷ 1 ∷ 0 ∷ []) ∷ (1 ∷ 0 ∷ 0 ∷ 1 ∷ []) ∷ []
 ledger = refl

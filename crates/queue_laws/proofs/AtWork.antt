@@ -141,8 +141,8 @@ at_work_is topology before c sound h role live calm = either (is_current before 
         let b : Busy topology before c u k = busy topology before c u k h live now last in
         let few = last_one topology before c u k sound h role last in
         let zero_work : weigh (work_weight topology before u) (sent_to topology before c) ≡ 0 = weigh_zero (work_weight topology before u) (sent_to topology before c)
-              (each_weaker (λ d. EntryFits topology before c d × (test d ≡ false)) (λ d. work_weight topology before u d ≡ 0) (λ d p. no_work d p.0 p.1) (sent_to topology before c)
-              (each_both (EntryFits topology before c) (λ d. test d ≡ false) (sent_to topology before c) (entries_fit topology before c) (none_there test (sent_to topology before c) none))) in
+        (each_weaker (λ d. EntryFits topology before c d × (test d ≡ false)) (λ d. work_weight topology before u d ≡ 0) (λ d p. no_work d p.0 p.1) (sent_to topology before c)
+        (each_both (EntryFits topology before c) (λ d. test d ≡ false) (sent_to topology before c) (entries_fit topology before c) (none_there test (sent_to topology before c) none))) in
         omega (arith, b.enough, few.0, zero_work)
       where
         batched : (d : SubNo × ℕ) → EntryFits topology before c d → is_batcher (spec_of topology d.0.producer) ≡ true

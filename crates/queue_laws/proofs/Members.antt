@@ -63,15 +63,15 @@ pub stands_in_queue : (topology : Topology) (before : History) (n : ℕ) → Fit
 stands_in_queue topology before n fit h =
     record {
       waits = λ s e.
-        let at : ListedAt topology before n (Some (Waiting s)) = found (Some (Waiting s)) e in
-        among_kept (λ m. if is_batcher (spec_of topology s) then batch_waits_in s (batch topology before m) else waits_in s (place topology before m)) (arrivals before s) n at.1 (rw (at.0, e) (same_stage-self s));
+          let at : ListedAt topology before n (Some (Waiting s)) = found (Some (Waiting s)) e in
+          among_kept (λ m. if is_batcher (spec_of topology s) then batch_waits_in s (batch topology before m) else waits_in s (place topology before m)) (arrivals before s) n at.1 (rw (at.0, e) (same_stage-self s));
       stands = λ u e.
-        let at : ListedAt topology before n (Some (Inbox u)) = found (Some (Inbox u)) e in
-        entry_kept (in_inbox topology before) (sent_to topology before u.consumer) u n at.1 (rw (at.0, e) (same_sub-self u));
+          let at : ListedAt topology before n (Some (Inbox u)) = found (Some (Inbox u)) e in
+          entry_kept (in_inbox topology before) (sent_to topology before u.consumer) u n at.1 (rw (at.0, e) (same_sub-self u));
       runs = λ s e.
-        among_kept (λ m. runs_in s (place topology before m)) (map (λ d. d.1) (sent_to topology before s)) n (found (Some (Running s)) e) (rw e (same_stage-self s));
+          among_kept (λ m. runs_in s (place topology before m)) (map (λ d. d.1) (sent_to topology before s)) n (found (Some (Running s)) e) (rw e (same_stage-self s));
       gathers = λ s e.
-        among_kept (λ m. is_gathered_in s (place topology before m)) (gathers before s) n (found (Some (Gathered s)) e) (rw e (same_stage-self s));
+          among_kept (λ m. is_gathered_in s (place topology before m)) (gathers before s) n (found (Some (Gathered s)) e) (rw e (same_stage-self s));
     }
   where
     found : (p : Option Place) → place topology before n ≡ p → ListedAt topology before n p

@@ -62,7 +62,7 @@ few_numbers zero [] a h = omega arith
 few_numbers zero (x ∷ xs) a h = absurd (omega (arith, h.0.0, h.0.1))
 few_numbers (suc m) xs a h =
     let less = few_numbers m (filter (λ n. not (suc m == n)) xs) (apart_kept (λ n. n) (λ n. not (suc m == n)) xs a)
-        (each_weaker (λ n. Within (suc m) n × (not (suc m == n) ≡ true)) (Within m) (λ n p. (p.0.0, under n p.0.1 p.1)) (filter (λ n. not (suc m == n)) xs) (each_filter (Within (suc m)) (λ n. not (suc m == n)) xs h)) in
+    (each_weaker (λ n. Within (suc m) n × (not (suc m == n) ≡ true)) (Within m) (λ n p. (p.0.0, under n p.0.1 p.1)) (filter (λ n. not (suc m == n)) xs) (each_filter (Within (suc m)) (λ n. not (suc m == n)) xs h)) in
     let one = dropped_length (suc m) xs a in
     omega (arith, less, one)
   where
@@ -146,9 +146,10 @@ firsts_fit : (topology : Topology) (before : History) → is_legal topology befo
 firsts_fit topology [] h = (tt, tt)
 firsts_fit topology (Close s first trigger ∷ before) h =
     let old = firsts_fit topology before (legal_before topology before (Close s first trigger) h) in
-    let facts = close_facts topology before s first trigger (legal_step topology before (Close s first trigger) h) in
-    ((now facts, each_weaker (λ n. level topology (place topology before n) ≡ 100) (λ n. level topology (place topology (Close s first trigger ∷ before) n) ≡ 100) (λ n k. level_kept topology before (Close s first trigger) n k) (firsts before) old.0),
-    (each_weaker (λ n. level topology (place topology before n) ≡ 100) (λ n. (first.0 == n) ≡ false) (λ n k. ne_eqb first.0 n (λ same. apart facts n k same)) (firsts before) old.0, old.1))
+    let facts = close_facts topology before s first trigger (legal_step topology before (Close s first trigger) h) in (
+      (now facts, each_weaker (λ n. level topology (place topology before n) ≡ 100) (λ n. level topology (place topology (Close s first trigger ∷ before) n) ≡ 100) (λ n k. level_kept topology before (Close s first trigger) n k) (firsts before) old.0),
+      (each_weaker (λ n. level topology (place topology before n) ≡ 100) (λ n. (first.0 == n) ≡ false) (λ n k. ne_eqb first.0 n (λ same. apart facts n k same)) (firsts before) old.0, old.1),
+    )
   where
     now : CloseFacts topology before s first.0 → level topology (place topology (Close s first trigger ∷ before) first.0) ≡ 100
     now facts =
@@ -170,7 +171,7 @@ pub closed_few : (topology : Topology) (before : History) → is_legal topology 
 closed_few topology before h =
     let fit = firsts_fit topology before h in
     let few = few_numbers (accepted before) (firsts before) fit.1
-        (each_weaker (λ n. level topology (place topology before n) ≡ 100) (Within (accepted before)) (λ n k. placed_accepted topology before n (level_some (place topology before n) k)) (firsts before) fit.0) in
+    (each_weaker (λ n. level topology (place topology before n) ≡ 100) (Within (accepted before)) (λ n k. placed_accepted topology before n (level_some (place topology before n) k)) (firsts before) fit.0) in
     omega (arith, few, firsts_count before)
   where
     level_some : (p : Option Place) → level topology p ≡ 100 → is_some p ≡ true
@@ -281,10 +282,10 @@ sent_listed topology (step ∷ before) u = sent_listed topology before u
 pub sent_few : (topology : Topology) (before : History) (u : SubNo) → Fits topology → is_legal topology before ≡ true → sent topology before u ≤ accepted before
 sent_few topology before u fit h =
     let all = few_numbers (accepted before) (units_on u (sent_to topology before u.consumer))
-        (apart_mapped (λ n. n) (λ (d : SubNo × ℕ). d.1) (filter (λ d. same_sub d.0 u) (sent_to topology before u.consumer)) (own (filter (λ d. same_sub d.0 u) (sent_to topology before u.consumer)) (apart_kept unit_of (λ d. same_sub d.0 u) (sent_to topology before u.consumer) ((distinct topology before fit.ascend h).sent u.consumer))))
-        (each_mapped (Within (accepted before)) (λ (d : SubNo × ℕ). d.1) (filter (λ d. same_sub d.0 u) (sent_to topology before u.consumer))
-        (each_kept (λ (d : SubNo × ℕ). Within (accepted before) d.1) (λ d. same_sub d.0 u) (sent_to topology before u.consumer)
-        (each_weaker (EntryFits topology before u.consumer) (λ (d : SubNo × ℕ). Within (accepted before) d.1) (λ d fits. entry_within topology before u.consumer d h fits) (sent_to topology before u.consumer) (entries_fit topology before u.consumer)))) in
+    (apart_mapped (λ n. n) (λ (d : SubNo × ℕ). d.1) (filter (λ d. same_sub d.0 u) (sent_to topology before u.consumer)) (own (filter (λ d. same_sub d.0 u) (sent_to topology before u.consumer)) (apart_kept unit_of (λ d. same_sub d.0 u) (sent_to topology before u.consumer) ((distinct topology before fit.ascend h).sent u.consumer))))
+    (each_mapped (Within (accepted before)) (λ (d : SubNo × ℕ). d.1) (filter (λ d. same_sub d.0 u) (sent_to topology before u.consumer))
+    (each_kept (λ (d : SubNo × ℕ). Within (accepted before) d.1) (λ d. same_sub d.0 u) (sent_to topology before u.consumer)
+    (each_weaker (EntryFits topology before u.consumer) (λ (d : SubNo × ℕ). Within (accepted before) d.1) (λ d fits. entry_within topology before u.consumer d h fits) (sent_to topology before u.consumer) (entries_fit topology before u.consumer)))) in
     omega (arith, all, sent_listed topology before u)
   where
     own : (xs : List (SubNo × ℕ)) → Apart unit_of xs → Apart {A = SubNo × ℕ} (λ d. d.1) xs
