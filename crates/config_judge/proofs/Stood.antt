@@ -1,6 +1,6 @@
 -- One more name among those that stood before.
-use Rattle.std.proofs.Common.{◌≡◌, ℕ, ◌+◌, ◌<◌, List, [], ◌∷◌, ◌++◌, length, take, get_or, Bool, true, false, cond, ◌||◌, ap, ◌∙◌, refl, sym, append_assoc}
-use Rattle.std.specs.Prelude.{bytes_eq, is_some, Option, Some, None}
+use Rattle.std.proofs.Common.{◌≡◌, ℕ, ◌+◌, ◌<◌, List, [], ◌∷◌, ◌++◌, length, take, get_or, Bool, true, false, cond, ◌||◌, ap, ◌∙◌, refl, append_assoc}
+use Rattle.std.specs.Prelude.{bytes_eq, is_some, Option, Some}
 use Rattle.std.specs.BTreeMap.{BTreeMap, UpdatesBy}
 use Rattle.std.specs.Cmp.Lexicographic.{slice_cmp}
 use Rattle.std.specs.Ordering.{nat_cmp}
