@@ -1,7 +1,6 @@
 -- What each step leaves in the queues, on worked journals.
 use Rattle.std.proofs.Common.{◌≡◌, refl}
-use Rattle.std.specs.Prelude.{ℕ, ◌+◌, true, false, List, [], ◌∷◌, map, length, codes, take, Some}
-use Rattle.pipe_types.specs.declared.numbers.SubNo.{SubNo}
+use Rattle.std.specs.Prelude.{ℕ, true, false, List, [], ◌∷◌, map, length, codes, take, Some}
 use Rattle.pipe_types.specs.declared.topology.Topology.{Topology}
 use Rattle.pipe_types.specs.declared.step.Step.{Step}
 use Rattle.pipe_types.specs.declared.step.Step.TheVariants.{Ask, Fetch, Accept, Dispatch, Kill}
@@ -13,7 +12,7 @@ use Rattle.pipe_model.specs.Flow.{waiting, inbox, sent, batch, units_on, numbers
 use Rattle.pipe_model.specs.Ledger.{handled}
 use Rattle.pipe_model.specs.Work.{taken_units}
 use Rattle.pipe_model.specs.Standing.{running, gathered_in, at_work, working_on, is_clear, all_clear, is_clear_above}
-use Rattle.model_checks.proofs.Base.{is_run, producer, processor, with_stages, sub, supervised}
+use Rattle.model_checks.proofs.Base.{producer, processor, with_stages, sub, supervised}
 use Rattle.model_checks.proofs.Broadcast.{both, until_taken}
 use Rattle.model_checks.proofs.Children.{four_runs}
 use Rattle.model_checks.proofs.Flows.{cascading, three_deep}

@@ -1,8 +1,7 @@
 -- What a message holds names its own number.
-use Rattle.std.proofs.Common.{◌≡◌, ℕ, ◌+◌, ◌-◌, List, [], ◌∷◌, length, Bool, true, false, refl, ap, sym, ◌∙◌, Some, None, Option, arith, inl, inr}
-use Rattle.std.specs.Prelude.{if◌then◌else◌, ◌==◌, ◌||◌, nat_lt, is_some, slice_get, ◌⊎◌}
-use Rattle.std.specs.List.{cons_option}
-use Rattle.std.proofs.lemmas.Bool.{eqb-true, eq-eqb}
+use Rattle.std.proofs.Common.{◌≡◌, ℕ, ◌+◌, ◌-◌, List, [], ◌∷◌, Bool, true, false, refl, ap, sym, ◌∙◌, Some, None, Option, inl, inr}
+use Rattle.std.specs.Prelude.{if◌then◌else◌, ◌==◌, nat_lt, slice_get, ◌⊎◌}
+use Rattle.std.proofs.lemmas.Bool.{eqb-true}
 use Rattle.pipe_types.specs.declared.numbers.StageNo.{StageNo}
 use Rattle.pipe_types.specs.declared.message.Message.{Message}
 use Rattle.pipe_types.specs.declared.message.Reply.{Reply}
@@ -11,10 +10,7 @@ use Rattle.pipe_types.specs.declared.step.LateAnswer.TheVariants.{Records}
 use Rattle.pipe_types.specs.declared.step.Step.{Step}
 use Rattle.pipe_types.specs.declared.step.Step.TheVariants.{Accept, Done, Late}
 use Rattle.pipe_model.specs.History.{History, accepted}
-use Rattle.pipe_model.specs.Content.{content, newer, changed_by, fresh, record_as, passed_as, passed, has_crash, new_message}
-use Rattle.pipe_model.specs.Work.{messages_of}
-use Rattle.pipe_model.specs.Flow.{among, reply_to}
-use Rattle.pipe_laws.proofs.Lists.{Each, each_weaker, each_among}
+use Rattle.pipe_model.specs.Content.{content, newer, changed_by, fresh, record_as, passed_as, has_crash, new_message}
 
 newer_cases : (x y : Option Message) (m : Message) → newer x y ≡ Some m → (x ≡ Some m) ⊎ (y ≡ Some m)
 newer_cases (Some k) y m e = inl e

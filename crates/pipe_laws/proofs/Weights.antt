@@ -24,7 +24,7 @@ use Rattle.pipe_laws.proofs.Places.{Move, stays, comes, comes_lost, sent_on, run
 use Rattle.pipe_laws.proofs.Levels.{rank, feeds_down}
 use Rattle.pipe_laws.proofs.Entries.{EntryFits, MessageFits, is_sent_batch, sent_exists}
 use Rattle.pipe_laws.proofs.Settled.{batch_closed}
-use Rattle.pipe_model.specs.Standing.{is_at_work, leg_works, works_at, leg_works_in, works}
+use Rattle.pipe_model.specs.Standing.{is_at_work, leg_works, leg_works_in, works}
 use Rattle.pipe_model.specs.Counting.{as_number}
 
 -- Legs at work

@@ -1,19 +1,18 @@
 -- What a live batch processor works on is the batch that it took last, while its post is out.
-use Rattle.std.proofs.Common.{◌≡◌, ℕ, zero, suc, ◌+◌, ◌-◌, ◌≤◌, List, [], ◌∷◌, map, take, length, Bool, true, false, refl, ap, sym, ◌∙◌, subst, Some, None, Option, arith, min}
+use Rattle.std.proofs.Common.{◌≡◌, ℕ, ◌+◌, ◌-◌, ◌≤◌, List, [], ◌∷◌, map, length, Bool, true, false, refl, ap, sym, ◌∙◌, subst, Some, None, Option, arith, min}
 use Rattle.std.specs.Prelude.{if◌then◌else◌, ◌==◌, ◌&&◌, filter, cond, nat_lt, ◌||◌}
-use Rattle.std.proofs.lemmas.Bool.{eqb-true, eq-eqb, false_from_ne_true}
+use Rattle.std.proofs.lemmas.Bool.{eqb-true, eq-eqb}
 use Rattle.pipe_types.specs.declared.numbers.SubNo.{SubNo}
 use Rattle.pipe_types.specs.declared.numbers.StageNo.{StageNo}
 use Rattle.pipe_types.specs.declared.topology.Topology.{Topology}
 use Rattle.pipe_types.specs.declared.topology.StageSpec.{StageSpec}
 use Rattle.pipe_types.specs.declared.topology.Role.{Role}
 use Rattle.pipe_types.specs.declared.topology.Role.TheVariants.{Producer, Processor, Supervisor, Batcher, BatchProcessor}
-use Rattle.pipe_types.specs.declared.step.Step.{Step}
 use Rattle.pipe_types.specs.declared.message.BatchEnd.TheVariants.{Crashed as BatchCrashed}
 use Rattle.pipe_types.specs.declared.step.Step.TheVariants.{Take, Wrote}
 use Rattle.pipe_types.specs.Numbers.{same_stage, same_sub}
 use Rattle.pipe_types.specs.Stages.{spec_of}
-use Rattle.pipe_types.specs.Sound.{IsSound, has_fields, has_fields_of, is_batch_processor_in, are_rules, is_reason, no_dispatcher, no_buffer, no_batching, no_children, no_batchers}
+use Rattle.pipe_types.specs.Sound.{IsSound, has_fields, has_fields_of, is_batch_processor_in, are_rules, is_reason}
 use Rattle.pipe_model.specs.History.{History}
 use Rattle.pipe_model.specs.Posts.{last_take}
 use Rattle.pipe_model.specs.Lives.{is_live}
@@ -22,18 +21,17 @@ use Rattle.pipe_model.specs.Work.{taken_units}
 use Rattle.pipe_model.specs.Legal.{is_legal, has_role, is_batch_processor_role, is_current, chunk_size, owed}
 use Rattle.pipe_model.specs.Standing.{at_work, works, leg_works_in}
 use Rattle.pipe_laws.proofs.Tests.{clash, and_left, and_right, same_stage-true, same_sub-true}
-use Rattle.pipe_laws.proofs.Lists.{Each, each_weaker, each_both, each_map, each_among, weigh}
+use Rattle.pipe_laws.proofs.Lists.{Each, each_weaker, each_both, weigh}
 use Rattle.pipe_laws.proofs.Entries.{EntryFits, entries_fit}
 use Rattle.pipe_laws.proofs.Levels.{rank, feeds_down}
 use Rattle.pipe_laws.proofs.Allowed.{legal_before, legal_step, TakeFacts, take_facts}
 use Rattle.pipe_laws.proofs.Busy.{Busy, busy, work_weight}
 use Rattle.queue_laws.proofs.Apart.{Apart, apart_kept}
 use Rattle.queue_laws.proofs.Roles.{rank_batcher}
-use Rattle.queue_laws.proofs.Fits.{Fits}
 use Rattle.queue_laws.proofs.Sounds.{fits, sound_fields}
-use Rattle.queue_laws.proofs.Distinct.{Distinct, distinct, unit_of}
+use Rattle.queue_laws.proofs.Distinct.{distinct, unit_of}
 use Rattle.queue_laws.proofs.Counts.{weigh_zero, TookBy, took}
-use Rattle.queue_laws.proofs.BatchWork.{owes_write, WorksTaken, batch_work, writer_rank}
+use Rattle.queue_laws.proofs.BatchWork.{owes_write, batch_work, writer_rank}
 use Rattle.pipe_model.specs.Counting.{as_number}
 
 -- One batch at a time

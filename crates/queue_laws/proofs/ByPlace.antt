@@ -1,42 +1,16 @@
 -- What a dispatch sends, by the places of the units that wait.
-use Rattle.std.proofs.Common.{◌≡◌, ℕ, suc, ◌+◌, ◌≤◌, List, [], ◌∷◌, ◌++◌, map, length, get_or, Bool, true, false, refl, ap, sym, ◌∙◌, subst, Some, None, Option, arith}
-use Rattle.std.specs.Prelude.{if◌then◌else◌, ◌==◌, ◌&&◌, ◌||◌, option_map, is_some, filter, cond}
+use Rattle.std.proofs.Common.{◌≡◌, ℕ, suc, ◌+◌, List, [], ◌∷◌, ◌++◌, map, get_or, refl, ap, sym, ◌∙◌, arith}
+use Rattle.std.specs.Prelude.{filter}
 use Rattle.std.specs.List.{enumerate_from}
-use Rattle.std.proofs.lemmas.Bool.{eqb-true, eq-eqb, ne_eqb, false_from_ne_true}
-use Rattle.std.proofs.lemmas.List.{append-nil}
-use Rattle.pipe_types.specs.declared.numbers.SubNo.{SubNo}
 use Rattle.pipe_types.specs.declared.numbers.StageNo.{StageNo}
 use Rattle.pipe_types.specs.declared.topology.Topology.{Topology}
 use Rattle.pipe_types.specs.declared.topology.Dispatch.{Dispatch as DispatchKind}
-use Rattle.pipe_types.specs.declared.message.Why.{Why}
-use Rattle.pipe_types.specs.declared.message.BatchEnd.TheVariants.{Outcomes}
 use Rattle.pipe_types.specs.declared.room.Room.{Room}
 use Rattle.pipe_types.specs.declared.room.Sent.{Sent as SentUnit}
-use Rattle.pipe_types.specs.declared.step.Step.{Step}
-use Rattle.pipe_types.specs.declared.step.Step.TheVariants.{Dispatch, Take, Close, Wrote, Kill, Halt}
-use Rattle.pipe_types.specs.Numbers.{same_stage, same_sub}
 use Rattle.pipe_types.specs.Dispatchers.{goes, on_each, sends_from, sends_by_place}
 use Rattle.pipe_types.specs.Stages.{spec_of}
-use Rattle.pipe_model.specs.History.{History, closed, incarnation}
-use Rattle.pipe_model.specs.Lives.{KillSet, reason_in, kill_set, is_live_sub}
-use Rattle.pipe_model.specs.Batches.{Batch, BatchPlace, AtBatcher, Sent, Dropped, Leg, LegPlace, InInbox, AtWork, Answered, LegLost, on_legs, new_legs, leg_taken, leg_answered, leg_lost, batch_sent, batch_on_legs, batch_killed, dropped_in}
-use Rattle.pipe_model.specs.Flow.{place, batch, view_of, waiting, inbox, sent, sent_to, among, is_batcher, in_inbox_by, leg_waits, leg_waits_in, runs_in, subs_of, deliveries, rooms_by, kind_in, partition_in, units_on, numbers_in, new_batch, change_place, closing, next_units}
-use Rattle.pipe_model.specs.Ledger.{handled}
-use Rattle.pipe_model.specs.Legal.{is_legal}
-use Rattle.pipe_laws.proofs.Tests.{clash, same_sub-true}
-use Rattle.pipe_laws.proofs.Lists.{Each, each_weaker, weigh}
-use Rattle.pipe_laws.proofs.Settled.{batch_closed}
-use Rattle.pipe_laws.proofs.Entries.{is_waiting}
-use Rattle.pipe_laws.proofs.Allowed.{legal_before}
-use Rattle.pipe_laws.proofs.Busy.{inbox_here}
-use Rattle.queue_laws.proofs.Apart.{Apart, apart_kept, apart_mapped}
-use Rattle.queue_laws.proofs.Delivered.{consumer_of, rooms_apart, sends_each}
-use Rattle.queue_laws.proofs.Singles.{subs_of-append, none_of}
-use Rattle.queue_laws.proofs.Distinct.{distinct, itself}
-use Rattle.queue_laws.proofs.Fits.{Fits}
-use Rattle.queue_laws.proofs.Counts.{counts}
-use Rattle.pipe_model.specs.Standing.{working_on, in_inbox, works, leg_works, leg_works_in, works_at, is_at_work, in_hands}
-use Rattle.pipe_model.specs.Counting.{as_number}
+use Rattle.pipe_model.specs.History.{History}
+use Rattle.pipe_model.specs.Flow.{view_of, waiting, deliveries, rooms_by, kind_in, partition_in}
 
 abbrev named : (ℕ → ℕ) → SentUnit → SentUnit
 named f d = record { unit = f d.unit; sub = d.sub }

@@ -11,9 +11,9 @@ use Rattle.pipe_types.specs.Numbers.{same_stage, same_sub, batch_no}
 use Rattle.pipe_types.specs.Stages.{spec_of}
 use Rattle.pipe_model.specs.History.{History}
 use Rattle.pipe_model.specs.Content.{gathers, arrivals}
-use Rattle.pipe_model.specs.Batches.{Batch, BatchPlace, AtBatcher, Sent, Dropped, Leg, LegPlace, InInbox, AtWork}
-use Rattle.pipe_model.specs.Flow.{place, batch, sent_to, waiting, inbox, is_empty, among, numbers_in, is_batcher, runs_in, waits_in, is_gathered_in, in_inbox_by, batch_waits_in, leg_waits, leg_waits_in}
-use Rattle.pipe_model.specs.Standing.{running, at_work, gathered_in, in_inbox, has_entry, leg_works, leg_works_in, in_progress, is_once, StandsInQueue, BatchStandsInQueue, HoldsEachOnce, HoldsItsMessages}
+use Rattle.pipe_model.specs.Batches.{Batch, BatchPlace, AtBatcher, Sent, Dropped, Leg, LegPlace}
+use Rattle.pipe_model.specs.Flow.{place, batch, sent_to, waiting, is_empty, among, numbers_in, is_batcher, runs_in, waits_in, is_gathered_in, batch_waits_in, leg_waits, leg_waits_in}
+use Rattle.pipe_model.specs.Standing.{running, gathered_in, in_inbox, has_entry, leg_works, leg_works_in, in_progress, is_once, StandsInQueue, BatchStandsInQueue, HoldsEachOnce, HoldsItsMessages}
 use Rattle.pipe_model.specs.Legal.{is_legal}
 use Rattle.pipe_laws.proofs.Tests.{clash, both, and_left, and_right, same_stage-true, same_stage-self, same_sub-true, same_sub-self}
 use Rattle.pipe_laws.proofs.Lists.{Each, each_among}

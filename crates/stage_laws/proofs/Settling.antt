@@ -27,6 +27,7 @@ use Rattle.queue_laws.proofs.Batched.{BatchHolds, batch_holds}
 use Rattle.queue_laws.proofs.Writes.{wrote_others}
 use Rattle.queue_laws.proofs.OneLeg.{numbers_kept}
 use Rattle.pipe_model.specs.Standing.{going, in_progress}
+use Rattle.queue_laws.proofs.Batched.{going_in}
 
 in_progress_some : (o : Option Batch) → in_progress o ≡ true → is_some o ≡ true
 in_progress_some None k = cc
@@ -91,15 +92,6 @@ in_numbers topology (step ∷ before) n b e =
 abbrev pub settled_by : List ℕ → List Leg → ℕ → Place → Place
 settled_by numbers legs n p =
     if is_settled legs && among numbers n then settled_as (lost_leg legs) (failed_leg legs (unwrap_or (position (λ m. m == n) numbers) 0)) else p
-
-going_in : (b : ℕ) (p : BatchPlace) (i : ℕ) → going p ≡ true → place_by_batch b p i ≡ InBatch (batch_no b)
-going_in b (AtBatcher s) i h = refl
-going_in b (Sent legs) i h = either (is_settled legs) h
-  where
-    either : (a : Bool) → not a ≡ true → (if a then settled_as (lost_leg legs) (failed_leg legs i) else InBatch (batch_no b)) ≡ InBatch (batch_no b)
-    either false k = refl
-    either true k = cc
-going_in b (Dropped loss) i h = cc
 
 -- a write changes the messages of the one batch that was taken, and those only when its last leg is answered
 pub wrote_places : (topology : Topology) (before : History) (s : StageNo) (bytes : ℕ) (outcomes : List Outcome) (b : ℕ) (numbers : List ℕ) (legs : List Leg)
