@@ -109,8 +109,8 @@ module _ {V O : Type 0} (steps : V → History) (stems : O → V → Type 0) whe
             })
             (others_stay n i id h taken o vs v may r here who.0 who.1)
             (λ j u post other at_j job theirs.
-                let out : is_out v.seen post ≡ true = subst (λ (z : History). is_out z post ≡ true) (sym who.1) ((r.each j u at_j).undone post theirs).0 in
-                false≢true (sym ((mine post job).1 (λ own. r.apart id j v u post (λ k. other (sym k)) here at_j own theirs)) ∙ out))),
+            let out : is_out v.seen post ≡ true = subst (λ (z : History). is_out z post ≡ true) (sym who.1) ((r.each j u at_j).undone post theirs).0 in
+            false≢true (sym ((mine post job).1 (λ own. r.apart id j v u post (λ k. other (sym k)) here at_j own theirs)) ∙ out))),
         λ h' e. let same : h ≡ h' = Some-injective h h' (ap (λ (z : List (ℕ × Option (Handed V))). head_value z) e) in λ k. (giving (steps (same k).value) (same k).job v, []),
       )
 

@@ -37,5 +37,5 @@ module _ {O : Type 0} where
       → IfSome h.job (λ post. IsOwnJob seat.job seat.seen (steps h.value) post) → MayGive steps stems v h
   gives_seen steps stems t v o seat h e =
       let P : SeatView O → Type 0 = λ z. BeginsWith (steps h.value) z.seen → ((post : Post) → is_out z.seen post ≡ true → z.job ≢ Some post → IsUnanswered (steps h.value) z.seen post)
-          → IfSome h.job (λ post. IsOwnJob z.job z.seen (steps h.value) post) → MayGive steps stems v h in
+      → IfSome h.job (λ post. IsOwnJob z.job z.seen (steps h.value) post) → MayGive steps stems v h in
       subst P e (λ begins others job. record { begins = begins; others = others; job = job })

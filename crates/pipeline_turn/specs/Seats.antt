@@ -34,6 +34,12 @@ abbrev pub the : {O : Type 0} → (origin : Option O) → IsSome origin → O
 the (Some o) e = o
 the None e = absurd (false≢true e)
 
+-- the seat of the same turn and the same origin, with as many parts
+pub record IsSameSeat {O : Type 0} (before after : SeatView O) : Type 0 where
+  pub turn : after.turn ≡ before.turn
+  pub parts : after.parts ≡ before.parts
+  pub origin : after.origin ≡ before.origin
+
 abbrev pub seat_view : {O : Type 0} → TableId → View O → O → SeatView O
 seat_view turn v origin = record { turn = turn; parts = v.parts; origin = origin; seen = v.seen; job = v.job; holds = v.holds; misses = v.misses }
 

@@ -14,6 +14,3 @@ mod view;
 pub use held::Held;
 pub use seat::Seat;
 pub use turn::Turn;
-
-#[cfg(test)]
-mod tests;
