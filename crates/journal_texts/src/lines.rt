@@ -244,7 +244,7 @@ fn put_lines(out: &mut Vec<u8>, journal: &Journal) -> Result<(), AllocError>
 }
 
 /// Writes the text of a journal.
-#[tactic(auto, using(std::proofs::lemmas::List::append_assoc, crate::proofs::Lists::length_reversed))]
+#[tactic(auto, using(std::proofs::lemmas::List::append_assoc, pipe_journal::proofs::Walks::length_reversed))]
 fn put_journal(out: &mut Vec<u8>, journal: &Journal) -> Result<(), AllocError>
     ensures { OnOk result (out.new.items ≡ out.old.items ++ text_of_journal journal.now.steps) }
 {

@@ -126,7 +126,7 @@ fn cause_of(step: StepView<'_>) -> Option<DrainCause>
 }
 
 /// The causes of the drain, in journal order.
-#[tactic(auto, using(crate::proofs::Lists::filter_map_some, crate::proofs::Lists::filter_map_none))]
+#[tactic(auto, using(pipe_journal::proofs::Walks::filter_map_some, pipe_journal::proofs::Walks::filter_map_none))]
 pub(crate) fn causes(alloc: Global, journal: &Journal) -> Result<Vec<DrainCause>, AllocError>
     ensures { IfOk result (λ found. found.items ≡ filter_map cause_of_step (reverse journal.now.steps)) }
 {

@@ -2,7 +2,7 @@ use Rattle.std.proofs.Common.{ap, reverse, ◌∙◌, ◌++◌, arith}
 use Rattle.std.specs.List.{flat_map}
 use Rattle.pipe_journal.specs.Views.{step_seen}
 use Rattle.journal_texts.specs.Steps.{step_line}
-use Rattle.journal_texts.proofs.Lists.{flat_map_at, whole}
+use Rattle.pipe_journal.proofs.Walks.{flat_map_at, whole}
 use Rattle.journal_texts.proofs.lines.put_lines.Goals as goal
 
 pub loop-at-preserved : goal.loop-at-preserved

@@ -1,7 +1,7 @@
 use Rattle.std.proofs.Common.{reverse, arith}
 use Rattle.pipe_journal.specs.Views.{step_seen}
 use Rattle.journal_texts.specs.Report.{is_source_fault}
-use Rattle.journal_texts.proofs.Lists.{passes_at, any_no, passes_none}
+use Rattle.pipe_journal.proofs.Walks.{passes_at, any_no, passes_none}
 use Rattle.journal_texts.proofs.status.has_source_fault.Goals as goal
 
 pub returns-then-is_source_fault : goal.returns-then-is_source_fault

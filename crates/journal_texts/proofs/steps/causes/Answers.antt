@@ -1,7 +1,7 @@
 use Rattle.std.proofs.Common.{ap, ◌∙◌, arith}
 use Rattle.std.specs.List.{filter_map}
 use Rattle.journal_texts.specs.Report.{cause_of}
-use Rattle.journal_texts.proofs.Lists.{whole}
+use Rattle.pipe_journal.proofs.Walks.{whole}
 use Rattle.journal_texts.proofs.steps.causes.Goals as goal
 
 pub returns : goal.returns

@@ -1,7 +1,7 @@
 use Rattle.std.proofs.Common.{reverse, arith}
 use Rattle.pipe_journal.specs.Views.{step_seen}
 use Rattle.pipe_model.specs.Legal.{is_halt}
-use Rattle.journal_texts.proofs.Lists.{passes_at, any_no, passes_none}
+use Rattle.pipe_journal.proofs.Walks.{passes_at, any_no, passes_none}
 use Rattle.journal_texts.proofs.steps.is_halted.Goals as goal
 
 pub returns-then-is_halt : goal.returns-then-is_halt

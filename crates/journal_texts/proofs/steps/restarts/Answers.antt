@@ -2,7 +2,7 @@ use Rattle.std.proofs.Common.{ap, sym, reverse, ◌+◌, ◌∙◌, arith}
 use Rattle.std.specs.List.{count_by}
 use Rattle.pipe_journal.specs.Views.{step_seen}
 use Rattle.journal_texts.specs.Report.{is_restart}
-use Rattle.journal_texts.proofs.Lists.{count_yes, count_no, whole}
+use Rattle.pipe_journal.proofs.Walks.{count_yes, count_no, whole}
 use Rattle.journal_texts.proofs.steps.restarts.Goals as goal
 use Rattle.journal_texts.proofs.steps.restarts.Goals.{then-is_restart, else-is_restart}
 

@@ -2,7 +2,7 @@ use Rattle.std.proofs.Common.{ap, reverse, ◌∙◌, arith}
 use Rattle.std.specs.List.{filter_map}
 use Rattle.pipe_journal.specs.Views.{step_seen}
 use Rattle.journal_texts.specs.Report.{fault_of}
-use Rattle.journal_texts.proofs.Lists.{filter_map_at, whole}
+use Rattle.pipe_journal.proofs.Walks.{filter_map_at, whole}
 use Rattle.journal_texts.proofs.steps.source_faults.Goals as goal
 
 pub loop-at-preserved : goal.loop-at-preserved
