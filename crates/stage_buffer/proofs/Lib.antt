@@ -1,6 +1,7 @@
 pub mod Changes
 pub mod Empty
 pub mod Ends
+pub mod Fewer
 pub mod Methods
 pub mod Ordering
 pub mod Popping

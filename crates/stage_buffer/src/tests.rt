@@ -41,6 +41,7 @@ fn loses_the_other_end(rt: HostRuntime) -> Result<(), Fail> {
 }
 
 #[test]
+#[tactic(auto, using(crate::proofs::Fewer::over_fewer))]
 fn thirty_units_as_a_list(rt: HostRuntime) -> Result<(), Fail> {
     for keep in &KEEPS {
         let mut buffer = Buffer::new(rt.alloc(), 3, Some(7), *keep)?;
