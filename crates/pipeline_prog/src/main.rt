@@ -1,15 +1,8 @@
-//! The program `wamiondry`: it gives the words, a stock of callbacks, the system's files and streams and its clock to
+//! The program `wamiondry`: it gives the words, a stock of callbacks, the system's files, connections, streams and clock to
 //! `run_program`, and ends with the status that this answers.
 #![tactic(auto)]
 
-mod clock;
-mod edges;
-mod output;
-mod source;
-
-use clock::RealClock;
-use edges::RealEdges;
-use output::RealOut;
+use file_socket_sinks::{RealClock, RealEdges, RealOut};
 use pipe_top::run_program;
 use stage_callback::{Callback, LinesBox, StepsBox};
 use std::alloc::AllocError;
@@ -61,6 +54,3 @@ fn main(rt: HostRuntime) -> ExitCode {
         }
     }
 }
-
-#[cfg(test)]
-mod tests;

@@ -1,0 +1,130 @@
+//! What the system has by name.
+
+ghost use Rattle.std.specs.Prelude.{◌≡◌, ◌≤◌, [], false, ℕ, List};
+ghost use Rattle.pipe_edges.specs.Named.{AddsBack, EdgeHasCause};
+ghost use Rattle.file_socket_sinks.specs.Back.{given_in};
+ghost use Rattle.file_socket_sinks.specs.Came.{OpenCameTo};
+
+use crate::output::{RealOut, Writer};
+use crate::source::{Reader, RealSource};
+use pipe_edges::{EdgeEnd, Edges, MAX_FILE_BYTES};
+use pipe_types::bytes::{Bytes, Text};
+use std::alloc::{AllocError, Global};
+use std::fs::File;
+use std::io;
+use std::io::{ErrorKind, Read};
+
+/// Something that was given back, with its name.
+#[derive(Drop)]
+pub struct GivenBack<T> {
+    pub name: Text,
+    pub item: T,
+}
+
+// Keeps what is given back under its name. For want of memory it is let go.
+fn keep<T: Drop>(
+    alloc: Global,
+    kept: &mut Vec<GivenBack<T>>,
+    name: &Text,
+    item: T,
+) -> Result<(), AllocError>
+    ensures { AddsBack result (name.now, item) (given_in kept.old.items) (given_in kept.new.items) }
+{
+    let name = Text::from_string(String::from_str(alloc, name.as_str())?);
+    kept.push(GivenBack { name, item })?;
+    Ok(())
+}
+
+// What was opened, or why nothing was. Each failure is counted, and want of memory is not.
+fn count<T: Drop>(faults: &mut u64, opened: io::Result<T>) -> Result<T, EdgeEnd>
+    ensures came { OpenCameTo opened result }
+    ensures cause { EdgeHasCause faults.old faults.new result }
+    ensures stays { faults.old ≤ faults.new }
+{
+    match opened {
+        Ok(opened) => Ok(opened),
+        Err(e) if e.kind() == ErrorKind::OutOfMemory => Err(EdgeEnd::OutOfMemory),
+        Err(_) => {
+            *faults = faults.saturating_add(1);
+            Err(EdgeEnd::Failed)
+        }
+    }
+}
+
+/// What the system has by name. Sources are `file:PATH`, read from the start, `stdin:`, `connect:HOST:PORT`, and
+/// `listen:HOST:PORT`, of which one connection is accepted at opening; sinks are `file:PATH`, made new or emptied, and
+/// `connect:HOST:PORT`; the name of a file to read whole is its path. Every other name fails. It tells no bytes and no
+/// calls, counts each failure, and keeps what is given back until it is dropped, which closes it.
+#[derive(Drop)]
+pub struct RealEdges {
+    rt: HostRuntime,
+    faults: u64,
+    sources: Vec<GivenBack<RealSource<Reader>>>,
+    sinks: Vec<GivenBack<RealOut<Writer>>>,
+}
+
+impl RealEdges {
+    pub fn new(rt: &HostRuntime) -> RealEdges
+        ensures no_fault { ⟦<RealEdges as Edges>⟧.faults result ≡ 0 }
+        ensures no_source { ⟦<RealEdges as Edges>⟧.sources_back result ≡ [] }
+        ensures no_sink { ⟦<RealEdges as Edges>⟧.sinks_back result ≡ [] }
+    {
+        RealEdges {
+            rt: *rt,
+            faults: 0,
+            sources: Vec::new(rt.alloc()),
+            sinks: Vec::new(rt.alloc()),
+        }
+    }
+
+    fn bytes_of(&self, path: &str) -> io::Result<Bytes> {
+        let mut bytes = Vec::new(self.rt.alloc());
+        File::open(&self.rt, path)?
+            .take(MAX_FILE_BYTES as u64)
+            .read_to_end(&mut bytes)?;
+        Ok(Bytes::from_vec(bytes))
+    }
+}
+
+impl Edges for RealEdges {
+    type Source = RealSource<Reader>;
+
+    type Sink = RealOut<Writer>;
+
+    type Out = RealOut<Writer>;
+
+    ghost told = { λ _. false };
+
+    ghost named = { λ _ _ _. [] };
+
+    ghost asked = { λ _. [] };
+
+    ghost faults = { λ e. e.faults };
+
+    ghost sources_back = { λ e. given_in e.sources.items };
+
+    ghost sinks_back = { λ e. given_in e.sinks.items };
+
+    fn open_source(&mut self, name: &Text) -> Result<RealSource<Reader>, EdgeEnd> {
+        let reader = count(&mut self.faults, Reader::open(&self.rt, name.as_str()))?;
+        Ok(RealSource::new(reader))
+    }
+
+    fn open_sink(&mut self, name: &Text) -> Result<RealOut<Writer>, EdgeEnd> {
+        let writer = count(&mut self.faults, Writer::open(&self.rt, name.as_str()))?;
+        Ok(RealOut::new(&self.rt, writer))
+    }
+
+    fn read_file(&mut self, name: &Text) -> Result<Bytes, EdgeEnd> {
+        let bytes = self.bytes_of(name.as_str());
+        count(&mut self.faults, bytes)
+    }
+
+    fn back_source(&mut self, name: &Text, source: RealSource<Reader>) -> Result<(), AllocError> {
+        keep(self.rt.alloc(), &mut self.sources, name, source)
+    }
+
+    fn back_sink(&mut self, name: &Text, sink: RealOut<Writer>) -> Result<(), AllocError> {
+        keep(self.rt.alloc(), &mut self.sinks, name, sink)
+    }
+}
