@@ -1,5 +1,7 @@
 //! Reads and writes that are interrupted, would wait, fail or take nothing.
 
+ghost use Rattle.std.specs.Prelude.{◌≤◌, IfOk};
+
 use crate::{RealOut, RealSource};
 use pipe_edges::{ByteSink, ByteSource, ReadEnd, WriteEnd};
 use std::io;
@@ -29,11 +31,11 @@ impl Player<'_> {
     fn play(&mut self, room: usize) -> io::Result<usize>
         ensures { IfOk result (λ n. n ≤ room) }
     {
-        let act = self.acts.get(self.at).copied();
-        self.at = self.at.saturating_add(1);
-        match act {
-            Some(Moves(n)) => Ok(n.min(room)),
-            Some(Fails(kind)) => Err(io::Error::from(kind)),
+        let at = self.at;
+        self.at = at.saturating_add(1);
+        match self.acts.get(at) {
+            Some(Moves(n)) => Ok((*n).min(room)),
+            Some(Fails(kind)) => Err(io::Error::from(*kind)),
             None => Ok(0),
         }
     }
