@@ -1,9 +1,10 @@
-//! The system's devices by name, connections over loopback, and readers and writers that play a script.
+//! The system's devices by name, connections over loopback, what is set not to wait, and readers and writers that play a script.
 
 mod connections;
 mod devices;
 mod names;
 mod scripts;
+mod streams;
 
 use crate::{Reader, RealEdges, RealOut, RealSource, Writer};
 use pipe_edges::{ByteSource, Edges, Fetched, LineSource};

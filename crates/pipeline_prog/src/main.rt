@@ -1,5 +1,5 @@
-//! The program `wamiondry`: it gives the words, a stock of callbacks, the system's files, connections, streams and clock to
-//! `run_program`, and ends with the status that this answers.
+//! The program `wamiondry`: it gives the words, a stock of callbacks, the system's files, connections and streams and
+//! its clock to `run_program`, and ends with the status that this answers.
 #![tactic(auto)]
 
 use file_socket_sinks::{RealClock, RealEdges, RealOut};
