@@ -1,15 +1,8 @@
-//! The program `wamiondry`: it gives the words, a stock of callbacks, the system's files and streams and its clock to
-//! `run_program`, and ends with the status that this answers.
+//! The program `wamiondry`: it gives the words, a stock of callbacks, the system's files, connections and streams and
+//! its clock to `run_program`, and ends with the status that this answers.
 #![tactic(auto)]
 
-mod clock;
-mod edges;
-mod output;
-mod source;
-
-use clock::RealClock;
-use edges::RealEdges;
-use output::{RealOut, Writer};
+use file_socket_sinks::{RealClock, RealEdges, RealOut};
 use pipe_top::run_program;
 use stage_callback::{Callback, LinesBox, StepsBox};
 use std::alloc::AllocError;
@@ -46,8 +39,8 @@ fn run(rt: &HostRuntime) -> Result<u8, AllocError> {
         stock.push(Box::new(alloc, LinesBox::new(alloc))?)?;
     }
     let mut edges = RealEdges::new(rt);
-    let mut out = RealOut::new(rt, Writer::Output(rt.stdout()));
-    let mut err = RealOut::new(rt, Writer::Error(rt.stderr()));
+    let mut out = RealOut::standard_output(rt);
+    let mut err = RealOut::standard_error(rt);
     let clock = RealClock::new(rt);
     Ok(run_program(alloc, &words, stock, &mut edges, clock, &mut out, &mut err).status)
 }
@@ -61,6 +54,3 @@ fn main(rt: HostRuntime) -> ExitCode {
         }
     }
 }
-
-#[cfg(test)]
-mod tests;

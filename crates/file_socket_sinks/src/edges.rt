@@ -1,14 +1,13 @@
-//! Files and standard input by name.
+//! What the system has by name.
 
-ghost use Rattle.std.specs.Prelude.{◌≡◌, ◌≤◌, [], false, ℕ, List, IfSome};
-ghost use Rattle.pipe_types.specs.Counts.{Rose};
-ghost use Rattle.pipe_edges.specs.Named.{AddsBack};
-ghost use Rattle.pipe_edges.specs.declared.edges.EdgeEnd.{EdgeEnd};
-ghost use Rattle.pipeline_prog.specs.Back.{given_in};
+ghost use Rattle.std.specs.Prelude.{◌≡◌, ◌≤◌, [], false, ℕ, List};
+ghost use Rattle.pipe_edges.specs.Named.{AddsBack, EdgeHasCause};
+ghost use Rattle.file_socket_sinks.specs.Back.{given_in};
+ghost use Rattle.file_socket_sinks.specs.Came.{OpenCameTo};
 
 use crate::output::{RealOut, Writer};
 use crate::source::{Reader, RealSource};
-use pipe_edges::{ByteSink, ByteSource, EdgeEnd, Edges, MAX_FILE_BYTES};
+use pipe_edges::{EdgeEnd, Edges, MAX_FILE_BYTES};
 use pipe_types::bytes::{Bytes, Text};
 use std::alloc::{AllocError, Global};
 use std::fs::File;
@@ -36,19 +35,26 @@ fn keep<T: Drop>(
     Ok(())
 }
 
-// Counts a failure.
-fn fail(faults: &mut u64) -> EdgeEnd
-    ensures end { result ≡ EdgeEnd.Failed }
-    ensures counted { Rose faults.old faults.new }
+// What was opened, or why nothing was. Each failure is counted, and want of memory is not.
+fn count<T: Drop>(faults: &mut u64, opened: io::Result<T>) -> Result<T, EdgeEnd>
+    ensures came { OpenCameTo opened result }
+    ensures cause { EdgeHasCause faults.old faults.new result }
     ensures stays { faults.old ≤ faults.new }
 {
-    *faults = faults.saturating_add(1);
-    EdgeEnd::Failed
+    match opened {
+        Ok(opened) => Ok(opened),
+        Err(e) if e.kind() == ErrorKind::OutOfMemory => Err(EdgeEnd::OutOfMemory),
+        Err(_) => {
+            *faults = faults.saturating_add(1);
+            Err(EdgeEnd::Failed)
+        }
+    }
 }
 
-/// What the system has by name. Sources are `file:PATH`, read from the start, and `stdin:`; sinks are `file:PATH`, made
-/// new or emptied; the name of a file to read whole is its path. Every other name fails. It tells no bytes and no
-/// calls, counts each failure, and keeps what is given back until it is dropped.
+/// What the system has by name. Sources are `file:PATH`, read from the start, `stdin:`, `connect:HOST:PORT`, and
+/// `listen:HOST:PORT`, of which one connection is accepted at opening; sinks are `file:PATH`, made new or emptied, and
+/// `connect:HOST:PORT`; the name of a file to read whole is its path. Every other name fails. It tells no bytes and no
+/// calls, counts each failure, and keeps what is given back until it is dropped, which closes it.
 #[derive(Drop)]
 pub struct RealEdges {
     rt: HostRuntime,
@@ -58,33 +64,17 @@ pub struct RealEdges {
 }
 
 impl RealEdges {
-    pub fn new(rt: &HostRuntime) -> RealEdges {
+    pub fn new(rt: &HostRuntime) -> RealEdges
+        ensures no_fault { ⟦<RealEdges as Edges>⟧.faults result ≡ 0 }
+        ensures no_source { ⟦<RealEdges as Edges>⟧.sources_back result ≡ [] }
+        ensures no_sink { ⟦<RealEdges as Edges>⟧.sinks_back result ≡ [] }
+    {
         RealEdges {
             rt: *rt,
             faults: 0,
             sources: Vec::new(rt.alloc()),
             sinks: Vec::new(rt.alloc()),
         }
-    }
-
-    fn source_of(&self, name: &str) -> Option<RealSource<Reader>>
-        ensures no_fault { IfSome result (λ s. ⟦<RealSource<Reader> as ByteSource>⟧.faults s ≡ 0) }
-        ensures no_wait { IfSome result (λ s. ⟦<RealSource<Reader> as ByteSource>⟧.waits s ≡ 0) }
-    {
-        if name == "stdin:" {
-            return Some(RealSource::new(Reader::Input(self.rt.stdin())));
-        }
-        let path = name.strip_prefix("file:")?;
-        let file = File::open(&self.rt, path).ok()?;
-        Some(RealSource::new(Reader::File(file)))
-    }
-
-    fn sink_of(&self, name: &str) -> Option<RealOut<Writer>>
-        ensures { IfSome result (λ k. ⟦<RealOut<Writer> as ByteSink>⟧.faults k ≡ 0) }
-    {
-        let path = name.strip_prefix("file:")?;
-        let file = File::create(&self.rt, path).ok()?;
-        Some(RealOut::new(&self.rt, Writer::File(file)))
     }
 
     fn bytes_of(&self, path: &str) -> io::Result<Bytes> {
@@ -116,25 +106,18 @@ impl Edges for RealEdges {
     ghost sinks_back = { λ e. given_in e.sinks.items };
 
     fn open_source(&mut self, name: &Text) -> Result<RealSource<Reader>, EdgeEnd> {
-        match self.source_of(name.as_str()) {
-            Some(source) => Ok(source),
-            None => Err(fail(&mut self.faults)),
-        }
+        let reader = count(&mut self.faults, Reader::open(&self.rt, name.as_str()))?;
+        Ok(RealSource::new(reader))
     }
 
     fn open_sink(&mut self, name: &Text) -> Result<RealOut<Writer>, EdgeEnd> {
-        match self.sink_of(name.as_str()) {
-            Some(sink) => Ok(sink),
-            None => Err(fail(&mut self.faults)),
-        }
+        let writer = count(&mut self.faults, Writer::open(&self.rt, name.as_str()))?;
+        Ok(RealOut::new(&self.rt, writer))
     }
 
     fn read_file(&mut self, name: &Text) -> Result<Bytes, EdgeEnd> {
-        match self.bytes_of(name.as_str()) {
-            Ok(bytes) => Ok(bytes),
-            Err(e) if e.kind() == ErrorKind::OutOfMemory => Err(EdgeEnd::OutOfMemory),
-            Err(_) => Err(fail(&mut self.faults)),
-        }
+        let bytes = self.bytes_of(name.as_str());
+        count(&mut self.faults, bytes)
     }
 
     fn back_source(&mut self, name: &Text, source: RealSource<Reader>) -> Result<(), AllocError> {

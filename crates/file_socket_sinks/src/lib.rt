@@ -1,0 +1,22 @@
+//! The system's files, standard streams, connections and clock, as a run takes its outside.
+//!
+//! `RealEdges` opens sources and sinks by name, counts each failure before it answers it, and keeps what is given back
+//! until it is dropped. No object tells its bytes: what a file or a connection holds, and that a peer gets anything, is
+//! not claimed. `pipeline_prog` passes them to its run:
+//! `run_program(alloc, &words, stock, &mut edges, clock, &mut out, &mut err)`.
+#![tactic(auto)]
+
+mod clock;
+mod edges;
+mod names;
+mod output;
+mod source;
+
+pub use clock::RealClock;
+pub use edges::{GivenBack, RealEdges};
+pub use names::{Address, SinkName, SourceName};
+pub use output::{RealOut, Writer};
+pub use source::{Reader, RealSource, read_end};
+
+#[cfg(test)]
+mod tests;

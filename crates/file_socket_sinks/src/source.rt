@@ -1,0 +1,120 @@
+//! Files, standard input and connections as sources.
+
+ghost use Rattle.std.specs.Prelude.{◌≡◌, ◌≢◌, [], false, ℕ, List, length, IfOk, IfErr};
+ghost use Rattle.std.specs.Io.{ReadsAtMost};
+ghost use Rattle.std.specs.IoError.{error_kind};
+ghost use Rattle.file_socket_sinks.specs.Came.{ReadCameTo};
+ghost use Rattle.file_socket_sinks.specs.Names.{IsSourceName};
+
+use crate::names::SourceName;
+use pipe_edges::{ByteSource, ReadEnd};
+use std::fs::File;
+use std::io;
+use std::io::{ErrorKind, Read, Stdin};
+use std::net::TcpStream;
+
+/// A file, a connection or standard input.
+#[derive(Drop)]
+pub enum Reader {
+    File(File),
+    Connection(TcpStream),
+    Input(Stdin),
+}
+
+impl Reader {
+    /// Opens what the name of a source says, and waits for the peer where that is a connection. Of a listener's
+    /// connections one is accepted. A name of another form is `InvalidInput`.
+    pub fn open(rt: &HostRuntime, name: &str) -> io::Result<Reader>
+        ensures { IfOk result (λ _. IsSourceName name.now) }
+    {
+        match SourceName::parse(name) {
+            Some(SourceName::File(path)) => Ok(Reader::File(File::open(rt, path)?)),
+            Some(SourceName::Input) => Ok(Reader::Input(rt.stdin())),
+            Some(SourceName::Connect(peer)) => Ok(Reader::Connection(peer.connect(rt)?)),
+            Some(SourceName::Listen(own)) => Ok(Reader::Connection(own.accept(rt)?)),
+            None => Err(io::Error::from(ErrorKind::InvalidInput)),
+        }
+    }
+}
+
+impl Read for Reader {
+    fn read(&mut self, piece: &mut [u8]) -> io::Result<usize> {
+        match self {
+            Reader::File(file) => file.read(piece),
+            Reader::Connection(stream) => stream.read(piece),
+            Reader::Input(input) => input.read(piece),
+        }
+    }
+}
+
+// Reads, and reads again where a signal interrupted it: so many times as no run lives to see.
+fn read_on<R: Read>(reader: &mut R, piece: &mut [u8]) -> io::Result<usize>
+    ensures same_room { length piece.new ≡ length piece.old }
+    ensures count { ReadsAtMost result piece.new }
+    ensures goes_on { IfErr result (λ e. error_kind e ≢ ErrorKind.Interrupted) }
+{
+    for _ in 0..u64::MAX {
+        match reader.read(piece) {
+            Err(e) if e.kind() == ErrorKind::Interrupted => {}
+            read => return read,
+        }
+    }
+    Err(io::Error::from(ErrorKind::TimedOut))
+}
+
+/// What a read of the system came to: no bytes are the end, and an error is none.
+pub fn read_end(read: io::Result<usize>) -> ReadEnd
+    ensures { ReadCameTo read result }
+{
+    match read {
+        Ok(0) => ReadEnd::End,
+        Ok(n) => ReadEnd::Got(n),
+        Err(e) if e.kind() == ErrorKind::WouldBlock => ReadEnd::Empty,
+        Err(_) => ReadEnd::Failed,
+    }
+}
+
+/// A source that reads the system. It tells no bytes, and counts each read that failed and each that would wait. A
+/// connection that its peer closes ends; one that is reset fails.
+#[derive(Drop)]
+pub struct RealSource<R> {
+    reader: R,
+    faults: u64,
+    waits: u64,
+}
+
+impl<R: Read> RealSource<R> {
+    /// Reads on from where the reader stands.
+    pub fn new(reader: R) -> RealSource<R>
+        ensures no_fault { ⟦<RealSource<R> as ByteSource>⟧.faults result ≡ 0 }
+        ensures no_wait { ⟦<RealSource<R> as ByteSource>⟧.waits result ≡ 0 }
+    {
+        RealSource {
+            reader,
+            faults: 0,
+            waits: 0,
+        }
+    }
+}
+
+impl<R: Read> ByteSource for RealSource<R> {
+    ghost told = { λ _. false };
+
+    ghost taken = { λ _. [] };
+
+    ghost left = { λ _. [] };
+
+    ghost faults = { λ s. s.faults };
+
+    ghost waits = { λ s. s.waits };
+
+    fn read(&mut self, piece: &mut [u8]) -> ReadEnd {
+        let end = read_end(read_on(&mut self.reader, piece));
+        match end {
+            ReadEnd::Failed => self.faults = self.faults.saturating_add(1),
+            ReadEnd::Empty => self.waits = self.waits.saturating_add(1),
+            ReadEnd::Got(_) | ReadEnd::End => {}
+        }
+        end
+    }
+}

@@ -1,0 +1,134 @@
+//! Connections over loopback. The system picks each port.
+
+use super::{lines_of, open_sink, open_source, story, text};
+use crate::{RealEdges, RealSource};
+use pipe_edges::{EdgeEnd, Edges, PutEnd, put_all};
+use pipe_types::bytes::Bytes;
+use std::io::Write;
+use std::net::{TcpListener, TcpStream};
+use std::rt::Clock as SystemClock;
+use std::test::Fail;
+use std::time::Duration;
+use std::{io, thread};
+
+/// How many bytes are more than the system keeps for a peer that reads none.
+const MANY: usize = 33_554_432;
+
+fn port_of(listener: &TcpListener) -> io::Result<u16> {
+    Ok(listener.local_addr()?.port())
+}
+
+// A port that no one listens at.
+fn free_port(rt: &HostRuntime) -> io::Result<u16> {
+    port_of(&TcpListener::bind(rt, "127.0.0.1:0")?)
+}
+
+// Sends the bytes to the port as soon as someone listens there, and closes. Whether it did.
+fn send(rt: &HostRuntime, port: u16, bytes: &[u8]) -> bool {
+    for _ in 0..10_000 {
+        if let Ok(mut stream) = TcpStream::connect(rt, ("127.0.0.1", port)) {
+            return stream.write_all(bytes).is_ok();
+        }
+        rt.sleep(Duration::from_millis(1));
+    }
+    false
+}
+
+#[test]
+fn a_listener_reads_what_one_peer_sends(rt: HostRuntime) -> Result<(), Fail> {
+    let alloc = rt.alloc();
+    let mut edges = RealEdges::new(&rt);
+    let port = free_port(&rt)?;
+    let peer = thread::spawn(&rt, move || send(&rt, port, b"one\ntwo\n\nhalf"))?;
+    let name = format!(in alloc; "listen:127.0.0.1:{port}")?;
+    let mut lines = lines_of(alloc, open_source(alloc, &mut edges, name.as_str())?)?;
+    // The one connection is there, so the port is closed again.
+    assert!(rt; TcpStream::connect(&rt, ("127.0.0.1", port)).is_err());
+    assert_eq!(rt; story(alloc, &mut lines)?.as_str(), "one|two||half|end");
+    assert!(rt; peer.join(&rt));
+    Ok(())
+}
+
+#[test]
+fn a_host_is_a_name_or_an_address(rt: HostRuntime) -> Result<(), Fail> {
+    let alloc = rt.alloc();
+    let mut edges = RealEdges::new(&rt);
+    for (own, host) in [
+        ("127.0.0.1:0", "127.0.0.1"),
+        ("127.0.0.1:0", "localhost"),
+        ("[::1]:0", "[::1]"),
+    ] {
+        let listener = TcpListener::bind(&rt, own)?;
+        let port = port_of(&listener)?;
+        let name = format!(in alloc; "connect:{host}:{port}")?;
+        let mut lines = lines_of(alloc, open_source(alloc, &mut edges, name.as_str())?)?;
+        let (mut peer, _) = listener.accept()?;
+        peer.write_all(b"a\nb")?;
+        drop(peer);
+        assert_eq!(rt; story(alloc, &mut lines)?.as_str(), "a|b|end");
+    }
+    Ok(())
+}
+
+#[test]
+fn a_reset_is_a_fault_and_no_end(rt: HostRuntime) -> Result<(), Fail> {
+    let alloc = rt.alloc();
+    let listener = TcpListener::bind(&rt, "127.0.0.1:0")?;
+    let mut near = TcpStream::connect(&rt, ("127.0.0.1", port_of(&listener)?))?;
+    let (mut far, _) = listener.accept()?;
+    let mut lines = lines_of(alloc, RealSource::new(near.try_clone()?))?;
+    far.write_all(b"one\nha")?;
+    near.write_all(b"unread")?;
+    let mut piece = [0; 8];
+    assert!(rt; far.peek(&mut piece)? > 0);
+    // A peer that closes with bytes unread resets the connection.
+    drop(far);
+    assert_eq!(rt; story(alloc, &mut lines)?.as_str(), "one|fault");
+    Ok(())
+}
+
+// Takes one connection, reads nothing of it, and closes it after a while.
+fn hang_up(rt: &HostRuntime, listener: TcpListener) -> bool {
+    let accepted = listener.accept();
+    rt.sleep(Duration::from_millis(100));
+    accepted.is_ok()
+}
+
+#[test]
+fn a_sink_whose_peer_hangs_up_fails(rt: HostRuntime) -> Result<(), Fail> {
+    let alloc = rt.alloc();
+    let mut edges = RealEdges::new(&rt);
+    let listener = TcpListener::bind(&rt, "127.0.0.1:0")?;
+    let port = port_of(&listener)?;
+    let peer = thread::spawn(&rt, move || hang_up(&rt, listener))?;
+    let name = format!(in alloc; "connect:127.0.0.1:{port}")?;
+    let mut sink = open_sink(alloc, &mut edges, name.as_str())?;
+    let many = Bytes::from_vec(vec![in alloc; b'x'; MANY]?);
+    assert!(rt; matches!(put_all(&mut sink, &many), PutEnd::Failed(n) if 0 < n));
+    assert!(rt; peer.join(&rt));
+    Ok(())
+}
+
+#[test]
+fn what_no_one_answers_fails(rt: HostRuntime) -> Result<(), Fail> {
+    let alloc = rt.alloc();
+    let mut edges = RealEdges::new(&rt);
+    let port = free_port(&rt)?;
+    let refused = format!(in alloc; "connect:127.0.0.1:{port}")?;
+    for name in [
+        refused.as_str(),
+        "connect:no..host:80",
+        "connect:127.0.0.1:65536",
+        "connect:127.0.0.1",
+        "connect:::1:80",
+        "listen:no..host:0",
+        "listen:203.0.113.1:0",
+        "listen:127.0.0.1:65536",
+        "listen:127.0.0.1:x",
+    ] {
+        let name = text(alloc, name)?;
+        assert!(rt; matches!(edges.open_source(&name), Err(EdgeEnd::Failed)));
+        assert!(rt; matches!(edges.open_sink(&name), Err(EdgeEnd::Failed)));
+    }
+    Ok(())
+}
