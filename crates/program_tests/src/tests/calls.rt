@@ -7,7 +7,6 @@ use pipe_edges::Edges;
 use pipe_journal::Journal;
 use pipe_top::run_program;
 use pipe_types::bytes::{Bytes, Text};
-use pipe_types::step::Step;
 use stage_callback::{Callback, LinesBox, StepsBox};
 use std::alloc::{AllocError, Global};
 use std::process::Abort;
@@ -205,10 +204,8 @@ fn clock() -> MemClock {
 
 fn accepted_in(journal: &Journal) -> usize {
     let mut accepted: usize = 0;
-    for step in journal.as_slice() {
-        if let Step::Accept { records, .. } = step {
-            accepted = accepted.saturating_add(records.as_slice().len());
-        }
+    for at in 0..journal.len() {
+        accepted = accepted.saturating_add(journal.view(at).records().len());
     }
     accepted
 }
