@@ -5,3 +5,5 @@ pub mod Bounds
 pub mod Fetching
 pub mod Firsts
 pub mod Lawful
+pub mod Past
+pub mod Limits

@@ -38,11 +38,12 @@ pub struct ContentRow {
     pub item: u32,
 }
 
-/// A closed batch: its messages, and why it was closed.
+/// A closed batch: its messages, why it was closed, and the subscriptions of its legs.
 #[derive(Drop, Debug)]
 pub struct BatchRow {
     pub numbers: Vec<u32>,
     pub trigger: Trigger,
+    pub subs: Vec<SubNo>,
 }
 
 /// What is counted over all stages.
