@@ -4,7 +4,6 @@ ghost use Rattle.std.specs.Prelude.{◌≡◌, ◌∷◌, [], ◌++◌, ℕ, ◌
 ghost use Rattle.batcher.specs.Batches.{first_of, gathered, numbers_in};
 ghost use Rattle.batcher.specs.Seen.{seen, is_ready, batch_in};
 
-
 /// The numbers of the messages in the order in which they were gathered, whether the last has flush mode, and the tick at
 /// which the first was gathered.
 #[derive(Drop)]
