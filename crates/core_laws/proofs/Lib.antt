@@ -7,3 +7,4 @@ pub mod Firsts
 pub mod Lawful
 pub mod Past
 pub mod Limits
+pub mod Fed

@@ -13,8 +13,8 @@ use stage_subs::Subs;
 use std::alloc::Global;
 use std::collections::VecDeque;
 
-/// A topology, its journal, and what the journal comes to. A table by stage has a row for each stage number, with
-/// row 0 for the control source.
+/// A topology, its journal, and what the journal comes to. A table by stage has a row for each stage number, and first
+/// one for the control source.
 #[derive(Drop)]
 pub struct Core {
     pub topology: Topology,
