@@ -1,8 +1,6 @@
 -- One more item of a list, behind those whose fault is known.
-use Rattle.std.proofs.Common.{◌≡◌, ℕ, ◌+◌, ◌<◌, List, [], ◌∷◌, ◌++◌, ◌||◌, length, take, drop, get_or, Option, sym, append_assoc, arith}
+use Rattle.std.proofs.Common.{◌≡◌, ℕ, ◌+◌, ◌<◌, List, [], ◌∷◌, ◌++◌, length, take, drop, get_or, Option, sym, append_assoc, arith}
 use Rattle.std.proofs.lemmas.List.{drop_more, take_more}
-use Rattle.std.proofs.lemmas.List.Folds.{list_any-append}
-use Rattle.std.specs.Prelude.{bytes_eq}
 use Rattle.config_rule.specs.RuleText.{rule_of}
 use Rattle.config_table.specs.declared.fault.ConfigFault.{ConfigFault}
 use Rattle.config_table.specs.Fault.{least, sooner}
@@ -16,18 +14,12 @@ least_pair a b xs ys p q = rw (p, q) (sym (least-append xs ys))
 pub least_of_three : (a b c : Option ConfigFault) (xs ys zs : List ConfigFault) → a ≡ least xs → b ≡ least ys → c ≡ least zs → sooner a (sooner b c) ≡ least (xs ++ (ys ++ zs))
 least_of_three a b c xs ys zs p q r = least_pair a (sooner b c) xs (ys ++ zs) p (least_pair b c ys zs q r)
 
-pub least_of_five : (a b c d e : Option ConfigFault) (as' bs cs ds es : List ConfigFault) → a ≡ least as' → b ≡ least bs → c ≡ least cs → d ≡ least ds → e ≡ least es
-    → sooner a (sooner b (sooner c (sooner d e))) ≡ least (as' ++ (bs ++ (cs ++ (ds ++ es))))
-least_of_five a b c d e as' bs cs ds es p q r s t =
-    least_pair a (sooner b (sooner c (sooner d e))) as' (bs ++ (cs ++ (ds ++ es))) p
-    (least_pair b (sooner c (sooner d e)) bs (cs ++ (ds ++ es)) q (least_of_three c d e cs ds es r s t))
-
 pub name_step : (path : List ℕ) (before names : List (List ℕ)) (i : ℕ) (name : List ℕ) (found fault : Option ConfigFault)
-    → i < length names → name ≡ get_or names i name → fault ≡ least (name_faults path i (is_in name before || is_in name (take i names)))
+    → i < length names → name ≡ get_or names i name → fault ≡ least (name_faults path i (is_in name (before ++ take i names)))
     → sooner (sooner found fault) (least (duplicate_names path (before ++ take (i + 1) names) (i + 1) (drop (i + 1) names))) ≡ sooner found (least (duplicate_names path (before ++ take i names) i (drop i names)))
 name_step path before names i name found fault below at is =
-    rw (drop_more names i name below, take_more names i name below, ← at, is, ← append_assoc before (take i names) (name ∷ []), list_any-append (λ known. bytes_eq known name) before (take i names))
-    (sooner-part found (name_faults path i (is_in name before || is_in name (take i names))) (duplicate_names path ((before ++ take i names) ++ name ∷ []) (i + 1) (drop (i + 1) names)))
+    rw (drop_more names i name below, take_more names i name below, ← at, is, ← append_assoc before (take i names) (name ∷ []))
+    (sooner-part found (name_faults path i (is_in name (before ++ take i names))) (duplicate_names path ((before ++ take i names) ++ name ∷ []) (i + 1) (drop (i + 1) names)))
 
 pub route_step : (path : List ℕ) (known texts : List (List ℕ)) (i : ℕ) (text : List ℕ) (found fault : Option ConfigFault)
     → i < length texts → text ≡ get_or texts i text → fault ≡ least (route_faults path i (is_astray (length known) (rule_of known text)))

@@ -125,8 +125,12 @@ routes_with known s = batcher_routes 0 s.batchers ++ (processor_routes known s.p
 abbrev pub group_faults : Settings → List ConfigFault
 group_faults s = fault_if (lacks_stage s) fault.NoStage ++ fault_if (nat_lt 64 (stage_count s)) fault.TooManyStages
 
+-- the faults behind those of names
+abbrev pub later_faults : (known : List (List ℕ)) → Settings → List ConfigFault
+later_faults known s = routes_with known s ++ (group_faults s ++ (bad_dispatches 0 s.batchers ++ unreachable_with known s.batchers s.processors))
+
 abbrev pub faults_with : (known : List (List ℕ)) → Settings → List ConfigFault
-faults_with known s = duplicates_with known s ++ (routes_with known s ++ (group_faults s ++ (bad_dispatches 0 s.batchers ++ unreachable_with known s.batchers s.processors)))
+faults_with known s = duplicates_with known s ++ later_faults known s
 
 -- the faults of the settings, those of one number in the order of the walk
 abbrev pub faults_in : Settings → List ConfigFault

@@ -45,19 +45,34 @@ fn group_fault(settings: &Settings) -> Option<ConfigFault>
     sooner(lacking, crowded)
 }
 
-/// The fault of the lowest number, 7 to 12, that comes first in the walk of the file.
-#[tactic(auto, using(crate::proofs::Steps::least_of_five))]
+/// The fault of the lowest number, 7 to 12, that comes first in the walk of the file. Each is looked for only where none
+/// of a lower number stands.
 pub fn settings_fault(alloc: Global, settings: &Settings) -> Result<Option<ConfigFault>, AllocError>
     ensures { IfOk result (λ found. found ≡ least (judge.faults_in settings.now)) }
 {
     let known = batcher_names(alloc, settings.batchers.as_slice())?;
-    let names = names_fault(alloc, known.as_slice(), settings)?;
-    let routes = routes_fault(alloc, known.as_slice(), settings)?;
-    let groups = group_fault(settings);
-    let dispatch = bad_dispatch(alloc, settings.batchers.as_slice())?;
-    let unreachable = unreachable_fault(alloc, known.as_slice(), settings)?;
-    Ok(sooner(
-        names,
-        sooner(routes, sooner(groups, sooner(dispatch, unreachable))),
-    ))
+    if let Some(fault) = names_fault(alloc, known.as_slice(), settings)? {
+        return Ok(Some(fault));
+    }
+    later_fault(alloc, known.as_slice(), settings)
+}
+
+/// The fault of the lowest number, 8 to 12, that comes first in the walk of the file.
+fn later_fault(
+    alloc: Global,
+    known: &[Text],
+    settings: &Settings,
+) -> Result<Option<ConfigFault>, AllocError>
+    ensures { IfOk result (λ found. found ≡ least (judge.later_faults known.now settings.now)) }
+{
+    if let Some(fault) = routes_fault(alloc, known, settings)? {
+        return Ok(Some(fault));
+    }
+    if let Some(fault) = group_fault(settings) {
+        return Ok(Some(fault));
+    }
+    if let Some(fault) = bad_dispatch(alloc, settings.batchers.as_slice())? {
+        return Ok(Some(fault));
+    }
+    unreachable_fault(alloc, known, settings)
 }

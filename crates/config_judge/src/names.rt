@@ -1,13 +1,15 @@
 //! The names of producers and batchers.
 
-ghost use Rattle.std.specs.Prelude.{◌≡◌, ◌||◌, IfOk};
+ghost use Rattle.std.specs.Prelude.{◌≡◌, ◌||◌, ℕ, List, bytes_eq, IfOk, OnOk};
 ghost use Rattle.config_table.specs.Fault.{least};
 ghost use Rattle.config_judge.specs.Judge as judge;
+ghost use Rattle.config_judge.specs.Stood.{stands};
 
 use config_settings::settings::{BatcherSettings, ProducerSettings};
 use config_table::fault::{ConfigFault, at_place, copied, sooner, under};
 use pipe_types::bytes::Text;
 use std::alloc::{AllocError, Global};
+use std::collections::BTreeMap;
 
 /// The batchers' names, in the order of the file.
 pub fn batcher_names(alloc: Global, batchers: &[BatcherSettings]) -> Result<Vec<Text>, AllocError>
@@ -34,16 +36,25 @@ pub fn producer_names(
     Ok(names)
 }
 
-fn is_in(name: &str, names: &[Text]) -> bool
-    ensures { result ≡ judge.is_in name.now names.now }
+/// Whether the name is one of those that stood before, to which it then belongs.
+#[tactic(auto, using(crate::proofs::Stood::stands_more))]
+fn stood_before<'a>(stood: &mut BTreeMap<&'a str, ()>, name: &'a str) -> Result<bool, AllocError>
+    ensures known { IfOk result (λ known. known ≡ stands stood.old name.now) }
+    ensures added { OnOk result ((other : List ℕ) → stands stood.new other ≡ (bytes_eq name.now other || stands stood.old other)) }
 {
-    names.iter().any(|known| known.as_str() == name)
+    let known = stood.insert(name, ())?;
+    Ok(known.is_some())
 }
 
-fn is_in_either(name: &str, first: &[Text], second: &[Text]) -> bool
-    ensures { result ≡ (judge.is_in name.now first.now || judge.is_in name.now second.now) }
+/// The names as a set.
+fn set_of<'a>(alloc: Global, names: &'a [Text]) -> Result<BTreeMap<&'a str, ()>, AllocError>
+    ensures { IfOk result (λ stood. (name : List ℕ) → stands stood name ≡ judge.is_in name names.now) }
 {
-    is_in(name, first) || is_in(name, second)
+    let mut stood = BTreeMap::new(alloc);
+    for name in names {
+        let _ = stood_before(&mut stood, name.as_str())?;
+    }
+    Ok(stood)
 }
 
 /// The name at this place, if it stood before.
@@ -71,9 +82,10 @@ pub fn duplicate_name(
 ) -> Result<Option<ConfigFault>, AllocError>
     ensures { IfOk result (λ found. found ≡ least (judge.duplicate_names path.now before.now 0 names.now)) }
 {
+    let mut stood = set_of(alloc, before)?;
     let mut found = None;
     for (i, name) in names.iter().enumerate() {
-        let known = is_in_either(name.as_str(), before, &names[..i]);
+        let known = stood_before(&mut stood, name.as_str())?;
         let fault = name_fault(alloc, path, i, known)?;
         found = sooner(found, fault);
     }

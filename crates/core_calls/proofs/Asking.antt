@@ -17,8 +17,6 @@ use Rattle.pipe_types.specs.declared.topology.StageSpec.{StageSpec}
 use Rattle.pipe_types.specs.Sound.{IsSound}
 use Rattle.pipe_laws.proofs.Ledgers.{keeps_ledger}
 use Rattle.queue_laws.proofs.Sounds.{fits}
-use Rattle.core_laws.proofs.Bounds.{handled_few}
-use Rattle.core_laws.proofs.Fetching.{accepted_small}
 use Rattle.core_laws.proofs.Limits.{has_demand}
 use Rattle.pipe_laws.proofs.Tests.{and_left, and_right, both, same_stage-true, same_stage-self}
 use Rattle.pipe_laws.proofs.Allowed.{unowed}
@@ -30,6 +28,8 @@ use Rattle.stage_subs.specs.Ledger.{ledger_row, ledger_counts}
 use Rattle.core_tables.specs.declared.rows.Totals.{Totals}
 use Rattle.core_state.specs.declared.state.Core.{Core}
 use Rattle.core_state.specs.Stands.{Fields}
+use Rattle.stage_laws.proofs.Bounds.{handled_few}
+use Rattle.stage_laws.proofs.Records.{accepted_small}
 
 -- what is known of an ask that is due
 pub record Asking (topology : Topology) (before : History) (u : SubNo) : Type 0 where

@@ -16,7 +16,6 @@ use Rattle.pipe_model.specs.Legal.{quiet_row, rests, has_ended, allows, may_cont
 use Rattle.std.proofs.lemmas.Bool.{eqb-true, ltb-true}
 use Rattle.pipe_laws.proofs.Tests.{and_left, and_right}
 use Rattle.pipe_laws.proofs.Allowed.{unowed}
-use Rattle.core_laws.specs.Laws.{IsNumberedTopology}
 use Rattle.core_laws.proofs.Past.{known_within, live_known}
 use Rattle.pipe_journal.specs.Recorded.{Recorded}
 use Rattle.core_tables.specs.declared.rows.Totals.{Totals}
@@ -26,6 +25,7 @@ use Rattle.core_tables.specs.Rows.{post_at, home, awake, resting, ended_now}
 use Rattle.core_laws.specs.Columns.{stage_row, post_row}
 use Rattle.core_state.specs.declared.state.Core.{Core}
 use Rattle.core_state.specs.Stands.{Fields}
+use Rattle.stage_laws.specs.Numbered.{IsNumberedTopology}
 
 -- the row of quiets is no longer than the journal
 pub quiet_few : (before : History) → quiet_row before ≤ length before

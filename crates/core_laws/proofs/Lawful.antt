@@ -31,7 +31,6 @@ use Rattle.pipe_laws.proofs.Places.{IsOn, sends_on}
 use Rattle.pipe_laws.proofs.Numbers.{SubsAscendFrom, live_subs_ascend}
 use Rattle.pipe_laws.proofs.Sounds.{sound_ascends}
 use Rattle.pipe_laws.proofs.Chunks.{each_take}
-use Rattle.pipe_laws.proofs.Busy.{in_inbox}
 use Rattle.pipe_laws.proofs.Demand.{sent_within}
 use Rattle.pipe_laws.proofs.Allowed.{accept_live, take_facts}
 use Rattle.pipe_laws.proofs.Entries.{EntryFits, entries_fit}
@@ -45,11 +44,12 @@ use Rattle.queue_laws.proofs.Singles.{demand_single}
 use Rattle.queue_laws.proofs.Filters.{filter_alike}
 use Rattle.core_tables.specs.Chunks.{without_first}
 use Rattle.core_laws.specs.Laws.{Laws, IsSentWell, IsByDemand, DispatchLaws, TakeLaws, AcceptLaws}
-use Rattle.core_laws.proofs.Runs.{runs_accepted, runs_dispatched, runs_taken_else, runs_idle, runs_taken}
-use Rattle.core_laws.proofs.Numbering.{numbered_topology}
-use Rattle.core_laws.proofs.Bounds.{waiting_few, waiting_within, waiting_apart, handled_few, entry_within}
-use Rattle.core_laws.proofs.Fetching.{accepted_small, accept_fits}
-use Rattle.core_laws.proofs.Firsts.{sends_first}
+use Rattle.pipe_model.specs.Standing.{in_inbox}
+use Rattle.stage_laws.proofs.Runs.{runs_accepted, runs_dispatched, runs_taken_else, runs_idle, runs_taken}
+use Rattle.stage_laws.proofs.Numbering.{numbered_topology}
+use Rattle.stage_laws.proofs.Bounds.{waiting_few, waiting_within, waiting_apart, handled_few, entry_within}
+use Rattle.stage_laws.proofs.Records.{accepted_small, accept_fits}
+use Rattle.stage_laws.proofs.Firsts.{sends_first}
 
 turned : (s t : StageNo) → (s.0 == t.0) ≡ false → same_stage t s ≡ false
 turned s t e = false_from_ne_true (same_stage t s) (λ h. clash (same_stage s t) (same_stage-flip t s h) e)

@@ -21,7 +21,7 @@ use Rattle.pipe_model.specs.Legal.{is_legal, allows, may_come, has_role, is_supe
 use Rattle.pipe_laws.proofs.Tests.{and_left, and_right, same_stage-true, clash}
 use Rattle.pipe_laws.proofs.Allowed.{legal_before, legal_step, unowed, take_facts, child_facts}
 use Rattle.queue_laws.proofs.Sounds.{sound_fields}
-use Rattle.core_laws.specs.Laws.{IsNumberedTopology}
+use Rattle.stage_laws.specs.Numbered.{IsNumberedTopology}
 
 -- a stage number past the topology's names no stage
 pub unknown_past : (topology : Topology) (s : StageNo) → IsNumberedTopology topology → length topology.stages < s.0 → spec_of topology s ≡ None

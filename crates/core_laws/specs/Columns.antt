@@ -31,11 +31,11 @@ use Rattle.pipe_model.specs.Ledger.{crashed_reply}
 use Rattle.pipe_model.specs.Legal.{has_ended, rests, gathered_at, ends_in_flush}
 use Rattle.pipe_model.specs.Moves.{is_final}
 use Rattle.pipe_model.specs.Work.{taken_units}
-use Rattle.queue_laws.specs.Queues.{of_key}
 use Rattle.consumer_sup.specs.declared.Child.{Child as ChildRow}
 use Rattle.core_tables.specs.declared.rows.StageRow.{StageRow}
 use Rattle.core_tables.specs.declared.rows.PostRow.{PostRow}
 use Rattle.core_tables.specs.declared.rows.ContentRow.{ContentRow}
+use Rattle.pipe_model.specs.Standing.{of_key}
 
 -- the messages that run in the stage, in the order in which they were sent to it
 abbrev pub running : Topology → History → StageNo → List ℕ

@@ -17,10 +17,10 @@ use Rattle.pipe_model.specs.Lives.{is_live, is_live_sub}
 use Rattle.pipe_model.specs.Flow.{waiting, inbox, sent, kind_in, deliveries, lost_over, view_of, is_batcher, count_on, delivered_to, rooms_by, units_on}
 use Rattle.pipe_model.specs.Legal.{is_legal, allows, has_role, is_processor_role}
 use Rattle.pipe_model.specs.Ledger.{handled}
-use Rattle.queue_laws.specs.Queues.{gathered_in}
 use Rattle.core_tables.specs.Tables.{IsNumbered}
 use Rattle.core_tables.specs.Chunks.{without_first}
 use Rattle.core_laws.specs.Columns.{running}
+use Rattle.pipe_model.specs.Standing.{gathered_in}
 
 -- a topology's stages by number
 pub record IsNumberedTopology (topology : Topology) : Type 0 where

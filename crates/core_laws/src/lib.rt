@@ -9,7 +9,7 @@ ghost use Rattle.pipe_types.specs.declared.topology.Topology.{Topology};
 ghost use Rattle.pipe_types.specs.Sound.{IsSound};
 ghost use Rattle.pipe_model.specs.History.{History, accepted};
 ghost use Rattle.pipe_model.specs.Legal.{is_legal};
-ghost use Rattle.core_laws.specs.Laws.{IsNumberedTopology};
+ghost use Rattle.stage_laws.specs.Numbered.{IsNumberedTopology};
 
 /// The stages of a sound topology stand in the order of their numbers, from 1 to 64 at most.
 #[tactic(auto, using(crate::proofs::Numbering::numbered_topology))]

@@ -15,12 +15,12 @@ use Rattle.pipe_model.specs.Posts.{is_out}
 use Rattle.pipe_model.specs.Flow.{place}
 use Rattle.pipe_laws.proofs.Accepted.{placed_accepted}
 use Rattle.core_tables.specs.Rows.{post_at}
-use Rattle.core_laws.specs.Laws.{IsNumberedTopology}
-use Rattle.core_laws.proofs.Numbering.{numbered_topology}
 use Rattle.core_laws.proofs.Past.{unknown_past, unknown_zero, known_within, incarnation_past, out_post, IsPost}
 use Rattle.core_state.specs.declared.state.Core.{Core}
 use Rattle.core_state.specs.Stands.{Holds}
 use Rattle.core_state.specs.Readings.{lives_by, incarnation_by, out_by, out_in, place_by}
+use Rattle.stage_laws.specs.Numbered.{IsNumberedTopology}
+use Rattle.stage_laws.proofs.Numbering.{numbered_topology}
 
 some_at : {A : Type 0} (xs : List A) (i : ℕ) → i < length xs → (x : A) × (slice_get xs i ≡ Some x)
 some_at [] i h = absurd (omega arith)

@@ -31,10 +31,10 @@ to_both first second =
 abbrev same : StageSpec → StageSpec
 same spec = spec
 
-abbrev both : Topology
+abbrev pub both : Topology
 both = to_both same same
 
-abbrev until_taken : List Step
+abbrev pub until_taken : List Step
 until_taken =
     Ask (sub 2 1 1) 10 ∷ Ask (sub 3 2 1) 3 ∷ Ask (sub 4 3 1) 1 ∷ Ask (sub 5 3 1) 1 ∷ Fetch (stage 1) 10
     ∷ Accept (stage 1) (codes "x" ∷ codes "y" ∷ []) ∷ Dispatch (stage 1)

@@ -24,7 +24,7 @@ use Rattle.model_checks.proofs.Base.{is_run, is_refused_after, producer, with_st
 
 -- A child that crashes runs its message again, three times at most
 
-abbrev four_runs : List Step
+abbrev pub four_runs : List Step
 four_runs =
     Ask (sub 2 1 1) 2 ∷ Fetch (stage 1) 2 ∷ Accept (stage 1) (codes "a" ∷ codes "!" ∷ []) ∷ Dispatch (stage 1)
     ∷ Child (stage 2) (message_no 1) 0

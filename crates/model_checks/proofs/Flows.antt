@@ -153,7 +153,7 @@ sent_apart_inboxes = refl
 
 -- Batches in a cascade and in a halt
 
-abbrev cascading : CancelMode → Topology
+abbrev pub cascading : CancelMode → Topology
 cascading mode =
     with_stages
     (producer 1 (codes "p") 0 ∷ feeding 1 (processor 2 (codes "processors.0") 0 (Key 0 ∷ []))
@@ -161,7 +161,7 @@ cascading mode =
     ∷ record (batch_processor 4 (codes "b.0") 0 0) { mode = mode } ∷ [])
 
 -- batch 1 stands in the inbox of the batch processor, batch 2 waits in the batcher, and message 3 stands in its inbox
-abbrev three_deep : List Step
+abbrev pub three_deep : List Step
 three_deep =
     Ask (sub 2 1 1) 10 ∷ Ask (sub 3 2 1) 3 ∷ Ask (sub 4 3 1) 1 ∷ Fetch (stage 1) 10
     ∷ Accept (stage 1) (codes "x" ∷ codes "y" ∷ codes "z" ∷ []) ∷ Dispatch (stage 1)

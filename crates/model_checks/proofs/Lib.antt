@@ -28,3 +28,4 @@ mod SoundRows
 mod TakeRows
 mod Triggers
 mod TwoProcessors
+mod QueueRows

@@ -25,13 +25,14 @@ use Rattle.pipe_model.specs.Legal.{is_legal, has_role, is_producer_role}
 use Rattle.pipe_model.specs.Acknowledgements.{Acknowledgement, acknowledgements, acknowledged_by, settled_by, entry, numbers_upto, is_acked, is_acked_successful, is_acked_failed, is_producer}
 use Rattle.pipe_model.specs.Claims.{IsAcknowledgedOnce, times_on, times_in_all, side_of, both_sides}
 use Rattle.pipe_laws.proofs.Tests.{clash, and_left, and_right, same_stage-true, same_stage-self, same_stage-flip}
-use Rattle.pipe_laws.proofs.Lists.{as_number, weigh, weigh-append}
+use Rattle.pipe_laws.proofs.Lists.{weigh, weigh-append}
 use Rattle.pipe_laws.proofs.Numbers.{AscendFrom}
 use Rattle.pipe_laws.proofs.Sounds.{sound_ascends}
 use Rattle.pipe_laws.proofs.Settled.{acked_stays}
 use Rattle.pipe_laws.proofs.Accepted.{placed_accepted, among_next, next_among}
 use Rattle.pipe_laws.proofs.Allowed.{legal_before, legal_step, accept_role, late_facts}
 use Rattle.pipe_laws.proofs.Held.{role_known}
+use Rattle.pipe_model.specs.Counting.{as_number}
 
 -- Counting
 

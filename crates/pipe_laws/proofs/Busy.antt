@@ -23,11 +23,13 @@ use Rattle.pipe_model.specs.Batches.{Batch, BatchPlace, AtBatcher, Sent, Dropped
 use Rattle.pipe_model.specs.Flow.{leg_waits}
 use Rattle.pipe_model.specs.Legal.{is_legal, allows, is_current, has_role, takes_role, is_producer_role, is_supervisor_role, first_sub, chunk_size}
 use Rattle.pipe_laws.proofs.Tests.{clash, and_left, and_right, same_stage-true, same_stage-self, same_stage-flip, same_sub-true}
-use Rattle.pipe_laws.proofs.Lists.{each_always, as_number, weigh, weigh_le, weigh-append, weigh_taken, all_among, first_kept}
+use Rattle.pipe_laws.proofs.Lists.{each_always, weigh, weigh_le, weigh-append, weigh_taken, all_among, first_kept}
 use Rattle.pipe_laws.proofs.Entries.{EntryFits, entries_fit}
-use Rattle.pipe_laws.proofs.Weights.{stands, works, taken_legs, works_at, leg_works, leg_works_in}
+use Rattle.pipe_laws.proofs.Weights.{stands, taken_legs}
 use Rattle.pipe_laws.proofs.Allowed.{TakeFacts, legal_before, legal_step, take_facts, fetch_role, child_facts, child_end_facts}
 use Rattle.pipe_laws.proofs.Kept.{ends_work, works_kept}
+use Rattle.pipe_model.specs.Standing.{in_inbox, works, works_at, leg_works, leg_works_in}
+use Rattle.pipe_model.specs.Counting.{as_number}
 
 -- Posts
 
@@ -210,10 +212,6 @@ busy_step topology before step s u k h role live was busy =
         either false = omega arith
 
 -- Takes
-
--- the test of an inbox
-abbrev pub in_inbox : Topology → History → SubNo × ℕ → Bool
-in_inbox topology before d = if is_batcher (spec_of topology d.0.producer) then leg_waits_in d.0 (batch topology before d.1) else in_inbox_by d.0 (place topology before d.1)
 
 pub inbox_here : (u : SubNo) (p : Option Place) → in_inbox_by u p ≡ true → p ≡ Some (Inbox u)
 inbox_here u (Some (Inbox v)) h = ap (λ x. Some (Inbox x)) (sym (same_sub-true u v h))

@@ -30,16 +30,18 @@ use Rattle.pipe_model.specs.Ledger.{handled, taken_on, came_on, crashed_reply, c
 use Rattle.pipe_model.specs.Legal.{is_legal, allows, is_current, has_role, is_processor_role, is_batcher_role, is_batch_processor_role, is_supervisor_role}
 use Rattle.pipe_model.specs.Moves.{is_final}
 use Rattle.pipe_laws.proofs.Tests.{clash, same_stage-self, same_sub-true, same_sub-self}
-use Rattle.pipe_laws.proofs.Lists.{Each, each_weaker, each_both, as_number, weigh, weigh-append, weigh_drop, weigh_le}
+use Rattle.pipe_laws.proofs.Lists.{Each, each_weaker, each_both, weigh, weigh-append, weigh_drop, weigh_le}
 use Rattle.pipe_laws.proofs.Places.{Move, stays, comes, comes_lost, sent_on, runs, waits, is_gathered, joins, ends, move_by, IsOn, sends_on}
 use Rattle.pipe_laws.proofs.Entries.{EntryFits, entries_fit, is_sent_batch, is_waiting, waiting_each, delivered_each}
-use Rattle.pipe_laws.proofs.Weights.{works, in_hand, weight, weight_after, answered_legs, leg_works, leg_works_in, works_at}
+use Rattle.pipe_laws.proofs.Weights.{in_hand, weight, weight_after, answered_legs}
 use Rattle.pipe_laws.proofs.Allowed.{legal_before, legal_step, DoneFacts, done_facts, WroteFacts, wrote_facts, GatherFacts, gather_facts, ChildEndFacts, child_end_facts}
 use Rattle.pipe_laws.proofs.Kept.{runs_here}
-use Rattle.pipe_laws.proofs.Busy.{Busy, busy, work_weight, in_inbox, inbox_here}
+use Rattle.pipe_laws.proofs.Busy.{Busy, busy, work_weight, inbox_here}
 use Rattle.pipe_laws.proofs.Chunks.{owes_crash, none_kept}
 use Rattle.pipe_laws.proofs.Idle.{Chunk, chunk_facts, fed_by_messages, processor_writes}
 use Rattle.pipe_laws.proofs.Slots.{first_stands, first_entry, slot_runs, supervisor_writes}
+use Rattle.pipe_model.specs.Standing.{works, leg_works, leg_works_in, works_at, in_inbox}
+use Rattle.pipe_model.specs.Counting.{as_number}
 
 -- What is in hand of a subscription
 abbrev pub held_of : Topology → History → SubNo → ℕ

@@ -31,10 +31,11 @@ use Rattle.pipe_laws.proofs.Entries.{EntryFits, MessageFits, entries_fit, is_wai
 use Rattle.pipe_laws.proofs.Allowed.{legal_before, legal_step, unowed, TakeFacts, take_facts, DoneFacts, done_facts, wrote_facts, child_facts, child_end_facts, accept_role, fetch_role, LateFacts, late_facts, restart_dead}
 use Rattle.pipe_laws.proofs.Held.{held, stands_live}
 use Rattle.pipe_laws.proofs.Kept.{ends_work, runs_same, runs_only, runs_here}
-use Rattle.pipe_laws.proofs.Busy.{was_current, was_live, two_roles, same_incarnation, in_inbox, inbox_here, take_there}
+use Rattle.pipe_laws.proofs.Busy.{was_current, was_live, two_roles, same_incarnation, inbox_here, take_there}
 use Rattle.pipe_laws.proofs.Accepted.{placed_content, content_kept}
 use Rattle.pipe_laws.proofs.Replies.{handled_length, messages_length, reply_some, replied_stops}
 use Rattle.pipe_laws.proofs.Chunks.{Covers, covers_take, each_take, none_kept, keeps_none, filters_agree, filter_same, kept_among, owes_crash, owed_dies}
+use Rattle.pipe_model.specs.Standing.{in_inbox}
 
 -- Roles
 

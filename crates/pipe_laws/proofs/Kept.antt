@@ -22,9 +22,10 @@ use Rattle.pipe_model.specs.Flow.{place, view_of, batch, among, runs_in, is_batc
 use Rattle.pipe_model.specs.Moves.{is_final}
 use Rattle.pipe_laws.proofs.Tests.{clash, same_stage-true, same_stage-self}
 use Rattle.pipe_laws.proofs.Places.{Move, stays, comes, comes_lost, sent_on, runs, waits, is_gathered, joins, ends, move_by, starts}
-use Rattle.pipe_laws.proofs.Weights.{leg_works, leg_works_in, works_at, works, taken_legs, taken_legs_other, answered_legs, kept_legs}
+use Rattle.pipe_laws.proofs.Weights.{taken_legs, taken_legs_other, answered_legs, kept_legs}
 use Rattle.pipe_laws.proofs.Held.{killed_dead}
 use Rattle.pipe_laws.proofs.Settled.{batch_closed}
+use Rattle.pipe_model.specs.Standing.{leg_works, leg_works_in, works_at, works}
 
 -- the step answers work of the stage
 abbrev pub ends_work : Step → StageNo → Bool

@@ -25,3 +25,5 @@ pub mod Progress
 pub mod Ends
 pub mod Acknowledged
 pub mod Lossless
+pub mod HandlerReplies
+pub mod Contents

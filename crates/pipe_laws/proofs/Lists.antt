@@ -4,6 +4,7 @@ use Rattle.std.specs.Prelude.{if◌then◌else◌, ◌==◌, ◌||◌, cond, fil
 use Rattle.std.proofs.lemmas.Bool.{eqb-true, eq-eqb}
 use Rattle.pipe_laws.proofs.Tests.{clash}
 use Rattle.pipe_model.specs.Flow.{among}
+use Rattle.pipe_model.specs.Counting.{as_number}
 
 abbrev pub Each : {A : Type 0} → (A → Type 0) → List A → Type 0
 Each P [] = Unit {0}
@@ -90,10 +91,6 @@ among_append_left (x ∷ xs) ys n h = either (x == n) h (among_append_left xs ys
     either false h rest = rest h
 
 -- Weights
-
-abbrev pub as_number : Bool → ℕ
-as_number true = 1
-as_number false = 0
 
 -- the sum of the elements' weights
 abbrev pub weigh : {A : Type 0} → (A → ℕ) → List A → ℕ

@@ -29,16 +29,7 @@ use Rattle.pipe_laws.proofs.Places.{Move, stays, comes, comes_lost, sent_on, run
 use Rattle.pipe_laws.proofs.Allowed.{legal_before, legal_step, unowed}
 use Rattle.pipe_laws.proofs.Held.{held, stands_live, alive_unkilled, restart_live}
 use Rattle.pipe_laws.proofs.Accepted.{accepted_only, accepted_placed}
-
--- the batch waits in its batcher or has an open leg
-abbrev pub going : BatchPlace → Bool
-going (AtBatcher s) = true
-going (Sent legs) = not (is_settled legs)
-going (Dropped loss) = false
-
-abbrev pub in_progress : Option Batch → Bool
-in_progress None = false
-in_progress (Some x) = going x.place
+use Rattle.pipe_model.specs.Standing.{going, in_progress}
 
 -- what is open stands in a live stage
 abbrev pub legs_live : (StageNo → Bool) → List Leg → Bool

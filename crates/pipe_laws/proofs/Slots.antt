@@ -27,8 +27,9 @@ use Rattle.pipe_laws.proofs.Levels.{rank, level, level_grows}
 use Rattle.pipe_laws.proofs.Entries.{EntryFits, entries_fit}
 use Rattle.pipe_laws.proofs.Allowed.{legal_before, legal_step, ChildFacts, child_facts, take_facts, done_facts, wrote_facts, fetch_role}
 use Rattle.pipe_laws.proofs.Kept.{ends_work, runs_kept, runs_here}
-use Rattle.pipe_laws.proofs.Busy.{WasCurrent, was_current, was_live, in_inbox, inbox_here}
+use Rattle.pipe_laws.proofs.Busy.{WasCurrent, was_current, was_live, inbox_here}
 use Rattle.pipe_laws.proofs.Idle.{roles_apart, fed_by_messages, other_stage}
+use Rattle.pipe_model.specs.Standing.{in_inbox}
 
 pub supervisor_writes : (role : Role) → is_supervisor_role role ≡ true → is_batch_processor_role role ≡ true → ⊥
 supervisor_writes Producer h k = let x : false ≡ true = h in cc

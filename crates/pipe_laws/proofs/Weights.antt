@@ -20,38 +20,18 @@ use Rattle.pipe_model.specs.Lives.{KillSet, reason_in}
 use Rattle.pipe_model.specs.Flow.{place, view_of, batch, among, is_batcher, leg_waits, leg_waits_in, in_inbox_by, runs_in, change_place, new_batch, next_units, closing}
 use Rattle.pipe_model.specs.Moves.{is_final}
 use Rattle.pipe_laws.proofs.Tests.{same_stage-true, same_sub-true, same_sub-self}
-use Rattle.pipe_laws.proofs.Lists.{as_number}
 use Rattle.pipe_laws.proofs.Places.{Move, stays, comes, comes_lost, sent_on, runs, waits, is_gathered, joins, ends, move_by}
 use Rattle.pipe_laws.proofs.Levels.{rank, feeds_down}
 use Rattle.pipe_laws.proofs.Entries.{EntryFits, MessageFits, is_sent_batch, sent_exists}
 use Rattle.pipe_laws.proofs.Settled.{batch_closed}
+use Rattle.pipe_model.specs.Standing.{is_at_work, leg_works, leg_works_in, works}
+use Rattle.pipe_model.specs.Counting.{as_number}
 
 -- Legs at work
-
-abbrev pub is_at_work : LegPlace → Bool
-is_at_work AtWork = true
-is_at_work _ = false
-
-abbrev pub leg_works : SubNo → List Leg → Bool
-leg_works u [] = false
-leg_works u (leg ∷ legs) = (same_sub u leg.sub && is_at_work leg.place) || leg_works u legs
-
-abbrev pub works_at : SubNo → BatchPlace → Bool
-works_at u (Sent legs) = leg_works u legs
-works_at u _ = false
-
--- the batch has a leg on the subscription at work
-abbrev pub leg_works_in : SubNo → Option Batch → Bool
-leg_works_in u None = false
-leg_works_in u (Some b) = works_at u b.place
 
 -- the unit stands in the inbox of the subscription, as a message or by a leg of a batch
 abbrev pub stands : Topology → History → SubNo → ℕ → Bool
 stands topology before u n = if is_batcher (spec_of topology u.producer) then leg_waits_in u (batch topology before n) else in_inbox_by u (place topology before n)
-
--- the consumer works on the unit
-abbrev pub works : Topology → History → SubNo → ℕ → Bool
-works topology before u n = if is_batcher (spec_of topology u.producer) then leg_works_in u (batch topology before n) else runs_in u.consumer (place topology before n)
 
 abbrev pub in_hand : Topology → History → SubNo → ℕ → ℕ
 in_hand topology before u n = as_number (stands topology before u n) + as_number (works topology before u n)

@@ -14,3 +14,5 @@ pub mod Outside
 pub mod Begins
 pub mod Claims
 pub mod Places
+pub mod Standing
+pub mod Counting

@@ -31,7 +31,7 @@ use Rattle.run_claims.proofs.Claims.{keeps_claims}
 use Rattle.stage_workers.specs.Steps.{has_flow_steps}
 use Rattle.pipe_top.specs.Runs.{IsRun, IsPartlyRead}
 use Rattle.pipe_top.specs.Flows.{GivesBack}
-use Rattle.stage_workers.specs.Reads.{Reads, ReadsOn, IsKnownEnd}
+use Rattle.stage_workers.specs.Reads.{Reads, ReadsOn, IsKnownEnd, AreFirstHeld}
 use Rattle.pipe_top.proofs.Quiets.{busy}
 
 -- nothing was read yet
@@ -52,6 +52,7 @@ read_none told taken left faults waits l topology before empty open_end unread =
     waits_stay = omega arith;
   };
   known = tt;
+  first = All-nil (AreFirstHeld told taken left faults waits (line_source l));
 })
   where
     none_end : {P : Type 0} {e : LineEnd} {x : Option LineEnd} → x ≡ None → x ≡ Some e → P

@@ -6,8 +6,8 @@ ghost use Rattle.pipe_edges.specs.Named.{AddsBack};
 ghost use Rattle.pipe_edges.specs.declared.edges.EdgeEnd.{EdgeEnd};
 ghost use Rattle.pipeline_prog.specs.Back.{given_in};
 
-use crate::output::RealOut;
-use crate::source::RealSource;
+use crate::output::{RealOut, Writer};
+use crate::source::{Reader, RealSource};
 use pipe_edges::{ByteSink, ByteSource, EdgeEnd, Edges, MAX_FILE_BYTES};
 use pipe_types::bytes::{Bytes, Text};
 use std::alloc::{AllocError, Global};
@@ -53,8 +53,8 @@ fn fail(faults: &mut u64) -> EdgeEnd
 pub struct RealEdges {
     rt: HostRuntime,
     faults: u64,
-    sources: Vec<GivenBack<RealSource>>,
-    sinks: Vec<GivenBack<RealOut>>,
+    sources: Vec<GivenBack<RealSource<Reader>>>,
+    sinks: Vec<GivenBack<RealOut<Writer>>>,
 }
 
 impl RealEdges {
@@ -67,22 +67,24 @@ impl RealEdges {
         }
     }
 
-    fn source_of(&self, name: &str) -> Option<RealSource>
-        ensures no_fault { IfSome result (λ s. ⟦<RealSource as ByteSource>⟧.faults s ≡ 0) }
-        ensures no_wait { IfSome result (λ s. ⟦<RealSource as ByteSource>⟧.waits s ≡ 0) }
+    fn source_of(&self, name: &str) -> Option<RealSource<Reader>>
+        ensures no_fault { IfSome result (λ s. ⟦<RealSource<Reader> as ByteSource>⟧.faults s ≡ 0) }
+        ensures no_wait { IfSome result (λ s. ⟦<RealSource<Reader> as ByteSource>⟧.waits s ≡ 0) }
     {
         if name == "stdin:" {
-            return Some(RealSource::standard_input(&self.rt));
+            return Some(RealSource::new(Reader::Input(self.rt.stdin())));
         }
         let path = name.strip_prefix("file:")?;
-        Some(RealSource::file(File::open(&self.rt, path).ok()?))
+        let file = File::open(&self.rt, path).ok()?;
+        Some(RealSource::new(Reader::File(file)))
     }
 
-    fn sink_of(&self, name: &str) -> Option<RealOut>
-        ensures { IfSome result (λ k. ⟦<RealOut as ByteSink>⟧.faults k ≡ 0) }
+    fn sink_of(&self, name: &str) -> Option<RealOut<Writer>>
+        ensures { IfSome result (λ k. ⟦<RealOut<Writer> as ByteSink>⟧.faults k ≡ 0) }
     {
         let path = name.strip_prefix("file:")?;
-        Some(RealOut::file(File::create(&self.rt, path).ok()?))
+        let file = File::create(&self.rt, path).ok()?;
+        Some(RealOut::new(&self.rt, Writer::File(file)))
     }
 
     fn bytes_of(&self, path: &str) -> io::Result<Bytes> {
@@ -95,11 +97,11 @@ impl RealEdges {
 }
 
 impl Edges for RealEdges {
-    type Source = RealSource;
+    type Source = RealSource<Reader>;
 
-    type Sink = RealOut;
+    type Sink = RealOut<Writer>;
 
-    type Out = RealOut;
+    type Out = RealOut<Writer>;
 
     ghost told = { λ _. false };
 
@@ -113,14 +115,14 @@ impl Edges for RealEdges {
 
     ghost sinks_back = { λ e. given_in e.sinks.items };
 
-    fn open_source(&mut self, name: &Text) -> Result<RealSource, EdgeEnd> {
+    fn open_source(&mut self, name: &Text) -> Result<RealSource<Reader>, EdgeEnd> {
         match self.source_of(name.as_str()) {
             Some(source) => Ok(source),
             None => Err(fail(&mut self.faults)),
         }
     }
 
-    fn open_sink(&mut self, name: &Text) -> Result<RealOut, EdgeEnd> {
+    fn open_sink(&mut self, name: &Text) -> Result<RealOut<Writer>, EdgeEnd> {
         match self.sink_of(name.as_str()) {
             Some(sink) => Ok(sink),
             None => Err(fail(&mut self.faults)),
@@ -135,11 +137,11 @@ impl Edges for RealEdges {
         }
     }
 
-    fn back_source(&mut self, name: &Text, source: RealSource) -> Result<(), AllocError> {
+    fn back_source(&mut self, name: &Text, source: RealSource<Reader>) -> Result<(), AllocError> {
         keep(self.rt.alloc(), &mut self.sources, name, source)
     }
 
-    fn back_sink(&mut self, name: &Text, sink: RealOut) -> Result<(), AllocError> {
+    fn back_sink(&mut self, name: &Text, sink: RealOut<Writer>) -> Result<(), AllocError> {
         keep(self.rt.alloc(), &mut self.sinks, name, sink)
     }
 }

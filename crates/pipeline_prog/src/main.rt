@@ -9,7 +9,7 @@ mod source;
 
 use clock::RealClock;
 use edges::RealEdges;
-use output::RealOut;
+use output::{RealOut, Writer};
 use pipe_top::run_program;
 use stage_callback::{Callback, LinesBox, StepsBox};
 use std::alloc::AllocError;
@@ -46,8 +46,8 @@ fn run(rt: &HostRuntime) -> Result<u8, AllocError> {
         stock.push(Box::new(alloc, LinesBox::new(alloc))?)?;
     }
     let mut edges = RealEdges::new(rt);
-    let mut out = RealOut::standard_output(rt);
-    let mut err = RealOut::standard_error(rt);
+    let mut out = RealOut::new(rt, Writer::Output(rt.stdout()));
+    let mut err = RealOut::new(rt, Writer::Error(rt.stderr()));
     let clock = RealClock::new(rt);
     Ok(run_program(alloc, &words, stock, &mut edges, clock, &mut out, &mut err).status)
 }

@@ -2,10 +2,17 @@
 
 use crate::clock::RealClock;
 use crate::edges::RealEdges;
-use pipe_edges::{ByteSink, ByteSource, Clock, EdgeEnd, Edges, ReadEnd, WriteEnd};
-use pipe_types::bytes::Text;
+use crate::output::RealOut;
+use crate::source::RealSource;
+use pipe_edges::{
+    ByteSink, ByteSource, Clock, EdgeEnd, Edges, Fetched, LineSource, PutEnd, ReadEnd, WriteEnd,
+    put_all,
+};
+use pipe_types::bytes::{Bytes, Text};
 use std::alloc::{AllocError, Global};
+use std::os::unix::net::UnixStream;
 use std::test::Fail;
+use std::thread;
 
 fn text(alloc: Global, name: &str) -> Result<Text, AllocError> {
     Ok(Text::from_string(String::from_str(alloc, name)?))
@@ -77,5 +84,98 @@ fn the_clock_goes_on(rt: HostRuntime) -> Result<(), Fail> {
     clock.pause();
     clock.pause();
     assert!(rt; clock.now() > before);
+    Ok(())
+}
+
+/// How many bytes stand in several pieces of a read, and fill a pipe more than once.
+const MANY: usize = 600_000;
+
+/// The byte at this place of a text that does not repeat itself at a power of two.
+fn byte_at(place: usize) -> u8 {
+    (place % 251) as u8
+}
+
+fn text_of_many(alloc: Global) -> Result<Bytes, AllocError> {
+    let mut bytes = Vec::new(alloc);
+    for place in 0..MANY {
+        bytes.push(byte_at(place))?;
+    }
+    Ok(Bytes::from_vec(bytes))
+}
+
+/// How many bytes the source gave before its end, if these are the text's first.
+fn read_text<B: ByteSource>(source: &mut B) -> Option<usize> {
+    let mut piece = [0; 1000];
+    let mut place: usize = 0;
+    for _ in 0..u64::MAX {
+        match source.read(&mut piece) {
+            ReadEnd::Got(n) => {
+                for byte in &piece[..n] {
+                    if *byte != byte_at(place) {
+                        return None;
+                    }
+                    place = place.saturating_add(1);
+                }
+            }
+            ReadEnd::End => return Some(place),
+            ReadEnd::Failed | ReadEnd::Empty => return None,
+        }
+    }
+    None
+}
+
+#[test]
+fn a_file_is_read_in_many_pieces(rt: HostRuntime) -> Result<(), Fail> {
+    let alloc = rt.alloc();
+    let mut edges = RealEdges::new(&rt);
+    let name = text(alloc, "file:many")?;
+    let Ok(mut sink) = edges.open_sink(&name) else {
+        return Err("no sink".into());
+    };
+    assert_eq!(rt; put_all(&mut sink, &text_of_many(alloc)?), PutEnd::All);
+    let Ok(mut source) = edges.open_source(&name) else {
+        return Err("no source".into());
+    };
+    assert_eq!(rt; read_text(&mut source), Some(MANY));
+    Ok(())
+}
+
+#[test]
+fn what_would_wait_is_no_end(rt: HostRuntime) -> Result<(), Fail> {
+    let alloc = rt.alloc();
+    let (reader, writer) = UnixStream::pair(&rt)?;
+    reader.set_nonblocking(true)?;
+    let mut sink = RealOut::new(&rt, writer);
+    let Ok(mut lines) = LineSource::new(alloc, RealSource::new(reader)) else {
+        return Err("no memory".into());
+    };
+    assert!(rt; matches!(lines.fetch(9), Ok(Fetched::NotYet)));
+    assert_eq!(rt; sink.write(b"a\nb"), WriteEnd::Took(3));
+    assert!(rt;
+        matches!(lines.fetch(9), Ok(Fetched::Records(records)) if records.as_slice().len() == 1)
+    );
+    assert!(rt; matches!(lines.fetch(9), Ok(Fetched::NotYet)));
+    drop(sink);
+    assert!(rt;
+        matches!(lines.fetch(9), Ok(Fetched::Records(records)) if records.as_slice().len() == 1)
+    );
+    assert!(rt; matches!(lines.fetch(9), Ok(Fetched::End)));
+    Ok(())
+}
+
+#[test]
+fn a_full_pipe_is_written_in_parts(rt: HostRuntime) -> Result<(), Fail> {
+    let (reader, writer) = UnixStream::pair(&rt)?;
+    writer.set_nonblocking(true)?;
+    let many = text_of_many(rt.alloc())?;
+    let mut sink = RealOut::new(&rt, writer);
+    let mut source = RealSource::new(reader);
+    let (put, read) = thread::join(
+        &rt,
+        move || put_all(&mut sink, &many),
+        move || read_text(&mut source),
+    );
+    assert_eq!(rt; put, PutEnd::All);
+    assert_eq!(rt; read, Some(MANY));
     Ok(())
 }

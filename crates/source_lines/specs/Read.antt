@@ -3,6 +3,7 @@ use Rattle.std.specs.Prelude.{◌≡◌, ◌≤◌, Bool, ℕ, List, ◌++◌, l
 use Rattle.pipe_types.specs.Counts.{Rose}
 use Rattle.pipe_types.specs.Lines.{max_bytes}
 use Rattle.pipe_edges.specs.Texts.{IsLine, BeginsTooLong, ended}
+use Rattle.pipe_edges.specs.Cut.{CutsAll}
 use Rattle.pipe_edges.specs.LineSource.{line_source, waiting, line_end_of}
 use Rattle.pipe_edges.specs.declared.lines.LineSource.{LineSource}
 use Rattle.pipe_edges.specs.declared.reading.LineEnd.{LineEnd}
@@ -24,11 +25,12 @@ pub record IsReadFrom {B : Type 0} (told : B → Bool) (taken left : B → List 
   pub faults_stay : faults opened ≤ faults (line_source now)
   pub waits_stay : waits opened ≤ waits (line_source now)
 
--- what each answer says: 1 to max records, none of them too long; that the waits rose; or the end that is known from now on
-abbrev pub IsFetchAnswer : (max waits waits' : ℕ) → Option LineEnd → Fetched → Type 0
-IsFetchAnswer max waits waits' now (Records records) =
-    (1 ≤ length records) × (length records ≤ max) × All (λ r. length r ≤ max_bytes) records × (¬ (now ≡ Some end.Fault)) × (¬ (now ≡ Some end.TooLong))
-IsFetchAnswer max waits waits' now NotYet = Rose waits waits' × (now ≡ None)
-IsFetchAnswer max waits waits' now End = now ≡ Some end.End
-IsFetchAnswer max waits waits' now Fault = now ≡ Some end.Fault
-IsFetchAnswer max waits waits' now TooLong = now ≡ Some end.TooLong
+-- what each answer says, where these bytes are held behind it: 1 to max records, none of them too long, and fewer than
+-- max only where no whole line is held any more; that the waits rose; or the end that is known from now on
+abbrev pub IsFetchAnswer : (max waits waits' : ℕ) → (held : List ℕ) → Option LineEnd → Fetched → Type 0
+IsFetchAnswer max waits waits' held now (Records records) =
+    (1 ≤ length records) × CutsAll max records held × All (λ r. length r ≤ max_bytes) records × (¬ (now ≡ Some end.Fault)) × (¬ (now ≡ Some end.TooLong))
+IsFetchAnswer max waits waits' held now NotYet = Rose waits waits' × (now ≡ None)
+IsFetchAnswer max waits waits' held now End = now ≡ Some end.End
+IsFetchAnswer max waits waits' held now Fault = now ≡ Some end.Fault
+IsFetchAnswer max waits waits' held now TooLong = now ≡ Some end.TooLong

@@ -1,15 +1,15 @@
 //! One fetch of lines.
 
 ghost use Rattle.std.specs.Prelude.{◌≡◌, ◌<◌, ◌++◌, ℕ, List, Some, IfOk, IfSome};
-ghost use Rattle.pipe_edges.specs.LineSource.{line_source, line_end_of};
+ghost use Rattle.pipe_edges.specs.LineSource.{line_source, waiting, line_end_of};
 ghost use Rattle.pipe_edges.specs.Fetch.{records_in};
 ghost use Rattle.source_lines.specs.Read.{IsReadFrom, IsFetchAnswer};
 
 use pipe_edges::{ByteSource, Fetched, LineSource};
 use std::alloc::AllocError;
 
-/// Hands out the next lines of the source, 1 to `max` of them, or why there are none. For want of memory no line is
-/// gone.
+/// Hands out the next lines of the source, the first that it holds, 1 to `max` of them, or why there are none. For want
+/// of memory no line is gone.
 pub fn read_lines<B: ByteSource>(
     source: &mut LineSource<B>,
     max: u32,
@@ -20,8 +20,9 @@ pub fn read_lines<B: ByteSource>(
         → IsReadFrom B.told B.taken B.left B.faults B.waits opened source.old records
         → IsReadFrom B.told B.taken B.left B.faults B.waits opened source.new (records ++ records_in result) }
     ensures end_stays { IfSome (line_end_of source.old) (λ end. line_end_of source.new ≡ Some end) }
+    // Fewer than `max` only where no whole line is held any more.
     ensures answer { IfOk result (IsFetchAnswer max (B.waits (line_source source.old))
-        (B.waits (line_source source.new)) (line_end_of source.new)) }
+        (B.waits (line_source source.new)) (waiting source.new) (line_end_of source.new)) }
 {
     source.fetch(max)
 }

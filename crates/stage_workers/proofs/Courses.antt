@@ -2,6 +2,7 @@
 use Rattle.std.proofs.Common.{◌≡◌, ℕ, ◌<◌, ◌≤◌, ◌^◌, List, [], ◌∷◌, ◌++◌, length, Bool, true, false, arith, refl, ap, sym, ◌∙◌, inl, inr, Some, None, Ok, Err}
 use Rattle.std.specs.Prelude.{Result, IfOk, OnOk, OnErr, nat_le, nat_lt, ◌==◌, IsTrue, IsSome, IfSome, Option, ◌⊎◌, ◌&&◌, ◌||◌, not, if◌then◌else◌}
 use Rattle.std.specs.List.{list_any}
+use Rattle.std.proofs.lemmas.List.Elements.{All-cons}
 use Rattle.std.proofs.lemmas.List.{append-nil}
 use Rattle.pipe_types.specs.declared.numbers.StageNo.{StageNo}
 use Rattle.pipe_types.specs.declared.numbers.SubNo.{SubNo}
@@ -24,7 +25,7 @@ use Rattle.pipe_types.specs.Numbers.{stage, post, same_post}
 use Rattle.pipe_model.specs.History.{History, accepted_bytes}
 use Rattle.pipe_model.specs.Lives.{is_live}
 use Rattle.pipe_model.specs.Posts.{is_out, has_post_out, slots}
-use Rattle.pipe_model.specs.Legal.{allows, may_dispatch, is_dispatch_of, owed, passes, happened, is_halt, is_drain, is_legal, has_role, is_producer_role, has_ended, rests, bound, chunk_size}
+use Rattle.pipe_model.specs.Legal.{allows, may_dispatch, is_dispatch_of, owed, passes, happened, is_halt, is_drain, is_legal, has_role, is_producer_role, has_ended, rests, bound, chunk_size, fetch_out}
 use Rattle.pipe_model.specs.Moves.{StepMove, Job, move, jobs_out}
 use Rattle.pipe_model.specs.Outside.{fed, source_end}
 use Rattle.pipe_model.specs.Flow.{inbox, units_on}
@@ -32,7 +33,8 @@ use Rattle.pipe_model.specs.Jobs.{fetch_step, take_first, take_step, allows_some
 use Rattle.pipe_model.specs.Work.{count, chunk_of}
 use Rattle.pipe_edges.specs.declared.lines.LineSource.{LineSource}
 use Rattle.pipe_edges.specs.declared.reading.LineEnd.{LineEnd}
-use Rattle.pipe_edges.specs.LineSource.{line_end_of}
+use Rattle.pipe_edges.specs.LineSource.{line_end_of, waiting}
+use Rattle.pipe_edges.specs.Cut.{CutsAll}
 use Rattle.pipe_edges.specs.declared.reading.Fetched.{Fetched}
 use Rattle.pipe_edges.specs.declared.reading.Fetched.TheVariants.{Records}
 use Rattle.core_flow.specs.Next.{MayBegin}
@@ -47,7 +49,7 @@ use Rattle.core_flow.proofs.Allowed.{and_left, and_right}
 use Rattle.core_flow.proofs.Keeps.{may}
 use Rattle.std.proofs.lemmas.Bool.Decides.{nat_tests}
 use Rattle.stage_workers.specs.Ready.{IsReady}
-use Rattle.stage_workers.specs.Reads.{Reads, ReadsOn, StaysOn, IsKnownEnd}
+use Rattle.stage_workers.specs.Reads.{Reads, ReadsOn, StaysOn, IsKnownEnd, AreFirstHeld}
 
 -- Posts
 
@@ -145,6 +147,7 @@ stays_same topology before = record {
   kinds = λ k. k;
   accepted = refl;
   ended = refl;
+  brought = refl;
 }
 
 pub stays_ask : (topology : Topology) (before : History) (u : SubNo) (n : ℕ) → move topology before ≡ StepMove (Ask u n)
@@ -154,6 +157,7 @@ stays_ask topology before u n first = record {
   kinds = λ k. k;
   accepted = refl;
   ended = refl;
+  brought = refl;
 }
 
 pub stays_drain : (topology : Topology) (before : History) (cause : DrainCause) → move topology before ≡ StepMove (Drain cause)
@@ -163,12 +167,14 @@ stays_drain topology before Sources first known = record {
   kinds = λ k. k;
   accepted = refl;
   ended = refl;
+  brought = refl;
 }
 stays_drain topology before Limit first known = record {
   moves = λ m. (m, first);
   kinds = λ k. k;
   accepted = refl;
   ended = refl;
+  brought = refl;
 }
 stays_drain topology before Control first known = grind arith
 stays_drain topology before Idle first known = grind arith
@@ -180,6 +186,7 @@ stays_take topology before s u k first = record {
   kinds = λ k. k;
   accepted = refl;
   ended = refl;
+  brought = refl;
 }
 
 pub stays_done : (topology : Topology) (before : History) (s : StageNo) (u : SubNo) (k : ℕ) (replies : List Reply) → move topology before ≡ Job s
@@ -189,6 +196,7 @@ stays_done topology before s u k replies first = record {
   kinds = λ k. k;
   accepted = refl;
   ended = refl;
+  brought = refl;
 }
 
 pub reads_on : {B : Type 0} (told : B → Bool) (taken left : B → List ℕ) (faults waits : B → ℕ) (opened : B) (source : LineSource B) (topology : Topology) (old new : History)
@@ -199,7 +207,17 @@ reads_on told taken left faults waits opened source topology old new on r = reco
   kinds = on.kinds r.kinds;
   read = rw on.accepted r.read;
   known = rw on.ended r.known;
+  first = rw on.brought r.first;
 }
+
+-- steps that read nothing, whatever their call came to
+pub reads_course : {B T E : Type 0} (told : B → Bool) (taken left : B → List ℕ) (faults waits : B → ℕ) (opened : B) (source : LineSource B) (topology now : Topology) (old new : History) (result : Result T E)
+    → now ≡ topology → StaysOn now old new → Reads told taken left faults waits opened source topology old []
+    → ReadsOn told taken left faults waits opened source now new result
+reads_course told taken left faults waits opened source topology now old new (Ok x) same on r =
+    reads_on told taken left faults waits opened source now old new on (rw same r)
+reads_course told taken left faults waits opened source topology now old new (Err e) same on r =
+    ([], reads_on told taken left faults waits opened source now old new on (rw same r))
 
 -- an end that is known stays known
 end_known : (ended : Option SourceHow) (old new : Option LineEnd) → IfSome old (λ e. new ≡ Some e) → IsKnownEnd ended old → IsKnownEnd ended new
@@ -219,6 +237,7 @@ reads_fetch told taken left faults waits opened old new topology before n record
   kinds = r.kinds;
   read = rw append-nil at read;
   known = end_known (source_end before (stage 1)) (line_end_of old) (line_end_of new) stays r.known;
+  first = r.first;
 }
 
 -- where the dispatch comes after the accept, the accept owed it
@@ -236,13 +255,18 @@ owes topology before s records allowed =
 
 pub reads_accept : {B : Type 0} (told : B → Bool) (taken left : B → List ℕ) (faults waits : B → ℕ) (opened : B) (source : LineSource B) (topology : Topology) (before : History) (records : List (List ℕ))
     → Reads told taken left faults waits opened source topology before records
-    → allows topology (Accept (stage 1) records ∷ before) (Dispatch (stage 1)) ≡ true
+    → allows topology (Accept (stage 1) records ∷ before) (Dispatch (stage 1)) ≡ true → CutsAll (fetch_out before (stage 1)) records (waiting source)
     → Reads told taken left faults waits opened source topology (Dispatch (stage 1) ∷ Accept (stage 1) records ∷ before) []
-reads_accept told taken left faults waits opened source topology before records r allowed = record {
+reads_accept told taken left faults waits opened source topology before records r allowed all = record {
   moves = ((r.moves, tt), inl (owes topology before (stage 1) records allowed));
   kinds = r.kinds;
   read = rw append-nil r.read;
   known = r.known;
+  first = All-cons (AreFirstHeld told taken left faults waits opened) _ _ (record {
+    source = source;
+    read = r.read;
+    all = all;
+  }) r.first;
 }
 
 pub reads_end : {B : Type 0} (told : B → Bool) (taken left : B → List ℕ) (faults waits : B → ℕ) (opened : B) (source : LineSource B) (topology : Topology) (before : History) (h : SourceHow)
@@ -253,6 +277,7 @@ reads_end told taken left faults waits opened source topology before h r known =
   kinds = r.kinds;
   read = r.read;
   known = known;
+  first = r.first;
 }
 
 -- Calls of the core
@@ -290,17 +315,19 @@ if_ok P Q (Ok x) holds so = so x holds
 if_ok P Q (Err e) holds so = tt
 
 -- what accepting the records of a fetch comes to
-pub accept_reads : {B T E : Type 0} (told : B → Bool) (taken left : B → List ℕ) (faults waits : B → ℕ) (opened : B) (source : LineSource B) (topology : Topology) (before : History) (records : List (List ℕ)) (core : Core) (result : Result T E)
-    → Reads told taken left faults waits opened source topology before records → Stands core → core.topology ≡ topology
+pub accept_reads : {B T E : Type 0} (told : B → Bool) (taken left : B → List ℕ) (faults waits : B → ℕ) (opened : B) (source : LineSource B) (topology : Topology) (before old : History) (n : ℕ) (records : List (List ℕ)) (core : Core) (result : Result T E)
+    → Reads told taken left faults waits opened source topology before records → before ≡ Fetch (stage 1) n ∷ old → CutsAll n records (waiting source)
+    → Stands core → core.topology ≡ topology
     → OnOk result (core.journal.steps ≡ Dispatch (stage 1) ∷ Accept (stage 1) records ∷ before) → OnErr result (core.journal.steps ≡ before)
     → ReadsOn told taken left faults waits opened source core.topology core.journal.steps result
-accept_reads told taken left faults waits opened source topology before records core (Ok x) r stands same appended unchanged =
+accept_reads told taken left faults waits opened source topology before old n records core (Ok x) r fetched all stands same appended unchanged =
     let legal : is_legal topology (Dispatch (stage 1) ∷ Accept (stage 1) records ∷ before) ≡ true =
     sym (ap (λ t. is_legal t core.journal.steps) same ∙ ap (is_legal topology) appended) ∙ legal_of core stands in
     rw (same, appended)
     (reads_accept told taken left faults waits opened source topology before records r
-    (and_right (is_legal topology (Accept (stage 1) records ∷ before)) _ legal))
-accept_reads told taken left faults waits opened source topology before records core (Err e) r stands same appended unchanged =
+    (and_right (is_legal topology (Accept (stage 1) records ∷ before)) _ legal)
+    (rw fetched all))
+accept_reads told taken left faults waits opened source topology before old n records core (Err e) r fetched all stands same appended unchanged =
     (records, rw (same, unchanged) r)
 
 -- what recording the end of a source comes to
@@ -339,12 +366,12 @@ ended_ready P kind spec seen topology before n how core core' (Ok x) ready same 
     rw (same', same, appended, fetched) (ready_end kind spec seen topology before n how ready)
 ended_ready P kind spec seen topology before n how core core' (Err e) ready same fetched same' appended = tt
 
-pub hands_in : (most waits waits' : ℕ) (now : Option LineEnd) (answer : Fetched) (records : List (List ℕ)) (topology : Topology) (before : History) → answer ≡ Records records
-    → MayHandIn topology before (stage 1) most → IsFetchAnswer most waits waits' now answer
+pub hands_in : (most waits waits' : ℕ) (held : List ℕ) (now : Option LineEnd) (answer : Fetched) (records : List (List ℕ)) (topology : Topology) (before : History) → answer ≡ Records records
+    → MayHandIn topology before (stage 1) most → IsFetchAnswer most waits waits' held now answer
     → IsTrue (allows topology before (Accept (stage 1) records))
-hands_in most waits waits' now answer records topology before is may_hand answers =
+hands_in most waits waits' held now answer records topology before is may_hand answers =
     let a = rw is at answers in
-    may_hand records a.0 a.1 a.2
+    may_hand records a.0 a.1.at_most a.2
 
 -- Takes
 

@@ -16,7 +16,7 @@ returns-in-Err-clause-reads g c opened r =
 
 pub hand_in-requires-clause-legal : goal.hand_in-requires-clause-legal
 hand_in-requires-clause-legal g c =
-    hands_in c.in_ok-most.most _ _ _ c.in-Ok-Records.field-0 c.in-Ok-Records.records c.fetch.new.self.topology c.fetch.new.self.journal.steps c.in-Ok-Records.field-0-is
+    hands_in c.in_ok-most.most _ _ _ _ c.in-Ok-Records.field-0 c.in-Ok-Records.records c.fetch.new.self.topology c.fetch.new.self.journal.steps c.in-Ok-Records.field-0-is
     c.in_ok-most.ensures.may_accept c.in-Ok-Records.ensures.answer
 
 pub end_source-requires-clause-legal : goal.end_source-requires-clause-legal
@@ -82,7 +82,8 @@ returns-in-Ok-Records-clause-reads g c opened r =
     let a = c.in-Ok-Records.ensures in
     let e = c.hand_in.ensures in
     let before = reads_fetched _ _ _ _ _ opened c.args.source.now c.read_lines.new.source _ _ c.in_ok-most.most c.in-Ok-Records.records c.fetch.new.self f.topology f.appended r c.requires.first a.end_stays (rw c.in-Ok-Records.field-0-is at (a.read opened _ r.read)) in
-    accept_reads _ _ _ _ _ opened c.read_lines.new.source c.fetch.new.self.topology c.fetch.new.self.journal.steps c.in-Ok-Records.records c.hand_in.new.core c.hand_in.result before e.stands e.topology e.appended e.unchanged
+    accept_reads _ _ _ _ _ opened c.read_lines.new.source c.fetch.new.self.topology c.fetch.new.self.journal.steps _ c.in_ok-most.most c.in-Ok-Records.records c.hand_in.new.core c.hand_in.result before f.appended
+    (rw c.in-Ok-Records.field-0-is at a.answer).1 e.stands e.topology e.appended e.unchanged
 
 pub returns-in-Ok-NotYet-clause-reads : goal.returns-in-Ok-NotYet-clause-reads
 returns-in-Ok-NotYet-clause-reads g c opened r =

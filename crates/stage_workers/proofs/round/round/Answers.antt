@@ -1,4 +1,4 @@
-use Rattle.stage_workers.proofs.Courses.{fetch_begins, if_ok}
+use Rattle.stage_workers.proofs.Courses.{fetch_begins, if_ok, reads_course}
 use Rattle.stage_workers.proofs.round.round.Goals as goal
 
 pub fetch_round-requires-clause-legal : goal.fetch_round-requires-clause-legal
@@ -10,3 +10,15 @@ returns-in-Step-clause-ready g c = if_ok _ _ c.own_step.result (c.own_step.ensur
 
 pub returns-in-Job-clause-ready : goal.returns-in-Job-clause-ready
 returns-in-Job-clause-ready g c = c.fetch_round.ensures.ready _ _ _ c.requires.ready
+
+pub returns-in-Step-clause-reads : goal.returns-in-Step-clause-reads
+returns-in-Step-clause-reads g c opened r =
+    let o = c.own_step.ensures in
+    reads_course g.B.ByteSource.told g.B.ByteSource.taken g.B.ByteSource.left g.B.ByteSource.faults g.B.ByteSource.waits opened c.args.source.now c.args.core.now.topology
+    c.own_step.new.core.topology c.args.core.now.journal.steps c.own_step.new.core.journal.steps c.own_step.result o.topology o.course r
+
+pub returns-in-Job-2-clause-reads : goal.returns-in-Job-2-clause-reads
+returns-in-Job-2-clause-reads g c opened r =
+    let t = c.take_round.ensures in
+    reads_course g.B.ByteSource.told g.B.ByteSource.taken g.B.ByteSource.left g.B.ByteSource.faults g.B.ByteSource.waits opened c.args.source.now c.args.core.now.topology
+    c.take_round.new.core.topology c.args.core.now.journal.steps c.take_round.new.core.journal.steps c.take_round.result t.topology t.course r

@@ -1,0 +1,9 @@
+pub mod Heights
+pub mod Losses
+pub mod Steps
+pub mod Takes
+pub mod Bounds
+pub mod Sends
+pub mod Crashes
+pub mod Reruns
+pub mod Laws

@@ -1,0 +1,6 @@
+mod Journals
+mod Views
+mod Ruled
+mod Handing
+mod Seating
+mod Seen

@@ -1,0 +1,4 @@
+pub mod Jobs
+pub mod Seats
+pub mod Rule
+pub mod Steps

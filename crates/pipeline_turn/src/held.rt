@@ -1,0 +1,28 @@
+//! What a turn hands about.
+ghost use Rattle.std.specs.Prelude.{◌≡◌};
+ghost use Rattle.pipe_model.specs.History.{History};
+ghost use Rattle.pipe_model.specs.Posts.{is_out};
+
+use pipe_journal::Journal;
+use pipe_types::numbers::Post;
+
+/// A value with a journal.
+pub trait Held {
+    /// What a value was at the start, as plain data. No value of it is made.
+    type Start;
+
+    ghost start: { Self → Self.Start };
+
+    /// The value comes from that start.
+    ghost stems: { Self.Start → Self → Type 0 };
+
+    /// The steps of its journal, newest first.
+    ghost steps: { Self → History };
+
+    fn journal(&self) -> &Journal
+        ensures { result.now.steps ≡ steps self.now };
+
+    /// Whether the last step that put the post out is followed by none that answers it.
+    fn is_out(&self, post: Post) -> bool
+        ensures { result ≡ is_out (steps self.now) post };
+}

@@ -1,0 +1,159 @@
+//! The turn itself, and the calls over it.
+ghost use Rattle.std.specs.Prelude.{◌≡◌, ◌<◌, ◌≤◌, ◌+◌, ◌-◌, ◌≢◌, true, false, Some, None, IfSome, IfNone, IfOk, IfErr, IsSome, []};
+ghost use Rattle.pipe_types.specs.declared.numbers.Post.{Post};
+ghost use Rattle.pipe_model.specs.Posts.{is_out};
+ghost use Rattle.pipe_model.specs.Begins.{BeginsWith};
+ghost use Rattle.pipeline_turn.specs.declared.view.Handed.{Handed};
+ghost use Rattle.pipeline_turn.specs.Jobs.{IsUnanswered, IsUndone, IsOwnJob, longer};
+ghost use Rattle.pipeline_turn.specs.Seats.{IsIdle};
+
+use crate::held::Held;
+use crate::rule::{Give, OneHolder, Parting, Settle, Take, Terms};
+use crate::seat::Seat;
+use crate::view::{Handed, View};
+use atomic_table::{Refused, Table};
+use pipe_types::numbers::Post;
+use std::alloc::{AllocError, AllocFailed, Global};
+use std::marker::Model;
+use std::snapshot::Snapshot;
+use std::sync::Wait;
+
+/// A word that is 1 while the value is out with a seat and 0 while it is at home, and the slot where it then lies.
+/// Contracts see a turn as a `TurnView`.
+pub struct Turn<V: Held> {
+    table: Table<Option<Handed<V>>, View<V::Start>, Terms<V>, OneHolder<V>, Global>,
+}
+
+impl<V: Held> Model for Turn<V> {
+    ghost use Rattle.pipeline_turn.specs.Seats.{TurnView, HasOneSlot};
+
+    ghost Value = { TurnView };
+
+    ghost view = { λ t. record { identity = t.table.shared.table_id; parts = t.table.shared.key.parts } };
+
+    ghost invariant = { λ t. HasOneSlot t.table.shared.table_id };
+}
+
+impl<V: Held> Turn<V> {
+    /// The turn with the value at home, and the first seat, which has all parts. The value comes back where memory is
+    /// wanting.
+    pub fn new(alloc: Global, value: V, parts: u32) -> Result<(Turn<V>, Seat<V>), (V, AllocError)>
+        requires parts { 1 ≤ parts }
+        requires stems { V.stems (V.start value) value }
+        ensures parts { IfOk result (λ made. made.0.parts ≡ parts) }
+        ensures seat { IfOk result (λ made. made.1 ≡ record { turn = made.0.identity; parts = parts; origin = V.start value; seen = []; job = None; holds = false; misses = 0 }) }
+        ensures value_returned { IfErr result (λ refused. refused.0 ≡ value) }
+    {
+        let terms = Terms {
+            parts,
+            opening: Snapshot::of(&value),
+        };
+        let mut slots = Vec::new(alloc);
+        if let Err(AllocFailed { value }) = slots.push(Some(Handed { value, job: None })) {
+            slots.destroy_empty();
+            return Err((of_full(value), AllocError));
+        }
+        match Table::new(alloc, &[0], slots, &terms) {
+            Ok((table, inner)) => Ok((Turn { table }, Seat { inner })),
+            Err(Refused { mut slots }) => {
+                let value = of_full(slots.pop().unwrap());
+                slots.destroy_empty();
+                Err((value, AllocError))
+            }
+        }
+    }
+
+    /// Takes the value, by one exchange. None exactly where this exchange found it away, which the seat counts as a
+    /// miss.
+    pub fn take(&self, seat: &mut Seat<V>) -> Option<V>
+        requires of_this_turn { seat.old.turn ≡ self.now.identity }
+        requires without { seat.old.holds ≡ false }
+        ensures missed { IfNone result (seat.new ≡ record seat.old { misses = seat.old.misses + 1 }) }
+        ensures taken { IfSome result (λ value. seat.new ≡ record seat.old { seen = V.steps value; holds = true }) }
+        ensures stems { IfSome result (λ value. V.stems seat.old.origin value) }
+        ensures begins { IfSome result (λ value. BeginsWith (V.steps value) seat.old.seen) }
+        ensures job_undone { IfSome result (λ value. IfSome seat.old.job (λ post. IsUndone (V.steps value) seat.old.seen post)) }
+    {
+        if self.table.shared.swap::<Take<V>>(&mut seat.inner, 0, 1) != 0 {
+            return None;
+        }
+        let Handed { value, job: _ } = self
+            .table
+            .shared
+            .exchange(&mut seat.inner, 0, None)
+            .unwrap();
+        Some(value)
+    }
+
+    /// Gives the value back, by one exchange, and wakes one worker that rests. With a job the seat goes away to do it.
+    pub fn give(&self, seat: &mut Seat<V>, value: V, job: Option<Post>)
+        requires of_this_turn { seat.old.turn ≡ self.now.identity }
+        requires holding { seat.old.holds ≡ true }
+        requires stems { V.stems seat.old.origin value }
+        requires begins { BeginsWith (V.steps value) seat.old.seen }
+        requires others_unanswered { (post : Post) → is_out seat.old.seen post ≡ true → seat.old.job ≢ Some post → IsUnanswered (V.steps value) seat.old.seen post }
+        requires own_job { IfSome job (λ post. IsOwnJob seat.old.job seat.old.seen (V.steps value) post) }
+        ensures { seat.new ≡ record seat.old { seen = V.steps value; job = job; holds = false } }
+    {
+        let was = self
+            .table
+            .shared
+            .exchange(&mut seat.inner, 0, Some(Handed { value, job }));
+        let None = was else { unreachable!() };
+        self.table.shared.swap::<Give<V>>(&mut seat.inner, 0, 0);
+        self.table.shared.wake_one(0);
+    }
+
+    /// Sleeps while the value is away, until a `give` wakes it. It may also return for no reason.
+    pub fn rest<R: Wait>(&self, rt: &R) {
+        self.table.shared.park(rt, 0, 1);
+    }
+
+    /// A new seat with one part of this one's, for another worker.
+    pub fn split(&self, seat: &mut Seat<V>) -> Seat<V>
+        requires of_this_turn { seat.old.turn ≡ self.now.identity }
+        requires idle { IsIdle seat.old }
+        requires parts { 2 ≤ seat.old.parts }
+        ensures left { seat.new ≡ record seat.old { parts = seat.old.parts - 1 } }
+        ensures new { result ≡ record seat.old { parts = 1; misses = 0 } }
+    {
+        let inner = self.table.shared.split_seat::<Parting>(&mut seat.inner);
+        Seat { inner }
+    }
+
+    /// Takes in the other seat, with its parts and all that it had seen.
+    pub fn join(&self, seat: &mut Seat<V>, other: Seat<V>)
+        requires of_this_turn { (seat.old.turn ≡ self.now.identity) × (other.turn ≡ self.now.identity) }
+        requires idle { IsIdle seat.old × IsIdle other }
+        ensures joined { seat.new ≡ record seat.old { parts = seat.old.parts + other.parts; seen = longer seat.old.seen other.seen } }
+        ensures begins { BeginsWith seat.new.seen seat.old.seen × BeginsWith seat.new.seen other.seen }
+    {
+        self.table
+            .shared
+            .join_seat::<Parting>(&mut seat.inner, other.into_inner());
+        self.table.shared.load::<Settle>(&mut seat.inner, 0);
+    }
+
+    /// Ends the turn, and gives the value back to the seat that has all parts.
+    pub fn finish(self, seat: Seat<V>) -> V
+        requires of_this_turn { seat.turn ≡ self.identity }
+        requires idle { IsIdle seat }
+        requires all_parts { seat.parts ≡ self.parts }
+        ensures stems { V.stems seat.origin result }
+        ensures begins { BeginsWith (V.steps result) seat.seen }
+    {
+        let Turn { table } = self;
+        let mut closed = table.close_with(seat.into_inner());
+        let value = of_full(closed.take(0));
+        closed.free();
+        value
+    }
+}
+
+fn of_full<V>(slot: Option<Handed<V>>) -> V
+    requires { IsSome slot }
+    ensures { IfSome slot (λ handed. result ≡ handed.value) }
+{
+    let Handed { value, job: _ } = slot.unwrap();
+    value
+}

@@ -1,0 +1,12 @@
+pub mod Groups
+pub mod Numbering
+pub mod Named
+pub mod Sizes
+pub mod Plain
+pub mod Runs
+pub mod Firsts
+pub mod Records
+pub mod Bounds
+pub mod Settling
+pub mod FewSlots
+pub mod Laws

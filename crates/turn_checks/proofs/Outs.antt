@@ -1,0 +1,41 @@
+-- The logbook: reading its journal from the oldest step on, and adding one step.
+use Rattle.std.proofs.Common.{◌≡◌, ◌≢◌, Bool, true, false, not, ◌&&◌, ◌||◌, List, [], ◌∷◌, ◌++◌, reverse, fold, All, refl, sym, ap, ◌∙◌, Some, append_assoc}
+use Rattle.std.proofs.lemmas.List.{append-nil, reverse-append}
+use Rattle.std.proofs.lemmas.List.Elements.{All-nil, All-cons}
+use Rattle.std.proofs.lemmas.Bool.{eqb-true, and_parts}
+use Rattle.pipe_types.specs.declared.numbers.Post.{Post}
+use Rattle.pipe_types.specs.declared.numbers.StageNo.{StageNo}
+use Rattle.pipe_types.specs.declared.step.Step.{Step}
+use Rattle.pipe_types.specs.declared.step.Step.TheVariants.{Fetch, Quiet}
+use Rattle.pipe_types.specs.Numbers.{post, same_post}
+use Rattle.pipe_model.specs.History.{History}
+use Rattle.pipe_model.specs.Begins.{BeginsWith}
+use Rattle.pipe_model.specs.Posts.{answers, is_out}
+use Rattle.pipeline_turn.specs.Jobs.{IsUnanswered}
+use Rattle.turn_checks.specs.Logged.{out_next}
+
+out_on : (steps : List Step) (before : History) (p : Post) → fold (out_next p) (is_out before p) steps ≡ is_out (reverse steps ++ before) p
+out_on [] before p = refl
+out_on (x ∷ steps) before p = out_on steps (x ∷ before) p ∙ ap (λ (z : History). is_out z p) (sym (append_assoc (reverse steps) (x ∷ []) before) ∙ ap (λ (z : History). z ++ before) (sym (reverse-append (x ∷ []) steps)))
+
+pub out_from_oldest : (steps : List Step) (p : Post) → fold (out_next p) false steps ≡ is_out (reverse steps) p
+out_from_oldest steps p = out_on steps [] p ∙ ap (λ (z : History). is_out z p) (append-nil (reverse steps))
+
+same_true : (a b : Post) → same_post a b ≡ true → a ≡ b
+same_true a b e =
+    let t = and_parts _ _ e in
+    λ i. record { stage = record { 0 = eqb-true a.stage.0 b.stage.0 t.0 i }; slot = eqb-true a.slot b.slot t.1 i }
+
+other_post : (a b : Post) (is : Bool) → same_post a b ≡ is → b ≢ a → same_post a b ≡ false
+other_post a b true e n = absurd (n (sym (same_true a b e)))
+other_post a b false e n = e
+
+-- one more step that does not answer the post
+pub unanswered_step : (step : Step) (seen : History) (p : Post) → answers step p ≡ false → IsUnanswered (step ∷ seen) seen p
+unanswered_step step seen p quiet = record { later = step ∷ []; is = refl; silent = All-cons (λ s. answers s p ≡ false) step [] quiet (All-nil (λ s. answers s p ≡ false)) }
+
+pub unanswered_quiet : (seen : History) (own p : Post) (s : StageNo) → own ≡ post s 0 → own ≢ p → IsUnanswered (Quiet s ∷ seen) seen p
+unanswered_quiet seen own p s is n = unanswered_step (Quiet s) seen p (other_post p (post s 0) (same_post p (post s 0)) refl (λ e. n (is ∙ e)))
+
+pub begins_through : (whole middle seen : History) → BeginsWith whole middle → BeginsWith middle seen → BeginsWith whole seen
+begins_through whole middle seen a b = record { later = a.later ++ b.later; is = a.is ∙ (ap (λ x. a.later ++ x) b.is ∙ sym (append_assoc a.later b.later seen)) }
