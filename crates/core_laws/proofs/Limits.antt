@@ -1,5 +1,5 @@
 -- What a sound topology's stages may ask for.
-use Rattle.std.proofs.Common.{◌≡◌, ℕ, ◌+◌, ◌<◌, ◌≤◌, List, length, Bool, true, false, refl, ap, sym, ◌∙◌, Some, arith}
+use Rattle.std.proofs.Common.{◌≡◌, ℕ, ◌<◌, ◌≤◌, List, length, true, false, Some, arith}
 use Rattle.std.specs.Prelude.{◌==◌, ◌&&◌, ◌||◌, not, nat_lt, nat_le, is_some}
 use Rattle.std.proofs.lemmas.Bool.{eqb-true, ltb-true, leb-true}
 use Rattle.pipe_types.specs.declared.numbers.StageNo.{StageNo}
@@ -8,7 +8,7 @@ use Rattle.pipe_types.specs.declared.topology.StageSpec.{StageSpec}
 use Rattle.pipe_types.specs.declared.topology.Role.{Role}
 use Rattle.pipe_types.specs.declared.topology.Role.TheVariants.{Producer, Processor, Supervisor, Batcher, BatchProcessor}
 use Rattle.pipe_types.specs.Stages.{spec_of}
-use Rattle.pipe_types.specs.Sound.{IsSound, batchers, has_fields, has_fields_of, asks_up_to, by_demand, by_partition, by_broadcast, processors, batch_processors, is_size, no_batcher, no_demand, never_cancels, is_lines, are_rules, is_reason, is_between}
+use Rattle.pipe_types.specs.Sound.{IsSound, batchers, has_fields_of, asks_up_to, by_demand, by_partition, by_broadcast, processors, batch_processors, is_size, no_batcher, no_demand, never_cancels, is_lines, are_rules, is_reason, is_between}
 use Rattle.pipe_model.specs.Legal.{is_producer_role}
 use Rattle.pipe_laws.proofs.Tests.{and_left, and_right}
 use Rattle.queue_laws.proofs.Sounds.{sound_fields}

@@ -1,9 +1,8 @@
 -- Stand-in: the laws of the journal that the core takes from elsewhere.
-use Rattle.std.specs.Prelude.{◌≡◌, ℕ, suc, ◌+◌, ◌<◌, ◌≤◌, ◌++◌, ◌∷◌, [], true, false, List, length, drop, take, replicate, All, Some, slice_get, ◌==◌}
+use Rattle.std.specs.Prelude.{◌≡◌, ℕ, ◌+◌, ◌<◌, ◌≤◌, ◌++◌, ◌∷◌, [], true, false, List, length, drop, take, replicate, All, ◌==◌}
 use Rattle.pipe_types.specs.declared.numbers.StageNo.{StageNo}
 use Rattle.pipe_types.specs.declared.numbers.SubNo.{SubNo}
 use Rattle.pipe_types.specs.declared.topology.Topology.{Topology}
-use Rattle.pipe_types.specs.declared.topology.StageSpec.{StageSpec}
 use Rattle.pipe_types.specs.declared.topology.Dispatch.TheVariants.{Demand}
 use Rattle.pipe_types.specs.declared.room.Sent.{Sent}
 use Rattle.pipe_types.specs.declared.step.Step.TheVariants.{Dispatch, Take, Accept}
@@ -21,15 +20,7 @@ use Rattle.core_tables.specs.Tables.{IsNumbered}
 use Rattle.core_tables.specs.Chunks.{without_first}
 use Rattle.core_laws.specs.Columns.{running}
 use Rattle.pipe_model.specs.Standing.{gathered_in}
-
--- a topology's stages by number
-pub record IsNumberedTopology (topology : Topology) : Type 0 where
-  pub few : length topology.stages ≤ 64
-  pub ordered : (s : StageNo) (spec : StageSpec) → spec_of topology s ≡ Some spec → spec.min ≤ spec.max
-  pub numbers : (i : ℕ) (spec : StageSpec) → slice_get topology.stages i ≡ Some spec → spec.no.0 ≡ suc i
-  pub found : (i : ℕ) (spec : StageSpec) → slice_get topology.stages i ≡ Some spec → spec_of topology spec.no ≡ Some spec
-  pub named : (s : StageNo) (spec : StageSpec) → spec_of topology s ≡ Some spec → spec.no ≡ s
-  pub within : (s : StageNo) (spec : StageSpec) → spec_of topology s ≡ Some spec → (1 ≤ s.0) × (s.0 ≤ length topology.stages)
+use Rattle.stage_laws.specs.Numbered.{IsNumberedTopology}
 
 -- what is sent goes on a live subscription, and is an accepted message
 pub record IsSentWell (topology : Topology) (before : History) (d : Sent) : Type 0 where
