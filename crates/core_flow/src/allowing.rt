@@ -1,11 +1,12 @@
 //! The test of whether a step may come next.
 
-ghost use Rattle.std.specs.Prelude.{◌≡◌, ◌+◌, ◌&&◌, ◌==◌, nat_le, length, is_some, unwrap_or, count_by};
+ghost use Rattle.std.specs.Prelude.{◌≡◌, ◌+◌, ◌&&◌, ◌==◌, nat_le, length, is_some, unwrap_or, count_by, reverse};
 ghost use Rattle.std.specs.List.{list_all, list_any};
 ghost use Rattle.pipe_types.specs.Lines.{max_bytes};
 ghost use Rattle.pipe_types.specs.Numbers.{stage, same_sub};
 ghost use Rattle.pipe_model.specs.History.{controls};
 ghost use Rattle.pipe_model.specs.Legal.{allows, are_records, ends_source, has_ended, may_control};
+ghost use Rattle.pipe_journal.specs.Views.{step_seen};
 ghost use Rattle.core_flow.specs.OneEach.{the_sub as only_sub};
 ghost use Rattle.core_flow.specs.Stands.{Stands};
 ghost use Rattle.core_flow.specs.Next.{due_of, fetches_in, takes_in};
@@ -13,10 +14,11 @@ ghost use Rattle.core_flow.specs.Allowing.{allows_but_replies, are_replies_handl
 
 use crate::parts::the_sub;
 use crate::state::Core;
+use pipe_journal::{AnswerView, Journal, StepView};
 use pipe_types::bytes::Bytes;
 use pipe_types::message::Why;
 use pipe_types::numbers::{StageNo, SubNo};
-use pipe_types::step::{DrainCause, LateAnswer, SourceHow, Step};
+use pipe_types::step::{DrainCause, SourceHow, Step};
 
 /// How many bytes a record may have.
 const MAX_BYTES: usize = 65536;
@@ -152,14 +154,14 @@ impl Core {
     fn has_control_ended(&self) -> bool
         ensures { result ≡ has_ended self.now.journal.steps (stage 0) }
     {
-        any_ends_control(self.journal.as_slice())
+        any_ends_control(&self.journal)
     }
 
     /// How many steps came from control lines.
     fn controls(&self) -> u64
         ensures { result ≡ controls self.now.journal.steps }
     {
-        count_controls(self.journal.as_slice())
+        count_controls(&self.journal)
     }
 }
 
@@ -186,44 +188,49 @@ fn is_by_control(why: Why) -> bool
 
 /// Whether the step came from a control line.
 #[tactic(auto, unfolding(crate::specs::Allowing::is_control))]
-fn is_control(step: &Step) -> bool
-    ensures { result ≡ is_control step.now }
+fn is_control(step: StepView<'_>) -> bool
+    ensures { result ≡ is_control (step_seen step.entry) }
 {
     match step {
-        Step::Kill { why, .. } => is_by_control(*why),
-        Step::Drain { cause } => matches!(cause, DrainCause::Control),
-        Step::Refuse { .. } => true,
+        StepView::Kill { why, .. } => is_by_control(why),
+        StepView::Drain { cause } => matches!(cause, DrainCause::Control),
+        StepView::Refuse { .. } => true,
         _ => false,
     }
 }
 
 /// Whether the step ends the control source.
-fn ends_control(step: &Step) -> bool
-    ensures { result ≡ ends_source (stage 0) step.now }
+fn ends_control(step: StepView<'_>) -> bool
+    ensures { result ≡ ends_source (stage 0) (step_seen step.entry) }
 {
     match step {
-        Step::SourceEnd { stage, .. } => stage.0 == 0,
-        Step::Late {
+        StepView::SourceEnd { stage, .. } => stage.0 == 0,
+        StepView::Late {
             stage,
-            answer: LateAnswer::Source(_),
+            answer: AnswerView::Source(_),
             ..
         } => stage.0 == 0,
         _ => false,
     }
 }
 
-fn any_ends_control(steps: &[Step]) -> bool
-    ensures { result ≡ list_any (ends_source (stage 0)) steps.now }
+fn any_ends_control(journal: &Journal) -> bool
+    ensures { result ≡ list_any (ends_source (stage 0)) (reverse journal.now.steps) }
 {
-    steps.iter().any(|step| ends_control(step))
+    for at in 0..journal.len() {
+        if ends_control(journal.view(at)) {
+            return true;
+        }
+    }
+    false
 }
 
-fn count_controls(steps: &[Step]) -> u64
-    ensures { result ≡ count_by is_control steps.now }
+fn count_controls(journal: &Journal) -> u64
+    ensures { result ≡ count_by is_control (reverse journal.now.steps) }
 {
     let mut count = 0;
-    for step in steps {
-        if is_control(step) {
+    for at in 0..journal.len() {
+        if is_control(journal.view(at)) {
             count += 1;
         }
     }

@@ -3,12 +3,14 @@
 ghost use Rattle.std.specs.Prelude.{◌≡◌, ◌++◌, ◌<◌, ◌+◌, Bool, true, false, OnOk, decimal, codes};
 ghost use Rattle.std.specs.List.{flat_map};
 ghost use Rattle.std.specs.Fmt.{digit_glyph};
+ghost use Rattle.pipe_journal.specs.Views.{end_seen};
 ghost use Rattle.journal_texts.specs.Words.{byte_text, bytes_text, next_text, more_text, list_text, number_word, words};
 ghost use Rattle.journal_texts.specs.Steps.{flag_text, reply_text, outcome_text, ends_text};
 
 use crate::words::{put, put_number};
+use pipe_journal::EndView;
 use pipe_types::bytes::Bytes;
-use pipe_types::message::{BatchEnd, Message, Outcome, Reply};
+use pipe_types::message::{Message, Outcome, Reply};
 use std::alloc::AllocError;
 
 fn hex_digit(n: u8) -> u8
@@ -211,11 +213,11 @@ fn put_outcomes(out: &mut Vec<u8>, outcomes: &[Outcome]) -> Result<(), AllocErro
 }
 
 /// Writes the outcomes of a batch, joined by commas, or `c` where it crashed.
-pub(crate) fn put_ends(out: &mut Vec<u8>, end: &BatchEnd) -> Result<(), AllocError>
-    ensures { OnOk result (out.new.items ≡ out.old.items ++ ends_text end.now) }
+pub(crate) fn put_ends(out: &mut Vec<u8>, end: EndView<'_>) -> Result<(), AllocError>
+    ensures { OnOk result (out.new.items ≡ out.old.items ++ ends_text (end_seen end.entry)) }
 {
     match end {
-        BatchEnd::Outcomes(outcomes) => put_outcomes(out, outcomes.as_slice()),
-        BatchEnd::Crashed => put(out, b"c"),
+        EndView::Outcomes(outcomes) => put_outcomes(out, outcomes),
+        EndView::Crashed => put(out, b"c"),
     }
 }

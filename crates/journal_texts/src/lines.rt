@@ -1,17 +1,18 @@
 //! The line of a step.
 
-ghost use Rattle.std.specs.Prelude.{◌≡◌, ◌++◌, [], ◌∷◌, OnOk, IfOk, codes};
+ghost use Rattle.std.specs.Prelude.{◌≡◌, ◌++◌, [], ◌∷◌, OnOk, IfOk, codes, reverse};
 ghost use Rattle.std.specs.List.{flat_map};
+ghost use Rattle.pipe_journal.specs.Views.{end_seen, answer_seen, step_seen};
 ghost use Rattle.journal_texts.specs.Words.{words};
-ghost use Rattle.journal_texts.specs.Steps.{trigger_word as word_of_trigger, why_word as word_of_why, ends_text, answer_text, step_text, step_line as line_of_step, text_of_steps, journal_text as text_of_journal};
+ghost use Rattle.journal_texts.specs.Steps.{trigger_word as word_of_trigger, why_word as word_of_why, ends_text, answer_text, step_text, step_line as line_of_step, journal_text as text_of_journal};
 
 use crate::items::{put_ends, put_records, put_replies, put_reply, put_words};
 use crate::words::{cause_word, how_word, put};
-use pipe_journal::Journal;
-use pipe_types::bytes::{Bytes, BytesList};
-use pipe_types::message::{BatchEnd, Reply, ReplyList, Trigger, Why};
+use pipe_journal::{AnswerView, EndView, Journal, StepView};
+use pipe_types::bytes::Bytes;
+use pipe_types::message::{Reply, Trigger, Why};
 use pipe_types::numbers::{MsgNo, StageNo, SubNo};
-use pipe_types::step::{DrainCause, LateAnswer, Step};
+use pipe_types::step::{DrainCause, Step};
 use std::alloc::{AllocError, Global};
 
 fn trigger_word(trigger: Trigger) -> &'static [u8]
@@ -60,46 +61,46 @@ fn put_head(out: &mut Vec<u8>, word: &[u8], numbers: &[u64]) -> Result<(), Alloc
 }
 
 #[tactic(auto, using(std::proofs::lemmas::List::append_assoc))]
-fn put_wrote(out: &mut Vec<u8>, numbers: &[u64], end: &BatchEnd) -> Result<(), AllocError>
-    ensures { OnOk result (out.new.items ≡ out.old.items ++ (words (codes "wrote") numbers.now ++ codes " " ++ ends_text end.now)) }
+fn put_wrote(out: &mut Vec<u8>, numbers: &[u64], end: EndView<'_>) -> Result<(), AllocError>
+    ensures { OnOk result (out.new.items ≡ out.old.items ++ (words (codes "wrote") numbers.now ++ codes " " ++ ends_text (end_seen end.entry))) }
 {
     put_head(out, b"wrote", numbers)?;
     put_ends(out, end)
 }
 
 #[tactic(auto, using(std::proofs::lemmas::List::append_assoc))]
-fn put_answer(out: &mut Vec<u8>, answer: &LateAnswer) -> Result<(), AllocError>
-    ensures { OnOk result (out.new.items ≡ out.old.items ++ answer_text answer.now) }
+fn put_answer(out: &mut Vec<u8>, answer: AnswerView<'_>) -> Result<(), AllocError>
+    ensures { OnOk result (out.new.items ≡ out.old.items ++ answer_text (answer_seen answer.entry)) }
 {
     match answer {
-        LateAnswer::Records(records) => {
+        AnswerView::Records(records) => {
             put(out, b"records ")?;
-            put_records(out, records.as_slice())
+            put_records(out, records)
         }
-        LateAnswer::Quiet => put(out, b"quiet"),
-        LateAnswer::Source(how) => {
+        AnswerView::Quiet => put(out, b"quiet"),
+        AnswerView::Source(how) => {
             put(out, b"source ")?;
-            put(out, how_word(*how))
+            put(out, how_word(how))
         }
-        LateAnswer::Wrote(bytes, end) => put_wrote(out, &[*bytes], end),
-        LateAnswer::Nothing => put(out, b"none"),
+        AnswerView::Wrote(bytes, end) => put_wrote(out, &[bytes], end),
+        AnswerView::Nothing => put(out, b"none"),
     }
 }
 
 #[tactic(auto, using(std::proofs::lemmas::List::append_assoc))]
-fn put_accept(out: &mut Vec<u8>, stage: StageNo, records: &BytesList) -> Result<(), AllocError>
+fn put_accept(out: &mut Vec<u8>, stage: StageNo, records: &[Bytes]) -> Result<(), AllocError>
     ensures { OnOk result (out.new.items ≡ out.old.items ++ step_text (Step.Accept stage records.now)) }
 {
     put_head(out, b"accept", &[stage.0 as u64])?;
-    put_records(out, records.as_slice())
+    put_records(out, records)
 }
 
 #[tactic(auto, using(std::proofs::lemmas::List::append_assoc))]
-fn put_done(out: &mut Vec<u8>, stage: StageNo, replies: &ReplyList) -> Result<(), AllocError>
+fn put_done(out: &mut Vec<u8>, stage: StageNo, replies: &[Reply]) -> Result<(), AllocError>
     ensures { OnOk result (out.new.items ≡ out.old.items ++ step_text (Step.Done stage replies.now)) }
 {
     put_head(out, b"done", &[stage.0 as u64])?;
-    put_replies(out, replies.as_slice())
+    put_replies(out, replies)
 }
 
 #[tactic(auto, using(std::proofs::lemmas::List::append_assoc))]
@@ -121,9 +122,9 @@ fn put_late(
     stage: StageNo,
     slot: u16,
     incarnation: u32,
-    answer: &LateAnswer,
+    answer: AnswerView<'_>,
 ) -> Result<(), AllocError>
-    ensures { OnOk result (out.new.items ≡ out.old.items ++ step_text (Step.Late stage slot incarnation answer.now)) }
+    ensures { OnOk result (out.new.items ≡ out.old.items ++ step_text (Step.Late stage slot incarnation (answer_seen answer.entry))) }
 {
     put_head(
         out,
@@ -181,75 +182,75 @@ fn put_drain(out: &mut Vec<u8>, cause: DrainCause) -> Result<(), AllocError>
 }
 
 /// Writes the words of a step.
-fn put_step(out: &mut Vec<u8>, step: &Step) -> Result<(), AllocError>
-    ensures { OnOk result (out.new.items ≡ out.old.items ++ step_text step.now) }
+fn put_step(out: &mut Vec<u8>, step: StepView<'_>) -> Result<(), AllocError>
+    ensures { OnOk result (out.new.items ≡ out.old.items ++ step_text (step_seen step.entry)) }
 {
     match step {
-        Step::Ask { sub, n } => put_ask(out, *sub, *n),
-        Step::Fetch { stage, n } => put_words(out, b"fetch", &[stage.0 as u64, *n as u64]),
-        Step::Accept { stage, records } => put_accept(out, *stage, records),
-        Step::Quiet { stage } => put_words(out, b"quiet", &[stage.0 as u64]),
-        Step::SourceEnd { stage, how } => {
-            put_words_and(out, b"source", &[stage.0 as u64], how_word(*how))
+        StepView::Ask { sub, n } => put_ask(out, sub, n),
+        StepView::Fetch { stage, n } => put_words(out, b"fetch", &[stage.0 as u64, n as u64]),
+        StepView::Accept { stage, records } => put_accept(out, stage, records),
+        StepView::Quiet { stage } => put_words(out, b"quiet", &[stage.0 as u64]),
+        StepView::SourceEnd { stage, how } => {
+            put_words_and(out, b"source", &[stage.0 as u64], how_word(how))
         }
-        Step::Dispatch { stage } => put_words(out, b"dispatch", &[stage.0 as u64]),
-        Step::Take { stage, sub, k } => put_take(out, *stage, *sub, *k),
-        Step::Done { stage, replies } => put_done(out, *stage, replies),
-        Step::Gather { stage, no } => put_words(out, b"gather", &[stage.0 as u64, no.0 as u64]),
-        Step::Close {
+        StepView::Dispatch { stage } => put_words(out, b"dispatch", &[stage.0 as u64]),
+        StepView::Take { stage, sub, k } => put_take(out, stage, sub, k),
+        StepView::Done { stage, replies } => put_done(out, stage, replies),
+        StepView::Gather { stage, no } => put_words(out, b"gather", &[stage.0 as u64, no.0 as u64]),
+        StepView::Close {
             stage,
             first,
             trigger,
-        } => put_close(out, *stage, *first, *trigger),
-        Step::Wrote { stage, bytes, end } => put_wrote(out, &[stage.0 as u64, *bytes], end),
-        Step::Child { stage, no, slot } => {
-            put_words(out, b"child", &[stage.0 as u64, no.0 as u64, *slot as u64])
+        } => put_close(out, stage, first, trigger),
+        StepView::Wrote { stage, bytes, end } => put_wrote(out, &[stage.0 as u64, bytes], end),
+        StepView::Child { stage, no, slot } => {
+            put_words(out, b"child", &[stage.0 as u64, no.0 as u64, slot as u64])
         }
-        Step::ChildEnd { stage, slot, reply } => put_child_end(out, *stage, *slot, reply),
-        Step::Kill { stage, why } => {
-            put_words_and(out, b"kill", &[stage.0 as u64], why_word(*why))
+        StepView::ChildEnd { stage, slot, reply } => put_child_end(out, stage, slot, reply),
+        StepView::Kill { stage, why } => {
+            put_words_and(out, b"kill", &[stage.0 as u64], why_word(why))
         }
-        Step::Late {
+        StepView::Late {
             stage,
             slot,
             incarnation,
             answer,
-        } => put_late(out, *stage, *slot, *incarnation, answer),
-        Step::Restart { stage } => put_words(out, b"restart", &[stage.0 as u64]),
-        Step::Tick { now } => put_words(out, b"tick", &[*now]),
-        Step::Drain { cause } => put_drain(out, *cause),
-        Step::Halt => put(out, b"halt"),
-        Step::Refuse { line } => put_words(out, b"refuse", &[*line as u64]),
+        } => put_late(out, stage, slot, incarnation, answer),
+        StepView::Restart { stage } => put_words(out, b"restart", &[stage.0 as u64]),
+        StepView::Tick { now } => put_words(out, b"tick", &[now]),
+        StepView::Drain { cause } => put_drain(out, cause),
+        StepView::Halt => put(out, b"halt"),
+        StepView::Refuse { line } => put_words(out, b"refuse", &[line as u64]),
     }
 }
 
 /// Writes the line of a step.
 #[tactic(auto, using(std::proofs::lemmas::List::append_assoc))]
-fn put_line(out: &mut Vec<u8>, step: &Step) -> Result<(), AllocError>
-    ensures { OnOk result (out.new.items ≡ out.old.items ++ line_of_step step.now) }
+fn put_line(out: &mut Vec<u8>, step: StepView<'_>) -> Result<(), AllocError>
+    ensures { OnOk result (out.new.items ≡ out.old.items ++ line_of_step (step_seen step.entry)) }
 {
     put_step(out, step)?;
     put(out, b"\n")
 }
 
 /// Writes the lines of the steps.
-fn put_lines(out: &mut Vec<u8>, steps: &[Step]) -> Result<(), AllocError>
-    ensures { OnOk result (out.new.items ≡ out.old.items ++ flat_map line_of_step steps.now) }
+fn put_lines(out: &mut Vec<u8>, journal: &Journal) -> Result<(), AllocError>
+    ensures { OnOk result (out.new.items ≡ out.old.items ++ flat_map line_of_step (reverse journal.now.steps)) }
 {
-    for step in steps {
-        put_line(out, step)?;
+    for at in 0..journal.len() {
+        put_line(out, journal.view(at))?;
     }
     Ok(())
 }
 
 /// Writes the text of a journal.
-#[tactic(auto, using(std::proofs::lemmas::List::append_assoc))]
-fn put_journal(out: &mut Vec<u8>, steps: &[Step]) -> Result<(), AllocError>
-    ensures { OnOk result (out.new.items ≡ out.old.items ++ text_of_steps steps.now) }
+#[tactic(auto, using(std::proofs::lemmas::List::append_assoc, pipe_journal::proofs::Walks::length_reversed))]
+fn put_journal(out: &mut Vec<u8>, journal: &Journal) -> Result<(), AllocError>
+    ensures { OnOk result (out.new.items ≡ out.old.items ++ text_of_journal journal.now.steps) }
 {
     put(out, b"journal 1\n")?;
-    put_lines(out, steps)?;
-    put_words(out, b"end", &[steps.len() as u64])?;
+    put_lines(out, journal)?;
+    put_words(out, b"end", &[journal.len()])?;
     put(out, b"\n")
 }
 
@@ -259,16 +260,15 @@ pub fn step_line(alloc: Global, step: &Step) -> Result<Bytes, AllocError>
     ensures { IfOk result (λ line. line ≡ line_of_step step.now) }
 {
     let mut out = Vec::new(alloc);
-    put_line(&mut out, step)?;
+    put_line(&mut out, StepView::of(step))?;
     Ok(Bytes::from_vec(out))
 }
 
 /// The text of a journal: its head, the line of each step, and the number of steps.
-#[tactic(auto, using(crate::proofs::Lists::journal_of_steps))]
 pub fn journal_text(alloc: Global, journal: &Journal) -> Result<Bytes, AllocError>
     ensures { IfOk result (λ text. text ≡ text_of_journal journal.now.steps) }
 {
     let mut out = Vec::new(alloc);
-    put_journal(&mut out, journal.as_slice())?;
+    put_journal(&mut out, journal)?;
     Ok(Bytes::from_vec(out))
 }

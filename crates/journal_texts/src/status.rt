@@ -2,16 +2,16 @@
 
 ghost use Rattle.std.specs.Prelude.{◌≡◌};
 ghost use Rattle.std.specs.List.{list_any};
-ghost use Rattle.pipe_model.specs.History.{history};
 ghost use Rattle.pipe_model.specs.Legal.{happened};
+ghost use Rattle.pipe_journal.specs.Views.{step_seen};
 ghost use Rattle.pipe_model.specs.Places.{ArePlaces};
 ghost use Rattle.journal_texts.specs.Report.{is_fault as is_fault_how, is_source_fault as is_source_fault_step, is_lost as is_lost_place, is_failed as is_failed_place, gravest_of, status_of};
 
 use crate::steps::is_halted;
-use pipe_journal::Journal;
+use pipe_journal::{AnswerView, Journal, StepView};
 use pipe_types::message::{Outcome, Place};
 use pipe_types::state::{PlaceList, PlaceRow};
-use pipe_types::step::{LateAnswer, SourceHow, Step};
+use pipe_types::step::SourceHow;
 use pipe_types::topology::Topology;
 
 fn is_fault(how: SourceHow) -> bool
@@ -20,24 +20,29 @@ fn is_fault(how: SourceHow) -> bool
     matches!(how, SourceHow::Fault | SourceHow::TooLong)
 }
 
-fn is_source_fault(step: &Step) -> bool
-    ensures { result ≡ is_source_fault_step step.now }
+fn is_source_fault(step: StepView<'_>) -> bool
+    ensures { result ≡ is_source_fault_step (step_seen step.entry) }
 {
     match step {
-        Step::SourceEnd { how, .. } => is_fault(*how),
-        Step::Late {
-            answer: LateAnswer::Source(how),
+        StepView::SourceEnd { how, .. } => is_fault(how),
+        StepView::Late {
+            answer: AnswerView::Source(how),
             ..
-        } => is_fault(*how),
+        } => is_fault(how),
         _ => false,
     }
 }
 
 /// Whether a source ended with a fault or with a line that is too long.
-fn has_source_fault(steps: &[Step]) -> bool
-    ensures { result ≡ happened is_source_fault_step (history steps.now) }
+fn has_source_fault(journal: &Journal) -> bool
+    ensures { result ≡ happened is_source_fault_step journal.now.steps }
 {
-    steps.iter().rev().any(|step| is_source_fault(step))
+    for at in 0..journal.len() {
+        if is_source_fault(journal.view(at)) {
+            return true;
+        }
+    }
+    false
 }
 
 fn is_lost(place: &Place) -> bool
@@ -87,9 +92,8 @@ pub fn status(_topology: &Topology, journal: &Journal, places: &PlaceList) -> u8
     ensures { result ≡ status_of _topology.now journal.now.steps }
 {
     let rows = places.as_slice();
-    let steps = journal.as_slice();
-    let source_fault = has_source_fault(steps);
-    let halted = is_halted(steps);
+    let source_fault = has_source_fault(journal);
+    let halted = is_halted(journal);
     let lost = any_lost(rows);
     let failed = any_failed(rows);
     gravest(source_fault, halted, lost, failed)

@@ -1,13 +1,15 @@
 //! What the steps of a journal, oldest first, come to.
 
-ghost use Rattle.std.specs.Prelude.{◌≡◌, ◌≤◌, IfOk, count_by, length};
+ghost use Rattle.std.specs.Prelude.{◌≡◌, ◌++◌, IfOk, OnOk, count_by, reverse};
 ghost use Rattle.std.specs.List.{filter_map};
-ghost use Rattle.pipe_model.specs.History.{history};
+ghost use Rattle.std.specs.Option.{option_to_list};
+ghost use Rattle.pipe_journal.specs.Views.{step_seen};
 ghost use Rattle.pipe_model.specs.Legal.{happened, is_halt as is_halt_step};
 ghost use Rattle.journal_texts.specs.Report.{fault_by as fault_by_how, fault_of as fault_of_step, source_faults as faults_of_sources, is_restart as is_restart_step, is_refuse as is_refuse_step, cause_of as cause_of_step};
 
+use pipe_journal::{AnswerView, Journal, StepView};
 use pipe_types::numbers::StageNo;
-use pipe_types::step::{DrainCause, LateAnswer, SourceHow, Step};
+use pipe_types::step::{DrainCause, SourceHow};
 use std::alloc::{AllocError, Global};
 
 fn fault_by(stage: StageNo, how: SourceHow) -> Option<(StageNo, SourceHow)>
@@ -19,57 +21,64 @@ fn fault_by(stage: StageNo, how: SourceHow) -> Option<(StageNo, SourceHow)>
     }
 }
 
-fn fault_of(step: &Step) -> Option<(StageNo, SourceHow)>
-    ensures { result ≡ fault_of_step step.now }
+fn fault_of(step: StepView<'_>) -> Option<(StageNo, SourceHow)>
+    ensures { result ≡ fault_of_step (step_seen step.entry) }
 {
     match step {
-        Step::SourceEnd { stage, how } => fault_by(*stage, *how),
-        Step::Late {
+        StepView::SourceEnd { stage, how } => fault_by(stage, how),
+        StepView::Late {
             stage,
-            answer: LateAnswer::Source(how),
+            answer: AnswerView::Source(how),
             ..
-        } => fault_by(*stage, *how),
+        } => fault_by(stage, how),
         _ => None,
     }
 }
 
+/// Adds the source that the step ends, where it ends it with a fault or with a line that is too long.
+fn push_fault(found: &mut Vec<(StageNo, SourceHow)>, step: StepView<'_>) -> Result<(), AllocError>
+    ensures { OnOk result (found.new.items ≡ found.old.items ++ option_to_list (fault_of_step (step_seen step.entry))) }
+{
+    if let Some(fault) = fault_of(step) {
+        found.push(fault)?;
+    }
+    Ok(())
+}
+
 /// The sources that ended with a fault or with a line that is too long, in journal order; stage 0 is the control
 /// source.
-#[tactic(auto, using(crate::proofs::Lists::filter_map_some, crate::proofs::Lists::filter_map_none))]
 pub(crate) fn source_faults(
     alloc: Global,
-    steps: &[Step],
+    journal: &Journal,
 ) -> Result<Vec<(StageNo, SourceHow)>, AllocError>
-    ensures { IfOk result (λ found. found.items ≡ filter_map fault_of_step steps.now) }
+    ensures { IfOk result (λ found. found.items ≡ filter_map fault_of_step (reverse journal.now.steps)) }
 {
     let mut found = Vec::new(alloc);
-    for step in steps {
-        if let Some(fault) = fault_of(step) {
-            found.push(fault)?;
-        }
+    for at in 0..journal.len() {
+        push_fault(&mut found, journal.view(at))?;
     }
     Ok(found)
 }
 
-fn is_restart(step: &Step) -> bool
-    ensures { result ≡ is_restart_step step.now }
+fn is_restart(step: StepView<'_>) -> bool
+    ensures { result ≡ is_restart_step (step_seen step.entry) }
 {
-    matches!(step, Step::Restart { .. })
+    matches!(step, StepView::Restart { .. })
 }
 
-fn is_refusal(step: &Step) -> bool
-    ensures { result ≡ is_refuse_step step.now }
+fn is_refusal(step: StepView<'_>) -> bool
+    ensures { result ≡ is_refuse_step (step_seen step.entry) }
 {
-    matches!(step, Step::Refuse { .. })
+    matches!(step, StepView::Refuse { .. })
 }
 
 /// How many stages were restarted.
-pub(crate) fn restarts(steps: &[Step]) -> usize
-    ensures { result ≡ count_by is_restart_step steps.now }
+pub(crate) fn restarts(journal: &Journal) -> usize
+    ensures { result ≡ count_by is_restart_step (reverse journal.now.steps) }
 {
     let mut count = 0usize;
-    for step in steps {
-        if is_restart(step) {
+    for at in 0..journal.len() {
+        if is_restart(journal.view(at)) {
             count += 1;
         }
     }
@@ -77,42 +86,53 @@ pub(crate) fn restarts(steps: &[Step]) -> usize
 }
 
 /// How many control lines were refused.
-pub(crate) fn refusals(steps: &[Step]) -> usize
-    ensures { result ≡ count_by is_refuse_step steps.now }
+pub(crate) fn refusals(journal: &Journal) -> usize
+    ensures { result ≡ count_by is_refuse_step (reverse journal.now.steps) }
 {
     let mut count = 0usize;
-    for step in steps {
-        if is_refusal(step) {
+    for at in 0..journal.len() {
+        if is_refusal(journal.view(at)) {
             count += 1;
         }
     }
     count
 }
 
-/// Whether the run was halted.
-pub(crate) fn is_halted(steps: &[Step]) -> bool
-    ensures { result ≡ happened is_halt_step (history steps.now) }
+fn is_halt(step: StepView<'_>) -> bool
+    ensures { result ≡ is_halt_step (step_seen step.entry) }
 {
-    steps.iter().rev().any(|step| matches!(step, Step::Halt))
+    matches!(step, StepView::Halt)
 }
 
-fn cause_of(step: &Step) -> Option<DrainCause>
-    ensures { result ≡ cause_of_step step.now }
+/// Whether the run was halted.
+pub(crate) fn is_halted(journal: &Journal) -> bool
+    ensures { result ≡ happened is_halt_step journal.now.steps }
+{
+    for at in 0..journal.len() {
+        if is_halt(journal.view(at)) {
+            return true;
+        }
+    }
+    false
+}
+
+fn cause_of(step: StepView<'_>) -> Option<DrainCause>
+    ensures { result ≡ cause_of_step (step_seen step.entry) }
 {
     match step {
-        Step::Drain { cause } => Some(*cause),
+        StepView::Drain { cause } => Some(cause),
         _ => None,
     }
 }
 
 /// The causes of the drain, in journal order.
-#[tactic(auto, using(crate::proofs::Lists::filter_map_some, crate::proofs::Lists::filter_map_none))]
-pub(crate) fn causes(alloc: Global, steps: &[Step]) -> Result<Vec<DrainCause>, AllocError>
-    ensures { IfOk result (λ found. found.items ≡ filter_map cause_of_step steps.now) }
+#[tactic(auto, using(pipe_journal::proofs::Walks::filter_map_some, pipe_journal::proofs::Walks::filter_map_none))]
+pub(crate) fn causes(alloc: Global, journal: &Journal) -> Result<Vec<DrainCause>, AllocError>
+    ensures { IfOk result (λ found. found.items ≡ filter_map cause_of_step (reverse journal.now.steps)) }
 {
     let mut found = Vec::new(alloc);
-    for step in steps {
-        if let Some(cause) = cause_of(step) {
+    for at in 0..journal.len() {
+        if let Some(cause) = cause_of(journal.view(at)) {
             found.push(cause)?;
         }
     }

@@ -1,6 +1,10 @@
 -- How the legs of a batch ended, and how its messages end by that.
-use Rattle.std.specs.Prelude.{◌≡◌, ℕ, nat_lt, Bool, true, if◌then◌else◌, ◌==◌, List, [], ◌∷◌, length, map, slice_get, slice_set, Option, Some, None, option_map, is_some}
+use Rattle.std.specs.Prelude.{◌≡◌, ℕ, nat_eq, nat_lt, Bool, true, if◌then◌else◌, ◌==◌, List, [], ◌∷◌, length, map, slice_get, slice_set, unwrap_or, Option, Some, None, option_map, is_some}
+use Rattle.std.specs.Map.{lookup}
 use Rattle.pipe_types.specs.declared.message.Outcome.{Outcome}
+use Rattle.pipe_types.specs.declared.message.Outcome.TheVariants.{Successful}
+use Rattle.pipe_types.specs.declared.message.Loss.{Loss}
+use Rattle.pipe_types.specs.Handlers.{is_successful}
 use Rattle.pipe_types.specs.declared.message.Place.{Place}
 use Rattle.pipe_types.specs.declared.message.Place.TheVariants.{Acked, Lost as LostPlace}
 use Rattle.pipe_model.specs.Batches.{Leg, LegPlace, InInbox, AtWork, Answered, LegLost, lost_leg, failed_leg, settled_as}
@@ -13,6 +17,10 @@ use Rattle.message_ack.specs.declared.legs.Settled.TheVariants.{Outcomes, Lost a
 pub record Ends : Type 0 where
   pub messages : ℕ
   pub ends : List (Option LegEnd)
+
+-- the batch with that number, of those that were sent and are not settled
+abbrev pub sent_in : List (ℕ × Ends) → (batch : ℕ) → Option Ends
+sent_in batches b = lookup (nat_eq b) batches
 
 -- how a leg that stands so ended
 abbrev pub end_of : LegPlace → Option LegEnd
@@ -49,3 +57,21 @@ place_in (Outcomes outcomes) i = option_map (λ o. Acked o) (slice_get outcomes 
 pub record IsSettledBy (messages : ℕ) (legs : List Leg) (settled : Settled) : Type 0 where
   pub lost : loss_in settled ≡ lost_leg legs
   pub outcomes : loss_in settled ≡ None → (i : ℕ) → place_in settled i ≡ (if nat_lt i messages then Some (settled_as None (failed_leg legs i)) else None)
+
+-- What the ends say, whatever subscriptions the legs have
+
+-- how the least leg that was lost was lost
+abbrev pub loss_of_ends : List (Option LegEnd) → Option Loss
+loss_of_ends [] = None
+loss_of_ends (Some (LostEnd loss) ∷ ends) = Some loss
+loss_of_ends (_ ∷ ends) = loss_of_ends ends
+
+-- the outcome of the message at that place by one leg
+abbrev pub outcome_of_end : Option LegEnd → ℕ → Outcome
+outcome_of_end (Some (AnsweredEnd outcomes)) i = unwrap_or (slice_get outcomes i) Successful
+outcome_of_end _ i = Successful
+
+-- and by all: as the least leg says that failed it
+abbrev pub outcome_of_ends : List (Option LegEnd) → ℕ → Outcome
+outcome_of_ends [] i = Successful
+outcome_of_ends (end ∷ ends) i = if is_successful (outcome_of_end end i) then outcome_of_ends ends i else outcome_of_end end i

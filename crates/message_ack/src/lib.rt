@@ -6,5 +6,9 @@
 #![tactic(auto)]
 
 mod legs;
+#[cfg(test)]
+mod tests;
+mod verdicts;
 
 pub use legs::{LegEnd, Legs, Settled};
+pub use verdicts::{Ack, AckList, Verdict, group};

@@ -1,1 +1,4 @@
 pub mod Recorded
+pub mod Entries
+pub mod Views
+pub mod Readers

@@ -1,26 +1,41 @@
 //! The list of steps.
 
-ghost use Rattle.std.specs.Prelude.{◌≡◌, ◌+◌, ◌≤◌, ◌==◌, [], ◌∷◌, reverse, length, slice_get, option_copied, OnOk, OnErr, IfErr};
-ghost use Rattle.pipe_model.specs.History.{history};
+ghost use Rattle.std.specs.Prelude.{◌≡◌, ◌+◌, ◌<◌, ◌≤◌, ◌==◌, [], ◌∷◌, length, Some, option_copied, IsOk, IfOk, OnOk, OnErr, IfErr};
+ghost use Rattle.pipe_journal.specs.Readers.{step_at, payload_at, reply_at};
+ghost use Rattle.pipe_journal.specs.Views.{step_seen};
 
+use crate::entry::{Entry, Kept, pack};
+use crate::view::{StepView, view_entry};
+use pipe_types::bytes::Bytes;
+use pipe_types::message::Reply;
 use pipe_types::step::Step;
+use slab::Slab;
 use std::alloc::{AllocError, Global};
 use std::marker::Model;
 
 /// The steps so far.
-#[derive(Drop, Debug)]
+#[derive(Drop)]
 pub struct Journal {
-    steps: Vec<Step>,
+    entries: Vec<Entry>,
+    // The records, replies and outcomes of the entries, none of which is ever taken out.
+    store: Slab<Kept>,
+    alloc: Global,
 }
 
 impl Model for Journal {
-    ghost use Rattle.std.specs.Prelude.{◌-◌, vec_len, vec_capacity};
-    ghost use Rattle.pipe_model.specs.History.{history};
+    ghost use Rattle.std.specs.Prelude.{◌-◌, min, vec_len, vec_capacity};
+    ghost use Rattle.slab.specs.Slab.{slab_len};
     ghost use Rattle.pipe_journal.specs.Recorded.{Recorded};
+    ghost use Rattle.pipe_journal.specs.Entries.{IsSound, steps_of};
 
     ghost Value = { Recorded };
 
-    ghost view = { λ j. record { steps = history j.steps.items; spare = vec_capacity j.steps - vec_len j.steps } };
+    ghost view = { λ j. record {
+      steps = steps_of j.store j.entries.items;
+      spare = min (vec_capacity j.entries - vec_len j.entries) (j.store.capacity - slab_len j.store);
+    } };
+
+    ghost invariant = { λ j. IsSound j.store j.entries.items };
 }
 
 impl Journal {
@@ -29,7 +44,9 @@ impl Journal {
         ensures { result.steps ≡ [] }
     {
         Journal {
-            steps: Vec::new(alloc),
+            entries: Vec::new(alloc),
+            store: Slab::new(alloc),
+            alloc,
         }
     }
 
@@ -41,10 +58,11 @@ impl Journal {
         ensures spare { self.old.spare ≤ self.new.spare + 1 }
         ensures takes_spare { OnErr result (self.old.spare ≡ 0) }
     {
-        match self.steps.push(step) {
-            Ok(()) => Ok(()),
-            Err(refused) => Err((refused.value, AllocError)),
+        if let Err(error) = self.reserve(1) {
+            return Err((step, error));
         }
+        self.push_spare(step);
+        Ok(())
     }
 
     /// Makes room for that many further steps, which then take no memory.
@@ -52,8 +70,10 @@ impl Journal {
         ensures same_steps { self.new.steps ≡ self.old.steps }
         ensures spare { self.old.spare ≤ self.new.spare }
         ensures room { OnOk result (entries ≤ self.new.spare) }
+        ensures had_room { entries ≤ self.old.spare → IsOk result }
     {
-        self.steps.reserve(entries as usize)
+        self.entries.reserve(entries as usize)?;
+        self.store.reserve(entries as usize)
     }
 
     /// Writes the step into room that was made before.
@@ -62,37 +82,60 @@ impl Journal {
         ensures written { self.new.steps ≡ step ∷ self.old.steps }
         ensures spare { self.old.spare ≤ self.new.spare + 1 }
     {
-        self.steps.push_reserved(step);
+        let entry = pack(&mut self.store, step);
+        self.entries.push_reserved(entry);
     }
 
     /// The number of steps.
     pub fn len(&self) -> u64
         ensures { result ≡ length self.now.steps }
     {
-        self.steps.len() as u64
+        self.entries.len() as u64
     }
 
     pub fn is_empty(&self) -> bool
         ensures { result ≡ (length self.now.steps == 0) }
     {
-        self.steps.is_empty()
+        self.entries.is_empty()
     }
 
-    /// The step at that place from 0, the oldest first, and none past the end.
-    pub fn get(&self, at: u64) -> Option<&Step>
-        ensures { option_copied result ≡ slice_get (reverse self.now.steps) at }
+    /// A copy of the step at that place from 0, the oldest first, and none past the end.
+    pub fn get(&self, at: u64) -> Result<Option<Step>, AllocError>
+        ensures { IfOk result (λ found. found ≡ step_at self.now.steps at) }
     {
-        let place = at as usize;
-        if self.steps.len() <= place {
+        if self.len() <= at {
+            return Ok(None);
+        }
+        Ok(Some(self.view(at).to_step(self.alloc)?))
+    }
+
+    /// The step at that place from 0, the oldest first, with its lists lent.
+    pub fn view(&self, at: u64) -> StepView<'_>
+        requires { at < length self.now.steps }
+        ensures { step_at self.now.steps at ≡ Some (step_seen result) }
+    {
+        view_entry(&self.store, self.entries[at as usize])
+    }
+
+    /// The record at place `item` of the Accept or of the late answer at place `at`, both from 0, and none where no such
+    /// record is.
+    pub fn payload_at(&self, at: u64, item: u32) -> Option<&Bytes>
+        ensures { option_copied result ≡ payload_at self.now.steps at item }
+    {
+        if self.len() <= at {
             return None;
         }
-        Some(&self.steps[place])
+        self.view(at).records().get(item as usize)
     }
 
-    /// The steps, the oldest first.
-    pub fn as_slice(&self) -> &[Step]
-        ensures { history result.now ≡ self.now.steps }
+    /// The reply at place `item` of the Done at place `at`, both from 0, or of the ChildEnd there with `item` 0, and none
+    /// where no such reply is.
+    pub fn reply_at(&self, at: u64, item: u32) -> Option<&Reply>
+        ensures { option_copied result ≡ reply_at self.now.steps at item }
     {
-        self.steps.as_slice()
+        if self.len() <= at {
+            return None;
+        }
+        self.view(at).replies().get(item as usize)
     }
 }

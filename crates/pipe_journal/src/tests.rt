@@ -1,37 +1,341 @@
 //! A journal that is written and read.
 
 use crate::Journal;
-use pipe_types::step::Step;
+use pipe_types::bytes::{Bytes, BytesList};
+use pipe_types::message::{
+    BatchEnd, Message, Outcome, OutcomeList, Reply, ReplyList, Trigger, Why,
+};
+use pipe_types::numbers::{MsgNo, StageNo, SubNo};
+use pipe_types::reason::Reason;
+use pipe_types::step::{DrainCause, LateAnswer, SourceHow, Step};
+use std::alloc::{AllocError, Global};
+use std::process::Abort;
 
-/// The ticks that the journal holds, oldest first, and 0 for another step.
-fn tick_at(journal: &Journal, at: u64) -> Option<u64> {
-    match journal.get(at) {
-        Some(Step::Tick { now }) => Some(*now),
-        Some(_) => Some(0),
-        None => None,
+/// How many steps there are of all kinds, with each kind of late answer and of a batch's end.
+const KINDS: u64 = 25;
+
+fn bytes(alloc: Global, text: &[u8]) -> Result<Bytes, AllocError> {
+    Ok(Bytes::from_vec(Vec::from_slice(alloc, text)?))
+}
+
+fn records(alloc: Global, texts: &[&[u8]]) -> Result<BytesList, AllocError> {
+    let mut records = Vec::new(alloc);
+    for text in texts {
+        records.push(bytes(alloc, text)?)?;
+    }
+    Ok(BytesList::from_vec(records))
+}
+
+fn passed(alloc: Global, payload: &[u8]) -> Result<Reply, AllocError> {
+    Ok(Reply::Pass(Message {
+        no: MsgNo(3),
+        producer: StageNo(1),
+        payload: bytes(alloc, payload)?,
+        batcher: 1,
+        key: bytes(alloc, b"key")?,
+        flush: true,
+    }))
+}
+
+fn failed() -> Reply {
+    match Reason::new(b"require") {
+        Some(why) => Reply::Failed(why),
+        None => Reply::Crashed,
+    }
+}
+
+fn replies(alloc: Global) -> Result<ReplyList, AllocError> {
+    let mut replies = Vec::new(alloc);
+    replies.push(passed(alloc, b"abc")?)?;
+    replies.push(failed())?;
+    replies.push(Reply::Crashed)?;
+    Ok(ReplyList::from_vec(replies))
+}
+
+fn outcomes(alloc: Global) -> Result<BatchEnd, AllocError> {
+    let mut outcomes = Vec::new(alloc);
+    outcomes.push(Outcome::Successful)?;
+    if let Some(why) = Reason::new(b"sink") {
+        outcomes.push(Outcome::Failed(why))?;
+    }
+    Ok(BatchEnd::Outcomes(OutcomeList::from_vec(outcomes)))
+}
+
+fn sub() -> SubNo {
+    SubNo {
+        consumer: StageNo(2),
+        producer: StageNo(1),
+        generation: 4,
+    }
+}
+
+/// The answers of a killed incarnation, by number.
+fn late(alloc: Global, kind: u64) -> Result<LateAnswer, AllocError> {
+    Ok(match kind {
+        0 => LateAnswer::Records(records(alloc, &[b"late"])?),
+        1 => LateAnswer::Quiet,
+        2 => LateAnswer::Source(SourceHow::Fault),
+        3 => LateAnswer::Wrote(8, outcomes(alloc)?),
+        _ => LateAnswer::Nothing,
+    })
+}
+
+/// The steps with no list, by number.
+fn plain(kind: u64) -> Step {
+    let stage = StageNo(2);
+    let no = MsgNo(5);
+    match kind {
+        0 => Step::Ask { sub: sub(), n: 10 },
+        1 => Step::Fetch { stage, n: 9 },
+        3 => Step::Quiet { stage },
+        4 => Step::SourceEnd {
+            stage,
+            how: SourceHow::TooLong,
+        },
+        5 => Step::Dispatch { stage },
+        6 => Step::Take {
+            stage,
+            sub: sub(),
+            k: 7,
+        },
+        8 => Step::Gather { stage, no },
+        9 => Step::Close {
+            stage,
+            first: no,
+            trigger: Trigger::Timeout,
+        },
+        11 => Step::Child { stage, no, slot: 6 },
+        13 => Step::Kill {
+            stage,
+            why: Why::Cancelled(sub()),
+        },
+        15 => Step::Restart { stage },
+        16 => Step::Tick { now: 11 },
+        17 => Step::Drain {
+            cause: DrainCause::Idle,
+        },
+        18 => Step::Halt,
+        _ => Step::Refuse { line: 12 },
+    }
+}
+
+/// The steps of all kinds, by number.
+fn step(alloc: Global, kind: u64) -> Result<Step, AllocError> {
+    let stage = StageNo(2);
+    let slot = 6;
+    Ok(match kind {
+        2 => Step::Accept {
+            stage,
+            records: records(alloc, &[b"x", b"", b"yz"])?,
+        },
+        7 => Step::Done {
+            stage,
+            replies: replies(alloc)?,
+        },
+        10 => Step::Wrote {
+            stage,
+            bytes: 13,
+            end: outcomes(alloc)?,
+        },
+        12 => Step::ChildEnd {
+            stage,
+            slot,
+            reply: passed(alloc, b"child")?,
+        },
+        14 => Step::Wrote {
+            stage,
+            bytes: 14,
+            end: BatchEnd::Crashed,
+        },
+        20..25 => Step::Late {
+            stage,
+            slot,
+            incarnation: 15,
+            answer: late(alloc, kind - 20)?,
+        },
+        kind => plain(kind),
+    })
+}
+
+fn written(alloc: Global) -> Result<Journal, AllocError> {
+    let mut journal = Journal::new(alloc);
+    for kind in 0..KINDS {
+        match journal.push(step(alloc, kind)?) {
+            Ok(()) => {}
+            Err((_, error)) => return Err(error),
+        }
+    }
+    Ok(journal)
+}
+
+/// The text of the step at that place, or `none`.
+fn told(alloc: Global, journal: &Journal, at: u64) -> Result<String, AllocError> {
+    match journal.get(at)? {
+        Some(step) => format!(in alloc; "{step:?}"),
+        None => String::from_str(alloc, "none"),
     }
 }
 
 #[test]
-fn steps_are_read_in_the_order_of_writing(rt: HostRuntime) {
-    let mut journal = Journal::new(rt.alloc());
-    assert!(rt; journal.is_empty());
-    assert!(rt; journal.push(Step::Tick { now: 7 }).is_ok());
-    assert!(rt; journal.reserve(3).is_ok());
-    assert!(rt; journal.push(Step::Halt).is_ok());
-    assert!(rt; journal.push(Step::Tick { now: 9 }).is_ok());
+fn each_kind_of_step_comes_back_as_it_was(rt: HostRuntime) -> Result<(), AllocError> {
+    let alloc = rt.alloc();
+    let journal = written(alloc)?;
+    assert_eq!(rt; journal.len(), KINDS);
+    assert!(rt; !journal.is_empty());
+    for at in 0..KINDS {
+        let step = step(alloc, at)?;
+        let want = format!(in alloc; "{step:?}")?;
+        let got = told(alloc, &journal, at)?;
+        assert_eq!(rt; got.as_str(), want.as_str(), "at {at}");
+    }
+    assert_eq!(rt; told(alloc, &journal, KINDS)?.as_str(), "none");
+    Ok(())
+}
+
+/// A place, an item, and the record there.
+static PAYLOADS: [(u64, u32, Option<&[u8]>); 10] = [
+    (2, 0, Some(b"x")),
+    (2, 1, Some(b"")),
+    (2, 2, Some(b"yz")),
+    (2, 3, None),
+    (20, 0, Some(b"late")),
+    (20, 1, None),
+    (1, 0, None),
+    (7, 0, None),
+    (21, 0, None),
+    (25, 0, None),
+];
+
+/// A place, an item, and the reply there in short.
+static REPLIES: [(u64, u32, &str); 9] = [
+    (7, 0, "abc"),
+    (7, 1, "failed"),
+    (7, 2, "crashed"),
+    (7, 3, "none"),
+    (12, 0, "child"),
+    (12, 1, "none"),
+    (2, 0, "none"),
+    (20, 0, "none"),
+    (25, 0, "none"),
+];
+
+fn in_short(reply: Option<&Reply>) -> &str {
+    match reply {
+        Some(Reply::Pass(message)) => str::from_utf8(message.payload.as_slice()).unwrap_or(
+            "no text",
+        ),
+        Some(Reply::Failed(_)) => "failed",
+        Some(Reply::Raised(_)) => "raised",
+        Some(Reply::Crashed) => "crashed",
+        None => "none",
+    }
+}
+
+#[test]
+fn records_and_replies_are_lent_by_their_places(rt: HostRuntime) -> Result<(), AllocError> {
+    let journal = written(rt.alloc())?;
+    for (at, item, want) in &PAYLOADS {
+        let got = journal
+            .payload_at(*at, *item)
+            .map(|record| record.as_slice());
+        assert!(rt; got == *want, "record {item} at {at}");
+    }
+    for (at, item, want) in &REPLIES {
+        assert_eq!(rt;
+            in_short(journal.reply_at(*at, *item)),
+            *want,
+            "reply {item} at {at}"
+        );
+    }
+    Ok(())
+}
+
+/// The number of a tick, and 0 of another step.
+fn tick(step: &Step) -> u64 {
+    match step {
+        Step::Tick { now } => *now,
+        _ => 0,
+    }
+}
+
+#[test]
+fn room_for_three_takes_three(rt: HostRuntime) -> Result<(), AllocError> {
+    let alloc = rt.alloc();
+    let mut journal = Journal::new(alloc);
+    let first = records(alloc, &[b"first"])?;
+    let second = records(alloc, &[b"second"])?;
+    let stage = StageNo(1);
+    journal.reserve(3)?;
+    journal.push_spare(Step::Accept {
+        stage,
+        records: first,
+    });
+    journal.push_spare(Step::Tick { now: 5 });
+    journal.push_spare(Step::Accept {
+        stage,
+        records: second,
+    });
     assert_eq!(rt; journal.len(), 3);
-    assert_eq!(rt; journal.as_slice().len(), 3);
-    for (at, tick) in [(0, Some(7)), (1, Some(0)), (2, Some(9)), (3, None)] {
-        assert_eq!(rt; tick_at(&journal, at), tick, "at {at}");
+    assert_eq!(rt; journal.get(1)?.map_or(0, |step| tick(&step)), 5);
+    assert!(rt;
+        journal
+            .payload_at(2, 0)
+            .is_some_and(|record| record.as_slice() == b"second".as_slice())
+    );
+    Ok(())
+}
+
+/// Whether it is the step that a push of `want` in place of a record got back.
+fn brings(step: &Step, want: &[u8]) -> bool {
+    match step {
+        Step::Accept { records, .. } => match records.as_slice() {
+            [record] => record.as_slice() == want,
+            _ => false,
+        },
+        _ => false,
     }
 }
 
-#[test]
-fn room_that_was_made_takes_a_step(rt: HostRuntime) {
-    let mut journal = Journal::new(rt.alloc());
-    if journal.reserve(1).is_ok() {
-        journal.push_spare(Step::Tick { now: 5 });
+/// Pushes an Accept of one record. Where memory is wanting, the step must come back and the journal must be as before,
+/// and it is pushed again.
+fn push_checked(
+    rt: &impl Abort,
+    alloc: Global,
+    journal: &mut Journal,
+    text: &[u8],
+) -> Result<(), AllocError> {
+    let before = journal.len();
+    let step = Step::Accept {
+        stage: StageNo(1),
+        records: records(alloc, &[text])?,
+    };
+    if let Err((step, _)) = journal.push(step) {
+        assert!(rt; brings(&step, text));
+        assert_eq!(rt; journal.len(), before);
+        assert!(rt; journal.push(step).is_ok());
     }
-    assert_eq!(rt; tick_at(&journal, 0), Some(5));
+    assert_eq!(rt; journal.len(), before + 1);
+    Ok(())
+}
+
+// Run with one allocation after another failing, this meets each request of a push.
+#[test]
+fn a_push_without_memory_gives_the_step_back(rt: HostRuntime) {
+    let mut journal = Journal::new(rt.alloc());
+    for text in ["one", "two", "three", "four", "five"] {
+        if push_checked(&rt, rt.alloc(), &mut journal, text.as_bytes()).is_err() {
+            return;
+        }
+    }
+    assert_eq!(rt; journal.len(), 5);
+    assert!(rt;
+        journal
+            .payload_at(0, 0)
+            .is_some_and(|record| record.as_slice() == b"one".as_slice())
+    );
+    assert!(rt;
+        journal
+            .payload_at(4, 0)
+            .is_some_and(|record| record.as_slice() == b"five".as_slice())
+    );
 }

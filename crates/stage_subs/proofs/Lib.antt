@@ -1,2 +1,3 @@
 pub mod Ledger
+pub mod Places
 pub mod Rows

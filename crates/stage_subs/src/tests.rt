@@ -1,7 +1,12 @@
 //! The worked examples, and the limit.
 
-use crate::exits;
+ghost use Rattle.std.specs.Prelude.{◌≡◌, ◌+◌, ◌/◌, ◌%◌, ◌<◌, [], None};
+ghost use Rattle.pipe_types.specs.Numbers.{stage};
+ghost use Rattle.stage_subs.specs.Subs.{row_at};
+
+use crate::{Subs, SubsFault, exits};
 use pipe_types::message::Why;
+use pipe_types::numbers::{StageNo, SubNo};
 use pipe_types::topology::CancelMode;
 
 static CANCELS: [(CancelMode, Why, bool); 9] = [
@@ -21,4 +26,42 @@ fn cancel_modes(rt: HostRuntime) {
     for (mode, why, is_killed) in &CANCELS {
         assert_eq!(rt; exits(*mode, *why), *is_killed);
     }
+}
+
+// The first subscription of a pair, by its place: 64 producers for each consumer from 1.
+fn sub_at(place: u16) -> SubNo
+    ensures consumer { result.consumer ≡ stage (1 + place / 64) }
+    ensures producer { result.producer ≡ stage (1 + place % 64) }
+{
+    SubNo {
+        consumer: StageNo(1 + place / 64),
+        producer: StageNo(1 + place % 64),
+        generation: 1,
+    }
+}
+
+// Adds a subscription for each pair until one is refused. Answers how many were added, and why no more.
+fn fill(subs: &mut Subs) -> (u16, Option<SubsFault>)
+    requires { subs.old ≡ [] }
+{
+    for place in 0..4_096 {
+        let sub = sub_at(place);
+        if let Err(fault) = subs.add(sub.consumer, sub.producer, 5, 10) {
+            return (place, Some(fault));
+        }
+    }
+    (4_096, None)
+}
+
+#[test]
+fn no_more_than_may_be_live(rt: HostRuntime) {
+    let mut subs = Subs::new(rt.alloc());
+    assert_eq!(rt; fill(&mut subs), (2_048, Some(SubsFault::Full)));
+    for place in 0..2_048 {
+        let sub = sub_at(place);
+        assert_eq!(rt; subs.live_of(sub.consumer, sub.producer), Some(sub));
+        assert_eq!(rt; (subs.due(sub), subs.room_of(sub)), (10, 0));
+    }
+    let sub = sub_at(2_048);
+    assert_eq!(rt; subs.live_of(sub.consumer, sub.producer), None);
 }

@@ -1,6 +1,7 @@
 -- The logbook: reading its journal from the oldest step on, and adding one step.
-use Rattle.std.proofs.Common.{◌≡◌, ◌≢◌, Bool, true, false, not, ◌&&◌, ◌||◌, List, [], ◌∷◌, ◌++◌, reverse, fold, All, refl, sym, ap, ◌∙◌, Some, append_assoc}
-use Rattle.std.proofs.lemmas.List.{append-nil, reverse-append}
+use Rattle.std.proofs.Common.{◌≡◌, ◌≢◌, ℕ, ◌+◌, Bool, true, false, List, [], ◌∷◌, ◌++◌, length, take, reverse, refl, sym, ap, ◌∙◌, Some, append_assoc}
+use Rattle.std.specs.List.{slice_get}
+use Rattle.std.proofs.lemmas.List.{reverse-append, reverse-reverse}
 use Rattle.std.proofs.lemmas.List.Elements.{All-nil, All-cons}
 use Rattle.std.proofs.lemmas.Bool.{eqb-true, and_parts}
 use Rattle.pipe_types.specs.declared.numbers.Post.{Post}
@@ -11,15 +12,20 @@ use Rattle.pipe_types.specs.Numbers.{post, same_post}
 use Rattle.pipe_model.specs.History.{History}
 use Rattle.pipe_model.specs.Begins.{BeginsWith}
 use Rattle.pipe_model.specs.Posts.{answers, is_out}
+use Rattle.pipe_journal.proofs.Walks.{one_more, whole}
 use Rattle.pipeline_turn.specs.Jobs.{IsUnanswered}
 use Rattle.turn_checks.specs.Logged.{out_next}
 
-out_on : (steps : List Step) (before : History) (p : Post) → fold (out_next p) (is_out before p) steps ≡ is_out (reverse steps ++ before) p
-out_on [] before p = refl
-out_on (x ∷ steps) before p = out_on steps (x ∷ before) p ∙ ap (λ (z : History). is_out z p) (sym (append_assoc (reverse steps) (x ∷ []) before) ∙ ap (λ (z : History). z ++ before) (sym (reverse-append (x ∷ []) steps)))
+-- after one more step of the journal
+pub out_more : (steps : History) (i : ℕ) (x : Step) (p : Post) (now next : Bool) → slice_get (reverse steps) i ≡ Some x
+    → now ≡ is_out (reverse (take i (reverse steps))) p → next ≡ out_next p now x → next ≡ is_out (reverse (take (i + 1) (reverse steps))) p
+out_more steps i x p now next is so_far after =
+    after ∙ ap (λ b. out_next p b x) so_far
+    ∙ sym (ap (λ (z : History). is_out z p) (ap reverse (one_more (reverse steps) i x is) ∙ reverse-append (take i (reverse steps)) (x ∷ [])))
 
-pub out_from_oldest : (steps : List Step) (p : Post) → fold (out_next p) false steps ≡ is_out (reverse steps) p
-out_from_oldest steps p = out_on steps [] p ∙ ap (λ (z : History). is_out z p) (append-nil (reverse steps))
+-- after all of them
+pub out_whole : (n : ℕ) (steps : History) (p : Post) (now : Bool) → n ≡ length steps → now ≡ is_out (reverse (take n (reverse steps))) p → now ≡ is_out steps p
+out_whole n steps p now is so_far = so_far ∙ ap (λ (z : History). is_out z p) (ap reverse (whole n steps is) ∙ reverse-reverse steps)
 
 same_true : (a b : Post) → same_post a b ≡ true → a ≡ b
 same_true a b e =

@@ -1,16 +1,17 @@
 //! A journal alone, as a value that seats hand about.
-ghost use Rattle.std.specs.Prelude.{◌≡◌, ◌≢◌, IfSome, Some, None, true, fold, false};
+ghost use Rattle.std.specs.Prelude.{◌≡◌, ◌≢◌, IfSome, Some, None, true};
 ghost use Rattle.pipe_types.specs.declared.numbers.Post.{Post};
 ghost use Rattle.pipe_model.specs.Begins.{BeginsWith};
 ghost use Rattle.pipe_model.specs.Posts.{answers, puts_out, is_out};
 ghost use Rattle.pipe_types.specs.Numbers.{same_post, post as post_of};
+ghost use Rattle.pipe_journal.specs.Views.{step_seen};
 ghost use Rattle.turn_checks.specs.Logged.{out_next};
 ghost use Rattle.pipeline_turn.specs.Jobs.{IsUnanswered, IsOwnJob};
 
-use pipeline_turn::Held;
-use pipe_journal::Journal;
+use pipe_journal::{Journal, StepView};
 use pipe_types::numbers::{Post, StageNo};
 use pipe_types::step::Step;
+use pipeline_turn::Held;
 use std::collections::LinkedList;
 
 /// What a logbook began as. No value of it is made.
@@ -48,39 +49,48 @@ fn is_slot(post: Post, stage: StageNo, slot: u16) -> bool
     post.stage.0 == stage.0 && post.slot == slot
 }
 
-fn puts_out(step: &Step, post: Post) -> bool
-    ensures { result ≡ puts_out step.now post }
+fn puts_out(step: StepView<'_>, post: Post) -> bool
+    ensures { result ≡ puts_out (step_seen step.entry) post }
 {
     match step {
-        Step::Fetch { stage, .. } | Step::Take { stage, .. } => is_first(post, *stage),
-        Step::Child { stage, slot, .. } => is_slot(post, *stage, *slot),
+        StepView::Fetch { stage, .. } | StepView::Take { stage, .. } => is_first(post, stage),
+        StepView::Child { stage, slot, .. } => is_slot(post, stage, slot),
         _ => false,
     }
 }
 
-fn answers(step: &Step, post: Post) -> bool
-    ensures { result ≡ answers step.now post }
+fn answers(step: StepView<'_>, post: Post) -> bool
+    ensures { result ≡ answers (step_seen step.entry) post }
 {
     match step {
-        Step::Accept { stage, .. }
-        | Step::Quiet { stage }
-        | Step::Done { stage, .. }
-        | Step::Wrote { stage, .. } => is_first(post, *stage),
-        Step::SourceEnd { stage, .. } => stage.0 != 0 && is_first(post, *stage),
-        Step::ChildEnd { stage, slot, .. } | Step::Late { stage, slot, .. } => {
-            is_slot(post, *stage, *slot)
+        StepView::Accept { stage, .. }
+        | StepView::Quiet { stage }
+        | StepView::Done { stage, .. }
+        | StepView::Wrote { stage, .. } => is_first(post, stage),
+        StepView::SourceEnd { stage, .. } => stage.0 != 0 && is_first(post, stage),
+        StepView::ChildEnd { stage, slot, .. } | StepView::Late { stage, slot, .. } => {
+            is_slot(post, stage, slot)
         }
         _ => false,
     }
 }
 
-/// Whether the post is out after these steps, which stand oldest first.
-fn out_after(steps: &[Step], post: Post) -> bool
-    ensures { result ≡ fold (out_next post) false steps.now }
+/// Whether the post is out after the step, where `before` says whether it was.
+fn is_out_next(step: StepView<'_>, post: Post, before: bool) -> bool
+    ensures { result ≡ out_next post before (step_seen step.entry) }
 {
-    steps.iter().fold(false, |before, step| {
-        puts_out(step, post) || (!answers(step, post) && before)
-    })
+    puts_out(step, post) || (!answers(step, post) && before)
+}
+
+/// Whether the post is out after the steps of the journal.
+fn is_out_after(journal: &Journal, post: Post) -> bool
+    ensures { result ≡ is_out journal.now.steps post }
+{
+    let mut out = false;
+    for at in 0..journal.len() {
+        out = is_out_next(journal.view(at), post, out);
+    }
+    out
 }
 
 impl Held for Logbook {
@@ -97,7 +107,7 @@ impl Held for Logbook {
     }
 
     fn is_out(&self, post: Post) -> bool {
-        out_after(self.journal.as_slice(), post)
+        is_out_after(&self.journal, post)
     }
 }
 

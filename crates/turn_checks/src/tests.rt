@@ -1,8 +1,7 @@
 //! The turn in threads, with 2 and 16 seats.
 
 use crate::{Logbook, run, tick_both};
-use pipe_journal::Journal;
-use pipe_types::step::Step;
+use pipe_journal::{Journal, StepView};
 use pipeline_turn::Turn;
 use std::sync::atomic::{AtomicU64, Ordering};
 use std::test::Fail;
@@ -13,16 +12,16 @@ const ROUNDS: u32 = 50;
 fn is_whole(journal: &Journal, seats: u16) -> bool {
     let mut rounds = [0u32; 16];
     let mut out = [false; 16];
-    for step in journal.as_slice() {
-        match step {
-            Step::Fetch { stage, .. } if 1 <= stage.0 && stage.0 <= 16 => {
+    for at in 0..journal.len() {
+        match journal.view(at) {
+            StepView::Fetch { stage, .. } if 1 <= stage.0 && stage.0 <= 16 => {
                 let at = usize::from(stage.0 - 1);
                 if out[at] {
                     return false;
                 }
                 out[at] = true;
             }
-            Step::Quiet { stage } if 1 <= stage.0 && stage.0 <= 16 => {
+            StepView::Quiet { stage } if 1 <= stage.0 && stage.0 <= 16 => {
                 let at = usize::from(stage.0 - 1);
                 if !out[at] {
                     return false;
@@ -48,8 +47,11 @@ fn is_kept(journal: &Journal, lengths: &[AtomicU64]) -> bool {
     for length in lengths {
         stage = stage.saturating_add(1);
         let last = length.load(Ordering::SeqCst).saturating_sub(1);
-        match journal.get(last) {
-            Some(Step::Quiet { stage: of }) if of.0 == stage => {}
+        if journal.len() <= last {
+            return false;
+        }
+        match journal.view(last) {
+            StepView::Quiet { stage: of } if of.0 == stage => {}
             _ => return false,
         }
     }

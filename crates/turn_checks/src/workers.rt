@@ -5,8 +5,8 @@ ghost use Rattle.pipe_model.specs.Begins.{BeginsWith};
 ghost use Rattle.pipeline_turn.specs.Seats.{IsIdle, IsSameSeat};
 
 use crate::logbook::{Logbook, Logs};
-use pipeline_turn::{Seat, Turn};
 use pipe_types::numbers::{Post, StageNo};
+use pipeline_turn::{Seat, Turn};
 use std::alloc::{AllocError, Global};
 use std::sync::Wait;
 use std::sync::atomic::{AtomicU64, Ordering};
@@ -180,4 +180,3 @@ pub fn run<H: Logs + Send, R: Threads + Wait + Sync>(
     let seat = all(rt, &turn, seat, seats - 1, rounds, lengths);
     Ok(turn.finish(seat))
 }
-

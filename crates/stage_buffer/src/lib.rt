@@ -1,0 +1,331 @@
+//! The units that wait in a stage, each with its part, in order of arrival.
+//!
+//! A contract sees the list of (part, unit) with the number of parts, the size and which end is kept, for each part how
+//! many units it takes without more memory, and how many units ever arrived. `push` alone lowers a `spare`, that of its
+//! part by at most 1. `new`, `reserve` and `parts` alone take memory.
+#![tactic(auto)]
+
+ghost use Rattle.std.specs.Prelude.{◌≡◌, ℕ, ◌+◌, ◌-◌, ◌<◌, ◌≤◌, ◌^◌, ◌++◌, ◌∷◌, [], length, take, drop, option_map, slice_get, option_copied, OnOk, IfOk, OnErr, IfSome, IsNone, if◌then◌else◌, ◌==◌};
+ghost use Rattle.stage_buffer.specs.Waiting.{Waiting, units_of_part, without_first, spare_of, end_of, without_end, over_unit, without_over, KeepsShape, KeepsSpare};
+ghost use Rattle.stage_buffer.specs.Order.{Orders, Becomes, HoldsSame, KeepsRoom, AreBelow, IsEarliest, IsLatest, entry, in_order, items_at, spare_at, remove, unit_of, unit_in, number_of, front_at, back_at, earlier_of, later_of};
+
+use circular_buffer::HeapCircularBuffer;
+use pipe_types::topology::Keep;
+use std::alloc::{AllocError, Global};
+use std::marker::Model;
+
+/// A unit with the number of its arrival.
+#[derive(Drop, Debug)]
+struct Arrived<T> {
+    at: u64,
+    unit: T,
+}
+
+/// The units that wait, in order of arrival.
+#[derive(Drop)]
+pub struct Buffer<T> {
+    rings: Vec<HeapCircularBuffer<Arrived<T>>>,
+    size: Option<u32>,
+    keep: Keep,
+    len: u32,
+    arrived: u64,
+}
+
+impl<T> Model for Buffer<T> {
+    ghost use Rattle.stage_buffer.specs.Waiting.{Waiting, waiting_code};
+
+    ghost Value = { Waiting T };
+
+    ghost coded = { waiting_code T.code };
+
+    ghost use Rattle.stage_buffer.specs.Order.{waiting_of, IsOrdered};
+
+    ghost view = { λ b. waiting_of b.rings.items b.size b.keep b.arrived };
+
+    ghost invariant = { λ b. IsOrdered b.rings.items b.len b.arrived };
+}
+
+impl<T: Drop> Buffer<T> {
+    /// No unit, for this many parts. Of more units than `size` those at the other end than `keep` are over it.
+    pub fn new(alloc: Global, parts: u32, size: Option<u32>, keep: Keep) -> Result<Self, AllocError>
+        ensures empty { IfOk result (λ b. b.units ≡ []) }
+        ensures parts { IfOk result (λ b. b.parts ≡ parts) }
+        ensures size { IfOk result (λ b. b.size ≡ size) }
+        ensures keep { IfOk result (λ b. b.keep ≡ keep) }
+        ensures arrived { IfOk result (λ b. b.arrived ≡ 0) }
+    {
+        let mut rings = Vec::with_capacity(alloc, parts as usize)?;
+        for part in 0..parts {
+            let ring = HeapCircularBuffer::with_capacity(alloc, 0)?;
+            rings.push(ring)?;
+        }
+        Ok(Buffer {
+            rings,
+            size,
+            keep,
+            len: 0,
+            arrived: 0,
+        })
+    }
+
+    /// Makes room for `n` more units of a part.
+    pub fn reserve(&mut self, part: u32, n: u32) -> Result<(), AllocError>
+        requires { part < self.old.parts }
+        ensures room { OnOk result (n ≤ spare_of self.new part) }
+        ensures spare { KeepsSpare self.old self.new }
+        ensures units { self.new.units ≡ self.old.units }
+        ensures arrived { self.new.arrived ≡ self.old.arrived }
+        ensures shape { KeepsShape self.old self.new }
+        ensures refused { OnErr result (self.new ≡ self.old) }
+    {
+        grow(&mut self.rings, part as usize, n as usize)
+    }
+
+    /// Adds a unit of a part behind all others. There is room for it.
+    pub fn push(&mut self, part: u32, unit: T)
+        requires spare { 1 ≤ spare_of self.old part }
+        requires few { length self.old.units < 2 ^ 32 - 1 }
+        requires numbers { self.old.arrived < 2 ^ 64 - 1 }
+        ensures units { self.new.units ≡ self.old.units ++ (part, unit) ∷ [] }
+        ensures spare { (p : ℕ) → spare_of self.old p ≤ spare_of self.new p + (if p == part then 1 else 0) }
+        ensures arrived { self.new.arrived ≡ self.old.arrived + 1 }
+        ensures shape { KeepsShape self.old self.new }
+    {
+        let arrived = Arrived {
+            at: self.arrived,
+            unit,
+        };
+        put(&mut self.rings, part as usize, arrived);
+        self.len += 1;
+        self.arrived += 1;
+    }
+
+    /// The unit at a place, from 0, among those of a part.
+    pub fn get(&self, part: u32, at: u32) -> Option<&T>
+        ensures { option_copied result ≡ slice_get (units_of_part part self.now.units) at }
+    {
+        unit(find(&self.rings, part as usize, at as usize))
+    }
+
+    /// The first unit of a part.
+    pub fn front(&self, part: u32) -> Option<&T>
+        ensures { option_copied result ≡ slice_get (units_of_part part self.now.units) 0 }
+    {
+        self.get(part, 0)
+    }
+
+    /// How many units wait.
+    pub fn len(&self) -> u32
+        ensures { result ≡ length self.now.units }
+    {
+        self.len
+    }
+
+    /// Whether no unit waits.
+    pub fn is_empty(&self) -> bool
+        ensures { result ≡ (length self.now.units == 0) }
+    {
+        self.len == 0
+    }
+
+    /// Takes the first unit of a part out.
+    pub fn take(&mut self, part: u32) -> Option<T>
+        ensures unit { result ≡ slice_get (units_of_part part self.old.units) 0 }
+        ensures units { self.new.units ≡ without_first part self.old.units }
+        ensures spare { KeepsSpare self.old self.new }
+        ensures arrived { self.new.arrived ≡ self.old.arrived }
+        ensures shape { KeepsShape self.old self.new }
+    {
+        let arrived = pop_first(&mut self.rings, part as usize)?;
+        self.len -= 1;
+        Some(arrived.unit)
+    }
+
+    /// Takes a unit that is over the size out: the oldest one where the last are kept, the newest one where the first
+    /// are. Answers none where no more units wait than the size, or there is no size.
+    pub fn over(&mut self) -> Option<T>
+        ensures unit { result ≡ over_unit self.old }
+        ensures units { self.new.units ≡ without_over self.old }
+        ensures spare { KeepsSpare self.old self.new }
+        ensures arrived { self.new.arrived ≡ self.old.arrived }
+        ensures shape { KeepsShape self.old self.new }
+    {
+        let size = self.size?;
+        if self.len <= size {
+            return None;
+        }
+        let arrived = pop_end(&mut self.rings, self.keep)?;
+        self.len -= 1;
+        Some(arrived.unit)
+    }
+}
+
+/// The unit of an arrival.
+fn unit<T>(arrived: Option<&Arrived<T>>) -> Option<&T>
+    ensures { option_copied result ≡ option_map unit_of (option_copied arrived.entry) }
+{
+    match arrived {
+        Some(arrived) => Some(&arrived.unit),
+        None => None,
+    }
+}
+
+/// What stands at a place of a ring.
+fn find<T>(rings: &[HeapCircularBuffer<Arrived<T>>], part: usize, at: usize) -> Option<&Arrived<T>>
+    ensures { option_copied result ≡ slice_get (items_at rings.now part) at }
+{
+    if part >= rings.len() {
+        return None;
+    }
+    let ring = &rings[part];
+    ring.get(at)
+}
+
+/// Makes room for `n` more units in a ring, at least twice as much as there was where there was less.
+fn grow<T: Drop>(
+    rings: &mut Vec<HeapCircularBuffer<Arrived<T>>>,
+    part: usize,
+    n: usize,
+) -> Result<(), AllocError>
+    requires within { part < length rings.old.items }
+    requires few { n < 2 ^ 32 }
+    ensures same { HoldsSame rings.old.items rings.new.items }
+    ensures room { OnOk result (n ≤ spare_at rings.new.items part) }
+    ensures refused { OnErr result (rings.new.items ≡ rings.old.items) }
+{
+    let ring = &mut rings[part];
+    let len = ring.len();
+    let capacity = ring.capacity();
+    if capacity - len < n {
+        ring.resize((len + n).max(2 * capacity))?;
+    }
+    Ok(())
+}
+
+/// Puts a unit into a ring, behind the others. There is room for it.
+fn put<T: Drop>(rings: &mut Vec<HeapCircularBuffer<Arrived<T>>>, part: usize, arrived: Arrived<T>)
+    requires room { 1 ≤ spare_at rings.old.items part }
+    requires orders { Orders rings.old.items (in_order 0 rings.old.items) }
+    requires last { AreBelow arrived.at (in_order 0 rings.old.items) }
+    ensures came { Becomes rings.old.items rings.new.items (in_order 0 rings.old.items ++ entry part arrived ∷ []) }
+    ensures spare { (p : ℕ) → spare_at rings.old.items p ≤ spare_at rings.new.items p + (if p == part then 1 else 0) }
+{
+    let ring = &mut rings[part];
+    let _ = ring.push_back(arrived);
+}
+
+/// Takes the first unit out of a ring.
+fn pop_first<T: Drop>(
+    rings: &mut Vec<HeapCircularBuffer<Arrived<T>>>,
+    part: usize,
+) -> Option<Arrived<T>>
+    requires orders { Orders rings.old.items (in_order 0 rings.old.items) }
+    ensures unit { result ≡ slice_get (items_at rings.old.items part) 0 }
+    ensures went { Becomes rings.old.items rings.new.items (remove part (in_order 0 rings.old.items)) }
+    ensures spare { KeepsRoom rings.old.items rings.new.items }
+{
+    if part >= rings.len() {
+        return None;
+    }
+    let ring = &mut rings[part];
+    ring.pop_front()
+}
+
+/// Takes the unit out that is the first one over a size: the oldest of all, or the newest of all.
+fn pop_end<T: Drop>(
+    rings: &mut Vec<HeapCircularBuffer<Arrived<T>>>,
+    keep: Keep,
+) -> Option<Arrived<T>>
+    requires orders { Orders rings.old.items (in_order 0 rings.old.items) }
+    ensures unit { option_map unit_of result ≡ option_map unit_in (end_of keep (in_order 0 rings.old.items)) }
+    ensures went { Becomes rings.old.items rings.new.items (without_end keep (in_order 0 rings.old.items)) }
+    ensures spare { KeepsRoom rings.old.items rings.new.items }
+{
+    match keep {
+        Keep::Last => pop_oldest(rings),
+        Keep::First => pop_newest(rings),
+    }
+}
+
+/// Takes the unit out that came first of all.
+fn pop_oldest<T: Drop>(rings: &mut Vec<HeapCircularBuffer<Arrived<T>>>) -> Option<Arrived<T>>
+    requires orders { Orders rings.old.items (in_order 0 rings.old.items) }
+    ensures unit { option_map unit_of result ≡ option_map unit_in (slice_get (in_order 0 rings.old.items) 0) }
+    ensures went { Becomes rings.old.items rings.new.items (drop 1 (in_order 0 rings.old.items)) }
+    ensures spare { KeepsRoom rings.old.items rings.new.items }
+{
+    let (part, _) = oldest(rings)?;
+    let ring = &mut rings[part];
+    ring.pop_front()
+}
+
+/// Takes the unit out that came last of all.
+fn pop_newest<T: Drop>(rings: &mut Vec<HeapCircularBuffer<Arrived<T>>>) -> Option<Arrived<T>>
+    requires orders { Orders rings.old.items (in_order 0 rings.old.items) }
+    ensures unit { option_map unit_of result
+        ≡ option_map unit_in (slice_get (in_order 0 rings.old.items) (length (in_order 0 rings.old.items) - 1)) }
+    ensures went { Becomes rings.old.items rings.new.items
+        (take (length (in_order 0 rings.old.items) - 1) (in_order 0 rings.old.items)) }
+    ensures spare { KeepsRoom rings.old.items rings.new.items }
+{
+    let (part, _) = newest(rings)?;
+    let ring = &mut rings[part];
+    ring.pop_back()
+}
+
+/// The ring whose front came first, with the number of its arrival.
+fn oldest<T>(rings: &[HeapCircularBuffer<Arrived<T>>]) -> Option<(usize, u64)>
+    ensures { IsEarliest (front_at rings.now) (length rings.now) result }
+{
+    let mut found = None;
+    for (part, ring) in rings.iter().enumerate() {
+        found = earlier(found, part, number(ring.front()));
+    }
+    found
+}
+
+/// The ring whose end came last, with the number of its arrival.
+fn newest<T>(rings: &[HeapCircularBuffer<Arrived<T>>]) -> Option<(usize, u64)>
+    ensures { IsLatest (back_at rings.now) (length rings.now) result }
+{
+    let mut found = None;
+    for (part, ring) in rings.iter().enumerate() {
+        found = later(found, part, number(ring.back()));
+    }
+    found
+}
+
+/// The one of the two that came first.
+fn earlier(found: Option<(usize, u64)>, part: usize, end: Option<u64>) -> Option<(usize, u64)>
+    ensures { result ≡ earlier_of found part end }
+{
+    match (found, end) {
+        (_, None) => found,
+        (Some((_, first)), Some(at)) if first <= at => found,
+        (_, Some(at)) => Some((part, at)),
+    }
+}
+
+/// The one of the two that came last.
+fn later(found: Option<(usize, u64)>, part: usize, end: Option<u64>) -> Option<(usize, u64)>
+    ensures { result ≡ later_of found part end }
+{
+    match (found, end) {
+        (_, None) => found,
+        (Some((_, last)), Some(at)) if at <= last => found,
+        (_, Some(at)) => Some((part, at)),
+    }
+}
+
+/// When a unit arrived.
+fn number<T>(arrived: Option<&Arrived<T>>) -> Option<u64>
+    ensures { result ≡ option_map number_of (option_copied arrived.entry) }
+{
+    match arrived {
+        Some(arrived) => Some(arrived.at),
+        None => None,
+    }
+}
+
+#[cfg(test)]
+mod tests;
