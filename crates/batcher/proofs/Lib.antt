@@ -1,0 +1,4 @@
+pub mod Gathers
+pub mod Closing
+pub mod Leaving
+pub mod Journals

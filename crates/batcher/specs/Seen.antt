@@ -1,5 +1,5 @@
 -- What the entries of the map say.
-use Rattle.std.specs.Prelude.{◌≡◌, ℕ, ◌<◌, ◌≤◌, ◌==◌, ◌||◌, Bool, false, List, length, map, All, Vec}
+use Rattle.std.specs.Prelude.{◌≡◌, ℕ, ◌<◌, ◌≤◌, ◌==◌, ◌||◌, Bool, false, List, [], ◌∷◌, ◌++◌, length, map, All, Vec}
 use Rattle.std.specs.Global.{Global}
 use Rattle.batcher.specs.declared.messages.Messages.{Messages}
 use Rattle.batcher.specs.Batches.{OpenBatch}
@@ -20,10 +20,23 @@ seen entries = map batch_of entries
 abbrev pub is_ready : (batch_size : ℕ) → OpenBatch → Bool
 is_ready size batch = length batch.numbers == size || batch.flush
 
--- each batch has a message and is no greater than the size, none is ready unless the mark is set, and none was opened
--- before the tick
-pub record IsKept (batch_size : ℕ) (may_be_ready : Bool) (opened_from : ℕ) (entries : List (Vec ℕ Global × Messages)) : Type 0 where
-  pub begun : All (λ batch. 0 < length batch.numbers) (seen entries)
-  pub within : All (λ batch. length batch.numbers ≤ batch_size) (seen entries)
-  pub unready : may_be_ready ≡ false → All (λ batch. is_ready batch_size batch ≡ false) (seen entries)
-  pub later : All (λ batch. opened_from ≤ batch.opened) (seen entries)
+-- none is ready unless the mark is set, and none was opened before the tick
+pub record AreMarked (batch_size : ℕ) (may_be_ready : Bool) (opened_from : ℕ) (batches : List OpenBatch) : Type 0 where
+  pub unready : may_be_ready ≡ false → All (λ batch. is_ready batch_size batch ≡ false) batches
+  pub later : All (λ batch. opened_from ≤ batch.opened) batches
+
+-- and each batch has a message
+pub record IsKept (batch_size : ℕ) (may_be_ready : Bool) (opened_from : ℕ) (batches : List OpenBatch) : Type 0 where
+  pub begun : All (λ batch. 0 < length batch.numbers) batches
+  pub marked : AreMarked batch_size may_be_ready opened_from batches
+
+-- the last number of the last batch is taken out, which then does not end in flush mode
+pub record PopsNumber (old new : List (Vec ℕ Global × Messages)) (number : ℕ) : Type 0 where
+  pub front : List (Vec ℕ Global × Messages)
+  pub key : Vec ℕ Global
+  pub before : Messages
+  pub after : Messages
+  pub was : old ≡ front ++ (key, before) ∷ []
+  pub is : new ≡ front ++ (key, after) ∷ []
+  pub numbers : before.numbers.items ≡ after.numbers.items ++ number ∷ []
+  pub opened : after.opened ≡ before.opened

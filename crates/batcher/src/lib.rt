@@ -43,7 +43,7 @@ pub struct Batcher {
     alloc: Global,
     batch_size: u32,
     batch_timeout: u64,
-    open: IndexMap<Vec<u8>, Messages>,
+    batches: IndexMap<Vec<u8>, Messages>,
     /// Where this is not set, no open batch is full or ends in flush mode.
     may_be_ready: bool,
     /// No open batch was opened before this tick.
@@ -56,9 +56,9 @@ impl Model for Batcher {
 
     ghost Value = { Batches };
 
-    ghost view = { λ b. record { batch_size = b.batch_size; batch_timeout = b.batch_timeout; batches = seen b.open.entries } };
+    ghost view = { λ b. record { batch_size = b.batch_size; batch_timeout = b.batch_timeout; batches = seen b.batches.entries } };
 
-    ghost invariant = { λ b. IsKept b.batch_size b.may_be_ready b.opened_from b.open.entries };
+    ghost invariant = { λ b. IsKept b.batch_size b.may_be_ready b.opened_from (seen b.batches.entries) };
 }
 
 impl Batcher {
@@ -70,9 +70,155 @@ impl Batcher {
             alloc,
             batch_size,
             batch_timeout,
-            open: IndexMap::new(alloc),
+            batches: IndexMap::new(alloc),
             may_be_ready: false,
             opened_from: u64::MAX,
         }
     }
+
+    /// Whether a message of this key fits: its batch is short of the size and does not end in flush mode, or it would be
+    /// the first of its batch. In time for the key.
+    pub fn fits(&self, key: &[u8]) -> bool
+        ensures { result ≡ key_fits self.now.batch_size key.now self.now.batches }
+    {
+        match self.batches.get(key) {
+            Some(messages) => {
+                messages.numbers.len() < self.batch_size as usize && !messages.flush
+            }
+            None => 0 < self.batch_size,
+        }
+    }
+
+    /// Puts a message into the open batch of its key, or into a new one behind all others. `flush` says that it has
+    /// flush mode, and `now` is the tick.
+    pub fn gather(&mut self, key: &[u8], no: MsgNo, flush: bool, now: u64) -> Result<(), AllocError>
+        requires { IsTrue (key_fits self.old.batch_size key.now self.old.batches) }
+        ensures gathered { OnOk result (self.new ≡ record self.old { batches = gathered key.now no.0 flush now self.old.batches }) }
+        ensures unchanged { OnErr result (self.new ≡ self.old) }
+    {
+        let len = messages::gather(self.alloc, &mut self.batches, key, no.0, flush, now)?;
+        let is_ready = messages::is_either(len == self.batch_size as usize, flush);
+        self.may_be_ready = messages::is_either(self.may_be_ready, is_ready);
+        self.opened_from = self.opened_from.min(now);
+        Ok(())
+    }
+
+    /// The first open batch for which a trigger holds, size before flush before timeout, with that trigger. `dry` says
+    /// that nothing more comes to the batcher. In constant time where no batch is full, ends in flush mode or was opened
+    /// long enough ago.
+    pub fn closable(&self, now: u64, dry: bool) -> Option<Closable>
+        ensures closable { IfSome result (IsClosable self.now now dry) }
+        ensures first { IfSome result (λ c. All (λ batch. trigger_of self.now now dry batch ≡ None) (take c.at self.now.batches)) }
+        ensures none { IsNone result ↔ All (λ batch. trigger_of self.now now dry batch ≡ None) self.now.batches }
+    {
+        if !dry && !self.may_be_ready && !has_passed(self.opened_from, self.batch_timeout, now) {
+            return None;
+        }
+        for at in 0..self.batches.len() {
+            let messages = &self.batches[at];
+            if let Some(trigger) = self.trigger(messages, now, dry) {
+                return Some(Closable {
+                    at,
+                    first: messages.first(),
+                    trigger,
+                });
+            }
+        }
+        None
+    }
+
+    /// The open batch that begins with this message, with the trigger that holds. In time for the open batches.
+    pub fn closable_at(&self, first: MsgNo, now: u64, dry: bool) -> Option<Closable>
+        ensures closable { IfSome result (IsClosable self.now now dry) }
+        ensures first { IfSome result (λ c. c.first ≡ first) }
+        ensures none { IsNone result ↔ All (λ batch. first_of batch ≡ first.0 → trigger_of self.now now dry batch ≡ None) self.now.batches }
+    {
+        for at in 0..self.batches.len() {
+            let messages = &self.batches[at];
+            if let Some(trigger) = self.trigger_at(messages, first, now, dry) {
+                return Some(Closable { at, first, trigger });
+            }
+        }
+        None
+    }
+
+    /// Takes out the open batch at this place. The others keep their order.
+    pub fn close(&mut self, at: usize, no: BatchNo, trigger: Trigger) -> ClosedBatch
+        requires { at < length self.old.batches }
+        ensures no { result.no ≡ no }
+        ensures trigger { result.trigger ≡ trigger }
+        ensures key { IfSome (slice_get self.old.batches at) (λ batch. result.key ≡ batch.key) }
+        ensures numbers { IfSome (slice_get self.old.batches at) (λ batch. result.numbers.items ≡ batch.numbers) }
+        ensures batches { self.new ≡ record self.old { batches = remove self.old.batches at } }
+    {
+        let (key, messages) = self.batches.shift_remove_index(at).unwrap();
+        let marks = messages::find_marks(&self.batches, self.batch_size as usize);
+        self.may_be_ready = marks.may_be_ready;
+        self.opened_from = marks.opened_from;
+        ClosedBatch {
+            no,
+            key: Bytes::from_vec(key),
+            trigger,
+            numbers: messages.into_numbers(),
+        }
+    }
+
+    /// Gives out the held messages one by one, the last of the last batch first.
+    pub fn dump(&mut self) -> Option<MsgNo>
+        ensures numbers { numbers_in self.old.batches ≡ numbers_in self.new.batches ++ option_to_list (option_map (λ no. no.0) result) }
+        ensures none { IsNone result ↔ (self.old.batches ≡ []) }
+        ensures limits { self.new ≡ record self.old { batches = self.new.batches } }
+        ensures others { take (length self.old.batches - 1) self.new.batches ≡ take (length self.old.batches - 1) self.old.batches }
+    {
+        if self.batches.is_empty() {
+            return None;
+        }
+        let n = messages::pop_number(&mut self.batches);
+        messages::remove_empty(&mut self.batches);
+        if self.batches.is_empty() {
+            self.may_be_ready = false;
+            self.opened_from = u64::MAX;
+        } else {
+            self.may_be_ready = true;
+        }
+        Some(MsgNo(n))
+    }
+
+    /// The first trigger that holds of an open batch, where it begins with this message.
+    fn trigger_at(&self, messages: &Messages, first: MsgNo, now: u64, dry: bool) -> Option<Trigger>
+        ensures begins { IfSome result (λ trigger. first_of (batch_in [] messages.now) ≡ first.0) }
+        ensures trigger { IfSome result (λ trigger. trigger_of self.now now dry (batch_in [] messages.now) ≡ Some trigger) }
+        ensures none { IfNone result (first_of (batch_in [] messages.now) ≡ first.0 → trigger_of self.now now dry (batch_in [] messages.now) ≡ None) }
+    {
+        if messages.first().0 == first.0 {
+            self.trigger(messages, now, dry)
+        } else {
+            None
+        }
+    }
+
+    /// The first trigger that holds of an open batch.
+    fn trigger(&self, messages: &Messages, now: u64, dry: bool) -> Option<Trigger>
+        ensures { result ≡ trigger_of self.now now dry (batch_in [] messages.now) }
+    {
+        if messages.numbers.len() == self.batch_size as usize {
+            Some(Trigger::Size)
+        } else if messages.flush || dry {
+            Some(Trigger::Flush)
+        } else if has_passed(messages.opened, self.batch_timeout, now) {
+            Some(Trigger::Timeout)
+        } else {
+            None
+        }
+    }
 }
+
+/// Whether so much time has passed since then.
+fn has_passed(since: u64, timeout: u64, now: u64) -> bool
+    ensures { result ≡ nat_le (since + timeout) now }
+{
+    since <= now && timeout <= now - since
+}
+
+#[cfg(test)]
+mod tests;
