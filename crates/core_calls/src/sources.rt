@@ -1,0 +1,60 @@
+//! What a producer's source answers but records.
+
+ghost use Rattle.std.specs.Prelude.{◌≡◌, ◌∷◌, OnOk, OnErr, IsTrue, ℕ, ◌<◌, length, slice_get, if◌then◌else◌, ◌==◌, ◌&&◌, not, option_map};
+ghost use Rattle.pipe_model.specs.Legal.{allows};
+ghost use Rattle.core_tables.specs.Rows.{post_at, home};
+ghost use Rattle.core_state.specs.Stands.{Stands};
+
+use core_state::Core;
+use core_tables::posts::come_home;
+use core_tables::rows::PostRow;
+use core_tables::stages::{note_end, note_rest};
+use pipe_types::numbers::StageNo;
+use pipe_types::step::{SourceHow, Step};
+use std::alloc::AllocError;
+
+/// Appends that the source of the producer has nothing now. It rests until the next tick.
+pub fn quiet(core: &mut Core, stage: StageNo) -> Result<(), AllocError>
+    requires stands { Stands core.old }
+    requires legal { IsTrue (allows core.old.topology core.old.journal.steps (Step.Quiet stage)) }
+    ensures appended { OnOk result (core.new.journal.steps ≡ Step.Quiet stage ∷ core.old.journal.steps) }
+    ensures unchanged { OnErr result (core.new.journal.steps ≡ core.old.journal.steps) }
+    ensures topology { core.new.topology ≡ core.old.topology }
+    ensures stands { Stands core.new }
+{
+    core.journal.reserve(1)?;
+    note_rest(&mut core.stages, stage);
+    come_home(&mut core.posts, stage, 0);
+    core.journal.push_spare(Step::Quiet { stage });
+    let _len = core.journal.len();
+    core.totals.quiet += 1;
+    Ok(())
+}
+
+/// Appends the end of a source. Stage 0 is the control source.
+pub fn source_end(core: &mut Core, stage: StageNo, how: SourceHow) -> Result<(), AllocError>
+    requires stands { Stands core.old }
+    requires legal { IsTrue (allows core.old.topology core.old.journal.steps (Step.SourceEnd stage how)) }
+    ensures appended { OnOk result (core.new.journal.steps ≡ Step.SourceEnd stage how ∷ core.old.journal.steps) }
+    ensures unchanged { OnErr result (core.new.journal.steps ≡ core.old.journal.steps) }
+    ensures topology { core.new.topology ≡ core.old.topology }
+    ensures stands { Stands core.new }
+{
+    core.journal.reserve(1)?;
+    note_end(&mut core.stages, stage);
+    answer_fetch(&mut core.posts, stage);
+    core.totals.quiet = 0;
+    core.journal.push_spare(Step::SourceEnd { stage, how });
+    Ok(())
+}
+
+/// Notes that the stage's fetch is answered. The control source has none.
+fn answer_fetch(posts: &mut Vec<PostRow>, stage: StageNo)
+    requires within { post_at stage.0 0 < length posts.old.items }
+    ensures posts { (i : ℕ) → slice_get posts.new.items i ≡ (if not (stage.0 == 0) && (post_at stage.0 0 == i) then option_map home (slice_get posts.old.items i) else slice_get posts.old.items i) }
+    ensures len { length posts.new.items ≡ length posts.old.items }
+{
+    if stage.0 != 0 {
+        come_home(posts, stage, 0);
+    }
+}

@@ -1,0 +1,4 @@
+pub mod Lawful
+pub mod Past
+pub mod Limits
+pub mod Fed

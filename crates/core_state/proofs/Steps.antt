@@ -1,0 +1,85 @@
+-- A legal step, once its fields are known.
+use Rattle.std.proofs.Common.{◌≡◌, ◌∷◌, true, false, ap, sym, ◌∙◌, subst, Bool, None}
+use Rattle.std.specs.Prelude.{◌&&◌}
+use Rattle.pipe_types.specs.declared.step.Step.{Step}
+use Rattle.pipe_types.specs.declared.topology.Topology.{Topology}
+use Rattle.pipe_types.specs.Sound.{IsSound}
+use Rattle.pipe_model.specs.History.{History}
+use Rattle.pipe_model.specs.Legal.{allows, is_legal, owed}
+use Rattle.core_state.specs.declared.state.Core.{Core}
+use Rattle.core_state.specs.Stands.{Fields, Holds, Stands, AreSized}
+use Rattle.pipe_journal.specs.Recorded.{Recorded}
+
+and_both : (a b : Bool) → a ≡ true → b ≡ true → (a && b) ≡ true
+and_both true b h k = k
+and_both false b h k = h
+
+pub holds_after : (core new : Core) (step : Step) → Holds core → new.topology ≡ core.topology → new.journal.steps ≡ step ∷ core.journal.steps
+    → allows core.topology core.journal.steps step ≡ true → Fields new core.topology (step ∷ core.journal.steps) → Holds new
+holds_after core new step x same written allowed fields =
+    let legal : is_legal core.topology (step ∷ core.journal.steps) ≡ true = and_both (is_legal core.topology core.journal.steps) (allows core.topology core.journal.steps step) x.legal allowed in
+    record {
+      sound = subst IsSound (sym same) x.sound;
+      legal = ap (λ t. is_legal t new.journal.steps) same ∙ (ap (is_legal core.topology) written ∙ legal);
+      fields = subst (λ (t : Topology). Fields new t new.journal.steps) (sym same) (subst (λ (h : History). Fields new core.topology h) (sym written) fields);
+    }
+
+-- a step that owes none
+pub unowed_after : (new : Core) (topology : Topology) (step : Step) (before : History) → new.topology ≡ topology → new.journal.steps ≡ step ∷ before
+    → owed topology (step ∷ before) ≡ None → owed new.topology new.journal.steps ≡ None
+unowed_after new topology step before same written none = ap (λ t. owed t new.journal.steps) same ∙ (ap (owed topology) written ∙ none)
+
+-- Where the journal alone made room, the fields are as they were
+pub same_fields : (core : Core) (j : Recorded) (topology : Topology) (before : History) → Fields core topology before → Fields (record core { journal = j }) topology before
+same_fields core j topology before x =
+    record {
+      sized = same_sizes core j topology before x.sized;
+      set = record { batchers = x.set.batchers; children = x.set.children; restarts = x.set.restarts };
+      stages = x.stages;
+      posts = x.posts;
+      subs = x.subs;
+      waiting = x.waiting;
+      inboxes = x.inboxes;
+      chunks = x.chunks;
+      opens = x.opens;
+      children = x.children;
+      places = x.places;
+      settled = x.settled;
+      producers = x.producers;
+      contents = x.contents;
+      batches = x.batches;
+      sent_on = x.sent_on;
+      legs = x.legs;
+      restarts = x.restarts;
+      totals = x.totals;
+    }
+  where
+    same_sizes : (core : Core) (j : Recorded) (topology : Topology) (before : History) → AreSized topology before core → AreSized topology before (record core { journal = j })
+    same_sizes core j topology before z =
+        record {
+          few = z.few;
+          stages = z.stages;
+          posts = z.posts;
+          waiting = z.waiting;
+          inboxes = z.inboxes;
+          chunks = z.chunks;
+          batchers = z.batchers;
+          children = z.children;
+          places = z.places;
+          settled = z.settled;
+          producers = z.producers;
+          contents = z.contents;
+          batches = z.batches;
+        }
+
+pub still_stands : (core : Core) (j : Recorded) → Stands core → j.steps ≡ core.journal.steps → Stands (record core { journal = j })
+still_stands core j x same =
+    record {
+      holds =
+          record {
+            sound = x.holds.sound;
+            legal = ap (is_legal core.topology) same ∙ x.holds.legal;
+            fields = subst (λ (h : History). Fields (record core { journal = j }) core.topology h) (sym same) (same_fields core j core.topology core.journal.steps x.holds.fields);
+          };
+      unowed = ap (owed core.topology) same ∙ x.unowed;
+    }

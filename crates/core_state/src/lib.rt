@@ -1,0 +1,10 @@
+//! The core of a pipeline: its topology, its journal, and fields that are what the journal comes to.
+//!
+//! `Stands` says that the topology is sound, that the journal is legal and owes no step, and that each field is what the
+//! journal comes to. A core without a step has it, and every call of the crates above has it as a condition and keeps it.
+#![tactic(auto)]
+
+mod readers;
+pub mod state;
+
+pub use state::Core;

@@ -1,0 +1,53 @@
+//! The core: a topology, its journal, and what the journal comes to.
+
+use batcher::Batcher;
+use consumer_sup::Children;
+use core_tables::rows::{BatchRow, ContentRow, PostRow, StageRow, Totals};
+use message_ack::Legs;
+use pipe_journal::Journal;
+use pipe_types::message::Place;
+use pipe_types::numbers::{StageNo, SubNo};
+use pipe_types::topology::Topology;
+use restart_core::Restarts;
+use stage_subs::Subs;
+use std::alloc::Global;
+use std::collections::VecDeque;
+
+/// A topology, its journal, and what the journal comes to. A table by stage has a row for each stage number, and first
+/// one for the control source.
+#[derive(Drop)]
+pub struct Core {
+    pub topology: Topology,
+    pub journal: Journal,
+    /// By stage.
+    pub stages: Vec<StageRow>,
+    /// By stage and slot, 16 for each stage.
+    pub posts: Vec<PostRow>,
+    /// By pair.
+    pub subs: Subs,
+    /// The partition and the number of each unit that waits in a stage; by stage.
+    pub waiting: Vec<VecDeque<(u32, u32)>>,
+    /// The units sent to a stage and not taken; by stage.
+    pub inboxes: Vec<VecDeque<(SubNo, u32)>>,
+    /// The messages that run in a stage; by stage.
+    pub chunks: Vec<Vec<u32>>,
+    /// The open batches of a batcher; by stage.
+    pub batchers: Vec<Batcher>,
+    /// The children of a supervisor; by stage.
+    pub children: Vec<Children>,
+    /// By message number, from 1.
+    pub places: Vec<Place>,
+    /// The step that settled a message, from 0, and 0 where none has; by message number, from 1.
+    pub settled: Vec<u64>,
+    /// The producer that took a message in; by message number, from 1.
+    pub producers: Vec<StageNo>,
+    /// By message number, from 1.
+    pub contents: Vec<ContentRow>,
+    /// The closed batches; by batch number, from 1.
+    pub batches: Vec<BatchRow>,
+    /// The legs of the batches in progress; by batch number.
+    pub legs: Legs,
+    pub restarts: Restarts,
+    pub totals: Totals,
+    pub alloc: Global,
+}
