@@ -15,7 +15,7 @@ use Rattle.restart_core.specs.Restarts.{Remembers}
 use Rattle.consumer_sup.specs.Children.{Slots, child_in}
 use Rattle.consumer_sup.specs.declared.Child.{Child}
 use Rattle.batcher.specs.Batches.{Batches, OpenBatch}
-use Rattle.message_ack.specs.Ends.{Ends}
+use Rattle.message_ack.specs.Ends.{sent_in}
 use Rattle.core_tables.specs.declared.rows.Totals.{Totals}
 use Rattle.core_tables.specs.declared.rows.BatchRow.{BatchRow}
 use Rattle.core_tables.specs.Tables.{queue_at, list_at}
@@ -44,14 +44,6 @@ child_at table s slot = child_of (slice_get table s.0) slot
 
 abbrev pub closed_seen : BatchRow → Closed
 closed_seen row = record { numbers = row.numbers.items; trigger = row.trigger }
-
-abbrev pub ends_in : Option (Option Ends) → Option Ends
-ends_in None = None
-ends_in (Some o) = o
-
--- how the legs of the batch after so many others ended
-abbrev pub ends_at : List (Option Ends) → ℕ → Option Ends
-ends_at table i = ends_in (slice_get table i)
 
 abbrev pub totals_of : Topology → History → Totals
 totals_of topology before =
@@ -107,7 +99,7 @@ pub record Fields (core : Core) (topology : Topology) (before : History) : Type 
   pub contents : (i : ℕ) → slice_get core.contents.items i ≡ content_row before (suc i)
   pub batches : (i : ℕ) → option_map closed_seen (slice_get core.batches.items i) ≡ closed_as topology before (suc i)
   pub sent_on : (i : ℕ) (row : BatchRow) → slice_get core.batches.items i ≡ Some row → row.subs.items ≡ sent_on topology before (suc i)
-  pub legs : (i : ℕ) → ends_at core.legs i ≡ ends_in_progress (batch topology before (suc i))
+  pub legs : (i : ℕ) → sent_in core.legs (suc i) ≡ ends_in_progress (batch topology before (suc i))
   pub restarts : Remembers core.restarts (restart_times before)
   pub totals : core.totals ≡ totals_of topology before
 
