@@ -1,5 +1,5 @@
 -- A take and a give keep the rule.
-use Rattle.std.proofs.Common.{◌≡◌, ◌≢◌, inl, inr, ⊎_elim, ℕ, ◌<◌, List, [], ◌∷◌, ◌++◌, set, refl, sym, ap, ◌∙◌, subst, arith, Option, Some, None, IfSome, Bool, true, false}
+use Rattle.std.proofs.Common.{◌≡◌, ◌≢◌, ℕ, ◌<◌, List, [], ◌∷◌, set, refl, sym, ap, ◌∙◌, subst, arith, Option, Some, None, IfSome, Bool, true, false}
 use Rattle.std.proofs.lemmas.Bool.{false≢true}
 use mathlib.Core.Option.{some}
 use lib.ListN.{get_elem?}
@@ -10,8 +10,8 @@ use Rattle.pipe_model.specs.Begins.{BeginsWith}
 use Rattle.pipe_model.specs.Posts.{is_out}
 use Rattle.pipeline_turn.specs.declared.view.View.{View}
 use Rattle.pipeline_turn.specs.declared.view.Handed.{Handed}
-use Rattle.pipeline_turn.specs.Jobs.{IsUnanswered, IsUndone, IsOwnJob}
-use Rattle.pipeline_turn.specs.Rule.{Place, home, away, Stems, Holds}
+use Rattle.pipeline_turn.specs.Jobs.{IsUnanswered, IsOwnJob}
+use Rattle.pipeline_turn.specs.Rule.{Place, home, away, Stems}
 use Rattle.pipeline_turn.specs.Steps.{Knows, At, taking, missing, giving, took, gave}
 use Rattle.pipeline_turn.proofs.Journals.{begins_itself, begins_through, still_out, unanswered_itself, unanswered_through}
 use Rattle.pipeline_turn.proofs.Views.{put_here}

@@ -8,7 +8,7 @@ use Rattle.pipe_types.specs.declared.step.Step.{Step}
 use Rattle.pipe_model.specs.History.{History}
 use Rattle.pipe_model.specs.Begins.{BeginsWith}
 use Rattle.pipe_model.specs.Posts.{answers, puts_out, is_out}
-use Rattle.pipeline_turn.specs.Jobs.{IsUnanswered, IsUndone, longer}
+use Rattle.pipeline_turn.specs.Jobs.{IsUnanswered, longer}
 
 pub begins_itself : (whole : History) → BeginsWith whole whole
 begins_itself whole = record { later = []; is = refl }

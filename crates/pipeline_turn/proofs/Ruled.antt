@@ -1,5 +1,5 @@
 -- What a change of one view leaves of the rule.
-use Rattle.std.proofs.Common.{◌≡◌, ◌≢◌, inl, inr, ⊎_elim, ℕ, ◌+◌, ◌<◌, List, [], ◌∷◌, ◌++◌, set, slice_index, refl, sym, ap, ◌∙◌, subst, arith, Option, Some, None, true, false}
+use Rattle.std.proofs.Common.{◌≡◌, ◌≢◌, ⊎_elim, ℕ, ◌+◌, List, [], ◌∷◌, ◌++◌, set, slice_index, refl, sym, ap, ◌∙◌, subst, arith, Option, Some, None, false}
 use Rattle.std.proofs.lemmas.Option.{none-some}
 use Rattle.std.proofs.lemmas.Bool.{false≢true}
 use mathlib.Core.Option.{some}
@@ -10,9 +10,9 @@ use Rattle.pipe_types.specs.declared.numbers.Post.{Post}
 use Rattle.pipe_model.specs.History.{History}
 use Rattle.pipeline_turn.specs.declared.view.View.{View}
 use Rattle.pipeline_turn.specs.declared.view.Handed.{Handed}
-use Rattle.pipeline_turn.specs.Rule.{Place, home, away, words_of, homes_of, current, Stems, Holds, HasHolder, total, Fits, AreSeated, IsRuled}
+use Rattle.pipeline_turn.specs.Rule.{Place, home, away, words_of, homes_of, Stems, Holds, HasHolder, total, Fits, AreSeated, IsRuled}
 use Rattle.pipeline_turn.specs.Steps.{Knows}
-use Rattle.pipeline_turn.proofs.Views.{put_here, only, total_set, total_snoc}
+use Rattle.pipeline_turn.proofs.Views.{only, total_set, total_snoc}
 
 module _ {V O : Type 0} (steps : V → History) (stems : O → V → Type 0) where
   abbrev pub At : Place V → List (View O) → State (Option (Handed V)) (View O)

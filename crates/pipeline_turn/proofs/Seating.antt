@@ -1,5 +1,5 @@
 -- Making, splitting, joining and ending keep the rule.
-use Rattle.std.proofs.Common.{◌≡◌, ◌≢◌, ℕ, ◌+◌, ◌-◌, ◌<◌, ◌≤◌, List, [], ◌∷◌, ◌++◌, set, refl, sym, ap, ◌∙◌, subst, arith, Option, Some, None, true, false}
+use Rattle.std.proofs.Common.{◌≡◌, ℕ, ◌+◌, ◌-◌, ◌<◌, ◌≤◌, List, [], ◌∷◌, ◌++◌, set, refl, sym, ap, ◌∙◌, subst, arith, Option, Some, None, false}
 use Rattle.std.proofs.lemmas.Option.{none-some}
 use Rattle.std.proofs.lemmas.Bool.{false≢true}
 use mathlib.Core.Logic.{dite}
@@ -8,15 +8,14 @@ use native.Mathlib.Decide.{ℕ_discrete}
 use lib.ListN.{get_elem?}
 use Rattle.atomic_table.specs.Table.{keeps, Allows, Splits, Joins, Final, Seen, opening}
 use Rattle.atomic_table.proofs.Lists.{set_else}
-use Rattle.pipe_types.specs.declared.numbers.Post.{Post}
 use Rattle.pipe_model.specs.History.{History}
 use Rattle.pipe_model.specs.Begins.{BeginsWith}
 use Rattle.pipeline_turn.specs.declared.view.View.{View}
 use Rattle.pipeline_turn.specs.declared.view.Handed.{Handed}
-use Rattle.pipeline_turn.specs.Rule.{Place, home, away, homes_of, current, Stems, Holds, total, opening_view}
+use Rattle.pipeline_turn.specs.Rule.{Place, home, away, homes_of, current, Stems, total, opening_view}
 use Rattle.pipeline_turn.specs.Steps.{Knows, At, parting, parted, hearing, settling, spent_view, settled}
-use Rattle.pipeline_turn.proofs.Journals.{begins_itself, begins_empty, longer_begins, begins_longer}
-use Rattle.pipeline_turn.proofs.Views.{put_here, only, at_first, first_index, total_at, total_two}
+use Rattle.pipeline_turn.proofs.Journals.{begins_empty, longer_begins, begins_longer}
+use Rattle.pipeline_turn.proofs.Views.{only, at_first, first_index, total_at, total_two}
 use Rattle.pipeline_turn.proofs.Handing.{stems_there}
 use Rattle.pipeline_turn.proofs.Ruled as rule
 

@@ -1,5 +1,5 @@
 -- A seat's view in the table, and the same as contracts see it.
-use Rattle.std.proofs.Common.{◌≡◌, ◌≢◌, List, true, refl, sym, ap, ◌∙◌, subst, Option, Some, None, IfSome, IsSome}
+use Rattle.std.proofs.Common.{◌≡◌, ◌≢◌, true, refl, sym, ap, ◌∙◌, subst, Option, Some, None, IfSome, IsSome}
 use Rattle.std.proofs.lemmas.Bool.{false≢true}
 use Rattle.atomic_table.specs.Seated.{TableId}
 use Rattle.pipe_types.specs.declared.numbers.Post.{Post}

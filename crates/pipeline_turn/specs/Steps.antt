@@ -1,5 +1,5 @@
 -- The kinds of atomic step: how each changes a view, and what it tells. The fifth, `finish`, changes none.
-use Rattle.std.specs.Prelude.{◌≡◌, ◌≢◌, ℕ, ◌+◌, ◌-◌, List, [], ◌∷◌, Option, Some, None, Bool, true, false}
+use Rattle.std.specs.Prelude.{◌≡◌, ◌≢◌, ℕ, ◌+◌, ◌-◌, [], ◌∷◌, Option, Some, None, true, false}
 use Rattle.atomic_table.specs.Table.{Me}
 use Rattle.atomic_table.specs.Table as table
 use Rattle.pipe_types.specs.declared.numbers.Post.{Post}

@@ -1,4 +1,4 @@
-use Rattle.std.proofs.Common.{rules, ap, sym, ◌∙◌, [], ◌∷◌, ◌≡◌, Option, Some, IsSome, false, subst, ℕ, ◌<◌}
+use Rattle.std.proofs.Common.{rules, ap, sym, ◌∙◌, ◌∷◌, Some, IsSome, false, subst, ℕ, ◌<◌}
 use mathlib.Core.Option.{none}
 use Rattle.atomic_table.specs.Table.{step, rest}
 use Rattle.pipeline_turn.specs.declared.view.Handed.{Handed}
