@@ -81,9 +81,9 @@ fn batches_by_key(rt: HostRuntime) -> Result<(), Fail> {
         (false, b"z", Trigger::Flush, &[3, 5]),
         (true, b"y", Trigger::Flush, &[2]),
     ];
-    let mut no = 0;
+    let mut no: u32 = 0;
     for (dry, key, trigger, numbers) in closed {
-        no += 1;
+        no = no.saturating_add(1);
         let Some(batch) = close_next(&mut batcher, no, 0, dry) else {
             break;
         };
