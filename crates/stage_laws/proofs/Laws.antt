@@ -1,5 +1,5 @@
 -- The laws as the clauses state them.
-use Rattle.std.proofs.Common.{◌≡◌, ℕ, ◌+◌, ◌≤◌, List, length, true, Some}
+use Rattle.std.proofs.Common.{◌≡◌, ℕ, ◌+◌, ◌≤◌, List, ◌∷◌, length, true, Some}
 use Rattle.std.specs.Prelude.{IsTrue}
 use Rattle.std.specs.List.{list_any}
 use Rattle.pipe_types.specs.declared.numbers.StageNo.{StageNo}
@@ -16,6 +16,10 @@ use Rattle.pipe_model.specs.Ledger.{handled}
 use Rattle.pipe_model.specs.Legal.{is_legal, has_role, is_supervisor_role, batch_size_in, fetches_out}
 use Rattle.queue_laws.proofs.Sounds.{fits}
 use Rattle.stage_laws.specs.Numbered.{IsNumberedTopology}
+use Rattle.stage_laws.specs.Running.{running_after}
+use Rattle.pipe_types.specs.declared.step.Step.{Step}
+use Rattle.pipe_model.specs.Standing.{running}
+use Rattle.stage_laws.proofs.Steps.{runs_step}
 use Rattle.stage_laws.proofs.Numbering.{numbered_topology}
 use Rattle.stage_laws.proofs.Records.{accepted_within, accepted_small}
 use Rattle.stage_laws.proofs.Sizes.{batch_within}
@@ -49,3 +53,6 @@ in_batch_law topology before n b e = in_numbers topology before n b e
 
 pub slot_law : (topology : Topology) (before : History) (s : StageNo) (n : ℕ) → IsSound topology → IsTrue (is_legal topology before) → IsTrue (has_role topology s is_supervisor_role) → place topology before n ≡ Some (Running s) → IsTrue (list_any (λ slot. is_number (in_slot before s slot) n) slots)
 slot_law topology before s n sound h role e = slot_there topology before s n sound h role e
+
+pub running_law : (topology : Topology) (before : History) (step : Step) (s : StageNo) → IsSound topology → IsTrue (is_legal topology (step ∷ before)) → running topology (step ∷ before) s ≡ running_after topology before step s (running topology before s)
+running_law topology before step s sound h = runs_step topology before step s (fits topology sound) h

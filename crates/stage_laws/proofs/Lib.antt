@@ -4,6 +4,8 @@ pub mod Named
 pub mod Sizes
 pub mod Plain
 pub mod Runs
+pub mod Supervised
+pub mod Steps
 pub mod Firsts
 pub mod Records
 pub mod Bounds

@@ -72,6 +72,9 @@ supervisor_rank Processor h = cc
 supervisor_rank Batcher h = cc
 supervisor_rank BatchProcessor h = cc
 
+pub supervised_rank : (topology : Topology) (s : StageNo) → has_role topology s is_supervisor_role ≡ true → rank topology s ≡ 1
+supervised_rank topology s h = role_rank topology s is_supervisor_role (λ k. k ≡ 1) supervisor_rank h
+
 pub processor_rank : (topology : Topology) (s : StageNo) → has_role topology s is_processor_role ≡ true → rank topology s ≡ 1
 processor_rank topology s h = role_rank topology s is_processor_role (λ k. k ≡ 1) by h
   where

@@ -46,7 +46,7 @@ abbrev numbers : Topology → History → StageNo → List ℕ
 numbers topology before s = map (λ d. d.1) (sent_to topology before s)
 
 -- steps that leave each message's test
-runs_still : (topology : Topology) (before : History) (step : Step) (s : StageNo) → sent_to topology (step ∷ before) s ≡ sent_to topology before s
+pub runs_still : (topology : Topology) (before : History) (step : Step) (s : StageNo) → sent_to topology (step ∷ before) s ≡ sent_to topology before s
     → ((n : ℕ) → runs_in s (place topology (step ∷ before) n) ≡ runs_in s (place topology before n)) → running topology (step ∷ before) s ≡ running topology before s
 runs_still topology before step s same_list same =
     ap (λ ds. filter (λ n. runs_in s (place topology (step ∷ before) n)) (map (λ d. d.1) ds)) same_list

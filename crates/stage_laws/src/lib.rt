@@ -6,7 +6,7 @@
 //! Each function is a law: it does nothing, and its clause states the law. `proofs/` has the facts behind them.
 #![tactic(auto)]
 
-ghost use Rattle.std.specs.Prelude.{◌≡◌, ℕ, ◌+◌, ◌≤◌, List, length, true, Some, IsTrue};
+ghost use Rattle.std.specs.Prelude.{◌≡◌, ℕ, ◌+◌, ◌≤◌, List, ◌∷◌, length, true, Some, IsTrue};
 ghost use Rattle.std.specs.List.{list_any};
 ghost use Rattle.pipe_types.specs.declared.numbers.StageNo.{StageNo};
 ghost use Rattle.pipe_types.specs.declared.numbers.SubNo.{SubNo};
@@ -20,7 +20,10 @@ ghost use Rattle.pipe_model.specs.Posts.{in_slot, slots};
 ghost use Rattle.pipe_model.specs.Flow.{place, batch, view_of, waiting, among, numbers_in, open_batch_by, is_number};
 ghost use Rattle.pipe_model.specs.Ledger.{handled};
 ghost use Rattle.pipe_model.specs.Legal.{is_legal, has_role, is_supervisor_role, batch_size_in, fetches_out};
+ghost use Rattle.pipe_types.specs.declared.step.Step.{Step};
+ghost use Rattle.pipe_model.specs.Standing.{running};
 ghost use Rattle.stage_laws.specs.Numbered.{IsNumberedTopology};
+ghost use Rattle.stage_laws.specs.Running.{running_after};
 
 /// The stages of a sound topology stand in it by their numbers, and there are at most 64.
 #[tactic(auto, using(crate::proofs::Laws::numbered_law))]
@@ -82,4 +85,12 @@ pub fn children_have_slots()
     ensures { (topology : Topology) (before : History) (s : StageNo) (n : ℕ) →
         IsSound topology → IsTrue (is_legal topology before) → IsTrue (has_role topology s is_supervisor_role) →
         place topology before n ≡ Some (Running s) → IsTrue (list_any (λ slot. is_number (in_slot before s slot) n) slots) }
+{}
+
+/// What runs in a stage after a step is a list operation on what ran before it.
+#[tactic(auto, using(crate::proofs::Laws::running_law))]
+pub fn steps_change_running()
+    ensures { (topology : Topology) (before : History) (step : Step) (s : StageNo) →
+        IsSound topology → IsTrue (is_legal topology (step ∷ before)) →
+        running topology (step ∷ before) s ≡ running_after topology before step s (running topology before s) }
 {}
