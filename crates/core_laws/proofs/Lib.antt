@@ -2,3 +2,4 @@ pub mod Lawful
 pub mod Past
 pub mod Limits
 pub mod Fed
+pub mod Marks
