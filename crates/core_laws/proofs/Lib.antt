@@ -5,3 +5,5 @@ pub mod Fed
 pub mod Marks
 pub mod Contents
 pub mod Bounds
+pub mod Alike
+pub mod Accepting
