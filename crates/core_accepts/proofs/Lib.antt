@@ -3,3 +3,4 @@ pub mod Fetching
 pub mod Rows
 pub mod Enrolling
 pub mod Bringing
+pub mod Roomy
