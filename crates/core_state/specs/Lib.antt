@@ -1,2 +1,4 @@
 pub mod Stands
 pub mod Readings
+pub mod Begun
+pub mod AreNew
