@@ -4,3 +4,4 @@ pub mod Rows
 pub mod FirstPairs
 pub mod NewQueues
 pub mod NewFields
+mod SoundSamples

@@ -12,3 +12,6 @@ mod subscribing;
 mod tables;
 
 pub use state::Core;
+
+#[cfg(test)]
+mod tests;
