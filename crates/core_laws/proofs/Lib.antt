@@ -3,3 +3,4 @@ pub mod Past
 pub mod Limits
 pub mod Fed
 pub mod Marks
+pub mod Parts
