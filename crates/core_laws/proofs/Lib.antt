@@ -4,3 +4,4 @@ pub mod Limits
 pub mod Fed
 pub mod Marks
 pub mod Contents
+pub mod Parts
