@@ -5,3 +5,4 @@ pub mod Fed
 pub mod Marks
 pub mod Contents
 pub mod Parts
+pub mod Children
