@@ -4,4 +4,6 @@
 #![tactic(auto)]
 
 pub mod batch_takes;
+pub mod contents;
 pub mod starts;
+pub mod takes;
