@@ -1,0 +1,4 @@
+pub mod OpenDemand
+pub mod Counted
+pub mod Kept
+pub mod Over
