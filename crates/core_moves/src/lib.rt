@@ -1,0 +1,6 @@
+//! What comes next, and which step may come, for every sound topology.
+//!
+//! Each reader has the condition that the core stands for its journal, and answers what the model says of that journal.
+#![tactic(auto)]
+
+pub mod drain;
