@@ -1,1 +1,5 @@
 pub mod Begun
+pub mod Finding
+pub mod Working
+pub mod Queues
+pub mod Totals

@@ -4,3 +4,5 @@
 #![tactic(auto)]
 
 pub mod drain;
+pub mod posts;
+pub mod rests;
