@@ -3,3 +3,5 @@ pub mod Finding
 pub mod Working
 pub mod Queues
 pub mod Totals
+pub mod Known
+pub mod Roomy

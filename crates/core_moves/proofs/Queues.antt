@@ -13,6 +13,10 @@ pub empty_mapped : {A B : Type 0} (f : A → B) (xs : List A) → is_empty (map 
 empty_mapped f [] = refl
 empty_mapped f (x ∷ xs) = refl
 
+pub length_mapped : {A B : Type 0} (f : A → B) (xs : List A) → length (map f xs) ≡ length xs
+length_mapped f [] = refl
+length_mapped f (x ∷ xs) = let rest = length_mapped f xs in omega (arith, rest)
+
 pub empty_length : {A : Type 0} (xs : List A) → (length xs == 0) ≡ is_empty xs
 empty_length [] = refl
 empty_length (x ∷ xs) = grind (arith, nat_tests)
