@@ -5,3 +5,6 @@ pub mod Fed
 pub mod Marks
 pub mod Contents
 pub mod Parts
+pub mod Bounds
+pub mod Alike
+pub mod Accepting
