@@ -6,3 +6,6 @@ pub mod Marks
 pub mod Contents
 pub mod Parts
 pub mod Children
+pub mod Bounds
+pub mod Alike
+pub mod Accepting

@@ -2,3 +2,4 @@ pub mod Columns
 pub mod Laws
 pub mod Contents
 pub mod Slots
+pub mod Enrolled
