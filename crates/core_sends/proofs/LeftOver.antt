@@ -33,7 +33,7 @@ front_apart : (xs ys : List ℕ) → Apart (λ n. n) (xs ++ ys) → Each (λ n. 
 front_apart [] ys h = tt
 front_apart (x ∷ xs) ys h = (not_among ys x (each_back (λ m. (x == m) ≡ false) xs ys h.0), front_apart xs ys h.1)
 
-back_apart : (xs ys : List ℕ) → Apart (λ n. n) (xs ++ ys) → Each (λ n. among xs n ≡ false) ys
+pub back_apart : (xs ys : List ℕ) → Apart (λ n. n) (xs ++ ys) → Each (λ n. among xs n ≡ false) ys
 back_apart [] ys h = always ys
   where
     always : (zs : List ℕ) → Each (λ n. false ≡ false) zs
@@ -112,7 +112,7 @@ take_map f zero xs = refl
 take_map f (suc k) [] = refl
 take_map f (suc k) (x ∷ xs) = ap (λ ys. f x ∷ ys) (take_map f k xs)
 
-drop_map : {A B : Type 0} (f : A → B) (k : ℕ) (xs : List A) → drop k (map f xs) ≡ map f (drop k xs)
+pub drop_map : {A B : Type 0} (f : A → B) (k : ℕ) (xs : List A) → drop k (map f xs) ≡ map f (drop k xs)
 drop_map f zero xs = refl
 drop_map f (suc k) [] = refl
 drop_map f (suc k) (x ∷ xs) = drop_map f k xs

@@ -6,3 +6,5 @@ pub mod Queued
 pub mod Plain
 pub mod LeftOver
 pub mod Settled
+pub mod Sent
+pub mod Reached
