@@ -3,3 +3,8 @@ pub mod Past
 pub mod Limits
 pub mod Fed
 pub mod Marks
+pub mod Contents
+pub mod Parts
+pub mod Bounds
+pub mod Alike
+pub mod Accepting

@@ -1,2 +1,4 @@
 pub mod Columns
 pub mod Laws
+pub mod Contents
+pub mod Enrolled

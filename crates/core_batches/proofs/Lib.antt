@@ -1,0 +1,3 @@
+mod Opens
+mod Passing
+mod Gathering

@@ -1,0 +1,5 @@
+pub mod OpenDemand
+pub mod Counted
+pub mod Kept
+pub mod Over
+pub mod Queued
