@@ -4,3 +4,4 @@ pub mod Rows
 pub mod Enrolling
 pub mod Bringing
 pub mod Roomy
+pub mod Planning

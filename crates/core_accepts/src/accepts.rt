@@ -88,7 +88,7 @@ fn queue_new(queue: &mut VecDeque<(u32, u32)>, spec: &StageSpec, accepted: u32, 
 }
 
 /// The partition of a record that waits in the producer, and 0 where it does not dispatch by partition.
-fn part_of(spec: &StageSpec, payload: &Bytes) -> u32
+pub(crate) fn part_of(spec: &StageSpec, payload: &Bytes) -> u32
     requires parts { HasParts spec.now }
     ensures { result ≡ record_part spec.now payload.now }
 {
