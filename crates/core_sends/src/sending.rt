@@ -66,3 +66,44 @@ fn leave(
     mark_all(settled, mark, queue, from, to);
     take_out(queue, from, to);
 }
+
+/// Appends the dispatch of a stage of messages, of which this was planned. There is room for it, so it takes no memory. The
+/// dispatch may also be one that the last step owes.
+pub fn send_messages(core: &mut Core, stage: StageNo, sent: Vec<Sent>)
+    requires holds { Holds core.old }
+    requires messages { is_batcher (spec_of core.old.topology stage) ≡ false }
+    requires legal { IsTrue (allows core.old.topology core.old.journal.steps (Step.Dispatch stage)) }
+    requires planned { sent.items ≡ planned core.old.topology core.old.journal.steps stage [] }
+    requires room { All (HasRoom (length sent.items) core.old.inboxes.items) sent.items }
+    requires spare { 1 ≤ core.old.journal.spare }
+    ensures appended { core.new.journal.steps ≡ Step.Dispatch stage ∷ core.old.journal.steps }
+    ensures topology { core.new.topology ≡ core.old.topology }
+    ensures stands { Stands core.new }
+    ensures spare { core.old.journal.spare ≤ core.new.journal.spare + 1 }
+{
+    let at = stage.0 as usize;
+    let Some(spec) = core.topology.stages.find(stage) else {
+        unreachable!();
+    };
+    let size = spec.size;
+    let keep = spec.keep;
+    let mark = core.journal.len();
+    let first = reach(&sent);
+    let mut units = sent;
+    name_units(&mut units, &core.waiting[at]);
+    deliver_all(&mut core.inboxes, &units);
+    count_all(&mut core.subs, &units);
+    place_all(&mut core.places, stage, &units);
+    leave(
+        &mut core.waiting[at],
+        &mut core.places,
+        &mut core.settled,
+        stage,
+        first,
+        size,
+        keep,
+        mark,
+    );
+    core.totals.quiet = 0;
+    core.journal.push_spare(Step::Dispatch { stage });
+}
