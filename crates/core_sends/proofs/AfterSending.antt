@@ -1,5 +1,5 @@
 -- The fields after a dispatch of a stage of messages.
-use Rattle.std.proofs.Common.{◌≡◌, ◌≢◌, ℕ, suc, ◌+◌, ◌<◌, ◌≤◌, List, [], ◌∷◌, ◌++◌, length, set, map, All, Bool, true, false, refl, ap, sym, ◌∙◌, Some, None, Option, arith, subst, inl, inr, get_or}
+use Rattle.std.proofs.Common.{◌≡◌, ◌≢◌, ℕ, suc, ◌+◌, ◌≤◌, List, [], ◌∷◌, ◌++◌, length, set, map, All, true, false, refl, ap, sym, ◌∙◌, Some, Option, arith, inl, inr}
 use Rattle.std.specs.Prelude.{slice_get, option_map, if◌then◌else◌, ◌==◌, ◌&&◌, ◌⊎◌}
 use Rattle.std.specs.declared.alloc.Global.{Global}
 use Rattle.std.specs.declared.vec.Vec.{Vec}
@@ -12,22 +12,21 @@ use Rattle.pipe_types.specs.declared.topology.StageSpec.{StageSpec}
 use Rattle.pipe_types.specs.declared.message.Place.{Place}
 use Rattle.pipe_types.specs.declared.room.Sent.{Sent}
 use Rattle.pipe_types.specs.declared.step.Step.TheVariants.{Dispatch}
-use Rattle.pipe_types.specs.Numbers.{same_stage, same_sub}
+use Rattle.pipe_types.specs.Numbers.{same_stage}
 use Rattle.pipe_types.specs.Sound.{IsSound}
 use Rattle.pipe_types.specs.Stages.{spec_of, feeds}
-use Rattle.pipe_model.specs.History.{History, accepted}
-use Rattle.pipe_model.specs.Lives.{is_live_sub, current_sub}
+use Rattle.pipe_model.specs.History.{History}
+use Rattle.pipe_model.specs.Lives.{current_sub}
 use Rattle.pipe_model.specs.Legal.{is_legal, allows}
-use Rattle.pipe_model.specs.Flow.{place, batch, waiting, inbox, sent, deliveries, delivered_to, dispatched, count_on, unsent, is_batcher, subs_of}
+use Rattle.pipe_model.specs.Flow.{place, waiting, inbox, deliveries, delivered_to, dispatched, count_on, unsent, is_batcher, subs_of}
 use Rattle.pipe_journal.specs.Recorded.{Recorded}
 use Rattle.stage_subs.specs.Pairs.{PairRow}
-use Rattle.stage_subs.specs.Subs.{row_at, sent_more, is_pair}
+use Rattle.stage_subs.specs.Subs.{row_at, sent_more}
 use Rattle.stage_subs.specs.Ledger.{ledger_row}
 use Rattle.core_tables.specs.Tables.{queue_at, count_between}
 use Rattle.core_tables.specs.declared.rows.Totals.{Totals}
-use Rattle.core_tables.specs.declared.rows.BatchRow.{BatchRow}
 use Rattle.core_tables.proofs.Tables.{same_or_other, queue-set_same, queue-set_other}
-use Rattle.core_laws.specs.Columns.{waiting_parts, part_of, mark, open_batches, ends_in_progress, sent_on}
+use Rattle.core_laws.specs.Columns.{waiting_parts, mark, open_batches, ends_in_progress, sent_on}
 use Rattle.core_laws.specs.Laws.{IsSentWell, DispatchLaws}
 use Rattle.core_calls.proofs.Asking.{pair_is}
 use Rattle.core_state.specs.declared.state.Core.{Core}

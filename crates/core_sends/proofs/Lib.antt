@@ -10,3 +10,4 @@ pub mod Sent
 pub mod Reached
 pub mod AfterSending
 pub mod Sendable
+pub mod Roomy

@@ -1,5 +1,5 @@
 -- What the passes of a dispatch need of what is sent.
-use Rattle.std.proofs.Common.{◌≡◌, ℕ, suc, ◌+◌, ◌-◌, ◌<◌, ◌≤◌, List, [], length, map, All, Bool, true, false, refl, ap, sym, ◌∙◌, Some, None, Option, arith, subst, get_or}
+use Rattle.std.proofs.Common.{◌≡◌, ℕ, suc, ◌-◌, ◌<◌, ◌≤◌, List, [], length, map, All, true, false, ap, sym, ◌∙◌, None, arith, subst, get_or}
 use Rattle.std.specs.Prelude.{is_some, if◌then◌else◌}
 use Rattle.std.specs.declared.alloc.Global.{Global}
 use Rattle.std.specs.declared.collections.VecDeque.{VecDeque}
@@ -13,9 +13,9 @@ use Rattle.pipe_types.specs.Sound.{IsSound}
 use Rattle.pipe_types.specs.Stages.{spec_of, feeds}
 use Rattle.pipe_laws.proofs.Tests.{and_left}
 use Rattle.pipe_model.specs.History.{History, accepted, asked}
-use Rattle.pipe_model.specs.Lives.{is_live, is_live_sub, current_sub}
+use Rattle.pipe_model.specs.Lives.{is_live}
 use Rattle.pipe_model.specs.Legal.{allows}
-use Rattle.pipe_model.specs.Flow.{waiting, deliveries, sent, count_on, open_demand}
+use Rattle.pipe_model.specs.Flow.{waiting, deliveries, sent, count_on}
 use Rattle.queue_laws.proofs.Roles.{fed_spec}
 use Rattle.stage_laws.proofs.Numbering.{numbered_topology}
 use Rattle.stage_subs.specs.Subs.{is_live as is_live_in_table, room_on, room_in}

@@ -1,4 +1,4 @@
-use Rattle.std.proofs.Common.{◌≡◌, ℕ, suc, ◌+◌, ◌<◌, ◌≤◌, List, length, map, ◌∙◌, arith, refl, ap, sym, subst, All, drop, ◌++◌, [], ◌∷◌, Some, true}
+use Rattle.std.proofs.Common.{◌≡◌, ℕ, suc, ◌<◌, ◌≤◌, List, length, map, ◌∙◌, arith, refl, ap, sym, subst, All, drop, ◌++◌, [], ◌∷◌, Some, true}
 use Rattle.std.specs.Prelude.{option_map, slice_get}
 use Rattle.std.specs.Option.{option_copied}
 use Rattle.std.specs.Vec.{with_item}
@@ -8,8 +8,8 @@ use Rattle.pipe_types.specs.declared.step.Step.TheVariants.{Dispatch}
 use Rattle.pipe_types.specs.Stages.{spec_of}
 use Rattle.pipe_model.specs.Flow.{deliveries, waiting, delivered_to, dispatched}
 use Rattle.stage_subs.specs.Subs.{row_at, sent_more}
-use Rattle.core_tables.specs.Tables.{named, queue_at, count_between, HasRoom, IsWithin}
-use Rattle.core_laws.specs.Columns.{waiting_parts, part_of}
+use Rattle.core_tables.specs.Tables.{named, queue_at, count_between, HasRoom}
+use Rattle.core_laws.specs.Columns.{part_of}
 use Rattle.core_laws.specs.Laws.{IsSentWell}
 use Rattle.core_state.specs.declared.state.Core.{Core}
 use Rattle.core_state.specs.Stands.{Fields}
@@ -223,4 +223,3 @@ returns-clause-stands c =
     }) in
     let holds = holds_after core core-new (Dispatch s) x refl c.push_spare.ensures.written c.requires.legal fields in
     record { holds = holds; unowed = unowed_after core-new t (Dispatch s) before refl c.push_spare.ensures.written refl }
-
