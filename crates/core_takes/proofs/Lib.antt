@@ -5,3 +5,4 @@ pub mod Copying
 pub mod TakenStep
 pub mod TakenClosed
 pub mod TakenOne
+pub mod Answering

@@ -5,5 +5,6 @@
 
 pub mod batch_takes;
 pub mod contents;
+mod replies;
 pub mod starts;
 pub mod takes;
