@@ -6,3 +6,6 @@ pub mod TakenStep
 pub mod TakenClosed
 pub mod TakenOne
 pub mod Answering
+pub mod AnsweredParts
+pub mod AnsweredMarks
+pub mod Answered

@@ -1,10 +1,12 @@
 -- What replies do to the rows of the messages that they answer.
-use Rattle.std.specs.Prelude.{◌≡◌, ℕ, ◌+◌, ◌≤◌, Bool, true, false, if◌then◌else◌, ◌==◌, List, [], ◌∷◌, ◌++◌, Option, Some, None}
+use Rattle.std.specs.Prelude.{◌≡◌, ℕ, ◌+◌, ◌≤◌, Bool, true, false, if◌then◌else◌, ◌==◌, List, [], ◌∷◌, ◌++◌, Option, Some, None, option_map}
 use Rattle.pipe_types.specs.declared.message.Reply.{Reply}
 use Rattle.pipe_types.specs.declared.message.Reply.TheVariants.{Pass, Failed, Raised, Crashed}
 use Rattle.core_tables.specs.declared.rows.ContentRow.{ContentRow}
 use Rattle.stage_subs.specs.Pairs.{PairRow}
-use Rattle.stage_subs.specs.Subs.{handled_more}
+use Rattle.stage_subs.specs.Subs.{handled_more, is_pair}
+use Rattle.pipe_types.specs.declared.numbers.SubNo.{SubNo}
+use Rattle.pipe_types.specs.declared.numbers.StageNo.{StageNo}
 
 -- the messages that the replies pass on, each with its partition
 abbrev pub passed_parts : (by_partition : Bool) → List Reply → List (ℕ × ℕ)
@@ -40,3 +42,8 @@ HasRow rows _ = Unit {0}
 -- so many units more were handled, where the pair's last subscription has that generation
 abbrev pub handled_on : (generation units : ℕ) → PairRow → PairRow
 handled_on g k row = if row.generation == g then handled_more k row else row
+
+-- so many units more were handled on the subscription, where there is one
+abbrev pub counted_on : Option (SubNo × ℕ) → (consumer producer : StageNo) → Option PairRow → Option PairRow
+counted_on None c p row = row
+counted_on (Some t) c p row = if is_pair t.0.consumer t.0.producer c p then option_map (handled_on t.0.generation t.1) row else row

@@ -5,10 +5,10 @@ ghost use Rattle.std.specs.VecDeque.{deque_len, deque_capacity};
 ghost use Rattle.pipe_types.specs.declared.numbers.StageNo.{StageNo as Stage};
 ghost use Rattle.pipe_model.specs.Content.{has_crash};
 ghost use Rattle.pipe_model.specs.Flow.{answered, done};
-ghost use Rattle.stage_subs.specs.Subs.{row_of, IsChanged};
+ghost use Rattle.stage_subs.specs.Subs.{row_of, row_at, IsChanged};
 ghost use Rattle.core_tables.specs.Answers.{done_as};
 ghost use Rattle.core_tables.specs.Tables.{queue_at, list_at, spare_at};
-ghost use Rattle.core_takes.specs.Replies.{passed_parts, ends, marked, noted, HasRow, handled_on};
+ghost use Rattle.core_takes.specs.Replies.{passed_parts, ends, marked, noted, HasRow, handled_on, counted_on};
 
 use core_tables::rows::ContentRow;
 use pipe_types::message::{Outcome, Place, Reply};
@@ -210,8 +210,18 @@ pub(crate) fn clear_chunk(chunks: &mut Vec<Vec<u32>>, stage: StageNo)
     chunk.clear();
 }
 
+/// Counts the units of a take as handled.
+pub(crate) fn count_taken(subs: &mut Subs, take: Option<(SubNo, u32)>)
+    requires { IfSome take (λ t. IfSome (row_of subs.old t.0) (λ row. row.generation ≡ t.0.generation → row.counts.handled + t.1 ≤ row.counts.arrived)) }
+    ensures { (c : Stage) (p : Stage) → row_at subs.new c p ≡ counted_on take c p (row_at subs.old c p) }
+{
+    if let Some((sub, units)) = take {
+        count_handled(subs, sub, units);
+    }
+}
+
 /// Counts units as handled, where the subscription is its pair's last one.
-pub(crate) fn count_handled(subs: &mut Subs, sub: SubNo, units: u32)
+fn count_handled(subs: &mut Subs, sub: SubNo, units: u32)
     requires { IfSome (row_of subs.old sub) (λ row. row.generation ≡ sub.generation → row.counts.handled + units ≤ row.counts.arrived) }
     ensures { IsChanged subs.old subs.new sub (handled_on sub.generation units) }
 {
