@@ -23,7 +23,7 @@ use Rattle.pipe_model.specs.History.{History, accepted}
 use Rattle.pipe_model.specs.Posts.{last_take}
 use Rattle.pipe_model.specs.Content.{has_crash, passed}
 use Rattle.pipe_model.specs.Flow.{place, inbox, sent_to, view_of, runs_in, done, has_batchers_in, chunk_by}
-use Rattle.pipe_model.specs.Legal.{is_legal, allows, has_role, is_processor_role}
+use Rattle.pipe_model.specs.Legal.{is_legal, allows, has_role, is_processor_role, owed, is_crash_of}
 use Rattle.pipe_model.specs.Standing.{gathered_in}
 use Rattle.pipe_journal.specs.Recorded.{Recorded}
 use Rattle.pipe_laws.proofs.Tests.{clash, same_stage-true}
@@ -37,6 +37,8 @@ use Rattle.queue_laws.proofs.Laws.{inbox_law}
 use Rattle.queue_laws.proofs.Distinct.{distinct, Passes, passes}
 use Rattle.queue_laws.proofs.Passing.{AnswerEach}
 use Rattle.stage_laws.proofs.Runs.{runs_done, runs_done_else}
+use Rattle.stage_laws.proofs.Bounds.{few_numbers}
+use Rattle.stage_laws.proofs.Records.{accepted_small}
 use Rattle.stage_laws.proofs.Numbering.{numbered_topology}
 use Rattle.stage_subs.specs.Pairs.{PairRow}
 use Rattle.stage_subs.specs.Subs.{row_of, row_at}
@@ -49,7 +51,7 @@ use Rattle.core_laws.specs.Columns.{running, post_row, is_by_partition, waiting_
 use Rattle.core_laws.proofs.Lawful.{legal_after, each_all}
 use Rattle.core_laws.proofs.Past.{known_within, live_known}
 use Rattle.core_state.specs.declared.state.Core.{Core}
-use Rattle.core_state.specs.Stands.{Fields, Holds}
+use Rattle.core_state.specs.Stands.{Fields, Holds, Stands}
 use Rattle.core_calls.proofs.Ending.{post_home}
 use Rattle.core_takes.specs.Replies.{passed_parts, marked, noted, counted_on, HasRow}
 use Rattle.core_takes.proofs.Taking.{flip}
@@ -237,3 +239,74 @@ counts_fit core s replies None x known safe took = tt
 counts_fit core s replies (Some t) x known safe took =
     room_answered core.topology core.journal.steps s replies t.0 t.1 (row_of core.subs t.0) known.after safe took
     (x.fields.subs t.0.consumer t.0.producer (take_fed core.topology core.journal.steps s t.0 t.1 x.legal took))
+
+-- a chunk is answered by few replies
+pub replies_few : (core : Core) (s : StageNo) (replies : List Reply) → Holds core → Known core s replies → length replies ≤ 200000
+replies_few core s replies x known =
+    let few = few_numbers (accepted core.journal.steps) (running core.topology core.journal.steps s) known.passes.chunk_once known.chunk in
+    let small = accepted_small core.topology core.journal.steps x.sound x.legal in
+    omega (arith, few, small, known.many)
+
+-- Where queues made room, the fields are as they were
+roomy_fields : (core : Core) (waiting : Vec (VecDeque (ℕ × ℕ) Global) Global) (j : Recorded) (topology : Topology) (before : History) → Fields core topology before
+    → ((t : StageNo) → queue_at waiting.items t ≡ queue_at core.waiting.items t) → length waiting.items ≡ length core.waiting.items
+    → Fields (record core { waiting = waiting; journal = j }) topology before
+roomy_fields core waiting j topology before x same len =
+    record {
+      sized =
+          record {
+            few = x.sized.few;
+            stages = x.sized.stages;
+            posts = x.sized.posts;
+            waiting = len ∙ x.sized.waiting;
+            inboxes = x.sized.inboxes;
+            chunks = x.sized.chunks;
+            batchers = x.sized.batchers;
+            children = x.sized.children;
+            places = x.sized.places;
+            settled = x.sized.settled;
+            producers = x.sized.producers;
+            contents = x.sized.contents;
+            batches = x.sized.batches;
+          };
+      set = record { batchers = x.set.batchers; children = x.set.children; restarts = x.set.restarts };
+      stages = x.stages;
+      posts = x.posts;
+      subs = x.subs;
+      waiting = λ t. same t ∙ x.waiting t;
+      inboxes = x.inboxes;
+      chunks = x.chunks;
+      opens = x.opens;
+      children = x.children;
+      places = x.places;
+      settled = x.settled;
+      producers = x.producers;
+      contents = x.contents;
+      batches = x.batches;
+      sent_on = x.sent_on;
+      legs = x.legs;
+      restarts = x.restarts;
+      totals = x.totals;
+    }
+
+pub roomy_queues : (core : Core) (waiting : Vec (VecDeque (ℕ × ℕ) Global) Global) (j : Recorded) → Stands core
+    → ((t : StageNo) → queue_at waiting.items t ≡ queue_at core.waiting.items t) → length waiting.items ≡ length core.waiting.items
+    → j.steps ≡ core.journal.steps → Stands (record core { waiting = waiting; journal = j })
+roomy_queues core waiting j x same len steps =
+    record {
+      holds =
+          record {
+            sound = x.holds.sound;
+            legal = ap (is_legal core.topology) steps ∙ x.holds.legal;
+            fields = subst (λ (h : History). Fields (record core { waiting = waiting; journal = j }) core.topology h) (sym steps) (roomy_fields core waiting j core.topology core.journal.steps x.holds.fields same len);
+          };
+      unowed = ap (owed core.topology) steps ∙ x.unowed;
+    }
+
+-- an answer without a crash owes no step
+pub answered_stands : (core new : Core) (s : StageNo) (replies : List Reply) → Holds new → new.topology ≡ core.topology → new.journal.steps ≡ Done s replies ∷ core.journal.steps → has_crash replies ≡ false → Stands new
+answered_stands core new s replies holds same written safe =
+    record {
+      holds = holds;
+      unowed = ap (λ t. owed t new.journal.steps) same ∙ (ap (owed core.topology) written ∙ ap (λ b. if b then Some (is_crash_of s) else None) safe);
+    }

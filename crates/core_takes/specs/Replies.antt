@@ -2,6 +2,9 @@
 use Rattle.std.specs.Prelude.{◌≡◌, ℕ, ◌+◌, ◌≤◌, Bool, true, false, if◌then◌else◌, ◌==◌, List, [], ◌∷◌, ◌++◌, Option, Some, None, option_map}
 use Rattle.pipe_types.specs.declared.message.Reply.{Reply}
 use Rattle.pipe_types.specs.declared.message.Reply.TheVariants.{Pass, Failed, Raised, Crashed}
+use Rattle.pipe_types.specs.declared.topology.StageSpec.{StageSpec}
+use Rattle.core_laws.specs.Columns.{is_by_partition}
+use Rattle.core_tables.specs.declared.rows.StageRow.{StageRow}
 use Rattle.core_tables.specs.declared.rows.ContentRow.{ContentRow}
 use Rattle.stage_subs.specs.Pairs.{PairRow}
 use Rattle.stage_subs.specs.Subs.{handled_more, is_pair}
@@ -47,3 +50,12 @@ handled_on g k row = if row.generation == g then handled_more k row else row
 abbrev pub counted_on : Option (SubNo × ℕ) → (consumer producer : StageNo) → Option PairRow → Option PairRow
 counted_on None c p row = row
 counted_on (Some t) c p row = if is_pair t.0.consumer t.0.producer c p then option_map (handled_on t.0.generation t.1) row else row
+
+-- the stage dispatches by partition
+abbrev pub parted : Option StageSpec → Bool
+parted None = false
+parted (Some spec) = is_by_partition spec.dispatch
+
+abbrev pub take_in : Option StageRow → Option (SubNo × ℕ)
+take_in None = None
+take_in (Some row) = row.last_take
