@@ -21,7 +21,7 @@ ghost use Rattle.topology_needs.specs.Unbuilt.{unbuilt_of};
 ghost use Rattle.pipe_top.specs.Stock.{IsGivenBack, IsLeftBy};
 ghost use Rattle.pipe_top.specs.Cases.{Runs, run_case, boxes_in as boxes_of_kinds, source_of, source_calls};
 ghost use Rattle.pipe_top.specs.Verdicts.{whole_text};
-ghost use Rattle.pipe_top.specs.Runs.{IsRun, IsPartlyRead, run_text};
+ghost use Rattle.pipe_top.specs.Runs.{IsRun, run_text};
 ghost use Rattle.pipe_top.specs.Flows.{IsRunnable, IsProcessorOf, IsJudgement, IsRunVerdict, GivesBack, KeepsEdges, RunsOrNot, ComesBy, refusal_in};
 
 use crate::verdict::{Refusal, Shows, Texts, Verdict};
@@ -242,7 +242,7 @@ fn run_opened<E: Edges>(
         → GivesBack E.sources_back E.Source.told E.Source.taken E.Source.left E.Source.faults E.Source.waits source
         edges.old edges.new name.now result.journal.steps (result.verdict ≡ Verdict.Refused Refusal.Wait) }
     ensures back_or_not { (E.sources_back edges.new ≡ E.sources_back edges.old)
-        ⊎ IsPartlyRead E.sources_back E.Source.told E.Source.taken E.Source.left edges.old edges.new name.now result.journal.steps }
+        ⊎ GivesBack E.sources_back E.Source.told E.Source.taken E.Source.left E.Source.faults E.Source.waits source edges.old edges.new name.now result.journal.steps ⊥ }
     ensures edges { KeepsEdges E.told E.asked E.faults E.sinks_back edges.old edges.new }
 {
     match LineSource::new(alloc, source) {
@@ -280,7 +280,7 @@ fn run_lines<E: Edges>(
         → GivesBack E.sources_back E.Source.told E.Source.taken E.Source.left E.Source.faults E.Source.waits (line_source lines)
         edges.old edges.new name.now result.journal.steps (result.verdict ≡ Verdict.Refused Refusal.Wait) }
     ensures back_or_not { (E.sources_back edges.new ≡ E.sources_back edges.old)
-        ⊎ IsPartlyRead E.sources_back E.Source.told E.Source.taken E.Source.left edges.old edges.new name.now result.journal.steps }
+        ⊎ GivesBack E.sources_back E.Source.told E.Source.taken E.Source.left E.Source.faults E.Source.waits (line_source lines) edges.old edges.new name.now result.journal.steps ⊥ }
     ensures edges { KeepsEdges E.told E.asked E.faults E.sinks_back edges.old edges.new }
 {
     let mut core = core;

@@ -209,6 +209,7 @@ reads_on told taken left faults waits opened source topology old new on r = reco
   moves = on.moves r.moves;
   kinds = on.kinds r.kinds;
   read = rw on.accepted r.read;
+  in_fetch = inl refl;
   known = rw on.ended r.known;
   first = rw on.brought r.first;
 }
@@ -239,6 +240,7 @@ reads_fetch told taken left faults waits opened old new topology before n record
   moves = (r.moves, first);
   kinds = r.kinds;
   read = rw append-nil at read;
+  in_fetch = inr refl;
   known = end_known (source_end before (stage 1)) (line_end_of old) (line_end_of new) stays r.known;
   first = r.first;
 }
@@ -264,6 +266,7 @@ reads_accept told taken left faults waits opened source topology before records 
   moves = ((r.moves, tt), inl (owes topology before (stage 1) records allowed));
   kinds = r.kinds;
   read = rw append-nil r.read;
+  in_fetch = inl refl;
   known = r.known;
   first = All-cons (AreFirstHeld told taken left faults waits opened) _ _ (record {
     source = source;
@@ -279,6 +282,7 @@ reads_end told taken left faults waits opened source topology before h r known =
   moves = (r.moves, tt);
   kinds = r.kinds;
   read = r.read;
+  in_fetch = inl refl;
   known = known;
   first = r.first;
 }
