@@ -14,13 +14,14 @@ use Rattle.pipe_model.specs.Counting.{as_number}
 use Rattle.pipe_model.specs.Lives.{generation}
 use Rattle.pipe_model.specs.Ledger.{max_in}
 use Rattle.pipe_model.specs.Legal.{is_legal, has_role, is_producer_role, takes_role, has_ended}
-use Rattle.count_laws.specs.Counts.{movers, senders, takes, asks, begun, answered, kills, crash_kills}
+use Rattle.count_laws.specs.Counts.{movers, senders, takes, asks, begun, answered, kills, crash_kills, child_starts}
 use Rattle.count_laws.proofs.Steps.{movers_within, answers_within, controls_within}
 use Rattle.count_laws.proofs.Takes.{takes_few}
 use Rattle.count_laws.proofs.Bounds.{restarts_within, generations_within}
 use Rattle.count_laws.proofs.Sends.{senders_few, asks_few}
 use Rattle.count_laws.proofs.Crashes.{crash_kills_few, ended_rests}
 use Rattle.count_laws.proofs.Reruns.{crashes_few}
+use Rattle.count_laws.proofs.Starts.{child_starts_within}
 
 pub movers_law : (topology : Topology) (before : History) → IsSound topology → IsTrue (is_legal topology before) → movers topology before ≤ 21 * topology.record_limit
 movers_law topology before sound h = movers_within topology before sound h
@@ -54,3 +55,9 @@ crashes_law topology before n h = crashes_few topology before n h
 
 pub ended_law : (topology : Topology) (before : History) (s : StageNo) → IsTrue (is_legal topology before) → IsTrue (has_role topology s is_producer_role) → same_stage s (stage 0) ≡ false → IsTrue (has_ended before s) → is_out before (post s 0) ≡ false
 ended_law topology before s h role own ended = ended_rests topology before s h role own ended
+
+pub child_starts_law : (topology : Topology) (before : History) (n : ℕ) → IsTrue (is_legal topology before) → child_starts before n ≤ 1 + crashes before n
+child_starts_law topology before n h = child_starts_within topology before n h
+
+pub child_starts_most : (topology : Topology) (before : History) (n : ℕ) → IsTrue (is_legal topology before) → child_starts before n ≤ 5
+child_starts_most topology before n h = omega (arith, child_starts_within topology before n h, crashes_few topology before n h)

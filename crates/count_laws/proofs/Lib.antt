@@ -7,3 +7,4 @@ pub mod Sends
 pub mod Crashes
 pub mod Reruns
 pub mod Laws
+pub mod Starts

@@ -11,7 +11,6 @@ use Rattle.pipe_types.specs.declared.topology.Keep.TheVariants.{Last, First}
 use Rattle.pipe_types.specs.declared.message.Loss.TheVariants.{Overflow}
 use Rattle.pipe_types.specs.declared.message.Place.TheVariants.{Waiting, Lost}
 use Rattle.pipe_types.specs.declared.step.Step.TheVariants.{Dispatch}
-use Rattle.pipe_types.specs.Numbers.{same_stage}
 use Rattle.pipe_types.specs.Stages.{spec_of}
 use Rattle.pipe_model.specs.History.{History}
 use Rattle.pipe_model.specs.Flow.{place, batch, view_of, is_batcher, is_empty, among, waiting, waits_in, batch_waits_in, deliveries, subs_of, unsent, over_size, over_in, lost_over, dispatched, waiting_after}

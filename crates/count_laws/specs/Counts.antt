@@ -1,5 +1,5 @@
 -- How often what came in a journal.
-use Rattle.std.specs.Prelude.{ℕ, ◌+◌, [], ◌∷◌, Bool, true, false, if◌then◌else◌, not, ◌&&◌, ◌||◌}
+use Rattle.std.specs.Prelude.{ℕ, ◌+◌, [], ◌∷◌, Bool, true, false, if◌then◌else◌, not, ◌==◌, ◌&&◌, ◌||◌}
 use Rattle.pipe_types.specs.declared.numbers.StageNo.{StageNo}
 use Rattle.pipe_types.specs.declared.numbers.Post.{Post}
 use Rattle.pipe_types.specs.declared.topology.Topology.{Topology}
@@ -91,3 +91,13 @@ crash_kills_after _ s old = old
 abbrev pub crash_kills : History → StageNo → ℕ
 crash_kills [] s = 0
 crash_kills (step ∷ before) s = crash_kills_after step s (crash_kills before s)
+
+-- the children started for the message, after a step
+abbrev pub child_starts_after : Step → ℕ → ℕ → ℕ
+child_starts_after (Child s m slot) n old = if m.0 == n then old + 1 else old
+child_starts_after _ n old = old
+
+-- how many children were started for the message
+abbrev pub child_starts : History → ℕ → ℕ
+child_starts [] n = 0
+child_starts (step ∷ before) n = child_starts_after step n (child_starts before n)

@@ -19,7 +19,7 @@ ghost use Rattle.pipe_model.specs.Counting.{as_number};
 ghost use Rattle.pipe_model.specs.Lives.{generation};
 ghost use Rattle.pipe_model.specs.Ledger.{max_in};
 ghost use Rattle.pipe_model.specs.Legal.{is_legal, has_role, is_producer_role, takes_role, has_ended};
-ghost use Rattle.count_laws.specs.Counts.{movers, senders, takes, asks, begun, answered, kills, crash_kills};
+ghost use Rattle.count_laws.specs.Counts.{movers, senders, takes, asks, begun, answered, kills, crash_kills, child_starts};
 
 /// Steps that take a record in, move a message on or lose one: each message moves at most 21 times.
 #[tactic(auto, using(crate::proofs::Laws::movers_law))]
@@ -88,6 +88,12 @@ pub fn controls_are_few()
 #[tactic(auto, using(crate::proofs::Laws::crashes_law))]
 pub fn crashes_are_few()
     ensures { (topology : Topology) (before : History) (n : ℕ) → IsTrue (is_legal topology before) → crashes before n ≤ 4 }
+{}
+
+/// A message is started as a child once more at most than its children crash, and so at most 5 times.
+pub fn child_starts_are_few()
+    ensures within { (topology : Topology) (before : History) (n : ℕ) → IsTrue (is_legal topology before) → child_starts before n ≤ 1 + crashes before n }
+    ensures few { (topology : Topology) (before : History) (n : ℕ) → IsTrue (is_legal topology before) → child_starts before n ≤ 5 }
 {}
 
 /// A source that has ended has no fetch out, so it ends once.

@@ -1,0 +1,6 @@
+mod Opens
+mod Passing
+mod Gathering
+mod Joining
+mod Removing
+mod Closing
