@@ -149,7 +149,7 @@ inbox_places topology before s role =
         (subst (λ b. (if b then leg_waits_in d.0 (batch topology before d.1) else in_inbox_by d.0 (place topology before d.1)) ≡ true) plain p.1)
 
 -- the supervisor's child takes the first unit, or none
-child_takes : (topology : Topology) (before : History) (s : StageNo) (m : MsgNo) (slot : ℕ) → Fits topology → is_legal topology (Child s m slot ∷ before) ≡ true
+pub child_takes : (topology : Topology) (before : History) (s : StageNo) (m : MsgNo) (slot : ℕ) → Fits topology → is_legal topology (Child s m slot ∷ before) ≡ true
     → without_number m.0 (inbox topology before s) ≡ (if runs_number topology before s (in_slot before s slot) then inbox topology before s else drop 1 (inbox topology before s))
 child_takes topology before s m slot fit h = either (runs_number topology before s (in_slot before s slot)) refl
   where
