@@ -11,3 +11,4 @@ pub mod Reached
 pub mod AfterSending
 pub mod Sendable
 pub mod Roomy
+pub mod Accepted
