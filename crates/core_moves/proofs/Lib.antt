@@ -1,0 +1,8 @@
+pub mod Begun
+pub mod Finding
+pub mod Working
+pub mod Queues
+pub mod Totals
+pub mod Known
+pub mod Roomy
+pub mod Fetched

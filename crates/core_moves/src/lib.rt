@@ -1,0 +1,14 @@
+//! What comes next, and which step may come, for every sound topology.
+//!
+//! Each reader has the condition that the core stands for its journal, and answers what the model says of that journal.
+#![tactic(auto)]
+
+mod asks;
+mod causes;
+pub mod drain;
+mod finds;
+mod jobs;
+pub mod posts;
+pub mod rests;
+mod rooms;
+mod rows;

@@ -1,0 +1,31 @@
+//! What a dispatch would send, and room for it.
+
+ghost use Rattle.std.specs.Prelude.{◌≡◌, ◌+◌, ◌<◌, ◌^◌, length, true, IfOk};
+ghost use Rattle.pipe_model.specs.Lives.{is_live};
+ghost use Rattle.pipe_model.specs.Flow.{waiting};
+ghost use Rattle.core_state.specs.Stands.{Holds};
+ghost use Rattle.core_sends.specs.Rooms.{planned};
+
+use crate::deliveries::deliver;
+use crate::rooms::rooms_of;
+use core_state::Core;
+use pipe_types::numbers::StageNo;
+use pipe_types::room::Sent;
+use std::alloc::AllocError;
+
+/// What a dispatch of the live stage would send if units with the partitions `more` waited behind those in its queue, by
+/// unit and then by subscription. A unit is its place in the queue, from 0.
+pub fn plan(core: &Core, stage: StageNo, more: &[u32]) -> Result<Vec<Sent>, AllocError>
+    requires holds { Holds core.now }
+    requires live { is_live core.now.topology core.now.journal.steps stage ≡ true }
+    requires few { length (waiting core.now.topology core.now.journal.steps stage) + length more.now < 2 ^ 32 }
+    ensures { IfOk result (λ sent. sent.items ≡ planned core.now.topology core.now.journal.steps stage more.now) }
+{
+    let rooms = rooms_of(core, stage)?;
+    let Some(spec) = core.topology.stages.find(stage) else {
+        unreachable!();
+    };
+    let queue = &core.waiting[stage.0 as usize];
+    let sent = deliver(core.alloc, spec.dispatch, queue, more, &rooms)?;
+    Ok(sent.into_vec())
+}

@@ -1,0 +1,9 @@
+pub mod Keys
+pub mod Spread
+pub mod ByKind
+pub mod Lives
+pub mod Asking
+pub mod Endings
+pub mod Total
+pub mod Laws
+pub mod Counted
