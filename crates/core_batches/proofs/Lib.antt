@@ -1,5 +1,5 @@
-mod Opens
-mod Passing
+pub mod Opens
+pub mod Passing
 mod Gathering
 mod Joining
 mod Removing
