@@ -1,3 +1,3 @@
-mod Opens
-mod Passing
-mod Gathering
+pub mod Opens
+pub mod Passing
+pub mod Gathering

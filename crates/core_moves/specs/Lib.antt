@@ -1,3 +1,4 @@
 pub mod Left
 pub mod Rows
 pub mod Jobs
+pub mod Gathers

@@ -7,6 +7,7 @@ mod asks;
 mod causes;
 pub mod drain;
 mod finds;
+mod gathers;
 mod jobs;
 pub mod posts;
 pub mod rests;
