@@ -7,3 +7,5 @@ pub mod Known
 pub mod Roomy
 pub mod Fetched
 pub mod Fitting
+pub mod Goes
+pub mod Sending

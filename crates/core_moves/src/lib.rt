@@ -5,6 +5,7 @@
 
 mod asks;
 mod causes;
+mod dispatches;
 pub mod drain;
 mod finds;
 mod gathers;

@@ -8,6 +8,6 @@ pub mod counting;
 mod deliveries;
 pub mod losing;
 pub mod plans;
-mod rooms;
+pub mod rooms;
 mod leaving;
 pub mod sending;
