@@ -1,3 +1,6 @@
 pub mod Opens
 pub mod Passing
-pub mod Gathering
+mod Gathering
+mod Joining
+mod Removing
+mod Closing

@@ -3,3 +3,8 @@ pub mod Counted
 pub mod Kept
 pub mod Over
 pub mod Queued
+pub mod Plain
+pub mod LeftOver
+pub mod Settled
+pub mod Sent
+pub mod Reached

@@ -1,7 +1,10 @@
 -- The take that comes next, by the first unit of the inbox.
 use Rattle.std.proofs.Common.{◌≡◌, ℕ, ◌+◌, ◌-◌, ◌<◌, ◌≤◌, List, [], ◌∷◌, length, Bool, true, false, refl, ap, sym, ◌∙◌, Some, None, Option, arith, min, subst, take}
 use Rattle.std.specs.Prelude.{if◌then◌else◌}
-use Rattle.pipe_laws.proofs.Tests.{same_stage-self}
+use Rattle.pipe_laws.proofs.Tests.{same_stage-self, clash}
+use Rattle.pipe_laws.proofs.Allowed.{take_facts}
+use Rattle.pipe_types.specs.declared.topology.Role.{Role}
+use Rattle.pipe_types.specs.declared.topology.Role.TheVariants.{Producer, Processor, Supervisor, Batcher, BatchProcessor}
 use Rattle.pipe_model.specs.Work.{chunk_of, messages_of, taken_units}
 use Rattle.std.specs.declared.alloc.Global.{Global}
 use Rattle.std.specs.declared.vec.Vec.{Vec}
@@ -14,7 +17,7 @@ use Rattle.pipe_types.specs.Stages.{spec_of}
 use Rattle.pipe_model.specs.History.{History}
 use Rattle.pipe_model.specs.Flow.{inbox, units_on}
 use Rattle.pipe_model.specs.Jobs.{take_first, take_step, may_take_next, allows_some}
-use Rattle.pipe_model.specs.Legal.{allows, is_legal, owed, chunk_size}
+use Rattle.pipe_model.specs.Legal.{allows, is_legal, owed, chunk_size, has_role, takes_role, is_processor_role, is_batch_processor_role}
 use Rattle.pipe_journal.specs.Recorded.{Recorded}
 use Rattle.core_tables.specs.Tables.{list_at}
 use Rattle.core_state.specs.declared.state.Core.{Core}
@@ -127,3 +130,26 @@ pub chunk_after : (topology : Topology) (before : History) (s : StageNo) (u : Su
     → chunk_of topology (Take s u k ∷ before) s ≡ messages_of before (take k (units_on u (inbox topology before s)))
 chunk_after topology before s u k =
     ap (λ b. messages_of before (if b then take k (units_on u (inbox topology before s)) else taken_units topology before s)) (same_stage-self s)
+
+-- a stage that takes and is no batch processor is a processor
+messages_role : (topology : Topology) (s : StageNo) → has_role topology s takes_role ≡ true → has_role topology s is_batch_processor_role ≡ false → has_role topology s is_processor_role ≡ true
+messages_role topology s takes other = by_spec (spec_of topology s) refl
+  where
+    by_role : (role : Role) → takes_role role ≡ true → is_batch_processor_role role ≡ false → is_processor_role role ≡ true
+    by_role Processor e f = refl
+    by_role BatchProcessor e f = let wrong : true ≡ false = f in cc
+    by_role Producer e f = let wrong : false ≡ true = e in cc
+    by_role Supervisor e f = let wrong : false ≡ true = e in cc
+    by_role Batcher e f = let wrong : false ≡ true = e in cc
+
+    by_spec : (o : Option StageSpec) → spec_of topology s ≡ o → has_role topology s is_processor_role ≡ true
+    by_spec None e = let none : has_role topology s takes_role ≡ false = rw e refl in clash (has_role topology s takes_role) takes none
+    by_spec (Some spec) e =
+        let is : has_role topology s is_processor_role ≡ is_processor_role spec.role = rw e refl in
+        let takes-is : has_role topology s takes_role ≡ takes_role spec.role = rw e refl in
+        let other-is : has_role topology s is_batch_processor_role ≡ is_batch_processor_role spec.role = rw e refl in
+        is ∙ by_role spec.role (sym takes-is ∙ takes) (sym other-is ∙ other)
+
+pub takes_messages : (topology : Topology) (before : History) (s : StageNo) → may_take_next topology before s ≡ true → has_role topology s is_batch_processor_role ≡ false → has_role topology s is_processor_role ≡ true
+takes_messages topology before s h other =
+    messages_role topology s (take_facts topology before s (sub_first (inbox topology before s)) (min (most_of (spec_of topology s)) (length (units_on (sub_first (inbox topology before s)) (inbox topology before s)))) (next_allowed topology before s h)).role other

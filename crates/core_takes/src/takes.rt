@@ -1,21 +1,23 @@
 //! The call that takes.
 
-ghost use Rattle.std.specs.Prelude.{◌≡◌, ◌≢◌, ◌≤◌, ◌<◌, ℕ, [], true, IfOk, OnOk, OnErr, IsTrue, length, take};
+ghost use Rattle.std.specs.Prelude.{◌≡◌, ◌≢◌, ◌≤◌, ◌<◌, ℕ, [], true, IfOk, OnOk, OnErr, IsTrue, length, take, is_some};
 ghost use Rattle.pipe_types.specs.declared.numbers.StageNo.{StageNo as Stage};
 ghost use Rattle.pipe_types.specs.Stages.{spec_of};
 ghost use Rattle.pipe_model.specs.Jobs.{take_step, may_take_next, with_step};
-ghost use Rattle.pipe_model.specs.Flow.{inbox, units_on};
-ghost use Rattle.pipe_model.specs.Legal.{has_role, is_batch_processor_role, is_processor_role};
+ghost use Rattle.pipe_model.specs.Flow.{inbox, units_on, batch as batch_as};
+ghost use Rattle.pipe_model.specs.Legal.{has_role, is_batch_processor_role, is_processor_role, first_unit};
 ghost use Rattle.pipe_model.specs.Work.{chunk_of};
 ghost use Rattle.core_tables.specs.Tables.{queue_at, list_at, room_at};
-ghost use Rattle.core_state.specs.Stands.{Stands};
-ghost use Rattle.core_takes.specs.Takes.{most_of, sub_first};
+ghost use Rattle.core_state.specs.Stands.{Stands, Holds};
+ghost use Rattle.core_takes.specs.Takes.{most_of, sub_first, first_key, IsBatch, IsTaken, IsChunk};
 
-use crate::contents::copies_of;
+use crate::batch_takes::start_batch;
+use crate::contents::{copies_of, copy_bytes};
 use crate::starts::start;
 use core_state::Core;
-use pipe_types::message::{Batch, MessageList};
-use pipe_types::numbers::{StageNo, SubNo};
+use pipe_types::bytes::Bytes;
+use pipe_types::message::{Batch, Message, MessageList};
+use pipe_types::numbers::{BatchNo, StageNo, SubNo};
 use pipe_types::topology::{Role, Topology};
 use std::alloc::{AllocError, Global};
 use std::collections::VecDeque;
@@ -27,8 +29,36 @@ pub enum Chunk {
     Batch(Batch),
 }
 
+/// Appends the take of what stands first in the stage's inbox, and gives it out.
+pub fn take(core: &mut Core, stage: StageNo) -> Result<Chunk, AllocError>
+    requires stands { Stands core.old }
+    requires legal { IsTrue (may_take_next core.old.topology core.old.journal.steps stage) }
+    ensures appended { OnOk result (core.new.journal.steps ≡ with_step (take_step core.old.topology core.old.journal.steps stage) core.old.journal.steps) }
+    ensures chunk { IfOk result (λ chunk. IsChunk core.new.topology core.new.journal.steps stage chunk) }
+    ensures unchanged { OnErr result (core.new.journal.steps ≡ core.old.journal.steps) }
+    ensures topology { core.new.topology ≡ core.old.topology }
+    ensures stands { Stands core.new }
+{
+    if takes_batches(&core.topology, stage) {
+        let batch = take_batch(core, stage)?;
+        return Ok(Chunk::Batch(batch));
+    }
+    let messages = take_messages(core, stage)?;
+    Ok(Chunk::Messages(messages))
+}
+
+/// Whether the stage is a batch processor.
+fn takes_batches(topology: &Topology, stage: StageNo) -> bool
+    ensures { result ≡ has_role topology.now stage is_batch_processor_role }
+{
+    match topology.stages.find(stage) {
+        Some(spec) => matches!(spec.role, Role::BatchProcessor),
+        None => false,
+    }
+}
+
 /// Appends the take of a processor, and gives out the messages that it took.
-pub fn take_messages(core: &mut Core, stage: StageNo) -> Result<MessageList, AllocError>
+fn take_messages(core: &mut Core, stage: StageNo) -> Result<MessageList, AllocError>
     requires stands { Stands core.old }
     requires legal { IsTrue (may_take_next core.old.topology core.old.journal.steps stage) }
     requires processor { has_role core.old.topology stage is_processor_role ≡ true }
@@ -45,6 +75,63 @@ pub fn take_messages(core: &mut Core, stage: StageNo) -> Result<MessageList, All
     make_ready(core, stage, most)?;
     start(core, stage, sub, most);
     Ok(MessageList::from_vec(messages))
+}
+
+/// Appends the take of a batch processor, and gives out the batch that it took.
+fn take_batch(core: &mut Core, stage: StageNo) -> Result<Batch, AllocError>
+    requires stands { Stands core.old }
+    requires legal { IsTrue (may_take_next core.old.topology core.old.journal.steps stage) }
+    requires processor { has_role core.old.topology stage is_batch_processor_role ≡ true }
+    ensures appended { OnOk result (core.new.journal.steps ≡ with_step (take_step core.old.topology core.old.journal.steps stage) core.old.journal.steps) }
+    ensures batch { IfOk result (λ batch. IsTaken core.new.topology core.new.journal.steps stage batch) }
+    ensures unchanged { OnErr result (core.new.journal.steps ≡ core.old.journal.steps) }
+    ensures topology { core.new.topology ≡ core.old.topology }
+    ensures stands { Stands core.new }
+{
+    let sub = first_sub(&core.inboxes, stage);
+    let no = first_no(&core.inboxes, stage);
+    let batch = batch_of(core, no)?;
+    core.journal.reserve(1)?;
+    start_batch(core, stage, sub, no);
+    Ok(batch)
+}
+
+/// A copy of the closed batch with that number.
+fn batch_of(core: &Core, no: u32) -> Result<Batch, AllocError>
+    requires holds { Holds core.now }
+    requires closed { is_some (batch_as core.now.topology core.now.journal.steps no) ≡ true }
+    ensures { IfOk result (λ batch. IsBatch core.now.topology core.now.journal.steps no batch) }
+{
+    let row = &core.batches[no as usize - 1];
+    let messages = copies_of(core, &row.numbers)?;
+    let key = key_of_first(core.alloc, &messages)?;
+    Ok(Batch {
+        no: BatchNo(no),
+        key,
+        trigger: row.trigger,
+        messages: MessageList::from_vec(messages),
+    })
+}
+
+/// A copy of the first message's key, and none where there is no message.
+fn key_of_first(alloc: Global, messages: &[Message]) -> Result<Bytes, AllocError>
+    ensures { IfOk result (λ key. key ≡ first_key messages.now) }
+{
+    match messages.first() {
+        Some(message) => copy_bytes(alloc, &message.key),
+        None => Ok(Bytes::from_vec(Vec::new(alloc))),
+    }
+}
+
+/// The first unit in the stage's inbox, and 0 where the inbox is empty.
+fn first_no(inboxes: &[VecDeque<(SubNo, u32)>], stage: StageNo) -> u32
+    requires { stage.0 < length inboxes.now }
+    ensures { result ≡ first_unit (queue_at inboxes.now stage) }
+{
+    match inboxes[stage.0 as usize].front() {
+        Some(unit) => unit.1,
+        None => 0,
+    }
 }
 
 /// The subscription of the first unit in the stage's inbox, and one of stage 0 where the inbox is empty.
