@@ -11,4 +11,6 @@ mod leaving;
 mod losing;
 pub mod plans;
 mod rooms;
+pub mod rooms;
+mod leaving;
 pub mod sending;
