@@ -5,6 +5,7 @@ pub mod Fed
 pub mod Marks
 pub mod Contents
 pub mod Parts
+pub mod Children
 pub mod Bounds
 pub mod Alike
 pub mod Accepting

@@ -1,0 +1,5 @@
+//! The children of a supervisor: a child runs the first message of the inbox, or again the message whose last run crashed.
+#![tactic(auto)]
+
+pub mod slots;
+pub mod starts;
