@@ -4,6 +4,8 @@
 //! producer no more than its subscribers asked for. An accept makes the records messages that wait in the producer.
 #![tactic(auto)]
 
+pub mod accepts;
+pub mod calls;
 pub mod fetches;
 mod limits;
 mod rooms;

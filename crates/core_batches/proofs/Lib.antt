@@ -1,3 +1,6 @@
-mod Opens
-mod Passing
+pub mod Opens
+pub mod Passing
 mod Gathering
+mod Joining
+mod Removing
+mod Closing

@@ -21,16 +21,16 @@ use Rattle.core_laws.specs.Columns.{open_of, keys_of, open_batches}
 
 -- Keys
 
-same_bytes : (a b : List ℕ) → bytes_eq a b ≡ true → a ≡ b
+pub same_bytes : (a b : List ℕ) → bytes_eq a b ≡ true → a ≡ b
 same_bytes a b h = (bytes_eq-Decides a b).0 h
 
-self_bytes : (a : List ℕ) → bytes_eq a a ≡ true
+pub self_bytes : (a : List ℕ) → bytes_eq a a ≡ true
 self_bytes a = (bytes_eq-Decides a a).1 refl
 
-other_bytes : (a b : List ℕ) → bytes_eq a b ≡ false → bytes_eq b a ≡ false
+pub other_bytes : (a b : List ℕ) → bytes_eq a b ≡ false → bytes_eq b a ≡ false
 other_bytes a b e = false_from_ne_true (bytes_eq b a) (λ h. clash (bytes_eq a b) (ap (bytes_eq a) (same_bytes b a h) ∙ self_bytes a) e)
 
-flip_bytes : (a b : List ℕ) → bytes_eq a b ≡ true → bytes_eq b a ≡ true
+pub flip_bytes : (a b : List ℕ) → bytes_eq a b ≡ true → bytes_eq b a ≡ true
 flip_bytes a b h = ap (bytes_eq b) (same_bytes a b h) ∙ self_bytes b
 
 -- a key behind the others, where it is not one of them
@@ -38,7 +38,7 @@ abbrev add_key : List (List ℕ) → List ℕ → List (List ℕ)
 add_key [] key = key ∷ []
 add_key (k ∷ keys) key = if bytes_eq key k then k ∷ keys else k ∷ add_key keys key
 
-abbrev without : List ℕ → List (List ℕ) → List (List ℕ)
+abbrev pub without : List ℕ → List (List ℕ) → List (List ℕ)
 without x keys = filter (λ k. not (bytes_eq x k)) keys
 
 without_same : (x key : List ℕ) (keys : List (List ℕ)) → bytes_eq x key ≡ true → without x (add_key keys key) ≡ without x keys
@@ -83,7 +83,7 @@ keys_more before (n ∷ ns) m =
         (without_other (key_in (content before n)) (key_in (content before m)) (keys_of before ns) (other_bytes (key_in (content before m)) (key_in (content before n)) e))
 
 -- no key stands twice
-abbrev Different : List (List ℕ) → Type 0
+abbrev pub Different : List (List ℕ) → Type 0
 Different [] = Unit {0}
 Different (k ∷ keys) = Each (λ other. bytes_eq k other ≡ false) keys × Different keys
 
@@ -172,7 +172,7 @@ open_same before s m ns key low h =
     let opened = opened_same before s m xs low (none_of_key before m key ns h) in
     λ i. record { key = key; numbers = xs; flush = flush i; opened = opened i }
 
-each_same : {A B : Type 0} (f g : A → B) (xs : List A) → Each (λ x. f x ≡ g x) xs → map f xs ≡ map g xs
+pub each_same : {A B : Type 0} (f g : A → B) (xs : List A) → Each (λ x. f x ≡ g x) xs → map f xs ≡ map g xs
 each_same f g [] h = refl
 each_same f g (x ∷ xs) h = λ i. h.0 i ∷ each_same f g xs h.1 i
 

@@ -4,5 +4,7 @@
 //! step and keeps that the core stands; where memory is wanting the journal is as before.
 #![tactic(auto)]
 
+mod batches;
+pub mod closes;
 pub mod gathers;
 mod rows;

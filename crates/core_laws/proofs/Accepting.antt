@@ -161,7 +161,7 @@ records_small (r ∷ records) h =
 brought_small : (records : List (List ℕ)) (most : ℕ) → are_records records most ≡ true → bytes_in records ≤ length records * max_bytes
 brought_small records most h = records_small records (and_right (nat_le (length records) most) _ (and_right (nat_le 1 (length records)) _ h))
 
-accept_small : (topology : Topology) (before : History) (s : StageNo) (records : List (List ℕ)) → allows topology before (Accept s records) ≡ true → bytes_in records ≤ length records * max_bytes
+pub accept_small : (topology : Topology) (before : History) (s : StageNo) (records : List (List ℕ)) → allows topology before (Accept s records) ≡ true → bytes_in records ≤ length records * max_bytes
 accept_small topology before s records h =
     let all = unowed topology before (Accept s records) (λ t. refl) (λ t. refl) h in
     let one = and_right (is_live topology before s) _ all in

@@ -5,3 +5,7 @@ pub mod Queues
 pub mod Totals
 pub mod Known
 pub mod Roomy
+pub mod Fetched
+pub mod Fitting
+pub mod Goes
+pub mod Sending

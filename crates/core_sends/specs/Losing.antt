@@ -1,5 +1,5 @@
 -- What a dispatch leaves of the units that wait, and of their places.
-use Rattle.std.specs.Prelude.{ℕ, Bool, true, false, if◌then◌else◌, ◌&&◌, ◌-◌, List, [], ◌∷◌, take, drop, min, Option, Some, None, slice_get, ◌++◌}
+use Rattle.std.specs.Prelude.{ℕ, Bool, false, if◌then◌else◌, ◌&&◌, ◌-◌, List, [], ◌∷◌, take, drop, min, length, map, filter, Option, Some, None, slice_get, ◌++◌}
 use Rattle.pipe_types.specs.declared.numbers.StageNo.{StageNo}
 use Rattle.pipe_types.specs.declared.message.Loss.TheVariants.{Overflow}
 use Rattle.pipe_types.specs.declared.message.Place.{Place}
@@ -54,3 +54,17 @@ between from to xs = drop from (take to xs)
 -- and what stands elsewhere
 abbrev pub outside : {A : Type 0} → (from to : ℕ) → List A → List A
 outside from to xs = take from xs ++ drop to xs
+
+-- the units over the size, and those that are kept
+abbrev pub over_of : {A : Type 0} → Option ℕ → Keep → List A → List A
+over_of size keep xs = between (over_from size keep (length xs)) (over_to size keep (length xs)) xs
+
+abbrev pub kept_of : {A : Type 0} → Option ℕ → Keep → List A → List A
+kept_of size keep xs = outside (over_from size keep (length xs)) (over_to size keep (length xs)) xs
+
+-- the units of a queue that still wait in the stage
+abbrev pub left_in : List Place → StageNo → List (ℕ × ℕ) → List (ℕ × ℕ)
+left_in places s queue = filter (λ unit. still_waits places s unit.1) queue
+
+abbrev pub numbers_in : List (ℕ × ℕ) → List ℕ
+numbers_in queue = map (λ unit. unit.1) queue

@@ -1,0 +1,22 @@
+use Rattle.std.proofs.Common.{arith}
+use Rattle.core_laws.proofs.Lawful.{lawful}
+use Rattle.core_state.proofs.Steps.{still_stands}
+use Rattle.core_sends.proofs.Sendable.{dispatching}
+use Rattle.core_sends.proofs.sending.dispatch_messages.Goals as goal
+
+pub plan-requires-clause-live : goal.plan-requires-clause-live
+plan-requires-clause-live c = (dispatching c.args.core.now c.args.stage c.requires.stands.holds c.requires.legal).law.live
+
+pub plan-requires-clause-few : goal.plan-requires-clause-few
+plan-requires-clause-few c =
+    let core = c.args.core.now in
+    let x = c.requires.stands.holds in
+    let few = lawful.few core.topology core.journal.steps c.args.stage x.sound x.legal in
+    let small = lawful.small core.topology core.journal.steps x.sound x.legal in
+    omega (arith, few, small)
+
+pub returns-in_err-reserve-clause-stands : goal.returns-in_err-reserve-clause-stands
+returns-in_err-reserve-clause-stands c = still_stands c.make_room.new.core c.reserve.new.self c.make_room.ensures.stands c.reserve.ensures.same_steps
+
+pub send_messages-requires-clause-holds : goal.send_messages-requires-clause-holds
+send_messages-requires-clause-holds c = (still_stands c.make_room.new.core c.reserve.new.self c.make_room.ensures.stands c.reserve.ensures.same_steps).holds
