@@ -1,9 +1,9 @@
 -- The child that starts next.
-use Rattle.std.proofs.Common.{◌≡◌, ℕ, zero, suc, ◌+◌, ◌<◌, ◌≤◌, List, [], ◌∷◌, length, Bool, true, false, refl, ap, sym, ◌∙◌, Some, None, Option, arith, subst, inl, inr}
-use Rattle.std.specs.Prelude.{slice_get, slice_index_or, option_map, if◌then◌else◌, ◌==◌, ◌&&◌, ◌||◌, ◌⊎◌, not, is_some, nat_le, nat_lt, count_by}
+use Rattle.std.proofs.Common.{◌≡◌, ℕ, zero, suc, ◌+◌, ◌<◌, ◌≤◌, List, [], ◌∷◌, length, Bool, true, false, refl, ap, sym, ◌∙◌, Some, None, Option, arith, subst}
+use Rattle.std.specs.Prelude.{slice_get, option_map, if◌then◌else◌, ◌==◌, ◌&&◌, ◌||◌, not, is_some, nat_le, nat_lt}
 use Rattle.std.specs.List.{list_any}
 use Rattle.std.proofs.lemmas.Bool.Decides.{nat_tests}
-use Rattle.std.proofs.lemmas.Bool.{eqb-true, eq-eqb, ltb-true, false_from_ne_true}
+use Rattle.std.proofs.lemmas.Bool.{eq-eqb, ltb-true, false_from_ne_true}
 use Rattle.std.proofs.lemmas.List.Sums.{sum_by-cons, count_by-le-length}
 use Rattle.std.proofs.Common.{cond}
 use Rattle.pipe_types.specs.declared.numbers.StageNo.{StageNo}
@@ -19,13 +19,12 @@ use Rattle.pipe_types.specs.Numbers.{same_stage, post, message_no}
 use Rattle.pipe_types.specs.Stages.{spec_of}
 use Rattle.pipe_types.specs.Sound.{IsSound}
 use Rattle.pipe_laws.proofs.Tests.{clash, and_left, and_right, both, same_stage-true, same_stage-self}
-use Rattle.pipe_laws.proofs.Lists.{Each}
 use Rattle.pipe_laws.proofs.Busy.{same_incarnation, two_roles}
 use Rattle.pipe_laws.proofs.Slots.{slot_runs, number_is, first_stands, supervisor_writes}
 use Rattle.pipe_laws.proofs.Accepted.{placed_accepted, accepted_content}
 use Rattle.pipe_laws.proofs.Kept.{runs_here}
-use Rattle.pipe_laws.proofs.Allowed.{legal_before, legal_step, unowed, ChildFacts, child_facts, take_facts, fetch_role}
-use Rattle.pipe_model.specs.History.{History, incarnation, incarnation_after, accepted}
+use Rattle.pipe_laws.proofs.Allowed.{legal_before, legal_step, unowed, child_facts, take_facts, fetch_role}
+use Rattle.pipe_model.specs.History.{History, incarnation, incarnation_after}
 use Rattle.pipe_model.specs.Posts.{is_out, out_from, has_post_out, in_slot, crashes, puts_out, answers, slots}
 use Rattle.pipe_model.specs.Lives.{is_live, restarts}
 use Rattle.pipe_model.specs.Content.{content}
@@ -38,7 +37,7 @@ use Rattle.consumer_sup.specs.Children.{Slots, child_in, alive}
 use Rattle.consumer_sup.specs.declared.Child.{Child as ChildRow}
 use Rattle.core_tables.specs.Rows.{post_at}
 use Rattle.core_laws.specs.Columns.{child_row}
-use Rattle.core_laws.specs.Slots.{child_if, child_of, child_in_slot}
+use Rattle.core_laws.specs.Slots.{child_if, child_of}
 use Rattle.core_laws.proofs.Children.{child_is}
 use Rattle.core_laws.proofs.Past.{known_within, live_known, out_post, supervisor_max}
 use Rattle.core_laws.proofs.Lawful.{legal_after}

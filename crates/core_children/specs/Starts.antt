@@ -1,5 +1,5 @@
 -- Which child may start.
-use Rattle.std.specs.Prelude.{ℕ, Bool, if◌then◌else◌, Option, Some, None, option_map, List, slice_get}
+use Rattle.std.specs.Prelude.{ℕ, Bool, if◌then◌else◌, Option, None, option_map, List, slice_get}
 use Rattle.std.specs.List.{list_any}
 use Rattle.pipe_types.specs.declared.numbers.StageNo.{StageNo}
 use Rattle.pipe_types.specs.declared.numbers.MsgNo.{MsgNo}

@@ -1,4 +1,4 @@
-use Rattle.std.proofs.Common.{◌≡◌, ℕ, ◌<◌, ◌∙◌, ap, sym, refl, arith, length, Some, None}
+use Rattle.std.proofs.Common.{◌≡◌, ℕ, ◌<◌, ◌∙◌, ap, sym, arith, length, Some, None}
 use Rattle.core_children.specs.Starts.{again_in}
 use Rattle.core_children.proofs.Next.{startable, found, first_child}
 use Rattle.core_children.proofs.children.child_start.Goals as goal

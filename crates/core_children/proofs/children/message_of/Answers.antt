@@ -1,4 +1,4 @@
-use Rattle.std.proofs.Common.{◌≡◌, ◌∙◌, sym}
+use Rattle.std.proofs.Common.{◌∙◌, sym}
 use Rattle.pipe_laws.proofs.Contents.{content_no}
 use Rattle.core_children.proofs.children.message_of.Goals as goal
 

@@ -1,4 +1,3 @@
-use Rattle.std.proofs.Common.{◌∙◌, ap, refl, arith}
 use Rattle.core_state.proofs.Steps.{still_stands}
 use Rattle.core_children.proofs.Next.{own_accepted}
 use Rattle.core_children.proofs.children.run_again.Goals as goal
