@@ -10,7 +10,5 @@ mod deliveries;
 mod leaving;
 mod losing;
 pub mod plans;
-mod rooms;
 pub mod rooms;
-mod leaving;
 pub mod sending;
