@@ -1,15 +1,11 @@
-use Rattle.std.proofs.Common.{◌≡◌, length, ◌∙◌, ap, sym, arith, subst, Some, All, true}
+use Rattle.std.proofs.Common.{◌≡◌, length, ◌∙◌, ap, sym, arith, subst, Some}
 use Rattle.pipe_types.specs.Rooms.{AreAscending, PartsDiffer}
 use Rattle.pipe_types.specs.Stages.{spec_of}
 use Rattle.core_laws.specs.Columns.{part_of}
-use Rattle.core_sends.specs.Rooms.{planned}
-use Rattle.pipe_model.specs.Lives.{is_live_sub}
-use Rattle.pipe_types.specs.declared.room.Sent.{Sent}
 use Rattle.pipe_model.specs.Flow.{waiting}
 use Rattle.core_laws.proofs.Lawful.{lawful}
 use Rattle.core_laws.proofs.Parts.{rooms_differ}
 use Rattle.core_sends.proofs.Queued.{live_within, waiting_read, long_queue, plan_is}
-use Rattle.core_sends.proofs.Roomy.{planned_live}
 use Rattle.core_sends.proofs.plans.plan.Goals as goal
 
 pub index-queue-requires : goal.index-queue-requires
