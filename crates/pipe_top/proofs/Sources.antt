@@ -237,3 +237,9 @@ unread_back back told taken left source old new name steps (Ok x) adds empty = i
   reads = λ t. rw empty (record { others = lines (taken source ++ left source); parts = refl });
 })
 unread_back back told taken left source old new name steps (Err e) adds empty = inl adds
+
+-- where memory was wanting before the first step, what was read is what it was
+pub reads_still : {B T E : Type 0} (told : B → Bool) (taken left : B → List ℕ) (faults waits : B → ℕ) (opened : B) (source : LineSource B) (topology : Topology) (before : History) (result : Result T E)
+    → Reads told taken left faults waits opened source topology before [] → ReadsOn told taken left faults waits opened source topology before result
+reads_still told taken left faults waits opened source topology before (Ok x) r = r
+reads_still told taken left faults waits opened source topology before (Err e) r = ([], r)

@@ -6,6 +6,7 @@ use Rattle.pipe_types.specs.Sound.{IsSound}
 use Rattle.pipe_types.specs.declared.topology.StageSpec.{StageSpec}
 use Rattle.pipe_types.specs.declared.topology.Topology.{Topology}
 use Rattle.pipe_types.specs.declared.topology.Kind.TheVariants.{Steps}
+use Rattle.pipe_types.specs.declared.topology.Role.TheVariants.{Producer, Processor}
 use Rattle.pipe_types.specs.Stages.{spec_of}
 use Rattle.pipe_model.specs.History.{History}
 use Rattle.pipe_edges.specs.declared.edges.EdgeKind.{EdgeKind}
@@ -39,6 +40,9 @@ pub record IsRunnable (topology : Topology) : Type 0 where
   pub producer : StageSpec
   pub processor : StageSpec
   pub stages : topology.stages ≡ producer ∷ processor ∷ []
+  pub produces : producer.role ≡ Producer
+  pub processes : processor.role ≡ Processor
+  pub number : processor.no ≡ stage 2
   pub second : spec_of topology (stage 2) ≡ Some processor
   pub steps : processor.kind ≡ Steps
   pub calm : IsTrue (never_crashes processor.rules)
