@@ -1,6 +1,10 @@
-mod Opens
-mod Passing
+pub mod Opens
+pub mod Passing
 mod Gathering
 mod Joining
 mod Removing
 mod Closing
+mod Outcomes
+mod Writing
+mod Settling
+mod Written

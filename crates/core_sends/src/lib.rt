@@ -10,5 +10,5 @@ mod deliveries;
 mod leaving;
 mod losing;
 pub mod plans;
-mod rooms;
+pub mod rooms;
 pub mod sending;
