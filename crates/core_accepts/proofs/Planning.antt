@@ -12,15 +12,14 @@ use Rattle.pipe_types.specs.declared.topology.Keep.{Keep}
 use Rattle.pipe_types.specs.declared.topology.Keep.TheVariants.{Last, First}
 use Rattle.pipe_types.specs.declared.room.Room.{Room}
 use Rattle.pipe_types.specs.declared.room.Sent.{Sent}
-use Rattle.pipe_types.specs.declared.step.Step.TheVariants.{Accept, Dispatch}
+use Rattle.pipe_types.specs.declared.step.Step.TheVariants.{Accept}
 use Rattle.pipe_types.specs.Dispatchers.{sends_by_place}
 use Rattle.pipe_types.specs.Sound.{IsSound}
 use Rattle.pipe_types.specs.Stages.{spec_of, feeds}
 use Rattle.pipe_model.specs.History.{History, accepted, asked}
 use Rattle.pipe_model.specs.Lives.{is_live, current_sub, live_subs_from}
 use Rattle.pipe_model.specs.Flow.{waiting, deliveries, lost_over, over_in, over_size, unsent, rooms_by, view_of, kind_in, index_in, sent, is_empty}
-use Rattle.pipe_model.specs.Legal.{is_legal, allows, may_dispatch, owed, passes, is_dispatch_of, happened, is_halt}
-use Rattle.pipe_laws.proofs.Tests.{and_left, both, same_stage-self}
+use Rattle.pipe_model.specs.Legal.{is_legal, may_dispatch}
 use Rattle.core_tables.specs.Tables.{named}
 use Rattle.core_laws.specs.Columns.{part_of, waiting_parts}
 use Rattle.core_laws.specs.Enrolled.{record_part, queued}
@@ -152,15 +151,3 @@ due_by topology before s spec plan units found live is many =
     ∙ (ap (λ ds. not (is_empty ds) || is_over spec.size units) is
     ∙ (ap (λ n. not (is_empty (planned topology before s [])) || is_over spec.size n) many
     ∙ sym (may_by topology before s spec found live)))
-
--- the dispatch that is owed may come
-pub owed_may : (topology : Topology) (before : History) (s : StageNo) (records : List (List ℕ)) → allows topology before (Accept s records) ≡ true
-    → may_dispatch topology (Accept s records ∷ before) s ≡ true → allows topology (Accept s records ∷ before) (Dispatch s) ≡ true
-owed_may topology before s records h may =
-    both (not (happened is_halt before) || false) _ (and_left (not (happened is_halt before) || false) _ h)
-    (ap (λ b. passes (if b then Some (is_dispatch_of s) else None) (Dispatch s) (may_dispatch topology (Accept s records ∷ before) s)) may ∙ same_stage-self s)
-
--- and where none is owed, the core stands
-pub none_owed : (topology : Topology) (before : History) (s : StageNo) (records : List (List ℕ)) → may_dispatch topology (Accept s records ∷ before) s ≡ false
-    → owed topology (Accept s records ∷ before) ≡ None
-none_owed topology before s records no_more = ap (λ b. if b then Some (is_dispatch_of s) else None) no_more

@@ -1,5 +1,8 @@
-use Rattle.std.proofs.Common.{◌≡◌, ◌≤◌, ℕ, List, length, map, ap, sym, ◌∙◌, Some, arith, subst}
+use Rattle.std.proofs.Common.{◌≡◌, ◌≤◌, ℕ, List, length, map, ap, sym, ◌∙◌, Some, All, true, arith, subst}
 use Rattle.std.proofs.lemmas.List.{length-map}
+use Rattle.pipe_types.specs.declared.room.Sent.{Sent}
+use Rattle.pipe_model.specs.Lives.{is_live_sub}
+use Rattle.core_sends.proofs.Roomy.{planned_live}
 use Rattle.pipe_types.specs.declared.topology.StageSpec.{StageSpec}
 use Rattle.pipe_types.specs.Stages.{spec_of}
 use Rattle.pipe_types.specs.declared.topology.Topology.{Topology}
@@ -45,6 +48,14 @@ plan-requires-clause-few c =
     ap (λ (ps : List ℕ). length ps) (c.deref.ensures.value ∙ c.in_ok-parts.ensures) ∙ length-map c.args.records.now (record_part c.in-Some.spec.now) in
     omega (arith, b.law.fits, few, many)
 
+pub make_room-requires-clause-live : goal.make_room-requires-clause-live
+make_room-requires-clause-live c =
+    let core = c.args.core.now in
+    let x = c.requires.stands.holds in
+    let live = (bringing core.topology core.journal.steps c.args.stage c.args.records.now x.sound x.legal c.requires.legal).law.live in
+    subst (All (λ (d : Sent). is_live_sub core.topology core.journal.steps d.sub ≡ true)) (sym (c.deref-2.ensures.value ∙ c.in_ok-sent.ensures))
+    (planned_live core.topology core.journal.steps c.args.stage c.deref.result.now live)
+
 pub make_room-requires-2-clause-known : goal.make_room-requires-2-clause-known
 make_room-requires-2-clause-known c =
     let core = c.args.core.now in
@@ -61,6 +72,6 @@ returns-clause-planned c =
     let spec : StageSpec = c.in-Some.spec.now in
     let found : spec_of core.topology s ≡ Some spec = sym c.in-Some.ensures in
     let parts : c.deref.result.now ≡ map (record_part spec) c.args.records.now = c.deref.ensures.value ∙ c.in_ok-parts.ensures in
-    c.in_ok-sent.ensures.planned
+    c.in_ok-sent.ensures
     ∙ (ap (planned core.topology core.journal.steps s) parts
     ∙ sym (planned_accepted core.topology core.journal.steps s spec c.args.records.now x.sound x.legal b.law found (b.role spec found)))
