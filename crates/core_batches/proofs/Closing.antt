@@ -204,7 +204,7 @@ batches_after topology before s first trigger rows row i len was is = by (same_o
         ∙ (was ∙ sym (ap (λ b. if b then Some (record { numbers = closing before (view_of topology before) s first.0; trigger = trigger }) else closed_as topology before (suc i)) apart))
 
 -- a batch that is not closed yet was sent nowhere
-none_sent : (topology : Topology) (before : History) (b : ℕ) → closed before < b → sent_on topology before b ≡ []
+pub none_sent : (topology : Topology) (before : History) (b : ℕ) → closed before < b → sent_on topology before b ≡ []
 none_sent topology [] b low = refl
 none_sent topology (Dispatch s ∷ before) b low = by (is_batcher (spec_of topology s)) refl (none_sent topology before b low)
   where

@@ -4,3 +4,7 @@ mod Gathering
 mod Joining
 mod Removing
 mod Closing
+mod Outcomes
+mod Writing
+mod Settling
+mod Written

@@ -11,4 +11,3 @@ pub mod Reached
 pub mod AfterSending
 pub mod Sendable
 pub mod Roomy
-pub mod Accepted

@@ -21,8 +21,7 @@ pub fn plan(core: &Core, stage: StageNo, more: &[u32]) -> Result<Vec<Sent>, Allo
     requires holds { Holds core.now }
     requires live { is_live core.now.topology core.now.journal.steps stage ≡ true }
     requires few { length (waiting core.now.topology core.now.journal.steps stage) + length more.now < 2 ^ 32 }
-    ensures planned { IfOk result (λ sent. sent.items ≡ planned core.now.topology core.now.journal.steps stage more.now) }
-    ensures live { IfOk result (λ sent. All (λ d. is_live_sub core.now.topology core.now.journal.steps d.sub ≡ true) sent.items) }
+    ensures { IfOk result (λ sent. sent.items ≡ planned core.now.topology core.now.journal.steps stage more.now) }
 {
     let rooms = rooms_of(core, stage)?;
     let Some(spec) = core.topology.stages.find(stage) else {

@@ -1,15 +1,11 @@
-use Rattle.std.proofs.Common.{◌≡◌, length, ◌∙◌, ap, sym, arith, subst, Some, All, true}
+use Rattle.std.proofs.Common.{◌≡◌, length, ◌∙◌, ap, sym, arith, subst, Some}
 use Rattle.pipe_types.specs.Rooms.{AreAscending, PartsDiffer}
 use Rattle.pipe_types.specs.Stages.{spec_of}
 use Rattle.core_laws.specs.Columns.{part_of}
-use Rattle.core_sends.specs.Rooms.{planned}
-use Rattle.pipe_model.specs.Lives.{is_live_sub}
-use Rattle.pipe_types.specs.declared.room.Sent.{Sent}
 use Rattle.pipe_model.specs.Flow.{waiting}
 use Rattle.core_laws.proofs.Lawful.{lawful}
 use Rattle.core_laws.proofs.Parts.{rooms_differ}
 use Rattle.core_sends.proofs.Queued.{live_within, waiting_read, long_queue, plan_is}
-use Rattle.core_sends.proofs.Roomy.{planned_live}
 use Rattle.core_sends.proofs.plans.plan.Goals as goal
 
 pub index-queue-requires : goal.index-queue-requires
@@ -37,8 +33,8 @@ deliver-requires-clause-few c =
     let long = long_queue (part_of t before (spec_of t c.args.stage)) (waiting t before c.args.stage) in
     omega (arith, read, long, c.requires.few)
 
-pub returns-clause-planned : goal.returns-clause-planned
-returns-clause-planned c =
+pub returns : goal.returns
+returns c =
     let core = c.args.core.now in
     let t = core.topology in
     let before = core.journal.steps in
@@ -48,17 +44,3 @@ returns-clause-planned c =
     c.into_vec.ensures
     ∙ (c.in_ok-sent.ensures
     ∙ plan_is t before c.args.stage c.in-Some.spec.now c.index-queue.result.now.items c.deref.result.now c.args.more.now there read (c.deref.ensures.value ∙ c.in_ok-rooms.ensures))
-
-pub returns-clause-live : goal.returns-clause-live
-returns-clause-live c =
-    let core = c.args.core.now in
-    let t = core.topology in
-    let before = core.journal.steps in
-    let w = live_within t before c.args.stage c.requires.holds.sound c.requires.live in
-    let read = waiting_read core t before c.requires.holds.fields c.args.stage c.index-queue.result.now w.1 c.index-queue.ensures in
-    let there : spec_of t c.args.stage ≡ Some c.in-Some.spec.now = sym c.in-Some.ensures in
-    let is : c.into_vec.result.items ≡ planned t before c.args.stage c.args.more.now =
-    c.into_vec.ensures
-    ∙ (c.in_ok-sent.ensures
-    ∙ plan_is t before c.args.stage c.in-Some.spec.now c.index-queue.result.now.items c.deref.result.now c.args.more.now there read (c.deref.ensures.value ∙ c.in_ok-rooms.ensures)) in
-    subst (All (λ (d : Sent). is_live_sub t before d.sub ≡ true)) (sym is) (planned_live t before c.args.stage c.args.more.now c.requires.live)

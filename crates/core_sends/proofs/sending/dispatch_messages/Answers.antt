@@ -1,7 +1,10 @@
-use Rattle.std.proofs.Common.{arith}
+use Rattle.std.proofs.Common.{◌≡◌, ◌∙◌, sym, subst, All, true, [], arith}
 use Rattle.core_laws.proofs.Lawful.{lawful}
 use Rattle.core_state.proofs.Steps.{still_stands}
+use Rattle.core_sends.proofs.Roomy.{planned_live}
 use Rattle.core_sends.proofs.Sendable.{dispatching}
+use Rattle.pipe_types.specs.declared.room.Sent.{Sent}
+use Rattle.pipe_model.specs.Lives.{is_live_sub}
 use Rattle.core_sends.proofs.sending.dispatch_messages.Goals as goal
 
 pub plan-requires-clause-live : goal.plan-requires-clause-live
@@ -20,3 +23,11 @@ returns-in_err-reserve-clause-stands c = still_stands c.make_room.new.core c.res
 
 pub send_messages-requires-clause-holds : goal.send_messages-requires-clause-holds
 send_messages-requires-clause-holds c = (still_stands c.make_room.new.core c.reserve.new.self c.make_room.ensures.stands c.reserve.ensures.same_steps).holds
+
+pub make_room-requires-clause-live : goal.make_room-requires-clause-live
+make_room-requires-clause-live c =
+    let core = c.args.core.now in
+    let t = core.topology in
+    let before = core.journal.steps in
+    let live = (dispatching core c.args.stage c.requires.stands.holds c.requires.legal).law.live in
+    subst (All (λ (d : Sent). is_live_sub t before d.sub ≡ true)) (sym (c.deref.ensures.value ∙ c.in_ok-sent.ensures)) (planned_live t before c.args.stage [] live)
