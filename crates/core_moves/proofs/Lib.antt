@@ -6,3 +6,6 @@ pub mod Totals
 pub mod Known
 pub mod Roomy
 pub mod Fetched
+pub mod Fitting
+pub mod Goes
+pub mod Sending

@@ -1,3 +1,5 @@
 pub mod Left
 pub mod Rows
 pub mod Jobs
+pub mod Gathers
+pub mod Sends

@@ -5,8 +5,10 @@
 
 mod asks;
 mod causes;
+mod dispatches;
 pub mod drain;
 mod finds;
+mod gathers;
 mod jobs;
 pub mod posts;
 pub mod rests;
