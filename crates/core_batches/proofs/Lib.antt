@@ -1,5 +1,6 @@
 pub mod Opens
 pub mod Passing
+mod Limits
 mod Gathering
 mod Joining
 mod Removing
