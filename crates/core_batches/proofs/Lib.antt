@@ -2,5 +2,5 @@ pub mod Opens
 pub mod Passing
 mod Gathering
 mod Joining
-mod Removing
-mod Closing
+pub mod Removing
+pub mod Closing

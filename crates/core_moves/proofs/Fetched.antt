@@ -62,10 +62,10 @@ going topology before step free goes =
     sym (ap (λ b. (not b || is_late step) && passes (owed topology before) step (may_come topology before step)) goes
     ∙ ap (λ o. passes o step (may_come topology before step)) free)
 
-self : (n : ℕ) → (n == n) ≡ true
+pub self : (n : ℕ) → (n == n) ≡ true
 self n = grind (arith, nat_tests)
 
-role_is : (topology : Topology) (spec : StageSpec) (test : Role → Bool) → spec_of topology spec.no ≡ Some spec → has_role topology spec.no test ≡ test spec.role
+pub role_is : (topology : Topology) (spec : StageSpec) (test : Role → Bool) → spec_of topology spec.no ≡ Some spec → has_role topology spec.no test ≡ test spec.role
 role_is topology spec test there = rw there refl
 
 -- a fetch of as many records as it may bring

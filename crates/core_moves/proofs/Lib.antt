@@ -9,3 +9,6 @@ pub mod Fetched
 pub mod Fitting
 pub mod Goes
 pub mod Sending
+pub mod Starting
+pub mod Firsts
+pub mod Chain

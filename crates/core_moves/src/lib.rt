@@ -5,11 +5,14 @@
 
 mod asks;
 mod causes;
+mod children;
+mod closes;
 mod dispatches;
 pub mod drain;
 mod finds;
 mod gathers;
 mod jobs;
+pub mod moves;
 pub mod posts;
 pub mod rests;
 mod rooms;

@@ -12,7 +12,7 @@ use pipe_types::numbers::{Post, StageNo};
 use pipe_types::topology::{Role, StageSpec};
 
 /// How many slots a stage has at most.
-const MOST_SLOTS: u16 = 16;
+pub(crate) const MOST_SLOTS: u16 = 16;
 
 /// Whether a job of any stage is out.
 pub fn is_any_out(core: &Core) -> bool

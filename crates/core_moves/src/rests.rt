@@ -137,7 +137,7 @@ fn is_chunk_empty(core: &Core, stage: StageNo) -> bool
 }
 
 /// Whether the stage has gathered no message that is in no batch yet.
-fn is_gathered_empty(core: &Core, stage: StageNo) -> bool
+pub(crate) fn is_gathered_empty(core: &Core, stage: StageNo) -> bool
     requires stands { Stands core.now }
     ensures { result ≡ is_empty (gathered_in core.now.topology core.now.journal.steps stage) }
 {
