@@ -14,7 +14,7 @@ room-requires c =
       holds = c.requires.stands.holds;
       from = c.requires.from;
       to = stage_there c.args.core.now.topology c.as_slice-spec-items.result.now c.loop-spec.spec-index c.spec-item.result c.requires.stands.holds.sound c.as_slice-spec-items.ensures c.loop-spec-test.true c.spec-item.is;
-      live = c.requires.live
+      live = c.requires.live;
     }
 
 pub returns-then-is_shut : goal.returns-then-is_shut

@@ -17,7 +17,7 @@ loop-spec-preserved c =
     let more = out_more c.args.core.now.journal.steps c.as_slice-spec-items.result.now c.loop-spec.spec-index c.spec-item.result c.loop-spec-test.true c.spec-item.is in
     record {
       out = omega (arith, more, c.fetched_by.ensures, c.loop-spec.invariant.out);
-      few = omega (arith, c.loop-spec.invariant.few, c.fetched_by.type_inv)
+      few = omega (arith, c.loop-spec.invariant.few, c.fetched_by.type_inv);
     }
 
 pub returns : goal.returns

@@ -22,7 +22,7 @@ loop-spec-preserved c =
     let more = among_more core.topology core.journal.steps c.args.producer.now.no c.as_slice-spec-items.result.now c.loop-spec.spec-index c.spec-item.result c.loop-spec-test.true c.spec-item.is in
     record {
       room = omega (arith, more, c.open_between.ensures, c.loop-spec.invariant.room);
-      few = omega (arith, c.loop-spec.invariant.few, c.open_between.type_inv)
+      few = omega (arith, c.loop-spec.invariant.few, c.open_between.type_inv);
     }
 
 pub returns : goal.returns

@@ -8,5 +8,5 @@ invariant-loop-spec l =
     let h = l.core.journal.steps in
     record {
       room : l.room + open_among t h l.producer.no (drop l.spec-index l.spec-items) ≡ open_among t h l.producer.no l.spec-items;
-      few : l.room ≤ l.spec-index * 4294967296
+      few : l.room ≤ l.spec-index * 4294967296;
     }
