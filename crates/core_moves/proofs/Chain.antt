@@ -22,10 +22,10 @@ use Rattle.core_state.specs.declared.state.Core.{Core}
 use Rattle.core_state.specs.Stands.{Stands}
 use Rattle.core_calls.proofs.Asking.{due_seen}
 use Rattle.stage_subs.specs.Subs.{due_on}
-use Rattle.core_moves.specs.Rows.{is_due}
+use Rattle.core_rows.specs.Rows.{is_due}
 use Rattle.core_moves.specs.Moves.{cause_by, from_restarts, from_drains, from_asks}
-use Rattle.core_moves.proofs.Fetched.{going}
-use Rattle.core_moves.proofs.Known.{due_dead}
+use Rattle.core_rows.proofs.Fetched.{going}
+use Rattle.core_rows.proofs.Known.{due_dead}
 
 -- Stages that pass
 

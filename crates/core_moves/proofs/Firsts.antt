@@ -35,7 +35,7 @@ use Rattle.core_state.specs.declared.state.Core.{Core}
 use Rattle.core_state.specs.Stands.{Stands}
 use Rattle.core_moves.specs.declared.closes.Closing.{Closing}
 use Rattle.core_moves.specs.Closes.{closing_move}
-use Rattle.core_moves.proofs.Known.{row_within}
+use Rattle.core_rows.proofs.Known.{row_within}
 
 -- the close of a batch that begins with the message, where a trigger holds
 abbrev close_of : StageNo → ℕ → Option Trigger → Option Move

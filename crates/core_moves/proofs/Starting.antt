@@ -18,7 +18,7 @@ use Rattle.core_laws.specs.Columns.{child_row}
 use Rattle.core_laws.specs.Slots.{child_in_slot, child_of, child_if}
 use Rattle.core_laws.proofs.Children.{child_is}
 use Rattle.core_moves.specs.Children.{starts_now, has_message_now}
-use Rattle.core_moves.proofs.Fetched.{going, self, role_is}
+use Rattle.core_rows.proofs.Fetched.{going, self, role_is}
 
 -- a child stands in the slot just where its message runs
 held_is : (topology : Topology) (before : History) (s : StageNo) (slot : ℕ) → is_legal topology before ≡ true → is_some (child_row topology before s slot) ≡ runs_number topology before s (in_slot before s slot)

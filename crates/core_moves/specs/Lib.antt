@@ -1,6 +1,3 @@
-pub mod Left
-pub mod Rows
-pub mod Jobs
 pub mod Gathers
 pub mod Sends
 pub mod Children

@@ -7,7 +7,7 @@ ghost use Rattle.pipe_model.specs.Standing.{gathered_in};
 ghost use Rattle.core_state.specs.Stands.{Stands};
 ghost use Rattle.core_moves.specs.Closes.{closing_move};
 
-use crate::rests::{is_dry, is_gathered_empty};
+use core_rows::rests::{is_dry, is_gathered_empty};
 use core_state::Core;
 use pipe_types::message::Trigger;
 use pipe_types::numbers::{MsgNo, StageNo};

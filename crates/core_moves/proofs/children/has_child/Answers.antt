@@ -3,7 +3,7 @@ use Rattle.pipe_types.specs.declared.step.Step.TheVariants.{Child}
 use Rattle.pipe_types.specs.Numbers.{message_no}
 use Rattle.pipe_model.specs.Legal.{allows}
 use Rattle.pipe_model.specs.Moves.{next_in_slot}
-use Rattle.core_moves.proofs.Finding.{slot_out, slot_home, slots_end}
+use Rattle.core_rows.proofs.Finding.{slot_out, slot_home, slots_end}
 use Rattle.core_moves.proofs.children.has_child.Goals as goal
 
 pub returns-then-may_start : goal.returns-then-may_start

@@ -1,6 +1,6 @@
 use Rattle.std.proofs.Common.{◌≡◌, ◌<◌, ◌∙◌, sym, refl, arith}
 use Rattle.pipe_model.specs.Standing.{gathered_in}
-use Rattle.core_moves.proofs.Known.{row_within}
+use Rattle.core_rows.proofs.Known.{row_within}
 use Rattle.core_moves.proofs.Firsts.{none_gathered, gathered_role, held_here, found_some, found_none}
 use Rattle.core_moves.proofs.closes.closing_in.Goals as goal
 

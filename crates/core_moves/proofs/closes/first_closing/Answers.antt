@@ -2,7 +2,7 @@ use Rattle.std.proofs.Common.{◌≡◌, ◌<◌, ◌≤◌, List, [], length, d
 use Rattle.std.proofs.lemmas.List.{drop_all}
 use Rattle.pipe_model.specs.Moves.{closable}
 use Rattle.core_moves.specs.Closes.{closing_move}
-use Rattle.core_moves.proofs.Finding.{stage_there}
+use Rattle.core_rows.proofs.Finding.{stage_there}
 use Rattle.core_moves.proofs.Firsts.{closable_here, closable_next}
 use Rattle.core_moves.proofs.closes.first_closing.Goals as goal
 

@@ -4,7 +4,7 @@ use Rattle.std.specs.List.{list_any, list_all}
 use Rattle.std.proofs.lemmas.List.{drop_all}
 use Rattle.pipe_types.specs.declared.topology.StageSpec.{StageSpec}
 use Rattle.core_sends.specs.Rooms.{room_between}
-use Rattle.core_moves.proofs.Finding.{any_here, any_next, stage_there}
+use Rattle.core_rows.proofs.Finding.{any_here, any_next, stage_there}
 use Rattle.core_moves.proofs.dispatches.has_subscriber.Goals as goal
 
 pub room-requires : goal.room-requires

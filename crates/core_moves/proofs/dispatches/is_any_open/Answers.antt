@@ -5,7 +5,7 @@ use Rattle.std.proofs.lemmas.List.{drop_all}
 use Rattle.pipe_types.specs.declared.topology.StageSpec.{StageSpec}
 use Rattle.core_sends.specs.Rooms.{room_between}
 use Rattle.core_moves.specs.Sends.{is_open_in}
-use Rattle.core_moves.proofs.Finding.{any_here, any_next, stage_there}
+use Rattle.core_rows.proofs.Finding.{any_here, any_next, stage_there}
 use Rattle.core_moves.proofs.dispatches.is_any_open.Goals as goal
 
 pub room-requires : goal.room-requires

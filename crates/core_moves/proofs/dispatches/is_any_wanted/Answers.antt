@@ -6,7 +6,7 @@ use Rattle.pipe_types.specs.declared.topology.StageSpec.{StageSpec}
 use Rattle.core_sends.specs.Rooms.{room_between}
 use Rattle.core_laws.specs.Columns.{waiting_parts}
 use Rattle.core_moves.specs.Sends.{wants_in}
-use Rattle.core_moves.proofs.Finding.{any_here, any_next, stage_there}
+use Rattle.core_rows.proofs.Finding.{any_here, any_next, stage_there}
 use Rattle.core_moves.proofs.dispatches.is_any_wanted.Goals as goal
 
 pub room-requires : goal.room-requires

@@ -5,7 +5,7 @@ use Rattle.std.proofs.lemmas.List.{drop_all}
 use Rattle.pipe_types.specs.declared.topology.StageSpec.{StageSpec}
 use Rattle.core_sends.specs.Rooms.{room_between}
 use Rattle.core_moves.specs.Sends.{is_shut_in}
-use Rattle.core_moves.proofs.Finding.{all_not, all_next, stage_there}
+use Rattle.core_rows.proofs.Finding.{all_not, all_next, stage_there}
 use Rattle.core_moves.proofs.dispatches.is_none_shut.Goals as goal
 
 pub room-requires : goal.room-requires

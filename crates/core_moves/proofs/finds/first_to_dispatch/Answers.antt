@@ -3,7 +3,7 @@ use Rattle.std.specs.Prelude.{find, option_map}
 use Rattle.std.proofs.lemmas.List.{drop_all}
 use Rattle.pipe_types.specs.declared.topology.StageSpec.{StageSpec}
 use Rattle.pipe_model.specs.Legal.{may_dispatch}
-use Rattle.core_moves.proofs.Finding.{found_here, not_here, stage_there}
+use Rattle.core_rows.proofs.Finding.{found_here, not_here, stage_there}
 use Rattle.core_moves.proofs.finds.first_to_dispatch.Goals as goal
 
 pub returns-then-may_dispatch : goal.returns-then-may_dispatch

@@ -4,7 +4,7 @@ use Rattle.std.proofs.lemmas.List.{drop_all}
 use Rattle.pipe_types.specs.declared.topology.StageSpec.{StageSpec}
 use Rattle.pipe_model.specs.Flow.{inbox}
 use Rattle.pipe_model.specs.Legal.{may_gather, first_unit}
-use Rattle.core_moves.proofs.Finding.{found_here, not_here, stage_there}
+use Rattle.core_rows.proofs.Finding.{found_here, not_here, stage_there}
 use Rattle.core_moves.proofs.finds.first_to_gather.Goals as goal
 
 pub returns-then-may_gather_first : goal.returns-then-may_gather_first

@@ -3,7 +3,7 @@ use Rattle.std.specs.Prelude.{find, option_map, reverse}
 use Rattle.std.proofs.lemmas.List.{drop_all, length-reverse}
 use Rattle.pipe_types.specs.declared.topology.StageSpec.{StageSpec}
 use Rattle.pipe_model.specs.Moves.{has_job}
-use Rattle.core_moves.proofs.Finding.{found_here, not_here, stage_there}
+use Rattle.core_rows.proofs.Finding.{found_here, not_here, stage_there}
 use Rattle.core_moves.proofs.Chain.{from_last}
 use Rattle.core_moves.proofs.finds.last_with_job.Goals as goal
 

@@ -4,7 +4,7 @@ use Rattle.pipe_model.specs.Moves.{Move, StepMove, or_else, if_so, when, move_or
 use Rattle.core_moves.specs.Moves.{from_dispatches}
 use Rattle.pipe_types.specs.declared.step.Step.TheVariants.{Ask}
 use Rattle.pipe_model.specs.Ledger.{due}
-use Rattle.core_moves.specs.Rows.{is_due}
+use Rattle.core_rows.specs.Rows.{is_due}
 use Rattle.core_moves.proofs.Chain.{find_holds}
 use Rattle.core_moves.proofs.moves.ask_first.Goals as goal
 
