@@ -398,7 +398,7 @@ trigger_some None b h = cc
 trigger_some (Some a) b h = ap Some (same_triggers a b h)
 
 -- the trigger by the batcher's limits is that of the rule
-trigger_is : (topology : Topology) (before : History) (s : StageNo) (held : Batches) (key : List ℕ) (tick : ℕ) (dry : Bool) → held.batch_size ≡ batch_size_in (spec_of topology s) → held.batch_timeout ≡ batch_timeout_in (spec_of topology s)
+pub trigger_is : (topology : Topology) (before : History) (s : StageNo) (held : Batches) (key : List ℕ) (tick : ℕ) (dry : Bool) → held.batch_size ≡ batch_size_in (spec_of topology s) → held.batch_timeout ≡ batch_timeout_in (spec_of topology s)
     → tick ≡ now before → dry ≡ is_dry topology before s
     → held_trigger held tick dry (open_of before (gathered_in topology before s) key) ≡ trigger_of topology before s (of_key before key (gathered_in topology before s))
 trigger_is topology before s held key tick dry size timeout ticks dries =

@@ -9,3 +9,5 @@ mod Outcomes
 mod Writing
 mod Settling
 mod Written
+pub mod Removing
+pub mod Closing
