@@ -3,11 +3,9 @@ pub mod Passing
 mod Limits
 mod Gathering
 mod Joining
-mod Removing
-mod Closing
+pub mod Removing
+pub mod Closing
 mod Outcomes
 mod Writing
 mod Settling
 mod Written
-pub mod Removing
-pub mod Closing
