@@ -24,7 +24,7 @@ use Rattle.core_batches.proofs.Passing.{key_read}
 use Rattle.core_state.specs.declared.state.Core.{Core}
 use Rattle.core_state.specs.Stands.{Holds, opens_in}
 use Rattle.core_moves.specs.Gathers.{may_gather_now, passed_by}
-use Rattle.core_moves.proofs.Known.{row_within}
+use Rattle.core_rows.proofs.Known.{row_within}
 
 -- the key of a message by its content row
 pub key_by : (before : History) (n : ℕ) (o : Option ContentRow) → content_row before n ≡ o → key_in (passed_by before o) ≡ key_in (content before n)

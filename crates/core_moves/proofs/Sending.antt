@@ -23,7 +23,7 @@ use Rattle.core_laws.specs.Columns.{part_of, waiting_parts, is_by_partition}
 use Rattle.core_laws.proofs.Parts.{part_is}
 use Rattle.core_sends.specs.Rooms.{room_on, room_between, parts_of}
 use Rattle.core_moves.specs.Sends.{has_left, takes_part, goes_some, is_over, is_open_in, is_shut_in, wants_in}
-use Rattle.core_moves.proofs.Queues.{empty_mapped}
+use Rattle.core_rows.proofs.Queues.{empty_mapped}
 use Rattle.core_moves.proofs.Goes.{sends_is}
 
 -- Rooms stage by stage

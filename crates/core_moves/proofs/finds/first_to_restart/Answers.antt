@@ -4,7 +4,7 @@ use Rattle.std.specs.List.{list_any, list_all}
 use Rattle.std.proofs.lemmas.List.{drop_all}
 use Rattle.pipe_types.specs.declared.topology.StageSpec.{StageSpec}
 use Rattle.pipe_model.specs.Legal.{needs_restart, no_post_out}
-use Rattle.core_moves.proofs.Finding.{found_here, not_here, stage_there}
+use Rattle.core_rows.proofs.Finding.{found_here, not_here, stage_there}
 use Rattle.core_moves.proofs.finds.first_to_restart.Goals as goal
 
 pub returns-then-is_ready_to_restart : goal.returns-then-is_ready_to_restart
