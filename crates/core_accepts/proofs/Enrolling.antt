@@ -50,6 +50,16 @@ post_home posts s t slot row low at =
     by true = refl
     by false = refl
 
+-- the records wait behind what waited in their producer
+pub parts_accepted : (topology : Topology) (before : History) (s : StageNo) (spec : StageSpec) (records : List (List ℕ)) → IsSound topology → is_legal topology before ≡ true → AcceptLaws topology before s records
+    → spec_of topology s ≡ Some spec → spec.role ≡ Producer → waiting_parts topology (Accept s records ∷ before) s ≡ waiting_parts topology before s ++ queued spec (accepted before + 1) records
+parts_accepted topology before s spec records sound legal law found role =
+    let part : ℕ → ℕ × ℕ = λ n. (part_of topology (Accept s records ∷ before) (spec_of topology s) n, n) in
+    ap (map part) law.waiting_here
+    ∙ (map-append part (waiting topology before s) (numbers_from (accepted before + 1) records)
+    ∙ (ap (λ us. map part (waiting topology before s) ++ us) (parts_new topology s spec records before found role)
+    ∙ ap (λ us. us ++ queued spec (accepted before + 1) records) (parts_old topology s records before s sound legal)))
+
 -- so many rows more
 more : {A : Type 0} (xs ys zs : List A) (n m : ℕ) → zs ≡ xs ++ ys → length xs ≡ n → length ys ≡ m → length zs ≡ n + m
 more xs ys zs n m e f g = ap length e ∙ (length-append xs ys ∙ (ap (λ k. k + length ys) f ∙ ap (λ k. n + k) g))
@@ -121,15 +131,11 @@ enrolled_fields core topology before s spec records j queues places settled prod
     waits : (t : StageNo) → (((s.0 == t.0) ≡ true) × (s.0 ≡ t.0)) ⊎ (((s.0 == t.0) ≡ false) × (s.0 ≢ t.0)) → queue_at queues.items t ≡ waiting_parts topology (Accept s records ∷ before) t
     waits t (inl same) =
         let one : s ≡ t = ap (λ n. record { 0 = n }) same.1 in
-        let part : ℕ → ℕ × ℕ = λ n. (part_of topology (Accept s records ∷ before) (spec_of topology s) n, n) in
         ap (λ qs. queue_at qs t) e.queues
         ∙ (queue-set_same core.waiting.items s.0 q t (omega (arith, x.sized.waiting)) (sym same.1)
         ∙ (e.queue
         ∙ (ap (λ us. us ++ queued spec (accepted before + 1) records) (x.waiting s)
-        ∙ (ap (λ us. us ++ queued spec (accepted before + 1) records) (sym (parts_old topology s records before s sound legal))
-        ∙ (ap (λ us. map part (waiting topology before s) ++ us) (sym (parts_new topology s spec records before found role))
-        ∙ (sym (map-append part (waiting topology before s) (numbers_from (accepted before + 1) records))
-        ∙ (sym (ap (map part) law.waiting_here) ∙ ap (waiting_parts topology (Accept s records ∷ before)) one)))))))
+        ∙ (sym (parts_accepted topology before s spec records sound legal law found role) ∙ ap (waiting_parts topology (Accept s records ∷ before)) one))))
     waits t (inr other) =
         ap (λ qs. queue_at qs t) e.queues
         ∙ (queue-set_other core.waiting.items s.0 q t (λ p. other.1 (sym p))

@@ -1,11 +1,11 @@
 //! Accepts: records become messages that wait in their producer.
 
-ghost use Rattle.std.specs.Prelude.{◌≡◌, ◌∷◌, [], ◌++◌, ◌+◌, ◌<◌, ◌≤◌, ◌^◌, length, All, IsTrue};
+ghost use Rattle.std.specs.Prelude.{◌≡◌, ◌∷◌, ◌++◌, ◌+◌, ◌<◌, ◌≤◌, ◌^◌, length, OnOk, IsTrue};
 ghost use Rattle.std.specs.VecDeque.{deque_len, deque_capacity};
 ghost use Rattle.pipe_model.specs.History.{bytes_in};
 ghost use Rattle.pipe_model.specs.Legal.{allows};
 ghost use Rattle.core_laws.specs.Enrolled.{record_part, queued};
-ghost use Rattle.core_state.specs.Stands.{Holds};
+ghost use Rattle.core_state.specs.Stands.{Holds, Stands};
 ghost use Rattle.core_accepts.specs.Records.{HasRoom, HasParts};
 
 use core_state::Core;
@@ -17,7 +17,30 @@ use pipe_types::fields::field;
 use pipe_types::numbers::StageNo;
 use pipe_types::step::Step;
 use pipe_types::topology::{Dispatch, StageSpec};
+use std::alloc::AllocError;
 use std::collections::VecDeque;
+
+/// Makes room for so many records that the producer brings, and for so many steps.
+pub fn make_room(core: &mut Core, stage: StageNo, count: u32, steps: u32) -> Result<(), AllocError>
+    requires stands { Stands core.old }
+    requires known { stage.0 ≤ length core.old.topology.stages }
+    requires some { 1 ≤ steps }
+    ensures room { OnOk result (HasRoom core.new stage count) }
+    ensures steps { OnOk result (steps ≤ core.new.journal.spare) }
+    ensures unchanged { core.new.journal.steps ≡ core.old.journal.steps }
+    ensures topology { core.new.topology ≡ core.old.topology }
+    ensures inboxes { core.new.inboxes ≡ core.old.inboxes }
+    ensures stands { Stands core.new }
+{
+    let rows = count as usize;
+    core.places.reserve(rows)?;
+    core.settled.reserve(rows)?;
+    core.producers.reserve(rows)?;
+    core.contents.reserve(rows)?;
+    let queue = &mut core.waiting[stage.0 as usize];
+    queue.reserve(rows)?;
+    core.journal.reserve(steps)
+}
 
 /// Appends the accept of the records, for which there is room. A dispatch may be owed then.
 pub fn enroll(core: &mut Core, stage: StageNo, records: BytesList)
@@ -28,6 +51,7 @@ pub fn enroll(core: &mut Core, stage: StageNo, records: BytesList)
     ensures topology { core.new.topology ≡ core.old.topology }
     ensures holds { Holds core.new }
     ensures spare { core.old.journal.spare ≤ core.new.journal.spare + 1 }
+    ensures inboxes { core.new.inboxes ≡ core.old.inboxes }
 {
     let Some(spec) = core.topology.stages.find(stage) else {
         unreachable!();
@@ -64,7 +88,7 @@ fn queue_new(queue: &mut VecDeque<(u32, u32)>, spec: &StageSpec, accepted: u32, 
 }
 
 /// The partition of a record that waits in the producer, and 0 where it does not dispatch by partition.
-fn part_of(spec: &StageSpec, payload: &Bytes) -> u32
+pub(crate) fn part_of(spec: &StageSpec, payload: &Bytes) -> u32
     requires parts { HasParts spec.now }
     ensures { result ≡ record_part spec.now payload.now }
 {

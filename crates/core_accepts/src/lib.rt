@@ -5,6 +5,7 @@
 #![tactic(auto)]
 
 pub mod accepts;
+pub mod calls;
 pub mod fetches;
 mod limits;
 mod rooms;

@@ -9,7 +9,7 @@ use Rattle.pipe_types.specs.declared.room.Sent.{Sent}
 use Rattle.pipe_types.specs.Numbers.{same_stage}
 use Rattle.pipe_laws.proofs.Tests.{same_stage-self}
 use Rattle.stage_subs.specs.Pairs.{PairRow}
-use Rattle.stage_subs.specs.Subs.{row_at, row_of, is_live, is_live_in, room_on, room_in, sent_more, is_pair, IsChanged}
+use Rattle.stage_subs.specs.Subs.{row_at, is_live_in, room_in, sent_more, is_pair, IsChanged}
 use Rattle.core_tables.specs.Tables.{count_between}
 
 -- the count does not change whether a row is live
@@ -47,7 +47,7 @@ count_some units i e below =
     let u : SubNo = (get_or units i e).sub in
     let more = count_more units i e u.consumer u.producer below in
     let here : (if same_stage u.consumer u.consumer && same_stage u.producer u.producer then count_between (drop (i + 1) units) u.consumer u.producer + 1 else count_between (drop (i + 1) units) u.consumer u.producer)
-        ≡ count_between (drop (i + 1) units) u.consumer u.producer + 1 =
+    ≡ count_between (drop (i + 1) units) u.consumer u.producer + 1 =
     ap (λ b. if b && same_stage u.producer u.producer then count_between (drop (i + 1) units) u.consumer u.producer + 1 else count_between (drop (i + 1) units) u.consumer u.producer) (same_stage-self u.consumer)
     ∙ ap (λ b. if b then count_between (drop (i + 1) units) u.consumer u.producer + 1 else count_between (drop (i + 1) units) u.consumer u.producer) (same_stage-self u.producer) in
     omega (arith, more, here)

@@ -8,3 +8,6 @@ pub mod LeftOver
 pub mod Settled
 pub mod Sent
 pub mod Reached
+pub mod AfterSending
+pub mod Sendable
+pub mod Roomy

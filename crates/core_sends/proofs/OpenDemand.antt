@@ -1,6 +1,6 @@
 -- The rooms of a stage, one consumer after another.
-use Rattle.std.proofs.Common.{◌≡◌, ℕ, ◌+◌, ◌<◌, List, [], ◌∷◌, ◌++◌, length, map, drop, ◌-◌, Bool, true, false, refl, ap, sym, ◌∙◌, Some, None, Option, get_or, if◌then◌else◌, arith}
-use Rattle.std.specs.Prelude.{◌&&◌, ◌==◌, is_some, is_none}
+use Rattle.std.proofs.Common.{◌≡◌, ℕ, ◌+◌, ◌<◌, List, [], ◌∷◌, ◌++◌, length, map, drop, ◌-◌, Bool, true, false, refl, ap, sym, ◌∙◌, Some, None, get_or, if◌then◌else◌, arith}
+use Rattle.std.specs.Prelude.{◌&&◌, ◌==◌}
 use Rattle.std.proofs.lemmas.Bool.Decides.{nat_tests}
 use Rattle.std.proofs.lemmas.List.{append_assoc, at_drop_more}
 use Rattle.std.proofs.lemmas.Option.{same_Some}
@@ -10,10 +10,9 @@ use Rattle.pipe_types.specs.declared.room.Room.{Room}
 use Rattle.pipe_types.specs.declared.topology.Topology.{Topology}
 use Rattle.pipe_types.specs.declared.topology.StageSpec.{StageSpec}
 use Rattle.pipe_types.specs.Numbers.{same_sub}
-use Rattle.pipe_types.specs.Stages.{feeds, spec_of, spec_feeds, option_feeds}
+use Rattle.pipe_types.specs.Stages.{feeds, spec_of, spec_feeds}
 use Rattle.pipe_laws.proofs.Tests.{same_sub-self}
-use Rattle.stage_subs.specs.Subs.{live_sub, live_sub_in, room_on as open_on, room_in, row_at}
-use Rattle.stage_subs.specs.Ledger.{ledger_row}
+use Rattle.stage_subs.specs.Subs.{live_sub, live_sub_in, room_on as open_on, room_in}
 use Rattle.pipe_model.specs.History.{History, asked}
 use Rattle.pipe_model.specs.Flow.{sent, index_in}
 use Rattle.pipe_model.specs.Lives.{is_live, is_live_sub, current_sub, live_subs, live_subs_from}

@@ -1,5 +1,5 @@
 -- Units that are lost over a size, one after another.
-use Rattle.std.proofs.Common.{◌≡◌, ℕ, suc, ◌+◌, ◌-◌, ◌<◌, ◌≤◌, List, [], ◌∷◌, length, take, drop, map, set, Bool, true, false, refl, ap, sym, ◌∙◌, Some, None, Option, arith, get_or, if◌then◌else◌}
+use Rattle.std.proofs.Common.{◌≡◌, ℕ, suc, ◌+◌, ◌-◌, ◌<◌, ◌≤◌, List, [], ◌∷◌, length, take, map, set, Bool, true, false, refl, ap, sym, ◌∙◌, Some, None, Option, arith, get_or, if◌then◌else◌}
 use Rattle.std.specs.Prelude.{slice_get, option_map, ◌==◌, ◌&&◌, ◌||◌}
 use Rattle.std.proofs.lemmas.Bool.Decides.{nat_tests}
 use Rattle.std.proofs.lemmas.List.{at_drop_more, get_or-take, length-take-le}

@@ -1,6 +1,6 @@
 -- No batch waits in a stage of messages.
 use Rattle.std.proofs.Common.{◌≡◌, ℕ, ◌+◌, List, [], ◌∷◌, Bool, true, false, refl, ap, sym, ◌∙◌, Some, None, Option}
-use Rattle.std.specs.Prelude.{if◌then◌else◌, ◌==◌, ◌&&◌, not, is_some, option_map}
+use Rattle.std.specs.Prelude.{if◌then◌else◌, ◌==◌, ◌&&◌, option_map}
 use Rattle.pipe_types.specs.declared.numbers.StageNo.{StageNo}
 use Rattle.pipe_types.specs.declared.numbers.SubNo.{SubNo}
 use Rattle.pipe_types.specs.declared.topology.Topology.{Topology}
@@ -10,9 +10,9 @@ use Rattle.pipe_types.specs.Numbers.{same_stage}
 use Rattle.pipe_types.specs.Stages.{spec_of}
 use Rattle.pipe_model.specs.Batches.{Batch, BatchPlace, AtBatcher, Sent, Dropped, batch_sent, leg_taken, leg_answered, batch_on_legs}
 use Rattle.pipe_model.specs.History.{History, closed, incarnation}
-use Rattle.pipe_model.specs.Lives.{kill_set, reason_in}
+use Rattle.pipe_model.specs.Lives.{kill_set}
 use Rattle.pipe_model.specs.Legal.{is_legal}
-use Rattle.pipe_model.specs.Flow.{batch, view_of, among, closing, new_batch, next_units, change_place, deliveries, subs_of, is_batcher, is_empty, batch_waits_in, at_batcher}
+use Rattle.pipe_model.specs.Flow.{batch, view_of, among, closing, new_batch, next_units, change_place, deliveries, subs_of, is_batcher, batch_waits_in, at_batcher}
 use Rattle.pipe_laws.proofs.Allowed.{legal_before, legal_step}
 use Rattle.pipe_laws.proofs.Tests.{clash, same_stage-true}
 use Rattle.queue_laws.proofs.Roles.{role_batched}

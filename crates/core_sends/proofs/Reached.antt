@@ -1,8 +1,8 @@
 -- Units past those that a dispatch reaches wait still; those over the size waited and were not sent.
-use Rattle.std.proofs.Common.{◌≡◌, ℕ, zero, suc, ◌-◌, ◌<◌, ◌≤◌, List, [], ◌∷◌, length, map, take, drop, All, Bool, true, false, refl, ap, sym, ◌∙◌, Some, None, Option, arith, subst, get_or}
-use Rattle.std.specs.Prelude.{◌==◌, ◌&&◌, filter, not}
+use Rattle.std.proofs.Common.{◌≡◌, ℕ, zero, suc, ◌-◌, ◌<◌, ◌≤◌, List, [], ◌∷◌, length, map, take, drop, All, true, false, ap, sym, ◌∙◌, Some, None, Option, arith, subst, get_or}
+use Rattle.std.specs.Prelude.{◌==◌}
 use Rattle.std.proofs.lemmas.Bool.{eqb-true, false_from_ne_true}
-use Rattle.std.proofs.lemmas.List.{get_or-take, length-take-le, length-take}
+use Rattle.std.proofs.lemmas.List.{get_or-take, length-take}
 use Rattle.pipe_types.specs.declared.numbers.StageNo.{StageNo}
 use Rattle.pipe_types.specs.declared.topology.Topology.{Topology}
 use Rattle.pipe_types.specs.declared.topology.StageSpec.{StageSpec}

@@ -1,32 +1,23 @@
 -- The fields after a dispatch of a stage of messages.
-use Rattle.std.proofs.Common.{◌≡◌, ◌≢◌, ℕ, zero, suc, ◌+◌, ◌-◌, ◌<◌, ◌≤◌, List, [], ◌∷◌, ◌++◌, length, map, drop, set, All, Bool, true, false, refl, ap, sym, ◌∙◌, Some, None, Option, arith, subst, inl, inr, get_or}
-use Rattle.std.specs.Prelude.{slice_get, option_map, if◌then◌else◌, ◌==◌, ◌&&◌, ◌⊎◌, filter, not}
+use Rattle.std.proofs.Common.{◌≡◌, ℕ, zero, suc, ◌+◌, ◌-◌, ◌<◌, ◌≤◌, List, [], ◌∷◌, ◌++◌, length, map, All, Bool, true, false, refl, ap, sym, ◌∙◌, Some, arith}
+use Rattle.std.specs.Prelude.{slice_get, option_map, if◌then◌else◌, ◌&&◌, filter, not}
 use Rattle.std.specs.List.{enumerate_from}
-use Rattle.std.specs.declared.alloc.Global.{Global}
-use Rattle.std.specs.declared.vec.Vec.{Vec}
-use Rattle.std.specs.declared.collections.VecDeque.{VecDeque}
-use Rattle.std.proofs.lemmas.Bool.Decides.{nat_tests}
-use Rattle.std.proofs.lemmas.List.{length-set, length-map, get_or-map, append-nil}
+use Rattle.std.proofs.lemmas.List.{append-nil}
 use Rattle.pipe_types.specs.declared.numbers.StageNo.{StageNo}
-use Rattle.pipe_types.specs.declared.numbers.SubNo.{SubNo}
 use Rattle.pipe_types.specs.declared.topology.Topology.{Topology}
 use Rattle.pipe_types.specs.declared.topology.StageSpec.{StageSpec}
-use Rattle.pipe_types.specs.declared.topology.Keep.{Keep}
 use Rattle.pipe_types.specs.declared.message.Place.{Place}
 use Rattle.pipe_types.specs.declared.room.Sent.{Sent}
 use Rattle.pipe_types.specs.declared.step.Step.TheVariants.{Dispatch}
-use Rattle.pipe_types.specs.Numbers.{same_stage, same_sub}
 use Rattle.pipe_types.specs.Sound.{IsSound}
-use Rattle.pipe_types.specs.Stages.{spec_of, feeds}
-use Rattle.pipe_types.specs.Dispatchers.{sends_by_place, sends_from}
-use Rattle.pipe_laws.proofs.Lists.{Each, each_weaker, each_always, each_filter, all_among, each_among}
-use Rattle.pipe_laws.proofs.Tests.{and_left, and_right, same_stage-self}
-use Rattle.pipe_model.specs.History.{History, accepted, asked}
+use Rattle.pipe_types.specs.Stages.{spec_of}
+use Rattle.pipe_types.specs.Dispatchers.{sends_by_place}
+use Rattle.pipe_laws.proofs.Lists.{Each, each_weaker, each_always, each_filter}
+use Rattle.pipe_laws.proofs.Tests.{same_stage-self}
+use Rattle.pipe_model.specs.History.{History, accepted}
 use Rattle.pipe_model.specs.Content.{arrivals}
-use Rattle.pipe_model.specs.Lives.{is_live, is_live_sub, current_sub}
 use Rattle.pipe_model.specs.Legal.{is_legal, allows}
-use Rattle.pipe_model.specs.Flow.{place, batch, waiting, inbox, sent, deliveries, delivered_to, dispatched, count_on, lost_over, over_size, over_in, unsent, view_of, rooms_by, kind_in, partition_in, is_batcher, is_empty, subs_of, among, waits_in, batch_waits_in}
-use Rattle.pipe_journal.specs.Recorded.{Recorded}
+use Rattle.pipe_model.specs.Flow.{place, batch, waiting, deliveries, dispatched, lost_over, over_size, over_in, unsent, view_of, rooms_by, kind_in, partition_in, is_batcher, is_empty, subs_of, among, waits_in, batch_waits_in}
 use Rattle.queue_laws.specs.Queues.{left_over}
 use Rattle.queue_laws.proofs.Apart.{Apart, apart_kept}
 use Rattle.queue_laws.proofs.ByPlace.{deliveries_by_place}
@@ -36,16 +27,9 @@ use Rattle.queue_laws.proofs.Laws.{waiting_law}
 use Rattle.queue_laws.proofs.Sounds.{fits}
 use Rattle.queue_laws.proofs.Waits.{waits_dispatched}
 use Rattle.stage_laws.proofs.Bounds.{waiting_apart, waiting_within}
-use Rattle.stage_subs.specs.Pairs.{PairRow}
-use Rattle.stage_subs.specs.Subs.{row_at, sent_more, is_pair}
-use Rattle.stage_subs.specs.Ledger.{ledger_row}
-use Rattle.core_tables.specs.Tables.{queue_at, named, count_between}
-use Rattle.core_laws.specs.Columns.{waiting_parts, part_of, mark}
-use Rattle.core_laws.specs.Laws.{IsSentWell, DispatchLaws}
-use Rattle.core_calls.proofs.Asking.{pair_is}
-use Rattle.core_state.specs.declared.state.Core.{Core}
-use Rattle.core_state.specs.Stands.{Fields}
-use Rattle.core_sends.specs.Losing.{still_waits, left_in, numbers_in, over_of, kept_of, lost_over_size, marked}
+use Rattle.core_tables.specs.Tables.{named}
+use Rattle.core_laws.specs.Columns.{waiting_parts, part_of}
+use Rattle.core_sends.specs.Losing.{still_waits, left_in, numbers_in, over_of, kept_of}
 use Rattle.core_sends.specs.Rooms.{planned, parts_of}
 use Rattle.core_sends.proofs.LeftOver.{over_is, over_map, kept_is, kept_map, filter_map}
 use Rattle.core_sends.proofs.Queued.{numbers_in_queue}

@@ -10,7 +10,7 @@ use Rattle.pipe_types.specs.declared.message.Place.TheVariants.{Waiting, Inbox, 
 use Rattle.pipe_types.specs.declared.room.Sent.{Sent}
 use Rattle.pipe_types.specs.declared.step.Step.TheVariants.{Dispatch}
 use Rattle.pipe_types.specs.Numbers.{same_stage}
-use Rattle.pipe_laws.proofs.Tests.{same_stage-true, same_stage-self}
+use Rattle.pipe_laws.proofs.Tests.{same_stage-self}
 use Rattle.pipe_model.specs.History.{History}
 use Rattle.pipe_model.specs.Flow.{place, view_of, among, dispatched, waiting_after, subs_of, is_empty, deliveries, lost_over, waits_in}
 use Rattle.pipe_model.specs.Moves.{is_final}

@@ -1,5 +1,5 @@
 -- What a dispatch leaves of the units that wait, and of their places.
-use Rattle.std.specs.Prelude.{ℕ, Bool, true, false, if◌then◌else◌, ◌&&◌, ◌-◌, List, [], ◌∷◌, take, drop, min, length, map, filter, Option, Some, None, slice_get, ◌++◌}
+use Rattle.std.specs.Prelude.{ℕ, Bool, false, if◌then◌else◌, ◌&&◌, ◌-◌, List, [], ◌∷◌, take, drop, min, length, map, filter, Option, Some, None, slice_get, ◌++◌}
 use Rattle.pipe_types.specs.declared.numbers.StageNo.{StageNo}
 use Rattle.pipe_types.specs.declared.message.Loss.TheVariants.{Overflow}
 use Rattle.pipe_types.specs.declared.message.Place.{Place}

@@ -39,7 +39,11 @@ pub(crate) fn deliver(
 }
 
 /// The partitions of the units in the queue, and then these.
-fn parts_in(alloc: Global, queue: &VecDeque<(u32, u32)>, more: &[u32]) -> Result<Vec<u32>, AllocError>
+fn parts_in(
+    alloc: Global,
+    queue: &VecDeque<(u32, u32)>,
+    more: &[u32],
+) -> Result<Vec<u32>, AllocError>
     ensures { IfOk result (λ parts. parts.items ≡ map (λ unit. unit.0) queue.now.items ++ more.now) }
 {
     let mut parts: Vec<u32> = queue.iter().map(|unit| unit.0).collect(alloc)?;

@@ -1,13 +1,14 @@
 //! What a dispatch sends, and the step that sends it.
 //!
-//! `plan` says what a dispatch of a stage would send, by the places of the units in its queue; `make_room` makes room for it
-//! in the inboxes of the consumers. `send_messages` appends the dispatch of a stage of messages, with no more memory.
+//! `plan` says what a dispatch of a stage would send, by the places of the units in its queue, for each of the three
+//! dispatchers; `make_room` makes room for it in the inboxes of the consumers. `send_messages` appends the dispatch of a stage
+//! of messages and takes no memory, so it may follow a step that owes it; `dispatch_messages` is all of it in one call.
 #![tactic(auto)]
 
-pub mod counting;
+mod counting;
 mod deliveries;
-pub mod losing;
+mod leaving;
+mod losing;
 pub mod plans;
 pub mod rooms;
-mod leaving;
 pub mod sending;

@@ -5,3 +5,7 @@ pub mod Copying
 pub mod TakenStep
 pub mod TakenClosed
 pub mod TakenOne
+pub mod Answering
+pub mod AnsweredParts
+pub mod AnsweredMarks
+pub mod Answered

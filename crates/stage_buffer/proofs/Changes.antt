@@ -1,16 +1,15 @@
 -- The order of arrival after a unit came or went.
-use Rattle.std.proofs.Common.{◌≡◌, ◌≢◌, ℕ, zero, suc, ◌+◌, ◌-◌, ◌<◌, ◌≤◌, List, [], ◌∷◌, ◌++◌, length, map, take, drop, cond, refl, ap, sym, subst, ◌∙◌, ◌⊎◌, ⊎_elim, inl, inr, arith, Option, Some, None, option_map, length-append}
+use Rattle.std.proofs.Common.{◌≡◌, ◌≢◌, ℕ, zero, suc, ◌+◌, ◌<◌, ◌≤◌, List, [], ◌∷◌, ◌++◌, length, map, drop, cond, refl, ap, sym, subst, ◌∙◌, ⊎_elim, arith, Some}
 use Rattle.std.specs.Prelude.{Bool, true, false, ◌==◌, filter, slice_get}
-use Rattle.std.proofs.lemmas.Bool.{cases_eq, cases_lt, cond-true, cond-false, eq-eqb, ne_eqb}
-use Rattle.std.proofs.lemmas.List.{append-nil, map-append, length-map, take-map, take-append-le, take_all}
+use Rattle.std.proofs.lemmas.Bool.{cases_eq, cond-true, cond-false}
+use Rattle.std.proofs.lemmas.List.{append-nil, map-append}
 use Rattle.std.proofs.lemmas.List.Elements.{filter-append}
-use Rattle.std.proofs.lemmas.Option.{slice_get-map}
 use Rattle.std.proofs.Math.ListN.{set}
 use Rattle.circular_buffer.specs.Buffer.{Buffer}
 use Rattle.stage_buffer.specs.declared.Arrived.{Arrived}
 use Rattle.stage_buffer.specs.Waiting.{units_of_part, without_first}
-use Rattle.stage_buffer.specs.Order.{Entry, entry, in_order, items_at, in_part, pair_of, remove, AreAfter, AreBelow, AreAscending, Orders}
-use Rattle.stage_buffer.proofs.Ordering.{keeps, skips, in_its_part, in_other_part, after_filter, none_of, tail_none}
+use Rattle.stage_buffer.specs.Order.{Entry, entry, items_at, in_part, pair_of, remove, AreAfter, AreBelow, AreAscending, Orders}
+use Rattle.stage_buffer.proofs.Ordering.{keeps, skips, in_its_part, in_other_part, none_of, tail_none}
 
 module _ {X : Type 0} where
   -- Bounds

@@ -1,5 +1,5 @@
 -- Rings that hold nothing.
-use Rattle.std.proofs.Common.{◌≡◌, ℕ, zero, suc, ◌+◌, List, [], ◌∷◌, ◌++◌, length, map, refl, ap, ◌∙◌, sym, subst}
+use Rattle.std.proofs.Common.{◌≡◌, ℕ, zero, suc, ◌^◌, ◌<◌, List, [], ◌∷◌, ◌++◌, length, map, refl, ap, ◌∙◌, sym, subst}
 use Rattle.circular_buffer.specs.Buffer.{Buffer}
 use Rattle.stage_buffer.specs.declared.Arrived.{Arrived}
 use Rattle.stage_buffer.specs.Order.{Entry, entry, insert_all, in_order, items_at, AreBelow, Orders, IsOrdered}
@@ -30,9 +30,10 @@ module _ {X : Type 0} where
       same_items (r ∷ rings) zero h = h
       same_items (r ∷ rings) (suc p) h = same_items rings p h
 
-  pub empty_ordered : (rings : List (Buffer (Arrived X))) → AreEmpty rings → IsOrdered rings 0 0
-  empty_ordered rings empty =
+  pub empty_ordered : (rings : List (Buffer (Arrived X))) → length rings < 2 ^ 32 → AreEmpty rings → IsOrdered rings 0 0
+  empty_ordered rings few empty =
       record {
+        few = few;
         orders = subst (λ (es : List (Entry X)). Orders rings es) (sym (empty.order 0)) (record { ascending = tt; parted = λ p. sym (ap (map (entry p)) (empty.items p)) });
         below = subst (λ (es : List (Entry X)). AreBelow 0 es) (sym (empty.order 0)) tt;
         counted = ap length (empty.order 0);

@@ -1,5 +1,5 @@
 -- The ring whose end comes first, or last, holds the first, or last, unit of the order.
-use Rattle.std.proofs.Common.{◌≡◌, ◌≢◌, ℕ, zero, suc, ◌+◌, ◌-◌, ◌<◌, ◌≤◌, List, [], ◌∷◌, ◌++◌, length, map, refl, ap, sym, ◌∙◌, ⊎_elim, arith, Option, Some, None, option_map, length-append}
+use Rattle.std.proofs.Common.{◌≡◌, ◌≢◌, ℕ, ◌-◌, ◌<◌, ◌≤◌, List, [], ◌∷◌, ◌++◌, length, refl, ap, sym, ◌∙◌, ⊎_elim, arith, Option, Some, None, option_map, length-append}
 use Rattle.std.specs.Prelude.{filter, slice_get}
 use Rattle.std.proofs.lemmas.Bool.{cases_eq, cases_lt}
 use Rattle.std.proofs.lemmas.List.{append-nil, length-map}
@@ -7,7 +7,7 @@ use Rattle.std.proofs.lemmas.List.Elements.{filter-append}
 use Rattle.std.proofs.lemmas.Option.{slice_get-map}
 use Rattle.circular_buffer.specs.Buffer.{Buffer}
 use Rattle.stage_buffer.specs.declared.Arrived.{Arrived}
-use Rattle.stage_buffer.specs.Order.{Entry, entry, items_at, in_part, AreAfter, AreBelow, Orders, front_at, back_at, IsEarliest, IsLatest}
+use Rattle.stage_buffer.specs.Order.{Entry, entry, items_at, in_part, Orders, front_at, back_at, IsEarliest, IsLatest}
 use Rattle.stage_buffer.proofs.Ordering.{keeps, skips, in_its_part, in_other_part, after_filter}
 use Rattle.stage_buffer.proofs.Changes.{below_filter, below_at, after_at, items_past, up_to_end}
 

@@ -1,5 +1,5 @@
 -- What is over a size leaves no more units.
-use Rattle.std.proofs.Common.{◌≡◌, ℕ, ◌≤◌, ◌-◌, List, length, take, drop, cond, arith}
+use Rattle.std.proofs.Common.{ℕ, ◌≤◌, ◌-◌, List, length, cond, arith}
 use Rattle.std.specs.Prelude.{Bool, true, false}
 use Rattle.std.proofs.lemmas.List.{length-take, length-drop}
 use Rattle.pipe_types.specs.declared.topology.Keep.{Keep}

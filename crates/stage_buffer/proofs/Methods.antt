@@ -1,5 +1,5 @@
 -- What a change of the rings makes of the buffer.
-use Rattle.std.proofs.Common.{◌≡◌, ◌≢◌, ℕ, zero, suc, ◌+◌, ◌-◌, ◌<◌, ◌≤◌, List, [], ◌∷◌, ◌++◌, length, map, take, drop, refl, ap, sym, subst, ◌∙◌, ⊎_elim, arith, Option, Some, None, option_map, length-append}
+use Rattle.std.proofs.Common.{◌≡◌, ◌≢◌, ℕ, zero, suc, ◌+◌, ◌-◌, ◌^◌, ◌<◌, ◌≤◌, List, [], ◌∷◌, ◌++◌, length, map, take, drop, refl, ap, sym, subst, ◌∙◌, arith, Option, Some, None, option_map, length-append}
 use Rattle.std.specs.Prelude.{true, filter, slice_get}
 use Rattle.std.proofs.lemmas.Bool.{lt-ltb, cond-true}
 use Rattle.std.proofs.lemmas.List.{map-append, length-map, length-take, length-drop, take-map}
@@ -14,9 +14,10 @@ use Rattle.stage_buffer.proofs.Changes.{below_append, below_more, below_remove, 
 
 module _ {X : Type 0} where
   -- the rings after a change, by what stands in them
-  stands : (old new : List (Buffer (Arrived X))) (es : List (Entry X)) (len arrived : ℕ) → Becomes old new es → AreBelow arrived es → length es ≡ len → IsOrdered new len arrived
-  stands old new es len arrived becomes below counted =
+  stands : (old new : List (Buffer (Arrived X))) (es : List (Entry X)) (len arrived : ℕ) → length old < 2 ^ 32 → Becomes old new es → AreBelow arrived es → length es ≡ len → IsOrdered new len arrived
+  stands old new es len arrived few becomes below counted =
       record {
+        few = let parts = becomes.parts in omega arith;
         orders = subst (λ (xs : List (Entry X)). Orders new xs) (sym becomes.order) becomes.orders;
         below = subst (λ (xs : List (Entry X)). AreBelow arrived xs) (sym becomes.order) below;
         counted = ap length becomes.order ∙ counted;
@@ -24,7 +25,7 @@ module _ {X : Type 0} where
 
   pub came_ordered : (old new : List (Buffer (Arrived X))) (len arrived part : ℕ) (a : Arrived X) → IsOrdered old len arrived → a.at ≡ arrived → Becomes old new (in_order 0 old ++ entry part a ∷ []) → IsOrdered new (len + 1) (arrived + 1)
   came_ordered old new len arrived part a before at becomes =
-      stands old new (in_order 0 old ++ entry part a ∷ []) (len + 1) (arrived + 1) becomes
+      stands old new (in_order 0 old ++ entry part a ∷ []) (len + 1) (arrived + 1) before.few becomes
       (below_append (arrived + 1) (in_order 0 old) (entry part a) (below_more arrived (arrived + 1) (in_order 0 old) (omega arith) before.below) (omega arith))
       (let counted = before.counted in omega (arith, length-append (in_order 0 old) (entry part a ∷ [])))
 
@@ -47,7 +48,7 @@ module _ {X : Type 0} where
 
   pub some_went : (old new : List (Buffer (Arrived X))) (len arrived part : ℕ) (a : Arrived X) → IsOrdered old len arrived → Some a ≡ slice_get (items_at old part) 0 → Becomes old new (remove part (in_order 0 old)) → IsOrdered new (len - 1) arrived
   some_went old new len arrived part a before some becomes =
-      stands old new (remove part (in_order 0 old)) (len - 1) arrived becomes
+      stands old new (remove part (in_order 0 old)) (len - 1) arrived before.few becomes
       (below_remove arrived part (in_order 0 old) before.below)
       (let counted = before.counted in
       let shorter = length_remove part (in_order 0 old) (some_left old part a before.orders some) in
@@ -63,7 +64,7 @@ module _ {X : Type 0} where
   pub none_went : (old new : List (Buffer (Arrived X))) (len arrived part : ℕ) → IsOrdered old len arrived → None ≡ slice_get (items_at old part) 0 → Becomes old new (remove part (in_order 0 old)) → IsOrdered new len arrived
   none_went old new len arrived part before none becomes =
       let same = none_left old part before.orders none in
-      stands old new (remove part (in_order 0 old)) len arrived becomes
+      stands old new (remove part (in_order 0 old)) len arrived before.few becomes
       (below_remove arrived part (in_order 0 old) before.below)
       (ap length same ∙ before.counted)
 
@@ -99,7 +100,7 @@ module _ {X : Type 0} where
 
   pub end_went : (old new : List (Buffer (Arrived X))) (len arrived : ℕ) (keep : Keep) → IsOrdered old len arrived → Becomes old new (without_end keep (in_order 0 old)) → IsOrdered new (len - 1) arrived
   end_went old new len arrived keep before becomes =
-      stands old new (without_end keep (in_order 0 old)) (len - 1) arrived becomes
+      stands old new (without_end keep (in_order 0 old)) (len - 1) arrived before.few becomes
       (below_end keep arrived (in_order 0 old) before.below)
       (let counted = before.counted in omega (arith, shorter_end keep (in_order 0 old)))
 
@@ -131,7 +132,7 @@ module _ {X : Type 0} where
 
   pub same_ordered : (old new : List (Buffer (Arrived X))) (len arrived : ℕ) → IsOrdered old len arrived → HoldsSame old new → IsOrdered new len arrived
   same_ordered old new len arrived before same =
-      stands old new (in_order 0 old) len arrived
+      stands old new (in_order 0 old) len arrived before.few
       (record { order = same.order; orders = record { ascending = before.orders.ascending; parted = λ p. before.orders.parted p ∙ ap (map (entry p)) (sym (same.items p)) }; parts = same.parts })
       before.below before.counted
 

@@ -1,6 +1,6 @@
 -- The list in order of arrival is the one that ascends and has each ring as its part.
-use Rattle.std.proofs.Common.{◌≡◌, ◌≢◌, ℕ, zero, suc, ◌+◌, ◌-◌, ◌<◌, ◌≤◌, List, [], ◌∷◌, ◌++◌, length, map, cond, refl, ap, sym, ◌∙◌, ◌⊎◌, ⊎_elim, inl, inr, arith, Option, Some, None}
-use Rattle.std.specs.Prelude.{Bool, true, false, ◌==◌, nat_lt, nat_le, filter}
+use Rattle.std.proofs.Common.{◌≡◌, ◌≢◌, ℕ, zero, suc, ◌+◌, ◌-◌, ◌<◌, ◌≤◌, List, [], ◌∷◌, map, cond, refl, ap, sym, ◌∙◌, ⊎_elim, arith}
+use Rattle.std.specs.Prelude.{Bool, true, false, nat_lt, nat_le, filter}
 use Rattle.std.proofs.lemmas.Bool.{cases_eq, cases_lt, cond-true, cond-false, eq-eqb, ne_eqb, lt-ltb, le-ltb, le-leb, lt-leb}
 use Rattle.circular_buffer.specs.Buffer.{Buffer}
 use Rattle.stage_buffer.specs.declared.Arrived.{Arrived}

@@ -1,5 +1,5 @@
 -- The first, or the last, unit of all went.
-use Rattle.std.proofs.Common.{◌≡◌, ◌≢◌, ℕ, zero, suc, ◌+◌, ◌-◌, ◌<◌, ◌≤◌, List, [], ◌∷◌, ◌++◌, length, get_or, map, take, drop, refl, ap, sym, subst, ◌∙◌, ⊎_elim, arith, Option, Some, None, option_map, length-append}
+use Rattle.std.proofs.Common.{◌≡◌, ◌≢◌, ℕ, ◌-◌, ◌<◌, List, [], ◌∷◌, ◌++◌, length, get_or, map, take, drop, refl, ap, sym, subst, ◌∙◌, ⊎_elim, arith, Option, Some, None, option_map, length-append}
 use Rattle.std.specs.Prelude.{filter, slice_get}
 use Rattle.std.proofs.lemmas.Bool.{cases_eq}
 use Rattle.std.proofs.lemmas.List.{length-set, length-map, length-take, take-map, take-append-le, take_all}
@@ -7,11 +7,11 @@ use Rattle.std.proofs.lemmas.Option.{slice_get-map}
 use Rattle.std.proofs.Math.ListN.{set}
 use Rattle.circular_buffer.specs.Buffer.{Buffer, buffer, last_item}
 use Rattle.stage_buffer.specs.declared.Arrived.{Arrived}
-use Rattle.stage_buffer.specs.Order.{Entry, entry, in_order, items_at, in_part, remove, spare_in, spare_at, unit_of, unit_in, Orders, Becomes, KeepsRoom, IsEarliest, IsLatest, front_at, back_at}
-use Rattle.stage_buffer.proofs.Ordering.{ordered, keeps, in_its_part}
+use Rattle.stage_buffer.specs.Order.{Entry, entry, in_order, items_at, in_part, remove, spare_in, spare_at, Orders, Becomes, KeepsRoom, IsEarliest, IsLatest, front_at, back_at}
+use Rattle.stage_buffer.proofs.Ordering.{keeps, in_its_part}
 use Rattle.stage_buffer.proofs.Changes.{Changes, up_to_end, removed_here}
 use Rattle.stage_buffer.proofs.Ends.{oldest_part, newest_part, some_oldest, some_newest, filter_before, filter_end, part_within, last_of}
-use Rattle.stage_buffer.proofs.Rings.{IsRing, ring_at, changes, becomes, room_kept, pop_becomes}
+use Rattle.stage_buffer.proofs.Rings.{ring_at, changes, becomes, room_kept, pop_becomes}
 
 -- without the last element
 cut : (A : Type 0) (xs : List A) (x : A) (n : ℕ) → n ≡ length (xs ++ x ∷ []) → take (n - 1) (xs ++ x ∷ []) ≡ xs

@@ -1,17 +1,14 @@
 -- What a change of one ring makes of all.
-use Rattle.std.proofs.Common.{◌≡◌, ◌≢◌, ℕ, zero, suc, ◌+◌, ◌-◌, ◌<◌, ◌≤◌, List, [], ◌∷◌, ◌++◌, length, get_or, map, take, drop, refl, ap, sym, subst, ◌∙◌, ⊎_elim, arith, Option, Some, None, option_map, length-append}
+use Rattle.std.proofs.Common.{◌≡◌, ◌≢◌, ℕ, zero, suc, ◌+◌, ◌-◌, ◌<◌, ◌≤◌, List, [], ◌∷◌, ◌++◌, length, get_or, map, drop, refl, ap, sym, subst, ◌∙◌, ⊎_elim, arith, None, length-append}
 use Rattle.std.specs.Prelude.{filter, slice_get, if◌then◌else◌, ◌==◌}
-use Rattle.std.proofs.lemmas.Bool.{cases_eq, cases_lt, eq-eqb, ne_eqb, cond-true, cond-false}
-use Rattle.std.proofs.lemmas.List.{length-set, length-map, length-drop, length-take, take-map, take-append-le, take_all}
+use Rattle.std.proofs.lemmas.Bool.{cases_eq, eq-eqb, cond-true}
+use Rattle.std.proofs.lemmas.List.{length-set, length-drop}
 use Rattle.std.proofs.Math.ListN.{set}
-use Rattle.circular_buffer.specs.Buffer.{Buffer, buffer, keep_last, last_item}
-use Rattle.pipe_types.specs.declared.topology.Keep.TheVariants.{Last, First}
+use Rattle.circular_buffer.specs.Buffer.{Buffer, buffer, keep_last}
 use Rattle.stage_buffer.specs.declared.Arrived.{Arrived}
-use Rattle.stage_buffer.specs.Waiting.{end_of, without_end}
-use Rattle.stage_buffer.specs.Order.{Entry, entry, insert_all, in_order, items_at, in_part, remove, spare_in, spare_at, unit_of, unit_in, AreBelow, AreAscending, Orders, Becomes, KeepsRoom, HoldsSame, IsEarliest, IsLatest, front_at, back_at}
-use Rattle.stage_buffer.proofs.Ordering.{ordered, keeps, in_its_part}
-use Rattle.stage_buffer.proofs.Changes.{Changes, changes_set, came, went, nothing_removed, up_to_end, removed_here, items_past}
-use Rattle.stage_buffer.proofs.Ends.{oldest_part, newest_part, some_oldest, some_newest, filter_before, filter_end}
+use Rattle.stage_buffer.specs.Order.{Entry, entry, insert_all, in_order, items_at, in_part, remove, spare_in, spare_at, AreBelow, Orders, Becomes, KeepsRoom, HoldsSame}
+use Rattle.stage_buffer.proofs.Ordering.{ordered}
+use Rattle.stage_buffer.proofs.Changes.{Changes, changes_set, came, went, nothing_removed, items_past}
 
 module _ {X : Type 0} where
   pub becomes : (rings new : List (Buffer (Arrived X))) (es : List (Entry X)) → Orders new es → length new ≡ length rings → Becomes rings new es

@@ -1,11 +1,11 @@
 -- The search for the ring whose end came first, or last.
-use Rattle.std.proofs.Common.{◌≡◌, ◌≢◌, ℕ, suc, ◌+◌, ◌-◌, ◌<◌, ◌≤◌, List, length, get_or, refl, ap, sym, subst, ◌∙◌, ⊎_elim, arith, Option, Some, None, option_map}
+use Rattle.std.proofs.Common.{◌≡◌, ℕ, ◌+◌, ◌<◌, ◌≤◌, List, length, get_or, ap, sym, subst, ◌∙◌, ⊎_elim, arith, Option, Some, None, option_map}
 use Rattle.std.specs.Prelude.{slice_get, nat_le}
 use Rattle.std.proofs.lemmas.Bool.{cases_eq, cases_lt, cond-true, cond-false, le-leb, lt-leb}
 use Rattle.circular_buffer.specs.Buffer.{Buffer, last_item}
 use Rattle.stage_buffer.specs.declared.Arrived.{Arrived}
-use Rattle.stage_buffer.specs.Order.{items_at, front_at, back_at, earlier_of, later_of, IsEarliest, IsLatest}
-use Rattle.stage_buffer.proofs.Rings.{IsRing, ring_at}
+use Rattle.stage_buffer.specs.Order.{front_at, back_at, earlier_of, later_of, IsEarliest, IsLatest}
+use Rattle.stage_buffer.proofs.Rings.{ring_at}
 
 none_some : (n : ℕ) (o : Option ℕ) → o ≡ None → o ≡ Some n → ⊥
 none_some n o h k = absurd_of (sym h ∙ k)

@@ -1,8 +1,9 @@
 -- A ring for each part, and the units of all of them by the numbers of their arrival.
-use Rattle.std.specs.Prelude.{◌≡◌, ℕ, zero, suc, ◌+◌, ◌-◌, ◌<◌, ◌≤◌, Bool, true, false, ◌==◌, nat_lt, nat_le, if◌then◌else◌, List, [], ◌∷◌, length, map, filter, slice_get, slice_index_or, Option, Some, None, option_map}
+use Rattle.std.specs.Prelude.{◌≡◌, ℕ, zero, suc, ◌-◌, ◌^◌, ◌<◌, ◌≤◌, ◌++◌, Bool, ◌==◌, nat_lt, nat_le, if◌then◌else◌, List, [], ◌∷◌, length, map, filter, slice_get, slice_index_or, Option, Some, None, option_map}
 use Rattle.circular_buffer.specs.Buffer.{Buffer}
 use Rattle.pipe_types.specs.declared.topology.Keep.{Keep}
 use Rattle.stage_buffer.specs.declared.Arrived.{Arrived}
+use Rattle.stage_buffer.specs.declared.Arrival.{Arrival}
 use Rattle.stage_buffer.specs.Waiting.{Waiting}
 
 -- a unit with its part and the number of its arrival
@@ -74,11 +75,21 @@ module _ {X : Type 0} where
     pub ascending : AreAscending es
     pub parted : (p : ℕ) → filter (in_part p) es ≡ map (entry p) (items_at rings p)
 
-  -- so many units stand in the rings, and so many arrived
+  -- so many units stand in the rings, and so many arrived; a part has 32 bits
   pub record IsOrdered (rings : List (Buffer (Arrived X))) (len arrived : ℕ) : Type 0 where
+    pub few : length rings < 2 ^ 32
     pub orders : Orders rings (in_order 0 rings)
     pub below : AreBelow arrived (in_order 0 rings)
     pub counted : length (in_order 0 rings) ≡ len
+
+  -- when units of a part arrived
+  abbrev pub arrivals_of : (part : ℕ) → List (Arrived X) → List Arrival
+  arrivals_of part units = map (λ a. record { at = a.at; part = part }) units
+
+  -- when the units of the rings from this part on arrived, one ring after the other
+  abbrev pub arrivals_from : (part : ℕ) → List (Buffer (Arrived X)) → List Arrival
+  arrivals_from part [] = []
+  arrivals_from part (ring ∷ rings) = arrivals_of part ring.items ++ arrivals_from (suc part) rings
 
   abbrev pub spare_at : List (Buffer (Arrived X)) → (part : ℕ) → ℕ
   spare_at rings p = slice_index_or (map spare_in rings) p 0

@@ -5,9 +5,9 @@
 //! part by at most 1. `new`, `reserve` and `parts` alone take memory.
 #![tactic(auto)]
 
-ghost use Rattle.std.specs.Prelude.{◌≡◌, ℕ, ◌+◌, ◌-◌, ◌<◌, ◌≤◌, ◌^◌, ◌++◌, ◌∷◌, [], length, take, drop, option_map, slice_get, option_copied, OnOk, IfOk, OnErr, IfSome, IsNone, if◌then◌else◌, ◌==◌};
+ghost use Rattle.std.specs.Prelude.{◌≡◌, ℕ, ◌+◌, ◌-◌, ◌<◌, ◌≤◌, ◌^◌, ◌++◌, ◌∷◌, [], length, map, take, drop, option_map, slice_get, option_copied, OnOk, IfOk, OnErr, IfSome, IsNone, if◌then◌else◌, ◌==◌};
 ghost use Rattle.stage_buffer.specs.Waiting.{Waiting, units_of_part, without_first, spare_of, end_of, without_end, over_unit, without_over, KeepsShape, KeepsSpare};
-ghost use Rattle.stage_buffer.specs.Order.{Orders, Becomes, HoldsSame, KeepsRoom, AreBelow, IsEarliest, IsLatest, entry, in_order, items_at, spare_at, remove, unit_of, unit_in, number_of, front_at, back_at, earlier_of, later_of};
+ghost use Rattle.stage_buffer.specs.Order.{Orders, Becomes, HoldsSame, KeepsRoom, AreBelow, IsEarliest, IsLatest, entry, in_order, items_at, spare_at, remove, unit_of, unit_in, number_of, front_at, back_at, earlier_of, later_of, arrivals_of, arrivals_from};
 
 use circular_buffer::HeapCircularBuffer;
 use pipe_types::topology::Keep;
@@ -19,6 +19,35 @@ use std::marker::Model;
 struct Arrived<T> {
     at: u64,
     unit: T,
+}
+
+/// When a unit arrived, and its part.
+#[derive(Clone, Copy, Debug)]
+struct Arrival {
+    at: u64,
+    part: u32,
+}
+
+/// The parts of units, in order.
+#[derive(Drop, Debug)]
+pub struct PartList {
+    items: Vec<u32>,
+}
+
+impl Model for PartList {
+    ghost use Rattle.std.specs.Prelude.{List, ℕ};
+
+    ghost Value = { List ℕ };
+
+    ghost view = { λ l. l.items.items };
+}
+
+impl PartList {
+    pub fn as_slice(&self) -> &[u32]
+        ensures { result.now ≡ self.now }
+    {
+        self.items.as_slice()
+    }
 }
 
 /// The units that wait, in order of arrival.
@@ -114,6 +143,17 @@ impl<T: Drop> Buffer<T> {
         self.get(part, 0)
     }
 
+    /// The parts of all units, in order of arrival.
+    pub fn parts(&self) -> Result<PartList, AllocError>
+        ensures { IfOk result (λ parts. parts ≡ map (λ u. u.0) self.now.units) }
+    {
+        let alloc = *self.rings.allocator();
+        let mut arrivals = arrivals_in(alloc, &self.rings)?;
+        arrivals.sort_unstable_by_key(|arrival| arrival.at);
+        let items = parts_of(alloc, &arrivals)?;
+        Ok(PartList { items })
+    }
+
     /// How many units wait.
     pub fn len(&self) -> u32
         ensures { result ≡ length self.now.units }
@@ -158,6 +198,47 @@ impl<T: Drop> Buffer<T> {
         self.len -= 1;
         Some(arrived.unit)
     }
+}
+
+/// When the units of the rings arrived, with their parts, one ring after the other.
+fn arrivals_in<T>(
+    alloc: Global,
+    rings: &[HeapCircularBuffer<Arrived<T>>],
+) -> Result<Vec<Arrival>, AllocError>
+    requires { length rings.now < 2 ^ 32 }
+    ensures { IfOk result (λ arrivals. arrivals.items ≡ arrivals_from 0 rings.now) }
+{
+    let mut arrivals = Vec::new(alloc);
+    for (part, ring) in rings.iter().enumerate() {
+        let (front, back) = ring.as_slices();
+        add_arrivals(&mut arrivals, part as u32, front)?;
+        add_arrivals(&mut arrivals, part as u32, back)?;
+    }
+    Ok(arrivals)
+}
+
+/// Adds when the units of a part arrived. After an `Err` some of them may stand in the list.
+fn add_arrivals<T>(
+    arrivals: &mut Vec<Arrival>,
+    part: u32,
+    units: &[Arrived<T>],
+) -> Result<(), AllocError>
+    ensures { OnOk result (arrivals.new.items ≡ arrivals.old.items ++ arrivals_of part units.now) }
+{
+    for arrived in units {
+        arrivals.push(Arrival {
+            at: arrived.at,
+            part,
+        })?;
+    }
+    Ok(())
+}
+
+/// The parts of these arrivals, in their order.
+fn parts_of(alloc: Global, arrivals: &[Arrival]) -> Result<Vec<u32>, AllocError>
+    ensures { IfOk result (λ parts. parts.items ≡ map (λ a. a.part) arrivals.now) }
+{
+    arrivals.iter().map(|arrival| arrival.part).collect(alloc)
 }
 
 /// The unit of an arrival.

@@ -62,6 +62,8 @@ fn thirty_units_as_a_list(rt: HostRuntime) -> Result<(), Fail> {
             }
         }
         assert_eq!(rt; buffer.len(), 7);
+        let parts: Vec<u32> = list.iter().map(|u| u.0).collect(rt.alloc())?;
+        assert_eq!(rt; buffer.parts()?.as_slice(), parts.as_slice());
         for (part, unit) in &list {
             assert_eq!(rt; buffer.front(*part), Some(unit));
             assert_eq!(rt; buffer.take(*part), Some(*unit));

@@ -1,4 +1,4 @@
-use Rattle.std.proofs.Common.{◌≡◌, ◌<◌, ◌≤◌, length, arith, ◌∙◌}
+use Rattle.std.proofs.Common.{arith, ◌∙◌}
 use Rattle.stage_buffer.proofs.Rings.{past_item, item_at}
 use Rattle.stage_buffer.proofs.find.Goals as goal
 

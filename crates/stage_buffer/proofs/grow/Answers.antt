@@ -1,4 +1,4 @@
-use Rattle.std.proofs.Common.{◌≡◌, ◌+◌, ◌-◌, ◌≤◌, length, arith}
+use Rattle.std.proofs.Common.{arith}
 use Rattle.stage_buffer.proofs.Rings.{grown, grown_room}
 use Rattle.stage_buffer.proofs.grow.Goals as goal
 

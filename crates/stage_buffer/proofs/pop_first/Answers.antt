@@ -1,4 +1,4 @@
-use Rattle.std.proofs.Common.{◌≡◌, ◌<◌, ◌≤◌, length, arith, ◌∙◌}
+use Rattle.std.proofs.Common.{arith, ◌∙◌}
 use Rattle.stage_buffer.proofs.Rings.{pop_becomes, pop_room, pop_unit, past_becomes, past_unit}
 use Rattle.stage_buffer.proofs.pop_first.Goals as goal
 

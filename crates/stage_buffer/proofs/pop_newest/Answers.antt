@@ -1,4 +1,4 @@
-use Rattle.std.proofs.Common.{◌≡◌, ◌<◌, length, arith, ◌∙◌, ap, Some, None, option_map}
+use Rattle.std.proofs.Common.{◌<◌, length, arith, ◌∙◌, ap, Some, None, option_map}
 use Rattle.stage_buffer.specs.Order.{unit_of}
 use Rattle.stage_buffer.proofs.Popping.{latest_within, last_becomes, last_unit, last_room, none_last_becomes, none_last_unit}
 use Rattle.stage_buffer.proofs.Search.{latest_at}

@@ -1,4 +1,4 @@
-use Rattle.std.proofs.Common.{◌≡◌, ◌<◌, length, arith, ◌∙◌, ap, Some, None, option_map}
+use Rattle.std.proofs.Common.{◌<◌, length, arith, ◌∙◌, ap, Some, None, option_map}
 use Rattle.stage_buffer.specs.Order.{unit_of}
 use Rattle.stage_buffer.proofs.Rings.{pop_room}
 use Rattle.stage_buffer.proofs.Popping.{earliest_within, first_becomes, first_unit, none_first_becomes, none_first_unit}

@@ -1,4 +1,3 @@
-use Rattle.stage_buffer.proofs.Popping.{first_becomes}
 use Rattle.stage_buffer.proofs.Rings.{put_becomes, put_room}
 use Rattle.stage_buffer.proofs.put.Goals as goal
 

@@ -1,4 +1,4 @@
-use Rattle.std.proofs.Common.{◌≡◌, ◌+◌, ◌<◌, ◌≤◌, length, drop, ◌∙◌, arith, refl, get_or, ap, sym, true}
+use Rattle.std.proofs.Common.{drop, ◌∙◌, arith, get_or, ap, sym}
 use Rattle.std.specs.Prelude.{option_map}
 use Rattle.std.proofs.lemmas.List.{drop_all}
 use Rattle.pipe_types.specs.declared.numbers.SubNo.{SubNo}
@@ -36,4 +36,4 @@ pub returns : goal.returns
 returns c =
     let l = c.loop-sent in
     λ x y. sym (row_none (row_at l.subs x y))
-        ∙ (ap (λ us. option_map (sent_more (count_between us x y)) (row_at l.subs x y)) (sym (drop_all l.sent-index c.args.units.now (omega arith))) ∙ l.invariant x y)
+    ∙ (ap (λ us. option_map (sent_more (count_between us x y)) (row_at l.subs x y)) (sym (drop_all l.sent-index c.args.units.now (omega arith))) ∙ l.invariant x y)

@@ -35,4 +35,3 @@ returns-in-Broadcast c =
     parts_free Broadcast refl rooms (replicate n 0) (map {A = ℕ × ℕ} {B = ℕ} (λ unit. unit.0) queue ++ more) (long n queue more count)
     ∙ ap (λ (k : Kind). sends_by_place k rooms (map {A = ℕ × ℕ} {B = ℕ} (λ unit. unit.0) queue ++ more)) (sym c.in-Broadcast.is) in
     subst (λ (ds : List Sent). IfOk c.deliver-in-Broadcast.result (λ sent. sent ≡ ds)) same c.deliver-in-Broadcast.ensures
-

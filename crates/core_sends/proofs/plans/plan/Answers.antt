@@ -1,4 +1,4 @@
-use Rattle.std.proofs.Common.{◌≡◌, ◌+◌, ◌<◌, ◌≤◌, length, ◌∙◌, ap, sym, arith, subst, Some}
+use Rattle.std.proofs.Common.{◌≡◌, length, ◌∙◌, ap, sym, arith, subst, Some}
 use Rattle.pipe_types.specs.Rooms.{AreAscending, PartsDiffer}
 use Rattle.pipe_types.specs.Stages.{spec_of}
 use Rattle.core_laws.specs.Columns.{part_of}

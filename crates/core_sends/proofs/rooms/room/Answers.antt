@@ -1,6 +1,6 @@
-use Rattle.std.proofs.Common.{◌≡◌, ◌∙◌, ap, sym, Some, true, refl}
-use Rattle.pipe_types.specs.Stages.{feeds, spec_feeds}
-use Rattle.core_sends.proofs.OpenDemand.{room_none, room_dead, room_known, feeds_by}
+use Rattle.std.proofs.Common.{◌≡◌, ◌∙◌, sym, true}
+use Rattle.pipe_types.specs.Stages.{spec_feeds}
+use Rattle.core_sends.proofs.OpenDemand.{room_none, room_known, feeds_by}
 use Rattle.core_sends.proofs.rooms.room.Goals as goal
 
 pub returns-then-not-takes_from : goal.returns-then-not-takes_from

@@ -1,4 +1,4 @@
-use Rattle.std.proofs.Common.{◌≡◌, ◌∷◌, [], ◌++◌, length, Some, true, ℕ, ◌+◌, ◌<◌, ◌≤◌, map, ap, sym, ◌∙◌, refl, arith, get_or, drop}
+use Rattle.std.proofs.Common.{◌≡◌, [], ◌++◌, length, Some, ◌+◌, map, ap, sym, ◌∙◌, refl, arith, get_or, drop}
 use Rattle.std.specs.Prelude.{slice_get}
 use Rattle.std.proofs.lemmas.List.{append-nil, drop_all}
 use Rattle.std.proofs.lemmas.Option.{slice_get_read}

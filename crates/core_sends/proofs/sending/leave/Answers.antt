@@ -3,7 +3,6 @@ use Rattle.std.specs.Prelude.{All, option_map, slice_get}
 use Rattle.std.proofs.lemmas.List.Elements.{All-filter}
 use Rattle.pipe_types.specs.declared.message.Place.{Place}
 use Rattle.core_sends.specs.Losing.{still_waits, left_in, numbers_in, over_of, over_from, over_to, between, lost_over_size, marked}
-use Rattle.core_sends.proofs.Reached.{over_waits}
 use Rattle.core_sends.proofs.sending.leave.Goals as goal
 
 abbrev Within : ℕ → ℕ × ℕ → Type 0

@@ -1,5 +1,5 @@
-use Rattle.std.proofs.Common.{rules, ◌≡◌, ◌∙◌, arith, get_or, ap, sym, ℕ, length, map}
-use Rattle.std.proofs.lemmas.List.{get_or_read, get_or-map, length-map}
+use Rattle.std.proofs.Common.{rules, ◌≡◌, ◌∙◌, arith, get_or, ap, sym, ℕ}
+use Rattle.std.proofs.lemmas.List.{get_or_read, get_or-map}
 use Rattle.pipe_types.specs.declared.room.Sent.{Sent}
 use Rattle.core_tables.specs.Tables.{named}
 use Rattle.core_tables.proofs.Named.{rest_is, front_step, rest_step}

@@ -1,4 +1,3 @@
-use Rattle.std.proofs.Common.{◌≡◌}
 use Rattle.stage_buffer.proofs.Methods.{unit_found}
 use Rattle.stage_buffer.proofs.Buffer.get.Goals as goal
 

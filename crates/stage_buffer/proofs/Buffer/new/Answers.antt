@@ -1,4 +1,4 @@
-use Rattle.std.proofs.Common.{◌≡◌, ◌+◌, [], ◌∷◌, length, map, ap, ◌∙◌, arith, length-append}
+use Rattle.std.proofs.Common.{[], ◌∷◌, length, map, ap, ◌∙◌, arith, length-append}
 use Rattle.stage_buffer.specs.Order.{pair_of}
 use Rattle.stage_buffer.proofs.Empty.{none_empty, one_more, empty_ordered}
 use Rattle.stage_buffer.proofs.Buffer.new.Goals as goal
@@ -14,7 +14,7 @@ loop-part-preserved g c =
     }
 
 pub invariant_of-result : goal.invariant_of-result
-invariant_of-result g c = empty_ordered c.loop-part.rings.items c.loop-part.invariant.empty
+invariant_of-result g c = empty_ordered c.loop-part.rings.items (let made = c.loop-part.invariant.made in omega arith) c.loop-part.invariant.empty
 
 pub returns-clause-empty : goal.returns-clause-empty
 returns-clause-empty g c = ap (map pair_of) (c.loop-part.invariant.empty.order 0)

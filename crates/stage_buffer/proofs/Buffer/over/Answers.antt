@@ -1,6 +1,5 @@
-use Rattle.std.proofs.Common.{◌≡◌, ◌∙◌, ap, sym, Some, None, option_map, arith, cond, length, map, ◌<◌}
-use Rattle.stage_buffer.specs.Order.{in_order, pair_of}
-use Rattle.stage_buffer.proofs.Methods.{end_went, end_units, end_unit, over_is, over_units}
+use Rattle.std.proofs.Common.{arith}
+use Rattle.stage_buffer.proofs.Methods.{end_went, over_is, over_units}
 use Rattle.stage_buffer.proofs.Buffer.over.Goals as goal
 
 pub invariant_of-self-2 : goal.invariant_of-self-2

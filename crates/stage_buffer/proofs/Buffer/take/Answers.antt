@@ -1,6 +1,5 @@
-use Rattle.std.proofs.Common.{◌≡◌, ◌∙◌, ap, sym, Some, None, option_map}
+use Rattle.std.proofs.Common.{◌∙◌, ap, option_map}
 use Rattle.stage_buffer.specs.Order.{unit_of}
-use Rattle.stage_buffer.specs.Waiting.{units_of_part, without_first}
 use Rattle.stage_buffer.proofs.Methods.{some_went, none_went, went_units, unit_at}
 use Rattle.stage_buffer.proofs.Buffer.take.Goals as goal
 
