@@ -1,14 +1,12 @@
 -- The lines of the rule one after another.
-use Rattle.std.proofs.Common.{◌≡◌, ℕ, ◌+◌, ◌-◌, ◌<◌, ◌≤◌, List, [], ◌∷◌, length, refl, ap, sym, Bool, true, false, Option, None, Some, ◌∙◌, arith, get_or}
-use Rattle.std.specs.Prelude.{◌&&◌, ◌||◌, not, if◌then◌else◌, nat_lt, find, option_map, reverse, is_some}
-use Rattle.std.proofs.lemmas.Bool.{false_from_ne_true}
-use Rattle.std.proofs.lemmas.List.{get_or-reverse, length-reverse}
+use Rattle.std.proofs.Common.{◌≡◌, ℕ, ◌-◌, ◌<◌, List, [], ◌∷◌, length, refl, ap, sym, Bool, true, false, Option, None, Some, ◌∙◌, get_or}
+use Rattle.std.specs.Prelude.{◌&&◌, ◌||◌, not, if◌then◌else◌, find, option_map, reverse}
+use Rattle.std.proofs.lemmas.List.{get_or-reverse}
 use Rattle.std.proofs.lemmas.Option.{same_Some}
 use Rattle.pipe_types.specs.declared.numbers.StageNo.{StageNo}
 use Rattle.pipe_types.specs.declared.numbers.SubNo.{SubNo}
 use Rattle.pipe_types.specs.declared.topology.Topology.{Topology}
 use Rattle.pipe_types.specs.declared.topology.StageSpec.{StageSpec}
-use Rattle.pipe_types.specs.declared.step.DrainCause.{DrainCause}
 use Rattle.pipe_types.specs.declared.step.DrainCause.TheVariants.{Sources, Limit, Idle}
 use Rattle.pipe_types.specs.declared.step.Step.TheVariants.{Fetch, Dispatch, Gather, Drain}
 use Rattle.pipe_types.specs.Numbers.{message_no}
@@ -23,7 +21,7 @@ use Rattle.core_state.specs.Stands.{Stands}
 use Rattle.core_calls.proofs.Asking.{due_seen}
 use Rattle.stage_subs.specs.Subs.{due_on}
 use Rattle.core_rows.specs.Rows.{is_due}
-use Rattle.core_moves.specs.Moves.{cause_by, from_restarts, from_drains, from_asks}
+use Rattle.core_moves.specs.Moves.{cause_by, from_restarts}
 use Rattle.core_rows.proofs.Fetched.{going}
 use Rattle.core_rows.proofs.Known.{due_dead}
 

@@ -1,13 +1,11 @@
 -- The first open batch for which a trigger holds, by messages and by open batches.
-use Rattle.std.proofs.Common.{◌≡◌, ℕ, zero, suc, ◌+◌, ◌<◌, ◌≤◌, List, [], ◌∷◌, ◌++◌, length, map, take, drop, refl, ap, sym, Bool, true, false, Option, None, Some, ◌∙◌, arith, append_assoc, get_or, subst}
-use Rattle.std.specs.Prelude.{◌&&◌, ◌||◌, ◌==◌, not, if◌then◌else◌, filter, bytes_eq, slice_get, All, IfSome, option_map, cond}
-use Rattle.std.specs.List.{list_any}
+use Rattle.std.proofs.Common.{◌≡◌, ℕ, zero, suc, ◌+◌, ◌<◌, List, [], ◌∷◌, ◌++◌, length, map, take, drop, refl, ap, sym, Bool, true, false, Option, None, Some, ◌∙◌, arith, get_or}
+use Rattle.std.specs.Prelude.{◌||◌, ◌==◌, not, if◌then◌else◌, filter, bytes_eq, slice_get, All, cond}
 use Rattle.std.proofs.lemmas.Bool.Decides.{nat_tests}
 use Rattle.std.proofs.lemmas.Bool.{false_from_ne_true, eqb-true}
 use Rattle.std.proofs.lemmas.List.{at_drop_more}
 use Rattle.std.proofs.lemmas.Option.{slice_get_read}
 use Rattle.pipe_types.specs.declared.numbers.StageNo.{StageNo}
-use Rattle.pipe_types.specs.declared.numbers.MsgNo.{MsgNo}
 use Rattle.pipe_types.specs.declared.message.Trigger.{Trigger}
 use Rattle.pipe_types.specs.declared.topology.Topology.{Topology}
 use Rattle.pipe_types.specs.declared.topology.StageSpec.{StageSpec}
@@ -26,15 +24,13 @@ use Rattle.queue_laws.proofs.Laws.{open_law, once_law}
 use Rattle.move_laws.proofs.Legality.{gathers_role}
 use Rattle.batcher.specs.Batches.{Batches, OpenBatch, first_of, trigger_of as held_trigger, IsClosable}
 use Rattle.batcher.specs.declared.Closable.{Closable}
-use Rattle.core_laws.specs.Columns.{open_of, keys_of, open_batches}
+use Rattle.core_laws.specs.Columns.{open_of, keys_of}
 use Rattle.core_batches.proofs.Opens.{self_bytes}
 use Rattle.core_batches.proofs.Removing.{first_is, each_of_all}
 use Rattle.core_batches.proofs.Closing.{IsHeld, held_by, trigger_is}
 use Rattle.core_tables.specs.declared.rows.Totals.{Totals}
 use Rattle.core_state.specs.declared.state.Core.{Core}
 use Rattle.core_state.specs.Stands.{Stands}
-use Rattle.core_moves.specs.declared.closes.Closing.{Closing}
-use Rattle.core_moves.specs.Closes.{closing_move}
 use Rattle.core_rows.proofs.Known.{row_within}
 
 -- the close of a batch that begins with the message, where a trigger holds

@@ -1,7 +1,6 @@
 -- Which children may start.
-use Rattle.std.proofs.Common.{◌≡◌, ℕ, ◌+◌, ◌<◌, ◌≤◌, refl, ap, sym, Bool, true, false, Option, None, Some, ◌∙◌, arith}
-use Rattle.std.specs.Prelude.{◌&&◌, ◌||◌, ◌==◌, not, if◌then◌else◌, nat_lt, nat_le, is_some, option_map}
-use Rattle.std.proofs.lemmas.Bool.Decides.{nat_tests}
+use Rattle.std.proofs.Common.{◌≡◌, ℕ, refl, ap, sym, Bool, true, false, Option, None, Some, ◌∙◌}
+use Rattle.std.specs.Prelude.{◌&&◌, ◌||◌, ◌==◌, not, if◌then◌else◌, nat_lt, nat_le, is_some}
 use Rattle.pipe_types.specs.declared.numbers.StageNo.{StageNo}
 use Rattle.pipe_types.specs.declared.topology.Topology.{Topology}
 use Rattle.pipe_types.specs.declared.topology.StageSpec.{StageSpec}
@@ -12,10 +11,10 @@ use Rattle.pipe_model.specs.History.{History}
 use Rattle.pipe_model.specs.Posts.{is_out, in_slot, crashes}
 use Rattle.pipe_model.specs.Lives.{is_live}
 use Rattle.pipe_model.specs.Flow.{inbox, is_number, place, runs_in}
-use Rattle.pipe_model.specs.Legal.{allows, is_legal, owed, happened, is_halt, has_role, is_supervisor_role, first_unit, runs_number, max_of}
+use Rattle.pipe_model.specs.Legal.{allows, is_legal, owed, happened, is_halt, is_supervisor_role, first_unit, runs_number, max_of}
 use Rattle.pipe_model.specs.Moves.{next_in_slot}
 use Rattle.core_laws.specs.Columns.{child_row}
-use Rattle.core_laws.specs.Slots.{child_in_slot, child_of, child_if}
+use Rattle.core_laws.specs.Slots.{child_of, child_if}
 use Rattle.core_laws.proofs.Children.{child_is}
 use Rattle.core_moves.specs.Children.{starts_now, has_message_now}
 use Rattle.core_rows.proofs.Fetched.{going, self, role_is}

@@ -1,5 +1,5 @@
 -- What comes next, from one line of the rule on.
-use Rattle.std.specs.Prelude.{Bool, if◌then◌else◌, ◌&&◌, List, reverse, find, nat_lt, Option, Some, None, option_map}
+use Rattle.std.specs.Prelude.{if◌then◌else◌, ◌&&◌, reverse, find, nat_lt, Option, Some, None, option_map}
 use Rattle.pipe_types.specs.declared.topology.Topology.{Topology}
 use Rattle.pipe_types.specs.declared.step.DrainCause.{DrainCause}
 use Rattle.pipe_types.specs.declared.step.DrainCause.TheVariants.{Sources, Limit, Idle}

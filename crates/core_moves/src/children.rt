@@ -12,8 +12,8 @@ ghost use Rattle.core_state.specs.Stands.{Stands, child_of};
 ghost use Rattle.core_moves.specs.Children.{starts_now, has_message_now};
 
 use crate::gathers::first_unit;
-use core_rows::posts::MOST_SLOTS;
 use consumer_sup::Children;
+use core_rows::posts::MOST_SLOTS;
 use core_state::Core;
 use pipe_types::numbers::{Post, StageNo};
 use pipe_types::topology::{Role, StageSpec};

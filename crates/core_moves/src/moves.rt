@@ -9,11 +9,11 @@ ghost use Rattle.core_state.specs.Stands.{Stands};
 ghost use Rattle.core_rows.specs.Rows.{is_due};
 ghost use Rattle.core_moves.specs.Moves.{seen_as, cause_by, from_jobs, from_gathers, from_closes, from_dispatches, from_asks, from_drains, from_restarts};
 
-use core_rows::asks::first_due;
-use core_rows::causes::{is_all_ended, is_at_limit, is_idle_long};
 use crate::closes::first_closing;
 use crate::finds::{first_to_dispatch, first_to_gather, first_to_restart, last_with_job};
 use crate::gathers::first_unit;
+use core_rows::asks::first_due;
+use core_rows::causes::{is_all_ended, is_at_limit, is_idle_long};
 use core_rows::jobs::{is_draining, is_halted};
 use core_rows::posts::is_any_out;
 use core_rows::rests::is_drained;

@@ -1,15 +1,14 @@
 -- The first that passes a test, and whether any or all do, by going over a list.
-use Rattle.std.proofs.Common.{◌≡◌, ℕ, ◌+◌, ◌<◌, List, [], ◌∷◌, length, drop, Bool, true, false, refl, ap, sym, ◌∙◌, Some, None, Option, get_or, if◌then◌else◌, arith}
+use Rattle.std.proofs.Common.{◌≡◌, ℕ, ◌+◌, ◌<◌, List, ◌∷◌, length, drop, Bool, true, false, refl, ap, sym, ◌∙◌, Some, get_or, if◌then◌else◌}
 use Rattle.std.specs.Prelude.{find, ◌&&◌, ◌||◌, slice_get}
 use Rattle.std.specs.List.{list_any, list_all}
-use Rattle.std.proofs.lemmas.List.{at_drop_more, drop_all}
+use Rattle.std.proofs.lemmas.List.{at_drop_more}
 use Rattle.std.proofs.lemmas.Option.{slice_get_read}
 use Rattle.pipe_types.specs.declared.topology.Topology.{Topology}
 use Rattle.pipe_types.specs.declared.topology.StageSpec.{StageSpec}
 use Rattle.pipe_types.specs.Sound.{IsSound}
 use Rattle.pipe_types.specs.Stages.{spec_of}
 use Rattle.pipe_model.specs.Posts.{slots}
-use Rattle.pipe_laws.proofs.Lists.{Each}
 use Rattle.stage_laws.proofs.Numbering.{numbered_topology}
 use Rattle.stage_laws.proofs.FewSlots.{slot_case}
 

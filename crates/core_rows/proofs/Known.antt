@@ -1,5 +1,5 @@
 -- What is read off the rows is what the journal says.
-use Rattle.std.proofs.Common.{◌≡◌, ℕ, suc, ◌+◌, ◌<◌, ◌≤◌, List, [], ◌∷◌, ◌++◌, length, drop, refl, ap, sym, Bool, true, false, Option, None, Some, ◌∙◌, arith, get_or}
+use Rattle.std.proofs.Common.{◌≡◌, ℕ, ◌+◌, ◌<◌, ◌≤◌, List, [], ◌∷◌, ◌++◌, length, drop, refl, ap, sym, Bool, true, false, Option, None, Some, ◌∙◌, arith, get_or}
 use Rattle.std.specs.Prelude.{slice_get, is_some, is_none, not, ◌&&◌, ◌||◌, find, if◌then◌else◌, nat_lt, ◌==◌}
 use Rattle.std.specs.List.{flat_map}
 use Rattle.std.proofs.lemmas.Bool.Decides.{nat_tests}
@@ -14,11 +14,11 @@ use Rattle.pipe_types.specs.Stages.{spec_of, spec_feeds, feeds, option_feeds}
 use Rattle.pipe_types.specs.Sound.{IsSound}
 use Rattle.pipe_model.specs.History.{History}
 use Rattle.pipe_model.specs.Lives.{death, is_live_sub, current_sub}
-use Rattle.pipe_model.specs.Ledger.{due, pending, min_in, max_in}
+use Rattle.pipe_model.specs.Ledger.{due}
 use Rattle.pipe_model.specs.Legal.{needs_restart, happened, is_halt, is_drain, has_ended, is_producer_role}
-use Rattle.pipe_model.specs.Moves.{all_subs, subs_into}
+use Rattle.pipe_model.specs.Moves.{subs_into}
 use Rattle.stage_laws.proofs.Numbering.{numbered_topology}
-use Rattle.stage_subs.specs.Subs.{live_sub, live_sub_in, due_on}
+use Rattle.stage_subs.specs.Subs.{live_sub, live_sub_in}
 use Rattle.core_tables.specs.declared.rows.StageRow.{StageRow}
 use Rattle.core_laws.specs.Columns.{stage_row}
 use Rattle.core_state.specs.declared.state.Core.{Core}

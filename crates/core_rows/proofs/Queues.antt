@@ -1,12 +1,11 @@
 -- The queues' lengths are those of the tables.
-use Rattle.std.proofs.Common.{◌≡◌, ℕ, List, [], ◌∷◌, length, map, Bool, true, false, refl, ap, sym, ◌∙◌, Some, None, Option, arith}
+use Rattle.std.proofs.Common.{◌≡◌, ℕ, List, [], ◌∷◌, length, map, Bool, true, false, refl, Some, None, arith}
 use Rattle.std.specs.Prelude.{◌==◌, ◌||◌, ◌+◌, if◌then◌else◌, nat_le, All, slice_get}
 use Rattle.pipe_model.specs.History.{History}
 use Rattle.pipe_model.specs.Flow.{is_empty}
 use Rattle.core_laws.specs.Columns.{open_batches}
 use Rattle.batcher.specs.Batches.{Batches, OpenBatch, trigger_of}
 use Rattle.std.proofs.lemmas.Bool.Decides.{nat_tests}
-use Rattle.pipe_types.specs.declared.message.Trigger.{Trigger}
 use Rattle.pipe_types.specs.declared.message.Trigger.TheVariants.{Size, Flush, Timeout}
 
 pub empty_mapped : {A B : Type 0} (f : A → B) (xs : List A) → is_empty (map f xs) ≡ is_empty xs

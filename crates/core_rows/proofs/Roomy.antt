@@ -1,5 +1,5 @@
 -- How much the consumers of a stage ask for.
-use Rattle.std.proofs.Common.{◌≡◌, ℕ, zero, suc, ◌+◌, ◌-◌, ◌*◌, ◌<◌, ◌≤◌, List, [], ◌∷◌, length, drop, refl, ap, sym, Bool, true, false, Option, None, Some, ◌∙◌, arith, get_or}
+use Rattle.std.proofs.Common.{◌≡◌, ℕ, ◌+◌, ◌-◌, ◌<◌, List, [], ◌∷◌, length, drop, refl, ap, sym, Bool, true, false, None, Some, ◌∙◌, arith, get_or}
 use Rattle.std.specs.Prelude.{◌&&◌, ◌==◌, if◌then◌else◌}
 use Rattle.std.proofs.lemmas.List.{at_drop_more}
 use Rattle.std.proofs.lemmas.Option.{same_Some}
@@ -8,7 +8,6 @@ use Rattle.pipe_types.specs.declared.numbers.SubNo.{SubNo}
 use Rattle.pipe_types.specs.declared.topology.Topology.{Topology}
 use Rattle.pipe_types.specs.declared.topology.StageSpec.{StageSpec}
 use Rattle.pipe_types.specs.Stages.{feeds}
-use Rattle.pipe_types.specs.Numbers.{same_sub}
 use Rattle.pipe_model.specs.History.{History, asked}
 use Rattle.pipe_model.specs.Lives.{is_live, is_live_sub, current_sub, live_subs, live_subs_from, generation}
 use Rattle.pipe_model.specs.Flow.{room, open_demand, sent}

@@ -1,13 +1,12 @@
 -- Where no job is out no batch is at work.
 use Rattle.std.proofs.Common.{◌≡◌, ℕ, ◌+◌, List, [], ◌∷◌, Bool, true, false, refl, ap, sym, ◌∙◌, Some, None, Option, arith}
-use Rattle.std.specs.Prelude.{is_some, not, ◌==◌, ◌&&◌, ◌||◌}
+use Rattle.std.specs.Prelude.{is_some, ◌&&◌, ◌||◌}
 use Rattle.pipe_types.specs.declared.numbers.SubNo.{SubNo}
 use Rattle.pipe_types.specs.declared.numbers.StageNo.{StageNo}
 use Rattle.pipe_types.specs.declared.topology.Topology.{Topology}
 use Rattle.pipe_types.specs.declared.topology.StageSpec.{StageSpec}
 use Rattle.pipe_types.specs.declared.topology.Role.{Role}
 use Rattle.pipe_types.specs.declared.topology.Role.TheVariants.{Producer, Processor, Supervisor, Batcher, BatchProcessor}
-use Rattle.pipe_types.specs.Sound.{IsSound}
 use Rattle.pipe_types.specs.Numbers.{same_sub}
 use Rattle.pipe_types.specs.Stages.{spec_of}
 use Rattle.pipe_model.specs.History.{History}

@@ -26,7 +26,8 @@ pub fn is_at_limit(core: &Core) -> bool
     requires stands { Stands core.now }
     ensures { result ≡ drains_for core.now.topology core.now.journal.steps Limit }
 {
-    core.topology.record_limit <= core.totals.accepted || core.topology.byte_limit <= core.totals.bytes
+    core.topology.record_limit <= core.totals.accepted
+        || core.topology.byte_limit <= core.totals.bytes
 }
 
 /// Whether sources have had nothing as often in a row as makes the pipeline idle.

@@ -1,4 +1,4 @@
-use Rattle.std.proofs.Common.{◌≡◌, ℕ, ◌<◌, ◌≤◌, ◌∙◌, arith, ap, sym, Bool, true, false}
+use Rattle.std.proofs.Common.{ℕ, ◌∙◌, arith, sym, Bool}
 use Rattle.pipe_types.specs.declared.step.Step.TheVariants.{Child}
 use Rattle.pipe_types.specs.Numbers.{message_no}
 use Rattle.pipe_model.specs.Legal.{allows}

@@ -1,4 +1,4 @@
-use Rattle.std.proofs.Common.{◌≡◌, ℕ, Bool, drop}
+use Rattle.std.proofs.Common.{◌≡◌, drop}
 use Rattle.std.specs.List.{list_any}
 use Rattle.pipe_types.specs.declared.step.Step.TheVariants.{Child}
 use Rattle.pipe_types.specs.Numbers.{message_no}

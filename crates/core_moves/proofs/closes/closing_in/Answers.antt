@@ -1,4 +1,4 @@
-use Rattle.std.proofs.Common.{◌≡◌, ◌<◌, ◌∙◌, sym, refl, arith}
+use Rattle.std.proofs.Common.{◌∙◌, sym, refl, arith}
 use Rattle.pipe_model.specs.Standing.{gathered_in}
 use Rattle.core_rows.proofs.Known.{row_within}
 use Rattle.core_moves.proofs.Firsts.{none_gathered, gathered_role, held_here, found_some, found_none}

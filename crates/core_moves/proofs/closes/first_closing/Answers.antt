@@ -1,4 +1,4 @@
-use Rattle.std.proofs.Common.{◌≡◌, ◌<◌, ◌≤◌, List, [], length, drop, ◌∙◌, ap, sym, arith}
+use Rattle.std.proofs.Common.{◌≡◌, [], drop, ◌∙◌, ap, sym, arith}
 use Rattle.std.proofs.lemmas.List.{drop_all}
 use Rattle.pipe_model.specs.Moves.{closable}
 use Rattle.core_moves.specs.Closes.{closing_move}

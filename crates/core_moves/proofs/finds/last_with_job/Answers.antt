@@ -1,4 +1,4 @@
-use Rattle.std.proofs.Common.{◌≡◌, ℕ, ◌+◌, ◌-◌, ◌<◌, ◌≤◌, List, [], length, drop, get_or, ◌∙◌, arith, ap, sym, Some, Bool, true, false}
+use Rattle.std.proofs.Common.{◌≡◌, ◌-◌, ◌<◌, List, [], length, drop, get_or, ◌∙◌, arith, ap, sym, Some, Bool}
 use Rattle.std.specs.Prelude.{find, option_map, reverse}
 use Rattle.std.proofs.lemmas.List.{drop_all, length-reverse}
 use Rattle.pipe_types.specs.declared.topology.StageSpec.{StageSpec}

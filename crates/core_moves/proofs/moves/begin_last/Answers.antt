@@ -1,7 +1,6 @@
-use Rattle.std.proofs.Common.{◌≡◌, ◌∙◌, ap, sym, Some, None, Option}
-use Rattle.std.specs.Prelude.{option_map, reverse, find, if◌then◌else◌, ◌&&◌, nat_lt}
-use Rattle.pipe_model.specs.Moves.{Move, StepMove, or_else, if_so, when, move_or_pause, jobs_out, JobsOut, Job, has_job, all_subs, closable}
-use Rattle.core_moves.specs.Moves.{from_jobs}
+use Rattle.std.proofs.Common.{◌∙◌, ap, Some, None}
+use Rattle.std.specs.Prelude.{reverse}
+use Rattle.pipe_model.specs.Moves.{or_else, if_so, move_or_pause, jobs_out, JobsOut, Job, has_job}
 use Rattle.std.proofs.Common.{refl}
 use Rattle.core_moves.proofs.Chain.{when_is}
 use Rattle.core_moves.proofs.moves.begin_last.Goals as goal

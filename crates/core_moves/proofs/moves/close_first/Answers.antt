@@ -1,8 +1,6 @@
-use Rattle.std.proofs.Common.{◌≡◌, ◌∙◌, ap, sym, Some, None, Option}
-use Rattle.std.specs.Prelude.{option_map, reverse, find, if◌then◌else◌, ◌&&◌, nat_lt}
-use Rattle.pipe_model.specs.Moves.{Move, StepMove, or_else, if_so, when, move_or_pause, jobs_out, JobsOut, Job, has_job, all_subs, closable}
+use Rattle.std.proofs.Common.{◌∙◌, ap}
+use Rattle.pipe_model.specs.Moves.{or_else, move_or_pause}
 use Rattle.core_moves.specs.Moves.{from_gathers}
-use Rattle.core_moves.specs.Closes.{closing_move}
 use Rattle.core_moves.proofs.moves.close_first.Goals as goal
 
 pub returns-in-Some : goal.returns-in-Some

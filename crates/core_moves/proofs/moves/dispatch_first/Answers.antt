@@ -1,6 +1,5 @@
-use Rattle.std.proofs.Common.{◌≡◌, ◌∙◌, ap, sym, Some, None, Option}
-use Rattle.std.specs.Prelude.{option_map, reverse, find, if◌then◌else◌, ◌&&◌, nat_lt}
-use Rattle.pipe_model.specs.Moves.{Move, StepMove, or_else, if_so, when, move_or_pause, jobs_out, JobsOut, Job, has_job, all_subs, closable}
+use Rattle.std.proofs.Common.{◌∙◌, ap, Some, None}
+use Rattle.pipe_model.specs.Moves.{StepMove, or_else, move_or_pause}
 use Rattle.core_moves.specs.Moves.{from_closes}
 use Rattle.pipe_types.specs.declared.step.Step.TheVariants.{Dispatch}
 use Rattle.pipe_model.specs.Legal.{allows, may_dispatch}

@@ -1,4 +1,4 @@
-use Rattle.std.proofs.Common.{◌≡◌, ◌∙◌, ap, Some, None}
+use Rattle.std.proofs.Common.{◌∙◌, ap}
 use Rattle.std.specs.Prelude.{option_map}
 use Rattle.pipe_types.specs.declared.step.Step.TheVariants.{Drain}
 use Rattle.pipe_model.specs.Moves.{StepMove, or_else, move_or_pause}

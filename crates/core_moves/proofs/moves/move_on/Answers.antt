@@ -1,4 +1,4 @@
-use Rattle.std.proofs.Common.{◌≡◌, ◌∙◌, ap, sym, true, false}
+use Rattle.std.proofs.Common.{◌∙◌, ap, sym}
 use Rattle.pipe_model.specs.Moves.{or_else, if_so, move_or_pause, Drained}
 use Rattle.core_moves.specs.Moves.{from_restarts}
 use Rattle.core_moves.proofs.moves.move_on.Goals as goal

@@ -1,4 +1,4 @@
-use Rattle.std.proofs.Common.{◌≡◌, ◌∙◌, ap, sym, true, false}
+use Rattle.std.proofs.Common.{◌∙◌, sym}
 use Rattle.core_moves.proofs.Chain.{on_is, halted_out, halted_in}
 use Rattle.core_moves.proofs.moves.next_move.Goals as goal
 

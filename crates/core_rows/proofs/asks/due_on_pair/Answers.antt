@@ -1,4 +1,4 @@
-use Rattle.std.proofs.Common.{◌≡◌, ◌∙◌, sym, true, false}
+use Rattle.std.proofs.Common.{◌∙◌, sym}
 use Rattle.core_rows.proofs.Known.{unfed, feeds_by, pair_live, pair_dead}
 use Rattle.core_rows.proofs.asks.due_on_pair.Goals as goal
 

@@ -1,4 +1,4 @@
-use Rattle.std.proofs.Common.{◌≡◌, ◌<◌, ◌≤◌, List, [], length, drop, get_or, ◌∙◌, ap, sym, Some, None, Option, arith}
+use Rattle.std.proofs.Common.{◌≡◌, List, [], drop, ◌∙◌, ap, sym, arith}
 use Rattle.std.specs.Prelude.{find}
 use Rattle.std.specs.List.{flat_map}
 use Rattle.std.proofs.lemmas.List.{drop_all}

@@ -1,4 +1,4 @@
-use Rattle.std.proofs.Common.{◌≡◌, ◌<◌, ◌≤◌, List, [], length, drop, ◌∙◌, ap, sym, Some, None, Option, arith}
+use Rattle.std.proofs.Common.{◌≡◌, List, [], drop, ◌∙◌, ap, sym, Option, arith}
 use Rattle.std.specs.Prelude.{find}
 use Rattle.std.proofs.lemmas.List.{drop_all}
 use Rattle.pipe_types.specs.declared.numbers.SubNo.{SubNo}

@@ -1,6 +1,6 @@
 use Rattle.std.proofs.Common.{◌≡◌, drop}
-use Rattle.std.specs.Prelude.{not, ◌&&◌, ◌||◌, find}
-use Rattle.std.specs.List.{list_any, list_all}
+use Rattle.std.specs.Prelude.{not, ◌||◌}
+use Rattle.std.specs.List.{list_all}
 use Rattle.pipe_model.specs.Legal.{is_producer_role, has_ended}
 use Rattle.core_rows.proofs.causes.is_all_ended.Given as goal
 

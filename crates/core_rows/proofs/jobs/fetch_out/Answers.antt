@@ -1,4 +1,4 @@
-use Rattle.std.proofs.Common.{◌≡◌, ◌∙◌, ap, sym, true, false}
+use Rattle.std.proofs.Common.{◌∙◌, ap, sym, true, false}
 use Rattle.core_tables.specs.declared.rows.StageRow.{StageRow}
 use Rattle.core_rows.proofs.Known.{row_within}
 use Rattle.core_rows.proofs.Fetched.{fetch_by}

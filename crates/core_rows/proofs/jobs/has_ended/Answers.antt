@@ -1,5 +1,3 @@
-use Rattle.std.proofs.Common.{◌≡◌, ◌∙◌, ap, sym, true, false}
-use Rattle.core_tables.specs.declared.rows.StageRow.{StageRow}
 use Rattle.core_rows.proofs.Known.{row_within}
 use Rattle.core_rows.proofs.jobs.has_ended.Goals as goal
 

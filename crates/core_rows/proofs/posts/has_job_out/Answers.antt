@@ -1,4 +1,4 @@
-use Rattle.std.proofs.Common.{◌≡◌, ℕ, ◌<◌, ◌≤◌, ◌∙◌, arith, ap, sym, Bool, true, false}
+use Rattle.std.proofs.Common.{ℕ, ◌∙◌, arith, sym, Bool}
 use Rattle.pipe_types.specs.Numbers.{post}
 use Rattle.pipe_model.specs.Posts.{is_out}
 use Rattle.core_rows.proofs.Finding.{slot_out, slot_home, slots_end}

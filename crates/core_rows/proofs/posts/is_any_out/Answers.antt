@@ -1,10 +1,9 @@
-use Rattle.std.proofs.Common.{◌≡◌, ℕ, ◌+◌, ◌<◌, ◌≤◌, length, drop, ◌∙◌, arith, refl, get_or, ap, sym, Some, Bool, true, false, []}
-use Rattle.std.specs.Prelude.{not, ◌&&◌, find, is_some}
-use Rattle.std.specs.List.{list_any, list_all}
+use Rattle.std.proofs.Common.{◌≡◌, drop, ◌∙◌, arith, ap, sym, Bool, []}
+use Rattle.std.specs.List.{list_any}
 use Rattle.std.proofs.lemmas.List.{drop_all}
 use Rattle.pipe_types.specs.declared.topology.StageSpec.{StageSpec}
 use Rattle.pipe_model.specs.Posts.{has_post_out}
-use Rattle.core_rows.proofs.Finding.{any_here, any_next, stage_there}
+use Rattle.core_rows.proofs.Finding.{any_here, any_next}
 use Rattle.core_rows.proofs.posts.is_any_out.Goals as goal
 
 pub returns-then-has_job_out : goal.returns-then-has_job_out

@@ -1,6 +1,5 @@
 use Rattle.std.proofs.Common.{◌≡◌, drop}
-use Rattle.std.specs.Prelude.{not, ◌&&◌, find}
-use Rattle.std.specs.List.{list_any, list_all}
+use Rattle.std.specs.List.{list_any}
 use Rattle.pipe_model.specs.Posts.{has_post_out}
 use Rattle.core_rows.proofs.posts.is_any_out.Given as goal
 

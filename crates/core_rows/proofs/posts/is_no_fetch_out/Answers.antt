@@ -1,12 +1,12 @@
-use Rattle.std.proofs.Common.{◌≡◌, ℕ, ◌+◌, ◌<◌, ◌≤◌, length, drop, ◌∙◌, arith, refl, get_or, ap, sym, Some, Bool, true, false, []}
-use Rattle.std.specs.Prelude.{not, ◌&&◌, find, is_some}
-use Rattle.std.specs.List.{list_any, list_all}
+use Rattle.std.proofs.Common.{◌≡◌, drop, ◌∙◌, arith, ap, sym, Bool, []}
+use Rattle.std.specs.Prelude.{not, ◌&&◌}
+use Rattle.std.specs.List.{list_all}
 use Rattle.std.proofs.lemmas.List.{drop_all}
 use Rattle.pipe_types.specs.declared.topology.StageSpec.{StageSpec}
 use Rattle.pipe_types.specs.Numbers.{post}
 use Rattle.pipe_model.specs.Posts.{is_out}
 use Rattle.pipe_model.specs.Legal.{is_producer_role}
-use Rattle.core_rows.proofs.Finding.{all_not, all_next, stage_there}
+use Rattle.core_rows.proofs.Finding.{all_not, all_next}
 use Rattle.core_rows.proofs.posts.is_no_fetch_out.Goals as goal
 
 pub returns-then-is_fetch_out : goal.returns-then-is_fetch_out

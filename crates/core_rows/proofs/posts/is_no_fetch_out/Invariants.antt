@@ -1,6 +1,6 @@
 use Rattle.std.proofs.Common.{◌≡◌, drop}
-use Rattle.std.specs.Prelude.{not, ◌&&◌, find}
-use Rattle.std.specs.List.{list_any, list_all}
+use Rattle.std.specs.Prelude.{not, ◌&&◌}
+use Rattle.std.specs.List.{list_all}
 use Rattle.pipe_types.specs.Numbers.{post}
 use Rattle.pipe_model.specs.Posts.{is_out}
 use Rattle.pipe_model.specs.Legal.{is_producer_role}

@@ -1,6 +1,5 @@
 use Rattle.std.proofs.Common.{◌≡◌, drop}
-use Rattle.std.specs.Prelude.{not, ◌&&◌, find}
-use Rattle.std.specs.List.{list_any, list_all}
+use Rattle.std.specs.List.{list_all}
 use Rattle.pipe_model.specs.Standing.{is_clear}
 use Rattle.core_rows.proofs.rests.is_all_clear.Given as goal
 

@@ -1,4 +1,4 @@
-use Rattle.std.proofs.Common.{◌≡◌, ◌∙◌, sym}
+use Rattle.std.proofs.Common.{◌∙◌, sym}
 use Rattle.core_rows.proofs.Totals.{draining_is, drained_by}
 use Rattle.core_rows.proofs.rests.is_drained.Goals as goal
 

@@ -1,4 +1,4 @@
-use Rattle.std.proofs.Common.{◌≡◌, ◌∙◌, ap, sym}
+use Rattle.std.proofs.Common.{◌∙◌, ap, sym}
 use Rattle.std.specs.Prelude.{◌&&◌}
 use Rattle.pipe_model.specs.Flow.{is_empty, inbox}
 use Rattle.core_rows.proofs.Totals.{draining_is, dry_by}

@@ -1,4 +1,4 @@
-use Rattle.std.proofs.Common.{◌≡◌, refl}
+use Rattle.std.proofs.Common.{refl}
 use Rattle.core_rows.proofs.Queues.{none_opened, some_opened}
 use Rattle.core_rows.proofs.rests.is_unopened.Goals as goal
 

@@ -1,4 +1,4 @@
-use Rattle.std.proofs.Common.{◌≡◌, ◌∙◌, sym, true, false}
+use Rattle.std.proofs.Common.{◌∙◌, sym}
 use Rattle.core_rows.proofs.Known.{feeds_by}
 use Rattle.core_rows.proofs.Roomy.{unfed_open, open_live, open_dead}
 use Rattle.core_rows.proofs.rooms.open_between.Goals as goal

@@ -1,4 +1,4 @@
-use Rattle.std.proofs.Common.{◌≡◌, ◌<◌, ◌≤◌, ◌+◌, ◌*◌, [], length, drop, ◌∙◌, ap, sym, arith, true, false}
+use Rattle.std.proofs.Common.{◌≡◌, [], length, drop, ◌∙◌, ap, sym, arith}
 use Rattle.std.proofs.lemmas.List.{drop_all}
 use Rattle.core_rows.specs.Rows.{open_among}
 use Rattle.core_rows.proofs.Finding.{stage_there}

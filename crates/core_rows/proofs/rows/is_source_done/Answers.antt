@@ -1,4 +1,3 @@
-use Rattle.std.proofs.Common.{◌≡◌}
 use Rattle.core_rows.proofs.Known.{row_within}
 use Rattle.core_rows.proofs.rows.is_source_done.Goals as goal
 

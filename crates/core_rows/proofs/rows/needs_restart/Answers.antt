@@ -1,4 +1,4 @@
-use Rattle.std.proofs.Common.{◌≡◌, ◌∙◌, ap}
+use Rattle.std.proofs.Common.{◌∙◌, ap}
 use Rattle.core_laws.specs.Columns.{stage_row}
 use Rattle.core_rows.specs.Rows.{needs_by}
 use Rattle.core_rows.proofs.Known.{row_within, needs_is}

@@ -1,4 +1,4 @@
-use Rattle.std.proofs.Common.{◌≡◌, ◌<◌, ◌≤◌, arith}
+use Rattle.std.proofs.Common.{arith}
 use Rattle.core_rows.proofs.Known.{stage_read}
 use Rattle.core_rows.proofs.rows.row_of.Goals as goal
 
