@@ -3,3 +3,9 @@ pub mod Past
 pub mod Limits
 pub mod Fed
 pub mod Marks
+pub mod Contents
+pub mod Parts
+pub mod Children
+pub mod Bounds
+pub mod Alike
+pub mod Accepting

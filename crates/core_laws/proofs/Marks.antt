@@ -17,7 +17,7 @@ use Rattle.pipe_laws.proofs.Settled.{stays_settled}
 use Rattle.core_laws.specs.Columns.{mark, mark_by}
 
 -- what is neither acknowledged nor lost was settled nowhere
-open_unsettled : (topology : Topology) (before : History) (n : ℕ) → is_final (place topology before n) ≡ false → settled_at topology before n ≡ 0
+pub open_unsettled : (topology : Topology) (before : History) (n : ℕ) → is_final (place topology before n) ≡ false → settled_at topology before n ≡ 0
 open_unsettled topology [] n e = refl
 open_unsettled topology (step ∷ before) n e = cases (is_final (place topology before n)) refl
   where

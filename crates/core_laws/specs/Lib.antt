@@ -1,2 +1,5 @@
 pub mod Columns
 pub mod Laws
+pub mod Contents
+pub mod Slots
+pub mod Enrolled

@@ -1,2 +1,5 @@
 pub mod Stands
 pub mod Readings
+pub mod Begun
+pub mod AreNew
+pub mod Samples

@@ -4,8 +4,14 @@
 //! journal comes to. A core without a step has it, and every call of the crates above has it as a condition and keeps it.
 #![tactic(auto)]
 
+mod new;
 mod places;
 mod readers;
 pub mod state;
+mod subscribing;
+mod tables;
 
 pub use state::Core;
+
+#[cfg(test)]
+mod tests;

@@ -11,3 +11,4 @@ pub mod Promises
 pub mod Quiets
 pub mod Sources
 pub mod Statuses
+pub mod Stocks

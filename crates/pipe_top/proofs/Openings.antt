@@ -22,7 +22,7 @@ use Rattle.topology_needs.specs.Needs.{shortage_of, is_short, need_and_have, nee
 use Rattle.topology_needs.specs.Unbuilt.{unbuilt_of}
 use Rattle.topology_needs.proofs.Builds.{is_built}
 use Rattle.pipe_top.specs.Cases.{Runs, run_case, unless_short, unless_unbuilt, source_of, source_calls}
-use Rattle.pipe_top.specs.Runs.{IsReadBack, IsPartlyRead, FailsAt}
+use Rattle.pipe_top.specs.Runs.{IsReadBack, FailsAt}
 use Rattle.pipe_top.specs.Flows.{IsRunnable, GivesBack, KeepsEdges, RunsOrNot, RunBack, AskedBy, ComesBy, IsEarly, IsRunOn, refusal_in}
 use Rattle.pipe_top.specs.declared.verdict.Refusal.{Refusal}
 use Rattle.pipe_top.specs.declared.verdict.Refusal.TheVariants.{Usage, Topology as NoTopology, Stock, Unbuilt, Wait, Edge, Memory}
@@ -164,12 +164,12 @@ pub opened : {E S K : Type 0} (told : E → Bool) (named : E → EdgeKind → Li
     → (IsTrue (told old) → asked middle ≡ asked old ++ (Source, name) ∷ []) → KeepsBack back sinks_back old middle
     → RunsOrNot shows wanted topology before verdict
     → (verdict ≢ Refused Memory → GivesBack back source_told taken left faults waits source middle new name before (verdict ≡ Refused Wait))
-    → (back new ≡ back middle) ⊎ IsPartlyRead back source_told taken left middle new name before
+    → (back new ≡ back middle) ⊎ GivesBack back source_told taken left faults waits source middle new name before ⊥
     → KeepsEdges told asked edge_faults sinks_back middle new
     → ComesBy told named asked edge_faults back sinks_back source_told taken left faults waits old new (Runs shows wanted) ((Source, source_of wanted) ∷ []) topology before verdict
 opened {E} {S} {K} told named asked edge_faults back sinks_back source_told taken left faults waits old middle new shows wanted name source topology before verdict runs name_is telling fresh given calls keeps run gives partly edges = record {
   outcome = by_topology topology run;
-  back_by = run_back topology verdict _ _ _ read_back (none_ran shows wanted topology before verdict run) (part partly);
+  back_by = run_back topology verdict _ _ _ (λ other. read_back (gives other)) (none_ran shows wanted topology before verdict run) (part partly);
   asked_by = λ t. all_asked verdict ((Source, source_of wanted) ∷ []) (asked old) (asked new)
       (edges.same_calls (rw telling t) ∙ calls t ∙ ap (λ n. asked old ++ (Source, n) ∷ []) name_is);
   no_sinks = edges.same_sinks ∙ keeps.sinks;
@@ -187,28 +187,24 @@ opened {E} {S} {K} told named asked edge_faults back sinks_back source_told take
       comes_to = rw r.0 at r.2;
     })
 
-    read_back : verdict ≢ Refused Memory → IsReadBack told named back source_told taken left faults waits old new (source_of wanted) before (verdict ≡ Refused Wait)
-    read_back other =
-        let g = gives other in
-        record {
-          source = g.source;
-          given = g.given ∙ ap (λ l. l ++ (name, g.source) ∷ []) keeps.sources ∙ ap (λ n. back old ++ (n, g.source) ∷ []) name_is;
-          reads = g.read.reads;
-          opened = λ t.
-              let s = given t in (
-                rw g.read.same_telling s.tells,
-                g.read.same_bytes s.tells ∙ ap (λ l. l ++ left source) fresh.nothing_taken ∙ s.has_left ∙ ap (named old Source) name_is,
-              );
-          wait = g.read.wait;
-        }
+    read_back : {waited : Type 0} → GivesBack back source_told taken left faults waits source middle new name before waited
+        → IsReadBack told named back source_told taken left faults waits old new (source_of wanted) before waited
+    read_back g = record {
+      source = g.source;
+      given = g.given ∙ ap (λ l. l ++ (name, g.source) ∷ []) keeps.sources ∙ ap (λ n. back old ++ (n, g.source) ∷ []) name_is;
+      reads = g.read.reads;
+      opened = λ t.
+          let s = given t in (
+            rw g.read.same_telling s.tells,
+            g.read.same_bytes s.tells ∙ ap (λ l. l ++ left source) fresh.nothing_taken ∙ s.has_left ∙ ap (named old Source) name_is,
+          );
+      wait = g.read.wait;
+    }
 
-    part : (back new ≡ back middle) ⊎ IsPartlyRead back source_told taken left middle new name before → (back new ≡ back old) ⊎ IsPartlyRead back source_told taken left old new (source_of wanted) before
+    part : (back new ≡ back middle) ⊎ GivesBack back source_told taken left faults waits source middle new name before ⊥
+        → (back new ≡ back old) ⊎ IsReadBack told named back source_told taken left faults waits old new (source_of wanted) before ⊥
     part (inl same) = inl (same ∙ keeps.sources)
-    part (inr p) = inr (record {
-      source = p.source;
-      given = p.given ∙ ap (λ l. l ++ (name, p.source) ∷ []) keeps.sources ∙ ap (λ n. back old ++ (n, p.source) ∷ []) name_is;
-      reads = p.reads;
-    })
+    part (inr g) = inr (read_back g)
 
 -- the source was not opened
 pub unopened : {E S K : Type 0} (told : E → Bool) (named : E → EdgeKind → List ℕ → List ℕ) (asked : E → List (EdgeKind × List ℕ)) (edge_faults : E → ℕ) (back : E → List (List ℕ × S)) (sinks_back : E → List (List ℕ × K)) (source_told : S → Bool) (taken left : S → List ℕ) (faults waits : S → ℕ) (old new : E)

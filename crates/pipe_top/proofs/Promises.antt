@@ -61,7 +61,7 @@ call_in {E} {S} {K} {told} {named} {asked} {edge_faults} {back} {sinks_back} {so
             (λ name waits_so r. read_as (status ≡ 10) (λ ten. waits_so (is_status status (status_in verdict) 10 is ten (λ x. cc) (λ x. cc))) r) c.comes.outcome
             (ran_as status (status_in verdict) is ran_on) c.comes.back_by;
         source_or_none = maybe_read (case_of command c.file boxes) (FailsAt (told old) (calls_of command (case_of command c.file boxes)) (asked old) (asked new) (Rose (edge_faults old) (edge_faults new))) topology before verdict _ _ _
-            (λ name r. record { source = r.source; given = r.given; reads = r.reads.in_order }) c.comes.outcome c.comes.back_by;
+            (λ name r. read_as ⊥ (λ never. absurd never) r) c.comes.outcome c.comes.back_by;
         asks = λ t. asks (case_of command c.file boxes) (told old) (calls_of command (case_of command c.file boxes)) (asked old) (asked new) (Rose (edge_faults old) (edge_faults new)) topology before verdict c.comes.outcome t (c.comes.asked_by t);
         asks_all = λ a b d t. asks_all verdict (calls_of command (case_of command c.file boxes)) (asked old) (asked new) (λ x. a (settled status (status_in verdict) is b d ∙ x)) (λ x. d (settled status (status_in verdict) is b d ∙ x)) (c.comes.asked_by t);
       };

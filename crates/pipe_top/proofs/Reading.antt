@@ -144,6 +144,10 @@ after_call told named asked edge_faults back sinks_back source_told taken left f
         source = r.source;
         given = r.given ∙ ap (λ l. l ++ (name, r.source) ∷ []) c.same_sources;
         reads = r.reads;
+        opened = λ t.
+            let o = r.opened (rw c.same_telling t) in
+            (o.0, o.1 ∙ c.same_names t Source name);
+        wait = r.wait;
       }) x.back_by;
   asked_by = λ t. asked_as verdict call calls (asked old) (asked middle) (asked new) (c.one_call t) (x.asked_by (rw c.same_telling t));
   no_sinks = x.no_sinks ∙ c.same_sinks;

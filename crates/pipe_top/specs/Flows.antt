@@ -6,6 +6,7 @@ use Rattle.pipe_types.specs.Sound.{IsSound}
 use Rattle.pipe_types.specs.declared.topology.StageSpec.{StageSpec}
 use Rattle.pipe_types.specs.declared.topology.Topology.{Topology}
 use Rattle.pipe_types.specs.declared.topology.Kind.TheVariants.{Steps}
+use Rattle.pipe_types.specs.declared.topology.Role.TheVariants.{Producer, Processor}
 use Rattle.pipe_types.specs.Stages.{spec_of}
 use Rattle.pipe_model.specs.History.{History}
 use Rattle.pipe_edges.specs.declared.edges.EdgeKind.{EdgeKind}
@@ -24,7 +25,7 @@ use Rattle.run_claims.specs.Read.{ReadsSource}
 use Rattle.stage_workers.specs.Steps.{ends_in_fetch}
 use Rattle.pipe_top.specs.Cases.{Case, NoCommand, NoTopology as BadTopology, TooFew, NotBuilt, Checks, Runs, case_of, calls_of, file_name, source_of, IsNamedFile}
 use Rattle.pipe_top.specs.Verdicts.{whole_text}
-use Rattle.pipe_top.specs.Runs.{IsEnded, IsRun, IsReadBack, IsPartlyRead, Asks, FailsAt, run_text}
+use Rattle.pipe_top.specs.Runs.{IsEnded, IsRun, IsReadBack, Asks, FailsAt, run_text}
 use Rattle.pipe_top.specs.declared.verdict.Refusal.{Refusal}
 use Rattle.pipe_top.specs.declared.verdict.Refusal.TheVariants.{Usage, Topology as NoTopology, Stock, Unbuilt, Wait, Edge, Memory}
 use Rattle.pipe_top.specs.declared.verdict.Shows.{Shows}
@@ -39,6 +40,9 @@ pub record IsRunnable (topology : Topology) : Type 0 where
   pub producer : StageSpec
   pub processor : StageSpec
   pub stages : topology.stages ≡ producer ∷ processor ∷ []
+  pub produces : producer.role ≡ Producer
+  pub processes : processor.role ≡ Processor
+  pub number : processor.no ≡ stage 2
   pub second : spec_of topology (stage 2) ≡ Some processor
   pub steps : processor.kind ≡ Steps
   pub calm : IsTrue (never_crashes processor.rules)
@@ -169,7 +173,7 @@ pub record ComesBy {E S K : Type 0} (told : E → Bool) (named : E → EdgeKind 
   pub outcome : Outcome case (FailsAt (told old) calls (asked old) (asked new) (Rose (edge_faults old) (edge_faults new))) topology before verdict
   pub back_by : BackBy case topology verdict (back new ≡ back old)
       (λ name. IsReadBack told named back source_told taken left faults waits old new name before (verdict ≡ Refused Wait))
-      (λ name. IsPartlyRead back source_told taken left old new name before)
+      (λ name. IsReadBack told named back source_told taken left faults waits old new name before ⊥)
   pub asked_by : IsTrue (told old) → AskedBy verdict calls (asked old) (asked new)
   pub no_sinks : sinks_back new ≡ sinks_back old
 

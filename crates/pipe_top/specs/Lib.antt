@@ -2,3 +2,4 @@ pub mod Cases
 pub mod Verdicts
 pub mod Runs
 pub mod Flows
+pub mod Stock

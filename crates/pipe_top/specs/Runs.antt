@@ -10,7 +10,7 @@ use Rattle.pipe_types.specs.declared.topology.Topology.{Topology}
 use Rattle.pipe_model.specs.History.{History}
 use Rattle.pipe_model.specs.Moves.{is_drained}
 use Rattle.pipe_model.specs.Legal.{happened}
-use Rattle.pipe_model.specs.Outside.{fed, source_end}
+use Rattle.pipe_model.specs.Outside.{source_end}
 use Rattle.pipe_edges.specs.declared.edges.EdgeKind.{EdgeKind}
 use Rattle.pipe_edges.specs.declared.edges.EdgeKind.TheVariants.{Source}
 use Rattle.config_table.specs.Fault.{number_of}
@@ -20,7 +20,7 @@ use Rattle.journal_texts.specs.Acks.{ack_text}
 use Rattle.program_words.specs.Refusals.{usage_line, topology_line, unbuilt_line, stock_line, edge_line, memory_line, counts_line}
 use Rattle.topology_needs.specs.Needs.{subscriptions_of}
 use Rattle.topology_needs.specs.Unbuilt.{word_of}
-use Rattle.source_lines.specs.Cut.{AreFirstLines, HasShortLines}
+use Rattle.source_lines.specs.Cut.{HasShortLines}
 use Rattle.stage_workers.specs.Steps.{has_flow_steps, ends_in_fetch}
 use Rattle.run_claims.specs.Kept.{KeepsClaims}
 use Rattle.run_claims.specs.Followed.{FollowsMoves}
@@ -133,12 +133,6 @@ pub record IsReadBack {E S : Type 0} (told_names : E → Bool) (named : E → Ed
   pub opened : IsTrue (told_names old) → IsTrue (told source) × (taken source ++ left source ≡ named old Source name)
   pub wait : waited → Rose 0 (waits source)
 
--- a source was given back, of whose lines the journal has the first
-pub record IsPartlyRead {E S : Type 0} (back : E → List (List ℕ × S)) (told : S → Bool) (taken left : S → List ℕ) (old new : E) (name : List ℕ) (before : History) : Type 0 where
-  pub source : S
-  pub given : back new ≡ back old ++ (name, source) ∷ []
-  pub reads : IsTrue (told source) → AreFirstLines (taken source ++ left source) (fed before (stage 1))
-
 -- the source had no fault and no wait, and it tells its bytes, of which no line is too long
 pub record IsFaultless {S : Type 0} (told : S → Bool) (taken left : S → List ℕ) (faults waits : S → ℕ) (source : S) : Type 0 where
   pub no_fault : ¬ Rose 0 (faults source)
@@ -244,7 +238,8 @@ pub record IsCall {E S : Type 0} (told : E → Bool) (named : E → EdgeKind →
   -- where a run ended or waited the source was given back, its lines are the journal's, and under 10 its waits rose
   pub source : IsEndStatus status ⊎ (status ≡ 10)
       → ForSource (λ name. IsReadBack told named back source_told taken left faults waits old new name before (status ≡ 10)) (back new ≡ back old) case
-  pub source_or_none : ForSource (λ name. (back new ≡ back old) ⊎ IsPartlyRead back source_told taken left old new name before) (back new ≡ back old) case
+  -- under every status the same, where a source was given back: none is where none was opened, or where memory was wanting to give it back
+  pub source_or_none : ForSource (λ name. (back new ≡ back old) ⊎ IsReadBack told named back source_told taken left faults waits old new name before ⊥) (back new ≡ back old) case
   -- the calls by name: the topology file is read, and then the source of a run is opened
   pub asks : IsTrue (told old) → Asks (calls_of command case) (asked old) (asked new)
   pub asks_all : status ≢ 5 → status ≢ 8 → status ≢ 9 → IsTrue (told old) → asked new ≡ asked old ++ calls_of command case

@@ -1,14 +1,16 @@
 //! The top call.
 
-ghost use Rattle.std.specs.Prelude.{◌≡◌, ◌⊎◌, ◌≤◌, [], None, Some, IsTrue, map};
+ghost use Rattle.std.specs.Prelude.{◌≡◌, ◌≢◌, ◌⊎◌, ◌≤◌, [], None, Some, IsTrue, map};
 ghost use Rattle.pipe_types.specs.Counts.{Rose};
 ghost use Rattle.program_words.specs.Refusals.{memory_line};
 ghost use Rattle.program_words.specs.Words.{command_of, texts_of, Flow, Check, Run};
 ghost use Rattle.pipe_top.specs.Cases.{InCase, boxes_in};
+ghost use Rattle.pipe_top.specs.Stock.{IsGivenBack, IsLeftBy, ran};
 ghost use Rattle.pipe_top.specs.Verdicts.{AddsPrefix};
 ghost use Rattle.pipe_top.specs.Runs.{IsRunOrNone, IsCall, IsRefusalStatus, IsUnopenedStatus, IsOr};
 ghost use Rattle.pipe_top.specs.Flows.{Came};
 ghost use Rattle.topology_needs.specs.declared.stock.Boxes.{Boxes};
+ghost use Rattle.pipe_top.specs.declared.verdict.Verdict.{Verdict};
 
 use crate::file::{checked, read_named};
 use crate::run::{Ran, refused, run_topology};
@@ -64,6 +66,9 @@ pub fn run_program<E: Edges, C: Clock + Send + Drop>(
 
     ensures clock { result.clock ≡ clock }
     ensures boxes { map (λ b. kind b) result.stock.items ≡ map (λ b. kind b) stock.items }
+    // A run used the boxes that its stages need, and no other. Where memory was wanting, a box that was used keeps its kind alone.
+    ensures used { IsLeftBy (ran (command_of (texts_of words.now.items)) result.topology) (result.stock.items ≡ stock.items) (λ t.
+        IsGivenBack (λ b. kind b) (λ b. spec b) (λ b. count b) stock.items result.stock.items t result.journal.steps (result.status ≢ 9)) }
 {
     let mut stock = stock;
     let Ran {
@@ -89,6 +94,8 @@ fn run_words<E: Edges>(
     edges: &mut E,
 ) -> Ran
     ensures same_kinds { map (λ b. kind b) stock.new.items ≡ map (λ b. kind b) stock.old.items }
+    ensures used { IsLeftBy (ran (command_of (texts_of words.now.items)) result.topology) (stock.new.items ≡ stock.old.items) (λ t.
+        IsGivenBack (λ b. kind b) (λ b. spec b) (λ b. count b) stock.old.items stock.new.items t result.journal.steps (result.verdict ≢ Verdict.Refused Refusal.Memory)) }
     ensures came { Came E.told E.named E.asked E.faults E.sources_back E.sinks_back E.Source.told E.Source.taken E.Source.left E.Source.faults E.Source.waits
         edges.old edges.new (command_of (texts_of words.now.items)) (boxes_in (map (λ b. kind b) stock.old.items)) result.topology result.journal.steps result.verdict }
 {
@@ -109,6 +116,8 @@ fn run_flow<E: Edges>(
     edges: &mut E,
 ) -> Ran
     ensures same_kinds { map (λ b. kind b) stock.new.items ≡ map (λ b. kind b) stock.old.items }
+    ensures used { IsLeftBy result.topology (stock.new.items ≡ stock.old.items) (λ t.
+        IsGivenBack (λ b. kind b) (λ b. spec b) (λ b. count b) stock.old.items stock.new.items t result.journal.steps (result.verdict ≢ Verdict.Refused Refusal.Memory)) }
     ensures came { Came E.told E.named E.asked E.faults E.sources_back E.sinks_back E.Source.told E.Source.taken E.Source.left E.Source.faults E.Source.waits
         edges.old edges.new (Some (Flow words.entry.source.now words.entry.prefix.now)) (boxes_in (map (λ b. kind b) stock.old.items))
         result.topology result.journal.steps result.verdict }
@@ -142,6 +151,8 @@ fn run_file<E: Edges>(
     edges: &mut E,
 ) -> Ran
     ensures same_kinds { map (λ b. kind b) stock.new.items ≡ map (λ b. kind b) stock.old.items }
+    ensures used { IsLeftBy result.topology (stock.new.items ≡ stock.old.items) (λ t.
+        IsGivenBack (λ b. kind b) (λ b. spec b) (λ b. count b) stock.old.items stock.new.items t result.journal.steps (result.verdict ≢ Verdict.Refused Refusal.Memory)) }
     ensures came { Came E.told E.named E.asked E.faults E.sources_back E.sinks_back E.Source.told E.Source.taken E.Source.left E.Source.faults E.Source.waits
         edges.old edges.new (Some (Run words.entry.topology.now words.entry.workers words.entry.acks words.entry.steps)) (boxes_in (map (λ b. kind b) stock.old.items))
         result.topology result.journal.steps result.verdict }

@@ -2,6 +2,7 @@
 
 ghost use Rattle.std.specs.Prelude.{◌≡◌, ◌≢◌, ◌⊎◌, ◌≤◌, ◌++◌, ◌∷◌, [], false, Some, None, Ok, IfOk, IsOk, OnOk, IsTrue, All, map};
 ghost use Rattle.pipe_types.specs.Counts.{Rose};
+ghost use Rattle.pipe_types.specs.Numbers.{stage as number};
 ghost use Rattle.pipe_types.specs.Sound.{IsSound};
 ghost use Rattle.pipe_model.specs.Moves.{is_drained};
 ghost use Rattle.pipe_model.specs.Places.{ArePlaces};
@@ -11,13 +12,16 @@ ghost use Rattle.pipe_edges.specs.Named.{IsFreshSource};
 ghost use Rattle.core_flow.specs.Rows.{is_lost};
 ghost use Rattle.core_flow.specs.Stands.{Stands};
 ghost use Rattle.stage_workers.specs.Ready.{IsReady};
+ghost use Rattle.stage_workers.specs.Reads.{Reads, ReadsOn};
 ghost use Rattle.stage_workers.specs.Steps.{ends_in_fetch};
+ghost use Rattle.stage_workers.specs.Used.{IsUsedBy};
 ghost use Rattle.stage_job.specs.Boxes.{boxes_of_kind};
 ghost use Rattle.topology_needs.specs.Needs.{shortage_of};
 ghost use Rattle.topology_needs.specs.Unbuilt.{unbuilt_of};
+ghost use Rattle.pipe_top.specs.Stock.{IsGivenBack, IsLeftBy};
 ghost use Rattle.pipe_top.specs.Cases.{Runs, run_case, boxes_in as boxes_of_kinds, source_of, source_calls};
 ghost use Rattle.pipe_top.specs.Verdicts.{whole_text};
-ghost use Rattle.pipe_top.specs.Runs.{IsRun, IsPartlyRead, run_text};
+ghost use Rattle.pipe_top.specs.Runs.{IsRun, run_text};
 ghost use Rattle.pipe_top.specs.Flows.{IsRunnable, IsProcessorOf, IsJudgement, IsRunVerdict, GivesBack, KeepsEdges, RunsOrNot, ComesBy, refusal_in};
 
 use crate::verdict::{Refusal, Shows, Texts, Verdict};
@@ -26,7 +30,7 @@ use core_flow::Core;
 use journal_texts::lines::journal_text;
 use journal_texts::report::report_text;
 use journal_texts::status::status;
-use pipe_edges::{EdgeEnd, Edges, LineSource};
+use pipe_edges::{ByteSource, EdgeEnd, Edges, LineSource};
 use pipe_journal::Journal;
 use pipe_types::bytes::Text;
 use pipe_types::state::PlaceList;
@@ -68,6 +72,8 @@ pub(crate) fn run_topology<E: Edges>(
 ) -> Ran
     requires sound { IsSound topology }
     ensures same_kinds { map (λ b. kind b) stock.new.items ≡ map (λ b. kind b) stock.old.items }
+    ensures used { IsLeftBy result.topology (stock.new.items ≡ stock.old.items) (λ t.
+        IsGivenBack (λ b. kind b) (λ b. spec b) (λ b. count b) stock.old.items stock.new.items t result.journal.steps (result.verdict ≢ Verdict.Refused Refusal.Memory)) }
     ensures comes { ComesBy E.told E.named E.asked E.faults E.sources_back E.sinks_back E.Source.told E.Source.taken E.Source.left E.Source.faults E.Source.waits
         edges.old edges.new (run_case (boxes_of_kinds (map (λ b. kind b) stock.old.items)) workers shows topology)
         (source_calls (run_case (boxes_of_kinds (map (λ b. kind b) stock.old.items)) workers shows topology)) result.topology result.journal.steps result.verdict }
@@ -116,6 +122,8 @@ fn run_runnable<E: Edges>(
     requires runnable { IsRunnable topology }
     requires stocked { boxes_of_kind Kind.Steps (map (λ b. kind b) stock.old.items) ≢ 0 }
     ensures same_kinds { map (λ b. kind b) stock.new.items ≡ map (λ b. kind b) stock.old.items }
+    ensures used { IsLeftBy result.topology (stock.new.items ≡ stock.old.items) (λ t.
+        IsGivenBack (λ b. kind b) (λ b. spec b) (λ b. count b) stock.old.items stock.new.items t result.journal.steps (result.verdict ≢ Verdict.Refused Refusal.Memory)) }
     ensures comes { ComesBy E.told E.named E.asked E.faults E.sources_back E.sinks_back E.Source.told E.Source.taken E.Source.left E.Source.faults E.Source.waits
         edges.old edges.new (Runs shows topology) ((EdgeKind.Source, source_of topology) ∷ []) result.topology result.journal.steps result.verdict }
 {
@@ -136,13 +144,15 @@ fn run_with<E: Edges>(
     requires runnable { IsRunnable topology }
     requires steps { kind callback.old ≡ Kind.Steps }
     ensures same { kind callback.new ≡ kind callback.old }
+    ensures used { IsLeftBy result.topology (callback.new ≡ callback.old) (λ t. result.verdict ≢ Verdict.Refused Refusal.Memory
+        → IsUsedBy (spec callback.new) (count callback.new) t result.journal.steps (number 2)) }
     ensures comes { ComesBy E.told E.named E.asked E.faults E.sources_back E.sinks_back E.Source.told E.Source.taken E.Source.left E.Source.faults E.Source.waits
         edges.old edges.new (Runs shows topology) ((EdgeKind.Source, source_of topology) ∷ []) result.topology result.journal.steps result.verdict }
 {
     let Ok(name) = source_in(alloc, &topology) else {
         return refused(alloc, Refusal::Memory);
     };
-    let Ok(core) = armed_core(alloc, topology, callback) else {
+    let Ok(core) = new_core(alloc, topology) else {
         return refused(alloc, Refusal::Memory);
     };
     match edges.open_source(&name) {
@@ -172,22 +182,13 @@ fn source_in(alloc: Global, topology: &Topology) -> Result<Text, AllocError>
     }
 }
 
-/// The core before its first step, with the callback armed for the processor.
-fn armed_core(
-    alloc: Global,
-    topology: Topology,
-    callback: &mut Box<dyn Callback + Send>,
-) -> Result<Core, AllocError>
+/// The core before its first step.
+fn new_core(alloc: Global, topology: Topology) -> Result<Core, AllocError>
     requires runnable { IsRunnable topology }
-    requires steps { kind callback.old ≡ Kind.Steps }
-    ensures same { kind callback.new ≡ kind callback.old }
     ensures topology { IfOk result (λ core. core.topology ≡ topology) }
     ensures empty { IfOk result (λ core. core.journal.steps ≡ []) }
     ensures stands { IfOk result (λ core. Stands core) }
-    ensures ready { IfOk result (λ core.
-        IsReady (kind callback.new) (spec callback.new) (count callback.new) core.topology core.journal.steps) }
 {
-    arm_processor(callback, &topology)?;
     match Core::new(alloc, topology) {
         Ok(core) => Ok(core),
         Err((_, error)) => Err(error),
@@ -230,15 +231,18 @@ fn run_opened<E: Edges>(
 ) -> Ran
     requires stands { Stands core }
     requires empty { core.journal.steps ≡ [] }
-    requires ready { IsReady (kind callback.old) (spec callback.old) (count callback.old) core.topology core.journal.steps }
+    requires runnable { IsRunnable core.topology }
+    requires steps { kind callback.old ≡ Kind.Steps }
     requires fresh { IsFreshSource E.Source.taken E.Source.faults E.Source.waits source }
     ensures same { kind callback.new ≡ kind callback.old }
+    ensures used { IsLeftBy result.topology (callback.new ≡ callback.old) (λ t. result.verdict ≢ Verdict.Refused Refusal.Memory
+        → IsUsedBy (spec callback.new) (count callback.new) t result.journal.steps (number 2)) }
     ensures run { RunsOrNot shows core.topology result.topology result.journal.steps result.verdict }
     ensures back { result.verdict ≢ Verdict.Refused Refusal.Memory
         → GivesBack E.sources_back E.Source.told E.Source.taken E.Source.left E.Source.faults E.Source.waits source
         edges.old edges.new name.now result.journal.steps (result.verdict ≡ Verdict.Refused Refusal.Wait) }
     ensures back_or_not { (E.sources_back edges.new ≡ E.sources_back edges.old)
-        ⊎ IsPartlyRead E.sources_back E.Source.told E.Source.taken E.Source.left edges.old edges.new name.now result.journal.steps }
+        ⊎ GivesBack E.sources_back E.Source.told E.Source.taken E.Source.left E.Source.faults E.Source.waits source edges.old edges.new name.now result.journal.steps ⊥ }
     ensures edges { KeepsEdges E.told E.asked E.faults E.sinks_back edges.old edges.new }
 {
     match LineSource::new(alloc, source) {
@@ -262,10 +266,13 @@ fn run_lines<E: Edges>(
 ) -> Ran
     requires stands { Stands core }
     requires empty { core.journal.steps ≡ [] }
-    requires ready { IsReady (kind callback.old) (spec callback.old) (count callback.old) core.topology core.journal.steps }
+    requires runnable { IsRunnable core.topology }
+    requires steps { kind callback.old ≡ Kind.Steps }
     requires unread { (line_end_of lines ≡ None) × (waiting lines ≡ []) }
     requires fresh { IsFreshSource E.Source.taken E.Source.faults E.Source.waits (line_source lines) }
     ensures same { kind callback.new ≡ kind callback.old }
+    ensures used { result.verdict ≢ Verdict.Refused Refusal.Memory
+        → IsUsedBy (spec callback.new) (count callback.new) core.topology result.journal.steps (number 2) }
     ensures topology { result.topology ≡ Some core.topology }
     ensures run { IsRun core.topology result.journal.steps }
     ensures verdict { IsRunVerdict result.verdict shows core.topology result.journal.steps }
@@ -273,16 +280,43 @@ fn run_lines<E: Edges>(
         → GivesBack E.sources_back E.Source.told E.Source.taken E.Source.left E.Source.faults E.Source.waits (line_source lines)
         edges.old edges.new name.now result.journal.steps (result.verdict ≡ Verdict.Refused Refusal.Wait) }
     ensures back_or_not { (E.sources_back edges.new ≡ E.sources_back edges.old)
-        ⊎ IsPartlyRead E.sources_back E.Source.told E.Source.taken E.Source.left edges.old edges.new name.now result.journal.steps }
+        ⊎ GivesBack E.sources_back E.Source.told E.Source.taken E.Source.left E.Source.faults E.Source.waits (line_source lines) edges.old edges.new name.now result.journal.steps ⊥ }
     ensures edges { KeepsEdges E.told E.asked E.faults E.sinks_back edges.old edges.new }
 {
     let mut core = core;
     let mut lines = lines;
-    let stop = run_here(alloc, &mut core, &mut lines, callback);
+    let stop = run_armed(alloc, &mut core, &mut lines, callback);
     match edges.back_source(name, lines.into_inner()) {
         Ok(()) => conclude(alloc, core, shows, stop),
         Err(error) => conclude(alloc, core, shows, Err(error)),
     }
+}
+
+/// Arms the callback for the processor, and runs.
+fn run_armed<B: ByteSource>(
+    alloc: Global,
+    core: &mut Core,
+    lines: &mut LineSource<B>,
+    callback: &mut Box<dyn Callback + Send>,
+) -> Result<RunStop, AllocError>
+    requires stands { Stands core.old }
+    requires empty { core.old.journal.steps ≡ [] }
+    requires runnable { IsRunnable core.old.topology }
+    requires steps { kind callback.old ≡ Kind.Steps }
+    ensures stands { Stands core.new }
+    ensures topology { core.new.topology ≡ core.old.topology }
+    ensures same { kind callback.new ≡ kind callback.old }
+    ensures used { OnOk result (IsUsedBy (spec callback.new) (count callback.new) core.new.topology core.new.journal.steps (number 2)) }
+    ensures reads { (opened : B)
+        → Reads B.told B.taken B.left B.faults B.waits opened lines.old core.old.topology core.old.journal.steps []
+        → ReadsOn B.told B.taken B.left B.faults B.waits opened lines.new core.new.topology core.new.journal.steps result }
+    ensures drained { result ≡ Ok RunStop.Drained → IsTrue (is_drained core.new.topology core.new.journal.steps) }
+    ensures waits { (opened : B) → Reads B.told B.taken B.left B.faults B.waits opened lines.old core.old.topology core.old.journal.steps []
+        → result ≡ Ok RunStop.Waits → Rose (B.waits opened) (B.waits (line_source lines.new)) }
+    ensures out { result ≡ Ok RunStop.Waits → IsTrue (ends_in_fetch core.new.journal.steps) }
+{
+    arm_processor(callback, core.topology())?;
+    run_here(alloc, core, lines, callback)
 }
 
 /// What the run comes to.

@@ -63,6 +63,7 @@ pub(crate) fn write_verdict<K: ByteSink>(
     err: &mut K,
 ) -> u8
     ensures status { (result ≡ status_in verdict.now) ⊎ ((result ≡ 8) ⊎ (result ≡ 9)) }
+    ensures wanting { verdict.now ≡ Verdict.Refused Refusal.Memory → result ≡ 9 }
     ensures fault { result ≡ 8 → status_in verdict.now ≢ 8 → FaultBy verdict.now (Rose (K.faults out.old) (K.faults out.new)) (Rose (K.faults err.old) (K.faults err.new)) }
     ensures out { result ≢ 8 → IsTrue (K.told out.old) → Adds (K.held out.old) (K.held out.new) (out_text_of verdict.now) }
     ensures out_begun { IsTrue (K.told out.old) → AddsPrefix (K.held out.old) (K.held out.new) (out_text_of verdict.now) }
@@ -126,6 +127,7 @@ fn put_text<K: ByteSink>(sink: &mut K, text: &Bytes, status: u8) -> u8
 /// Writes the line of a refusal, and answers its status, or 8 where the sink failed; want of memory stays 9.
 fn put_line<K: ByteSink>(sink: &mut K, line: &Bytes, status: u8) -> u8
     ensures status { (result ≡ status) ⊎ (result ≡ 8) }
+    ensures wanting { status ≡ 9 → result ≡ 9 }
     ensures fault { result ≡ 8 → (status ≡ 8) ⊎ Rose (K.faults sink.old) (K.faults sink.new) }
     ensures whole { result ≢ 8 → result ≢ 9 → IsTrue (K.told sink.old) → Adds (K.held sink.old) (K.held sink.new) line.now }
     ensures begun { IsTrue (K.told sink.old) → AddsPrefix (K.held sink.old) (K.held sink.new) line.now }

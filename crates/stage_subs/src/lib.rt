@@ -5,7 +5,7 @@
 //! row of its pair, and that the rows of all other pairs are as before. `add` alone takes memory.
 #![tactic(auto)]
 
-ghost use Rattle.std.specs.Prelude.{◌≡◌, ◌+◌, ◌*◌, ◌<◌, ◌≤◌, ◌^◌, ◌-◌, ◌↔◌, [], Option, true, false, length, option_map, IsTrue, IsSome, IfSome, OnOk, IfOk, OnErr, nat_lt, if◌then◌else◌};
+ghost use Rattle.std.specs.Prelude.{◌≡◌, ◌==◌, ◌+◌, ◌*◌, ◌<◌, ◌≤◌, ◌^◌, ◌-◌, ◌↔◌, [], Option, true, false, length, option_map, IsTrue, IsSome, IfSome, OnOk, IfOk, OnErr, nat_lt, if◌then◌else◌};
 ghost use Rattle.pipe_types.specs.Numbers.{subscription};
 ghost use Rattle.pipe_model.specs.Lives.{exits as mode_exits};
 ghost use Rattle.pipe_types.specs.declared.numbers.StageNo.{StageNo as Stage};
@@ -201,6 +201,13 @@ impl Subs {
         }
     }
 
+    /// Whether the subscription is its pair's last one, live or closed.
+    pub fn is_last(&self, sub: SubNo) -> bool
+        ensures { result ≡ (generation_in (row_of self.now sub) == sub.generation) }
+    {
+        last_generation(find(&self.rows, sub.consumer, sub.producer)) == sub.generation
+    }
+
     /// The size of the ask that is due, in units, or 0 where none is.
     pub fn due(&self, sub: SubNo) -> u32
         ensures { result ≡ due_on self.now sub }
@@ -267,6 +274,16 @@ fn make_rows(rows: &mut Vec<Option<SubRow>>) -> Result<(), AllocError>
         rows.resize(STRIDE * CONSUMERS as usize, None)?;
     }
     Ok(())
+}
+
+/// The generation of the pair's last subscription, and 0 where it never had one.
+fn last_generation(last: Option<SubRow>) -> u32
+    ensures { result ≡ generation_in (option_map seen_in last) }
+{
+    match last {
+        Some(row) => row.generation,
+        None => 0,
+    }
 }
 
 /// The generation after the pair's last one.

@@ -1,5 +1,5 @@
 -- What a round does to how a pipeline stands.
-use Rattle.std.proofs.Common.{◌≡◌, ℕ, ◌<◌, ◌≤◌, ◌^◌, List, [], ◌∷◌, ◌++◌, length, Bool, true, false, arith, refl, ap, sym, ◌∙◌, inl, inr, Some, None, Ok, Err}
+use Rattle.std.proofs.Common.{◌≡◌, ◌≢◌, ℕ, ◌<◌, ◌≤◌, ◌^◌, List, [], ◌∷◌, ◌++◌, length, Bool, true, false, arith, refl, ap, sym, ◌∙◌, inl, inr, Some, None, Ok, Err}
 use Rattle.std.specs.Prelude.{Result, IfOk, OnOk, OnErr, nat_le, nat_lt, ◌==◌, IsTrue, IsSome, IfSome, Option, ◌⊎◌, ◌&&◌, ◌||◌, not, if◌then◌else◌}
 use Rattle.std.specs.List.{list_any}
 use Rattle.std.proofs.lemmas.List.Elements.{All-cons}
@@ -50,6 +50,9 @@ use Rattle.core_flow.proofs.Keeps.{may}
 use Rattle.std.proofs.lemmas.Bool.Decides.{nat_tests}
 use Rattle.stage_workers.specs.Ready.{IsReady}
 use Rattle.stage_workers.specs.Reads.{Reads, ReadsOn, StaysOn, IsKnownEnd, AreFirstHeld}
+use Rattle.stage_workers.specs.Used.{IsUsedBy}
+use Rattle.stage_workers.specs.declared.round.RoundEnd.{RoundEnd}
+use Rattle.stage_workers.specs.declared.round.RoundEnd.TheVariants.{On, Drained, Waits}
 
 -- Posts
 
@@ -206,6 +209,7 @@ reads_on told taken left faults waits opened source topology old new on r = reco
   moves = on.moves r.moves;
   kinds = on.kinds r.kinds;
   read = rw on.accepted r.read;
+  in_fetch = inl refl;
   known = rw on.ended r.known;
   first = rw on.brought r.first;
 }
@@ -236,6 +240,7 @@ reads_fetch told taken left faults waits opened old new topology before n record
   moves = (r.moves, first);
   kinds = r.kinds;
   read = rw append-nil at read;
+  in_fetch = inr refl;
   known = end_known (source_end before (stage 1)) (line_end_of old) (line_end_of new) stays r.known;
   first = r.first;
 }
@@ -261,6 +266,7 @@ reads_accept told taken left faults waits opened source topology before records 
   moves = ((r.moves, tt), inl (owes topology before (stage 1) records allowed));
   kinds = r.kinds;
   read = rw append-nil r.read;
+  in_fetch = inl refl;
   known = r.known;
   first = All-cons (AreFirstHeld told taken left faults waits opened) _ _ (record {
     source = source;
@@ -276,6 +282,7 @@ reads_end told taken left faults waits opened source topology before h r known =
   moves = (r.moves, tt);
   kinds = r.kinds;
   read = r.read;
+  in_fetch = inl refl;
   known = known;
   first = r.first;
 }
@@ -433,6 +440,29 @@ pub done_ready : {T E : Type 0} (kind kind' : Kind) (spec spec' : StageSpec) (se
 done_ready kind kind' spec spec' seen seen' topology before s replies core core' (Ok x) ready k c n same is taken same' appended =
     rw (same', same, appended, taken.is, is) (ready_done kind kind' spec spec' seen seen' topology before taken.sub taken.count replies ready k c n)
 done_ready kind kind' spec spec' seen seen' topology before s replies core core' (Err e) ready k c n same is taken same' appended = tt
+
+-- Callbacks
+
+-- a callback that is ready was used as the journal says
+pub ready_used : {kind : Kind} {spec : StageSpec} {seen : ℕ} {topology : Topology} {before : History}
+    → IsReady kind spec seen topology before → IsUsedBy spec seen topology before (stage 2)
+ready_used r = record {
+  armed = r.is_processor;
+  counted = r.counted;
+}
+
+-- and so is one that a round left ready, or that waits and saw nothing
+pub round_used : {E : Type 0} (kind : Kind) (spec : StageSpec) (seen : ℕ) (topology now : Topology) (old new : History) (result : Result RoundEnd E)
+    → IsReady kind spec seen topology old → now ≡ topology → IfOk result (λ r. r ≢ Drained)
+    → IfOk result (λ r. r ≢ Waits → IsReady kind spec seen now new) → (result ≡ Ok Waits → count now new (stage 2) ≡ count topology old (stage 2))
+    → OnOk result (IsUsedBy spec seen now new (stage 2))
+round_used kind spec seen topology now old new (Ok On) ready same not_drained on waits = ready_used (on (λ e. cc))
+round_used kind spec seen topology now old new (Ok Drained) ready same not_drained on waits = absurd (not_drained refl)
+round_used kind spec seen topology now old new (Ok Waits) ready same not_drained on waits = record {
+  armed = rw same ready.is_processor;
+  counted = ready.counted ∙ sym (waits refl);
+}
+round_used kind spec seen topology now old new (Err e) ready same not_drained on waits = tt
 
 -- The next move
 

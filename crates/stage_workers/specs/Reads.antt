@@ -1,13 +1,14 @@
 -- What a journal has to do with the moves and with the source that it reads.
-use Rattle.std.specs.Prelude.{◌≡◌, Bool, if◌then◌else◌, ℕ, List, [], ◌∷◌, ◌++◌, All, IsTrue, Option, Some, None, Result, Ok, Err}
+use Rattle.std.specs.Prelude.{◌≡◌, ◌⊎◌, Bool, if◌then◌else◌, ℕ, List, [], ◌∷◌, ◌++◌, All, IsTrue, Option, Some, None, Result, Ok, Err}
 use Rattle.pipe_types.specs.declared.step.SourceHow.{SourceHow}
 use Rattle.pipe_types.specs.declared.step.SourceHow.TheVariants as how
 use Rattle.pipe_types.specs.declared.numbers.StageNo.{StageNo}
 use Rattle.pipe_types.specs.declared.step.Step.TheVariants.{Accept}
 use Rattle.pipe_types.specs.declared.topology.Topology.{Topology}
-use Rattle.pipe_types.specs.Numbers.{stage, same_stage}
+use Rattle.pipe_types.specs.Numbers.{stage, post, same_stage}
 use Rattle.pipe_model.specs.History.{History}
 use Rattle.pipe_model.specs.Legal.{fetch_out}
+use Rattle.pipe_model.specs.Posts.{is_out}
 use Rattle.pipe_model.specs.Outside.{fed, source_end}
 use Rattle.pipe_edges.specs.Cut.{CutsAll}
 use Rattle.pipe_edges.specs.declared.lines.LineSource.{LineSource}
@@ -45,12 +46,13 @@ pub record AreFirstHeld {B : Type 0} (told : B → Bool) (taken left : B → Lis
   pub read : IsReadFrom told taken left faults waits opened source (fetch.earlier ++ fetch.records)
   pub all : CutsAll fetch.asked fetch.records (waiting source)
 
--- each step was the next move; what was read of the opened source is what the journal accepted, and then these records;
--- each fetch brought the first lines that were held
+-- each step was the next move; what was read of the opened source is what the journal accepted, and then these records,
+-- which are none unless a fetch is out; each fetch brought the first lines that were held
 pub record Reads {B : Type 0} (told : B → Bool) (taken left : B → List ℕ) (faults waits : B → ℕ) (opened : B) (source : LineSource B) (topology : Topology) (before : History) (lost : List (List ℕ)) : Type 0 where
   pub moves : FollowsMoves topology before
   pub kinds : IsTrue (has_flow_steps before)
   pub read : IsReadFrom told taken left faults waits opened source (fed before (stage 1) ++ lost)
+  pub in_fetch : (lost ≡ []) ⊎ IsTrue (is_out before (post (stage 1) 0))
   pub known : IsKnownEnd (source_end before (stage 1)) (line_end_of source)
   pub first : All (AreFirstHeld told taken left faults waits opened) (brought before (stage 1))
 

@@ -7,6 +7,7 @@ ghost use Rattle.pipe_model.specs.Content.{has_crash};
 ghost use Rattle.pipe_model.specs.Legal.{allows};
 ghost use Rattle.pipe_model.specs.Jobs.{fetch_step, may_take_next};
 ghost use Rattle.pipe_model.specs.Moves.{move as next_move_of, StepMove, Job, is_drained};
+ghost use Rattle.pipe_model.specs.Work.{count as count_by};
 ghost use Rattle.pipe_types.specs.declared.topology.Kind.{Kind};
 ghost use Rattle.pipe_types.specs.declared.topology.StageSpec.{StageSpec};
 ghost use Rattle.core_flow.specs.Next.{IsLegalStep};
@@ -16,6 +17,7 @@ ghost use Rattle.core_flow.specs.Progress.{work_left};
 ghost use Rattle.stage_workers.specs.Ready.{IsReady};
 ghost use Rattle.stage_workers.specs.Steps.{ends_in_fetch};
 ghost use Rattle.stage_workers.specs.Reads.{Reads, ReadsOn, StaysOn};
+ghost use Rattle.stage_workers.specs.Used.{IsUsedBy};
 
 use core_flow::drain::{self, Move};
 use core_flow::{Chunk, Core};
@@ -53,6 +55,7 @@ pub(crate) fn round<B: ByteSource>(
     ensures same { kind callback.new ≡ kind callback.old }
     ensures ready { IfOk result (λ r. r ≢ RoundEnd.Waits
         → IsReady (kind callback.new) (spec callback.new) (count callback.new) core.new.topology core.new.journal.steps) }
+    ensures used { OnOk result (IsUsedBy (spec callback.new) (count callback.new) core.new.topology core.new.journal.steps (number 2)) }
     ensures reads { (opened : B)
         → Reads B.told B.taken B.left B.faults B.waits opened source.old core.old.topology core.old.journal.steps []
         → ReadsOn B.told B.taken B.left B.faults B.waits opened source.new core.new.topology core.new.journal.steps result }
@@ -109,6 +112,8 @@ fn fetch_round<B: ByteSource>(
     ensures not_drained { IfOk result (λ r. r ≢ RoundEnd.Drained) }
     ensures ready { (kind : Kind) (spec : StageSpec) (seen : ℕ) → IsReady kind spec seen core.old.topology core.old.journal.steps
         → IfOk result (λ r. r ≢ RoundEnd.Waits → IsReady kind spec seen core.new.topology core.new.journal.steps) }
+    ensures none_seen { result ≡ Ok RoundEnd.Waits
+        → count_by core.new.topology core.new.journal.steps (number 2) ≡ count_by core.old.topology core.old.journal.steps (number 2) }
     ensures reads { (opened : B)
         → Reads B.told B.taken B.left B.faults B.waits opened source.old core.old.topology core.old.journal.steps []
         → ReadsOn B.told B.taken B.left B.faults B.waits opened source.new core.new.topology core.new.journal.steps result }

@@ -1,6 +1,7 @@
 //! A whole run.
 
-ghost use Rattle.std.specs.Prelude.{◌≡◌, [], Ok, OnErr, IsTrue};
+ghost use Rattle.std.specs.Prelude.{◌≡◌, [], Ok, OnOk, IsTrue};
+ghost use Rattle.pipe_types.specs.Numbers.{stage as number};
 ghost use Rattle.pipe_types.specs.Counts.{Rose};
 ghost use Rattle.pipe_model.specs.Moves.{is_drained};
 ghost use Rattle.pipe_edges.specs.LineSource.{line_source};
@@ -8,6 +9,7 @@ ghost use Rattle.core_flow.specs.Stands.{Stands};
 ghost use Rattle.stage_workers.specs.Ready.{IsReady};
 ghost use Rattle.stage_workers.specs.Steps.{ends_in_fetch};
 ghost use Rattle.stage_workers.specs.Reads.{Reads, ReadsOn};
+ghost use Rattle.stage_workers.specs.Used.{IsUsedBy};
 
 use crate::round::{RoundEnd, round};
 use core_flow::Core;
@@ -35,6 +37,7 @@ pub fn run_here<B: ByteSource>(
     ensures stands { Stands core.new }
     ensures topology { core.new.topology ≡ core.old.topology }
     ensures same { kind callback.new ≡ kind callback.old }
+    ensures used { OnOk result (IsUsedBy (spec callback.new) (count callback.new) core.new.topology core.new.journal.steps (number 2)) }
     ensures reads { (opened : B)
         → Reads B.told B.taken B.left B.faults B.waits opened source.old core.old.topology core.old.journal.steps []
         → ReadsOn B.told B.taken B.left B.faults B.waits opened source.new core.new.topology core.new.journal.steps result }

@@ -1,4 +1,4 @@
-use Rattle.std.proofs.Common.{◌∙◌, sym}
+use Rattle.std.proofs.Common.{◌∙◌, sym, refl}
 use Rattle.pipe_top.proofs.Openings.{case_is, refused_topology}
 use Rattle.pipe_top.proofs.run.run_topology.Goals as goal
 
@@ -15,3 +15,9 @@ pub returns-in-None-clause-comes : goal.returns-in-None-clause-comes
 returns-in-None-clause-comes g c =
     let none = rw c.boxes_in.ensures at (sym c.refusal_of.ensures.refusal ∙ c.in-None.is) in
     rw (case_is _ c.args.workers c.args.shows c.args.topology none) c.run_runnable.ensures.comes
+
+pub returns-in-Some-clause-used : goal.returns-in-Some-clause-used
+returns-in-Some-clause-used g c = rw c.refused.ensures.no_run.0 refl
+
+pub returns-in-None-clause-used : goal.returns-in-None-clause-used
+returns-in-None-clause-used g c = c.run_runnable.ensures.used

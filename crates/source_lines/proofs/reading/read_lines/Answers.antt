@@ -8,7 +8,7 @@ pub returns-clause-read : goal.returns-clause-read
 returns-clause-read g c opened records before =
     let f = c.fetch.ensures in
     read_more g.B.ByteSource.told g.B.ByteSource.taken g.B.ByteSource.left g.B.ByteSource.faults g.B.ByteSource.waits opened c.args.source.now
-    c.fetch.new.self records c.args.max c.fetch.result (line_end_of c.args.source.now) refl
+    c.fetch.new.self records _ c.fetch.result (line_end_of c.args.source.now) refl
     (record {
       handed = f.handed;
       in_order = f.in_order;

@@ -90,3 +90,8 @@ returns-in-Ok-NotYet-clause-reads g c opened r =
     let f = c.in_ok-most.ensures in
     let a = c.in-Ok-NotYet.ensures in
     reads_fetched _ _ _ _ _ opened c.args.source.now c.read_lines.new.source _ _ c.in_ok-most.most [] c.fetch.new.self f.topology f.appended r c.requires.first a.end_stays (rw c.in-Ok-NotYet.field-0-is at (a.read opened _ r.read))
+
+pub returns-in-Ok-NotYet-clause-none_seen : goal.returns-in-Ok-NotYet-clause-none_seen
+returns-in-Ok-NotYet-clause-none_seen g c waits =
+    let f = c.in_ok-most.ensures in
+    rw (f.topology, f.appended) refl

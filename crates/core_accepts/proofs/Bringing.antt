@@ -1,0 +1,92 @@
+-- What is known of an accept that is legal.
+use Rattle.std.proofs.Common.{◌≡◌, ℕ, ◌*◌, ◌≤◌, List, length, true, false, refl, ap, sym, ◌∙◌, Some, None, arith}
+use Rattle.std.specs.Prelude.{◌&&◌, ◌||◌, ◌==◌, nat_le, is_some, slice_get}
+use Rattle.std.proofs.lemmas.Bool.{eqb-true, leb-true}
+use Rattle.std.specs.declared.alloc.Global.{Global}
+use Rattle.std.specs.declared.collections.VecDeque.{VecDeque}
+use Rattle.pipe_types.specs.declared.numbers.StageNo.{StageNo}
+use Rattle.pipe_types.specs.declared.topology.Topology.{Topology}
+use Rattle.pipe_types.specs.declared.topology.StageSpec.{StageSpec}
+use Rattle.pipe_types.specs.declared.topology.Role.{Role}
+use Rattle.pipe_types.specs.declared.topology.Role.TheVariants.{Producer, Processor, Supervisor, Batcher, BatchProcessor}
+use Rattle.pipe_types.specs.declared.topology.Dispatch.{Dispatch as DispatchKind}
+use Rattle.pipe_types.specs.declared.topology.Dispatch.TheVariants.{Demand, Broadcast, Partition}
+use Rattle.pipe_types.specs.declared.step.Step.TheVariants.{Accept}
+use Rattle.pipe_types.specs.Lines.{max_bytes}
+use Rattle.pipe_types.specs.Sound.{IsSound, has_fields_of, by_demand, by_partition, processors, is_size}
+use Rattle.pipe_types.specs.Stages.{spec_of}
+use Rattle.pipe_model.specs.History.{History, accepted, accepted_bytes, bytes_in}
+use Rattle.pipe_model.specs.Legal.{is_legal, allows, has_role, is_producer_role}
+use Rattle.pipe_laws.proofs.Allowed.{accept_role}
+use Rattle.pipe_laws.proofs.Tests.{and_left, and_right, clash}
+use Rattle.queue_laws.proofs.Sounds.{sound_fields}
+use Rattle.stage_laws.proofs.Numbering.{numbered_topology}
+use Rattle.core_tables.specs.Tables.{spare_in, spare_at}
+use Rattle.core_laws.specs.Columns.{is_by_partition}
+use Rattle.core_laws.specs.Laws.{AcceptLaws}
+use Rattle.core_laws.proofs.Accepting.{bytes_few, accept_small}
+use Rattle.core_laws.proofs.Lawful.{lawful}
+use Rattle.core_accepts.specs.Records.{HasParts}
+
+producer_only : (role : Role) → is_producer_role role ≡ true → role ≡ Producer
+producer_only Producer h = refl
+producer_only Processor h = cc
+producer_only Supervisor h = cc
+producer_only Batcher h = cc
+producer_only BatchProcessor h = cc
+
+role_is : (topology : Topology) (s : StageNo) (spec : StageSpec) → spec_of topology s ≡ Some spec → has_role topology s is_producer_role ≡ true → spec.role ≡ Producer
+role_is topology s spec found h =
+    let known : has_role topology s is_producer_role ≡ is_producer_role spec.role = rw found refl in
+    producer_only spec.role (sym known ∙ h)
+
+-- the fields of a producer that dispatches by partition
+by_kind : (n : ℕ) (spec : StageSpec) (kind : DispatchKind) → (by_demand spec kind || (by_partition n spec kind && nat_le spec.field 255)) ≡ true → is_by_partition kind ≡ true → (spec.field ≤ 255) × (1 ≤ spec.parts)
+by_kind n spec Demand h by = cc
+by_kind n spec Broadcast h by = cc
+by_kind n spec Partition h by =
+    let parts = and_left (nat_le 1 n && spec.parts == n) _ h in
+    let some = leb-true 1 n (and_left (nat_le 1 n) _ parts) in
+    let same = eqb-true spec.parts n (and_right (nat_le 1 n) _ parts) in
+    (leb-true spec.field 255 (and_right (nat_le 1 n && spec.parts == n) _ h), omega (arith, some, same))
+
+parts_of : (topology : Topology) (s : StageNo) (spec : StageSpec) → IsSound topology → spec_of topology s ≡ Some spec → spec.role ≡ Producer → HasParts spec
+parts_of topology s spec sound found role =
+    let fields : has_fields_of topology.stages Producer spec ≡ true = ap (λ r. has_fields_of topology.stages r spec) (sym role) ∙ sound_fields topology s spec sound found in
+    let first = and_left ((by_demand spec spec.dispatch || (by_partition (length (processors topology.stages)) spec spec.dispatch && nat_le spec.field 255)) && (is_size spec.size && is_some spec.edge)) _ fields in
+    let kinds = and_left (by_demand spec spec.dispatch || (by_partition (length (processors topology.stages)) spec spec.dispatch && nat_le spec.field 255)) _ first in
+    record {
+      field = λ by. (by_kind (length (processors topology.stages)) spec spec.dispatch kinds by).0;
+      parts = λ by. (by_kind (length (processors topology.stages)) spec spec.dispatch kinds by).1;
+    }
+
+-- an accept that is legal
+pub record Bringing (topology : Topology) (before : History) (s : StageNo) (records : List (List ℕ)) : Type 0 where
+  pub law : AcceptLaws topology before s records
+  pub known : has_role topology s is_producer_role ≡ true
+  pub within : (spec : StageSpec) → spec_of topology s ≡ Some spec → s.0 ≤ length topology.stages
+  pub role : (spec : StageSpec) → spec_of topology s ≡ Some spec → spec.role ≡ Producer
+  pub parts : (spec : StageSpec) → spec_of topology s ≡ Some spec → HasParts spec
+  pub small : bytes_in records ≤ length records * max_bytes
+  pub bytes : accepted_bytes before ≤ accepted before * max_bytes
+
+pub bringing : (topology : Topology) (before : History) (s : StageNo) (records : List (List ℕ)) → IsSound topology → is_legal topology before ≡ true → allows topology before (Accept s records) ≡ true → Bringing topology before s records
+bringing topology before s records sound legal h =
+    let known = accept_role topology before s records h in
+    record {
+      law = lawful.accept topology before s records sound legal h;
+      known = known;
+      within = λ spec found. ((numbered_topology topology sound).within s spec found).1;
+      role = λ spec found. role_is topology s spec found known;
+      parts = λ spec found. parts_of topology s spec sound found (role_is topology s spec found known);
+      small = accept_small topology before s records h;
+      bytes = bytes_few topology before legal;
+    }
+
+-- the producer is a stage of the topology
+pub there : (topology : Topology) (s : StageNo) → has_role topology s is_producer_role ≡ true → None ≡ spec_of topology s → ⊥
+there topology s h none = let wrong : has_role topology s is_producer_role ≡ false = rw (sym none) refl in clash (has_role topology s is_producer_role) h wrong
+
+-- the room of the stage's queue
+pub queue_room : (queues : List (VecDeque (ℕ × ℕ) Global)) (s : StageNo) (q : VecDeque (ℕ × ℕ) Global) → slice_get queues s.0 ≡ Some q → spare_at queues s ≡ spare_in (Some q)
+queue_room queues s q here = ap spare_in here

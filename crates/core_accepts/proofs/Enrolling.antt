@@ -1,0 +1,144 @@
+-- The fields after an accept.
+use Rattle.std.proofs.Common.{◌≡◌, ◌≢◌, ℕ, suc, ◌+◌, ◌<◌, ◌≤◌, List, ◌∷◌, ◌++◌, map, length, replicate, set, Bool, true, false, refl, ap, sym, ◌∙◌, Some, arith, inl, inr}
+use Rattle.std.specs.Prelude.{slice_get, option_map, if◌then◌else◌, ◌==◌, ◌&&◌, ◌⊎◌, not}
+use Rattle.std.specs.declared.alloc.Global.{Global}
+use Rattle.std.specs.declared.vec.Vec.{Vec}
+use Rattle.std.specs.declared.collections.VecDeque.{VecDeque}
+use Rattle.std.proofs.lemmas.Bool.Decides.{nat_tests}
+use Rattle.std.proofs.lemmas.List.{length-set, length-append, length-replicate, map-append}
+use Rattle.pipe_types.specs.declared.numbers.StageNo.{StageNo}
+use Rattle.pipe_types.specs.declared.topology.Topology.{Topology}
+use Rattle.pipe_types.specs.declared.topology.StageSpec.{StageSpec}
+use Rattle.pipe_types.specs.declared.topology.Role.TheVariants.{Producer}
+use Rattle.pipe_types.specs.declared.message.Place.{Place}
+use Rattle.pipe_types.specs.declared.message.Place.TheVariants.{Waiting}
+use Rattle.pipe_types.specs.declared.step.Step.TheVariants.{Accept}
+use Rattle.pipe_types.specs.Numbers.{same_post, post}
+use Rattle.pipe_types.specs.Sound.{IsSound}
+use Rattle.pipe_types.specs.Stages.{spec_of}
+use Rattle.pipe_model.specs.History.{History, accepted, bytes_in}
+use Rattle.pipe_model.specs.Content.{numbers_from, is_among_next}
+use Rattle.pipe_model.specs.Flow.{waiting, accepted_to}
+use Rattle.pipe_model.specs.Legal.{is_legal}
+use Rattle.pipe_journal.specs.Recorded.{Recorded}
+use Rattle.core_tables.specs.declared.rows.PostRow.{PostRow}
+use Rattle.core_tables.specs.declared.rows.ContentRow.{ContentRow}
+use Rattle.core_tables.specs.declared.rows.Totals.{Totals}
+use Rattle.core_tables.specs.Rows.{post_at, home}
+use Rattle.core_tables.specs.Tables.{queue_at, contents_up}
+use Rattle.core_tables.proofs.Tables.{same_or_other, queue-set_same, queue-set_other}
+use Rattle.core_laws.specs.Columns.{post_row, part_of, waiting_parts, open_batches, at_record, mark}
+use Rattle.core_laws.specs.Enrolled.{queued}
+use Rattle.core_laws.specs.Laws.{AcceptLaws}
+use Rattle.core_laws.proofs.Accepting.{parts_old, parts_new, opens_kept, unsettled}
+use Rattle.core_state.specs.declared.state.Core.{Core}
+use Rattle.core_state.specs.Stands.{Fields}
+use Rattle.core_accepts.proofs.Rows.{behind, placed_new, marked_new, contents_new, contents_count}
+
+post_same : (s t slot : ℕ) → slot < 16 → (post_at s 0 == post_at t slot) ≡ (t == s && slot == 0)
+post_same s t slot low = grind (arith, nat_tests)
+
+-- one stage's job came home
+post_home : (posts : List PostRow) (s t : StageNo) (slot : ℕ) (row : PostRow) → slot < 16 → slice_get posts (post_at t.0 slot) ≡ Some row
+    → (if post_at s.0 0 == post_at t.0 slot then option_map home (slice_get posts (post_at t.0 slot)) else slice_get posts (post_at t.0 slot))
+    ≡ Some (record { out = not (same_post (post t slot) (post s 0)) && row.out; from = row.from })
+post_home posts s t slot row low at =
+    ap (λ b. if b then option_map home (slice_get posts (post_at t.0 slot)) else slice_get posts (post_at t.0 slot)) (post_same s.0 t.0 slot low)
+    ∙ (ap (λ o. if t.0 == s.0 && slot == 0 then option_map home o else o) at ∙ by (t.0 == s.0 && slot == 0))
+  where
+    by : (b : Bool) → (if b then option_map home (Some row) else Some row) ≡ Some (record { out = not b && row.out; from = row.from })
+    by true = refl
+    by false = refl
+
+-- the records wait behind what waited in their producer
+pub parts_accepted : (topology : Topology) (before : History) (s : StageNo) (spec : StageSpec) (records : List (List ℕ)) → IsSound topology → is_legal topology before ≡ true → AcceptLaws topology before s records
+    → spec_of topology s ≡ Some spec → spec.role ≡ Producer → waiting_parts topology (Accept s records ∷ before) s ≡ waiting_parts topology before s ++ queued spec (accepted before + 1) records
+parts_accepted topology before s spec records sound legal law found role =
+    let part : ℕ → ℕ × ℕ = λ n. (part_of topology (Accept s records ∷ before) (spec_of topology s) n, n) in
+    ap (map part) law.waiting_here
+    ∙ (map-append part (waiting topology before s) (numbers_from (accepted before + 1) records)
+    ∙ (ap (λ us. map part (waiting topology before s) ++ us) (parts_new topology s spec records before found role)
+    ∙ ap (λ us. us ++ queued spec (accepted before + 1) records) (parts_old topology s records before s sound legal)))
+
+-- so many rows more
+more : {A : Type 0} (xs ys zs : List A) (n m : ℕ) → zs ≡ xs ++ ys → length xs ≡ n → length ys ≡ m → length zs ≡ n + m
+more xs ys zs n m e f g = ap length e ∙ (length-append xs ys ∙ (ap (λ k. k + length ys) f ∙ ap (λ k. n + k) g))
+
+-- the tables with the new rows
+pub record Enrolled (core : Core) (before : History) (s : StageNo) (spec : StageSpec) (records : List (List ℕ)) (new : Core) (q : VecDeque (ℕ × ℕ) Global) : Type 0 where
+  pub queues : new.waiting.items ≡ set core.waiting.items s.0 q
+  pub queue : q.items ≡ queue_at core.waiting.items s ++ queued spec (accepted before + 1) records
+  pub places : new.places.items ≡ core.places.items ++ replicate (length records) (Waiting s)
+  pub settled : new.settled.items ≡ core.settled.items ++ replicate (length records) 0
+  pub producers : new.producers.items ≡ core.producers.items ++ replicate (length records) s
+  pub contents : new.contents.items ≡ core.contents.items ++ contents_up (length before) 0 (length records)
+  pub posts : (i : ℕ) → slice_get new.posts.items i ≡ (if post_at s.0 0 == i then option_map home (slice_get core.posts.items i) else slice_get core.posts.items i)
+  pub post_count : length new.posts.items ≡ length core.posts.items
+  pub totals : new.totals ≡ record core.totals { accepted = core.totals.accepted + length records; bytes = core.totals.bytes + bytes_in records; quiet = 0 }
+
+pub enrolled_fields : (core : Core) (topology : Topology) (before : History) (s : StageNo) (spec : StageSpec) (records : List (List ℕ)) (j : Recorded)
+    (queues : Vec (VecDeque (ℕ × ℕ) Global) Global) (places : Vec Place Global) (settled : Vec ℕ Global) (producers : Vec StageNo Global) (contents : Vec ContentRow Global)
+    (posts : Vec PostRow Global) (totals : Totals) (q : VecDeque (ℕ × ℕ) Global)
+    → Fields core topology before → IsSound topology → is_legal topology before ≡ true → AcceptLaws topology before s records → s.0 ≤ length topology.stages
+    → spec_of topology s ≡ Some spec → spec.role ≡ Producer
+    → Enrolled core before s spec records (record core { journal = j; posts = posts; waiting = queues; places = places; settled = settled; producers = producers; contents = contents; totals = totals }) q
+    → Fields (record core { journal = j; posts = posts; waiting = queues; places = places; settled = settled; producers = producers; contents = contents; totals = totals }) topology (Accept s records ∷ before)
+enrolled_fields core topology before s spec records j queues places settled producers contents posts totals q x sound legal law within found role e =
+    record {
+      sized =
+          record {
+            few = x.sized.few;
+            stages = x.sized.stages;
+            posts = e.post_count ∙ x.sized.posts;
+            waiting = ap length e.queues ∙ (length-set core.waiting.items s.0 q ∙ x.sized.waiting);
+            inboxes = x.sized.inboxes;
+            chunks = x.sized.chunks;
+            batchers = x.sized.batchers;
+            children = x.sized.children;
+            places = more core.places.items (replicate (length records) (Waiting s)) places.items (accepted before) (length records) e.places x.sized.places (length-replicate (length records) (Waiting s));
+            settled = more core.settled.items (replicate (length records) 0) settled.items (accepted before) (length records) e.settled x.sized.settled (length-replicate (length records) 0);
+            producers = more core.producers.items (replicate (length records) s) producers.items (accepted before) (length records) e.producers x.sized.producers (length-replicate (length records) s);
+            contents = more core.contents.items (contents_up (length before) 0 (length records)) contents.items (accepted before) (length records) e.contents x.sized.contents (contents_count (length before) 0 (length records));
+            batches = x.sized.batches;
+          };
+      set = record { batchers = x.set.batchers; children = x.set.children; restarts = x.set.restarts };
+      stages = x.stages;
+      posts = λ t slot below low. e.posts (post_at t.0 slot) ∙ post_home core.posts.items s t slot (post_row before t slot) low (x.posts t slot below low);
+      subs = x.subs;
+      waiting = λ t. waits t (same_or_other s.0 t.0);
+      inboxes = λ t. x.inboxes t ∙ sym (law.inbox t);
+      chunks = λ t. x.chunks t ∙ sym (law.running t);
+      opens = λ t. x.opens t ∙ (sym (opens_kept topology s records before t) ∙ sym (ap (open_batches (Accept s records ∷ before)) (law.gathered t)));
+      children = x.children;
+      places = λ i. ap (λ ps. slice_get ps i) e.places ∙ (placed_new core.places.items (length records) (Waiting s) i
+          ∙ (ap (λ n. accepted_to n (length records) (Waiting s) (suc i) (slice_get core.places.items i)) x.sized.places ∙ ap (accepted_to (accepted before) (length records) (Waiting s) (suc i)) (x.places i)));
+      settled = λ i below. ap (λ ms. slice_get ms i) e.settled
+          ∙ marked_new core.settled.items (length records) (mark topology before (suc i)) i (omega (arith, below, x.sized.settled))
+          (λ low. x.settled i (omega (arith, low, x.sized.settled))) (λ far. unsettled topology before (suc i) (omega (arith, far, x.sized.settled)));
+      producers = λ i. ap (λ ps. slice_get ps i) e.producers ∙ (behind core.producers.items (length records) s i
+          ∙ (ap (λ n. if is_among_next n (length records) (suc i) then Some s else slice_get core.producers.items i) x.sized.producers
+          ∙ ap (λ o. if is_among_next (accepted before) (length records) (suc i) then Some s else o) (x.producers i)));
+      contents = λ i. ap (λ cs. slice_get cs i) e.contents ∙ (contents_new core.contents.items (length before) (length records) i
+          ∙ (ap (λ n. at_record (length before) n (length records) (suc i) (slice_get core.contents.items i)) x.sized.contents
+          ∙ ap (at_record (length before) (accepted before) (length records) (suc i)) (x.contents i)));
+      batches = x.batches;
+      sent_on = x.sent_on;
+      legs = x.legs;
+      restarts = x.restarts;
+      totals = e.totals ∙ ap (λ (y : Totals). record y { accepted = y.accepted + length records; bytes = y.bytes + bytes_in records; quiet = 0 }) x.totals;
+    }
+  where
+    waits : (t : StageNo) → (((s.0 == t.0) ≡ true) × (s.0 ≡ t.0)) ⊎ (((s.0 == t.0) ≡ false) × (s.0 ≢ t.0)) → queue_at queues.items t ≡ waiting_parts topology (Accept s records ∷ before) t
+    waits t (inl same) =
+        let one : s ≡ t = ap (λ n. record { 0 = n }) same.1 in
+        ap (λ qs. queue_at qs t) e.queues
+        ∙ (queue-set_same core.waiting.items s.0 q t (omega (arith, x.sized.waiting)) (sym same.1)
+        ∙ (e.queue
+        ∙ (ap (λ us. us ++ queued spec (accepted before + 1) records) (x.waiting s)
+        ∙ (sym (parts_accepted topology before s spec records sound legal law found role) ∙ ap (waiting_parts topology (Accept s records ∷ before)) one))))
+    waits t (inr other) =
+        ap (λ qs. queue_at qs t) e.queues
+        ∙ (queue-set_other core.waiting.items s.0 q t (λ p. other.1 (sym p))
+        ∙ (x.waiting t
+        ∙ (sym (parts_old topology s records before t sound legal)
+        ∙ sym (ap (map (λ n. (part_of topology (Accept s records ∷ before) (spec_of topology t) n, n))) (law.waiting_else t other.0)))))

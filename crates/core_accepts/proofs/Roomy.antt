@@ -1,0 +1,89 @@
+-- Where tables have more room, the core stands as it did.
+use Rattle.std.proofs.Common.{◌≡◌, ◌≢◌, ℕ, ◌<◌, List, length, set, true, false, ap, sym, ◌∙◌, subst, Some, inl, inr}
+use Rattle.std.specs.Prelude.{slice_get, ◌==◌, ◌⊎◌}
+use Rattle.std.specs.declared.alloc.Global.{Global}
+use Rattle.std.specs.declared.vec.Vec.{Vec}
+use Rattle.std.specs.declared.collections.VecDeque.{VecDeque}
+use Rattle.pipe_types.specs.declared.numbers.StageNo.{StageNo}
+use Rattle.pipe_types.specs.declared.topology.Topology.{Topology}
+use Rattle.pipe_types.specs.declared.message.Place.{Place}
+use Rattle.pipe_model.specs.History.{History}
+use Rattle.pipe_model.specs.Legal.{is_legal, owed}
+use Rattle.pipe_journal.specs.Recorded.{Recorded}
+use Rattle.core_tables.specs.declared.rows.ContentRow.{ContentRow}
+use Rattle.core_tables.specs.Tables.{items_in, queue_at}
+use Rattle.core_tables.proofs.Tables.{same_or_other, queue-set_same, queue-set_other}
+use Rattle.core_state.specs.declared.state.Core.{Core}
+use Rattle.core_state.specs.Stands.{Fields, Stands}
+
+-- tables with the same rows
+pub record SameRows (core : Core) (p : Vec Place Global) (m : Vec ℕ Global) (r : Vec StageNo Global) (c : Vec ContentRow Global) (w : Vec (VecDeque (ℕ × ℕ) Global) Global) : Type 0 where
+  pub places : p.items ≡ core.places.items
+  pub settled : m.items ≡ core.settled.items
+  pub producers : r.items ≡ core.producers.items
+  pub contents : c.items ≡ core.contents.items
+  pub queues : (s : StageNo) → queue_at w.items s ≡ queue_at core.waiting.items s
+  pub queue_count : length w.items ≡ length core.waiting.items
+
+same_fields : (core : Core) (topology : Topology) (before : History) (p : Vec Place Global) (m : Vec ℕ Global) (r : Vec StageNo Global) (c : Vec ContentRow Global) (w : Vec (VecDeque (ℕ × ℕ) Global) Global) (j : Recorded)
+    → Fields core topology before → SameRows core p m r c w → Fields (record core { journal = j; places = p; settled = m; producers = r; contents = c; waiting = w }) topology before
+same_fields core topology before p m r c w j x same =
+    record {
+      sized =
+          record {
+            few = x.sized.few;
+            stages = x.sized.stages;
+            posts = x.sized.posts;
+            waiting = same.queue_count ∙ x.sized.waiting;
+            inboxes = x.sized.inboxes;
+            chunks = x.sized.chunks;
+            batchers = x.sized.batchers;
+            children = x.sized.children;
+            places = ap length same.places ∙ x.sized.places;
+            settled = ap length same.settled ∙ x.sized.settled;
+            producers = ap length same.producers ∙ x.sized.producers;
+            contents = ap length same.contents ∙ x.sized.contents;
+            batches = x.sized.batches;
+          };
+      set = record { batchers = x.set.batchers; children = x.set.children; restarts = x.set.restarts };
+      stages = x.stages;
+      posts = x.posts;
+      subs = x.subs;
+      waiting = λ s. same.queues s ∙ x.waiting s;
+      inboxes = x.inboxes;
+      chunks = x.chunks;
+      opens = x.opens;
+      children = x.children;
+      places = λ i. ap (λ xs. slice_get xs i) same.places ∙ x.places i;
+      settled = λ i below. ap (λ xs. slice_get xs i) same.settled ∙ x.settled i below;
+      producers = λ i. ap (λ xs. slice_get xs i) same.producers ∙ x.producers i;
+      contents = λ i. ap (λ xs. slice_get xs i) same.contents ∙ x.contents i;
+      batches = x.batches;
+      sent_on = x.sent_on;
+      legs = x.legs;
+      restarts = x.restarts;
+      totals = x.totals;
+    }
+
+pub roomy : (core : Core) (p : Vec Place Global) (m : Vec ℕ Global) (r : Vec StageNo Global) (c : Vec ContentRow Global) (w : Vec (VecDeque (ℕ × ℕ) Global) Global) (j : Recorded)
+    → Stands core → SameRows core p m r c w → j.steps ≡ core.journal.steps → Stands (record core { journal = j; places = p; settled = m; producers = r; contents = c; waiting = w })
+roomy core p m r c w j x same steps =
+    record {
+      holds =
+          record {
+            sound = x.holds.sound;
+            legal = ap (is_legal core.topology) steps ∙ x.holds.legal;
+            fields = subst (λ (h : History). Fields (record core { journal = j; places = p; settled = m; producers = r; contents = c; waiting = w }) core.topology h) (sym steps)
+                (same_fields core core.topology core.journal.steps p m r c w j x.holds.fields same);
+          };
+      unowed = ap (owed core.topology) steps ∙ x.unowed;
+    }
+
+-- a queue with more room
+pub same_queue : (queues : List (VecDeque (ℕ × ℕ) Global)) (s : StageNo) (q r : VecDeque (ℕ × ℕ) Global) → s.0 < length queues → slice_get queues s.0 ≡ Some q → r.items ≡ q.items
+    → (t : StageNo) → queue_at (set queues s.0 r) t ≡ queue_at queues t
+same_queue queues s q r within was same t = by (same_or_other s.0 t.0)
+  where
+    by : (((s.0 == t.0) ≡ true) × (s.0 ≡ t.0)) ⊎ (((s.0 == t.0) ≡ false) × (s.0 ≢ t.0)) → queue_at (set queues s.0 r) t ≡ queue_at queues t
+    by (inl here) = queue-set_same queues s.0 r t within (sym here.1) ∙ (same ∙ (sym (ap items_in was) ∙ ap (λ n. items_in (slice_get queues n)) here.1))
+    by (inr other) = queue-set_other queues s.0 r t (λ e. other.1 (sym e))

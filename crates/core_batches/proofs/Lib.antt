@@ -1,0 +1,11 @@
+pub mod Opens
+pub mod Passing
+mod Limits
+mod Gathering
+mod Joining
+pub mod Removing
+pub mod Closing
+mod Outcomes
+mod Writing
+mod Settling
+mod Written

@@ -1,0 +1,267 @@
+-- The fields after the start of a child.
+use Rattle.std.proofs.Common.{◌≡◌, ℕ, suc, ◌<◌, ◌≤◌, [], ◌∷◌, ◌++◌, length, map, Bool, true, false, refl, ap, sym, ◌∙◌, Some, arith, subst}
+use Rattle.std.specs.Prelude.{slice_get, if◌then◌else◌, ◌==◌, ◌&&◌, ◌||◌, not, drop}
+use Rattle.std.specs.declared.alloc.Global.{Global}
+use Rattle.std.specs.declared.vec.Vec.{Vec}
+use Rattle.std.specs.declared.collections.VecDeque.{VecDeque}
+use Rattle.std.proofs.lemmas.Bool.Decides.{nat_tests}
+use Rattle.std.proofs.lemmas.Bool.{eqb-true, false_from_ne_true}
+use Rattle.pipe_types.specs.declared.numbers.StageNo.{StageNo}
+use Rattle.pipe_types.specs.declared.numbers.MsgNo.{MsgNo}
+use Rattle.pipe_types.specs.declared.numbers.SubNo.{SubNo}
+use Rattle.pipe_types.specs.declared.topology.Topology.{Topology}
+use Rattle.pipe_types.specs.declared.topology.StageSpec.{StageSpec}
+use Rattle.pipe_types.specs.declared.message.Place.{Place}
+use Rattle.pipe_types.specs.declared.message.Place.TheVariants.{Running, Inbox}
+use Rattle.pipe_types.specs.declared.step.Step.TheVariants.{Child}
+use Rattle.pipe_types.specs.Numbers.{same_stage, same_post, post}
+use Rattle.pipe_types.specs.Stages.{spec_of}
+use Rattle.pipe_types.specs.Sound.{IsSound}
+use Rattle.pipe_laws.proofs.Tests.{and_left, and_right, both, same_stage-true, same_stage-self}
+use Rattle.pipe_laws.proofs.Lists.{Each, each_weaker, each_filter}
+use Rattle.pipe_laws.proofs.Entries.{EntryFits, entries_fit}
+use Rattle.pipe_laws.proofs.Busy.{inbox_here}
+use Rattle.pipe_laws.proofs.Idle.{fed_by_messages}
+use Rattle.pipe_laws.proofs.Kept.{runs_here}
+use Rattle.pipe_laws.proofs.Slots.{supervisor_writes, number_is}
+use Rattle.pipe_laws.proofs.Allowed.{legal_before, legal_step, ChildFacts, child_facts}
+use Rattle.pipe_model.specs.History.{History, incarnation}
+use Rattle.pipe_model.specs.Posts.{is_out, out_from, in_slot, crashes}
+use Rattle.pipe_model.specs.Flow.{place, batch, inbox, waiting, sent_to, is_batcher, in_inbox_by, leg_waits_in}
+use Rattle.pipe_model.specs.Standing.{gathered_in, in_inbox}
+use Rattle.pipe_model.specs.Legal.{is_legal, allows, has_role, is_supervisor_role, first_unit, runs_number}
+use Rattle.queue_laws.specs.Queues.{without_number}
+use Rattle.queue_laws.proofs.Sounds.{fits}
+use Rattle.queue_laws.proofs.Fits.{Fits}
+use Rattle.queue_laws.proofs.Filters.{filter_all}
+use Rattle.queue_laws.proofs.Apart.{apart_kept}
+use Rattle.queue_laws.proofs.Distinct.{distinct, unit_of}
+use Rattle.queue_laws.proofs.Inboxes.{without_head}
+use Rattle.queue_laws.proofs.Laws.{waiting_law, inbox_law, gathered_law}
+use Rattle.queue_laws.proofs.Members.{stands_in_queue}
+use Rattle.stage_laws.proofs.Supervised.{child_elsewhere, child_runs, runs_started, runs_started_else}
+use Rattle.stage_laws.proofs.Numbering.{numbered_topology}
+use Rattle.pipe_journal.specs.Recorded.{Recorded}
+use Rattle.consumer_sup.specs.Children.{Slots}
+use Rattle.core_tables.specs.declared.rows.Totals.{Totals}
+use Rattle.core_tables.specs.declared.rows.PostRow.{PostRow}
+use Rattle.core_tables.specs.Rows.{post_at}
+use Rattle.core_tables.specs.Tables.{queue_at, list_at}
+use Rattle.core_laws.specs.Columns.{running, post_row, part_of, open_batches, child_row}
+use Rattle.core_laws.specs.Slots.{child_if, child_of}
+use Rattle.core_laws.proofs.Children.{child_is}
+use Rattle.core_laws.proofs.Lawful.{legal_after}
+use Rattle.core_laws.proofs.Past.{known_within, live_known, out_post}
+use Rattle.core_state.specs.declared.state.Core.{Core}
+use Rattle.core_state.specs.Stands.{Fields, Holds, child_at}
+use Rattle.core_takes.specs.Takes.{out_of}
+
+-- what the passes of a child's start leave
+pub record Started (core : Core) (topology : Topology) (before : History) (s : StageNo) (m : MsgNo) (slot : ℕ)
+    (posts : Vec PostRow Global) (inboxes : Vec (VecDeque (SubNo × ℕ) Global) Global) (chunks : Vec (Vec ℕ Global) Global) (children : Vec Slots Global) (places : Vec Place Global) : Type 0 where
+  pub within : s.0 ≤ length topology.stages
+  pub low : slot < 16
+  pub waits : (t : StageNo) → waiting topology (Child s m slot ∷ before) t ≡ waiting topology before t
+  pub gathers : (t : StageNo) → gathered_in topology (Child s m slot ∷ before) t ≡ gathered_in topology before t
+  pub posts-is : (i : ℕ) → slice_get posts.items i ≡ (if post_at s.0 slot == i then out_of (slice_get core.stages.items s.0) else slice_get core.posts.items i)
+  pub posts-len : length posts.items ≡ length core.posts.items
+  pub boxes : (t : StageNo) → queue_at inboxes.items t ≡ inbox topology (Child s m slot ∷ before) t
+  pub boxes-len : length inboxes.items ≡ length core.inboxes.items
+  pub runs : (t : StageNo) → list_at chunks.items t ≡ running topology (Child s m slot ∷ before) t
+  pub runs-len : length chunks.items ≡ length core.chunks.items
+  pub slots : (t : StageNo) (k : ℕ) → child_at children.items t k ≡ child_row topology (Child s m slot ∷ before) t k
+  pub slots-len : length children.items ≡ length core.children.items
+  pub slots-set : (t : StageNo) (spec : StageSpec) (held : Slots) → spec_of topology t ≡ Some spec → has_role topology t is_supervisor_role ≡ true
+      → slice_get children.items t.0 ≡ Some held → (held.mode ≡ spec.child) × (length held.slots ≡ spec.max)
+  pub placed : (i : ℕ) → slice_get places.items i ≡ place topology (Child s m slot ∷ before) (suc i)
+  pub placed-len : length places.items ≡ length core.places.items
+
+-- which row of the posts it is
+post_same : (s t slot k : ℕ) → k < 16 → slot < 16 → (post_at s slot == post_at t k) ≡ (t == s && k == slot)
+post_same s t slot k low high = grind (arith, nat_tests)
+
+pub started_fields : (core : Core) (topology : Topology) (before : History) (s : StageNo) (m : MsgNo) (slot : ℕ) (j : Recorded)
+    (posts : Vec PostRow Global) (inboxes : Vec (VecDeque (SubNo × ℕ) Global) Global) (chunks : Vec (Vec ℕ Global) Global) (children : Vec Slots Global) (places : Vec Place Global)
+    → Fields core topology before → Started core topology before s m slot posts inboxes chunks children places
+    → Fields (record core { journal = j; posts = posts; inboxes = inboxes; chunks = chunks; children = children; places = places; totals = record core.totals { quiet = 0 } }) topology (Child s m slot ∷ before)
+started_fields core topology before s m slot j posts inboxes chunks children places x new =
+    record {
+      sized =
+          record {
+            few = x.sized.few;
+            stages = x.sized.stages;
+            posts = new.posts-len ∙ x.sized.posts;
+            waiting = x.sized.waiting;
+            inboxes = new.boxes-len ∙ x.sized.inboxes;
+            chunks = new.runs-len ∙ x.sized.chunks;
+            batchers = x.sized.batchers;
+            children = new.slots-len ∙ x.sized.children;
+            places = new.placed-len ∙ x.sized.places;
+            settled = x.sized.settled;
+            producers = x.sized.producers;
+            contents = x.sized.contents;
+            batches = x.sized.batches;
+          };
+      set = record { batchers = x.set.batchers; children = new.slots-set; restarts = x.set.restarts };
+      stages = x.stages;
+      posts = λ t k within low. new.posts-is (post_at t.0 k)
+          ∙ (ap (λ b. if b then out_of (slice_get core.stages.items s.0) else slice_get core.posts.items (post_at t.0 k)) (post_same s.0 t.0 slot k low new.low)
+          ∙ out (same_post (post t k) (post s slot)) t k refl (x.posts t k within low));
+      subs = x.subs;
+      waiting = λ t. x.waiting t ∙ ap (map (λ n. (part_of topology before (spec_of topology t) n, n))) (sym (new.waits t));
+      inboxes = new.boxes;
+      chunks = new.runs;
+      opens = λ t. x.opens t ∙ ap (open_batches before) (sym (new.gathers t));
+      children = new.slots;
+      places = new.placed;
+      settled = x.settled;
+      producers = x.producers;
+      contents = x.contents;
+      batches = x.batches;
+      sent_on = x.sent_on;
+      legs = x.legs;
+      restarts = x.restarts;
+      totals = ap (λ (y : Totals). record y { quiet = 0 }) x.totals;
+    }
+  where
+    out : (b : Bool) (t : StageNo) (k : ℕ) → same_post (post t k) (post s slot) ≡ b → slice_get core.posts.items (post_at t.0 k) ≡ Some (post_row before t k)
+        → (if b then out_of (slice_get core.stages.items s.0) else slice_get core.posts.items (post_at t.0 k)) ≡ Some (post_row (Child s m slot ∷ before) t k)
+    out true t k e at =
+        let same : t ≡ s = same_stage-true t s (and_left (same_stage t s) _ e) in
+        ap out_of (x.stages s new.within)
+        ∙ (ap (λ v. Some (record { out = true; from = incarnation before v })) (sym same)
+        ∙ ap (λ b. Some (record { out = b || is_out before (post t k); from = if b then incarnation before t else out_from before (post t k) })) (sym e))
+    out false t k e at = at ∙ ap (λ b. Some (record { out = b || is_out before (post t k); from = if b then incarnation before t else out_from before (post t k) })) (sym e)
+
+-- ---- the inbox
+
+-- a message stands in the supervisor's inbox by its place
+inbox_places : (topology : Topology) (before : History) (s : StageNo) → has_role topology s is_supervisor_role ≡ true → Each (λ d. place topology before d.1 ≡ Some (Inbox d.0)) (inbox topology before s)
+inbox_places topology before s role =
+    each_weaker (λ d. EntryFits topology before s d × (in_inbox topology before d ≡ true)) (λ d. place topology before d.1 ≡ Some (Inbox d.0)) here (inbox topology before s)
+    (each_filter (EntryFits topology before s) (in_inbox topology before) (sent_to topology before s) (entries_fit topology before s))
+  where
+    here : (d : SubNo × ℕ) → EntryFits topology before s d × (in_inbox topology before d ≡ true) → place topology before d.1 ≡ Some (Inbox d.0)
+    here d p =
+        let plain : is_batcher (spec_of topology d.0.producer) ≡ false = fed_by_messages topology d.0.producer s is_supervisor_role supervisor_writes p.0.feeding role in
+        inbox_here d.0 (place topology before d.1)
+        (subst (λ b. (if b then leg_waits_in d.0 (batch topology before d.1) else in_inbox_by d.0 (place topology before d.1)) ≡ true) plain p.1)
+
+-- the supervisor's child takes the first unit, or none
+pub child_takes : (topology : Topology) (before : History) (s : StageNo) (m : MsgNo) (slot : ℕ) → Fits topology → is_legal topology (Child s m slot ∷ before) ≡ true
+    → without_number m.0 (inbox topology before s) ≡ (if runs_number topology before s (in_slot before s slot) then inbox topology before s else drop 1 (inbox topology before s))
+child_takes topology before s m slot fit h = either (runs_number topology before s (in_slot before s slot)) refl
+  where
+    facts : ChildFacts topology before s m.0 slot
+    facts = child_facts topology before s m slot (legal_step topology before (Child s m slot) h)
+
+    stands : place topology before m.0 ≡ Some (Running s) → (d : SubNo × ℕ) → place topology before d.1 ≡ Some (Inbox d.0) → not (m.0 == d.1) ≡ true
+    stands ran d e =
+        ap not (false_from_ne_true (m.0 == d.1) (λ same. let both_at : Some (Running s) ≡ Some (Inbox d.0) = sym ran ∙ (ap (place topology before) (eqb-true m.0 d.1 same) ∙ e) in cc))
+
+    either : (b : Bool) → runs_number topology before s (in_slot before s slot) ≡ b → without_number m.0 (inbox topology before s) ≡ (if b then inbox topology before s else drop 1 (inbox topology before s))
+    either true e =
+        let own : in_slot before s slot ≡ Some m.0 = number_is (in_slot before s slot) m.0 (facts.again e) in
+        let ran : place topology before m.0 ≡ Some (Running s) = runs_here s (place topology before m.0) (ap (runs_number topology before s) (sym own) ∙ e) in
+        filter_all (λ d. not (m.0 == d.1)) (inbox topology before s)
+        (each_weaker (λ d. place topology before d.1 ≡ Some (Inbox d.0)) (λ d. not (m.0 == d.1) ≡ true) (stands ran) (inbox topology before s) (inbox_places topology before s facts.role))
+    either false e =
+        without_head m.0 (inbox topology before s)
+        (apart_kept unit_of (in_inbox topology before) (sent_to topology before s) ((distinct topology before fit.ascend (legal_before topology before (Child s m slot) h)).sent s))
+        (λ d ys is. (facts.new e).1 ∙ ap first_unit is)
+
+-- ---- a message runs again
+
+-- what is known where the slot's message runs again
+pub record Again (topology : Topology) (before : History) (s : StageNo) (m : MsgNo) (slot : ℕ) : Type 0 where
+  pub within : s.0 ≤ length topology.stages
+  pub low : slot < 16
+  pub waits : (t : StageNo) → waiting topology (Child s m slot ∷ before) t ≡ waiting topology before t
+  pub gathers : (t : StageNo) → gathered_in topology (Child s m slot ∷ before) t ≡ gathered_in topology before t
+  pub boxes : (t : StageNo) → inbox topology (Child s m slot ∷ before) t ≡ inbox topology before t
+  pub runs : (t : StageNo) → running topology (Child s m slot ∷ before) t ≡ running topology before t
+  pub slots : (t : StageNo) (k : ℕ) → child_row topology (Child s m slot ∷ before) t k ≡ child_row topology before t k
+  pub placed : (n : ℕ) → place topology (Child s m slot ∷ before) n ≡ place topology before n
+
+pub again : (topology : Topology) (before : History) (s : StageNo) (m : MsgNo) (slot : ℕ) → IsSound topology → is_legal topology before ≡ true
+    → allows topology before (Child s m slot) ≡ true → runs_number topology before s (in_slot before s slot) ≡ true → Again topology before s m slot
+again topology before s m slot sound legal allowed re =
+    record {
+      within = (known_within topology s (numbered_topology topology sound) (live_known topology before s facts.live)).1;
+      low = (out_post topology (Child s m slot ∷ before) s slot sound after puts).low;
+      waits = λ t. waiting_law topology before (Child s m slot) t sound after;
+      gathers = λ t. gathered_law topology before (Child s m slot) t after;
+      boxes = λ t. inbox_law topology before (Child s m slot) t sound after ∙ box (same_stage t s) t refl;
+      runs = λ t. run (same_stage t s) t refl;
+      slots = λ t k. row (same_stage t s && slot == k) t k refl;
+      placed = λ n. at (m.0 == n) n refl;
+    }
+  where
+    facts : ChildFacts topology before s m.0 slot
+    facts = child_facts topology before s m slot allowed
+
+    after : is_legal topology (Child s m slot ∷ before) ≡ true
+    after = legal_after topology before (Child s m slot) legal allowed
+
+    own : in_slot before s slot ≡ Some m.0
+    own = number_is (in_slot before s slot) m.0 (facts.again re)
+
+    ran : place topology before m.0 ≡ Some (Running s)
+    ran = runs_here s (place topology before m.0) (ap (runs_number topology before s) (sym own) ∙ re)
+
+    puts : is_out (Child s m slot ∷ before) (post s slot) ≡ true
+    puts = ap (λ b. b || (not false && is_out before (post s slot))) (both (same_stage s s) (slot == slot) (same_stage-self s) (grind (arith, nat_tests)))
+
+    box : (b : Bool) (t : StageNo) → same_stage t s ≡ b → (if b then without_number m.0 (inbox topology before t) else inbox topology before t) ≡ inbox topology before t
+    box false t e = refl
+    box true t e =
+        subst (λ v. without_number m.0 (inbox topology before v) ≡ inbox topology before v) (sym (same_stage-true t s e))
+        (child_takes topology before s m slot (fits topology sound) after ∙ ap (λ b. if b then inbox topology before s else drop 1 (inbox topology before s)) re)
+
+    run : (b : Bool) (t : StageNo) → same_stage t s ≡ b → running topology (Child s m slot ∷ before) t ≡ running topology before t
+    run false t e = runs_started_else topology before s t m slot e
+    run true t e =
+        subst (λ v. running topology (Child s m slot ∷ before) v ≡ running topology before v) (sym (same_stage-true t s e))
+        (runs_started topology before s m slot (fits topology sound) after
+        ∙ ap (λ b. if not b then running topology before s ++ m.0 ∷ [] else running topology before s) ((stands_in_queue topology before m.0 (fits topology sound) legal).runs s ran))
+
+    row : (b : Bool) (t : StageNo) (k : ℕ) → (same_stage t s && slot == k) ≡ b
+        → (if b then Some (record { no = m; crashes = crashes before m.0 }) else child_row topology before t k) ≡ child_row topology before t k
+    row false t k e = refl
+    row true t k e =
+        let here : t ≡ s = same_stage-true t s (and_left (same_stage t s) _ e) in
+        let on : k ≡ slot = sym (eqb-true slot k (and_right (same_stage t s) _ e)) in
+        sym (ap (λ v. child_row topology before v k) here
+        ∙ (ap (child_row topology before s) on
+        ∙ (child_is topology before s slot legal
+        ∙ (ap (child_of topology before s) own
+        ∙ ap (λ b. child_if b m.0 (crashes before m.0)) (ap (runs_number topology before s) (sym own) ∙ re)))))
+
+    at : (b : Bool) (n : ℕ) → (m.0 == n) ≡ b → place topology (Child s m slot ∷ before) n ≡ place topology before n
+    at false n e = child_elsewhere topology before s m slot n e
+    at true n e =
+        let same : m.0 ≡ n = eqb-true m.0 n e in
+        subst (λ i. place topology (Child s m slot ∷ before) i ≡ place topology before i) same (child_runs topology before s m slot after ∙ sym ran)
+
+pub again_started : (core : Core) (s : StageNo) (m : MsgNo) (slot : ℕ) (posts : Vec PostRow Global) → Holds core
+    → Again core.topology core.journal.steps s m slot
+    → ((i : ℕ) → slice_get posts.items i ≡ (if post_at s.0 slot == i then out_of (slice_get core.stages.items s.0) else slice_get core.posts.items i)) → length posts.items ≡ length core.posts.items
+    → Started core core.topology core.journal.steps s m slot posts core.inboxes core.chunks core.children core.places
+again_started core s m slot posts x known out len =
+    record {
+      within = known.within;
+      low = known.low;
+      waits = known.waits;
+      gathers = known.gathers;
+      posts-is = out;
+      posts-len = len;
+      boxes = λ t. x.fields.inboxes t ∙ sym (known.boxes t);
+      boxes-len = refl;
+      runs = λ t. x.fields.chunks t ∙ sym (known.runs t);
+      runs-len = refl;
+      slots = λ t k. x.fields.children t k ∙ sym (known.slots t k);
+      slots-len = refl;
+      slots-set = x.fields.set.children;
+      placed = λ i. x.fields.places i ∙ sym (known.placed (suc i));
+      placed-len = refl;
+    }

@@ -1,0 +1,69 @@
+//! The commits of a child's start.
+
+ghost use Rattle.std.specs.Prelude.{◌≡◌, ◌∷◌, ◌≤◌, ◌<◌, ℕ, ◌==◌, if◌then◌else◌, slice_get, length, None, IsTrue};
+ghost use Rattle.pipe_model.specs.Posts.{in_slot};
+ghost use Rattle.pipe_model.specs.Flow.{inbox};
+ghost use Rattle.pipe_model.specs.Legal.{allows, runs_number};
+ghost use Rattle.consumer_sup.specs.Children.{alive};
+ghost use Rattle.core_tables.specs.Rows.{post_at};
+ghost use Rattle.core_tables.specs.Tables.{room_at};
+ghost use Rattle.core_state.specs.Stands.{Holds, child_at};
+ghost use Rattle.core_takes.specs.Takes.{out_of, sub_first};
+ghost use Rattle.core_children.specs.Slots.{slots_at};
+
+use crate::slots::start_in;
+use core_state::Core;
+use core_tables::chunks::start_chunk;
+use core_tables::places::run_all;
+use core_tables::posts::put_out;
+use core_tables::rows::{PostRow, StageRow};
+use pipe_types::numbers::{MsgNo, StageNo, SubNo};
+use pipe_types::step::Step;
+
+/// Appends that the slot's message runs again.
+pub fn start_again(core: &mut Core, stage: StageNo, slot: u16, no: MsgNo)
+    requires holds { Holds core.old }
+    requires legal { IsTrue (allows core.old.topology core.old.journal.steps (Step.Child stage no slot)) }
+    requires again { IsTrue (runs_number core.old.topology core.old.journal.steps stage (in_slot core.old.journal.steps stage slot)) }
+    requires spare { 1 ≤ core.old.journal.spare }
+    ensures appended { core.new.journal.steps ≡ Step.Child stage no slot ∷ core.old.journal.steps }
+    ensures topology { core.new.topology ≡ core.old.topology }
+    ensures holds { Holds core.new }
+{
+    put_child_out(&mut core.posts, &core.stages, stage, slot);
+    core.totals.quiet = 0;
+    core.journal.push_spare(Step::Child { stage, no, slot });
+}
+
+/// Notes that the job of the slot's child is out, from the stage's incarnation.
+fn put_child_out(posts: &mut Vec<PostRow>, rows: &[StageRow], stage: StageNo, slot: u16)
+    requires row { stage.0 < length rows.now }
+    requires post { post_at stage.0 slot < length posts.old.items }
+    ensures posts { (i : ℕ) → slice_get posts.new.items i ≡ (if post_at stage.0 slot == i then out_of (slice_get rows.now stage.0) else slice_get posts.old.items i) }
+    ensures len { length posts.new.items ≡ length posts.old.items }
+{
+    let from = rows[stage.0 as usize].incarnation;
+    put_out(posts, stage, slot, from);
+}
+
+/// Appends the start of a child for the first message in the stage's inbox, in a free slot, which is the answer.
+pub fn start_first(core: &mut Core, stage: StageNo, sub: SubNo, no: MsgNo) -> u16
+    requires holds { Holds core.old }
+    requires sub { sub ≡ sub_first (inbox core.old.topology core.old.journal.steps stage) }
+    requires within { stage.0 ≤ length core.old.topology.stages }
+    requires free { alive (slots_at core.old.children.items stage) < length (slots_at core.old.children.items stage) }
+    requires legal { (k : ℕ) → k < length (slots_at core.old.children.items stage) → child_at core.old.children.items stage k ≡ None → IsTrue (allows core.old.topology core.old.journal.steps (Step.Child stage no k)) }
+    requires room { 1 ≤ room_at core.old.chunks.items stage }
+    requires spare { 1 ≤ core.old.journal.spare }
+    ensures appended { core.new.journal.steps ≡ Step.Child stage no result ∷ core.old.journal.steps }
+    ensures topology { core.new.topology ≡ core.old.topology }
+    ensures holds { Holds core.new }
+{
+    let slot = start_in(&mut core.children, stage, no);
+    start_chunk(&mut core.inboxes, &mut core.chunks, stage, sub, 1);
+    run_all(&mut core.places, stage, &[no.0]);
+    put_child_out(&mut core.posts, &core.stages, stage, slot);
+    core.totals.quiet = 0;
+    core.journal.push_spare(Step::Child { stage, no, slot });
+    slot
+}

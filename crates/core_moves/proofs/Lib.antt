@@ -1,0 +1,7 @@
+pub mod Begun
+pub mod Fitting
+pub mod Goes
+pub mod Sending
+pub mod Starting
+pub mod Firsts
+pub mod Chain

@@ -1,0 +1,7 @@
+use Rattle.std.proofs.Common.{◌≡◌, drop}
+use Rattle.std.specs.Prelude.{◌&&◌, find}
+use Rattle.pipe_model.specs.Legal.{needs_restart, no_post_out}
+use Rattle.core_moves.proofs.finds.first_to_restart.Given as goal
+
+abbrev pub invariant-loop-spec : goal.invariant-loop-spec
+invariant-loop-spec l = find (λ spec. needs_restart l.core.topology l.core.journal.steps spec.no && no_post_out l.core.topology l.core.journal.steps spec.no) (drop l.spec-index l.spec-items) ≡ find (λ spec. needs_restart l.core.topology l.core.journal.steps spec.no && no_post_out l.core.topology l.core.journal.steps spec.no) l.spec-items

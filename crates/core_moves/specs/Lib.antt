@@ -1,0 +1,5 @@
+pub mod Gathers
+pub mod Sends
+pub mod Children
+pub mod Closes
+pub mod Moves

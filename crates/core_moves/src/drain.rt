@@ -1,0 +1,39 @@
+//! The begin of the drain.
+
+ghost use Rattle.std.specs.Prelude.{◌≡◌, ◌<◌, ◌∷◌, OnOk, OnErr, IsTrue};
+ghost use Rattle.pipe_types.specs.declared.step.DrainCause.TheVariants.{Control};
+ghost use Rattle.pipe_model.specs.History.{controls_after};
+ghost use Rattle.pipe_model.specs.Legal.{allows};
+ghost use Rattle.core_state.specs.Stands.{Stands};
+
+use core_state::Core;
+use pipe_types::step::{DrainCause, Step};
+use std::alloc::AllocError;
+
+/// Appends the begin of the drain, with its cause.
+pub fn begin(core: &mut Core, cause: DrainCause) -> Result<(), AllocError>
+    requires stands { Stands core.old }
+    requires legal { IsTrue (allows core.old.topology core.old.journal.steps (Step.Drain cause)) }
+    ensures appended { OnOk result (core.new.journal.steps ≡ Step.Drain cause ∷ core.old.journal.steps) }
+    ensures unchanged { OnErr result (core.new.journal.steps ≡ core.old.journal.steps) }
+    ensures topology { core.new.topology ≡ core.old.topology }
+    ensures stands { Stands core.new }
+{
+    core.journal.reserve(1)?;
+    core.totals.controls = lines_read(core.totals.controls, cause);
+    core.totals.quiet = 0;
+    core.totals.draining = true;
+    core.journal.push_spare(Step::Drain { cause });
+    Ok(())
+}
+
+/// How many control lines were read, with the one that begins the drain, if it does.
+fn lines_read(before: u32, cause: DrainCause) -> u32
+    requires few { cause ≡ Control → before < 10000 }
+    ensures { result ≡ controls_after (Step.Drain cause) before }
+{
+    match cause {
+        DrainCause::Control => before + 1,
+        _ => before,
+    }
+}

@@ -1,0 +1,13 @@
+pub mod OpenDemand
+pub mod Counted
+pub mod Kept
+pub mod Over
+pub mod Queued
+pub mod Plain
+pub mod LeftOver
+pub mod Settled
+pub mod Sent
+pub mod Reached
+pub mod AfterSending
+pub mod Sendable
+pub mod Roomy

@@ -1,0 +1,56 @@
+-- The queue of a stage as its table has it.
+use Rattle.std.proofs.Common.{◌≡◌, ℕ, suc, ◌≤◌, List, [], ◌∷◌, ◌++◌, map, length, refl, ap, sym, ◌∙◌, Some, true, arith, get_or}
+use Rattle.std.specs.Prelude.{slice_get}
+use Rattle.std.specs.declared.alloc.Global.{Global}
+use Rattle.std.specs.declared.collections.VecDeque.{VecDeque}
+use Rattle.std.proofs.lemmas.Option.{slice_get_read}
+use Rattle.pipe_types.specs.declared.numbers.StageNo.{StageNo}
+use Rattle.pipe_types.specs.declared.room.Room.{Room}
+use Rattle.pipe_types.specs.declared.topology.Topology.{Topology}
+use Rattle.pipe_types.specs.declared.topology.StageSpec.{StageSpec}
+use Rattle.pipe_types.specs.Dispatchers.{sends_by_place}
+use Rattle.pipe_types.specs.Sound.{IsSound}
+use Rattle.pipe_types.specs.Stages.{spec_of}
+use Rattle.pipe_model.specs.History.{History}
+use Rattle.pipe_model.specs.Flow.{waiting, kind_in, rooms_by, view_of}
+use Rattle.pipe_model.specs.Lives.{is_live}
+use Rattle.stage_laws.proofs.Numbering.{numbered_topology}
+use Rattle.core_tables.specs.Tables.{items_in}
+use Rattle.core_laws.specs.Columns.{waiting_parts, part_of}
+use Rattle.core_laws.proofs.Past.{known_within, live_known}
+use Rattle.core_laws.proofs.Parts.{sends_by_parts}
+use Rattle.core_state.specs.declared.state.Core.{Core}
+use Rattle.core_state.specs.Stands.{Fields}
+use Rattle.core_sends.specs.Rooms.{planned}
+
+pub live_within : (topology : Topology) (before : History) (s : StageNo) → IsSound topology → is_live topology before s ≡ true → (1 ≤ s.0) × (s.0 ≤ length topology.stages)
+live_within topology before s sound live = known_within topology s (numbered_topology topology sound) (live_known topology before s live)
+
+pub waiting_read : (core : Core) (topology : Topology) (before : History) → Fields core topology before → (s : StageNo) (q : VecDeque (ℕ × ℕ) Global)
+    → s.0 ≤ length topology.stages → q ≡ get_or core.waiting.items s.0 q → q.items ≡ waiting_parts topology before s
+waiting_read core topology before x s q within read =
+    let here : slice_get core.waiting.items s.0 ≡ Some q = slice_get_read core.waiting.items (length core.waiting.items) s.0 q refl (omega (arith, x.sized.waiting, within)) read in
+    sym (ap items_in here) ∙ x.waiting s
+
+-- the partitions and the numbers in a queue
+pub firsts_in : (part : ℕ → ℕ) (ns : List ℕ) → map {A = ℕ × ℕ} {B = ℕ} (λ unit. unit.0) (map {B = ℕ × ℕ} (λ n. (part n, n)) ns) ≡ map part ns
+firsts_in part [] = refl
+firsts_in part (n ∷ ns) = ap (λ ms. part n ∷ ms) (firsts_in part ns)
+
+pub numbers_in_queue : (part : ℕ → ℕ) (ns : List ℕ) → map {A = ℕ × ℕ} {B = ℕ} (λ unit. unit.1) (map {B = ℕ × ℕ} (λ n. (part n, n)) ns) ≡ ns
+numbers_in_queue part [] = refl
+numbers_in_queue part (n ∷ ns) = ap (λ ms. n ∷ ms) (numbers_in_queue part ns)
+
+pub long_queue : (part : ℕ → ℕ) (ns : List ℕ) → length (map {B = ℕ × ℕ} (λ n. (part n, n)) ns) ≡ length ns
+long_queue part [] = refl
+long_queue part (n ∷ ns) = ap (λ k. suc k) (long_queue part ns)
+
+-- what is delivered of the queue in the rooms is what is planned
+pub plan_is : (topology : Topology) (before : History) (s : StageNo) (spec : StageSpec) (queue : List (ℕ × ℕ)) (rooms : List Room) (more : List ℕ)
+    → spec_of topology s ≡ Some spec → queue ≡ waiting_parts topology before s → rooms ≡ rooms_by topology before (view_of topology before) s
+    → sends_by_place spec.dispatch rooms (map {A = ℕ × ℕ} {B = ℕ} (λ unit. unit.0) queue ++ more) ≡ planned topology before s more
+plan_is topology before s spec queue rooms more there is seen =
+    ap (λ ps. sends_by_place spec.dispatch rooms (ps ++ more)) (ap (map {A = ℕ × ℕ} {B = ℕ} (λ unit. unit.0)) is ∙ firsts_in (part_of topology before (spec_of topology s)) (waiting topology before s))
+    ∙ (ap (λ k. sends_by_place k rooms (map (part_of topology before (spec_of topology s)) (waiting topology before s) ++ more)) (sym (ap kind_in there))
+    ∙ (ap (λ rs. sends_by_place (kind_in (spec_of topology s)) rs (map (part_of topology before (spec_of topology s)) (waiting topology before s) ++ more)) seen
+    ∙ sends_by_parts topology before s (rooms_by topology before (view_of topology before) s) more))

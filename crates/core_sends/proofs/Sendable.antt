@@ -1,0 +1,96 @@
+-- What the passes of a dispatch need of what is sent.
+use Rattle.std.proofs.Common.{◌≡◌, ℕ, suc, ◌-◌, ◌<◌, ◌≤◌, List, [], length, map, All, true, false, ap, sym, ◌∙◌, None, arith, subst, get_or}
+use Rattle.std.specs.Prelude.{is_some, if◌then◌else◌}
+use Rattle.std.specs.declared.alloc.Global.{Global}
+use Rattle.std.specs.declared.collections.VecDeque.{VecDeque}
+use Rattle.std.proofs.lemmas.List.{length-map, get_or-map}
+use Rattle.pipe_types.specs.declared.numbers.StageNo.{StageNo}
+use Rattle.pipe_types.specs.declared.numbers.SubNo.{SubNo}
+use Rattle.pipe_types.specs.declared.topology.Topology.{Topology}
+use Rattle.pipe_types.specs.declared.room.Sent.{Sent}
+use Rattle.pipe_types.specs.declared.step.Step.TheVariants.{Dispatch}
+use Rattle.pipe_types.specs.Sound.{IsSound}
+use Rattle.pipe_types.specs.Stages.{spec_of, feeds}
+use Rattle.pipe_laws.proofs.Tests.{and_left}
+use Rattle.pipe_model.specs.History.{History, accepted, asked}
+use Rattle.pipe_model.specs.Lives.{is_live}
+use Rattle.pipe_model.specs.Legal.{allows}
+use Rattle.pipe_model.specs.Flow.{waiting, deliveries, sent, count_on}
+use Rattle.queue_laws.proofs.Roles.{fed_spec}
+use Rattle.stage_laws.proofs.Numbering.{numbered_topology}
+use Rattle.stage_subs.specs.Subs.{is_live as is_live_in_table, room_on, room_in}
+use Rattle.stage_subs.proofs.Ledger.{room_in_ledger}
+use Rattle.core_tables.specs.Tables.{named, spare_at, HasRoom, IsWithin, IsNumbered, count_between}
+use Rattle.core_laws.specs.Laws.{IsSentWell, DispatchLaws}
+use Rattle.core_laws.proofs.Lawful.{lawful}
+use Rattle.core_laws.proofs.Past.{known_within, live_known}
+use Rattle.core_calls.proofs.Asking.{sub_is, row_is, live_seen}
+use Rattle.core_state.specs.declared.state.Core.{Core}
+use Rattle.core_state.specs.Stands.{Fields, Holds}
+use Rattle.core_sends.specs.Rooms.{planned}
+use Rattle.core_sends.proofs.AfterSending.{counts_are}
+use Rattle.core_sends.proofs.Queued.{live_within}
+use Rattle.core_sends.proofs.Sent.{deliveries_named}
+
+-- what is known at a dispatch that is legal
+pub record Dispatching (core : Core) (s : StageNo) : Type 0 where
+  pub law : DispatchLaws core.topology core.journal.steps s
+  pub within : s.0 ≤ length core.topology.stages
+
+pub dispatching : (core : Core) (s : StageNo) → Holds core → allows core.topology core.journal.steps (Dispatch s) ≡ true → Dispatching core s
+dispatching core s x allowed =
+    let law = lawful.dispatch core.topology core.journal.steps s x.sound x.legal allowed in
+    record { law = law; within = (live_within core.topology core.journal.steps s x.sound law.live).1 }
+
+-- a live stage is one of the topology
+pub no_stage : (topology : Topology) (before : History) (s : StageNo) → is_live topology before s ≡ true → spec_of topology s ≡ None → ⊥
+no_stage topology before s live none = let wrong : false ≡ true = sym (ap is_some none) ∙ live_known topology before s live in cc
+
+pub units_within : (topology : Topology) (before : History) (units : List Sent) (rows : ℕ) → IsSound topology → rows ≡ suc (length topology.stages)
+    → All (IsSentWell topology before) units → All (IsWithin rows) units
+units_within topology before units rows sound many well k e below =
+    let u : SubNo = (get_or units k e).sub in
+    let fed : feeds topology u.producer u.consumer ≡ true = and_left (feeds topology u.producer u.consumer) _ (well k e below).live in
+    record { consumer = omega (arith, many, (known_within topology u.consumer (numbered_topology topology sound) (fed_spec topology u.producer u.consumer fed).1).1) }
+
+pub units_numbered : (topology : Topology) (before : History) (units : List Sent) (rows : ℕ) → rows ≡ accepted before
+    → All (IsSentWell topology before) units → All (IsNumbered rows) units
+units_numbered topology before units rows many well k e below =
+    record { least = (well k e below).numbered.least; most = omega (arith, many, (well k e below).numbered.most) }
+
+pub units_live : (core : Core) (topology : Topology) (before : History) (units : List Sent) → Fields core topology before → All (IsSentWell topology before) units
+    → All (λ d. is_live_in_table core.subs d.sub ≡ true) units
+units_live core topology before units x well k e below = live_seen core topology before (get_or units k e).sub x (well k e below).live
+
+-- each subscription was asked for what is sent on it
+pub units_asked : (core : Core) (topology : Topology) (before : History) (s : StageNo) (units : List Sent) → Fields core topology before → DispatchLaws topology before s
+    → units ≡ deliveries topology before s → All (IsSentWell topology before) units → All (λ d. count_between units d.sub.consumer d.sub.producer ≤ room_on core.subs d.sub) units
+units_asked core topology before s units x law is well k e below =
+    let u : SubNo = (get_or units k e).sub in
+    let live = (well k e below).live in
+    let room : room_on core.subs u ≡ asked before u - sent topology before u =
+    ap (λ o. room_in o u.generation) (row_is core topology before u x live)
+    ∙ (room_in_ledger topology before u ∙ ap (λ b. if b then asked before u - sent topology before u else 0) live) in
+    let count : count_between units u.consumer u.producer ≡ count_on (deliveries topology before s) u =
+    counts_are topology before units u.consumer u.producer well ∙ (ap (count_on units) (sym (sub_is topology before u live)) ∙ ap (λ us. count_on us u) is) in
+    omega (arith, room, count, law.asked_for u)
+
+-- names do not change where a unit goes
+pub room_named : {A : Type 0} (n m : ℕ) (qs : List (VecDeque A Global)) (ws : List ℕ) (ds : List Sent) → n ≡ m → All (HasRoom n qs) ds → All (HasRoom m qs) (map (named ws) ds)
+room_named n m qs ws ds same room k e below =
+    let within : k < length ds = omega (arith, length-map ds (named ws), below) in
+    let is : get_or (map (named ws) ds) k e ≡ named ws (get_or ds k e) = get_or-map (named ws) ds k e e within in
+    let spare = (room k e within).spare in
+    let sub : (get_or (map (named ws) ds) k e).sub ≡ (get_or ds k e).sub = ap (λ (d : Sent). d.sub) is in
+    record { spare = subst (λ (u : SubNo). m ≤ spare_at qs u.consumer) (sym sub) (omega (arith, same, spare)) }
+
+-- what is planned goes to stages of the topology
+pub planned_within : (topology : Topology) (before : History) (s : StageNo) (rows : ℕ) → IsSound topology → DispatchLaws topology before s
+    → rows ≡ suc (length topology.stages) → All (IsWithin rows) (planned topology before s [])
+planned_within topology before s rows sound law many k e below =
+    let ds = planned topology before s [] in
+    let ws = waiting topology before s in
+    let all : All (IsWithin rows) (map (named ws) ds) = subst (All (IsWithin rows)) (deliveries_named topology before s) (units_within topology before (deliveries topology before s) rows sound many law.well) in
+    let at = all k e (omega (arith, length-map ds (named ws), below)) in
+    let same : (get_or (map (named ws) ds) k e).sub ≡ (get_or ds k e).sub = ap (λ (d : Sent). d.sub) (get_or-map (named ws) ds k e e below) in
+    record { consumer = subst (λ (u : SubNo). u.consumer.0 < rows) same at.consumer }

@@ -1,0 +1,52 @@
+//! What each dispatcher sends of the units of a queue.
+
+ghost use Rattle.std.specs.Prelude.{◌≡◌, ◌+◌, ◌<◌, ◌^◌, ◌++◌, length, map, IfOk};
+ghost use Rattle.pipe_types.specs.declared.topology.Dispatch.TheVariants.{Partition};
+ghost use Rattle.pipe_types.specs.Dispatchers.{sends_by_place};
+ghost use Rattle.pipe_types.specs.Rooms.{AreAscending, PartsDiffer};
+
+use dispatch_broadcast::BroadcastDispatch;
+use dispatch_demand::DemandDispatch;
+use dispatch_partition::PartitionDispatch;
+use pipe_types::room::{Room, SentList};
+use pipe_types::topology::Dispatch;
+use std::alloc::{AllocError, Global};
+use std::collections::VecDeque;
+
+/// What is sent in these rooms of the units in the queue, and of units with the partitions `more` behind them, by their
+/// places. The rooms stand in order of their subscriptions, no two with the same partition.
+pub(crate) fn deliver(
+    alloc: Global,
+    kind: Dispatch,
+    queue: &VecDeque<(u32, u32)>,
+    more: &[u32],
+    rooms: &[Room],
+) -> Result<SentList, AllocError>
+    requires ascending { AreAscending rooms.now }
+    requires parts_differ { PartsDiffer rooms.now }
+    requires few { length queue.now.items + length more.now < 2 ^ 32 }
+    ensures { IfOk result (λ sent. sent ≡ sends_by_place kind rooms.now (map (λ unit. unit.0) queue.now.items ++ more.now)) }
+{
+    let count = (queue.len() + more.len()) as u32;
+    match kind {
+        Dispatch::Demand => DemandDispatch::new(alloc).deliver(count, rooms),
+        Dispatch::Broadcast => BroadcastDispatch::new(alloc).deliver(count, rooms),
+        Dispatch::Partition => {
+            let parts = parts_in(alloc, queue, more)?;
+            PartitionDispatch::new(alloc).deliver(&parts, rooms)
+        }
+    }
+}
+
+/// The partitions of the units in the queue, and then these.
+fn parts_in(
+    alloc: Global,
+    queue: &VecDeque<(u32, u32)>,
+    more: &[u32],
+) -> Result<Vec<u32>, AllocError>
+    ensures { IfOk result (λ parts. parts.items ≡ map (λ unit. unit.0) queue.now.items ++ more.now) }
+{
+    let mut parts: Vec<u32> = queue.iter().map(|unit| unit.0).collect(alloc)?;
+    parts.extend_from_slice(more)?;
+    Ok(parts)
+}

@@ -1,0 +1,14 @@
+//! What a dispatch sends, and the step that sends it.
+//!
+//! `plan` says what a dispatch of a stage would send, by the places of the units in its queue, for each of the three
+//! dispatchers; `make_room` makes room for it in the inboxes of the consumers. `send_messages` appends the dispatch of a stage
+//! of messages and takes no memory, so it may follow a step that owes it; `dispatch_messages` is all of it in one call.
+#![tactic(auto)]
+
+mod counting;
+mod deliveries;
+mod leaving;
+mod losing;
+pub mod plans;
+pub mod rooms;
+pub mod sending;

@@ -1,0 +1,61 @@
+//! A core without a step.
+
+ghost use Rattle.std.specs.Prelude.{◌≡◌, [], IfOk, IfErr};
+ghost use Rattle.pipe_types.specs.Sound.{IsSound};
+ghost use Rattle.core_state.specs.Stands.{Stands};
+
+use crate::state::Core;
+use crate::tables::new_tables;
+use core_tables::rows::Totals;
+use message_ack::Legs;
+use pipe_journal::Journal;
+use pipe_types::topology::Topology;
+use std::alloc::{AllocError, Global};
+
+/// Nothing is counted yet.
+const NO_TOTALS: Totals = Totals {
+    accepted: 0,
+    bytes: 0,
+    now: 0,
+    controls: 0,
+    quiet: 0,
+    draining: false,
+    halted: false,
+};
+
+impl Core {
+    /// A core with an empty journal. What it takes later comes from `alloc`. Where memory is wanting the topology is
+    /// given back.
+    pub fn new(alloc: Global, topology: Topology) -> Result<Core, (Topology, AllocError)>
+        requires sound { IsSound topology }
+        ensures topology { IfOk result (λ core. core.topology ≡ topology) }
+        ensures journal { IfOk result (λ core. core.journal.steps ≡ []) }
+        ensures stands { IfOk result (λ core. Stands core) }
+        ensures returned { IfErr result (λ refused. refused.0 ≡ topology) }
+    {
+        match new_tables(alloc, &topology) {
+            Ok(tables) => Ok(Core {
+                topology,
+                journal: Journal::new(alloc),
+                stages: tables.stages,
+                posts: tables.posts,
+                subs: tables.subs,
+                waiting: tables.waiting,
+                inboxes: tables.inboxes,
+                chunks: tables.chunks,
+                batchers: tables.batchers,
+                children: tables.children,
+                places: Vec::new(alloc),
+                settled: Vec::new(alloc),
+                producers: Vec::new(alloc),
+                contents: Vec::new(alloc),
+                batches: Vec::new(alloc),
+                legs: Legs::new(alloc),
+                restarts: tables.restarts,
+                totals: NO_TOTALS,
+                alloc,
+            }),
+            Err(failed) => Err((topology, failed)),
+        }
+    }
+}

@@ -1,0 +1,11 @@
+pub mod Taking
+pub mod TakenChunk
+pub mod TakenBatch
+pub mod Copying
+pub mod TakenStep
+pub mod TakenClosed
+pub mod TakenOne
+pub mod Answering
+pub mod AnsweredParts
+pub mod AnsweredMarks
+pub mod Answered

@@ -1,0 +1,167 @@
+use Rattle.std.proofs.Common.{◌≡◌, ℕ, suc, ◌≤◌, ◌++◌, List, length, ◌∙◌, arith, refl, ap, sym, subst, All}
+use Rattle.std.specs.Prelude.{option_map, slice_get, if◌then◌else◌, ◌==◌}
+use Rattle.pipe_types.specs.declared.step.Step.TheVariants.{Done}
+use Rattle.pipe_types.specs.declared.message.Reply.{Reply}
+use Rattle.pipe_model.specs.History.{accepted}
+use Rattle.pipe_model.specs.Posts.{last_take}
+use Rattle.pipe_model.specs.Content.{has_crash}
+use Rattle.pipe_model.specs.Flow.{done}
+use Rattle.stage_subs.specs.Subs.{row_at}
+use Rattle.core_tables.specs.Tables.{queue_at, list_at}
+use Rattle.core_laws.specs.Columns.{running}
+use Rattle.core_laws.proofs.Lawful.{each_all}
+use Rattle.core_state.specs.declared.state.Core.{Core}
+use Rattle.core_state.proofs.Steps.{holds_after}
+use Rattle.core_takes.specs.Replies.{passed_parts, marked, noted, counted_on, HasRow, parted, take_in}
+use Rattle.core_takes.proofs.TakenChunk.{list_read}
+use Rattle.core_takes.proofs.Answered.{known_answer, Answered, answered_fields, counts_fit, rows_there, replies_few}
+use Rattle.core_takes.proofs.answers.answered.Goals as goal
+
+pub index-chunk-requires : goal.index-chunk-requires
+index-chunk-requires c =
+    let core = c.args.core.now in
+    let s = c.args.stage in
+    let rs = c.args.replies in
+    let x = c.requires.holds in
+    let known = known_answer core s rs x c.requires.legal c.requires.calm in
+    omega (arith, known.within, x.fields.sized.chunks, core.chunks.ok.0)
+
+pub answer_all-requires-clause-within : goal.answer_all-requires-clause-within
+answer_all-requires-clause-within c =
+    let core = c.args.core.now in
+    let s = c.args.stage in
+    let rs = c.args.replies in
+    let x = c.requires.holds in
+    let known = known_answer core s rs x c.requires.legal c.requires.calm in
+    let read : c.index-chunk.result.now.items ≡ running core.topology core.journal.steps s = list_read core.chunks.items s c.index-chunk.result.now (omega (arith, known.within, x.fields.sized.chunks)) c.index-chunk.ensures ∙ x.fields.chunks s in
+    subst (All (λ (n : ℕ). (1 ≤ n) × (n ≤ length core.places.items))) (sym (c.deref.ensures.value ∙ read))
+    (subst (λ m. All (λ (n : ℕ). (1 ≤ n) × (n ≤ m)) (running core.topology core.journal.steps s)) (sym x.fields.sized.places) (each_all (λ n. (1 ≤ n) × (n ≤ accepted core.journal.steps)) (running core.topology core.journal.steps s) known.chunk))
+
+pub answer_all-requires-clause-many : goal.answer_all-requires-clause-many
+answer_all-requires-clause-many c =
+    let core = c.args.core.now in
+    let s = c.args.stage in
+    let rs = c.args.replies in
+    let x = c.requires.holds in
+    let known = known_answer core s rs x c.requires.legal c.requires.calm in
+    let read : c.index-chunk.result.now.items ≡ running core.topology core.journal.steps s = list_read core.chunks.items s c.index-chunk.result.now (omega (arith, known.within, x.fields.sized.chunks)) c.index-chunk.ensures ∙ x.fields.chunks s in
+    ap length c.as_slice.ensures ∙ (known.many ∙ sym (ap length (c.deref.ensures.value ∙ read)))
+
+pub answer_all-requires-clause-safe : goal.answer_all-requires-clause-safe
+answer_all-requires-clause-safe c = ap has_crash c.as_slice.ensures ∙ c.requires.calm
+
+pub mark_all-requires-clause-within : goal.mark_all-requires-clause-within
+mark_all-requires-clause-within c =
+    let core = c.args.core.now in
+    let s = c.args.stage in
+    let rs = c.args.replies in
+    let x = c.requires.holds in
+    let known = known_answer core s rs x c.requires.legal c.requires.calm in
+    let read : c.index-chunk.result.now.items ≡ running core.topology core.journal.steps s = list_read core.chunks.items s c.index-chunk.result.now (omega (arith, known.within, x.fields.sized.chunks)) c.index-chunk.ensures ∙ x.fields.chunks s in
+    subst (All (λ (n : ℕ). (1 ≤ n) × (n ≤ length core.settled.items))) (sym (c.deref-2.ensures.value ∙ read))
+    (subst (λ m. All (λ (n : ℕ). (1 ≤ n) × (n ≤ m)) (running core.topology core.journal.steps s)) (sym x.fields.sized.settled) (each_all (λ n. (1 ≤ n) × (n ≤ accepted core.journal.steps)) (running core.topology core.journal.steps s) known.chunk))
+
+pub mark_all-requires-clause-many : goal.mark_all-requires-clause-many
+mark_all-requires-clause-many c =
+    let core = c.args.core.now in
+    let s = c.args.stage in
+    let rs = c.args.replies in
+    let x = c.requires.holds in
+    let known = known_answer core s rs x c.requires.legal c.requires.calm in
+    let read : c.index-chunk.result.now.items ≡ running core.topology core.journal.steps s = list_read core.chunks.items s c.index-chunk.result.now (omega (arith, known.within, x.fields.sized.chunks)) c.index-chunk.ensures ∙ x.fields.chunks s in
+    ap length c.as_slice-2.ensures ∙ (known.many ∙ sym (ap length (c.deref-2.ensures.value ∙ read)))
+
+pub note_all-requires-clause-within : goal.note_all-requires-clause-within
+note_all-requires-clause-within c =
+    let core = c.args.core.now in
+    let s = c.args.stage in
+    let rs = c.args.replies in
+    let x = c.requires.holds in
+    let known = known_answer core s rs x c.requires.legal c.requires.calm in
+    subst (All (HasRow (length core.contents.items))) (sym c.as_slice-3.ensures)
+    (subst (λ m. All (HasRow m) rs) (sym x.fields.sized.contents) (rows_there (accepted core.journal.steps) (running core.topology core.journal.steps s) rs known.passes.answers known.chunk))
+
+pub note_all-requires-clause-few : goal.note_all-requires-clause-few
+note_all-requires-clause-few c =
+    let core = c.args.core.now in
+    let s = c.args.stage in
+    let rs = c.args.replies in
+    let x = c.requires.holds in
+    let known = known_answer core s rs x c.requires.legal c.requires.calm in
+    omega (arith, replies_few core s rs x known, ap length c.as_slice-3.ensures)
+
+pub queue_passed-requires-clause-within : goal.queue_passed-requires-clause-within
+queue_passed-requires-clause-within c =
+    let core = c.args.core.now in
+    let s = c.args.stage in
+    let rs = c.args.replies in
+    let x = c.requires.holds in
+    let known = known_answer core s rs x c.requires.legal c.requires.calm in
+    omega (arith, known.within, x.fields.sized.waiting)
+
+pub queue_passed-requires-clause-room : goal.queue_passed-requires-clause-room
+queue_passed-requires-clause-room c = omega (arith, ap length c.as_slice-4.ensures, c.requires.room)
+
+pub count_taken-requires : goal.count_taken-requires
+count_taken-requires c =
+    let core = c.args.core.now in
+    let s = c.args.stage in
+    let rs = c.args.replies in
+    let x = c.requires.holds in
+    let known = known_answer core s rs x c.requires.legal c.requires.calm in
+    let took : last_take core.journal.steps s ≡ c.last_take-take.result = sym (c.last_take-take.ensures ∙ (ap (λ rows. take_in (slice_get rows s.0)) c.deref-3.ensures.value ∙ ap take_in (x.fields.stages s known.within))) in
+    counts_fit core s rs c.last_take-take.result x known c.requires.calm took
+
+pub clear_chunk-requires : goal.clear_chunk-requires
+clear_chunk-requires c =
+    let core = c.args.core.now in
+    let s = c.args.stage in
+    let rs = c.args.replies in
+    let x = c.requires.holds in
+    let known = known_answer core s rs x c.requires.legal c.requires.calm in
+    omega (arith, known.within, x.fields.sized.chunks)
+
+pub come_home-requires : goal.come_home-requires
+come_home-requires c =
+    let core = c.args.core.now in
+    let s = c.args.stage in
+    let rs = c.args.replies in
+    let x = c.requires.holds in
+    let known = known_answer core s rs x c.requires.legal c.requires.calm in
+    omega (arith, known.within, x.fields.sized.posts)
+
+pub returns-clause-holds : goal.returns-clause-holds
+returns-clause-holds c =
+    let core = c.args.core.now in
+    let s = c.args.stage in
+    let rs = c.args.replies in
+    let x = c.requires.holds in
+    let known = known_answer core s rs x c.requires.legal c.requires.calm in
+    let b = c.has_batchers-passes_on.result in
+    let p = c.is_parted-by_partition.result in
+    let read : c.index-chunk.result.now.items ≡ list_at core.chunks.items s = list_read core.chunks.items s c.index-chunk.result.now (omega (arith, known.within, x.fields.sized.chunks)) c.index-chunk.ensures in
+    let took : c.last_take-take.result ≡ last_take core.journal.steps s = c.last_take-take.ensures ∙ (ap (λ rows. take_in (slice_get rows s.0)) c.deref-3.ensures.value ∙ ap take_in (x.fields.stages s known.within)) in
+    let core-new : Core = record core { journal = c.push_spare.new.self; posts = c.come_home.new.posts; subs = c.count_taken.new.subs; waiting = c.queue_passed.new.waiting; chunks = c.clear_chunk.new.chunks; places = c.answer_all.new.places; settled = c.mark_all.new.settled; contents = c.note_all.new.contents; totals = record core.totals { quiet = 0 } } in
+    let new : Answered core s rs b p c.come_home.new.posts c.count_taken.new.subs c.queue_passed.new.waiting c.clear_chunk.new.chunks c.answer_all.new.places c.mark_all.new.settled c.note_all.new.contents =
+    record {
+      posts-is = c.come_home.ensures.posts;
+      posts-len = c.come_home.ensures.len;
+      pairs = λ q r. c.count_taken.ensures q r ∙ ap (λ t. counted_on t q r (row_at core.subs q r)) took;
+      queues = λ t. c.queue_passed.ensures.queued t ∙ ap (λ (ms : List Reply). if b then (if s.0 == t.0 then queue_at core.waiting.items t ++ passed_parts p ms else queue_at core.waiting.items t) else queue_at core.waiting.items t) c.as_slice-4.ensures;
+      queues-len = c.queue_passed.ensures.len;
+      cleared = c.clear_chunk.ensures.cleared;
+      cleared-len = c.clear_chunk.ensures.len;
+      placed = λ i. c.answer_all.ensures.placed i ∙ (ap (λ ns. option_map (done b ns c.as_slice.result.now s (suc i)) (slice_get core.places.items i)) (c.deref.ensures.value ∙ read)
+          ∙ ap (λ (ms : List Reply). option_map (done b (list_at core.chunks.items s) ms s (suc i)) (slice_get core.places.items i)) c.as_slice.ensures);
+      placed-len = c.answer_all.ensures.len;
+      marks = λ i. c.mark_all.ensures.rows i ∙ (ap (λ ns. marked b c.len-entry.result ns c.as_slice-2.result.now (suc i) (slice_get core.settled.items i)) (c.deref-2.ensures.value ∙ read)
+          ∙ (ap (λ (ms : List Reply). marked b c.len-entry.result (list_at core.chunks.items s) ms (suc i) (slice_get core.settled.items i)) c.as_slice-2.ensures
+          ∙ ap (λ e. marked b e (list_at core.chunks.items s) rs (suc i) (slice_get core.settled.items i)) c.len-entry.ensures));
+      marks-len = c.mark_all.ensures.len;
+      notes = λ i. c.note_all.ensures.rows i ∙ (ap (λ (ms : List Reply). noted c.len-entry.result 0 ms (suc i) (slice_get core.contents.items i)) c.as_slice-3.ensures
+          ∙ ap (λ e. noted e 0 rs (suc i) (slice_get core.contents.items i)) c.len-entry.ensures);
+      notes-len = c.note_all.ensures.len;
+    } in
+    let fields = answered_fields core s rs b p c.push_spare.new.self c.come_home.new.posts c.count_taken.new.subs c.queue_passed.new.waiting c.clear_chunk.new.chunks c.answer_all.new.places c.mark_all.new.settled c.note_all.new.contents
+    x known c.requires.calm c.has_batchers-passes_on.ensures (c.is_parted-by_partition.ensures ∙ ap parted known.spec-is) new in
+    holds_after core core-new (Done s rs) x refl c.push_spare.ensures.written c.requires.legal fields
