@@ -1,5 +1,5 @@
 -- The fields after a child starts for the first message of the inbox.
-use Rattle.std.proofs.Common.{◌≡◌, ◌≢◌, ℕ, zero, suc, ◌+◌, ◌*◌, ◌<◌, ◌≤◌, List, [], ◌∷◌, ◌++◌, length, map, take, Bool, true, false, refl, ap, sym, ◌∙◌, Some, None, Option, arith, subst, inl, inr, cond}
+use Rattle.std.proofs.Common.{◌≡◌, ◌≢◌, ℕ, zero, suc, ◌+◌, ◌*◌, ◌<◌, ◌≤◌, List, [], ◌∷◌, ◌++◌, length, map, take, Bool, true, false, refl, ap, sym, ◌∙◌, Some, None, Option, arith, inl, inr, cond}
 use Rattle.std.specs.Prelude.{slice_get, slice_index_or, option_map, if◌then◌else◌, ◌==◌, ◌&&◌, ◌||◌, ◌⊎◌, not, is_some, drop, filter}
 use Rattle.std.specs.declared.alloc.Global.{Global}
 use Rattle.std.specs.declared.vec.Vec.{Vec}
@@ -21,7 +21,7 @@ use Rattle.pipe_types.specs.declared.step.Step.TheVariants.{Child, ChildEnd}
 use Rattle.pipe_types.specs.Numbers.{same_stage, post}
 use Rattle.pipe_types.specs.Stages.{spec_of}
 use Rattle.pipe_types.specs.Sound.{IsSound}
-use Rattle.pipe_laws.proofs.Tests.{clash, and_left, and_right, both, same_stage-true, same_stage-self, same_sub-self}
+use Rattle.pipe_laws.proofs.Tests.{clash, both, same_stage-self, same_sub-self}
 use Rattle.pipe_laws.proofs.Slots.{supervisor_writes, first_stands, slot_reached}
 use Rattle.pipe_laws.proofs.Levels.{rank, rank_in, rank_of, level, level_grows}
 use Rattle.pipe_laws.proofs.Places.{move_by}
@@ -36,19 +36,17 @@ use Rattle.queue_laws.specs.Queues.{without_number}
 use Rattle.queue_laws.proofs.Sounds.{fits}
 use Rattle.queue_laws.proofs.Laws.{waiting_law, inbox_law, gathered_law}
 use Rattle.stage_laws.proofs.Supervised.{runs_started, runs_started_else}
-use Rattle.stage_laws.proofs.Numbering.{numbered_topology}
 use Rattle.consumer_sup.specs.Children.{Slots}
-use Rattle.consumer_sup.specs.declared.Child.{Child as ChildRow}
 use Rattle.core_tables.specs.declared.rows.PostRow.{PostRow}
 use Rattle.core_tables.specs.Rows.{post_at}
 use Rattle.core_tables.specs.Chunks.{without_first}
 use Rattle.core_tables.specs.Tables.{queue_at, list_at}
 use Rattle.core_tables.proofs.Tables.{same_or_other}
 use Rattle.core_laws.specs.Columns.{running, child_row}
-use Rattle.core_laws.specs.Slots.{child_if, child_of, child_in_slot}
+use Rattle.core_laws.specs.Slots.{child_if, child_of}
 use Rattle.core_laws.proofs.Children.{child_is}
 use Rattle.core_laws.proofs.Lawful.{legal_after}
-use Rattle.core_laws.proofs.Past.{known_within, live_known, out_post}
+use Rattle.core_laws.proofs.Past.{out_post}
 use Rattle.core_state.specs.declared.state.Core.{Core}
 use Rattle.core_state.specs.Stands.{Holds, child_at}
 use Rattle.core_takes.specs.Takes.{out_of, sub_first}

@@ -1,6 +1,6 @@
 -- The fields after the start of a child.
-use Rattle.std.proofs.Common.{◌≡◌, ◌≢◌, ℕ, suc, ◌<◌, ◌≤◌, List, [], ◌∷◌, ◌++◌, length, map, Bool, true, false, refl, ap, sym, ◌∙◌, Some, None, Option, arith, subst, inl, inr}
-use Rattle.std.specs.Prelude.{slice_get, option_map, if◌then◌else◌, ◌==◌, ◌&&◌, ◌||◌, ◌⊎◌, not, is_some, drop}
+use Rattle.std.proofs.Common.{◌≡◌, ℕ, suc, ◌<◌, ◌≤◌, [], ◌∷◌, ◌++◌, length, map, Bool, true, false, refl, ap, sym, ◌∙◌, Some, arith, subst}
+use Rattle.std.specs.Prelude.{slice_get, if◌then◌else◌, ◌==◌, ◌&&◌, ◌||◌, not, drop}
 use Rattle.std.specs.declared.alloc.Global.{Global}
 use Rattle.std.specs.declared.vec.Vec.{Vec}
 use Rattle.std.specs.declared.collections.VecDeque.{VecDeque}
@@ -17,7 +17,7 @@ use Rattle.pipe_types.specs.declared.step.Step.TheVariants.{Child}
 use Rattle.pipe_types.specs.Numbers.{same_stage, same_post, post}
 use Rattle.pipe_types.specs.Stages.{spec_of}
 use Rattle.pipe_types.specs.Sound.{IsSound}
-use Rattle.pipe_laws.proofs.Tests.{clash, and_left, and_right, both, same_stage-true, same_stage-self}
+use Rattle.pipe_laws.proofs.Tests.{and_left, and_right, both, same_stage-true, same_stage-self}
 use Rattle.pipe_laws.proofs.Lists.{Each, each_weaker, each_filter}
 use Rattle.pipe_laws.proofs.Entries.{EntryFits, entries_fit}
 use Rattle.pipe_laws.proofs.Busy.{inbox_here}
@@ -26,8 +26,8 @@ use Rattle.pipe_laws.proofs.Kept.{runs_here}
 use Rattle.pipe_laws.proofs.Slots.{supervisor_writes, number_is}
 use Rattle.pipe_laws.proofs.Allowed.{legal_before, legal_step, ChildFacts, child_facts}
 use Rattle.pipe_model.specs.History.{History, incarnation}
-use Rattle.pipe_model.specs.Posts.{is_out, out_from, in_slot, crashes, puts_out}
-use Rattle.pipe_model.specs.Flow.{place, batch, inbox, waiting, sent_to, among, is_batcher, in_inbox_by, leg_waits_in}
+use Rattle.pipe_model.specs.Posts.{is_out, out_from, in_slot, crashes}
+use Rattle.pipe_model.specs.Flow.{place, batch, inbox, waiting, sent_to, is_batcher, in_inbox_by, leg_waits_in}
 use Rattle.pipe_model.specs.Standing.{gathered_in, in_inbox}
 use Rattle.pipe_model.specs.Legal.{is_legal, allows, has_role, is_supervisor_role, first_unit, runs_number}
 use Rattle.queue_laws.specs.Queues.{without_number}
@@ -43,13 +43,12 @@ use Rattle.stage_laws.proofs.Supervised.{child_elsewhere, child_runs, runs_start
 use Rattle.stage_laws.proofs.Numbering.{numbered_topology}
 use Rattle.pipe_journal.specs.Recorded.{Recorded}
 use Rattle.consumer_sup.specs.Children.{Slots}
-use Rattle.consumer_sup.specs.declared.Child.{Child as ChildRow}
 use Rattle.core_tables.specs.declared.rows.Totals.{Totals}
 use Rattle.core_tables.specs.declared.rows.PostRow.{PostRow}
 use Rattle.core_tables.specs.Rows.{post_at}
 use Rattle.core_tables.specs.Tables.{queue_at, list_at}
 use Rattle.core_laws.specs.Columns.{running, post_row, part_of, open_batches, child_row}
-use Rattle.core_laws.specs.Slots.{child_if, child_of, child_in_slot}
+use Rattle.core_laws.specs.Slots.{child_if, child_of}
 use Rattle.core_laws.proofs.Children.{child_is}
 use Rattle.core_laws.proofs.Lawful.{legal_after}
 use Rattle.core_laws.proofs.Past.{known_within, live_known, out_post}

@@ -1,5 +1,5 @@
 -- The slots of one stage in the table of children.
-use Rattle.std.specs.Prelude.{List, [], length, ℕ, Option, None, Some, slice_get}
+use Rattle.std.specs.Prelude.{List, [], Option, None, Some, slice_get}
 use Rattle.pipe_types.specs.declared.numbers.StageNo.{StageNo}
 use Rattle.consumer_sup.specs.Children.{Slots}
 use Rattle.consumer_sup.specs.declared.Child.{Child}

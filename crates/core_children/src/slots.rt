@@ -1,12 +1,16 @@
-//! A free slot for a child.
+//! The slots of a supervisor.
 
-ghost use Rattle.std.specs.Prelude.{◌≡◌, ◌<◌, ℕ, length, if◌then◌else◌, ◌==◌, ◌&&◌, slice_get, Some, None};
+ghost use Rattle.std.specs.Prelude.{◌≡◌, ◌<◌, ℕ, length, if◌then◌else◌, ◌==◌, ◌&&◌, slice_get, Some, None, IfSome};
 ghost use Rattle.pipe_types.specs.declared.numbers.StageNo.{StageNo as Stage};
 ghost use Rattle.consumer_sup.specs.Children.{alive, Slots};
 ghost use Rattle.core_state.specs.Stands.{child_at};
+ghost use Rattle.core_state.specs.Readings.{out_in};
 ghost use Rattle.core_children.specs.Slots.{slots_at};
+ghost use Rattle.core_children.specs.Starts.{again_in};
 
 use consumer_sup::Children;
+use core_tables::posts::SLOTS;
+use core_tables::rows::PostRow;
 use pipe_types::numbers::{MsgNo, StageNo};
 
 /// Starts a child for the message in a slot of the stage that is free, and answers the slot.
@@ -22,5 +26,45 @@ pub fn start_in(children: &mut Vec<Children>, stage: StageNo, no: MsgNo) -> u16
     match children[stage.0 as usize].start(no) {
         Ok(slot) => slot,
         Err(_) => unreachable!(),
+    }
+}
+
+/// The first slot of the stage whose child runs its message again: it has a child, and its job is home.
+pub fn slot_again(children: &[Children], posts: &[PostRow], stage: StageNo) -> Option<(u16, MsgNo)>
+    requires { stage.0 < length children.now }
+    ensures some { IfSome result (λ found. (found.0 < 16) × (again_in children.now posts.now stage found.0 ≡ Some found.1)) }
+    ensures none { result ≡ None → (k : ℕ) → k < 16 → again_in children.now posts.now stage k ≡ None }
+{
+    for slot in 0..16 {
+        if let Some(no) = message_again(children, posts, stage, slot) {
+            return Some((slot, no));
+        }
+    }
+    None
+}
+
+/// The message of the slot's child, where its job is home.
+fn message_again(
+    children: &[Children],
+    posts: &[PostRow],
+    stage: StageNo,
+    slot: u16,
+) -> Option<MsgNo>
+    requires { stage.0 < length children.now }
+    ensures { result ≡ again_in children.now posts.now stage slot }
+{
+    if is_out(posts, stage.0 as usize * SLOTS + slot as usize) {
+        return None;
+    }
+    children[stage.0 as usize].holds(slot)
+}
+
+/// Whether the row says that its job is out.
+fn is_out(posts: &[PostRow], at: usize) -> bool
+    ensures { result ≡ out_in (slice_get posts.now at) }
+{
+    match posts.get(at) {
+        Some(row) => row.out,
+        None => false,
     }
 }

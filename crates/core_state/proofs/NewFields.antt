@@ -1,6 +1,6 @@
 -- The fields of a core without a step.
-use Rattle.std.proofs.Common.{◌≡◌, ℕ, zero, suc, ◌+◌, ◌-◌, ◌*◌, ◌<◌, ◌≤◌, List, [], ◌∷◌, map, replicate, length, Bool, true, false, refl, ap, sym, ◌∙◌, subst, Some, None, Option, arith}
-use Rattle.std.specs.Prelude.{slice_get, slice_index_or, if◌then◌else◌, ◌&&◌, ◌==◌, min, is_some, is_none, option_map}
+use Rattle.std.proofs.Common.{◌≡◌, ℕ, zero, suc, ◌+◌, ◌-◌, ◌*◌, ◌<◌, ◌≤◌, List, [], ◌∷◌, map, replicate, length, true, false, refl, ap, sym, ◌∙◌, subst, Some, None, Option, arith}
+use Rattle.std.specs.Prelude.{slice_get, if◌then◌else◌, ◌&&◌, min, is_some, option_map}
 use Rattle.std.specs.declared.alloc.Global.{Global}
 use Rattle.std.specs.declared.vec.Vec.{Vec}
 use Rattle.std.proofs.lemmas.Bool.Decides.{nat_tests}
@@ -11,7 +11,6 @@ use Rattle.pipe_types.specs.declared.topology.Topology.{Topology}
 use Rattle.pipe_types.specs.declared.topology.StageSpec.{StageSpec}
 use Rattle.pipe_types.specs.declared.message.Place.{Place}
 use Rattle.pipe_types.specs.Sound.{IsSound}
-use Rattle.pipe_types.specs.Numbers.{same_sub}
 use Rattle.pipe_types.specs.Stages.{spec_of, feeds}
 use Rattle.pipe_model.specs.Lives.{is_live_sub, current_sub}
 use Rattle.pipe_model.specs.History.{History}
@@ -24,7 +23,6 @@ use Rattle.stage_laws.proofs.Numbering.{numbered_topology}
 use Rattle.stage_subs.specs.Subs.{begun}
 use Rattle.stage_subs.specs.Ledger.{ledger_row}
 use Rattle.consumer_sup.specs.Children.{Slots, child_in}
-use Rattle.consumer_sup.specs.declared.Child.{Child}
 use Rattle.batcher.specs.Batches.{Batches}
 use Rattle.message_ack.specs.Ends.{Ends, sent_in}
 use Rattle.core_tables.specs.declared.rows.BatchRow.{BatchRow}
@@ -33,10 +31,10 @@ use Rattle.core_tables.specs.Rows.{post_at}
 use Rattle.core_laws.proofs.Past.{supervisor_max}
 use Rattle.core_state.specs.declared.state.Core.{Core}
 use Rattle.core_state.specs.declared.tables.Tables.{Tables}
-use Rattle.core_state.specs.Stands.{Fields, AreSized, AreSet, Holds, Stands, opens_in, child_of, closed_seen}
+use Rattle.core_state.specs.Stands.{Fields, AreSized, AreSet, Stands, opens_in, child_of, closed_seen}
 use Rattle.core_state.specs.Begun.{new_stage, new_post, batches_of, no_batches, slots_of, children_of, no_children}
 use Rattle.core_state.specs.AreNew.{AreNew}
-use Rattle.core_state.proofs.FirstPairs.{Feeding, feeding, stands_at}
+use Rattle.core_state.proofs.FirstPairs.{feeding, stands_at}
 
 -- an element of a row of equal ones
 all_same : {A : Type 0} (n i : ℕ) (x : A) → i < n → slice_get (replicate n x) i ≡ Some x

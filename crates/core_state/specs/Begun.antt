@@ -1,5 +1,5 @@
 -- What a core without a step holds.
-use Rattle.std.specs.Prelude.{◌≡◌, ℕ, suc, zero, ◌+◌, ◌*◌, ◌≤◌, Bool, ◌&&◌, ◌||◌, ◌==◌, nat_le, false, true, if◌then◌else◌, List, [], ◌∷◌, length, map, replicate, min, Option, Some, None}
+use Rattle.std.specs.Prelude.{◌≡◌, ℕ, suc, zero, ◌+◌, ◌≤◌, Bool, ◌&&◌, ◌||◌, ◌==◌, nat_le, false, if◌then◌else◌, List, [], replicate, min, Option, Some, None}
 use Rattle.pipe_types.specs.declared.numbers.StageNo.{StageNo}
 use Rattle.pipe_types.specs.declared.topology.Topology.{Topology}
 use Rattle.pipe_types.specs.declared.topology.StageSpec.{StageSpec}

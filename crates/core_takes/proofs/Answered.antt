@@ -1,5 +1,5 @@
 -- The fields after an answer without a crash.
-use Rattle.std.proofs.Common.{◌≡◌, ◌≢◌, ℕ, suc, ◌+◌, ◌-◌, ◌<◌, ◌≤◌, List, [], ◌∷◌, ◌++◌, length, map, Bool, true, false, refl, ap, sym, ◌∙◌, Some, None, Option, arith, subst, All}
+use Rattle.std.proofs.Common.{◌≡◌, ℕ, suc, ◌+◌, ◌≤◌, List, [], ◌∷◌, ◌++◌, length, map, Bool, true, false, refl, ap, sym, ◌∙◌, Some, None, Option, arith, subst, All}
 use Rattle.std.specs.Prelude.{slice_get, option_map, if◌then◌else◌, ◌==◌, IfSome, is_some}
 use Rattle.std.specs.declared.alloc.Global.{Global}
 use Rattle.std.specs.declared.vec.Vec.{Vec}
@@ -16,15 +16,12 @@ use Rattle.pipe_types.specs.declared.message.Reply.{Reply}
 use Rattle.pipe_types.specs.declared.message.Reply.TheVariants.{Pass, Failed as FailedReply, Raised, Crashed}
 use Rattle.pipe_types.specs.declared.message.Place.{Place}
 use Rattle.pipe_types.specs.declared.step.Step.TheVariants.{Done}
-use Rattle.pipe_types.specs.Numbers.{same_stage}
-use Rattle.pipe_types.specs.Sound.{IsSound}
-use Rattle.pipe_types.specs.Stages.{spec_of, feeds}
+use Rattle.pipe_types.specs.Stages.{spec_of}
 use Rattle.pipe_model.specs.History.{History, accepted}
 use Rattle.pipe_model.specs.Posts.{last_take}
-use Rattle.pipe_model.specs.Content.{has_crash, passed}
-use Rattle.pipe_model.specs.Flow.{place, inbox, sent_to, view_of, runs_in, done, has_batchers_in, chunk_by}
+use Rattle.pipe_model.specs.Content.{has_crash}
+use Rattle.pipe_model.specs.Flow.{place, sent_to, runs_in, done, has_batchers_in}
 use Rattle.pipe_model.specs.Legal.{is_legal, allows, has_role, is_processor_role, owed, is_crash_of}
-use Rattle.pipe_model.specs.Standing.{gathered_in}
 use Rattle.pipe_journal.specs.Recorded.{Recorded}
 use Rattle.pipe_laws.proofs.Tests.{clash, same_stage-true}
 use Rattle.pipe_laws.proofs.Allowed.{DoneFacts, done_facts}
@@ -48,7 +45,7 @@ use Rattle.core_tables.specs.declared.rows.ContentRow.{ContentRow}
 use Rattle.core_tables.specs.Rows.{post_at, home}
 use Rattle.core_tables.specs.Tables.{queue_at, list_at}
 use Rattle.core_laws.specs.Columns.{running, post_row, is_by_partition, waiting_parts, mark, content_row}
-use Rattle.core_laws.proofs.Lawful.{legal_after, each_all}
+use Rattle.core_laws.proofs.Lawful.{legal_after}
 use Rattle.core_laws.proofs.Past.{known_within, live_known}
 use Rattle.core_state.specs.declared.state.Core.{Core}
 use Rattle.core_state.specs.Stands.{Fields, Holds, Stands}

@@ -1,44 +1,38 @@
 -- What an answer leaves of the marks, of the places in the journal and of the counts.
-use Rattle.std.proofs.Common.{◌≡◌, ℕ, zero, suc, ◌+◌, ◌-◌, ◌<◌, ◌≤◌, List, [], ◌∷◌, length, map, Bool, true, false, refl, ap, sym, ◌∙◌, Some, None, Option, arith, subst, All}
-use Rattle.std.specs.Prelude.{option_map, if◌then◌else◌, ◌==◌, ◌&&◌, ◌||◌, filter, is_some, IfSome}
+use Rattle.std.proofs.Common.{◌≡◌, ℕ, suc, ◌+◌, ◌≤◌, List, [], ◌∷◌, length, map, Bool, true, false, refl, ap, sym, ◌∙◌, Some, None, Option, arith, subst}
+use Rattle.std.specs.Prelude.{option_map, if◌then◌else◌, ◌==◌, ◌&&◌, ◌||◌, filter, IfSome}
 use Rattle.std.proofs.lemmas.Bool.Decides.{nat_tests}
 use Rattle.pipe_laws.proofs.Kept.{runs_here}
-use Rattle.std.proofs.lemmas.Bool.{eq-eqb, eqb-true, false_from_ne_true}
-use Rattle.std.proofs.lemmas.List.Elements.{All-cons, All-nil}
+use Rattle.std.proofs.lemmas.Bool.{eqb-true}
 use Rattle.pipe_types.specs.declared.numbers.StageNo.{StageNo}
 use Rattle.pipe_types.specs.declared.numbers.SubNo.{SubNo}
 use Rattle.pipe_types.specs.declared.topology.Topology.{Topology}
-use Rattle.pipe_types.specs.declared.message.Message.{Message}
 use Rattle.pipe_types.specs.declared.message.Reply.{Reply}
 use Rattle.pipe_types.specs.declared.message.Reply.TheVariants.{Pass, Failed as FailedReply, Raised, Crashed}
 use Rattle.pipe_types.specs.declared.message.Place.{Place}
 use Rattle.pipe_types.specs.declared.message.Place.TheVariants.{Waiting, Inbox, Running, Gathered, InBatch, Acked, Lost}
-use Rattle.pipe_types.specs.declared.step.Step.{Step}
 use Rattle.pipe_types.specs.declared.step.Step.TheVariants.{Done, Take}
-use Rattle.pipe_types.specs.Numbers.{same_stage, same_sub}
-use Rattle.pipe_types.specs.Sound.{IsSound}
+use Rattle.pipe_types.specs.Numbers.{same_stage}
 use Rattle.pipe_types.specs.Stages.{spec_of, feeds}
-use Rattle.pipe_model.specs.History.{History, accepted}
+use Rattle.pipe_model.specs.History.{History}
 use Rattle.pipe_model.specs.Posts.{last_take}
-use Rattle.pipe_model.specs.Lives.{generation, current_sub}
+use Rattle.pipe_model.specs.Lives.{current_sub}
 use Rattle.pipe_model.specs.Ledger.{handled, taken_on}
-use Rattle.pipe_model.specs.Content.{passed, has_crash}
-use Rattle.pipe_model.specs.Flow.{place, sent, sent_to, inbox, view_of, chunk_by, runs_in, among, has_batchers_in, done, answered, reply_to}
+use Rattle.pipe_model.specs.Content.{has_crash}
+use Rattle.pipe_model.specs.Flow.{place, sent, sent_to, inbox, runs_in, among, has_batchers_in, done, answered, reply_to}
 use Rattle.pipe_model.specs.Moves.{is_final}
 use Rattle.pipe_model.specs.Places.{settled_at}
-use Rattle.pipe_model.specs.Legal.{is_legal, allows, first_sub}
+use Rattle.pipe_model.specs.Legal.{is_legal, first_sub}
 use Rattle.pipe_model.specs.Standing.{in_inbox}
-use Rattle.pipe_laws.proofs.Tests.{clash, and_left, and_right, same_stage-true, same_stage-self, same_sub-true, same_sub-self}
-use Rattle.pipe_laws.proofs.Lists.{Each, each_filter, each_weaker, each_always}
+use Rattle.pipe_laws.proofs.Tests.{clash, same_stage-self, same_sub-true, same_sub-self}
+use Rattle.pipe_laws.proofs.Lists.{Each}
 use Rattle.pipe_laws.proofs.Allowed.{legal_before, legal_step, take_facts}
-use Rattle.pipe_laws.proofs.Accepted.{placed_accepted}
 use Rattle.pipe_laws.proofs.Entries.{EntryFits, entries_fit}
 use Rattle.pipe_laws.proofs.Handled.{handled_within}
 use Rattle.pipe_laws.proofs.Settled.{stays_settled}
 use Rattle.queue_laws.proofs.Apart.{each_kept}
-use Rattle.queue_laws.proofs.Passing.{AnswerEach}
 use Rattle.stage_subs.specs.Pairs.{PairRow}
-use Rattle.stage_subs.specs.Subs.{row_of, row_at, is_pair, handled_more, IsChanged}
+use Rattle.stage_subs.specs.Subs.{handled_more}
 use Rattle.stage_subs.specs.Ledger.{ledger_row}
 use Rattle.core_tables.specs.declared.rows.ContentRow.{ContentRow}
 use Rattle.core_laws.specs.Columns.{mark, mark_by, running, at_item, item_of}

@@ -1,7 +1,7 @@
 -- What an answer leaves of the open batches, and of the units that wait, with their partitions.
-use Rattle.std.proofs.Common.{◌≡◌, ℕ, suc, ◌+◌, ◌<◌, ◌≤◌, List, [], ◌∷◌, ◌++◌, length, map, Bool, true, false, refl, ap, sym, ◌∙◌, Some, None, Option, arith, subst}
-use Rattle.std.specs.Prelude.{option_map, if◌then◌else◌, ◌==◌, ◌&&◌, ◌||◌, not, filter, is_some}
-use Rattle.std.proofs.lemmas.Bool.{eq-eqb, false_from_ne_true}
+use Rattle.std.proofs.Common.{◌≡◌, ℕ, List, [], ◌∷◌, ◌++◌, map, Bool, true, false, refl, ap, sym, ◌∙◌, Some, None, Option, arith}
+use Rattle.std.specs.Prelude.{if◌then◌else◌, ◌==◌, ◌&&◌, ◌||◌, not, is_some}
+use Rattle.std.proofs.lemmas.Bool.{eq-eqb}
 use Rattle.std.proofs.lemmas.Bool.Decides.{nat_tests}
 use Rattle.std.proofs.lemmas.List.{map-append}
 use Rattle.pipe_types.specs.declared.numbers.StageNo.{StageNo}
@@ -24,9 +24,9 @@ use Rattle.pipe_model.specs.History.{History}
 use Rattle.pipe_model.specs.Content.{content, newer, passed, passed_as, has_crash, key_in, batcher_in, payload_in, gathers, arrivals}
 use Rattle.pipe_model.specs.Batches.{Batch, BatchPlace, AtBatcher, Sent, Dropped}
 use Rattle.pipe_model.specs.Flow.{place, batch, waiting, first_in, among, is_empty, numbers_in, is_batcher, has_batchers_in, is_gathered_in, waits_in, batch_waits_in, at_batcher}
-use Rattle.pipe_model.specs.Legal.{is_legal, has_role, is_processor_role}
+use Rattle.pipe_model.specs.Legal.{is_legal}
 use Rattle.pipe_model.specs.Standing.{gathered_in, in_progress, going}
-use Rattle.pipe_laws.proofs.Tests.{clash, same_stage-true, same_stage-self}
+use Rattle.pipe_laws.proofs.Tests.{same_stage-true}
 use Rattle.pipe_laws.proofs.Lists.{Each, each_filter, each_weaker, each_always}
 use Rattle.queue_laws.proofs.Apart.{Apart}
 use Rattle.queue_laws.proofs.Laws.{waiting_law, gathered_law, content_law, holds_law}

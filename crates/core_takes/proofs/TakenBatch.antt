@@ -1,5 +1,5 @@
 -- What the passes of a batch processor's take leave.
-use Rattle.std.proofs.Common.{◌≡◌, ℕ, zero, suc, ◌+◌, ◌≤◌, List, [], ◌∷◌, length, take, drop, Bool, true, false, refl, ap, sym, ◌∙◌, Some, None, Option, arith}
+use Rattle.std.proofs.Common.{◌≡◌, ℕ, suc, ◌≤◌, List, [], ◌∷◌, length, take, drop, Bool, true, false, refl, ap, sym, ◌∙◌, Some, None, Option, arith}
 use Rattle.std.specs.Prelude.{slice_get, option_map, if◌then◌else◌, ◌==◌, ◌&&◌}
 use Rattle.std.specs.declared.alloc.Global.{Global}
 use Rattle.std.specs.declared.vec.Vec.{Vec}
@@ -13,7 +13,7 @@ use Rattle.pipe_types.specs.declared.topology.Role.TheVariants.{Producer, Proces
 use Rattle.pipe_types.specs.declared.message.Place.{Place}
 use Rattle.pipe_types.specs.declared.message.Place.TheVariants.{Waiting, Inbox, Running, Gathered, InBatch, Acked, Lost}
 use Rattle.pipe_types.specs.declared.step.Step.TheVariants.{Take}
-use Rattle.pipe_types.specs.Numbers.{same_stage, same_sub}
+use Rattle.pipe_types.specs.Numbers.{same_stage}
 use Rattle.pipe_types.specs.Stages.{spec_of}
 use Rattle.pipe_model.specs.History.{History}
 use Rattle.pipe_model.specs.Flow.{place, inbox, units_on, taken, first_in, next_units, view_of, among, is_batcher}
@@ -32,12 +32,12 @@ use Rattle.stage_laws.proofs.Numbering.{numbered_topology}
 use Rattle.core_tables.specs.declared.rows.StageRow.{StageRow}
 use Rattle.core_tables.specs.declared.rows.PostRow.{PostRow}
 use Rattle.core_tables.specs.Rows.{post_at, taking}
-use Rattle.core_tables.specs.Tables.{queue_at, list_at}
+use Rattle.core_tables.specs.Tables.{queue_at}
 use Rattle.core_laws.specs.Columns.{running}
 use Rattle.core_laws.proofs.Lawful.{legal_after}
 use Rattle.core_laws.proofs.Past.{known_within, live_known}
 use Rattle.core_state.specs.declared.state.Core.{Core}
-use Rattle.core_state.specs.Stands.{Fields, Holds}
+use Rattle.core_state.specs.Stands.{Holds}
 use Rattle.core_takes.specs.Takes.{out_of}
 use Rattle.core_takes.proofs.Taking.{Taken, flip}
 

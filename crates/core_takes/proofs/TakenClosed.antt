@@ -4,21 +4,19 @@ use Rattle.std.specs.Prelude.{slice_get, option_map, if◌then◌else◌, ◌==�
 use Rattle.std.proofs.lemmas.Bool.{cases_lt}
 use Rattle.std.proofs.lemmas.Bool.Decides.{nat_tests}
 use Rattle.std.proofs.lemmas.Option.{slice_get_past}
-use Rattle.std.proofs.lemmas.List.Elements.{All-cons, All-nil}
 use Rattle.pipe_types.specs.declared.numbers.StageNo.{StageNo}
 use Rattle.pipe_types.specs.declared.numbers.SubNo.{SubNo}
 use Rattle.pipe_types.specs.declared.topology.Topology.{Topology}
 use Rattle.pipe_types.specs.declared.message.Place.{Place}
-use Rattle.pipe_types.specs.declared.message.Place.TheVariants.{Waiting, Inbox, Running, Gathered, InBatch, Acked, Lost}
 use Rattle.pipe_types.specs.declared.message.BatchEnd.TheVariants.{Outcomes}
 use Rattle.pipe_types.specs.declared.step.Step.TheVariants.{Close, Dispatch, Take, Wrote, Kill, Halt}
 use Rattle.pipe_types.specs.Stages.{spec_of}
-use Rattle.pipe_model.specs.History.{History, closed, accepted, incarnation}
+use Rattle.pipe_model.specs.History.{History, closed, incarnation}
 use Rattle.pipe_model.specs.Lives.{kill_set}
 use Rattle.pipe_model.specs.Content.{content, key_in, gathers}
 use Rattle.pipe_model.specs.Batches.{Batch, BatchPlace, batch_sent, batch_on_legs, leg_taken, leg_answered, batch_killed}
-use Rattle.pipe_model.specs.Flow.{place, batch, view_of, closing, change_place, new_batch, next_units, among, subs_of, deliveries, is_gathered_in, is_batcher, inbox, sent_to, numbers_in, first_in}
-use Rattle.pipe_model.specs.Legal.{is_legal, has_role, is_batch_processor_role, first_unit, first_sub}
+use Rattle.pipe_model.specs.Flow.{place, batch, view_of, closing, change_place, new_batch, next_units, among, subs_of, deliveries, is_gathered_in, inbox, sent_to, numbers_in}
+use Rattle.pipe_model.specs.Legal.{has_role, is_batch_processor_role, first_unit, first_sub}
 use Rattle.pipe_laws.proofs.Tests.{and_left}
 use Rattle.pipe_laws.proofs.Lists.{Each, each_filter, each_weaker, each_always}
 use Rattle.pipe_laws.proofs.Accepted.{placed_accepted}

@@ -1,5 +1,5 @@
 -- A batch processor takes one batch.
-use Rattle.std.proofs.Common.{◌≡◌, ℕ, ◌+◌, ◌≤◌, List, ◌∷◌, take, min, length, Bool, true, false, refl, ap, sym, ◌∙◌, Some, None, Option, arith, subst}
+use Rattle.std.proofs.Common.{◌≡◌, ℕ, ◌∷◌, take, min, length, true, refl, ap, sym, ◌∙◌, Some, arith, subst}
 use Rattle.std.specs.Prelude.{if◌then◌else◌, is_some}
 use Rattle.pipe_types.specs.declared.numbers.StageNo.{StageNo}
 use Rattle.pipe_types.specs.declared.numbers.SubNo.{SubNo}
@@ -20,8 +20,8 @@ use Rattle.queue_laws.proofs.Laws.{numbers_law}
 use Rattle.core_laws.proofs.Lawful.{legal_after}
 use Rattle.core_state.specs.declared.state.Core.{Core}
 use Rattle.core_state.specs.Stands.{Holds}
-use Rattle.core_takes.specs.Takes.{take_of, most_of, sub_first, IsBatch, IsTaken}
-use Rattle.core_takes.proofs.TakenStep.{Picked, picked}
+use Rattle.core_takes.specs.Takes.{most_of, sub_first, IsBatch, IsTaken}
+use Rattle.core_takes.proofs.TakenStep.{picked}
 use Rattle.core_takes.proofs.TakenBatch.{first_taken}
 
 one_unit : (core : Core) (s : StageNo) (u : SubNo) (k : ℕ) → Holds core → has_role core.topology s is_batch_processor_role ≡ true → allows core.topology core.journal.steps (Take s u k) ≡ true → k ≡ 1

@@ -1,5 +1,5 @@
 -- The take that comes next, by the first unit of the inbox.
-use Rattle.std.proofs.Common.{◌≡◌, ℕ, ◌+◌, ◌-◌, ◌<◌, ◌≤◌, List, [], ◌∷◌, length, Bool, true, false, refl, ap, sym, ◌∙◌, Some, None, Option, arith, min, subst, take}
+use Rattle.std.proofs.Common.{◌≡◌, ℕ, List, [], ◌∷◌, length, true, false, refl, ap, sym, ◌∙◌, Some, None, Option, arith, min, subst, take}
 use Rattle.std.specs.Prelude.{if◌then◌else◌}
 use Rattle.pipe_laws.proofs.Tests.{same_stage-self, clash}
 use Rattle.pipe_laws.proofs.Allowed.{take_facts}
@@ -21,7 +21,7 @@ use Rattle.pipe_model.specs.Legal.{allows, is_legal, owed, chunk_size, has_role,
 use Rattle.pipe_journal.specs.Recorded.{Recorded}
 use Rattle.core_tables.specs.Tables.{list_at}
 use Rattle.core_state.specs.declared.state.Core.{Core}
-use Rattle.core_state.specs.Stands.{Fields, Holds, Stands}
+use Rattle.core_state.specs.Stands.{Fields, Stands}
 use Rattle.core_takes.specs.Takes.{take_of, most_of, sub_first}
 
 most_is : (o : Option StageSpec) (n : ℕ) → chunk_size o n ≡ min (most_of o) n

@@ -1,5 +1,5 @@
 -- The fields after a take.
-use Rattle.std.proofs.Common.{◌≡◌, ℕ, suc, ◌<◌, ◌≤◌, List, [], ◌∷◌, length, map, take, Bool, true, false, refl, ap, sym, ◌∙◌, Some, None, Option, arith, subst}
+use Rattle.std.proofs.Common.{◌≡◌, ℕ, suc, ◌≤◌, List, [], ◌∷◌, length, map, take, Bool, true, false, refl, ap, sym, ◌∙◌, Some, None, Option, arith}
 use Rattle.std.specs.Prelude.{slice_get, option_map, if◌then◌else◌, ◌==◌, ◌&&◌, ◌||◌, not}
 use Rattle.std.specs.declared.alloc.Global.{Global}
 use Rattle.std.specs.declared.vec.Vec.{Vec}
@@ -20,7 +20,7 @@ use Rattle.pipe_model.specs.Flow.{place, batch, inbox, waiting, units_on, first_
 use Rattle.pipe_model.specs.Standing.{gathered_in}
 use Rattle.pipe_model.specs.Work.{taken_units}
 use Rattle.pipe_journal.specs.Recorded.{Recorded}
-use Rattle.message_ack.specs.Ends.{Ends, ends_of, end_of}
+use Rattle.message_ack.specs.Ends.{ends_of, end_of}
 use Rattle.core_tables.specs.declared.rows.Totals.{Totals}
 use Rattle.core_tables.specs.declared.rows.StageRow.{StageRow}
 use Rattle.core_tables.specs.declared.rows.PostRow.{PostRow}
@@ -28,7 +28,6 @@ use Rattle.core_tables.specs.Rows.{post_at, taking}
 use Rattle.core_tables.specs.Tables.{queue_at, list_at}
 use Rattle.core_laws.specs.Columns.{running, stage_row, post_row, part_of, open_batches, ends_in_progress, ends_on}
 use Rattle.core_state.specs.declared.state.Core.{Core}
-use Rattle.core_state.specs.Readings.{incarnation_by}
 use Rattle.core_state.specs.Stands.{Fields}
 use Rattle.core_calls.proofs.Ending.{row_changed, post_same}
 use Rattle.core_takes.specs.Takes.{out_of}

@@ -139,7 +139,8 @@ fn first_sub(inboxes: &[VecDeque<(SubNo, u32)>], stage: StageNo) -> SubNo
     requires { stage.0 < length inboxes.now }
     ensures { result ≡ sub_first (queue_at inboxes.now stage) }
 {
-    match inboxes[stage.0 as usize].front() {
+    let inbox = &inboxes[stage.0 as usize];
+    match inbox.front() {
         Some(unit) => unit.0,
         None => SubNo {
             consumer: StageNo(0),

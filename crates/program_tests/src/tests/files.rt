@@ -4,7 +4,7 @@ use super::calls::{Given, ONE_STAGE, copies, expect, joined, on};
 use std::test::Fail;
 
 /// Topology files that are refused, with the number and the place of the fault.
-const REFUSED: [(&str, &str); 20] = [
+static REFUSED: [(&str, &str); 20] = [
     (
         "version = 1\n[[producer]]\nname = \"p\"\nsource = \"mem:a",
         "topology 1 -\n",
@@ -69,7 +69,7 @@ const REFUSED: [(&str, &str); 20] = [
 #[test]
 fn refused_files_name_the_fault_and_its_place(rt: HostRuntime) -> Result<(), Fail> {
     let alloc = rt.alloc();
-    for (file, line) in REFUSED {
+    for &(file, line) in &REFUSED {
         for words in ["check t", "run t --acks --steps", "run t --workers 2"] {
             let given = Given {
                 steps_boxes: 0,
@@ -83,7 +83,7 @@ fn refused_files_name_the_fault_and_its_place(rt: HostRuntime) -> Result<(), Fai
 }
 
 /// Topologies, boxes of the kinds `steps` and `lines`, and what the stock lacks for a run.
-const SHORT: [(&str, usize, usize, &str); 8] = [
+static SHORT: [(&str, usize, usize, &str); 8] = [
     ("concurrency = 1", 0, 64, "stock steps need 1 have 0\n"),
     ("concurrency = 3", 2, 64, "stock steps need 3 have 2\n"),
     (
@@ -127,7 +127,7 @@ const SHORT: [(&str, usize, usize, &str); 8] = [
 #[test]
 fn a_run_needs_a_box_for_each_post_and_a_check_none(rt: HostRuntime) -> Result<(), Fail> {
     let alloc = rt.alloc();
-    for (processors, steps_boxes, lines_boxes, line) in SHORT {
+    for &(processors, steps_boxes, lines_boxes, line) in &SHORT {
         let head = "version = 1\nproducer = [{name = 'p', source = 'mem:a'}]\n[processors]\n";
         let file = joined(alloc, head, processors)?;
         for words in ["run t", "run t --workers 2"] {

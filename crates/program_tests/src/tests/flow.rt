@@ -5,7 +5,7 @@ use mem_edges::SourceAct;
 use std::test::Fail;
 
 /// Words with lines and the acts of their source, the status, how many lines are accepted, and the report.
-const FLOWS: [(&str, &str, &[SourceAct], u8, usize, &str); 4] = [
+static FLOWS: [(&str, &str, &[SourceAct], u8, usize, &str); 4] = [
     (
         "flow mem:a a",
         "",
@@ -43,7 +43,7 @@ const FLOWS: [(&str, &str, &[SourceAct], u8, usize, &str); 4] = [
 #[test]
 fn flow_reads_each_line_and_reports(rt: HostRuntime) -> Result<(), Fail> {
     let alloc = rt.alloc();
-    for (words, lines, acts, status, accepted, out) in FLOWS {
+    for &(words, lines, acts, status, accepted, out) in &FLOWS {
         let given = Given {
             acts,
             ..on(words, "", lines)

@@ -6,7 +6,7 @@ use std::test::Fail;
 
 /// Keys of the processor with lines, at most four of them: the records and the replies of the one chunk that they are,
 /// how many lines are accepted, successful and failed, and the lines of reasons.
-const RULES: [(&str, &str, &str, &str, (u32, u32, u32), &str); 22] = [
+static RULES: [(&str, &str, &str, &str, (u32, u32, u32), &str); 22] = [
     ("", "x\r\n", "780d", "p:0:0:-:780d", (1, 1, 0), ""),
     ("steps = []", "x\n", "78", "p:0:0:-:78", (1, 1, 0), ""),
     ("steps = ['pass']", "x\n", "78", "p:0:0:-:78", (1, 1, 0), ""),
@@ -175,7 +175,7 @@ fn journal_of(
 #[test]
 fn each_rule_gives_its_reply(rt: HostRuntime) -> Result<(), Fail> {
     let alloc = rt.alloc();
-    for (keys, lines, records, replies, counts, reasons) in RULES {
+    for &(keys, lines, records, replies, counts, reasons) in &RULES {
         let file = joined(alloc, ONE_STAGE, keys)?;
         let (accepted, _, failed) = counts;
         let journal = journal_of(alloc, accepted, records, replies)?;

@@ -5,7 +5,7 @@ use mem_edges::{SinkAct, SourceAct};
 use std::test::Fail;
 
 /// Keys of the processor with lines, and the journal of a run in which each line is successful.
-const JOURNALS: [(&str, &str, u32, &str); 9] = [
+static JOURNALS: [(&str, &str, u32, &str); 9] = [
     (
         "",
         "",
@@ -85,7 +85,7 @@ const JOURNALS: [(&str, &str, u32, &str); 9] = [
 #[test]
 fn steps_are_written_before_the_report(rt: HostRuntime) -> Result<(), Fail> {
     let alloc = rt.alloc();
-    for (keys, lines, accepted, journal) in JOURNALS {
+    for &(keys, lines, accepted, journal) in &JOURNALS {
         let file = joined(alloc, ONE_STAGE, keys)?;
         let report = report(alloc, (accepted, accepted, 0), "")?;
         let out = joined(alloc, journal, report.as_str())?;
@@ -97,7 +97,7 @@ fn steps_are_written_before_the_report(rt: HostRuntime) -> Result<(), Fail> {
 
 /// Keys of the processor with lines, and the acknowledgements, how many lines are accepted, successful and failed, and
 /// the lines of reasons.
-const ACKS: [(&str, &str, &str, (u32, u32, u32), &str); 7] = [
+static ACKS: [(&str, &str, &str, (u32, u32, u32), &str); 7] = [
     ("", "", "", (0, 0, 0), ""),
     ("", "x\ny\n", "ack p ok 1,2 failed -\n", (2, 2, 0), ""),
     (
@@ -141,7 +141,7 @@ const ACKS: [(&str, &str, &str, (u32, u32, u32), &str); 7] = [
 #[test]
 fn acknowledgements_are_written_before_the_report(rt: HostRuntime) -> Result<(), Fail> {
     let alloc = rt.alloc();
-    for (keys, lines, acks, counts, reasons) in ACKS {
+    for &(keys, lines, acks, counts, reasons) in &ACKS {
         let file = joined(alloc, ONE_STAGE, keys)?;
         let (_, _, failed) = counts;
         let report = report(alloc, counts, reasons)?;
@@ -169,7 +169,7 @@ const ALL: SinkAct = SinkAct::Take(1000);
 
 /// Words of a run with the acts of the output, the status, and what is written of the journal, the acknowledgements and
 /// the report.
-const WRITES: [(&str, &[SinkAct], u8, [&str; 3]); 13] = [
+static WRITES: [(&str, &[SinkAct], u8, [&str; 3]); 13] = [
     ("run t", &[], 1, ["", "", REPORT]),
     ("run t --steps", &[], 1, [JOURNAL, "", REPORT]),
     ("run t --acks", &[], 1, ["", ACK_LINES, REPORT]),
@@ -231,7 +231,7 @@ fn each_text_is_written_by_itself(rt: HostRuntime) -> Result<(), Fail> {
     let alloc = rt.alloc();
     let keys = "max_demand = 2\nmin_demand = 0\nsteps = ['require a']\n";
     let file = joined(alloc, ONE_STAGE, keys)?;
-    for (words, out_acts, status, [journal, acks, report]) in WRITES {
+    for &(words, out_acts, status, [journal, acks, report]) in &WRITES {
         let out = format!(in alloc; "{journal}{acks}{report}")?;
         let given = Given {
             out_acts,
@@ -248,7 +248,7 @@ fn each_text_is_written_by_itself(rt: HostRuntime) -> Result<(), Fail> {
 }
 
 /// Words of which a line is lost, with the acts of both outputs and what these hold.
-const LOST: [(&str, &[SinkAct], &[SinkAct], &str, &str); 6] = [
+static LOST: [(&str, &[SinkAct], &[SinkAct], &str, &str); 6] = [
     ("check t", &[SinkAct::Fail], &[], "", ""),
     (
         "check t",
@@ -278,7 +278,7 @@ const LOST: [(&str, &[SinkAct], &[SinkAct], &str, &str); 6] = [
 #[test]
 fn a_line_that_cannot_be_written_is_an_output_fault(rt: HostRuntime) -> Result<(), Fail> {
     let alloc = rt.alloc();
-    for (words, out_acts, err_acts, out, err) in LOST {
+    for &(words, out_acts, err_acts, out, err) in &LOST {
         let checked = err_acts.is_empty();
         let given = Given {
             out_acts,
@@ -293,7 +293,7 @@ fn a_line_that_cannot_be_written_is_an_output_fault(rt: HostRuntime) -> Result<(
 
 /// Keys of the processor, how many copies of which lines, and the acts of the source: the steps before its end, how it
 /// ends, how many steps there are, and the first lines of the report.
-const ENDS: [(&str, usize, &str, &[SourceAct], &str, &str, u32, &str); 4] = [
+static ENDS: [(&str, usize, &str, &[SourceAct], &str, &str, u32, &str); 4] = [
     (
         "",
         1,
@@ -339,7 +339,7 @@ const ENDS: [(&str, usize, &str, &[SourceAct], &str, &str, u32, &str); 4] = [
 #[test]
 fn a_source_that_ends_early_stands_in_the_report(rt: HostRuntime) -> Result<(), Fail> {
     let alloc = rt.alloc();
-    for (keys, count, line, acts, steps, how, end, counts) in ENDS {
+    for &(keys, count, line, acts, steps, how, end, counts) in &ENDS {
         let file = joined(alloc, ONE_STAGE, keys)?;
         let lines = copies(alloc, line, count)?;
         let out = format!(in alloc;

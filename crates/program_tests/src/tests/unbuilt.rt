@@ -15,7 +15,7 @@ const TWO: &str =
 
 /// Topologies, as their producers and the rest, with their counts and with the word for which they do not run. The last
 /// ones are of all forms that are tried behind that word, as far as these can stand together.
-const FORMS: [(&str, &str, &str, &str); 20] = [
+static FORMS: [(&str, &str, &str, &str); 20] = [
     (ONE, "supervisor = {}", "2 subscriptions 1", "supervisor"),
     (
         ONE,
@@ -145,7 +145,7 @@ fn expect_unopened(
 #[test]
 fn forms_that_are_not_built_are_named_and_checked(rt: HostRuntime) -> Result<(), Fail> {
     let alloc = rt.alloc();
-    for (producers, others, counts, word) in FORMS {
+    for &(producers, others, counts, word) in &FORMS {
         let file = format!(in alloc; "version = 1\n{producers}\n{others}\n")?;
         let file = file.as_str();
         let counts = format!(in alloc; "stages {counts}\n")?;
@@ -168,7 +168,7 @@ fn forms_that_are_not_built_are_named_and_checked(rt: HostRuntime) -> Result<(),
 }
 
 /// Words with the acts of a source that waits, and how many steps and accepted lines the journal has then.
-const WAITS: [(&str, &[SourceAct], u64, usize); 3] = [
+static WAITS: [(&str, &[SourceAct], u64, usize); 3] = [
     ("flow mem:a x", &[SourceAct::Wait], 2, 0),
     ("run t", &[SourceAct::Wait], 2, 0),
     // Ask, fetch, accept, dispatch, take, done and a fetch that is still out.
@@ -183,7 +183,7 @@ const WAITS: [(&str, &[SourceAct], u64, usize); 3] = [
 #[test]
 fn a_source_that_waits_ends_the_run(rt: HostRuntime) -> Result<(), Fail> {
     let alloc = rt.alloc();
-    for (words, acts, steps, accepted) in WAITS {
+    for &(words, acts, steps, accepted) in &WAITS {
         let given = Given {
             acts,
             ..on(words, ONE_STAGE, "x\ny\n")

@@ -6,7 +6,7 @@ use std::test::Fail;
 const USAGE: &str =
     "usage: flow SOURCE PREFIX; check TOPOLOGY; run TOPOLOGY [--workers N] [--acks] [--steps]\n";
 
-const WORDS: [(&str, u8, &str); 42] = [
+static WORDS: [(&str, u8, &str); 42] = [
     ("", 7, USAGE),
     ("flow", 7, USAGE),
     ("flow mem:a", 7, USAGE),
@@ -54,7 +54,7 @@ const WORDS: [(&str, u8, &str); 42] = [
 #[test]
 fn words_have_their_status(rt: HostRuntime) -> Result<(), Fail> {
     let alloc = rt.alloc();
-    for (words, status, line) in WORDS {
+    for &(words, status, line) in &WORDS {
         let came = call(alloc, on(words, ONE_STAGE, "a\n"))?;
         let (told, said) = (shown(&came.out), shown(&came.err));
         assert_eq!(rt; came.status, status, "{words}: {said}");

@@ -1,5 +1,5 @@
-use Rattle.std.proofs.Common.{◌≡◌, ◌∷◌, [], ℕ, ◌<◌, ◌≤◌, ◌∙◌, ap, sym, refl, arith, length}
-use Rattle.std.specs.Prelude.{slice_get, if◌then◌else◌, ◌==◌, None}
+use Rattle.std.proofs.Common.{ℕ, ◌∙◌, ap, refl, arith}
+use Rattle.std.specs.Prelude.{slice_get, if◌then◌else◌, ◌==◌}
 use Rattle.pipe_types.specs.declared.step.Step.TheVariants.{Child}
 use Rattle.core_tables.specs.Rows.{post_at}
 use Rattle.core_takes.specs.Takes.{out_of}

@@ -1,4 +1,4 @@
-use Rattle.std.proofs.Common.{◌≡◌, ℕ, suc, ◌+◌, ◌*◌, ◌<◌, ◌≤◌, ◌∷◌, ◌++◌, List, [], length, ◌∙◌, arith, refl, ap, sym, subst, All}
+use Rattle.std.proofs.Common.{◌≡◌, ℕ, suc, ◌≤◌, ◌++◌, List, length, ◌∙◌, arith, refl, ap, sym, subst, All}
 use Rattle.std.specs.Prelude.{option_map, slice_get, if◌then◌else◌, ◌==◌}
 use Rattle.pipe_types.specs.declared.step.Step.TheVariants.{Done}
 use Rattle.pipe_types.specs.declared.message.Reply.{Reply}
@@ -7,14 +7,14 @@ use Rattle.pipe_model.specs.Posts.{last_take}
 use Rattle.pipe_model.specs.Content.{has_crash}
 use Rattle.pipe_model.specs.Flow.{done}
 use Rattle.stage_subs.specs.Subs.{row_at}
-use Rattle.core_tables.specs.Tables.{queue_at, list_at, spare_at}
+use Rattle.core_tables.specs.Tables.{queue_at, list_at}
 use Rattle.core_laws.specs.Columns.{running}
 use Rattle.core_laws.proofs.Lawful.{each_all}
 use Rattle.core_state.specs.declared.state.Core.{Core}
 use Rattle.core_state.proofs.Steps.{holds_after}
 use Rattle.core_takes.specs.Replies.{passed_parts, marked, noted, counted_on, HasRow, parted, take_in}
 use Rattle.core_takes.proofs.TakenChunk.{list_read}
-use Rattle.core_takes.proofs.Answered.{Known, known_answer, Answered, answered_fields, counts_fit, rows_there, replies_few}
+use Rattle.core_takes.proofs.Answered.{known_answer, Answered, answered_fields, counts_fit, rows_there, replies_few}
 use Rattle.core_takes.proofs.answers.answered.Goals as goal
 
 pub index-chunk-requires : goal.index-chunk-requires

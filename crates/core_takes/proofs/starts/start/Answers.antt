@@ -1,4 +1,4 @@
-use Rattle.std.proofs.Common.{◌≡◌, ℕ, suc, ◌*◌, ◌<◌, ◌≤◌, ◌∷◌, List, length, take, min, ◌∙◌, arith, refl, ap, sym, subst, All}
+use Rattle.std.proofs.Common.{◌≡◌, ℕ, suc, ◌≤◌, ◌∷◌, length, take, ◌∙◌, arith, refl, ap, sym, subst, All}
 use Rattle.std.specs.Prelude.{option_map, slice_get, if◌then◌else◌, ◌==◌}
 use Rattle.std.proofs.lemmas.List.{length-take}
 use Rattle.pipe_types.specs.declared.step.Step.TheVariants.{Take}
@@ -10,7 +10,7 @@ use Rattle.core_state.specs.Stands.{Fields}
 use Rattle.core_state.proofs.Steps.{holds_after}
 use Rattle.core_takes.specs.Takes.{take_of, out_of}
 use Rattle.core_takes.proofs.Taking.{taken_fields}
-use Rattle.core_takes.proofs.TakenChunk.{Known, known_take, chunk_taken, chunk_is, list_read, size_of}
+use Rattle.core_takes.proofs.TakenChunk.{known_take, chunk_taken, chunk_is, list_read, size_of}
 use Rattle.core_takes.proofs.starts.start.Goals as goal
 
 pub start_chunk-requires-clause-inbox : goal.start_chunk-requires-clause-inbox

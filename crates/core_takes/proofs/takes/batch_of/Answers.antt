@@ -1,5 +1,5 @@
-use Rattle.std.proofs.Common.{◌≡◌, ◌-◌, ◌<◌, ◌≤◌, ℕ, ◌∙◌, Some, refl, ap, sym, arith, subst, All, length}
-use Rattle.std.specs.Prelude.{slice_get, option_map}
+use Rattle.std.proofs.Common.{◌-◌, ◌≤◌, ℕ, ◌∙◌, refl, ap, sym, arith, subst, All, length}
+use Rattle.std.specs.Prelude.{option_map}
 use Rattle.std.proofs.lemmas.Option.{slice_get_read}
 use Rattle.pipe_model.specs.Work.{messages_of}
 use Rattle.core_takes.specs.Takes.{first_key}

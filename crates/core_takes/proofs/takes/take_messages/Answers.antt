@@ -1,15 +1,14 @@
-use Rattle.std.proofs.Common.{◌≡◌, ℕ, ◌<◌, ◌≤◌, ◌∷◌, List, length, take, ◌∙◌, arith, ap, sym, subst, All}
+use Rattle.std.proofs.Common.{◌≡◌, ℕ, ◌≤◌, ◌∷◌, take, ◌∙◌, arith, ap, sym, subst, All}
 use Rattle.std.proofs.lemmas.List.{take_min}
-use Rattle.pipe_types.specs.Stages.{spec_of}
 use Rattle.pipe_types.specs.declared.topology.Topology.{Topology}
 use Rattle.pipe_model.specs.History.{History}
 use Rattle.pipe_model.specs.Flow.{inbox, units_on}
 use Rattle.pipe_model.specs.Jobs.{with_step}
 use Rattle.pipe_model.specs.Work.{chunk_of, messages_of}
 use Rattle.core_tables.specs.Tables.{queue_at}
-use Rattle.core_takes.specs.Takes.{most_of, sub_first, take_of}
+use Rattle.core_takes.specs.Takes.{sub_first, take_of}
 use Rattle.core_takes.proofs.TakenChunk.{known_take, size_of}
-use Rattle.core_takes.proofs.TakenStep.{Picked, picked, same_take, same_allowed, chunk_after}
+use Rattle.core_takes.proofs.TakenStep.{picked, same_take, same_allowed, chunk_after}
 use Rattle.core_takes.proofs.takes.take_messages.Goals as goal
 
 pub copies_of-requires-clause-least : goal.copies_of-requires-clause-least

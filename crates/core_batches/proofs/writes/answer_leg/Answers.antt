@@ -1,0 +1,242 @@
+use Rattle.std.proofs.Common.{◌≡◌, ◌∷◌, ◌∙◌, ◌<◌, length, ap, sym, refl, arith, Some}
+use Rattle.std.specs.Prelude.{slice_get}
+use Rattle.std.proofs.lemmas.Option.{slice_get_read}
+use Rattle.pipe_types.specs.declared.message.BatchEnd.{BatchEnd}
+use Rattle.pipe_types.specs.declared.message.BatchEnd.TheVariants.{Outcomes}
+use Rattle.pipe_types.specs.declared.step.Step.TheVariants.{Wrote}
+use Rattle.core_state.specs.declared.state.Core.{Core}
+use Rattle.core_state.proofs.Steps.{holds_after, unowed_after}
+use Rattle.core_batches.specs.Writes.{leg_place}
+use Rattle.core_laws.specs.Columns.{sent_on}
+use Rattle.core_batches.proofs.Written.{written_fields, answering, stage_found, take_there, written_room, leg_few, leg_is, leg_open, legs_there, outcomes_many, numbers_here, last_is, settled_is, legs_kept, places_by, marks_by}
+use Rattle.core_batches.proofs.writes.answer_leg.Goals as goal
+
+pub index-row-requires : goal.index-row-requires
+index-row-requires c =
+    let core = c.args.core.now in
+    let s = c.args.stage in
+    let bytes = c.args.bytes in
+    let end = c.args.end in
+    let os = c.args.outcomes in
+    let stands = c.requires.stands in
+    let within : s.0 < length core.stages.items = stage_found core s bytes end os stands c.requires.legal c.requires.answered in
+    omega (arith, within)
+
+pub unwrap-requires : goal.unwrap-requires
+unwrap-requires c =
+    let core = c.args.core.now in
+    let s = c.args.stage in
+    let bytes = c.args.bytes in
+    let end = c.args.end in
+    let os = c.args.outcomes in
+    let stands = c.requires.stands in
+    let within : s.0 < length core.stages.items = stage_found core s bytes end os stands c.requires.legal c.requires.answered in
+    let row = c.index-row.result.now in
+    let found : slice_get core.stages.items s.0 ≡ Some row = slice_get_read core.stages.items (length core.stages.items) s.0 row refl within c.index-row.ensures in
+    take_there core s bytes end os row stands c.requires.legal c.requires.answered found
+
+pub overflow_sub-at : goal.overflow_sub-at
+overflow_sub-at c =
+    let core = c.args.core.now in
+    let s = c.args.stage in
+    let bytes = c.args.bytes in
+    let end = c.args.end in
+    let os = c.args.outcomes in
+    let stands = c.requires.stands in
+    let within : s.0 < length core.stages.items = stage_found core s bytes end os stands c.requires.legal c.requires.answered in
+    let row = c.index-row.result.now in
+    let found : slice_get core.stages.items s.0 ≡ Some row = slice_get_read core.stages.items (length core.stages.items) s.0 row refl within c.index-row.ensures in
+    let u = c.unwrap.result.0 in
+    let b = row.taken in
+    let h = answering core s bytes end os row c.unwrap.result stands c.requires.legal c.requires.answered found c.unwrap.ensures in
+    h.low
+
+pub leg_of_batch-leg-requires-clause-there : goal.leg_of_batch-leg-requires-clause-there
+leg_of_batch-leg-requires-clause-there c =
+    let core = c.args.core.now in
+    let s = c.args.stage in
+    let bytes = c.args.bytes in
+    let end = c.args.end in
+    let os = c.args.outcomes in
+    let stands = c.requires.stands in
+    let within : s.0 < length core.stages.items = stage_found core s bytes end os stands c.requires.legal c.requires.answered in
+    let row = c.index-row.result.now in
+    let found : slice_get core.stages.items s.0 ≡ Some row = slice_get_read core.stages.items (length core.stages.items) s.0 row refl within c.index-row.ensures in
+    let u = c.unwrap.result.0 in
+    let b = row.taken in
+    let h = answering core s bytes end os row c.unwrap.result stands c.requires.legal c.requires.answered found c.unwrap.ensures in
+    h.there
+
+pub leg_of_batch-leg-requires-clause-few : goal.leg_of_batch-leg-requires-clause-few
+leg_of_batch-leg-requires-clause-few c =
+    let core = c.args.core.now in
+    let s = c.args.stage in
+    let bytes = c.args.bytes in
+    let end = c.args.end in
+    let os = c.args.outcomes in
+    let stands = c.requires.stands in
+    let within : s.0 < length core.stages.items = stage_found core s bytes end os stands c.requires.legal c.requires.answered in
+    let row = c.index-row.result.now in
+    let found : slice_get core.stages.items s.0 ≡ Some row = slice_get_read core.stages.items (length core.stages.items) s.0 row refl within c.index-row.ensures in
+    let u = c.unwrap.result.0 in
+    let b = row.taken in
+    let h = answering core s bytes end os row c.unwrap.result stands c.requires.legal c.requires.answered found c.unwrap.ensures in
+    leg_few core s bytes os u b h
+
+pub settle_leg-settled-requires-clause-open_leg : goal.settle_leg-settled-requires-clause-open_leg
+settle_leg-settled-requires-clause-open_leg c =
+    let core = c.args.core.now in
+    let s = c.args.stage in
+    let bytes = c.args.bytes in
+    let end = c.args.end in
+    let os = c.args.outcomes in
+    let stands = c.requires.stands in
+    let within : s.0 < length core.stages.items = stage_found core s bytes end os stands c.requires.legal c.requires.answered in
+    let row = c.index-row.result.now in
+    let found : slice_get core.stages.items s.0 ≡ Some row = slice_get_read core.stages.items (length core.stages.items) s.0 row refl within c.index-row.ensures in
+    let u = c.unwrap.result.0 in
+    let b = row.taken in
+    let h = answering core s bytes end os row c.unwrap.result stands c.requires.legal c.requires.answered found c.unwrap.ensures in
+    let leg = c.leg_of_batch-leg.result in
+    let same = leg_is core s bytes os u b h leg c.leg_of_batch-leg.ensures in
+    leg_open core s bytes os u b h leg same
+
+pub settle_leg-settled-requires-clause-there : goal.settle_leg-settled-requires-clause-there
+settle_leg-settled-requires-clause-there c =
+    let core = c.args.core.now in
+    let s = c.args.stage in
+    let bytes = c.args.bytes in
+    let end = c.args.end in
+    let os = c.args.outcomes in
+    let stands = c.requires.stands in
+    let within : s.0 < length core.stages.items = stage_found core s bytes end os stands c.requires.legal c.requires.answered in
+    let row = c.index-row.result.now in
+    let found : slice_get core.stages.items s.0 ≡ Some row = slice_get_read core.stages.items (length core.stages.items) s.0 row refl within c.index-row.ensures in
+    let u = c.unwrap.result.0 in
+    let b = row.taken in
+    let h = answering core s bytes end os row c.unwrap.result stands c.requires.legal c.requires.answered found c.unwrap.ensures in
+    legs_there core s bytes os u b h
+
+pub settle_leg-settled-requires-clause-outcomes : goal.settle_leg-settled-requires-clause-outcomes
+settle_leg-settled-requires-clause-outcomes c =
+    let core = c.args.core.now in
+    let s = c.args.stage in
+    let bytes = c.args.bytes in
+    let end = c.args.end in
+    let os = c.args.outcomes in
+    let stands = c.requires.stands in
+    let within : s.0 < length core.stages.items = stage_found core s bytes end os stands c.requires.legal c.requires.answered in
+    let row = c.index-row.result.now in
+    let found : slice_get core.stages.items s.0 ≡ Some row = slice_get_read core.stages.items (length core.stages.items) s.0 row refl within c.index-row.ensures in
+    let u = c.unwrap.result.0 in
+    let b = row.taken in
+    let h = answering core s bytes end os row c.unwrap.result stands c.requires.legal c.requires.answered found c.unwrap.ensures in
+    outcomes_many core s bytes os u b h
+
+pub end_batch-requires-clause-there : goal.end_batch-requires-clause-there
+end_batch-requires-clause-there c =
+    let core = c.args.core.now in
+    let s = c.args.stage in
+    let bytes = c.args.bytes in
+    let end = c.args.end in
+    let os = c.args.outcomes in
+    let stands = c.requires.stands in
+    let within : s.0 < length core.stages.items = stage_found core s bytes end os stands c.requires.legal c.requires.answered in
+    let row = c.index-row.result.now in
+    let found : slice_get core.stages.items s.0 ≡ Some row = slice_get_read core.stages.items (length core.stages.items) s.0 row refl within c.index-row.ensures in
+    let u = c.unwrap.result.0 in
+    let b = row.taken in
+    let h = answering core s bytes end os row c.unwrap.result stands c.requires.legal c.requires.answered found c.unwrap.ensures in
+    h.there
+
+pub end_batch-requires-clause-numbers : goal.end_batch-requires-clause-numbers
+end_batch-requires-clause-numbers c =
+    let core = c.args.core.now in
+    let s = c.args.stage in
+    let bytes = c.args.bytes in
+    let end = c.args.end in
+    let os = c.args.outcomes in
+    let stands = c.requires.stands in
+    let within : s.0 < length core.stages.items = stage_found core s bytes end os stands c.requires.legal c.requires.answered in
+    let row = c.index-row.result.now in
+    let found : slice_get core.stages.items s.0 ≡ Some row = slice_get_read core.stages.items (length core.stages.items) s.0 row refl within c.index-row.ensures in
+    let u = c.unwrap.result.0 in
+    let b = row.taken in
+    let h = answering core s bytes end os row c.unwrap.result stands c.requires.legal c.requires.answered found c.unwrap.ensures in
+    numbers_here core s bytes os u b h (sym stands.holds.fields.sized.places)
+
+pub end_batch-requires-clause-marks : goal.end_batch-requires-clause-marks
+end_batch-requires-clause-marks c =
+    let core = c.args.core.now in
+    let s = c.args.stage in
+    let bytes = c.args.bytes in
+    let end = c.args.end in
+    let os = c.args.outcomes in
+    let stands = c.requires.stands in
+    let within : s.0 < length core.stages.items = stage_found core s bytes end os stands c.requires.legal c.requires.answered in
+    stands.holds.fields.sized.settled ∙ sym stands.holds.fields.sized.places
+
+pub come_home-requires : goal.come_home-requires
+come_home-requires c =
+    let core = c.args.core.now in
+    let s = c.args.stage in
+    let bytes = c.args.bytes in
+    let end = c.args.end in
+    let os = c.args.outcomes in
+    let stands = c.requires.stands in
+    let within : s.0 < length core.stages.items = stage_found core s bytes end os stands c.requires.legal c.requires.answered in
+    omega (arith, within, stands.holds.fields.sized.stages, stands.holds.fields.sized.posts)
+
+pub count_handled-requires : goal.count_handled-requires
+count_handled-requires c =
+    let core = c.args.core.now in
+    let s = c.args.stage in
+    let bytes = c.args.bytes in
+    let end = c.args.end in
+    let os = c.args.outcomes in
+    let stands = c.requires.stands in
+    let within : s.0 < length core.stages.items = stage_found core s bytes end os stands c.requires.legal c.requires.answered in
+    let row = c.index-row.result.now in
+    let found : slice_get core.stages.items s.0 ≡ Some row = slice_get_read core.stages.items (length core.stages.items) s.0 row refl within c.index-row.ensures in
+    let u = c.unwrap.result.0 in
+    let b = row.taken in
+    let h = answering core s bytes end os row c.unwrap.result stands c.requires.legal c.requires.answered found c.unwrap.ensures in
+    written_room core core.topology core.journal.steps s bytes os u b (leg_place u (sent_on core.topology core.journal.steps b)) h.written.ms h.written.legs stands.holds.fields h.written.is
+
+pub returns-clause-stands : goal.returns-clause-stands
+returns-clause-stands c =
+    let core = c.args.core.now in
+    let s = c.args.stage in
+    let bytes = c.args.bytes in
+    let end = c.args.end in
+    let os = c.args.outcomes in
+    let stands = c.requires.stands in
+    let within : s.0 < length core.stages.items = stage_found core s bytes end os stands c.requires.legal c.requires.answered in
+    let row = c.index-row.result.now in
+    let found : slice_get core.stages.items s.0 ≡ Some row = slice_get_read core.stages.items (length core.stages.items) s.0 row refl within c.index-row.ensures in
+    let u = c.unwrap.result.0 in
+    let b = row.taken in
+    let h = answering core s bytes end os row c.unwrap.result stands c.requires.legal c.requires.answered found c.unwrap.ensures in
+    let leg = c.leg_of_batch-leg.result in
+    let same = leg_is core s bytes os u b h leg c.leg_of_batch-leg.ensures in
+    let settled = c.settle_leg-settled.result in
+    let i = leg_place u (sent_on core.topology core.journal.steps b) in
+    let core-new : Core =
+    record core {
+      journal = c.push_spare.new.self;
+      posts = c.come_home.new.posts;
+      places = c.end_batch.new.places;
+      settled = c.end_batch.new.marks;
+      subs = c.count_handled.new.subs;
+      legs = c.settle_leg-settled.new.self;
+      totals = record core.totals { quiet = 0 };
+    } in
+    let written = c.push_spare.ensures.written ∙ ap (λ (e : BatchEnd). Wrote s bytes e ∷ core.journal.steps) c.requires.answered in
+    let fields =
+    written_fields core core.topology core.journal.steps s bytes os u b i h.written.ms h.written.legs settled c.push_spare.new.self c.come_home.new.posts c.end_batch.new.places c.end_batch.new.marks c.count_handled.new.subs
+    c.settle_leg-settled.new.self stands.holds.sound stands.holds.fields h.written.is (last_is core s bytes os u b h leg settled same c.settle_leg-settled.ensures.last_leg)
+    (settled_is core s bytes os u b h leg settled same c.settle_leg-settled.ensures.settled) (legs_kept core s bytes os u b h leg settled c.settle_leg-settled.new.self same c.settle_leg-settled.ensures.kept)
+    c.come_home.ensures.posts c.come_home.ensures.len (places_by core s bytes os u b h settled core.places.items c.end_batch.new.places.items c.end_batch.ensures.places) c.end_batch.ensures.places_len
+    (marks_by core s bytes os u b h settled c.len-mark.result core.settled.items c.end_batch.new.marks.items c.len-mark.ensures c.end_batch.ensures.marks) c.end_batch.ensures.marks_len c.count_handled.ensures in
+    let holds = holds_after core core-new (Wrote s bytes (Outcomes os)) stands.holds refl written h.written.is.allowed fields in
+    record { holds = holds; unowed = unowed_after core-new core.topology (Wrote s bytes (Outcomes os)) core.journal.steps refl written refl }
