@@ -1,6 +1,5 @@
 -- The dispatch that an accept owes.
-use Rattle.std.proofs.Common.{◌≡◌, ℕ, zero, suc, ◌+◌, ◌-◌, ◌<◌, ◌≤◌, List, [], ◌∷◌, ◌++◌, map, length, take, drop, Bool, true, false, refl, ap, sym, ◌∙◌, Some, None, Option, arith, All}
-use Rattle.std.specs.List.{enumerate_from}
+use Rattle.std.proofs.Common.{◌≡◌, ℕ, zero, suc, ◌+◌, ◌-◌, ◌<◌, ◌≤◌, List, [], ◌∷◌, ◌++◌, map, length, take, drop, Bool, true, false, refl, ap, sym, ◌∙◌, Some, None, Option, arith}
 use Rattle.std.specs.Prelude.{if◌then◌else◌, ◌&&◌, ◌||◌, ◌==◌, not, nat_lt}
 use Rattle.std.proofs.lemmas.Bool.Decides.{nat_tests}
 use Rattle.std.proofs.lemmas.List.{map-append, append-nil}
@@ -13,22 +12,15 @@ use Rattle.pipe_types.specs.declared.topology.Keep.{Keep}
 use Rattle.pipe_types.specs.declared.topology.Keep.TheVariants.{Last, First}
 use Rattle.pipe_types.specs.declared.room.Room.{Room}
 use Rattle.pipe_types.specs.declared.room.Sent.{Sent}
-use Rattle.pipe_types.specs.declared.step.Step.TheVariants.{Accept, Dispatch}
+use Rattle.pipe_types.specs.declared.step.Step.TheVariants.{Accept}
 use Rattle.pipe_types.specs.Dispatchers.{sends_by_place}
 use Rattle.pipe_types.specs.Sound.{IsSound}
 use Rattle.pipe_types.specs.Stages.{spec_of, feeds}
 use Rattle.pipe_model.specs.History.{History, accepted, asked}
-use Rattle.pipe_model.specs.Lives.{is_live, current_sub, live_subs, live_subs_from}
+use Rattle.pipe_model.specs.Lives.{is_live, current_sub, live_subs_from}
 use Rattle.pipe_model.specs.Flow.{waiting, deliveries, lost_over, over_in, over_size, unsent, rooms_by, view_of, kind_in, index_in, sent, is_empty}
-use Rattle.pipe_model.specs.Legal.{is_legal, allows, may_dispatch, owed, passes, is_dispatch_of, happened, is_halt}
-use Rattle.pipe_laws.proofs.Tests.{and_left, both, same_stage-self}
-use Rattle.queue_laws.proofs.Delivered.{sends_each}
-use Rattle.pipe_laws.proofs.Lists.{Each, each_weaker, each_map, each_always}
-use Rattle.pipe_laws.proofs.Places.{IsOn, live_subs_on}
-use Rattle.stage_laws.proofs.Numbering.{numbered_topology}
-use Rattle.core_tables.specs.Tables.{named, IsWithin}
-use Rattle.core_laws.proofs.Past.{known_within, live_known}
-use Rattle.core_laws.proofs.Lawful.{each_all}
+use Rattle.pipe_model.specs.Legal.{is_legal, may_dispatch}
+use Rattle.core_tables.specs.Tables.{named}
 use Rattle.core_laws.specs.Columns.{part_of, waiting_parts}
 use Rattle.core_laws.specs.Enrolled.{record_part, queued}
 use Rattle.core_laws.specs.Laws.{AcceptLaws}
@@ -159,35 +151,3 @@ due_by topology before s spec plan units found live is many =
     ∙ (ap (λ ds. not (is_empty ds) || is_over spec.size units) is
     ∙ (ap (λ n. not (is_empty (planned topology before s [])) || is_over spec.size n) many
     ∙ sym (may_by topology before s spec found live)))
-
--- the dispatch that is owed may come
-pub owed_may : (topology : Topology) (before : History) (s : StageNo) (records : List (List ℕ)) → allows topology before (Accept s records) ≡ true
-    → may_dispatch topology (Accept s records ∷ before) s ≡ true → allows topology (Accept s records ∷ before) (Dispatch s) ≡ true
-owed_may topology before s records h may =
-    both (not (happened is_halt before) || false) _ (and_left (not (happened is_halt before) || false) _ h)
-    (ap (λ b. passes (if b then Some (is_dispatch_of s) else None) (Dispatch s) (may_dispatch topology (Accept s records ∷ before) s)) may ∙ same_stage-self s)
-
--- and where none is owed, the core stands
-pub none_owed : (topology : Topology) (before : History) (s : StageNo) (records : List (List ℕ)) → may_dispatch topology (Accept s records ∷ before) s ≡ false
-    → owed topology (Accept s records ∷ before) ≡ None
-none_owed topology before s records no_more = ap (λ b. if b then Some (is_dispatch_of s) else None) no_more
-
--- Where the units go
-
-within_one : (topology : Topology) (before : History) (s : StageNo) → IsSound topology → (u : SubNo) → IsOn topology before s u → u.consumer.0 < suc (length topology.stages)
-within_one topology before s sound u on =
-    let w = known_within topology u.consumer (numbered_topology topology sound) (live_known topology before u.consumer on.live) in
-    omega (arith, w.1)
-
-within_rooms : (topology : Topology) (before : History) (s : StageNo) → IsSound topology → Each (λ (r : Room). r.sub.consumer.0 < suc (length topology.stages)) (rooms_by topology before (view_of topology before) s)
-within_rooms topology before s sound =
-    each_map (λ (r : Room). r.sub.consumer.0 < suc (length topology.stages)) (λ (u : SubNo). record { sub = u; part = index_in (spec_of topology u.consumer); left = asked before u - sent topology before u }) (live_subs topology before s)
-    (each_weaker (IsOn topology before s) (λ (u : SubNo). u.consumer.0 < suc (length topology.stages)) (within_one topology before s sound) (live_subs topology before s) (live_subs_on topology before s))
-
--- each unit goes to a stage of the topology
-pub planned_within : (topology : Topology) (before : History) (s : StageNo) (more : List ℕ) (rows : ℕ) → IsSound topology → rows ≡ suc (length topology.stages) → All (IsWithin rows) (planned topology before s more)
-planned_within topology before s more rows sound count =
-    each_all (IsWithin rows) (planned topology before s more)
-    (each_weaker (λ (d : Sent). (d.sub.consumer.0 < suc (length topology.stages)) × Unit {0}) (IsWithin rows) (λ d p. record { consumer = omega (arith, count, p.0) }) (planned topology before s more)
-    (sends_each (λ u. u.consumer.0 < suc (length topology.stages)) (λ n. Unit {0}) (kind_in (spec_of topology s)) (rooms_by topology before (view_of topology before) s) [] (enumerate_from 0 (parts_of topology before s ++ more))
-    (within_rooms topology before s sound) (each_always (λ (u : ℕ × ℕ). Unit {0}) (λ u. tt) (enumerate_from 0 (parts_of topology before s ++ more)))))

@@ -5,7 +5,6 @@ use Rattle.std.specs.declared.alloc.Global.{Global}
 use Rattle.std.specs.declared.vec.Vec.{Vec}
 use Rattle.std.specs.declared.collections.VecDeque.{VecDeque}
 use Rattle.pipe_types.specs.declared.numbers.StageNo.{StageNo}
-use Rattle.pipe_types.specs.declared.numbers.SubNo.{SubNo}
 use Rattle.pipe_types.specs.declared.topology.Topology.{Topology}
 use Rattle.pipe_types.specs.declared.message.Place.{Place}
 use Rattle.pipe_model.specs.History.{History}
@@ -88,53 +87,3 @@ same_queue queues s q r within was same t = by (same_or_other s.0 t.0)
     by : (((s.0 == t.0) ≡ true) × (s.0 ≡ t.0)) ⊎ (((s.0 == t.0) ≡ false) × (s.0 ≢ t.0)) → queue_at (set queues s.0 r) t ≡ queue_at queues t
     by (inl here) = queue-set_same queues s.0 r t within (sym here.1) ∙ (same ∙ (sym (ap items_in was) ∙ ap (λ n. items_in (slice_get queues n)) here.1))
     by (inr other) = queue-set_other queues s.0 r t (λ e. other.1 (sym e))
-
--- Inboxes with more room
-
-inbox_fields : (core : Core) (topology : Topology) (before : History) (w : Vec (VecDeque (SubNo × ℕ) Global) Global) → Fields core topology before
-    → ((c : StageNo) → queue_at w.items c ≡ queue_at core.inboxes.items c) → length w.items ≡ length core.inboxes.items → Fields (record core { inboxes = w }) topology before
-inbox_fields core topology before w x same count =
-    record {
-      sized =
-          record {
-            few = x.sized.few;
-            stages = x.sized.stages;
-            posts = x.sized.posts;
-            waiting = x.sized.waiting;
-            inboxes = count ∙ x.sized.inboxes;
-            chunks = x.sized.chunks;
-            batchers = x.sized.batchers;
-            children = x.sized.children;
-            places = x.sized.places;
-            settled = x.sized.settled;
-            producers = x.sized.producers;
-            contents = x.sized.contents;
-            batches = x.sized.batches;
-          };
-      set = record { batchers = x.set.batchers; children = x.set.children; restarts = x.set.restarts };
-      stages = x.stages;
-      posts = x.posts;
-      subs = x.subs;
-      waiting = x.waiting;
-      inboxes = λ c. same c ∙ x.inboxes c;
-      chunks = x.chunks;
-      opens = x.opens;
-      children = x.children;
-      places = x.places;
-      settled = x.settled;
-      producers = x.producers;
-      contents = x.contents;
-      batches = x.batches;
-      sent_on = x.sent_on;
-      legs = x.legs;
-      restarts = x.restarts;
-      totals = x.totals;
-    }
-
-pub inbox_stands : (core : Core) (w : Vec (VecDeque (SubNo × ℕ) Global) Global) → Stands core
-    → ((c : StageNo) → queue_at w.items c ≡ queue_at core.inboxes.items c) → length w.items ≡ length core.inboxes.items → Stands (record core { inboxes = w })
-inbox_stands core w x same count =
-    record {
-      holds = record { sound = x.holds.sound; legal = x.holds.legal; fields = inbox_fields core core.topology core.journal.steps w x.holds.fields same count };
-      unowed = x.unowed;
-    }

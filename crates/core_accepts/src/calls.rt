@@ -1,28 +1,72 @@
 //! The accept with the dispatch that it owes.
 
-ghost use Rattle.std.specs.Prelude.{◌≡◌, ◌∷◌, [], ◌≤◌, ◌||◌, ◌==◌, length, map, All, Some, true, not, OnOk, OnErr, IfOk, IfErr, IsTrue};
+ghost use Rattle.std.specs.Prelude.{◌≡◌, ◌∷◌, [], ◌≤◌, ◌||◌, ◌==◌, length, map, All, None, true, false, not, OnOk, OnErr, IfOk, IfErr, IsTrue};
 ghost use Rattle.pipe_types.specs.Stages.{spec_of};
 ghost use Rattle.pipe_model.specs.Lives.{is_live};
-ghost use Rattle.pipe_model.specs.Legal.{allows, may_dispatch};
+ghost use Rattle.pipe_model.specs.Flow.{is_batcher};
+ghost use Rattle.pipe_model.specs.Legal.{allows, owed, may_dispatch};
 ghost use Rattle.core_tables.specs.Tables.{HasRoom as HasInboxRoom};
 ghost use Rattle.core_laws.specs.Enrolled.{record_part};
 ghost use Rattle.core_state.specs.Stands.{Holds, Stands};
 ghost use Rattle.core_sends.specs.Rooms.{planned};
-ghost use Rattle.core_accepts.specs.Records.{HasRoom, HasParts, is_over};
+ghost use Rattle.core_accepts.specs.Records.{HasRoom, HasParts, is_over, and_dispatch};
 
-use crate::accepts::{make_room, part_of};
-use core_sends::plans::plan;
+use crate::accepts::{enroll, make_room, part_of};
+use core_sends::plans::{make_room as make_inbox_room, plan};
+use core_sends::sending::send_messages;
 use core_state::Core;
-use core_tables::inboxes::make_room as make_inbox_room;
-use pipe_types::bytes::Bytes;
+use pipe_types::bytes::{Bytes, BytesList};
 use pipe_types::numbers::StageNo;
 use pipe_types::room::Sent;
 use pipe_types::step::Step;
 use pipe_types::topology::StageSpec;
 use std::alloc::{AllocError, Global};
 
+/// Appends the accept of the records that the producer brings, and the dispatch that it owes. Where memory is wanting, the
+/// records come back.
+pub fn accept(
+    core: &mut Core,
+    stage: StageNo,
+    records: BytesList,
+) -> Result<(), (BytesList, AllocError)>
+    requires stands { Stands core.old }
+    requires legal { IsTrue (allows core.old.topology core.old.journal.steps (Step.Accept stage records)) }
+    ensures appended { OnOk result (core.new.journal.steps ≡ and_dispatch core.old.topology (Step.Accept stage records ∷ core.old.journal.steps) stage) }
+    ensures unchanged { OnErr result (core.new.journal.steps ≡ core.old.journal.steps) }
+    ensures returned { IfErr result (λ refused. refused.0 ≡ records) }
+    ensures topology { core.new.topology ≡ core.old.topology }
+    ensures stands { Stands core.new }
+{
+    let sent = match prepare(core, stage, records.as_slice()) {
+        Ok(sent) => sent,
+        Err(error) => return Err((records, error)),
+    };
+    enroll(core, stage, records);
+    send_owed(core, stage, sent);
+    Ok(())
+}
+
+/// Appends the dispatch of the live producer, of which this was planned, where there is one to make.
+fn send_owed(core: &mut Core, stage: StageNo, sent: Vec<Sent>)
+    requires holds { Holds core.old }
+    requires live { is_live core.old.topology core.old.journal.steps stage ≡ true }
+    requires messages { is_batcher (spec_of core.old.topology stage) ≡ false }
+    requires legal { may_dispatch core.old.topology core.old.journal.steps stage ≡ true → allows core.old.topology core.old.journal.steps (Step.Dispatch stage) ≡ true }
+    requires unowed { may_dispatch core.old.topology core.old.journal.steps stage ≡ false → owed core.old.topology core.old.journal.steps ≡ None }
+    requires planned { sent.items ≡ planned core.old.topology core.old.journal.steps stage [] }
+    requires room { All (HasInboxRoom (length sent.items) core.old.inboxes.items) sent.items }
+    requires spare { 1 ≤ core.old.journal.spare }
+    ensures appended { core.new.journal.steps ≡ and_dispatch core.old.topology core.old.journal.steps stage }
+    ensures topology { core.new.topology ≡ core.old.topology }
+    ensures stands { Stands core.new }
+{
+    if is_due(core, stage, &sent) {
+        send_messages(core, stage, sent);
+    }
+}
+
 /// What the dispatch that the accept owes will send, with room for both steps. The journal is as before.
-pub fn prepare(core: &mut Core, stage: StageNo, records: &[Bytes]) -> Result<Vec<Sent>, AllocError>
+fn prepare(core: &mut Core, stage: StageNo, records: &[Bytes]) -> Result<Vec<Sent>, AllocError>
     requires stands { Stands core.old }
     requires legal { IsTrue (allows core.old.topology core.old.journal.steps (Step.Accept stage records.now)) }
     ensures planned { IfOk result (λ sent. sent.items ≡ planned core.old.topology (Step.Accept stage records.now ∷ core.old.journal.steps) stage []) }
@@ -39,7 +83,7 @@ pub fn prepare(core: &mut Core, stage: StageNo, records: &[Bytes]) -> Result<Vec
     let count = records.len() as u32;
     let parts = parts_in(core.alloc, spec, records)?;
     let sent = plan(core, stage, &parts)?;
-    make_inbox_room(&mut core.inboxes, &sent)?;
+    make_inbox_room(core, &sent)?;
     make_room(core, stage, count, 2)?;
     Ok(sent)
 }
@@ -57,7 +101,7 @@ fn parts_in(alloc: Global, spec: &StageSpec, records: &[Bytes]) -> Result<Vec<u3
 }
 
 /// Whether a dispatch of the live stage sends something, of which this was planned, or loses what is over the size.
-pub fn is_due(core: &Core, stage: StageNo, sent: &[Sent]) -> bool
+fn is_due(core: &Core, stage: StageNo, sent: &[Sent]) -> bool
     requires holds { Holds core.now }
     requires live { is_live core.now.topology core.now.journal.steps stage ≡ true }
     requires planned { sent.now ≡ planned core.now.topology core.now.journal.steps stage [] }

@@ -59,6 +59,7 @@ use Rattle.core_state.specs.declared.state.Core.{Core}
 use Rattle.core_state.specs.Stands.{Fields, Stands, opens_in, opens_at, closed_seen}
 use Rattle.core_state.proofs.Reading.{some_at}
 use Rattle.core_batches.specs.Closes.{without_open, HasParts}
+use Rattle.core_batches.proofs.Limits.{flip, limits_after}
 use Rattle.core_batches.proofs.Opens.{each_same}
 use Rattle.core_batches.proofs.Removing.{others, opens_removed, opens_closed, open_at, of_some_key, each_of_all, each_mapped, first_is, key_of_first}
 
@@ -131,13 +132,6 @@ part_new topology before s first trigger at key numbers spec t e =
     by : (b : Bool) → (if b then part_by topology (Close s first trigger ∷ before) spec (closed before + 1) else 0) ≡ (if b then partition_of key spec.parts else 0)
     by true = role spec.role refl (sym batching ∙ t.role)
     by false = refl
-
-flip : (a b : ℕ) → (a == b) ≡ (b == a)
-flip a b = by (same_or_other a b)
-  where
-    by : (((a == b) ≡ true) × (a ≡ b)) ⊎ (((a == b) ≡ false) × (a ≢ b)) → (a == b) ≡ (b == a)
-    by (inl same) = same.0 ∙ sym (eq-eqb b a (sym same.1))
-    by (inr other) = other.0 ∙ sym (false_from_ne_true (b == a) (λ e. other.1 (sym (eqb-true b a e))))
 
 waiting_new : (topology : Topology) (before : History) (s t : StageNo) (first : MsgNo) (trigger : Trigger) (at : ℕ) (key numbers : List ℕ) (spec : StageSpec) (part : ℕ) → IsSound topology
     → IsClosing topology before s first trigger at key numbers → spec_of topology s ≡ Some spec → part ≡ (if is_by_partition spec.dispatch then partition_of key spec.parts else 0)
@@ -329,19 +323,6 @@ opens_after topology before s t first trigger at key numbers old new g within re
         ∙ (ap (λ b. opens_in (if b then option_map (without_open at) (slice_get old t.0) else slice_get old t.0)) other.0
         ∙ (was ∙ ap (open_batches before) (sym (after false (false_from_ne_true (same_stage t s) (λ e. other.1 (sym (eqb-true t.0 s.0 e))))))))
 
-limits_after : (s t : StageNo) (at : ℕ) (old new : List Batches) (spec : StageSpec) (held : Batches)
-    → ((i : ℕ) → slice_get new i ≡ (if s.0 == i then option_map (without_open at) (slice_get old i) else slice_get old i))
-    → ((h : Batches) → slice_get old t.0 ≡ Some h → (h.batch_size ≡ spec.batch_size) × (h.batch_timeout ≡ spec.batch_timeout))
-    → slice_get new t.0 ≡ Some held → (held.batch_size ≡ spec.batch_size) × (held.batch_timeout ≡ spec.batch_timeout)
-limits_after s t at old new spec held removed was found = by (s.0 == t.0) (slice_get old t.0) refl (sym (removed t.0) ∙ found)
-  where
-    by : (b : Bool) (o : Option Batches) → slice_get old t.0 ≡ o → (if b then option_map (without_open at) o else o) ≡ Some held → (held.batch_size ≡ spec.batch_size) × (held.batch_timeout ≡ spec.batch_timeout)
-    by true None e f = cc
-    by true (Some h) e f =
-        let is : without_open at h ≡ held = cc in
-        subst (λ (y : Batches). (y.batch_size ≡ spec.batch_size) × (y.batch_timeout ≡ spec.batch_timeout)) is (was h e)
-    by false o e f = was held (e ∙ f)
-
 -- the fields after a close
 pub closed_fields : (core : Core) (topology : Topology) (before : History) (s : StageNo) (first : MsgNo) (trigger : Trigger) (at : ℕ) (key numbers : List ℕ) (spec : StageSpec) (part : ℕ)
     (j : Recorded) (batchers : Vec Batches Global) (queues : Vec (VecDeque (ℕ × ℕ) Global) Global) (places : Vec Place Global) (rows : Vec BatchRow Global) (row : BatchRow)
@@ -371,7 +352,7 @@ closed_fields core topology before s first trigger at key numbers spec part j ba
             contents = x.sized.contents;
             batches = (let more = length-append core.batches.items (row ∷ []) in let len = ap length pushed in let old = x.sized.batches in omega (arith, more, len, old));
           };
-      set = record { batchers = λ t sp held e f. limits_after s t at core.batchers.items batchers.items sp held removed (λ h k. x.set.batchers t sp h e k) f; children = x.set.children; restarts = x.set.restarts };
+      set = record { batchers = λ t sp held e f. limits_after (without_open at) (λ h. refl) (λ h. refl) s t core.batchers.items batchers.items sp held removed (λ h k. x.set.batchers t sp h e k) f; children = x.set.children; restarts = x.set.restarts };
       stages = x.stages;
       posts = x.posts;
       subs = x.subs;
@@ -417,7 +398,7 @@ trigger_some None b h = cc
 trigger_some (Some a) b h = ap Some (same_triggers a b h)
 
 -- the trigger by the batcher's limits is that of the rule
-trigger_is : (topology : Topology) (before : History) (s : StageNo) (held : Batches) (key : List ℕ) (tick : ℕ) (dry : Bool) → held.batch_size ≡ batch_size_in (spec_of topology s) → held.batch_timeout ≡ batch_timeout_in (spec_of topology s)
+pub trigger_is : (topology : Topology) (before : History) (s : StageNo) (held : Batches) (key : List ℕ) (tick : ℕ) (dry : Bool) → held.batch_size ≡ batch_size_in (spec_of topology s) → held.batch_timeout ≡ batch_timeout_in (spec_of topology s)
     → tick ≡ now before → dry ≡ is_dry topology before s
     → held_trigger held tick dry (open_of before (gathered_in topology before s) key) ≡ trigger_of topology before s (of_key before key (gathered_in topology before s))
 trigger_is topology before s held key tick dry size timeout ticks dries =

@@ -56,6 +56,7 @@ use Rattle.core_state.specs.Stands.{Fields, Stands, opens_in, opens_at}
 use Rattle.core_state.proofs.Reading.{some_at}
 use Rattle.stage_laws.proofs.Numbering.{numbered_topology}
 use Rattle.core_batches.specs.Rows.{with_message, handled_on}
+use Rattle.core_batches.proofs.Limits.{flip, limits_after}
 use Rattle.core_batches.proofs.Opens.{IsNoneOf, opens_gathered, opens_kept, fits_open}
 
 -- the first unit of the batcher's inbox, which it may gather
@@ -255,27 +256,6 @@ opens_after topology before s t m u message tick old new g within key flush tick
         ∙ (sym (opens_kept before s m (gathered_in topology before t) g.least none)
         ∙ ap (open_batches (Gather s m ∷ before)) (sym (after false (false_from_ne_true (same_stage t s) (λ e. other.1 (sym (eqb-true t.0 s.0 e)))))))))
 
--- the limits of each batcher
-limits_after : (s t : StageNo) (m tick : ℕ) (message : Option Message) (old new : List Batches) (spec : StageSpec) (held : Batches)
-    → ((i : ℕ) → slice_get new i ≡ (if s.0 == i then option_map (with_message message m tick) (slice_get old i) else slice_get old i))
-    → ((h : Batches) → slice_get old t.0 ≡ Some h → (h.batch_size ≡ spec.batch_size) × (h.batch_timeout ≡ spec.batch_timeout))
-    → slice_get new t.0 ≡ Some held → (held.batch_size ≡ spec.batch_size) × (held.batch_timeout ≡ spec.batch_timeout)
-limits_after s t m tick message old new spec held joined was at = by (s.0 == t.0) (slice_get old t.0) refl (sym (joined t.0) ∙ at)
-  where
-    by : (b : Bool) (o : Option Batches) → slice_get old t.0 ≡ o → (if b then option_map (with_message message m tick) o else o) ≡ Some held → (held.batch_size ≡ spec.batch_size) × (held.batch_timeout ≡ spec.batch_timeout)
-    by true None e f = cc
-    by true (Some h) e f =
-        let is : with_message message m tick h ≡ held = cc in
-        subst (λ (y : Batches). (y.batch_size ≡ spec.batch_size) × (y.batch_timeout ≡ spec.batch_timeout)) is (was h e)
-    by false o e f = was held (e ∙ f)
-
-flip : (a b : ℕ) → (a == b) ≡ (b == a)
-flip a b = by (same_or_other a b)
-  where
-    by : (((a == b) ≡ true) × (a ≡ b)) ⊎ (((a == b) ≡ false) × (a ≢ b)) → (a == b) ≡ (b == a)
-    by (inl same) = same.0 ∙ sym (eq-eqb b a (sym same.1))
-    by (inr other) = other.0 ∙ sym (false_from_ne_true (b == a) (λ e. other.1 (sym (eqb-true b a e))))
-
 -- the fields after a gather
 pub gathered_fields : (core : Core) (topology : Topology) (before : History) (s : StageNo) (m : MsgNo) (u : SubNo) (message : Option Message)
     (j : Recorded) (batchers : Vec Batches Global) (inboxes : Vec (VecDeque (SubNo × ℕ) Global) Global) (places : Vec Place Global) (subs : List (Option PairRow))
@@ -307,7 +287,7 @@ gathered_fields core topology before s m u message j batchers inboxes places sub
           };
       set =
           record {
-            batchers = λ t spec held known at. limits_after s t m.0 core.totals.now message core.batchers.items batchers.items spec held joined (λ h e. x.set.batchers t spec h known e) at;
+            batchers = λ t spec held known at. limits_after (with_message message m.0 core.totals.now) (λ h. refl) (λ h. refl) s t core.batchers.items batchers.items spec held joined (λ h e. x.set.batchers t spec h known e) at;
             children = x.set.children;
             restarts = x.set.restarts;
           };

@@ -1,9 +1,10 @@
 pub mod Opens
 pub mod Passing
+mod Limits
 mod Gathering
 mod Joining
-mod Removing
-mod Closing
+pub mod Removing
+pub mod Closing
 mod Outcomes
 mod Writing
 mod Settling

@@ -6,12 +6,12 @@ use Rattle.std.proofs.lemmas.Bool.{eq-eqb, ne_eqb}
 use Rattle.std.proofs.lemmas.Bool.Decides.{nat_tests}
 use Rattle.std.proofs.lemmas.List.{at_drop_more}
 use Rattle.pipe_types.specs.declared.message.Place.{Place}
-use Rattle.pipe_types.specs.declared.message.Place.TheVariants.{Acked, Lost as LostPlace}
+use Rattle.pipe_types.specs.declared.message.Place.TheVariants.{Acked}
 use Rattle.pipe_types.specs.declared.message.Outcome.TheVariants.{Successful}
 use Rattle.pipe_model.specs.Flow.{among}
 use Rattle.pipe_model.specs.Batches.{Leg, is_settled, settled_as, lost_leg, failed_leg}
 use Rattle.std.proofs.lemmas.List.Kept.{AllPairs-cons}
-use Rattle.pipe_laws.proofs.Lists.{Each, each_weaker}
+use Rattle.pipe_laws.proofs.Lists.{each_weaker}
 use Rattle.pipe_laws.proofs.Tests.{clash}
 use Rattle.core_laws.proofs.Lawful.{each_all}
 use Rattle.queue_laws.proofs.Apart.{Apart}
@@ -19,7 +19,7 @@ use Rattle.queue_laws.proofs.Distinct.{itself}
 use Rattle.stage_laws.proofs.Settling.{settled_by}
 use Rattle.message_ack.specs.declared.legs.Settled.{Settled}
 use Rattle.message_ack.specs.declared.legs.Settled.TheVariants.{Outcomes, Lost as LostBatch}
-use Rattle.message_ack.specs.Ends.{IsSettledBy, loss_in, place_in}
+use Rattle.message_ack.specs.Ends.{IsSettledBy}
 use Rattle.core_tables.proofs.Running.{pass_step, listed_step}
 use Rattle.core_batches.specs.Writes.{end_at, ended_from, ended_by, marked}
 

@@ -1,6 +1,6 @@
 -- The batch that a batch processor answers.
-use Rattle.std.proofs.Common.{◌≡◌, ℕ, zero, suc, set, ◌+◌, ◌<◌, ◌≤◌, List, [], ◌∷◌, ◌++◌, map, length, Bool, true, false, refl, ap, sym, ◌∙◌, subst, Some, None, Option, arith}
-use Rattle.std.specs.Prelude.{slice_get, option_map, if◌then◌else◌, ◌==◌, ◌&&◌, ◌||◌, not, is_some, filter, bytes_eq}
+use Rattle.std.proofs.Common.{◌≡◌, ℕ, zero, suc, set, ◌+◌, ◌≤◌, List, [], ◌∷◌, ◌++◌, map, length, Bool, true, false, refl, ap, sym, ◌∙◌, subst, Some, None, Option, arith}
+use Rattle.std.specs.Prelude.{slice_get, option_map, if◌then◌else◌, ◌==◌, ◌&&◌, ◌||◌, not, is_some, bytes_eq}
 use Rattle.std.proofs.lemmas.Bool.{eqb-true, eq-eqb, false_from_ne_true}
 use Rattle.std.proofs.lemmas.List.{length-map, append-nil}
 use Rattle.pipe_types.specs.declared.numbers.StageNo.{StageNo}
@@ -12,14 +12,13 @@ use Rattle.pipe_types.specs.declared.topology.Role.TheVariants.{Producer, Proces
 use Rattle.pipe_types.specs.declared.message.Outcome.{Outcome}
 use Rattle.pipe_types.specs.declared.message.BatchEnd.TheVariants.{Outcomes}
 use Rattle.pipe_types.specs.declared.message.Why.{Why}
-use Rattle.pipe_types.specs.declared.step.Step.{Step}
 use Rattle.pipe_types.specs.declared.step.Step.TheVariants.{Fetch, Take, Child, Close, Dispatch, Wrote, Kill, Halt}
 use Rattle.pipe_types.specs.declared.room.Sent.{Sent as SentUnit}
 use Rattle.pipe_types.specs.Numbers.{same_stage, same_sub, post, batch_no}
 use Rattle.pipe_types.specs.Stages.{spec_of, feeds, option_feeds}
 use Rattle.pipe_types.specs.Sound.{IsSound}
-use Rattle.pipe_model.specs.History.{History, accepted, closed, incarnation}
-use Rattle.pipe_model.specs.Posts.{is_out, out_from, last_take, puts_out, answers}
+use Rattle.pipe_model.specs.History.{History, closed, incarnation}
+use Rattle.pipe_model.specs.Posts.{is_out, last_take, answers}
 use Rattle.pipe_model.specs.Lives.{KillSet, reason_in, kill_set}
 use Rattle.pipe_model.specs.Content.{content, gathers, key_in}
 use Rattle.pipe_model.specs.Flow.{place, batch, view_of, sent_to, is_batcher, among, numbers_in, first_in, closing, subs_of, deliveries, next_units, change_place, new_batch, is_gathered_in, batch_waits_in, waits_in, runs_in, is_empty}
@@ -29,12 +28,12 @@ use Rattle.pipe_model.specs.Counting.{as_number}
 use Rattle.pipe_types.specs.declared.message.Place.TheVariants.{InBatch}
 use Rattle.message_ack.specs.Ends.{ends_of, end_of}
 use Rattle.message_ack.specs.declared.legs.LegEnd.TheVariants.{Answered as AnsweredEnd}
-use Rattle.pipe_model.specs.Legal.{is_legal, allows, owed, has_role, is_producer_role, is_supervisor_role, is_batch_processor_role, is_current}
-use Rattle.pipe_model.specs.Standing.{works, leg_works, leg_works_in, works_at, is_at_work, has_entry, going}
-use Rattle.pipe_laws.proofs.Tests.{clash, and_left, and_right, both, same_stage-true, same_stage-self, same_sub-true, same_sub-self}
-use Rattle.pipe_laws.proofs.Lists.{Each, each_always, each_weaker, each_both, each_map, weigh}
+use Rattle.pipe_model.specs.Legal.{is_legal, allows, owed, has_role, is_producer_role, is_supervisor_role, is_batch_processor_role}
+use Rattle.pipe_model.specs.Standing.{works, leg_works, leg_works_in, works_at, is_at_work, has_entry}
+use Rattle.pipe_laws.proofs.Tests.{clash, and_left, and_right, same_stage-true, same_stage-self, same_sub-true, same_sub-self}
+use Rattle.pipe_laws.proofs.Lists.{Each, each_weaker, each_both, each_map, weigh}
 use Rattle.pipe_laws.proofs.Allowed.{legal_before, legal_step, WroteFacts, wrote_facts, fetch_role, child_facts}
-use Rattle.pipe_laws.proofs.Accepted.{placed_accepted, placed_content}
+use Rattle.pipe_laws.proofs.Accepted.{placed_content}
 use Rattle.pipe_laws.proofs.Entries.{EntryFits, entries_fit, is_waiting, waiting_each}
 use Rattle.pipe_laws.proofs.Places.{IsOn, sends_on}
 use Rattle.pipe_laws.proofs.Levels.{rank, feeds_down}
@@ -46,7 +45,7 @@ use Rattle.queue_laws.proofs.Batched.{BatchHolds, batch_holds, BatchListed, Plac
 use Rattle.queue_laws.proofs.Counts.{TookBy, took}
 use Rattle.queue_laws.proofs.Distinct.{itself}
 use Rattle.queue_laws.proofs.Gathering.{gathers_once}
-use Rattle.queue_laws.proofs.OneLeg.{leg_to, LegsOnce, BatchOnce, legs_once}
+use Rattle.queue_laws.proofs.OneLeg.{leg_to, BatchOnce, legs_once}
 use Rattle.queue_laws.proofs.Roles.{rank_batcher}
 use Rattle.queue_laws.proofs.Singles.{none_of}
 use Rattle.queue_laws.proofs.Sounds.{fits}

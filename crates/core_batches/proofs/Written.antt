@@ -1,22 +1,21 @@
 -- The fields after a batch was answered.
-use Rattle.std.proofs.Common.{◌≡◌, ◌≢◌, ℕ, zero, suc, set, ◌+◌, ◌-◌, ◌<◌, ◌≤◌, List, [], ◌∷◌, map, length, Bool, true, false, refl, ap, sym, ◌∙◌, Some, None, Option, arith, subst, inl, inr, All}
-use Rattle.std.specs.Prelude.{slice_get, option_map, if◌then◌else◌, ◌==◌, ◌&&◌, ◌||◌, ◌⊎◌, is_some, not, IfSome, IsSome, unwrap_or, position}
-use Rattle.std.proofs.lemmas.Bool.{eq-eqb, eqb-true, ne_eqb, false_from_ne_true}
+use Rattle.std.proofs.Common.{◌≡◌, ◌≢◌, ℕ, zero, suc, set, ◌+◌, ◌-◌, ◌<◌, ◌≤◌, List, [], ◌∷◌, map, length, Bool, true, false, refl, ap, sym, ◌∙◌, Some, None, Option, arith, subst, inl, inr}
+use Rattle.std.specs.Prelude.{slice_get, option_map, if◌then◌else◌, ◌==◌, ◌&&◌, ◌||◌, ◌⊎◌, is_some, IfSome, unwrap_or, position}
+use Rattle.std.proofs.lemmas.Bool.{eqb-true, ne_eqb, false_from_ne_true}
 use Rattle.std.specs.declared.alloc.Global.{Global}
 use Rattle.std.specs.declared.vec.Vec.{Vec}
 use Rattle.pipe_types.specs.declared.numbers.StageNo.{StageNo}
 use Rattle.pipe_types.specs.declared.numbers.SubNo.{SubNo}
 use Rattle.pipe_types.specs.declared.message.Place.{Place}
-use Rattle.pipe_types.specs.declared.message.Place.TheVariants.{Waiting, Inbox, Running, Gathered, InBatch, Acked, Lost}
+use Rattle.pipe_types.specs.declared.message.Place.TheVariants.{InBatch}
 use Rattle.pipe_types.specs.declared.message.Outcome.{Outcome}
-use Rattle.pipe_types.specs.declared.message.Outcome.TheVariants.{Successful, Failed}
 use Rattle.pipe_types.specs.declared.message.BatchEnd.{BatchEnd}
 use Rattle.pipe_types.specs.declared.message.BatchEnd.TheVariants.{Outcomes}
 use Rattle.pipe_types.specs.declared.topology.Topology.{Topology}
 use Rattle.pipe_types.specs.declared.step.Step.TheVariants.{Wrote, Close}
 use Rattle.pipe_types.specs.Numbers.{same_stage, same_sub, batch_no}
 use Rattle.pipe_types.specs.Sound.{IsSound}
-use Rattle.pipe_types.specs.Stages.{spec_of, feeds}
+use Rattle.pipe_types.specs.Stages.{spec_of}
 use Rattle.pipe_model.specs.History.{History, accepted, closed}
 use Rattle.pipe_model.specs.Posts.{last_take}
 use Rattle.pipe_model.specs.Lives.{generation, current_sub}
@@ -24,23 +23,23 @@ use Rattle.pipe_model.specs.Batches.{Batch, Sent, Leg, is_settled, settled_as, l
 use Rattle.pipe_model.specs.Content.{content, key_in}
 use Rattle.pipe_model.specs.Flow.{place, batch, sent, among, first_in, change_place, closing, view_of, is_empty}
 use Rattle.pipe_model.specs.Ledger.{handled, taken_on}
-use Rattle.pipe_model.specs.Legal.{allows, is_legal, owed, gathered_at, ends_in_flush}
+use Rattle.pipe_model.specs.Legal.{allows, gathered_at, ends_in_flush}
 use Rattle.pipe_model.specs.Moves.{is_final}
 use Rattle.pipe_model.specs.Standing.{gathered_in, of_key}
 use Rattle.pipe_model.specs.Work.{taken_units}
-use Rattle.pipe_laws.proofs.Tests.{clash, both, same_stage-true, same_stage-self, same_sub-self, same_stage-flip}
-use Rattle.pipe_laws.proofs.Lists.{Each, each_always, each_weaker, each_among}
+use Rattle.pipe_laws.proofs.Tests.{same_sub-self}
+use Rattle.pipe_laws.proofs.Lists.{each_always, each_weaker, each_among}
 use Rattle.pipe_laws.proofs.Accepted.{placed_accepted}
 use Rattle.pipe_laws.proofs.Handled.{handled_within}
 use Rattle.pipe_laws.proofs.Places.{settled_final}
 use Rattle.pipe_laws.proofs.Settled.{batch_closed}
 use Rattle.queue_laws.proofs.Laws.{waiting_law, inbox_law, gathered_law}
 use Rattle.queue_laws.proofs.Writes.{wrote_others}
-use Rattle.stage_laws.proofs.Laws.{running_law, closed_law}
+use Rattle.stage_laws.proofs.Laws.{running_law}
 use Rattle.stage_laws.proofs.Settling.{wrote_places, settled_by}
 use Rattle.stage_subs.specs.Pairs.{PairRow}
 use Rattle.stage_subs.specs.Subs.{row_of, row_at, is_pair, handled_more, IsChanged}
-use Rattle.stage_subs.specs.Ledger.{ledger_row, ledger_counts}
+use Rattle.stage_subs.specs.Ledger.{ledger_row}
 use Rattle.message_ack.specs.declared.legs.Settled.{Settled}
 use Rattle.message_ack.specs.declared.legs.LegEnd.TheVariants.{Answered as AnsweredEnd}
 use Rattle.message_ack.specs.Ends.{Ends, ends_of, sent_in, with_end, IsSettledBy, HasOutcomes}
@@ -51,7 +50,7 @@ use Rattle.core_tables.specs.declared.rows.StageRow.{StageRow}
 use Rattle.core_tables.specs.declared.rows.BatchRow.{BatchRow}
 use Rattle.core_tables.specs.Rows.{post_at, home}
 use Rattle.core_tables.proofs.Tables.{same_or_other}
-use Rattle.core_laws.specs.Columns.{open_of, keys_of, open_batches, part_of, post_row, stage_row, mark, ends_in_progress, closed_as, closed_numbers, Closed, sent_on}
+use Rattle.core_laws.specs.Columns.{open_of, keys_of, open_batches, part_of, post_row, stage_row, mark, ends_in_progress, closed_as, closed_numbers, sent_on}
 use Rattle.core_laws.proofs.Marks.{mark_is, open_unsettled}
 use Rattle.core_laws.proofs.Lawful.{each_all}
 use Rattle.core_calls.proofs.Ending.{post_home}
@@ -60,6 +59,7 @@ use Rattle.core_state.specs.Stands.{Fields, Stands, closed_seen}
 use Rattle.core_state.proofs.Reading.{some_at}
 use Rattle.core_batches.specs.Rows.{handled_on}
 use Rattle.core_batches.specs.Writes.{leg_place, ended_by, marked_by, AreNumbers}
+use Rattle.core_batches.proofs.Limits.{flip}
 use Rattle.core_batches.proofs.Opens.{each_same, without}
 use Rattle.core_batches.proofs.Writing.{IsWriting, Written, writing, ends_put, end_none, in_progress_as, open_at, took_before, write_within}
 use Rattle.core_batches.proofs.Settling.{ended_is, pairs_apart}
@@ -101,13 +101,6 @@ counted false b d row = ap (λ h. Some (record row { counts = record row.counts 
   where
     plus : (h : ℕ) → h ≡ h + 0
     plus h = omega arith
-
-flip : (a b : ℕ) → (a == b) ≡ (b == a)
-flip a b = by (same_or_other a b)
-  where
-    by : (((a == b) ≡ true) × (a ≡ b)) ⊎ (((a == b) ≡ false) × (a ≢ b)) → (a == b) ≡ (b == a)
-    by (inl same) = same.0 ∙ sym (eq-eqb b a (sym same.1))
-    by (inr other) = other.0 ∙ sym (false_from_ne_true (b == a) (λ e. other.1 (sym (eqb-true b a e))))
 
 -- the same subscription, whichever of the two is named first
 pair_flip : (u v : SubNo) → (same_stage v.consumer u.consumer && (same_stage v.producer u.producer && v.generation == u.generation)) ≡ same_sub u v

@@ -1,6 +1,6 @@
 -- The fields after the begin of the drain.
 use Rattle.std.proofs.Common.{◌≡◌, ◌<◌, ◌∷◌, true, refl, ap, sym, ◌∙◌}
-use Rattle.std.specs.Prelude.{not, ◌&&◌, nat_lt}
+use Rattle.std.specs.Prelude.{not}
 use Rattle.std.proofs.lemmas.Bool.{ltb-true}
 use Rattle.pipe_types.specs.declared.topology.Topology.{Topology}
 use Rattle.pipe_types.specs.declared.step.DrainCause.{DrainCause}

@@ -1,9 +1,8 @@
 -- What a batcher may gather.
-use Rattle.std.proofs.Common.{◌≡◌, ℕ, suc, ◌-◌, ◌<◌, ◌≤◌, List, [], ◌∷◌, length, refl, ap, sym, Bool, true, false, Option, None, Some, ◌∙◌, arith, get_or}
+use Rattle.std.proofs.Common.{◌≡◌, ℕ, suc, ◌-◌, ◌≤◌, List, length, refl, ap, sym, Bool, true, Option, None, Some, ◌∙◌, arith, get_or}
 use Rattle.std.specs.Prelude.{◌&&◌, ◌==◌, not, nat_lt, nat_le, slice_get}
 use Rattle.std.proofs.lemmas.Bool.Decides.{nat_tests}
 use Rattle.std.proofs.lemmas.Option.{slice_get_read}
-use Rattle.pipe_types.specs.declared.message.Message.{Message}
 use Rattle.pipe_types.specs.declared.topology.Topology.{Topology}
 use Rattle.pipe_types.specs.declared.topology.StageSpec.{StageSpec}
 use Rattle.pipe_types.specs.Stages.{spec_of}
@@ -12,7 +11,7 @@ use Rattle.pipe_model.specs.Content.{key_in, content, producer_of}
 use Rattle.pipe_model.specs.Lives.{is_live}
 use Rattle.pipe_model.specs.Flow.{open_batch_by, view_of, inbox}
 use Rattle.pipe_model.specs.Legal.{has_room, has_role, lets_in, may_gather, is_batcher_role, batch_size_in, ends_in_flush, first_unit}
-use Rattle.pipe_model.specs.Standing.{gathered_in, of_key}
+use Rattle.pipe_model.specs.Standing.{gathered_in}
 use Rattle.queue_laws.proofs.Laws.{open_law}
 use Rattle.batcher.specs.Batches.{Batches, fits}
 use Rattle.core_tables.specs.declared.rows.ContentRow.{ContentRow}
@@ -24,7 +23,7 @@ use Rattle.core_batches.proofs.Passing.{key_read}
 use Rattle.core_state.specs.declared.state.Core.{Core}
 use Rattle.core_state.specs.Stands.{Holds, opens_in}
 use Rattle.core_moves.specs.Gathers.{may_gather_now, passed_by}
-use Rattle.core_moves.proofs.Known.{row_within}
+use Rattle.core_rows.proofs.Known.{row_within}
 
 -- the key of a message by its content row
 pub key_by : (before : History) (n : ℕ) (o : Option ContentRow) → content_row before n ≡ o → key_in (passed_by before o) ≡ key_in (content before n)

@@ -1,11 +1,7 @@
 pub mod Begun
-pub mod Finding
-pub mod Working
-pub mod Queues
-pub mod Totals
-pub mod Known
-pub mod Roomy
-pub mod Fetched
 pub mod Fitting
 pub mod Goes
 pub mod Sending
+pub mod Starting
+pub mod Firsts
+pub mod Chain

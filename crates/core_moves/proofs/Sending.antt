@@ -1,6 +1,6 @@
 -- Whether a dispatch of a stage sends or loses anything, by its rooms stage by stage.
-use Rattle.std.proofs.Common.{◌≡◌, ℕ, zero, suc, ◌+◌, ◌-◌, ◌<◌, ◌≤◌, List, [], ◌∷◌, ◌++◌, length, map, take, drop, min, refl, ap, sym, ◌∙◌, Bool, true, false, Option, None, Some, arith, length-drop}
-use Rattle.std.specs.Prelude.{◌&&◌, ◌||◌, ◌==◌, not, nat_lt, filter, if◌then◌else◌, is_some}
+use Rattle.std.proofs.Common.{◌≡◌, ℕ, ◌-◌, List, [], ◌∷◌, length, map, take, drop, min, refl, ap, sym, ◌∙◌, Bool, true, false, Option, None, Some, arith, length-drop}
+use Rattle.std.specs.Prelude.{◌&&◌, ◌||◌, ◌==◌, not, nat_lt, if◌then◌else◌, is_some}
 use Rattle.std.specs.List.{list_any, list_all}
 use Rattle.std.proofs.lemmas.Bool.Decides.{nat_tests}
 use Rattle.std.proofs.lemmas.List.{length-take}
@@ -14,16 +14,15 @@ use Rattle.pipe_types.specs.declared.topology.Keep.TheVariants.{Last, First}
 use Rattle.pipe_types.specs.declared.topology.Dispatch.{Dispatch as DispatchKind}
 use Rattle.pipe_types.specs.declared.topology.Dispatch.TheVariants.{Demand, Broadcast, Partition}
 use Rattle.pipe_types.specs.Stages.{spec_of, feeds}
-use Rattle.pipe_types.specs.Dispatchers.{sends}
 use Rattle.pipe_model.specs.History.{History}
 use Rattle.pipe_model.specs.Lives.{is_live, live_subs_from, current_sub}
-use Rattle.pipe_model.specs.Flow.{is_empty, waiting, rooms_by, view_of, partition_in, kind_in, deliveries, lost_over, over_in, over_size, unsent, subs_of}
+use Rattle.pipe_model.specs.Flow.{is_empty, waiting, rooms_by, view_of, partition_in, kind_in, deliveries, lost_over, over_in, over_size, unsent}
 use Rattle.pipe_model.specs.Legal.{may_dispatch}
 use Rattle.core_laws.specs.Columns.{part_of, waiting_parts, is_by_partition}
 use Rattle.core_laws.proofs.Parts.{part_is}
 use Rattle.core_sends.specs.Rooms.{room_on, room_between, parts_of}
 use Rattle.core_moves.specs.Sends.{has_left, takes_part, goes_some, is_over, is_open_in, is_shut_in, wants_in}
-use Rattle.core_moves.proofs.Queues.{empty_mapped}
+use Rattle.core_rows.proofs.Queues.{empty_mapped}
 use Rattle.core_moves.proofs.Goes.{sends_is}
 
 -- Rooms stage by stage

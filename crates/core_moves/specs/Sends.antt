@@ -1,5 +1,5 @@
 -- Whether a dispatch sends anything.
-use Rattle.std.specs.Prelude.{ℕ, Bool, false, ◌&&◌, ◌||◌, ◌==◌, not, nat_lt, List, Option, Some, None, length}
+use Rattle.std.specs.Prelude.{ℕ, Bool, false, ◌&&◌, ◌==◌, not, nat_lt, List, Option, Some, None}
 use Rattle.std.specs.List.{list_any, list_all}
 use Rattle.pipe_types.specs.declared.room.Room.{Room}
 use Rattle.pipe_types.specs.declared.topology.Dispatch.{Dispatch as DispatchKind}

@@ -13,8 +13,8 @@ ghost use Rattle.core_state.specs.Stands.{Stands};
 ghost use Rattle.core_sends.specs.Rooms.{room_between, parts_of};
 ghost use Rattle.core_moves.specs.Sends.{goes_some, is_over, is_open_in, is_shut_in, wants_in};
 
-use crate::rests::is_waiting_empty;
-use crate::rooms::waiting_len;
+use core_rows::rests::is_waiting_empty;
+use core_rows::rooms::waiting_len;
 use core_sends::rooms::room;
 use core_state::Core;
 use pipe_types::numbers::StageNo;

@@ -11,8 +11,8 @@ ghost use Rattle.core_tables.specs.Tables.{items_in};
 ghost use Rattle.core_state.specs.Stands.{Stands};
 ghost use Rattle.core_moves.specs.Gathers.{may_gather_now, passed_by, first_by};
 
-use crate::rooms::has_room;
 use batcher::Batcher;
+use core_rows::rooms::has_room;
 use core_state::Core;
 use core_tables::rows::ContentRow;
 use pipe_journal::Journal;

@@ -1,16 +1,12 @@
-//! What comes next, and which step may come, for every sound topology.
+//! What comes next, for every sound topology.
 //!
-//! Each reader has the condition that the core stands for its journal, and answers what the model says of that journal.
+//! `moves::next_move` is the first move of the rule that applies; `drain::begin` begins the drain.
 #![tactic(auto)]
 
-mod asks;
-mod causes;
+mod children;
+mod closes;
 mod dispatches;
 pub mod drain;
 mod finds;
 mod gathers;
-mod jobs;
-pub mod posts;
-pub mod rests;
-mod rooms;
-mod rows;
+pub mod moves;

@@ -1,3 +1,6 @@
 pub mod Order
+pub mod Alike
+pub mod Places
+pub mod Bare
 pub mod Singles
 pub mod Units

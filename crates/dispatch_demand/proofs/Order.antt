@@ -1,14 +1,9 @@
 -- The order in which rooms are served.
-use Rattle.std.proofs.Common.{◌≡◌, ℕ, ◌+◌, ◌<◌, List, length, get_or, map, ap, sym, ◌∙◌, subst, arith, Ordering}
+use Rattle.std.proofs.Common.{◌≡◌, ℕ, ◌<◌, List, length, get_or, map, ap, sym, ◌∙◌, subst, arith, Ordering}
 use Rattle.std.specs.Prelude.{Bool, true, false, nat_lt, ◌==◌, ◌&&◌, ◌||◌}
 use Rattle.std.specs.Cmp.{IsTotalOrder, IsStrictWeakOrder}
 use Rattle.std.specs.List.{AllPairs, IsDistinct}
-use Rattle.std.specs.List.Sorted.{IsPermutation, IsSortedBy, IsSortedByKey}
-use Rattle.std.specs.Fn.{ComputesKey, Called}
-use Rattle.std.specs.declared.cmp.Reverse.{Reverse}
-use Rattle.std.proofs.lemmas.Fn.{always_returns_same}
-use denote.Param.Members.{Mut}
-use denote.Ref.{Bor}
+use Rattle.std.specs.List.Sorted.{IsPermutation, IsSortedBy}
 use Rattle.std.specs.Ordering.{nat_cmp, ordering_then, is_lt}
 use Rattle.std.proofs.lemmas.Bool.Decides.{nat_tests}
 use Rattle.std.proofs.lemmas.Cmp.{nat_cmp_total, on_total, then_total, back_total}
@@ -17,18 +12,15 @@ use Rattle.std.proofs.lemmas.List.Sorted.{ranks_by, sorted_far, IsPermutation-ma
 use Rattle.std.proofs.lemmas.Map.Keys.{IsDistinct-from_apart, IsDistinct-IsPermutation, apart_from_distinct}
 use Rattle.pipe_types.specs.declared.numbers.SubNo.{SubNo}
 use Rattle.pipe_types.specs.declared.room.Room.{Room}
+use Rattle.dispatch_demand.specs.Serving.{sub_cmp}
 use Rattle.pipe_types.specs.Dispatchers.{is_served_before}
 use Rattle.pipe_types.specs.Numbers.{same_sub, sub_before}
 use Rattle.pipe_types.specs.Rooms.{AreAscending}
 
--- the order of subscriptions, as a comparison
-abbrev pub sub_cmp : SubNo → SubNo → Ordering
-sub_cmp u v = ordering_then (nat_cmp u.consumer.0 v.consumer.0) (ordering_then (nat_cmp u.producer.0 v.producer.0) (nat_cmp u.generation v.generation))
-
 abbrev pub serving_cmp : Room → Room → Ordering
 serving_cmp v u = ordering_then (nat_cmp u.left v.left) (sub_cmp v.sub u.sub)
 
-sub_cmp_total : IsTotalOrder sub_cmp
+pub sub_cmp_total : IsTotalOrder sub_cmp
 sub_cmp_total =
     then_total (on_total (λ (u : SubNo). u.consumer.0) nat_cmp_total)
     (then_total (on_total (λ (u : SubNo). u.producer.0) nat_cmp_total) (on_total (λ (u : SubNo). u.generation) nat_cmp_total))
@@ -63,18 +55,6 @@ is_served_before_ranks =
       chain = λ v u w h k. sym (serving_cmp_is v w) ∙ ranks.chain v u w (serving_cmp_is v u ∙ h) (serving_cmp_is u w ∙ k);
     }
 
--- what a sort by the open demand, the greatest first, and then by the subscription gives
-abbrev pub serving_key : Room → Reverse ℕ × SubNo
-serving_key u = (record { 0 = u.left }, u.sub)
-
-abbrev pub key_cmp : Reverse ℕ × SubNo → Reverse ℕ × SubNo → Ordering
-key_cmp x y = ordering_then (nat_cmp y.0.0 x.0.0) (sub_cmp x.1 y.1)
-
-pub in_serving_order : {F : Type 0} {g : Mut F (Bor Room × Unit {0}) (Reverse ℕ × SubNo)} {f : F} (xs : List Room) → ((key : Room → Reverse ℕ × SubNo) → ComputesKey g key f → IsSortedByKey key key_cmp xs) → ((a : Bor Room × Unit {0}) (r : Reverse ℕ × SubNo) (f' : F) → Called g f a r f' → (r ≡ serving_key a.0.now) × (f' ≡ f)) → IsSortedBy is_served_before xs
-in_serving_order {g = g} {f = f} xs sorted answers k d low within =
-    sym (serving_cmp_is (get_or xs (k + 1) d) (get_or xs k d))
-    ∙ sorted serving_key (always_returns_same g (λ a r. r ≡ serving_key a.0.now) f answers) k d low within
-
 -- of two rooms with different subscriptions one is served before the other
 turned_round : (a b : ℕ) (p q : Bool) → (nat_lt a b || (a == b && p)) ≡ false → (a ≡ b → p ≡ false → q ≡ true) → (nat_lt b a || (b == a && q)) ≡ true
 turned_round a b p q h k = grind (arith, nat_tests)
@@ -89,7 +69,7 @@ one_is_served_before v u h apart = turned_round v.left u.left (sub_before u.sub 
 same_sub_flips : (u v : SubNo) → same_sub u v ≡ same_sub v u
 same_sub_flips u v = grind (arith, nat_tests)
 
-before_is_apart : (u v : SubNo) → sub_before u v ≡ true → same_sub u v ≡ false
+pub before_is_apart : (u v : SubNo) → sub_before u v ≡ true → same_sub u v ≡ false
 before_is_apart u v h = grind (arith, nat_tests)
 
 -- in the order of serving, each room is served before the later ones

@@ -60,3 +60,65 @@ fn worked_examples(rt: HostRuntime) -> Result<(), Fail> {
     }
     Ok(())
 }
+
+// The place of the first of the greatest numbers.
+fn greatest(numbers: &[u32]) -> usize {
+    let mut place = 0;
+    let mut most = 0;
+    for (at, number) in numbers.iter().enumerate() {
+        if *number > most {
+            place = at;
+            most = *number;
+        }
+    }
+    place
+}
+
+// What a search for the greatest open demand gives, turn by turn: the consumer of each unit that is sent.
+fn by_search(alloc: Global, waiting: u32, open_demands: &[u32]) -> Result<Vec<usize>, AllocError> {
+    let mut left = Vec::from_slice(alloc, open_demands)?;
+    let mut consumers = Vec::new(alloc);
+    for _turn in 0..open_demands.len() {
+        let place = greatest(&left);
+        if let Some(demand) = left.get_mut(place) {
+            for _unit in 0..*demand {
+                if consumers.len() < waiting as usize {
+                    consumers.push(place)?;
+                }
+            }
+            *demand = 0;
+        }
+    }
+    Ok(consumers)
+}
+
+#[test]
+fn two_hundred_rows_from_one_dispatcher(rt: HostRuntime) -> Result<(), Fail> {
+    let alloc = rt.alloc();
+    let mut dispatch = DemandDispatch::new(alloc);
+    let mut open_demands = vec![in alloc; 0u32; 8]?;
+    let mut number = 7u32;
+    for _row in 0..200 {
+        number = number.wrapping_mul(1664525).wrapping_add(1013904223);
+        let asked = (number >> 8) % 8;
+        if let Some(demand) = open_demands.get_mut(asked as usize) {
+            *demand = (number >> 16) % 13;
+        }
+        let waiting = (number >> 24) % 20;
+        let rooms = rooms(alloc, &open_demands)?;
+        let sent = dispatch.deliver(waiting, &rooms)?;
+        let consumers: Vec<usize> = sent
+            .as_slice()
+            .iter()
+            .map(|s| usize::from(s.sub.consumer.0))
+            .collect(alloc)?;
+        let searched = by_search(alloc, waiting, &open_demands)?;
+        assert_eq!(rt; consumers.as_slice(), searched.as_slice());
+        for consumer in &consumers {
+            if let Some(demand) = open_demands.get_mut(*consumer) {
+                *demand = demand.saturating_sub(1);
+            }
+        }
+    }
+    Ok(())
+}

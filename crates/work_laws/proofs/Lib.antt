@@ -5,5 +5,6 @@ pub mod Lives
 pub mod Asking
 pub mod Endings
 pub mod Total
+pub mod Leaving
 pub mod Laws
 pub mod Counted

@@ -1,15 +1,17 @@
-use Rattle.std.proofs.Common.{◌≡◌, ℕ, List, length, map, ap, sym, ◌∙◌, Some, All, arith, subst}
+use Rattle.std.proofs.Common.{◌≡◌, ◌≤◌, ℕ, List, length, map, ap, sym, ◌∙◌, Some, All, true, arith, subst}
 use Rattle.std.proofs.lemmas.List.{length-map}
 use Rattle.pipe_types.specs.declared.room.Sent.{Sent}
+use Rattle.pipe_model.specs.Lives.{is_live_sub}
+use Rattle.core_sends.proofs.Roomy.{planned_live}
 use Rattle.pipe_types.specs.declared.topology.StageSpec.{StageSpec}
 use Rattle.pipe_types.specs.Stages.{spec_of}
-use Rattle.core_tables.specs.Tables.{IsWithin}
+use Rattle.pipe_types.specs.declared.topology.Topology.{Topology}
 use Rattle.core_laws.specs.Enrolled.{record_part}
+use Rattle.core_state.specs.declared.state.Core.{Core}
 use Rattle.core_laws.proofs.Lawful.{lawful}
 use Rattle.core_sends.specs.Rooms.{planned}
 use Rattle.core_accepts.proofs.Bringing.{bringing, there}
-use Rattle.core_accepts.proofs.Planning.{planned_accepted, planned_within}
-use Rattle.core_accepts.proofs.Roomy.{inbox_stands}
+use Rattle.core_accepts.proofs.Planning.{planned_accepted}
 use Rattle.core_accepts.proofs.calls.prepare.Goals as goal
 
 pub unreachable-requires : goal.unreachable-requires
@@ -46,25 +48,20 @@ plan-requires-clause-few c =
     ap (λ (ps : List ℕ). length ps) (c.deref.ensures.value ∙ c.in_ok-parts.ensures) ∙ length-map c.args.records.now (record_part c.in-Some.spec.now) in
     omega (arith, b.law.fits, few, many)
 
-pub make_room-requires : goal.make_room-requires
-make_room-requires c =
+pub make_room-requires-clause-live : goal.make_room-requires-clause-live
+make_room-requires-clause-live c =
     let core = c.args.core.now in
     let x = c.requires.stands.holds in
-    let all : All (IsWithin (length core.inboxes.items)) (planned core.topology core.journal.steps c.args.stage c.deref.result.now) =
-    planned_within core.topology core.journal.steps c.args.stage c.deref.result.now (length core.inboxes.items) x.sound x.fields.sized.inboxes in
-    record { within = subst (λ (ds : List Sent). All (IsWithin (length core.inboxes.items)) ds) (sym (c.deref-2.ensures.value ∙ c.in_ok-sent.ensures)) all }
-
-pub returns-in_err-make_room-clause-stands : goal.returns-in_err-make_room-clause-stands
-returns-in_err-make_room-clause-stands c = inbox_stands c.args.core.now c.make_room.new.inboxes c.requires.stands c.make_room.ensures.same c.make_room.ensures.len
-
-pub make_room-requires-2-clause-stands : goal.make_room-requires-2-clause-stands
-make_room-requires-2-clause-stands c = inbox_stands c.args.core.now c.make_room.new.inboxes c.requires.stands c.make_room.ensures.same c.make_room.ensures.len
+    let live = (bringing core.topology core.journal.steps c.args.stage c.args.records.now x.sound x.legal c.requires.legal).law.live in
+    subst (All (λ (d : Sent). is_live_sub core.topology core.journal.steps d.sub ≡ true)) (sym (c.deref-2.ensures.value ∙ c.in_ok-sent.ensures))
+    (planned_live core.topology core.journal.steps c.args.stage c.deref.result.now live)
 
 pub make_room-requires-2-clause-known : goal.make_room-requires-2-clause-known
 make_room-requires-2-clause-known c =
     let core = c.args.core.now in
     let x = c.requires.stands.holds in
-    (bringing core.topology core.journal.steps c.args.stage c.args.records.now x.sound x.legal c.requires.legal).within c.in-Some.spec.now (sym c.in-Some.ensures)
+    let within = (bringing core.topology core.journal.steps c.args.stage c.args.records.now x.sound x.legal c.requires.legal).within c.in-Some.spec.now (sym c.in-Some.ensures) in
+    subst (λ (t : Topology). c.args.stage.0 ≤ length t.stages) (sym (ap (λ (k : Core). k.topology) c.make_room.ensures.others)) within
 
 pub returns-clause-planned : goal.returns-clause-planned
 returns-clause-planned c =

@@ -1,4 +1,4 @@
-use Rattle.std.proofs.Common.{rules, ◌≡◌, ℕ, suc, ◌+◌, ◌-◌, ◌<◌, ◌≤◌, length, drop, ◌∙◌, arith, refl, get_or, sym}
+use Rattle.std.proofs.Common.{rules, ℕ, ◌-◌, ◌<◌, length, ◌∙◌, arith, get_or}
 use Rattle.std.proofs.lemmas.Option.{slice_get-get_or}
 use Rattle.core_batches.specs.Writes.{end_at}
 use Rattle.core_batches.proofs.Settling.{settled_step}

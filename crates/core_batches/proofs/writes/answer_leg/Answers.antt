@@ -1,11 +1,9 @@
-use Rattle.std.proofs.Common.{◌≡◌, ℕ, ◌∷◌, ◌∙◌, ◌+◌, ◌-◌, ◌<◌, length, ap, sym, refl, arith, Some, None}
-use Rattle.std.specs.Prelude.{slice_get, option_map, ◌*◌}
+use Rattle.std.proofs.Common.{◌≡◌, ◌∷◌, ◌∙◌, ◌<◌, length, ap, sym, refl, arith, Some}
+use Rattle.std.specs.Prelude.{slice_get}
 use Rattle.std.proofs.lemmas.Option.{slice_get_read}
 use Rattle.pipe_types.specs.declared.message.BatchEnd.{BatchEnd}
 use Rattle.pipe_types.specs.declared.message.BatchEnd.TheVariants.{Outcomes}
 use Rattle.pipe_types.specs.declared.step.Step.TheVariants.{Wrote}
-use Rattle.pipe_model.specs.History.{History}
-use Rattle.pipe_model.specs.Legal.{allows}
 use Rattle.core_state.specs.declared.state.Core.{Core}
 use Rattle.core_state.proofs.Steps.{holds_after, unowed_after}
 use Rattle.core_batches.specs.Writes.{leg_place}

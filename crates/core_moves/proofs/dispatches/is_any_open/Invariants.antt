@@ -1,6 +1,5 @@
 use Rattle.std.proofs.Common.{◌≡◌, drop}
-use Rattle.std.specs.Prelude.{not, is_some}
-use Rattle.std.specs.List.{list_any, list_all}
+use Rattle.std.specs.List.{list_any}
 use Rattle.core_sends.specs.Rooms.{room_between}
 use Rattle.core_moves.specs.Sends.{is_open_in}
 use Rattle.core_moves.proofs.dispatches.is_any_open.Given as goal

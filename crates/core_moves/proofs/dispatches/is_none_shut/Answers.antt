@@ -1,11 +1,11 @@
-use Rattle.std.proofs.Common.{◌≡◌, ℕ, ◌+◌, ◌<◌, ◌≤◌, length, drop, ◌∙◌, arith, refl, get_or, ap, sym, Some, Bool, true, false, []}
-use Rattle.std.specs.Prelude.{not, is_some}
-use Rattle.std.specs.List.{list_any, list_all}
+use Rattle.std.proofs.Common.{◌≡◌, drop, ◌∙◌, arith, ap, sym, Bool, []}
+use Rattle.std.specs.Prelude.{not}
+use Rattle.std.specs.List.{list_all}
 use Rattle.std.proofs.lemmas.List.{drop_all}
 use Rattle.pipe_types.specs.declared.topology.StageSpec.{StageSpec}
 use Rattle.core_sends.specs.Rooms.{room_between}
 use Rattle.core_moves.specs.Sends.{is_shut_in}
-use Rattle.core_moves.proofs.Finding.{all_not, all_next, stage_there}
+use Rattle.core_rows.proofs.Finding.{all_not, all_next, stage_there}
 use Rattle.core_moves.proofs.dispatches.is_none_shut.Goals as goal
 
 pub room-requires : goal.room-requires
@@ -14,7 +14,7 @@ room-requires c =
       holds = c.requires.stands.holds;
       from = c.requires.from;
       to = stage_there c.args.core.now.topology c.as_slice-spec-items.result.now c.loop-spec.spec-index c.spec-item.result c.requires.stands.holds.sound c.as_slice-spec-items.ensures c.loop-spec-test.true c.spec-item.is;
-      live = c.requires.live
+      live = c.requires.live;
     }
 
 pub returns-then-is_shut : goal.returns-then-is_shut

@@ -1,6 +1,6 @@
 use Rattle.std.proofs.Common.{◌≡◌, drop}
-use Rattle.std.specs.Prelude.{not, is_some}
-use Rattle.std.specs.List.{list_any, list_all}
+use Rattle.std.specs.Prelude.{not}
+use Rattle.std.specs.List.{list_all}
 use Rattle.core_sends.specs.Rooms.{room_between}
 use Rattle.core_moves.specs.Sends.{is_shut_in}
 use Rattle.core_moves.proofs.dispatches.is_none_shut.Given as goal

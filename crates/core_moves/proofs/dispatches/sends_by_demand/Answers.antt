@@ -1,5 +1,5 @@
 use Rattle.std.proofs.Common.{◌∙◌, sym}
-use Rattle.pipe_types.specs.declared.topology.Dispatch.TheVariants.{Demand, Broadcast}
+use Rattle.pipe_types.specs.declared.topology.Dispatch.TheVariants.{Demand}
 use Rattle.pipe_model.specs.Flow.{rooms_by, view_of}
 use Rattle.core_moves.proofs.Sending.{none_wait, demand_go}
 use Rattle.core_moves.proofs.dispatches.sends_by_demand.Goals as goal

@@ -1,5 +1,5 @@
 use Rattle.std.proofs.Common.{◌∙◌, sym}
-use Rattle.pipe_types.specs.declared.topology.Dispatch.TheVariants.{Demand, Broadcast}
+use Rattle.pipe_types.specs.declared.topology.Dispatch.TheVariants.{Broadcast}
 use Rattle.pipe_model.specs.Flow.{rooms_by, view_of}
 use Rattle.core_moves.proofs.Sending.{none_wait, all_go}
 use Rattle.core_moves.proofs.dispatches.sends_to_all.Goals as goal

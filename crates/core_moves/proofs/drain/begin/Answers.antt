@@ -1,7 +1,6 @@
-use Rattle.std.proofs.Common.{◌≡◌, ◌<◌, ◌∷◌, ◌∙◌, ap, refl, sym, arith, true}
-use Rattle.pipe_types.specs.declared.step.DrainCause.TheVariants.{Control}
+use Rattle.std.proofs.Common.{◌≡◌, ◌∷◌, ◌∙◌, ap, refl, arith, true}
 use Rattle.pipe_types.specs.declared.step.Step.TheVariants.{Drain}
-use Rattle.pipe_model.specs.History.{History, controls, controls_after}
+use Rattle.pipe_model.specs.History.{History, controls}
 use Rattle.core_tables.specs.declared.rows.Totals.{Totals}
 use Rattle.core_state.specs.declared.state.Core.{Core}
 use Rattle.core_state.specs.Stands.{Fields}

@@ -1,10 +1,9 @@
-use Rattle.std.proofs.Common.{◌≡◌, ℕ, ◌+◌, ◌<◌, ◌≤◌, length, drop, ◌∙◌, arith, refl, get_or, ap, sym, Some, Bool, true, false, []}
-use Rattle.std.specs.Prelude.{not, ◌&&◌, ◌||◌, find, is_some, option_map}
-use Rattle.std.specs.List.{list_any, list_all}
+use Rattle.std.proofs.Common.{◌≡◌, drop, ◌∙◌, arith, ap, sym, Some, Bool, []}
+use Rattle.std.specs.Prelude.{◌&&◌, find, option_map}
 use Rattle.std.proofs.lemmas.List.{drop_all}
 use Rattle.pipe_types.specs.declared.topology.StageSpec.{StageSpec}
 use Rattle.pipe_model.specs.Legal.{needs_restart, no_post_out}
-use Rattle.core_moves.proofs.Finding.{found_here, not_here, stage_there}
+use Rattle.core_rows.proofs.Finding.{found_here, not_here, stage_there}
 use Rattle.core_moves.proofs.finds.first_to_restart.Goals as goal
 
 pub returns-then-is_ready_to_restart : goal.returns-then-is_ready_to_restart

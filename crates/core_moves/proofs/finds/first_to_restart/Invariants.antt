@@ -1,6 +1,5 @@
 use Rattle.std.proofs.Common.{◌≡◌, drop}
-use Rattle.std.specs.Prelude.{not, ◌&&◌, ◌||◌, find}
-use Rattle.std.specs.List.{list_any, list_all}
+use Rattle.std.specs.Prelude.{◌&&◌, find}
 use Rattle.pipe_model.specs.Legal.{needs_restart, no_post_out}
 use Rattle.core_moves.proofs.finds.first_to_restart.Given as goal
 

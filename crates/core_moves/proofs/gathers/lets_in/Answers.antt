@@ -1,8 +1,8 @@
-use Rattle.std.proofs.Common.{◌≡◌, ◌-◌, ◌<◌, ◌∙◌, ap, arith}
+use Rattle.std.proofs.Common.{◌≡◌, ◌-◌, ◌∙◌, ap, arith}
 use Rattle.std.specs.Prelude.{slice_get}
 use Rattle.pipe_model.specs.Content.{key_in, content}
 use Rattle.batcher.specs.Batches.{fits}
-use Rattle.core_moves.proofs.Known.{row_within}
+use Rattle.core_rows.proofs.Known.{row_within}
 use Rattle.core_moves.proofs.Fitting.{key_at, fits_is}
 use Rattle.core_moves.proofs.gathers.lets_in.Goals as goal
 

@@ -1,7 +1,0 @@
-use Rattle.std.proofs.Common.{◌≡◌, ◌∙◌, ap, sym, true, false}
-use Rattle.core_tables.specs.declared.rows.StageRow.{StageRow}
-use Rattle.core_moves.proofs.Known.{row_within}
-use Rattle.core_moves.proofs.jobs.has_ended.Goals as goal
-
-pub row_of-requires-clause-within : goal.row_of-requires-clause-within
-row_of-requires-clause-within c = row_within c.args.core.now.topology c.args.spec.now c.requires.stands.holds.sound c.requires.there

@@ -1,5 +1,0 @@
-use Rattle.core_moves.proofs.Totals.{draining_is}
-use Rattle.core_moves.proofs.jobs.is_draining.Goals as goal
-
-pub returns : goal.returns
-returns c = draining_is c.args.core.now c.requires.stands.holds

@@ -1,5 +1,0 @@
-use Rattle.core_moves.proofs.Totals.{halted_is}
-use Rattle.core_moves.proofs.jobs.is_halted.Goals as goal
-
-pub returns : goal.returns
-returns c = halted_is c.args.core.now c.requires.stands.holds

@@ -1,0 +1,14 @@
+use Rattle.std.proofs.Common.{◌∙◌, ap}
+use Rattle.pipe_model.specs.Moves.{or_else, move_or_pause}
+use Rattle.core_moves.specs.Moves.{from_gathers}
+use Rattle.core_moves.proofs.moves.close_first.Goals as goal
+
+pub returns-in-Some : goal.returns-in-Some
+returns-in-Some c =
+    let core = c.args.core.now in
+    ap (λ o. move_or_pause (or_else o (from_gathers core.topology core.journal.steps))) (c.in-Some.ensures)
+
+pub returns-in-None : goal.returns-in-None
+returns-in-None c =
+    let core = c.args.core.now in
+    c.gather_first.ensures ∙ ap (λ o. move_or_pause (or_else o (from_gathers core.topology core.journal.steps))) (c.in-None.ensures)

@@ -1,8 +1,0 @@
-use Rattle.std.proofs.Common.{◌≡◌, drop}
-use Rattle.std.specs.Prelude.{not, ◌&&◌, find}
-use Rattle.std.specs.List.{list_any, list_all}
-use Rattle.pipe_model.specs.Standing.{is_done_above}
-use Rattle.core_moves.proofs.rests.is_done_above_all.Given as goal
-
-abbrev pub invariant-loop-spec : goal.invariant-loop-spec
-invariant-loop-spec l = list_all (λ spec. is_done_above l.core.topology l.core.journal.steps spec.no) (drop l.spec-index l.spec-items) ≡ list_all (λ spec. is_done_above l.core.topology l.core.journal.steps spec.no) l.spec-items

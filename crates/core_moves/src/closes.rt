@@ -1,0 +1,55 @@
+//! The first open batch that may close.
+
+ghost use Rattle.std.specs.Prelude.{◌≡◌, Some, option_map};
+ghost use Rattle.pipe_types.specs.Stages.{spec_of};
+ghost use Rattle.pipe_model.specs.Moves.{closable, first_closable};
+ghost use Rattle.pipe_model.specs.Standing.{gathered_in};
+ghost use Rattle.core_state.specs.Stands.{Stands};
+ghost use Rattle.core_moves.specs.Closes.{closing_move};
+
+use core_rows::rests::{is_dry, is_gathered_empty};
+use core_state::Core;
+use pipe_types::message::Trigger;
+use pipe_types::numbers::{MsgNo, StageNo};
+use pipe_types::topology::StageSpec;
+
+/// An open batch that may close: its batcher, its first message, and the trigger that holds.
+#[derive(Clone, Copy, PartialEq, Eq, Debug)]
+pub struct Closing {
+    pub stage: StageNo,
+    pub first: MsgNo,
+    pub trigger: Trigger,
+}
+
+/// The first open batch that may close, of the first batcher that has one.
+pub fn first_closing(core: &Core) -> Option<Closing>
+    requires stands { Stands core.now }
+    ensures { option_map closing_move result ≡ closable core.now.topology core.now.journal.steps core.now.topology.stages }
+{
+    for spec in core.topology.stages.as_slice() {
+        if let Some(found) = closing_in(core, spec) {
+            return Some(found);
+        }
+    }
+    None
+}
+
+/// The first open batch of the stage that may close.
+fn closing_in(core: &Core, spec: &StageSpec) -> Option<Closing>
+    requires stands { Stands core.now }
+    requires there { spec_of core.now.topology spec.now.no ≡ Some spec.now }
+    ensures { option_map closing_move result ≡ first_closable core.now.topology core.now.journal.steps spec.now.no (gathered_in core.now.topology core.now.journal.steps spec.now.no) }
+{
+    if is_gathered_empty(core, spec.no) {
+        return None;
+    }
+    let dry = is_dry(core, spec.no);
+    match core.batchers[spec.no.0 as usize].closable(core.totals.now, dry) {
+        Some(found) => Some(Closing {
+            stage: spec.no,
+            first: found.first,
+            trigger: found.trigger,
+        }),
+        None => None,
+    }
+}

@@ -1,0 +1,207 @@
+//! What comes next.
+
+ghost use Rattle.std.specs.Prelude.{◌≡◌, if◌then◌else◌, Some, None, true, false};
+ghost use Rattle.pipe_types.specs.declared.step.Step.TheVariants.{Restart, Halt, Ask};
+ghost use Rattle.pipe_model.specs.Ledger.{due};
+ghost use Rattle.pipe_model.specs.Legal.{happened, is_halt, may_restart};
+ghost use Rattle.pipe_model.specs.Moves.{move as next_move_of, move_or_pause, or_else, if_so, is_drained, jobs_out, StepMove, Drained as DrainedMove, JobsOut as JobsOutMove};
+ghost use Rattle.core_state.specs.Stands.{Stands};
+ghost use Rattle.core_rows.specs.Rows.{is_due};
+ghost use Rattle.core_moves.specs.Moves.{seen_as, cause_by, from_jobs, from_gathers, from_closes, from_dispatches, from_asks, from_drains, from_restarts};
+
+use crate::closes::first_closing;
+use crate::finds::{first_to_dispatch, first_to_gather, first_to_restart, last_with_job};
+use crate::gathers::first_unit;
+use core_rows::asks::first_due;
+use core_rows::causes::{is_all_ended, is_at_limit, is_idle_long};
+use core_rows::jobs::{is_draining, is_halted};
+use core_rows::posts::is_any_out;
+use core_rows::rests::is_drained;
+use core_rows::rows::may_restart;
+use core_state::Core;
+use pipe_types::numbers::{MsgNo, StageNo, SubNo};
+use pipe_types::step::{DrainCause, Step};
+
+/// What comes next: an end, a step of the pipeline's own, a job of a stage, a wait for the jobs that are out, or a pause.
+#[derive(Drop, Debug)]
+pub enum Move {
+    Halted,
+    Drained,
+    Step(Step),
+    Job(StageNo),
+    JobsOut,
+    Pause,
+}
+
+/// The first move that applies.
+pub fn next_move(core: &Core) -> Move
+    requires stands { Stands core.now }
+    ensures { seen_as result ≡ next_move_of core.now.topology core.now.journal.steps }
+{
+    if !is_halted(core) {
+        return move_on(core);
+    }
+    if is_any_out(core) {
+        Move::JobsOut
+    } else {
+        Move::Halted
+    }
+}
+
+/// The first move of a pipeline that has not halted.
+fn move_on(core: &Core) -> Move
+    requires stands { Stands core.now }
+    requires going { happened is_halt core.now.journal.steps ≡ false }
+    ensures { seen_as result ≡ move_or_pause (or_else (if_so (is_drained core.now.topology core.now.journal.steps) DrainedMove) (from_restarts core.now.topology core.now.journal.steps)) }
+{
+    if is_drained(core) {
+        Move::Drained
+    } else {
+        restart_first(core)
+    }
+}
+
+/// The first move from the restarts on.
+fn restart_first(core: &Core) -> Move
+    requires stands { Stands core.now }
+    requires going { happened is_halt core.now.journal.steps ≡ false }
+    ensures { seen_as result ≡ move_or_pause (from_restarts core.now.topology core.now.journal.steps) }
+{
+    match first_to_restart(core) {
+        Some(stage) => restart_or_halt(core, stage),
+        None => drain_first(core),
+    }
+}
+
+/// A restart of the stage, or a halt where there were too many.
+fn restart_or_halt(core: &Core, stage: StageNo) -> Move
+    requires stands { Stands core.now }
+    ensures { seen_as result ≡ StepMove (if may_restart core.now.topology core.now.journal.steps then Restart stage else Halt) }
+{
+    if may_restart(core) {
+        Move::Step(Step::Restart { stage })
+    } else {
+        Move::Step(Step::Halt)
+    }
+}
+
+/// The first move from the begin of the drain on.
+fn drain_first(core: &Core) -> Move
+    requires stands { Stands core.now }
+    requires going { happened is_halt core.now.journal.steps ≡ false }
+    ensures { seen_as result ≡ move_or_pause (from_drains core.now.topology core.now.journal.steps) }
+{
+    match drain_cause(core) {
+        Some(cause) => Move::Step(Step::Drain { cause }),
+        None => ask_first(core),
+    }
+}
+
+/// The first cause for which the drain may begin now.
+fn drain_cause(core: &Core) -> Option<DrainCause>
+    requires stands { Stands core.now }
+    ensures { result ≡ cause_by core.now.topology core.now.journal.steps }
+{
+    if is_draining(core) {
+        return None;
+    }
+    if is_all_ended(core) {
+        return Some(DrainCause::Sources);
+    }
+    if is_at_limit(core) {
+        return Some(DrainCause::Limit);
+    }
+    if is_idle_long(core) {
+        return Some(DrainCause::Idle);
+    }
+    None
+}
+
+/// The first move from the asks on.
+fn ask_first(core: &Core) -> Move
+    requires stands { Stands core.now }
+    requires going { happened is_halt core.now.journal.steps ≡ false }
+    ensures { seen_as result ≡ move_or_pause (from_asks core.now.topology core.now.journal.steps) }
+{
+    match first_due(core) {
+        Some(sub) => ask_on(core, sub),
+        None => dispatch_first(core),
+    }
+}
+
+/// The ask that is due on the subscription.
+fn ask_on(core: &Core, sub: SubNo) -> Move
+    requires stands { Stands core.now }
+    requires due { is_due core.now.topology core.now.journal.steps sub ≡ true }
+    ensures { seen_as result ≡ StepMove (Ask sub (due core.now.topology core.now.journal.steps sub)) }
+{
+    let n = core.subs.due(sub);
+    Move::Step(Step::Ask { sub, n })
+}
+
+/// The first move from the dispatches on.
+fn dispatch_first(core: &Core) -> Move
+    requires stands { Stands core.now }
+    requires going { happened is_halt core.now.journal.steps ≡ false }
+    ensures { seen_as result ≡ move_or_pause (from_dispatches core.now.topology core.now.journal.steps) }
+{
+    match first_to_dispatch(core) {
+        Some(stage) => Move::Step(Step::Dispatch { stage }),
+        None => close_first(core),
+    }
+}
+
+/// The first move from the closes of batches on.
+fn close_first(core: &Core) -> Move
+    requires stands { Stands core.now }
+    requires going { happened is_halt core.now.journal.steps ≡ false }
+    ensures { seen_as result ≡ move_or_pause (from_closes core.now.topology core.now.journal.steps) }
+{
+    match first_closing(core) {
+        Some(found) => Move::Step(Step::Close {
+            stage: found.stage,
+            first: found.first,
+            trigger: found.trigger,
+        }),
+        None => gather_first(core),
+    }
+}
+
+/// The first move from the gathers on.
+fn gather_first(core: &Core) -> Move
+    requires stands { Stands core.now }
+    requires going { happened is_halt core.now.journal.steps ≡ false }
+    ensures { seen_as result ≡ move_or_pause (from_gathers core.now.topology core.now.journal.steps) }
+{
+    match first_to_gather(core) {
+        Some(stage) => {
+            let no = MsgNo(first_unit(core, stage));
+            Move::Step(Step::Gather { stage, no })
+        }
+        None => begin_last(core),
+    }
+}
+
+/// A job of the last stage that may begin one, or a wait.
+fn begin_last(core: &Core) -> Move
+    requires stands { Stands core.now }
+    requires going { happened is_halt core.now.journal.steps ≡ false }
+    ensures { seen_as result ≡ move_or_pause (from_jobs core.now.topology core.now.journal.steps) }
+{
+    match last_with_job(core) {
+        Some(stage) => Move::Job(stage),
+        None => wait(core),
+    }
+}
+
+/// A wait for the jobs that are out, or a pause where none is.
+fn wait(core: &Core) -> Move
+    requires stands { Stands core.now }
+    ensures { seen_as result ≡ move_or_pause (if_so (jobs_out core.now.topology core.now.journal.steps) JobsOutMove) }
+{
+    if is_any_out(core) {
+        Move::JobsOut
+    } else {
+        Move::Pause
+    }
+}

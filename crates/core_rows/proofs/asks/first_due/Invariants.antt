@@ -1,0 +1,12 @@
+use Rattle.std.proofs.Common.{◌≡◌, drop}
+use Rattle.std.specs.Prelude.{find}
+use Rattle.std.specs.List.{flat_map}
+use Rattle.pipe_model.specs.Moves.{subs_into}
+use Rattle.core_rows.specs.Rows.{is_due}
+use Rattle.core_rows.proofs.asks.first_due.Given as goal
+
+abbrev pub invariant-loop-spec : goal.invariant-loop-spec
+invariant-loop-spec l =
+    let t = l.core.topology in
+    let h = l.core.journal.steps in
+    find (is_due t h) (flat_map (λ c. subs_into t h c.no t.stages) (drop l.spec-index l.spec-items)) ≡ find (is_due t h) (flat_map (λ c. subs_into t h c.no t.stages) l.spec-items)

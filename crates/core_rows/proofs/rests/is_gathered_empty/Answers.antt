@@ -1,0 +1,15 @@
+use Rattle.std.proofs.Common.{◌∙◌, ap}
+use Rattle.std.specs.Prelude.{slice_get}
+use Rattle.pipe_model.specs.Flow.{is_empty}
+use Rattle.pipe_model.specs.Standing.{gathered_in}
+use Rattle.core_state.specs.Stands.{opens_in}
+use Rattle.core_rows.proofs.Queues.{empty_opens}
+use Rattle.core_rows.proofs.rests.is_gathered_empty.Goals as goal
+
+pub returns : goal.returns
+returns c =
+    let core = c.args.core.now in
+    let s = c.args.stage in
+    c.has_none_open.ensures
+    ∙ (ap (λ xs. is_empty (opens_in (slice_get xs s.0))) c.deref.ensures.value
+    ∙ (ap is_empty (c.requires.stands.holds.fields.opens s) ∙ empty_opens core.journal.steps (gathered_in core.topology core.journal.steps s)))

@@ -1,0 +1,10 @@
+use Rattle.std.proofs.Common.{◌∙◌, ap}
+use Rattle.std.specs.Prelude.{slice_get}
+use Rattle.pipe_model.specs.Flow.{is_empty}
+use Rattle.core_tables.specs.Tables.{items_in}
+use Rattle.core_rows.proofs.rests.is_inbox_empty.Goals as goal
+
+pub returns : goal.returns
+returns c =
+    let s = c.args.stage in
+    c.is_queue_empty.ensures ∙ (ap (λ qs. is_empty (items_in (slice_get qs s.0))) c.deref.ensures.value ∙ ap is_empty (c.requires.stands.holds.fields.inboxes s))
