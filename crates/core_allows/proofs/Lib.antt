@@ -1,0 +1,4 @@
+pub mod Held
+pub mod Asked
+pub mod Late
+pub mod Slot
