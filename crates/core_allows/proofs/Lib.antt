@@ -2,3 +2,5 @@ pub mod Held
 pub mod Asked
 pub mod Late
 pub mod Slot
+pub mod Unfound
+pub mod OpenBatches

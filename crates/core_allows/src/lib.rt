@@ -6,6 +6,10 @@
 pub mod answers;
 pub mod asks;
 pub mod children;
+pub mod closes;
+pub mod dispatches;
+pub mod gathers;
+pub mod jobs;
 pub mod lives;
 pub mod queues;
 mod rows;

@@ -4,7 +4,7 @@ ghost use Rattle.std.specs.Prelude.{◌≡◌, ◌&&◌, ◌==◌, slice_get};
 ghost use Rattle.pipe_types.specs.Numbers.{stage as control, post};
 ghost use Rattle.pipe_model.specs.History.{controls};
 ghost use Rattle.pipe_model.specs.Posts.{is_out, out_from};
-ghost use Rattle.pipe_model.specs.Legal.{has_role, is_producer_role, is_processor_role, is_batch_processor_role, is_supervisor_role, is_current, fetch_out, has_ended, may_control};
+ghost use Rattle.pipe_model.specs.Legal.{has_role, is_producer_role, is_processor_role, is_batch_processor_role, is_supervisor_role, is_batcher_role, is_current, fetch_out, has_ended, may_control};
 ghost use Rattle.core_state.specs.Stands.{Stands};
 ghost use Rattle.core_allows.specs.Rows.{from_by, fetched_by};
 
@@ -53,6 +53,16 @@ pub(crate) fn is_supervisor(core: &Core, stage: StageNo) -> bool
 {
     match core.topology.stages.find(stage) {
         Some(spec) => spec.role == Role::Supervisor,
+        None => false,
+    }
+}
+
+/// Whether the stage is a batcher.
+pub(crate) fn is_batcher(core: &Core, stage: StageNo) -> bool
+    ensures { result ≡ has_role core.now.topology stage is_batcher_role }
+{
+    match core.topology.stages.find(stage) {
+        Some(spec) => spec.role == Role::Batcher,
         None => false,
     }
 }

@@ -1,0 +1,233 @@
+//! Whether a dispatch of a stage sends or loses anything.
+
+ghost use Rattle.std.specs.Prelude.{◌≡◌, ◌&&◌, ◌||◌, ◌==◌, not, Some, true, length, map, slice_get, is_some};
+ghost use Rattle.std.specs.List.{list_any, list_all};
+ghost use Rattle.pipe_types.specs.declared.topology.Dispatch.TheVariants.{Demand, Broadcast, Partition};
+ghost use Rattle.pipe_types.specs.Stages.{spec_of};
+ghost use Rattle.pipe_model.specs.Lives.{is_live};
+ghost use Rattle.pipe_model.specs.Flow.{is_empty, waiting, rooms_by, view_of};
+ghost use Rattle.pipe_types.specs.declared.step.Step.TheVariants.{Dispatch as DispatchStep};
+ghost use Rattle.pipe_model.specs.Legal.{may_dispatch, may_come};
+ghost use Rattle.core_tables.specs.Tables.{items_in};
+ghost use Rattle.core_laws.specs.Columns.{waiting_parts};
+ghost use Rattle.core_state.specs.Stands.{Stands};
+ghost use Rattle.core_sends.specs.Rooms.{room_between, parts_of};
+ghost use Rattle.core_moves.specs.Sends.{goes_some, is_over, is_open_in, is_shut_in, wants_in};
+
+use core_rows::rests::is_waiting_empty;
+use core_rows::rooms::waiting_len;
+use core_sends::rooms::room;
+use core_state::Core;
+use pipe_types::numbers::StageNo;
+use pipe_types::room::Room;
+use pipe_types::topology::{Dispatch, StageSpec};
+use std::collections::VecDeque;
+
+/// Whether the stage may dispatch: it is live, and its dispatch sends something or loses what is over the size of its
+/// buffer.
+pub fn may_dispatch(core: &Core, stage: StageNo) -> bool
+    requires stands { Stands core.now }
+    ensures { result ≡ may_come core.now.topology core.now.journal.steps (DispatchStep stage) }
+{
+    match core.topology.stages.find(stage) {
+        Some(spec) => may_spec_dispatch(core, spec),
+        None => false,
+    }
+}
+
+fn may_spec_dispatch(core: &Core, spec: &StageSpec) -> bool
+    requires stands { Stands core.now }
+    requires there { spec_of core.now.topology spec.now.no ≡ Some spec.now }
+    ensures { result ≡ may_dispatch core.now.topology core.now.journal.steps spec.now.no }
+{
+    if !core.is_live(spec.no) {
+        return false;
+    }
+    is_dispatch_next(core, spec)
+}
+
+fn is_dispatch_next(core: &Core, spec: &StageSpec) -> bool
+    requires stands { Stands core.now }
+    requires there { spec_of core.now.topology spec.now.no ≡ Some spec.now }
+    requires live { is_live core.now.topology core.now.journal.steps spec.now.no ≡ true }
+    ensures { result ≡ (is_over spec.now.size (length (waiting core.now.topology core.now.journal.steps spec.now.no))
+        || goes_some spec.now.dispatch (rooms_by core.now.topology core.now.journal.steps (view_of core.now.topology core.now.journal.steps) spec.now.no) (parts_of core.now.topology core.now.journal.steps spec.now.no)) }
+{
+    is_over_size(core, spec) || sends_some(core, spec)
+}
+
+/// Whether more units wait in the stage than its buffer keeps.
+fn is_over_size(core: &Core, spec: &StageSpec) -> bool
+    requires stands { Stands core.now }
+    ensures { result ≡ is_over spec.now.size (length (waiting core.now.topology core.now.journal.steps spec.now.no)) }
+{
+    match spec.size {
+        Some(size) => (size as usize) < waiting_len(core, spec.no),
+        None => false,
+    }
+}
+
+/// Whether a dispatch of the live stage sends something.
+fn sends_some(core: &Core, spec: &StageSpec) -> bool
+    requires stands { Stands core.now }
+    requires there { spec_of core.now.topology spec.now.no ≡ Some spec.now }
+    requires live { is_live core.now.topology core.now.journal.steps spec.now.no ≡ true }
+    ensures { result ≡ goes_some spec.now.dispatch (rooms_by core.now.topology core.now.journal.steps (view_of core.now.topology core.now.journal.steps) spec.now.no) (parts_of core.now.topology core.now.journal.steps spec.now.no) }
+{
+    match spec.dispatch {
+        Dispatch::Demand => sends_by_demand(core, spec),
+        Dispatch::Broadcast => sends_to_all(core, spec),
+        Dispatch::Partition => sends_by_part(core, spec),
+    }
+}
+
+fn sends_by_demand(core: &Core, spec: &StageSpec) -> bool
+    requires stands { Stands core.now }
+    requires there { spec_of core.now.topology spec.now.no ≡ Some spec.now }
+    requires live { is_live core.now.topology core.now.journal.steps spec.now.no ≡ true }
+    ensures { result ≡ goes_some Demand (rooms_by core.now.topology core.now.journal.steps (view_of core.now.topology core.now.journal.steps) spec.now.no) (parts_of core.now.topology core.now.journal.steps spec.now.no) }
+{
+    if is_waiting_empty(core, spec.no) {
+        return false;
+    }
+    is_any_open(core, spec)
+}
+
+fn sends_to_all(core: &Core, spec: &StageSpec) -> bool
+    requires stands { Stands core.now }
+    requires there { spec_of core.now.topology spec.now.no ≡ Some spec.now }
+    requires live { is_live core.now.topology core.now.journal.steps spec.now.no ≡ true }
+    ensures { result ≡ goes_some Broadcast (rooms_by core.now.topology core.now.journal.steps (view_of core.now.topology core.now.journal.steps) spec.now.no) (parts_of core.now.topology core.now.journal.steps spec.now.no) }
+{
+    if is_waiting_empty(core, spec.no) {
+        return false;
+    }
+    has_every_open(core, spec)
+}
+
+/// Whether the stage has live subscribers and each has open demand.
+fn has_every_open(core: &Core, spec: &StageSpec) -> bool
+    requires stands { Stands core.now }
+    requires there { spec_of core.now.topology spec.now.no ≡ Some spec.now }
+    requires live { is_live core.now.topology core.now.journal.steps spec.now.no ≡ true }
+    ensures { result ≡ (list_any (λ c. is_some (room_between core.now.topology core.now.journal.steps spec.now.no c.no)) core.now.topology.stages
+        && list_all (λ c. not (is_shut_in (room_between core.now.topology core.now.journal.steps spec.now.no c.no))) core.now.topology.stages) }
+{
+    has_subscriber(core, spec) && is_none_shut(core, spec)
+}
+
+/// Whether a unit waits in the stage for whose partition a subscriber has open demand.
+fn sends_by_part(core: &Core, spec: &StageSpec) -> bool
+    requires stands { Stands core.now }
+    requires there { spec_of core.now.topology spec.now.no ≡ Some spec.now }
+    requires live { is_live core.now.topology core.now.journal.steps spec.now.no ≡ true }
+    requires kind { spec.now.dispatch ≡ Partition }
+    ensures { result ≡ goes_some Partition (rooms_by core.now.topology core.now.journal.steps (view_of core.now.topology core.now.journal.steps) spec.now.no) (parts_of core.now.topology core.now.journal.steps spec.now.no) }
+{
+    is_any_wanted(core, spec)
+}
+
+fn is_any_open(core: &Core, producer: &StageSpec) -> bool
+    requires stands { Stands core.now }
+    requires from { spec_of core.now.topology producer.now.no ≡ Some producer.now }
+    requires live { is_live core.now.topology core.now.journal.steps producer.now.no ≡ true }
+    ensures { result ≡ list_any (λ c. is_open_in (room_between core.now.topology core.now.journal.steps producer.now.no c.no)) core.now.topology.stages }
+{
+    for spec in core.topology.stages.as_slice() {
+        if is_open(room(core, producer, spec)) {
+            return true;
+        }
+    }
+    false
+}
+
+fn has_subscriber(core: &Core, producer: &StageSpec) -> bool
+    requires stands { Stands core.now }
+    requires from { spec_of core.now.topology producer.now.no ≡ Some producer.now }
+    requires live { is_live core.now.topology core.now.journal.steps producer.now.no ≡ true }
+    ensures { result ≡ list_any (λ c. is_some (room_between core.now.topology core.now.journal.steps producer.now.no c.no)) core.now.topology.stages }
+{
+    for spec in core.topology.stages.as_slice() {
+        if room(core, producer, spec).is_some() {
+            return true;
+        }
+    }
+    false
+}
+
+fn is_none_shut(core: &Core, producer: &StageSpec) -> bool
+    requires stands { Stands core.now }
+    requires from { spec_of core.now.topology producer.now.no ≡ Some producer.now }
+    requires live { is_live core.now.topology core.now.journal.steps producer.now.no ≡ true }
+    ensures { result ≡ list_all (λ c. not (is_shut_in (room_between core.now.topology core.now.journal.steps producer.now.no c.no))) core.now.topology.stages }
+{
+    for spec in core.topology.stages.as_slice() {
+        if is_shut(room(core, producer, spec)) {
+            return false;
+        }
+    }
+    true
+}
+
+fn is_any_wanted(core: &Core, producer: &StageSpec) -> bool
+    requires stands { Stands core.now }
+    requires from { spec_of core.now.topology producer.now.no ≡ Some producer.now }
+    requires live { is_live core.now.topology core.now.journal.steps producer.now.no ≡ true }
+    ensures { result ≡ list_any (λ c. wants_in (waiting_parts core.now.topology core.now.journal.steps producer.now.no) (room_between core.now.topology core.now.journal.steps producer.now.no c.no)) core.now.topology.stages }
+{
+    for spec in core.topology.stages.as_slice() {
+        if is_wanted(core, producer.no, room(core, producer, spec)) {
+            return true;
+        }
+    }
+    false
+}
+
+/// Whether a unit of the room's partition waits in the stage, and the room is open.
+fn is_wanted(core: &Core, stage: StageNo, room: Option<Room>) -> bool
+    requires stands { Stands core.now }
+    ensures { result ≡ wants_in (waiting_parts core.now.topology core.now.journal.steps stage) room }
+{
+    is_wanted_of(&core.waiting, stage.0 as usize, room)
+}
+
+fn is_wanted_of(queues: &[VecDeque<(u32, u32)>], at: usize, room: Option<Room>) -> bool
+    ensures { result ≡ wants_in (items_in (slice_get queues.now at)) room }
+{
+    match (room, queues.get(at)) {
+        (Some(room), Some(queue)) => 0 < room.left && has_part(queue, room.part),
+        _ => false,
+    }
+}
+
+/// Whether a unit of the partition is in the queue.
+fn has_part(queue: &VecDeque<(u32, u32)>, part: u32) -> bool
+    ensures { result ≡ list_any (λ unit. unit.0 == part) queue.now.items }
+{
+    for k in 0..queue.len() {
+        if queue[k].0 == part {
+            return true;
+        }
+    }
+    false
+}
+
+/// Whether there is a room and something was asked for there and not sent.
+fn is_open(room: Option<Room>) -> bool
+    ensures { result ≡ is_open_in room }
+{
+    match room {
+        Some(room) => 0 < room.left,
+        None => false,
+    }
+}
+
+/// Whether there is a room and nothing was asked for there that is not sent.
+fn is_shut(room: Option<Room>) -> bool
+    ensures { result ≡ is_shut_in room }
+{
+    match room {
+        Some(room) => room.left == 0,
+        None => false,
+    }
+}
