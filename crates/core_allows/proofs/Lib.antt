@@ -4,3 +4,5 @@ pub mod Late
 pub mod Slot
 pub mod Unfound
 pub mod OpenBatches
+pub mod Replied
+pub mod Allowed
