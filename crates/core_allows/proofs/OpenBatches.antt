@@ -1,5 +1,5 @@
 -- Which trigger holds of the open batch that begins with a message.
-use Rattle.std.proofs.Common.{◌≡◌, ℕ, ◌≤◌, ◌<◌, List, [], ◌∷◌, length, Bool, true, false, refl, ap, sym, ◌∙◌, Option, Some, None, All, arith, subst, get_or}
+use Rattle.std.proofs.Common.{◌≡◌, ℕ, ◌≤◌, List, [], ◌∷◌, length, Bool, true, false, refl, ap, sym, ◌∙◌, Option, Some, None, All, arith, subst, get_or}
 use Rattle.std.specs.Prelude.{◌&&◌, ◌==◌, slice_get, is_some}
 use Rattle.std.proofs.lemmas.Bool.{eqb-true}
 use Rattle.std.proofs.lemmas.Option.{slice_get_read}
@@ -10,7 +10,7 @@ use Rattle.pipe_types.specs.declared.topology.Topology.{Topology}
 use Rattle.pipe_types.specs.declared.topology.StageSpec.{StageSpec}
 use Rattle.pipe_types.specs.Sound.{IsSound}
 use Rattle.pipe_types.specs.Stages.{spec_of}
-use Rattle.pipe_model.specs.History.{History, now}
+use Rattle.pipe_model.specs.History.{History}
 use Rattle.pipe_model.specs.Content.{content, key_in}
 use Rattle.pipe_model.specs.Flow.{view_of, closing, first_in, is_empty}
 use Rattle.pipe_model.specs.Legal.{is_batcher_role, has_role, trigger_of, same_trigger, is_dry}
@@ -19,7 +19,7 @@ use Rattle.pipe_laws.proofs.Tests.{clash}
 use Rattle.pipe_laws.proofs.Lists.{Each}
 use Rattle.queue_laws.proofs.Laws.{open_law}
 use Rattle.stage_laws.proofs.Numbering.{numbered_topology}
-use Rattle.batcher.specs.Batches.{Batches, OpenBatch, IsClosable, first_of, trigger_of as held_trigger}
+use Rattle.batcher.specs.Batches.{Batches, IsClosable, first_of, trigger_of as held_trigger}
 use Rattle.batcher.specs.declared.Closable.{Closable}
 use Rattle.core_tables.specs.declared.rows.Totals.{Totals}
 use Rattle.core_laws.specs.Columns.{open_of, open_batches, keys_of}

@@ -1,6 +1,6 @@
 -- Replies of handlers: one to each message, up to the first crash.
-use Rattle.std.proofs.Common.{◌≡◌, ℕ, suc, ◌+◌, ◌<◌, ◌≤◌, List, [], ◌∷◌, map, drop, length, Bool, true, false, refl, ap, sym, ◌∙◌, Some, None, Option, arith, get_or}
-use Rattle.std.specs.Prelude.{if◌then◌else◌, ◌==◌, ◌&&◌, ◌-◌, is_some}
+use Rattle.std.proofs.Common.{◌≡◌, ℕ, ◌+◌, ◌<◌, ◌≤◌, List, [], ◌∷◌, map, drop, length, Bool, true, false, refl, ap, sym, ◌∙◌, Some, None, Option, arith, get_or}
+use Rattle.std.specs.Prelude.{if◌then◌else◌, ◌==◌, ◌-◌, is_some}
 use Rattle.std.proofs.lemmas.Bool.Decides.{nat_tests}
 use Rattle.std.proofs.lemmas.List.{at_drop_more, drop_all, length-drop}
 use Rattle.pipe_types.specs.declared.numbers.StageNo.{StageNo}

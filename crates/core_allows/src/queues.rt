@@ -81,7 +81,11 @@ fn count_at(inboxes: &[VecDeque<(SubNo, u32)>], at: usize, sub: SubNo) -> usize
 fn count_in(inbox: &VecDeque<(SubNo, u32)>, sub: SubNo) -> usize
     ensures { result ≡ length (units_on sub inbox.now.items) }
 {
-    inbox.iter().filter(|unit| unit.0 == sub).map(|unit| unit.1).count()
+    inbox
+        .iter()
+        .filter(|unit| unit.0 == sub)
+        .map(|unit| unit.1)
+        .count()
 }
 
 /// How many of so many units the stage takes at a time.

@@ -1,4 +1,4 @@
-use Rattle.std.proofs.Common.{◌≡◌, ◌<◌, length, get_or, true, false, ap, sym, ◌∙◌, arith}
+use Rattle.std.proofs.Common.{◌≡◌, get_or, true, false, ap, sym, ◌∙◌, arith}
 use Rattle.pipe_types.specs.declared.message.Reply.TheVariants.{Crashed}
 use Rattle.pipe_types.specs.Handlers.{is_crashed}
 use Rattle.core_allows.proofs.Replied.{each_past, each_here, each_end, last_is}

@@ -1,4 +1,4 @@
-use Rattle.std.proofs.Common.{◌∙◌, ap, sym, true, false}
+use Rattle.std.proofs.Common.{◌∙◌, ap, sym, false}
 use Rattle.std.specs.Prelude.{slice_get}
 use Rattle.core_rows.proofs.Fetched.{fetch_by}
 use Rattle.core_allows.specs.Rows.{fetched_by}

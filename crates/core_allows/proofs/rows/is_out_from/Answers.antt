@@ -1,7 +1,5 @@
 use Rattle.std.proofs.Common.{◌∙◌, ap, sym}
-use Rattle.std.specs.Prelude.{slice_get, ◌&&◌, ◌==◌}
-use Rattle.pipe_types.specs.Numbers.{post}
-use Rattle.pipe_model.specs.Posts.{out_from}
+use Rattle.std.specs.Prelude.{slice_get}
 use Rattle.core_tables.specs.Rows.{post_at}
 use Rattle.core_allows.specs.Rows.{from_by}
 use Rattle.core_allows.proofs.Held.{from_here}
