@@ -8,12 +8,14 @@ use Rattle.pipe_types.specs.declared.step.Step.TheVariants.{Done, Wrote, ChildEn
 use Rattle.pipe_types.specs.declared.step.LateAnswer.{LateAnswer}
 use Rattle.pipe_types.specs.declared.step.LateAnswer.TheVariants.{Wrote as WroteAnswer}
 use Rattle.pipe_types.specs.Numbers.{post}
+use Rattle.pipe_types.specs.Stages.{spec_of}
 use Rattle.pipe_types.specs.Handlers.{is_crashed}
 use Rattle.pipe_model.specs.History.{History, incarnation}
 use Rattle.pipe_model.specs.Posts.{is_out, out_from}
 use Rattle.pipe_model.specs.Lives.{is_live}
 use Rattle.pipe_model.specs.Flow.{chunk_by, view_of}
-use Rattle.pipe_model.specs.Legal.{may_come, happened, is_halt, is_late, has_role, is_processor_role, is_batch_processor_role, is_supervisor_role, is_current, late_fits}
+use Rattle.pipe_model.specs.Work.{are_handled, count, chunk_of, child_of}
+use Rattle.pipe_model.specs.Legal.{may_come, happened, is_halt, is_late, has_role, is_processor_role, is_batch_processor_role, is_supervisor_role, is_current, late_fits, ends_batch}
 
 -- each message has its reply, up to the first crash
 abbrev pub answers_each : (messages : List ℕ) → List Reply → Bool
@@ -58,6 +60,14 @@ may_come_tested topology before step = may_come topology before step
 -- what is tested of a step where none is owed
 abbrev pub allows_tested : Topology → History → Step → Bool
 allows_tested topology before step = (not (happened is_halt before) || is_late step) && may_come_tested topology before step
+
+-- what the step has of handlers is theirs: the replies to a chunk, the end of a batch with the bytes written, or the reply of a child
+abbrev pub is_given : Topology → History → Step → Bool
+is_given topology before (Done s replies) = are_handled (spec_of topology s) (count topology before s) (chunk_of topology before s) replies
+is_given topology before (Wrote s bytes end) = ends_batch topology before s bytes end
+is_given topology before (ChildEnd s slot reply) = are_handled (spec_of topology s) 0 (child_of before s slot) (reply ∷ [])
+is_given topology before (Late s slot i (WroteAnswer bytes end)) = ends_batch topology before s bytes end
+is_given topology before _ = true
 
 -- the step has what handlers gave
 abbrev pub is_handled : Step → Bool

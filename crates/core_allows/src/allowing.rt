@@ -1,9 +1,9 @@
 //! The test of whether a step may come next.
 
-ghost use Rattle.std.specs.Prelude.{◌≡◌, false, IsTrue};
+ghost use Rattle.std.specs.Prelude.{◌≡◌, ◌&&◌, false, IsTrue};
 ghost use Rattle.pipe_model.specs.Legal.{allows as allows_by, is_late as is_late_step};
 ghost use Rattle.core_state.specs.Stands.{Stands};
-ghost use Rattle.core_allows.specs.Tested.{allows_tested, may_come_tested, is_handled};
+ghost use Rattle.core_allows.specs.Tested.{allows_tested, may_come_tested, is_given, is_handled};
 
 use crate::answers::{may_be_late, may_be_written, may_child_end};
 use crate::asks::may_ask;
@@ -26,6 +26,7 @@ use pipe_types::step::Step;
 pub fn allows(core: &Core, step: &Step) -> bool
     requires stands { Stands core.now }
     ensures tested { result ≡ allows_tested core.now.topology core.now.journal.steps step.now }
+    ensures legal { allows_by core.now.topology core.now.journal.steps step.now ≡ (result && is_given core.now.topology core.now.journal.steps step.now) }
     ensures same { is_handled step.now ≡ false → result ≡ allows_by core.now.topology core.now.journal.steps step.now }
     ensures model { IsTrue (allows_by core.now.topology core.now.journal.steps step.now) → IsTrue result }
 {
