@@ -66,7 +66,7 @@ fn send_owed(core: &mut Core, stage: StageNo, sent: Vec<Sent>)
 }
 
 /// What the dispatch that the accept owes will send, with room for both steps. The journal is as before.
-pub fn prepare(core: &mut Core, stage: StageNo, records: &[Bytes]) -> Result<Vec<Sent>, AllocError>
+fn prepare(core: &mut Core, stage: StageNo, records: &[Bytes]) -> Result<Vec<Sent>, AllocError>
     requires stands { Stands core.old }
     requires legal { IsTrue (allows core.old.topology core.old.journal.steps (Step.Accept stage records.now)) }
     ensures planned { IfOk result (λ sent. sent.items ≡ planned core.old.topology (Step.Accept stage records.now ∷ core.old.journal.steps) stage []) }
@@ -101,7 +101,7 @@ fn parts_in(alloc: Global, spec: &StageSpec, records: &[Bytes]) -> Result<Vec<u3
 }
 
 /// Whether a dispatch of the live stage sends something, of which this was planned, or loses what is over the size.
-pub fn is_due(core: &Core, stage: StageNo, sent: &[Sent]) -> bool
+fn is_due(core: &Core, stage: StageNo, sent: &[Sent]) -> bool
     requires holds { Holds core.now }
     requires live { is_live core.now.topology core.now.journal.steps stage ≡ true }
     requires planned { sent.now ≡ planned core.now.topology core.now.journal.steps stage [] }

@@ -18,7 +18,8 @@ use std::alloc::AllocError;
 /// The most records of one fetch.
 pub const MOST_RECORDS: u32 = 1_000;
 
-/// Appends a fetch of the producer, and answers how many records it may bring.
+/// Appends a fetch of the producer, and answers how many records it may bring. Where memory is wanting, the journal is as
+/// before.
 pub fn fetch(core: &mut Core, stage: StageNo) -> Result<u32, AllocError>
     requires stands { Stands core.old }
     requires legal { IsTrue (allows core.old.topology core.old.journal.steps (Step.Fetch stage (bound_in core.old.topology core.old.journal.steps stage))) }
