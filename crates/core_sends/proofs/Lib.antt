@@ -11,3 +11,5 @@ pub mod Reached
 pub mod AfterSending
 pub mod Sendable
 pub mod Roomy
+pub mod BatchLegs
+pub mod Early
