@@ -64,7 +64,7 @@ gather_first topology before s m h =
 -- Roles
 
 -- a stage has one role
-one_role : (topology : Topology) (s : StageNo) (one other : Role → Bool) → ((role : Role) → one role ≡ true → other role ≡ true → ⊥) → has_role topology s one ≡ true → has_role topology s other ≡ true → ⊥
+pub one_role : (topology : Topology) (s : StageNo) (one other : Role → Bool) → ((role : Role) → one role ≡ true → other role ≡ true → ⊥) → has_role topology s one ≡ true → has_role topology s other ≡ true → ⊥
 one_role topology s one other apart h k = clash (same_stage s s) (same_stage-self s) (roles_apart topology s s one other apart h k)
 
 producer_takes : (role : Role) → is_producer_role role ≡ true → takes_role role ≡ true → ⊥
@@ -74,7 +74,7 @@ producer_takes Supervisor h k = let x : false ≡ true = h in cc
 producer_takes Batcher h k = let x : false ≡ true = h in cc
 producer_takes BatchProcessor h k = let x : false ≡ true = h in cc
 
-producer_supervises : (role : Role) → is_producer_role role ≡ true → is_supervisor_role role ≡ true → ⊥
+pub producer_supervises : (role : Role) → is_producer_role role ≡ true → is_supervisor_role role ≡ true → ⊥
 producer_supervises Producer h k = let x : false ≡ true = k in cc
 producer_supervises Processor h k = let x : false ≡ true = h in cc
 producer_supervises Supervisor h k = let x : false ≡ true = h in cc

@@ -43,6 +43,13 @@ static LOST: [(&str, &[&str], &str); 3] = [
     ),
 ];
 
+/// A supervisor of two children, which go on here.
+static STARTED: [(&str, &[&str], &str); 1] = [(
+    "version = 1\n[[producer]]\nname = \"p\"\nsource = \"mem:a\"\n[supervisor]\nmax_demand = 2\n",
+    &["ab"],
+    "journal 1\nask 2 1 1 2\nfetch 1 2\naccept 1 61,62\ndispatch 1\nchild 2 1 0\nchild 2 2 1\nend 6\n",
+)];
+
 /// Batches by key, until the first closes by its size or its time.
 static BATCHED: [(&str, &[&str], &str); 2] = [
     (
@@ -83,6 +90,17 @@ fn a_full_buffer_loses_by_its_kind(rt: HostRuntime) -> Result<(), Fail> {
 fn batches_are_gathered_by_key(rt: HostRuntime) -> Result<(), Fail> {
     let alloc = rt.alloc();
     for &(file, brought, journal) in &BATCHED {
+        let text = journal_of(&rt, alloc, Run { file, brought })?;
+        let shown = str::from_utf8(text.as_slice()).unwrap_or("no text");
+        assert!(rt; shown == journal, "{file}: {shown}");
+    }
+    Ok(())
+}
+
+#[test]
+fn a_child_starts_for_each_message(rt: HostRuntime) -> Result<(), Fail> {
+    let alloc = rt.alloc();
+    for &(file, brought, journal) in &STARTED {
         let text = journal_of(&rt, alloc, Run { file, brought })?;
         let shown = str::from_utf8(text.as_slice()).unwrap_or("no text");
         assert!(rt; shown == journal, "{file}: {shown}");

@@ -9,7 +9,7 @@ ghost use Rattle.pipe_model.specs.Flow.{is_batcher};
 ghost use Rattle.pipe_model.specs.Content.{has_crash};
 ghost use Rattle.pipe_model.specs.Work.{chunk_of};
 ghost use Rattle.pipe_model.specs.Jobs.{may_take_next};
-ghost use Rattle.pipe_model.specs.Legal.{allows, bound, fetch_out, happened, is_halt, has_role, is_producer_role, is_processor_role, are_records as are_brought};
+ghost use Rattle.pipe_model.specs.Legal.{allows, bound, fetch_out, happened, is_halt, has_role, is_producer_role, is_processor_role, is_supervisor_role, are_records as are_brought};
 ghost use Rattle.move_laws.specs.NextMoves.{MayBegin, IsLegalMove};
 ghost use Rattle.core_moves.specs.Moves.{seen_as};
 ghost use Rattle.core_moves.specs.declared.moves.Move.TheVariants.{Pause};
@@ -22,6 +22,7 @@ use core_accepts::fetches::fetch;
 use core_batches::gathers::gather;
 use core_calls::asks::{ask, tick};
 use core_calls::sources::{quiet, source_end};
+use core_children::children::child_start;
 use core_closes::close;
 use core_moves::drain::begin;
 use core_moves::moves::{Move, next_move};
@@ -196,7 +197,17 @@ fn replies(topology: &Topology, stage: StageNo) -> bool
     }
 }
 
-/// Begins a job of the stage and answers it, and says whether it could. It can for no supervisor and no batch processor.
+/// Whether the stage is a supervisor.
+fn supervises(topology: &Topology, stage: StageNo) -> bool
+    ensures { result ≡ has_role topology.now stage is_supervisor_role }
+{
+    match topology.stages.find(stage) {
+        Some(spec) => matches!(spec.role, Role::Supervisor),
+        None => false,
+    }
+}
+
+/// Begins a job of the stage and answers it, and says whether it could. A child goes on; for a batch processor it could not.
 fn work(
     rt: &impl Abort,
     alloc: Global,
@@ -214,6 +225,10 @@ fn work(
     }
     if replies(core.topology(), stage) {
         handle_once(alloc, core, stage)?;
+        return Ok(true);
+    }
+    if supervises(core.topology(), stage) {
+        child_start(core, stage)?;
         return Ok(true);
     }
     Ok(false)
