@@ -14,7 +14,7 @@ ghost use Rattle.core_state.specs.Stands.{Stands};
 ghost use Rattle.core_batches.specs.Closes.{MayClose};
 
 use core_batches::closes::close_batch;
-use core_moves::rests::is_dry;
+use core_rows::rests::is_dry;
 use core_state::Core;
 use pipe_types::numbers::{BatchNo, MsgNo, StageNo};
 use std::alloc::AllocError;
