@@ -90,6 +90,7 @@ enrolled_fields core topology before s spec records j queues places settled prod
             few = x.sized.few;
             stages = x.sized.stages;
             posts = e.post_count ∙ x.sized.posts;
+            came = x.sized.came;
             waiting = ap length e.queues ∙ (length-set core.waiting.items s.0 q ∙ x.sized.waiting);
             inboxes = x.sized.inboxes;
             chunks = x.sized.chunks;
@@ -104,6 +105,7 @@ enrolled_fields core topology before s spec records j queues places settled prod
       set = record { batchers = x.set.batchers; children = x.set.children; restarts = x.set.restarts };
       stages = x.stages;
       posts = λ t slot below low. e.posts (post_at t.0 slot) ∙ post_home core.posts.items s t slot (post_row before t slot) low (x.posts t slot below low);
+      came = x.came;
       subs = x.subs;
       waiting = λ t. waits t (same_or_other s.0 t.0);
       inboxes = λ t. x.inboxes t ∙ sym (law.inbox t);

@@ -63,6 +63,7 @@ fetched_fields core topology before s n from j rows posts x present noted len pu
             few = x.sized.few;
             stages = len ∙ x.sized.stages;
             posts = len-posts ∙ x.sized.posts;
+            came = x.sized.came;
             waiting = x.sized.waiting;
             inboxes = x.sized.inboxes;
             chunks = x.sized.chunks;
@@ -77,6 +78,7 @@ fetched_fields core topology before s n from j rows posts x present noted len pu
       set = record { batchers = x.set.batchers; children = x.set.children; restarts = x.set.restarts };
       stages = λ t within. noted t.0 ∙ (row_changed (fetched n) core.stages.items s t (stage_row topology before t) (x.stages t within) ∙ ap Some (by (s.0 == t.0) t (flip t.0 s.0)));
       posts = λ t slot within low. put_out (post_at t.0 slot) ∙ (post_out core.posts.items s t slot from (post_row before t slot) low (x.posts t slot within low) ∙ ap Some (by_post (same_post (post t slot) (post s 0)) t slot refl));
+      came = x.came;
       subs = x.subs;
       waiting = x.waiting;
       inboxes = x.inboxes;

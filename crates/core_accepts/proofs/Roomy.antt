@@ -34,6 +34,7 @@ same_fields core topology before p m r c w j x same =
             few = x.sized.few;
             stages = x.sized.stages;
             posts = x.sized.posts;
+            came = x.sized.came;
             waiting = same.queue_count ∙ x.sized.waiting;
             inboxes = x.sized.inboxes;
             chunks = x.sized.chunks;
@@ -48,6 +49,7 @@ same_fields core topology before p m r c w j x same =
       set = record { batchers = x.set.batchers; children = x.set.children; restarts = x.set.restarts };
       stages = x.stages;
       posts = x.posts;
+      came = x.came;
       subs = x.subs;
       waiting = λ s. same.queues s ∙ x.waiting s;
       inboxes = x.inboxes;

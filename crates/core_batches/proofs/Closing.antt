@@ -341,6 +341,7 @@ closed_fields core topology before s first trigger at key numbers spec part j ba
             few = x.sized.few;
             stages = x.sized.stages;
             posts = x.sized.posts;
+            came = x.sized.came;
             waiting = len-queues ∙ x.sized.waiting;
             inboxes = x.sized.inboxes;
             chunks = x.sized.chunks;
@@ -355,6 +356,7 @@ closed_fields core topology before s first trigger at key numbers spec part j ba
       set = record { batchers = λ t sp held e f. limits_after (without_open at) (λ h. refl) (λ h. refl) s t core.batchers.items batchers.items sp held removed (λ h k. x.set.batchers t sp h e k) f; children = x.set.children; restarts = x.set.restarts };
       stages = x.stages;
       posts = x.posts;
+      came = x.came;
       subs = x.subs;
       waiting = λ t.
           queued t
@@ -586,6 +588,7 @@ roomy_stands core j rows queues stands same kept queued len =
                 few = x.sized.few;
                 stages = x.sized.stages;
                 posts = x.sized.posts;
+                came = x.sized.came;
                 waiting = len ∙ x.sized.waiting;
                 inboxes = x.sized.inboxes;
                 chunks = x.sized.chunks;
@@ -600,6 +603,7 @@ roomy_stands core j rows queues stands same kept queued len =
           set = record { batchers = x.set.batchers; children = x.set.children; restarts = x.set.restarts };
           stages = x.stages;
           posts = x.posts;
+          came = x.came;
           subs = x.subs;
           waiting = λ t. queued t ∙ x.waiting t;
           inboxes = x.inboxes;

@@ -274,6 +274,7 @@ gathered_fields core topology before s m u message j batchers inboxes places sub
             few = x.sized.few;
             stages = x.sized.stages;
             posts = x.sized.posts;
+            came = x.sized.came;
             waiting = x.sized.waiting;
             inboxes = len-inboxes ∙ x.sized.inboxes;
             chunks = x.sized.chunks;
@@ -293,6 +294,7 @@ gathered_fields core topology before s m u message j batchers inboxes places sub
           };
       stages = x.stages;
       posts = x.posts;
+      came = x.came;
       subs = λ c p fed. handled_row topology before s m u core.subs subs c p g.stands (x.subs c p fed) counts;
       waiting = λ t. x.waiting t ∙ ap (map {B = ℕ × ℕ} (λ n. (part_of topology before (spec_of topology t) n, n))) (sym (waiting_law topology before (Gather s m) t sound g.legal));
       inboxes = λ t.
@@ -337,6 +339,7 @@ refused_stands core j batchers stands same kept len =
                 few = x.sized.few;
                 stages = x.sized.stages;
                 posts = x.sized.posts;
+                came = x.sized.came;
                 waiting = x.sized.waiting;
                 inboxes = x.sized.inboxes;
                 chunks = x.sized.chunks;
@@ -351,6 +354,7 @@ refused_stands core j batchers stands same kept len =
           set = record { batchers = λ t spec held known at. x.set.batchers t spec held known (sym (kept t.0) ∙ at); children = x.set.children; restarts = x.set.restarts };
           stages = x.stages;
           posts = x.posts;
+          came = x.came;
           subs = x.subs;
           waiting = x.waiting;
           inboxes = x.inboxes;

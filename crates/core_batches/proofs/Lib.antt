@@ -6,6 +6,6 @@ mod Joining
 pub mod Removing
 pub mod Closing
 mod Outcomes
-mod Writing
+pub mod Writing
 mod Settling
 mod Written

@@ -164,12 +164,12 @@ index_is u (leg ∷ legs) (suc i) apart e =
 
 -- The subscriptions of the legs
 
-abbrev PlaceOn : List SubNo → BatchPlace → Type 0
+abbrev pub PlaceOn : List SubNo → BatchPlace → Type 0
 PlaceOn subs (AtBatcher s) = subs ≡ []
 PlaceOn subs (Sent legs) = map (λ (leg : Leg). leg.sub) legs ≡ subs
 PlaceOn subs (Dropped l) = Unit {0}
 
-abbrev IsOnSubs : List SubNo → Option Batch → Type 0
+abbrev pub IsOnSubs : List SubNo → Option Batch → Type 0
 IsOnSubs subs None = Unit {0}
 IsOnSubs subs (Some x) = PlaceOn subs x.place
 

@@ -234,6 +234,7 @@ written_fields core topology before s bytes os u b i ms legs settled j posts pla
             few = x.sized.few;
             stages = x.sized.stages;
             posts = len-posts ∙ x.sized.posts;
+            came = x.sized.came;
             waiting = x.sized.waiting;
             inboxes = x.sized.inboxes;
             chunks = x.sized.chunks;
@@ -248,6 +249,7 @@ written_fields core topology before s bytes os u b i ms legs settled j posts pla
       set = record { batchers = x.set.batchers; children = x.set.children; restarts = x.set.restarts };
       stages = x.stages;
       posts = λ t slot within low. homed (post_at t.0 slot) ∙ post_home core.posts.items s t slot (post_row before t slot) low (x.posts t slot within low);
+      came = x.came;
       subs = λ c p fed. handled_row topology before s bytes os u core.subs subs c p g.last (x.subs c p fed) counts;
       waiting = λ t. x.waiting t ∙ ap (map {B = ℕ × ℕ} (λ n. (part_of topology before (spec_of topology t) n, n))) (sym (waiting_law topology before (Wrote s bytes (Outcomes os)) t sound g.legal));
       inboxes = λ t. x.inboxes t ∙ sym (inbox_law topology before (Wrote s bytes (Outcomes os)) t sound g.legal);

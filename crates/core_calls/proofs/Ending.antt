@@ -73,6 +73,7 @@ ticked_fields core topology before t j rows x awoken len =
             few = x.sized.few;
             stages = len ∙ x.sized.stages;
             posts = x.sized.posts;
+            came = x.sized.came;
             waiting = x.sized.waiting;
             inboxes = x.sized.inboxes;
             chunks = x.sized.chunks;
@@ -87,6 +88,7 @@ ticked_fields core topology before t j rows x awoken len =
       set = record { batchers = x.set.batchers; children = x.set.children; restarts = x.set.restarts };
       stages = λ s within. awoken s.0 ∙ ap (option_map awake) (x.stages s within);
       posts = x.posts;
+      came = x.came;
       subs = x.subs;
       waiting = x.waiting;
       inboxes = x.inboxes;
@@ -113,6 +115,7 @@ refused_fields core topology before line j x =
             few = x.sized.few;
             stages = x.sized.stages;
             posts = x.sized.posts;
+            came = x.sized.came;
             waiting = x.sized.waiting;
             inboxes = x.sized.inboxes;
             chunks = x.sized.chunks;
@@ -127,6 +130,7 @@ refused_fields core topology before line j x =
       set = record { batchers = x.set.batchers; children = x.set.children; restarts = x.set.restarts };
       stages = x.stages;
       posts = x.posts;
+      came = x.came;
       subs = x.subs;
       waiting = x.waiting;
       inboxes = x.inboxes;
@@ -156,6 +160,7 @@ rested_fields core topology before s j rows posts x rested len homed len-posts =
             few = x.sized.few;
             stages = len ∙ x.sized.stages;
             posts = len-posts ∙ x.sized.posts;
+            came = x.sized.came;
             waiting = x.sized.waiting;
             inboxes = x.sized.inboxes;
             chunks = x.sized.chunks;
@@ -170,6 +175,7 @@ rested_fields core topology before s j rows posts x rested len homed len-posts =
       set = record { batchers = x.set.batchers; children = x.set.children; restarts = x.set.restarts };
       stages = λ t within. rested t.0 ∙ (row_changed resting core.stages.items s t (stage_row topology before t) (x.stages t within) ∙ ap Some (by (s.0 == t.0) t (flip t.0 s.0)));
       posts = λ t slot within low. homed (post_at t.0 slot) ∙ post_home core.posts.items s t slot (post_row before t slot) low (x.posts t slot within low);
+      came = x.came;
       subs = x.subs;
       waiting = x.waiting;
       inboxes = x.inboxes;
@@ -203,6 +209,7 @@ ended_fields core topology before s how j rows posts x ended len homed len-posts
             few = x.sized.few;
             stages = len ∙ x.sized.stages;
             posts = len-posts ∙ x.sized.posts;
+            came = x.sized.came;
             waiting = x.sized.waiting;
             inboxes = x.sized.inboxes;
             chunks = x.sized.chunks;
@@ -217,6 +224,7 @@ ended_fields core topology before s how j rows posts x ended len homed len-posts
       set = record { batchers = x.set.batchers; children = x.set.children; restarts = x.set.restarts };
       stages = λ t within. ended t.0 ∙ (row_changed ended_now core.stages.items s t (stage_row topology before t) (x.stages t within) ∙ ap Some (by (s.0 == t.0) t (flip t.0 s.0)));
       posts = λ t slot within low. homed (post_at t.0 slot) ∙ sent_home (s.0 == 0) t slot refl low (x.posts t slot within low);
+      came = x.came;
       subs = x.subs;
       waiting = x.waiting;
       inboxes = x.inboxes;

@@ -42,14 +42,14 @@ use Rattle.core_tables.specs.Rows.{post_at}
 use Rattle.core_tables.specs.Chunks.{without_first}
 use Rattle.core_tables.specs.Tables.{queue_at, list_at}
 use Rattle.core_tables.proofs.Tables.{same_or_other}
-use Rattle.core_laws.specs.Columns.{running, child_row}
+use Rattle.core_laws.specs.Columns.{running, child_row, came, sub_first}
 use Rattle.core_laws.specs.Slots.{child_if, child_of}
 use Rattle.core_laws.proofs.Children.{child_is}
 use Rattle.core_laws.proofs.Lawful.{legal_after}
 use Rattle.core_laws.proofs.Past.{out_post}
 use Rattle.core_state.specs.declared.state.Core.{Core}
 use Rattle.core_state.specs.Stands.{Holds, child_at}
-use Rattle.core_takes.specs.Takes.{out_of, sub_first}
+use Rattle.core_takes.specs.Takes.{out_of}
 use Rattle.core_children.proofs.Starting.{Started, child_takes}
 
 -- ---- a message in the supervisor's inbox has no crash
@@ -123,6 +123,7 @@ idle_slot topology before s slot legal none = by (in_slot before s slot) (sym (c
 -- what is known where a child starts for the first message of the inbox
 pub record Fresh (topology : Topology) (before : History) (s : StageNo) (m : MsgNo) (slot : ℕ) : Type 0 where
   pub low : slot < 16
+  pub idle : runs_number topology before s (in_slot before s slot) ≡ false
   pub waits : (t : StageNo) → waiting topology (Child s m slot ∷ before) t ≡ waiting topology before t
   pub gathers : (t : StageNo) → gathered_in topology (Child s m slot ∷ before) t ≡ gathered_in topology before t
   pub first : m.0 ≡ first_unit (inbox topology before s)
@@ -154,6 +155,7 @@ pub fresh : (topology : Topology) (before : History) (s : StageNo) (m : MsgNo) (
 fresh topology before s m slot sound legal allowed idle =
     record {
       low = (out_post topology (Child s m slot ∷ before) s slot sound after puts).low;
+      idle = idle;
       waits = λ t. waiting_law topology before (Child s m slot) t sound after;
       gathers = λ t. gathered_law topology before (Child s m slot) t after;
       first = new.1;
@@ -194,17 +196,26 @@ first_taken : (units : List (SubNo × ℕ)) (m : ℕ) → 1 ≤ m → m ≡ firs
 first_taken [] m some first = absurd (let x : m ≡ 0 = first in omega arith)
 first_taken (d ∷ units) m some first = rw (same_sub-self d.0) (ap (λ n. n ∷ []) (sym first))
 
+and_true : (q : Bool) → (q && true) ≡ q
+and_true true = refl
+and_true false = refl
+
+-- which row of the slots it is
+post_same : (s t : StageNo) (slot k : ℕ) → k < 16 → slot < 16 → (post_at s.0 slot == post_at t.0 k) ≡ (same_stage t s && slot == k)
+post_same s t slot k low high = grind (arith, nat_tests)
+
 pub fresh_started : (core : Core) (s : StageNo) (u : SubNo) (m : MsgNo) (slot : ℕ)
-    (posts : Vec PostRow Global) (inboxes : Vec (VecDeque (SubNo × ℕ) Global) Global) (chunks : Vec (Vec ℕ Global) Global) (children : Vec Slots Global) (places : Vec Place Global)
+    (posts : Vec PostRow Global) (came_on : Vec SubNo Global) (inboxes : Vec (VecDeque (SubNo × ℕ) Global) Global) (chunks : Vec (Vec ℕ Global) Global) (children : Vec Slots Global) (places : Vec Place Global)
     → Holds core → Fresh core.topology core.journal.steps s m slot → s.0 ≤ length core.topology.stages → u ≡ sub_first (inbox core.topology core.journal.steps s)
     → ((i : ℕ) → slice_get posts.items i ≡ (if post_at s.0 slot == i then out_of (slice_get core.stages.items s.0) else slice_get core.posts.items i)) → length posts.items ≡ length core.posts.items
+    → ((i : ℕ) → slice_get came_on.items i ≡ (if post_at s.0 slot == i then Some u else slice_get core.came.items i)) → length came_on.items ≡ length core.came.items
     → ((t : StageNo) → queue_at inboxes.items t ≡ (if s.0 == t.0 then without_first u 1 (queue_at core.inboxes.items t) else queue_at core.inboxes.items t)) → length inboxes.items ≡ length core.inboxes.items
     → ((t : StageNo) → list_at chunks.items t ≡ (if s.0 == t.0 then list_at core.chunks.items t ++ take 1 (units_on u (queue_at core.inboxes.items t)) else list_at core.chunks.items t)) → length chunks.items ≡ length core.chunks.items
     → ((t : StageNo) (k : ℕ) → child_at children.items t k ≡ (if t.0 == s.0 && slot == k then Some (record { no = m; crashes = 0 }) else child_at core.children.items t k)) → length children.items ≡ length core.children.items
     → ((t : StageNo) (new : Slots) → slice_get children.items t.0 ≡ Some new → (old : Slots) × (slice_get core.children.items t.0 ≡ Some old) × (new.mode ≡ old.mode) × (length new.slots ≡ length old.slots))
     → ((i : ℕ) → slice_get places.items i ≡ option_map (taken (m.0 ∷ []) s (suc i)) (slice_get core.places.items i)) → length places.items ≡ length core.places.items
-    → Started core core.topology core.journal.steps s m slot posts inboxes chunks children places
-fresh_started core s u m slot posts inboxes chunks children places x known within sub out posts-len queue queues list lists kids kids-len kept placed all =
+    → Started core core.topology core.journal.steps s m slot posts came_on inboxes chunks children places
+fresh_started core s u m slot posts came_on inboxes chunks children places x known within sub out posts-len noted noted-len queue queues list lists kids kids-len kept placed all =
     record {
       within = within;
       low = known.low;
@@ -212,6 +223,8 @@ fresh_started core s u m slot posts inboxes chunks children places x known withi
       gathers = known.gathers;
       posts-is = out;
       posts-len = posts-len;
+      came-is = λ t k below low. noted (post_at t.0 k) ∙ on (post_at s.0 slot == post_at t.0 k) (same_stage t s && slot == k) t k (post_same s t slot k low known.low) refl (x.fields.came t k below low);
+      came-len = noted-len;
       boxes = λ t. queue t ∙ box t (same_or_other s.0 t.0);
       boxes-len = queues;
       runs = λ t. list t ∙ run t (same_or_other s.0 t.0);
@@ -226,6 +239,16 @@ fresh_started core s u m slot posts inboxes chunks children places x known withi
       placed-len = all;
     }
   where
+    noticed : (t : StageNo) (k : ℕ) → (same_stage t s && (slot == k && not (runs_number core.topology core.journal.steps s (in_slot core.journal.steps s slot)))) ≡ (same_stage t s && slot == k)
+    noticed t k = ap (λ r. same_stage t s && (slot == k && not r)) known.idle ∙ ap (λ q. same_stage t s && q) (and_true (slot == k))
+
+    on : (a b : Bool) (t : StageNo) (k : ℕ) → a ≡ b → (same_stage t s && slot == k) ≡ b → slice_get core.came.items (post_at t.0 k) ≡ Some (came core.topology core.journal.steps t k)
+        → (if a then Some u else slice_get core.came.items (post_at t.0 k)) ≡ Some (came core.topology (Child s m slot ∷ core.journal.steps) t k)
+    on true true t k h e at = ap Some sub ∙ ap (λ b. Some (if b then sub_first (inbox core.topology core.journal.steps s) else came core.topology core.journal.steps t k)) (sym (noticed t k ∙ e))
+    on false false t k h e at = at ∙ ap (λ b. Some (if b then sub_first (inbox core.topology core.journal.steps s) else came core.topology core.journal.steps t k)) (sym (noticed t k ∙ e))
+    on true false t k h e at = cc
+    on false true t k h e at = cc
+
     here : (t : StageNo) → s.0 ≡ t.0 → s ≡ t
     here t e = ap (λ n. record { 0 = n }) e
 

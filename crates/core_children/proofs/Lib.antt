@@ -1,3 +1,5 @@
 pub mod Starting
 pub mod Fresh
 pub mod Next
+pub mod Changed
+pub mod Ended

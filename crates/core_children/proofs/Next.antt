@@ -73,7 +73,7 @@ later false q e h = h
 later true q e h = cc
 
 -- a supervisor's post that is out is that of a slot in which a message was started
-out_slot : (topology : Topology) (before : History) (s : StageNo) (k : ℕ) → is_legal topology before ≡ true → has_role topology s is_supervisor_role ≡ true → is_out before (post s k) ≡ true → (n : ℕ) × (in_slot before s k ≡ Some n)
+pub out_slot : (topology : Topology) (before : History) (s : StageNo) (k : ℕ) → is_legal topology before ≡ true → has_role topology s is_supervisor_role ≡ true → is_out before (post s k) ≡ true → (n : ℕ) × (in_slot before s k ≡ Some n)
 out_slot topology [] s k h role out = cc
 out_slot topology (Child t m q ∷ before) s k h role out =
     either (same_stage s t && q == k) refl (out_slot topology before s k (legal_before topology before (Child t m q) h) role)

@@ -47,7 +47,7 @@ use Rattle.core_tables.specs.declared.rows.Totals.{Totals}
 use Rattle.core_tables.specs.declared.rows.PostRow.{PostRow}
 use Rattle.core_tables.specs.Rows.{post_at}
 use Rattle.core_tables.specs.Tables.{queue_at, list_at}
-use Rattle.core_laws.specs.Columns.{running, post_row, part_of, open_batches, child_row}
+use Rattle.core_laws.specs.Columns.{running, post_row, part_of, open_batches, child_row, came, sub_first}
 use Rattle.core_laws.specs.Slots.{child_if, child_of}
 use Rattle.core_laws.proofs.Children.{child_is}
 use Rattle.core_laws.proofs.Lawful.{legal_after}
@@ -58,13 +58,15 @@ use Rattle.core_takes.specs.Takes.{out_of}
 
 -- what the passes of a child's start leave
 pub record Started (core : Core) (topology : Topology) (before : History) (s : StageNo) (m : MsgNo) (slot : ℕ)
-    (posts : Vec PostRow Global) (inboxes : Vec (VecDeque (SubNo × ℕ) Global) Global) (chunks : Vec (Vec ℕ Global) Global) (children : Vec Slots Global) (places : Vec Place Global) : Type 0 where
+    (posts : Vec PostRow Global) (came_on : Vec SubNo Global) (inboxes : Vec (VecDeque (SubNo × ℕ) Global) Global) (chunks : Vec (Vec ℕ Global) Global) (children : Vec Slots Global) (places : Vec Place Global) : Type 0 where
   pub within : s.0 ≤ length topology.stages
   pub low : slot < 16
   pub waits : (t : StageNo) → waiting topology (Child s m slot ∷ before) t ≡ waiting topology before t
   pub gathers : (t : StageNo) → gathered_in topology (Child s m slot ∷ before) t ≡ gathered_in topology before t
   pub posts-is : (i : ℕ) → slice_get posts.items i ≡ (if post_at s.0 slot == i then out_of (slice_get core.stages.items s.0) else slice_get core.posts.items i)
   pub posts-len : length posts.items ≡ length core.posts.items
+  pub came-is : (t : StageNo) (k : ℕ) → t.0 ≤ length topology.stages → k < 16 → slice_get came_on.items (post_at t.0 k) ≡ Some (came topology (Child s m slot ∷ before) t k)
+  pub came-len : length came_on.items ≡ length core.came.items
   pub boxes : (t : StageNo) → queue_at inboxes.items t ≡ inbox topology (Child s m slot ∷ before) t
   pub boxes-len : length inboxes.items ≡ length core.inboxes.items
   pub runs : (t : StageNo) → list_at chunks.items t ≡ running topology (Child s m slot ∷ before) t
@@ -81,16 +83,17 @@ post_same : (s t slot k : ℕ) → k < 16 → slot < 16 → (post_at s slot == p
 post_same s t slot k low high = grind (arith, nat_tests)
 
 pub started_fields : (core : Core) (topology : Topology) (before : History) (s : StageNo) (m : MsgNo) (slot : ℕ) (j : Recorded)
-    (posts : Vec PostRow Global) (inboxes : Vec (VecDeque (SubNo × ℕ) Global) Global) (chunks : Vec (Vec ℕ Global) Global) (children : Vec Slots Global) (places : Vec Place Global)
-    → Fields core topology before → Started core topology before s m slot posts inboxes chunks children places
-    → Fields (record core { journal = j; posts = posts; inboxes = inboxes; chunks = chunks; children = children; places = places; totals = record core.totals { quiet = 0 } }) topology (Child s m slot ∷ before)
-started_fields core topology before s m slot j posts inboxes chunks children places x new =
+    (posts : Vec PostRow Global) (came_on : Vec SubNo Global) (inboxes : Vec (VecDeque (SubNo × ℕ) Global) Global) (chunks : Vec (Vec ℕ Global) Global) (children : Vec Slots Global) (places : Vec Place Global)
+    → Fields core topology before → Started core topology before s m slot posts came_on inboxes chunks children places
+    → Fields (record core { journal = j; posts = posts; came = came_on; inboxes = inboxes; chunks = chunks; children = children; places = places; totals = record core.totals { quiet = 0 } }) topology (Child s m slot ∷ before)
+started_fields core topology before s m slot j posts came_on inboxes chunks children places x new =
     record {
       sized =
           record {
             few = x.sized.few;
             stages = x.sized.stages;
             posts = new.posts-len ∙ x.sized.posts;
+            came = new.came-len ∙ x.sized.came;
             waiting = x.sized.waiting;
             inboxes = new.boxes-len ∙ x.sized.inboxes;
             chunks = new.runs-len ∙ x.sized.chunks;
@@ -107,6 +110,7 @@ started_fields core topology before s m slot j posts inboxes chunks children pla
       posts = λ t k within low. new.posts-is (post_at t.0 k)
           ∙ (ap (λ b. if b then out_of (slice_get core.stages.items s.0) else slice_get core.posts.items (post_at t.0 k)) (post_same s.0 t.0 slot k low new.low)
           ∙ out (same_post (post t k) (post s slot)) t k refl (x.posts t k within low));
+      came = new.came-is;
       subs = x.subs;
       waiting = λ t. x.waiting t ∙ ap (map (λ n. (part_of topology before (spec_of topology t) n, n))) (sym (new.waits t));
       inboxes = new.boxes;
@@ -178,6 +182,7 @@ pub record Again (topology : Topology) (before : History) (s : StageNo) (m : Msg
   pub low : slot < 16
   pub waits : (t : StageNo) → waiting topology (Child s m slot ∷ before) t ≡ waiting topology before t
   pub gathers : (t : StageNo) → gathered_in topology (Child s m slot ∷ before) t ≡ gathered_in topology before t
+  pub came : (t : StageNo) (k : ℕ) → came topology (Child s m slot ∷ before) t k ≡ came topology before t k
   pub boxes : (t : StageNo) → inbox topology (Child s m slot ∷ before) t ≡ inbox topology before t
   pub runs : (t : StageNo) → running topology (Child s m slot ∷ before) t ≡ running topology before t
   pub slots : (t : StageNo) (k : ℕ) → child_row topology (Child s m slot ∷ before) t k ≡ child_row topology before t k
@@ -191,6 +196,7 @@ again topology before s m slot sound legal allowed re =
       low = (out_post topology (Child s m slot ∷ before) s slot sound after puts).low;
       waits = λ t. waiting_law topology before (Child s m slot) t sound after;
       gathers = λ t. gathered_law topology before (Child s m slot) t after;
+      came = λ t k. kept t k;
       boxes = λ t. inbox_law topology before (Child s m slot) t sound after ∙ box (same_stage t s) t refl;
       runs = λ t. run (same_stage t s) t refl;
       slots = λ t k. row (same_stage t s && slot == k) t k refl;
@@ -211,6 +217,16 @@ again topology before s m slot sound legal allowed re =
 
     puts : is_out (Child s m slot ∷ before) (post s slot) ≡ true
     puts = ap (λ b. b || (not false && is_out before (post s slot))) (both (same_stage s s) (slot == slot) (same_stage-self s) (grind (arith, nat_tests)))
+
+    kept : (t : StageNo) (k : ℕ) → came topology (Child s m slot ∷ before) t k ≡ came topology before t k
+    kept t k =
+        ap (λ r. if same_stage t s && (slot == k && not r) then sub_first (inbox topology before s) else came topology before t k) re
+        ∙ never (same_stage t s) (slot == k)
+      where
+        never : (p q : Bool) → (if p && (q && not true) then sub_first (inbox topology before s) else came topology before t k) ≡ came topology before t k
+        never true true = refl
+        never true false = refl
+        never false q = refl
 
     box : (b : Bool) (t : StageNo) → same_stage t s ≡ b → (if b then without_number m.0 (inbox topology before t) else inbox topology before t) ≡ inbox topology before t
     box false t e = refl
@@ -246,7 +262,7 @@ again topology before s m slot sound legal allowed re =
 pub again_started : (core : Core) (s : StageNo) (m : MsgNo) (slot : ℕ) (posts : Vec PostRow Global) → Holds core
     → Again core.topology core.journal.steps s m slot
     → ((i : ℕ) → slice_get posts.items i ≡ (if post_at s.0 slot == i then out_of (slice_get core.stages.items s.0) else slice_get core.posts.items i)) → length posts.items ≡ length core.posts.items
-    → Started core core.topology core.journal.steps s m slot posts core.inboxes core.chunks core.children core.places
+    → Started core core.topology core.journal.steps s m slot posts core.came core.inboxes core.chunks core.children core.places
 again_started core s m slot posts x known out len =
     record {
       within = known.within;
@@ -255,6 +271,8 @@ again_started core s m slot posts x known out len =
       gathers = known.gathers;
       posts-is = out;
       posts-len = len;
+      came-is = λ t k below low. x.fields.came t k below low ∙ ap Some (sym (known.came t k));
+      came-len = refl;
       boxes = λ t. x.fields.inboxes t ∙ sym (known.boxes t);
       boxes-len = refl;
       runs = λ t. x.fields.chunks t ∙ sym (known.runs t);

@@ -9,7 +9,7 @@ ghost use Rattle.pipe_model.specs.Legal.{allows, runs_number, first_unit};
 ghost use Rattle.consumer_sup.specs.Children.{alive};
 ghost use Rattle.core_tables.specs.Tables.{queue_at, list_at, room_at};
 ghost use Rattle.core_state.specs.Stands.{Stands, Holds, child_at};
-ghost use Rattle.core_takes.specs.Takes.{sub_first};
+ghost use Rattle.core_laws.specs.Columns.{sub_first};
 ghost use Rattle.core_children.specs.Slots.{slots_at};
 ghost use Rattle.core_children.specs.Starts.{may_start_child};
 

@@ -1,14 +1,15 @@
 //! The slots of a supervisor.
 
-ghost use Rattle.std.specs.Prelude.{◌≡◌, ◌<◌, ℕ, length, if◌then◌else◌, ◌==◌, ◌&&◌, slice_get, Some, None, IfSome};
+ghost use Rattle.std.specs.Prelude.{◌≡◌, ◌<◌, ℕ, length, if◌then◌else◌, ◌==◌, ◌&&◌, slice_get, option_map, Some, None, IfSome, IsSome};
 ghost use Rattle.pipe_types.specs.declared.numbers.StageNo.{StageNo as Stage};
-ghost use Rattle.consumer_sup.specs.Children.{alive, Slots};
+ghost use Rattle.pipe_types.specs.Children.{runs_again};
+ghost use Rattle.consumer_sup.specs.Children.{alive, Slots, child_in};
 ghost use Rattle.core_state.specs.Stands.{child_at};
 ghost use Rattle.core_state.specs.Readings.{out_in};
-ghost use Rattle.core_children.specs.Slots.{slots_at};
+ghost use Rattle.core_children.specs.Slots.{slots_at, left_in, is_again};
 ghost use Rattle.core_children.specs.Starts.{again_in};
 
-use consumer_sup::Children;
+use consumer_sup::{ChildEnd, Children};
 use core_tables::posts::SLOTS;
 use core_tables::rows::PostRow;
 use pipe_types::numbers::{MsgNo, StageNo};
@@ -66,5 +67,39 @@ fn is_out(posts: &[PostRow], at: usize) -> bool
     match posts.get(at) {
         Some(row) => row.out,
         None => false,
+    }
+}
+
+/// Ends a run of the child in the stage's slot, which has one, and answers whether it runs again. The slot is free
+/// afterwards unless it does.
+pub fn end_in(children: &mut Vec<Children>, stage: StageNo, slot: u16, crashed: bool) -> bool
+    requires within { stage.0 < length children.old.items }
+    requires there { IsSome (child_at children.old.items stage slot) }
+    ensures again { IfSome (slice_get children.old.items stage.0) (λ held. IfSome (child_in held.slots slot) (λ child. result ≡ (crashed && runs_again held.mode child.crashes))) }
+    ensures ended { IfSome (child_at children.old.items stage slot) (λ child. (s : Stage) (k : ℕ) → child_at children.new.items s k ≡ (if s.0 == stage.0 && slot == k then left_in result child else child_at children.old.items s k)) }
+    ensures kept { (s : Stage) (new : Slots) → slice_get children.new.items s.0 ≡ Some new → (old : Slots) × (slice_get children.old.items s.0 ≡ Some old) × (new.mode ≡ old.mode) × (length new.slots ≡ length old.slots) }
+    ensures len { length children.new.items ≡ length children.old.items }
+{
+    let held = &mut children[stage.0 as usize];
+    is_again(held.ended(slot, crashed))
+}
+
+/// Whether the child runs again.
+fn is_again(end: ChildEnd) -> bool
+    ensures { result ≡ is_again end }
+{
+    matches!(end, ChildEnd::Again)
+}
+
+/// The number of the message of the child in the stage's slot, which has one.
+pub fn number_in(children: &[Children], stage: StageNo, slot: u16) -> u32
+    requires within { stage.0 < length children.now }
+    requires there { IsSome (child_at children.now stage slot) }
+    ensures { option_map (λ child. child.no.0) (child_at children.now stage slot) ≡ Some result }
+{
+    let held = &children[stage.0 as usize];
+    match held.holds(slot) {
+        Some(no) => no.0,
+        None => unreachable!(),
     }
 }

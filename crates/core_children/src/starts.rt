@@ -1,6 +1,6 @@
 //! The commits of a child's start.
 
-ghost use Rattle.std.specs.Prelude.{◌≡◌, ◌∷◌, ◌≤◌, ◌<◌, ℕ, ◌==◌, if◌then◌else◌, slice_get, length, None, IsTrue};
+ghost use Rattle.std.specs.Prelude.{◌≡◌, ◌∷◌, ◌≤◌, ◌<◌, ℕ, ◌==◌, if◌then◌else◌, slice_get, length, Some, None, IsTrue};
 ghost use Rattle.pipe_model.specs.Posts.{in_slot};
 ghost use Rattle.pipe_model.specs.Flow.{inbox};
 ghost use Rattle.pipe_model.specs.Legal.{allows, runs_number};
@@ -8,14 +8,15 @@ ghost use Rattle.consumer_sup.specs.Children.{alive};
 ghost use Rattle.core_tables.specs.Rows.{post_at};
 ghost use Rattle.core_tables.specs.Tables.{room_at};
 ghost use Rattle.core_state.specs.Stands.{Holds, child_at};
-ghost use Rattle.core_takes.specs.Takes.{out_of, sub_first};
+ghost use Rattle.core_laws.specs.Columns.{sub_first};
+ghost use Rattle.core_takes.specs.Takes.{out_of};
 ghost use Rattle.core_children.specs.Slots.{slots_at};
 
 use crate::slots::start_in;
 use core_state::Core;
 use core_tables::chunks::start_chunk;
 use core_tables::places::run_all;
-use core_tables::posts::put_out;
+use core_tables::posts::{SLOTS, put_out};
 use core_tables::rows::{PostRow, StageRow};
 use pipe_types::numbers::{MsgNo, StageNo, SubNo};
 use pipe_types::step::Step;
@@ -46,6 +47,15 @@ fn put_child_out(posts: &mut Vec<PostRow>, rows: &[StageRow], stage: StageNo, sl
     put_out(posts, stage, slot, from);
 }
 
+/// Notes the subscription on which the slot's message came.
+fn note_came(came: &mut Vec<SubNo>, stage: StageNo, slot: u16, sub: SubNo)
+    requires { post_at stage.0 slot < length came.old.items }
+    ensures came { (i : ℕ) → slice_get came.new.items i ≡ (if post_at stage.0 slot == i then Some sub else slice_get came.old.items i) }
+    ensures len { length came.new.items ≡ length came.old.items }
+{
+    came[stage.0 as usize * SLOTS + slot as usize] = sub;
+}
+
 /// Appends the start of a child for the first message in the stage's inbox, in a free slot, which is the answer.
 pub fn start_first(core: &mut Core, stage: StageNo, sub: SubNo, no: MsgNo) -> u16
     requires holds { Holds core.old }
@@ -63,6 +73,7 @@ pub fn start_first(core: &mut Core, stage: StageNo, sub: SubNo, no: MsgNo) -> u1
     start_chunk(&mut core.inboxes, &mut core.chunks, stage, sub, 1);
     run_all(&mut core.places, stage, &[no.0]);
     put_child_out(&mut core.posts, &core.stages, stage, slot);
+    note_came(&mut core.came, stage, slot, sub);
     core.totals.quiet = 0;
     core.journal.push_spare(Step::Child { stage, no, slot });
     slot

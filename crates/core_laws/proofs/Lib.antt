@@ -9,3 +9,4 @@ pub mod Children
 pub mod Bounds
 pub mod Alike
 pub mod Accepting
+pub mod Came

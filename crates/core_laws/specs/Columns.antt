@@ -15,20 +15,20 @@ use Rattle.pipe_types.specs.declared.message.Reply.TheVariants.{Pass}
 use Rattle.pipe_types.specs.declared.step.Step.{Step}
 use Rattle.pipe_types.specs.declared.step.Step.TheVariants.{Fetch, Accept, Dispatch, Done, Close, Wrote, Child, ChildEnd, Kill, Late, Halt}
 use Rattle.pipe_types.specs.declared.step.LateAnswer.TheVariants.{Records}
-use Rattle.pipe_types.specs.Numbers.{same_stage, post}
+use Rattle.pipe_types.specs.Numbers.{stage, same_stage, subscription, post}
 use Rattle.pipe_types.specs.Stages.{spec_of}
 use Rattle.pipe_types.specs.Handlers.{field}
 use Rattle.pipe_types.specs.Dispatchers.{partition_of}
 use Rattle.pipe_model.specs.History.{History, incarnation, accepted, closed}
-use Rattle.pipe_model.specs.Posts.{is_out, out_from, last_take, crashes}
+use Rattle.pipe_model.specs.Posts.{is_out, out_from, in_slot, last_take, crashes}
 use Rattle.pipe_model.specs.Lives.{death, kill_set, reason_in}
 use Rattle.pipe_model.specs.Content.{has_crash, is_among_next, content, key_in, batcher_in, payload_in}
-use Rattle.pipe_model.specs.Flow.{place, waiting, view_of, closing, first_in, runs_again, chunk_by, is_batcher, subs_of, deliveries}
+use Rattle.pipe_model.specs.Flow.{place, waiting, inbox, view_of, closing, first_in, runs_again, chunk_by, is_batcher, subs_of, deliveries}
 use Rattle.pipe_model.specs.Batches.{Batch, BatchPlace, Sent, is_settled}
 use Rattle.message_ack.specs.Ends.{Ends, ends_of}
 use Rattle.batcher.specs.Batches.{OpenBatch}
 use Rattle.pipe_model.specs.Ledger.{crashed_reply}
-use Rattle.pipe_model.specs.Legal.{has_ended, rests, gathered_at, ends_in_flush}
+use Rattle.pipe_model.specs.Legal.{has_ended, rests, runs_number, gathered_at, ends_in_flush}
 use Rattle.pipe_model.specs.Moves.{is_final}
 use Rattle.pipe_model.specs.Work.{taken_units}
 use Rattle.consumer_sup.specs.declared.Child.{Child as ChildRow}
@@ -221,3 +221,18 @@ child_after topology before _ s slot old = old
 abbrev pub child_row : Topology → History → StageNo → (slot : ℕ) → Option ChildRow
 child_row topology [] s slot = None
 child_row topology (step ∷ before) s slot = child_after topology before step s slot (child_row topology before s slot)
+
+-- the subscription of the first unit, and one of stage 0 where there is none
+abbrev pub sub_first : List (SubNo × ℕ) → SubNo
+sub_first [] = subscription (stage 0) (stage 0) 0
+sub_first (d ∷ units) = d.0
+
+abbrev pub came_after : Topology → History → Step → StageNo → (slot : ℕ) → SubNo → SubNo
+came_after topology before (Child t m k) s slot old =
+    if same_stage s t && (k == slot && not (runs_number topology before t (in_slot before t k))) then sub_first (inbox topology before t) else old
+came_after topology before _ s slot old = old
+
+-- the subscription on which the message came that last started as a new child in the slot, and one of stage 0 before
+abbrev pub came : Topology → History → StageNo → (slot : ℕ) → SubNo
+came topology [] s slot = subscription (stage 0) (stage 0) 0
+came topology (step ∷ before) s slot = came_after topology before step s slot (came topology before s slot)

@@ -4,12 +4,18 @@
 //! it was by computing alone; `proofs/` has what its calls cite.
 #![tactic(auto)]
 
-ghost use Rattle.std.specs.Prelude.{◌≡◌, ℕ, IsTrue};
+ghost use Rattle.std.specs.Prelude.{◌≡◌, ℕ, Some, IsTrue};
 ghost use Rattle.pipe_types.specs.declared.numbers.StageNo.{StageNo};
 ghost use Rattle.pipe_types.specs.declared.topology.Topology.{Topology};
 ghost use Rattle.pipe_model.specs.History.{History};
+ghost use Rattle.pipe_types.specs.declared.numbers.SubNo.{SubNo};
+ghost use Rattle.pipe_types.specs.Numbers.{same_sub};
+ghost use Rattle.pipe_types.specs.Sound.{IsSound};
+ghost use Rattle.pipe_model.specs.Flow.{sent_to};
+ghost use Rattle.pipe_model.specs.Ledger.{came_on};
 ghost use Rattle.pipe_model.specs.Legal.{is_legal};
-ghost use Rattle.core_laws.specs.Columns.{child_row};
+ghost use Rattle.pipe_model.specs.Posts.{in_slot};
+ghost use Rattle.core_laws.specs.Columns.{child_row, came};
 ghost use Rattle.core_laws.specs.Slots.{child_in_slot};
 
 /// The child of a slot is the message that was last started there, while it runs, with its crashes.
@@ -17,4 +23,10 @@ ghost use Rattle.core_laws.specs.Slots.{child_in_slot};
 pub fn children_run_in_slots()
     ensures { (topology : Topology) (before : History) (s : StageNo) (slot : ℕ) →
         IsTrue (is_legal topology before) → child_row topology before s slot ≡ child_in_slot topology before s slot }
+{}
+
+/// The message that was last started in a slot came on the subscription of the slot's column, and on no other.
+pub fn messages_came_on_one_subscription()
+    ensures { (topology : Topology) (before : History) (s : StageNo) (slot n : ℕ) (u : SubNo) →
+        IsSound topology → IsTrue (is_legal topology before) → in_slot before s slot ≡ Some n → came_on (sent_to topology before s) (in_slot before s slot) u ≡ same_sub u (came topology before s slot) }
 {}

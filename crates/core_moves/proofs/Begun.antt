@@ -34,6 +34,7 @@ began_fields core topology before cause j x =
             few = x.sized.few;
             stages = x.sized.stages;
             posts = x.sized.posts;
+            came = x.sized.came;
             waiting = x.sized.waiting;
             inboxes = x.sized.inboxes;
             chunks = x.sized.chunks;
@@ -48,6 +49,7 @@ began_fields core topology before cause j x =
       set = record { batchers = x.set.batchers; children = x.set.children; restarts = x.set.restarts };
       stages = x.stages;
       posts = x.posts;
+      came = x.came;
       subs = x.subs;
       waiting = x.waiting;
       inboxes = x.inboxes;

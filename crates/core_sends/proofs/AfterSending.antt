@@ -82,6 +82,7 @@ sent_fields core topology before s spec units old m j subs queues inboxes moved 
             few = x.sized.few;
             stages = x.sized.stages;
             posts = x.sized.posts;
+            came = x.sized.came;
             waiting = ap length done.queue ∙ (length-set core.waiting.items s.0 q ∙ x.sized.waiting);
             inboxes = done.all_inboxes ∙ x.sized.inboxes;
             chunks = x.sized.chunks;
@@ -96,6 +97,7 @@ sent_fields core topology before s spec units old m j subs queues inboxes moved 
       set = record { batchers = x.set.batchers; children = x.set.children; restarts = x.set.restarts };
       stages = x.stages;
       posts = x.posts;
+      came = x.came;
       subs = pairs;
       waiting = λ t. waits t (same_or_other s.0 t.0);
       inboxes = λ c. done.came c ∙ (ap (λ b. b ++ delivered_to units c) (x.inboxes c) ∙ (ap (λ us. inbox topology before c ++ delivered_to us c) is ∙ sym (law.inbox c)));

@@ -13,3 +13,6 @@ pub mod Sendable
 pub mod Roomy
 pub mod BatchLegs
 pub mod Early
+pub mod Begun
+pub mod BatchesSent
+pub mod AfterBatches

@@ -29,7 +29,7 @@ use Rattle.core_sends.specs.Rooms.{planned}
 use Rattle.core_sends.proofs.LeftOver.{whole, back_apart, drop_map}
 use Rattle.core_sends.proofs.Sent.{Waits, AreMoved, still_is, each_waits, each_all, all_each, deliveries_named, planned_below, pair, over}
 
-each_drop : {A : Type 0} (P : A → Type 0) (k : ℕ) (xs : List A) → Each P xs → Each P (drop k xs)
+pub each_drop : {A : Type 0} (P : A → Type 0) (k : ℕ) (xs : List A) → Each P xs → Each P (drop k xs)
 each_drop P zero xs h = h
 each_drop P (suc k) [] h = h
 each_drop P (suc k) (x ∷ xs) h = each_drop P k xs h.1

@@ -73,6 +73,7 @@ roomy_fields core topology before inboxes same long x =
             few = x.sized.few;
             stages = x.sized.stages;
             posts = x.sized.posts;
+            came = x.sized.came;
             waiting = x.sized.waiting;
             inboxes = long ∙ x.sized.inboxes;
             chunks = x.sized.chunks;
@@ -87,6 +88,7 @@ roomy_fields core topology before inboxes same long x =
       set = record { batchers = x.set.batchers; children = x.set.children; restarts = x.set.restarts };
       stages = x.stages;
       posts = x.posts;
+      came = x.came;
       subs = x.subs;
       waiting = x.waiting;
       inboxes = λ c. same c ∙ x.inboxes c;

@@ -1,2 +1,3 @@
 pub mod Rooms
 pub mod Losing
+pub mod Batches

@@ -13,14 +13,14 @@ use Rattle.pipe_model.specs.Flow.{among, waits_in}
 abbrev pub still_waits : List Place → StageNo → ℕ → Bool
 still_waits places s n = waits_in s (slice_get places (n - 1))
 
--- one turn of going through the queue of a stage: the first unit is passed over, or put behind the others
-abbrev pub first_kept : List Place → StageNo → List (ℕ × ℕ) → Bool
-first_kept places s [] = false
-first_kept places s (unit ∷ units) = still_waits places s unit.1
+-- one turn of going through a queue: the first unit is passed over, or put behind the others where it stays
+abbrev pub first_kept : (stays : ℕ → Bool) → List (ℕ × ℕ) → Bool
+first_kept stays [] = false
+first_kept stays (unit ∷ units) = stays unit.1
 
-abbrev pub passed : List Place → StageNo → List (ℕ × ℕ) → List (ℕ × ℕ)
-passed places s [] = []
-passed places s (unit ∷ units) = if still_waits places s unit.1 then units ++ unit ∷ [] else units
+abbrev pub passed : (stays : ℕ → Bool) → List (ℕ × ℕ) → List (ℕ × ℕ)
+passed stays [] = []
+passed stays (unit ∷ units) = if stays unit.1 then units ++ unit ∷ [] else units
 
 -- a message that waits in the stage is lost over its size
 abbrev pub lost_in : StageNo → Place → Place

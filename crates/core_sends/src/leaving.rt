@@ -2,10 +2,12 @@
 
 ghost use Rattle.std.specs.Prelude.{◌≡◌, ℕ, ◌<◌, ◌≤◌, ◌++◌, ◌∷◌, [], length, All, filter, drop, if◌then◌else◌, true, not, IsTrue};
 ghost use Rattle.std.specs.VecDeque.{deque_len, deque_capacity};
+ghost use Rattle.core_sends.specs.Batches.{not_sent};
 ghost use Rattle.core_sends.specs.Losing.{still_waits, first_kept, passed};
 
+use message_ack::Legs;
 use pipe_types::message::Place;
-use pipe_types::numbers::StageNo;
+use pipe_types::numbers::{BatchNo, StageNo};
 use pipe_types::room::Sent;
 use std::collections::VecDeque;
 
@@ -43,8 +45,8 @@ pub(crate) fn keep_waiting(
 
 /// Takes the first unit out of the queue, and puts it behind the others where it waits in the stage.
 fn pass(queue: &mut VecDeque<(u32, u32)>, places: &[Place], stage: StageNo) -> bool
-    ensures items { queue.new.items ≡ passed places.now stage queue.old.items }
-    ensures kept { result ≡ first_kept places.now stage queue.old.items }
+    ensures items { queue.new.items ≡ passed (still_waits places.now stage) queue.old.items }
+    ensures kept { result ≡ first_kept (still_waits places.now stage) queue.old.items }
 {
     let Some(unit) = queue.pop_front() else {
         return false;
@@ -65,4 +67,34 @@ fn does_wait(places: &[Place], stage: StageNo, no: u32) -> bool
         Some(Place::Waiting(here)) => stage.0 == here.0,
         _ => false,
     }
+}
+
+/// Takes the batches out of a batcher's queue that were sent; all of them stand among the first so many. The others keep
+/// their order.
+pub(crate) fn keep_unsent(queue: &mut VecDeque<(u32, u32)>, legs: &Legs, first: usize)
+    requires within { first ≤ length queue.old.items }
+    requires rest { All (λ unit. not_sent legs.now unit.1 ≡ true) (drop first queue.old.items) }
+    ensures { queue.new.items ≡ filter (λ unit. not_sent legs.now unit.1) queue.old.items }
+{
+    let mut left = 0;
+    for k in 0..first {
+        let is_kept = pass_unsent(queue, legs);
+        left += usize::from(is_kept);
+    }
+    queue.rotate_right(left);
+}
+
+/// Takes the first batch out of the queue, and puts it behind the others where it was not sent.
+fn pass_unsent(queue: &mut VecDeque<(u32, u32)>, legs: &Legs) -> bool
+    ensures items { queue.new.items ≡ passed (not_sent legs.now) queue.old.items }
+    ensures kept { result ≡ first_kept (not_sent legs.now) queue.old.items }
+{
+    let Some(batch) = queue.pop_front() else {
+        return false;
+    };
+    if legs.is_sent(BatchNo(batch.1)) {
+        return false;
+    }
+    queue.push_back_reserved(batch);
+    true
 }

@@ -9,8 +9,9 @@ ghost use Rattle.core_state.specs.Stands.{Holds, Stands};
 ghost use Rattle.core_sends.specs.Losing.{still_waits, left_in, numbers_in, over_of, kept_of, lost_over_size, marked};
 ghost use Rattle.core_sends.specs.Rooms.{planned};
 
+use crate::batches::begin_all;
 use crate::counting::count_all;
-use crate::leaving::{keep_waiting, reach};
+use crate::leaving::{keep_unsent, keep_waiting, reach};
 use crate::losing::{end_over, first_over, lose_all, mark_all, take_out};
 use crate::plans::{make_room, plan};
 use core_state::Core;
@@ -20,7 +21,7 @@ use pipe_types::message::Place;
 use pipe_types::numbers::StageNo;
 use pipe_types::room::Sent;
 use pipe_types::step::Step;
-use pipe_types::topology::Keep;
+use pipe_types::topology::{Keep, Role, Topology};
 use std::alloc::AllocError;
 use std::collections::VecDeque;
 
@@ -126,4 +127,73 @@ pub fn dispatch_messages(core: &mut Core, stage: StageNo) -> Result<(), AllocErr
     core.journal.reserve(1)?;
     send_messages(core, stage, sent);
     Ok(())
+}
+
+/// Appends the dispatch of a batcher, of which this was planned. There is room for it in the inboxes and the journal. Without
+/// the memory for the legs nothing is sent.
+fn send_batches(core: &mut Core, stage: StageNo, sent: Vec<Sent>) -> Result<(), AllocError>
+    requires stands { Stands core.old }
+    requires batches { is_batcher (spec_of core.old.topology stage) ≡ true }
+    requires legal { IsTrue (allows core.old.topology core.old.journal.steps (Step.Dispatch stage)) }
+    requires planned { sent.items ≡ planned core.old.topology core.old.journal.steps stage [] }
+    requires room { All (HasRoom (length sent.items) core.old.inboxes.items) sent.items }
+    requires spare { 1 ≤ core.old.journal.spare }
+    ensures appended { OnOk result (core.new.journal.steps ≡ Step.Dispatch stage ∷ core.old.journal.steps) }
+    ensures unchanged { OnErr result (core.new.journal.steps ≡ core.old.journal.steps) }
+    ensures topology { core.new.topology ≡ core.old.topology }
+    ensures stands { Stands core.new }
+{
+    let at = stage.0 as usize;
+    let first = reach(&sent);
+    let mut units = sent;
+    name_units(&mut units, &core.waiting[at]);
+    begin_all(&mut core.legs, &mut core.batches, &units)?;
+    deliver_all(&mut core.inboxes, &units);
+    count_all(&mut core.subs, &units);
+    keep_unsent(&mut core.waiting[at], &core.legs, first);
+    core.totals.quiet = 0;
+    core.journal.push_spare(Step::Dispatch { stage });
+    Ok(())
+}
+
+/// Appends the dispatch of a batcher: sends the closed batches that its subscribers asked for.
+fn dispatch_batches(core: &mut Core, stage: StageNo) -> Result<(), AllocError>
+    requires stands { Stands core.old }
+    requires batches { is_batcher (spec_of core.old.topology stage) ≡ true }
+    requires legal { IsTrue (allows core.old.topology core.old.journal.steps (Step.Dispatch stage)) }
+    ensures appended { OnOk result (core.new.journal.steps ≡ Step.Dispatch stage ∷ core.old.journal.steps) }
+    ensures unchanged { OnErr result (core.new.journal.steps ≡ core.old.journal.steps) }
+    ensures topology { core.new.topology ≡ core.old.topology }
+    ensures stands { Stands core.new }
+{
+    let sent = plan(core, stage, &[])?;
+    make_room(core, &sent)?;
+    core.journal.reserve(1)?;
+    send_batches(core, stage, sent)
+}
+
+/// Whether the stage is a batcher.
+fn is_batcher_stage(topology: &Topology, stage: StageNo) -> bool
+    ensures { result ≡ is_batcher (spec_of topology.now stage) }
+{
+    match topology.stages.find(stage) {
+        Some(spec) => matches!(spec.role, Role::Batcher),
+        None => false,
+    }
+}
+
+/// Appends the dispatch of a stage: sends the messages or, of a batcher, the closed batches that its subscribers asked for,
+/// and loses the messages over its size. An error leaves the journal as it was.
+pub fn dispatch(core: &mut Core, stage: StageNo) -> Result<(), AllocError>
+    requires stands { Stands core.old }
+    requires legal { IsTrue (allows core.old.topology core.old.journal.steps (Step.Dispatch stage)) }
+    ensures appended { OnOk result (core.new.journal.steps ≡ Step.Dispatch stage ∷ core.old.journal.steps) }
+    ensures unchanged { OnErr result (core.new.journal.steps ≡ core.old.journal.steps) }
+    ensures topology { core.new.topology ≡ core.old.topology }
+    ensures stands { Stands core.new }
+{
+    if is_batcher_stage(&core.topology, stage) {
+        return dispatch_batches(core, stage);
+    }
+    dispatch_messages(core, stage)
 }

@@ -32,7 +32,7 @@ use Rattle.core_laws.proofs.Past.{supervisor_max}
 use Rattle.core_state.specs.declared.state.Core.{Core}
 use Rattle.core_state.specs.declared.tables.Tables.{Tables}
 use Rattle.core_state.specs.Stands.{Fields, AreSized, AreSet, Stands, opens_in, child_of, closed_seen}
-use Rattle.core_state.specs.Begun.{new_stage, new_post, batches_of, no_batches, slots_of, children_of, no_children}
+use Rattle.core_state.specs.Begun.{new_stage, new_post, no_sub, batches_of, no_batches, slots_of, children_of, no_children}
 use Rattle.core_state.specs.AreNew.{AreNew}
 use Rattle.core_state.proofs.FirstPairs.{feeding, stands_at}
 
@@ -102,6 +102,7 @@ begin_with topology tables journal places settled producers contents batches leg
       journal = journal;
       stages = tables.stages;
       posts = tables.posts;
+      came = tables.came;
       subs = tables.subs;
       waiting = tables.waiting;
       inboxes = tables.inboxes;
@@ -133,6 +134,7 @@ new_sizes topology tables journal places settled producers contents batches legs
       few = sound.few;
       stages = ap length x.stages ∙ (length-replicate (n + 1) _ ∙ one);
       posts = ap length x.posts ∙ (length-replicate ((n + 1) * 16) _ ∙ ap (λ m. m * 16) one);
+      came = ap length x.came ∙ (length-replicate ((n + 1) * 16) _ ∙ ap (λ m. m * 16) one);
       waiting = x.waiting_len ∙ one;
       inboxes = x.inboxes_len ∙ one;
       chunks = x.chunks_len ∙ one;
@@ -187,6 +189,7 @@ new_stands topology tables journal places settled producers contents batches leg
           set = new_settings topology tables journal places settled producers contents batches legs alloc sound x;
           stages = λ s within. ap (λ rows. slice_get rows s.0) x.stages ∙ all_same (length topology.stages + 1) s.0 new_stage (omega (arith, within));
           posts = λ s slot within low. ap (λ rows. slice_get rows (post_at s.0 slot)) x.posts ∙ all_same ((length topology.stages + 1) * 16) (post_at s.0 slot) new_post (omega (arith, within, low));
+          came = λ s slot within low. ap (λ subs. slice_get subs (post_at s.0 slot)) x.came ∙ all_same ((length topology.stages + 1) * 16) (post_at s.0 slot) no_sub (omega (arith, within, low));
           subs = λ c p fed. x.subs c p ∙ no_count topology c p fed (first_live topology c p sound fed);
           waiting = x.waiting;
           inboxes = x.inboxes;

@@ -37,6 +37,7 @@ same_fields core j topology before x =
       set = record { batchers = x.set.batchers; children = x.set.children; restarts = x.set.restarts };
       stages = x.stages;
       posts = x.posts;
+      came = x.came;
       subs = x.subs;
       waiting = x.waiting;
       inboxes = x.inboxes;
@@ -60,6 +61,7 @@ same_fields core j topology before x =
           few = z.few;
           stages = z.stages;
           posts = z.posts;
+          came = z.came;
           waiting = z.waiting;
           inboxes = z.inboxes;
           chunks = z.chunks;

@@ -20,7 +20,7 @@ use Rattle.core_tables.specs.declared.rows.Totals.{Totals}
 use Rattle.core_tables.specs.declared.rows.BatchRow.{BatchRow}
 use Rattle.core_tables.specs.Tables.{queue_at, list_at}
 use Rattle.core_tables.specs.Rows.{post_at}
-use Rattle.core_laws.specs.Columns.{running, stage_row, post_row, waiting_parts, open_batches, child_row, mark, content_row, Closed, closed_as, sent_on, ends_in_progress}
+use Rattle.core_laws.specs.Columns.{running, stage_row, post_row, came, waiting_parts, open_batches, child_row, mark, content_row, Closed, closed_as, sent_on, ends_in_progress}
 use Rattle.core_state.specs.declared.state.Core.{Core}
 use Rattle.pipe_model.specs.Standing.{gathered_in}
 
@@ -62,6 +62,7 @@ pub record AreSized (topology : Topology) (before : History) (core : Core) : Typ
   pub few : length topology.stages ≤ 64
   pub stages : length core.stages.items ≡ suc (length topology.stages)
   pub posts : length core.posts.items ≡ suc (length topology.stages) * 16
+  pub came : length core.came.items ≡ suc (length topology.stages) * 16
   pub waiting : length core.waiting.items ≡ suc (length topology.stages)
   pub inboxes : length core.inboxes.items ≡ suc (length topology.stages)
   pub chunks : length core.chunks.items ≡ suc (length topology.stages)
@@ -87,6 +88,7 @@ pub record Fields (core : Core) (topology : Topology) (before : History) : Type 
   pub set : AreSet topology core
   pub stages : (s : StageNo) → s.0 ≤ length topology.stages → slice_get core.stages.items s.0 ≡ Some (stage_row topology before s)
   pub posts : (s : StageNo) (slot : ℕ) → s.0 ≤ length topology.stages → slot < 16 → slice_get core.posts.items (post_at s.0 slot) ≡ Some (post_row before s slot)
+  pub came : (s : StageNo) (slot : ℕ) → s.0 ≤ length topology.stages → slot < 16 → slice_get core.came.items (post_at s.0 slot) ≡ Some (came topology before s slot)
   pub subs : (c p : StageNo) → feeds topology p c ≡ true → row_at core.subs c p ≡ Some (ledger_row topology before c p)
   pub waiting : (s : StageNo) → queue_at core.waiting.items s ≡ waiting_parts topology before s
   pub inboxes : (s : StageNo) → queue_at core.inboxes.items s ≡ inbox topology before s

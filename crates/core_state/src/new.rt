@@ -39,6 +39,7 @@ impl Core {
                 journal: Journal::new(alloc),
                 stages: tables.stages,
                 posts: tables.posts,
+                came: tables.came,
                 subs: tables.subs,
                 waiting: tables.waiting,
                 inboxes: tables.inboxes,

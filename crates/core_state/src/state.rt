@@ -23,6 +23,9 @@ pub struct Core {
     pub stages: Vec<StageRow>,
     /// By stage and slot, 16 for each stage.
     pub posts: Vec<PostRow>,
+    /// The subscription on which the message came that last started as a new child in the slot; by stage and slot, 16
+    /// for each stage.
+    pub came: Vec<SubNo>,
     /// By pair.
     pub subs: Subs,
     /// The partition and the number of each unit that waits in a stage; by stage.

@@ -167,6 +167,7 @@ answered_fields core s replies b p j posts subs waiting chunks places settled co
             few = x.sized.few;
             stages = x.sized.stages;
             posts = new.posts-len ∙ x.sized.posts;
+            came = x.sized.came;
             waiting = new.queues-len ∙ x.sized.waiting;
             inboxes = x.sized.inboxes;
             chunks = new.cleared-len ∙ x.sized.chunks;
@@ -181,6 +182,7 @@ answered_fields core s replies b p j posts subs waiting chunks places settled co
       set = record { batchers = x.set.batchers; children = x.set.children; restarts = x.set.restarts };
       stages = x.stages;
       posts = λ t slot within low. new.posts-is (post_at t.0 slot) ∙ post_home core.posts.items s t slot (post_row before t slot) low (x.posts t slot within low);
+      came = x.came;
       subs = λ c q fed. new.pairs c q ∙ pairs_answered topology before s c q replies (last_take before s) (row_at core.subs c q) refl safe (x.subs c q fed);
       waiting = λ t. new.queues t ∙ (queue t ∙ waits_answered topology before s t known.spec replies holds.sound holds.legal known.after known.spec-is known.role safe known.passes.once);
       inboxes = λ t. x.inboxes t ∙ sym (inbox_law topology before (Done s replies) t holds.sound known.after);
@@ -255,6 +257,7 @@ roomy_fields core waiting j topology before x same len =
             few = x.sized.few;
             stages = x.sized.stages;
             posts = x.sized.posts;
+            came = x.sized.came;
             waiting = len ∙ x.sized.waiting;
             inboxes = x.sized.inboxes;
             chunks = x.sized.chunks;
@@ -269,6 +272,7 @@ roomy_fields core waiting j topology before x same len =
       set = record { batchers = x.set.batchers; children = x.set.children; restarts = x.set.restarts };
       stages = x.stages;
       posts = x.posts;
+      came = x.came;
       subs = x.subs;
       waiting = λ t. same t ∙ x.waiting t;
       inboxes = x.inboxes;

@@ -20,7 +20,8 @@ use Rattle.queue_laws.proofs.Laws.{numbers_law}
 use Rattle.core_laws.proofs.Lawful.{legal_after}
 use Rattle.core_state.specs.declared.state.Core.{Core}
 use Rattle.core_state.specs.Stands.{Holds}
-use Rattle.core_takes.specs.Takes.{most_of, sub_first, IsBatch, IsTaken}
+use Rattle.core_laws.specs.Columns.{sub_first}
+use Rattle.core_takes.specs.Takes.{most_of, IsBatch, IsTaken}
 use Rattle.core_takes.proofs.TakenStep.{picked}
 use Rattle.core_takes.proofs.TakenBatch.{first_taken}
 

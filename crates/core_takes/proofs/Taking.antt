@@ -112,6 +112,7 @@ taken_fields core topology before s u k j rows posts inboxes chunks places x new
             few = x.sized.few;
             stages = new.rows-len ∙ x.sized.stages;
             posts = new.posts-len ∙ x.sized.posts;
+            came = x.sized.came;
             waiting = x.sized.waiting;
             inboxes = new.boxes-len ∙ x.sized.inboxes;
             chunks = new.runs-len ∙ x.sized.chunks;
@@ -126,6 +127,7 @@ taken_fields core topology before s u k j rows posts inboxes chunks places x new
       set = record { batchers = x.set.batchers; children = x.set.children; restarts = x.set.restarts };
       stages = λ t within. new.rows-is t.0 ∙ (row_changed (taking u k (first_in units)) core.stages.items s t (stage_row topology before t) (x.stages t within) ∙ ap Some (row (s.0 == t.0) t (flip t.0 s.0)));
       posts = λ t slot within low. new.posts-is (post_at t.0 slot) ∙ (ap (λ b. if b then out_of (slice_get core.stages.items s.0) else slice_get core.posts.items (post_at t.0 slot)) (post_same s.0 t.0 slot low) ∙ out (same_post (post t slot) (post s 0)) t slot refl (x.posts t slot within low));
+      came = x.came;
       subs = x.subs;
       waiting = λ t. x.waiting t ∙ ap (map (λ n. (part_of topology before (spec_of topology t) n, n))) (sym (new.waits t));
       inboxes = new.boxes;

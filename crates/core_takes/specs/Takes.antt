@@ -4,7 +4,6 @@ use Rattle.pipe_types.specs.declared.numbers.StageNo.{StageNo}
 use Rattle.pipe_types.specs.declared.numbers.SubNo.{SubNo}
 use Rattle.pipe_types.specs.declared.topology.Topology.{Topology}
 use Rattle.pipe_types.specs.declared.topology.StageSpec.{StageSpec}
-use Rattle.pipe_types.specs.Numbers.{stage, subscription}
 use Rattle.pipe_types.specs.declared.step.Step.{Step}
 use Rattle.pipe_types.specs.declared.step.Step.TheVariants.{Take}
 use Rattle.pipe_model.specs.History.{History}
@@ -32,11 +31,6 @@ out_of row = Some (record { out = true; from = incarnation_by row })
 abbrev pub most_of : Option StageSpec → ℕ
 most_of None = 0
 most_of (Some spec) = spec.max - spec.min
-
--- the subscription of the first unit, and one of stage 0 where there is none
-abbrev pub sub_first : List (SubNo × ℕ) → SubNo
-sub_first [] = subscription (stage 0) (stage 0) 0
-sub_first (d ∷ units) = d.0
 
 -- the key of the first message, and none where there is no message
 abbrev pub first_key : List Message → List ℕ

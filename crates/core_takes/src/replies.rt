@@ -221,7 +221,7 @@ pub(crate) fn count_taken(subs: &mut Subs, take: Option<(SubNo, u32)>)
 }
 
 /// Counts units as handled, where the subscription is its pair's last one.
-fn count_handled(subs: &mut Subs, sub: SubNo, units: u32)
+pub fn count_handled(subs: &mut Subs, sub: SubNo, units: u32)
     requires { IfSome (row_of subs.old sub) (λ row. row.generation ≡ sub.generation → row.counts.handled + units ≤ row.counts.arrived) }
     ensures { IsChanged subs.old subs.new sub (handled_on sub.generation units) }
 {

@@ -1,5 +1,5 @@
 -- How the legs of a batch ended, and how its messages end by that.
-use Rattle.std.specs.Prelude.{◌≡◌, ℕ, nat_eq, nat_lt, Bool, true, if◌then◌else◌, ◌==◌, List, [], ◌∷◌, length, map, slice_get, slice_set, unwrap_or, Option, Some, None, option_map, is_some}
+use Rattle.std.specs.Prelude.{◌≡◌, ℕ, nat_eq, nat_lt, if◌then◌else◌, List, [], ◌∷◌, ◌++◌, length, map, slice_get, slice_set, unwrap_or, Option, Some, None, option_map}
 use Rattle.std.specs.Map.{lookup}
 use Rattle.pipe_types.specs.declared.message.Outcome.{Outcome}
 use Rattle.pipe_types.specs.declared.message.Outcome.TheVariants.{Successful}
@@ -37,6 +37,11 @@ ends_of legs = map (λ leg. end_of leg.place) legs
 abbrev pub HasOutcomes : (messages : ℕ) → Option LegEnd → Type 0
 HasOutcomes messages (Some (AnsweredEnd outcomes)) = length outcomes ≡ messages
 HasOutcomes messages _ = Unit {0}
+
+-- a batch of so many messages with one leg more, which has not ended
+abbrev pub with_leg : (messages : ℕ) → Option Ends → Ends
+with_leg messages None = record { messages = messages; ends = None ∷ [] }
+with_leg messages (Some b) = record { messages = b.messages; ends = b.ends ++ None ∷ [] }
 
 -- the ends of a batch's legs, one more ended
 abbrev pub with_end : Option Ends → (leg : ℕ) → LegEnd → Option Ends

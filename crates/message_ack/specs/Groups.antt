@@ -1,5 +1,5 @@
 -- Verdicts, and the acknowledgements that they make.
-use Rattle.std.specs.Prelude.{◌≡◌, ◌↔◌, ℕ, Bool, ◌&&◌, not, List, map, filter, All, Contains}
+use Rattle.std.specs.Prelude.{◌↔◌, ℕ, ◌&&◌, not, List, map, filter, All, Contains}
 use Rattle.std.specs.List.Sorted.{IsPermutation, IsNonDecreasing, IsStrictlyIncreasing}
 use Rattle.pipe_types.specs.declared.numbers.StageNo.{StageNo}
 use Rattle.pipe_types.specs.Numbers.{same_stage}

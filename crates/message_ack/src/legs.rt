@@ -1,10 +1,10 @@
 //! The legs of batches that were sent.
 
-ghost use Rattle.std.specs.Prelude.{◌≡◌, ◌==◌, ◌<◌, ℕ, List, [], length, slice_set, replicate, is_some, nat_lt, if◌then◌else◌, Some, None, slice_get, option_map, IsSome, IfSome, IfOk, OnOk, OnErr};
+ghost use Rattle.std.specs.Prelude.{◌≡◌, ◌==◌, ◌<◌, ℕ, List, [], ◌∷◌, ◌++◌, length, slice_set, replicate, is_some, nat_lt, if◌then◌else◌, Some, None, slice_get, option_map, IsSome, IfSome, IfOk, OnOk, OnErr};
 ghost use Rattle.std.specs.List.{list_all};
 ghost use Rattle.pipe_types.specs.Handlers.{is_successful as is_successful_outcome};
 ghost use Rattle.pipe_model.specs.Batches.{Leg, is_settled};
-ghost use Rattle.message_ack.specs.Ends.{Ends, HasOutcomes, IsSettledBy, ends_of, sent_in, with_end, loss_of_ends, outcome_of_end, outcome_of_ends};
+ghost use Rattle.message_ack.specs.Ends.{Ends, HasOutcomes, IsSettledBy, ends_of, sent_in, with_end, with_leg, loss_of_ends, outcome_of_end, outcome_of_ends};
 
 use crate::verdicts::is_successful;
 use pipe_types::message::{Loss, Outcome, OutcomeList};
@@ -76,6 +76,33 @@ impl Legs {
         Ok(None)
     }
 
+    /// Notes one leg more of a batch of so many messages, and at its first leg the batch.
+    pub fn add_leg(&mut self, batch: BatchNo, messages: usize) -> Result<(), AllocError>
+        ensures added { OnOk result ((b : ℕ) → sent_in self.new b ≡ (if b == batch.0 then Some (with_leg messages (sent_in self.old b)) else sent_in self.old b)) }
+        ensures unchanged { OnErr result ((b : ℕ) → sent_in self.new b ≡ sent_in self.old b) }
+    {
+        if let Some(sent) = self.batches.get_mut(&batch.0) {
+            return sent.add();
+        }
+        let first = BatchLegs::of_one(self.alloc, messages)?;
+        self.batches.insert(batch.0, first)?;
+        Ok(())
+    }
+
+    /// Forgets a batch that was sent. The others stay, and it takes no memory.
+    pub fn forget(&mut self, batch: BatchNo)
+        ensures { (b : ℕ) → sent_in self.new b ≡ (if b == batch.0 then None else sent_in self.old b) }
+    {
+        self.batches.remove(&batch.0);
+    }
+
+    /// Whether the batch was sent and is not settled.
+    pub fn is_sent(&self, batch: BatchNo) -> bool
+        ensures { result ≡ is_some (sent_in self.now batch.0) }
+    {
+        self.batches.contains_key(&batch.0)
+    }
+
     /// Ends a leg of a batch, which is there with this leg open. None where another leg is still open; at the last leg the
     /// batch ends, and is not kept.
     pub fn settle_leg(&mut self, batch: BatchNo, leg: u16, end: LegEnd) -> Option<Settled>
@@ -126,6 +153,25 @@ impl BatchLegs {
             ends,
             outcomes: vec![in alloc; Outcome::Successful; messages as usize]?,
         })
+    }
+
+    fn of_one(alloc: Global, messages: usize) -> Result<Self, AllocError>
+        ensures { IfOk result (λ b. b ≡ record { messages = messages; ends = None ∷ [] }) }
+    {
+        let mut ends = Vec::with_capacity(alloc, 1)?;
+        ends.push(None)?;
+        Ok(BatchLegs {
+            ends,
+            outcomes: vec![in alloc; Outcome::Successful; messages]?,
+        })
+    }
+
+    fn add(&mut self) -> Result<(), AllocError>
+        ensures added { OnOk result (self.new ≡ record self.old { ends = self.old.ends ++ None ∷ [] }) }
+        ensures unchanged { OnErr result (self.new ≡ self.old) }
+    {
+        self.ends.push(None)?;
+        Ok(())
     }
 
     fn put(&mut self, leg: usize, end: LegEnd)

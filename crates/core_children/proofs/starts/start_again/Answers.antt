@@ -31,5 +31,5 @@ returns-clause-holds c =
     let new : Core = record core { journal = c.push_spare.new.self; posts = c.put_child_out.new.posts; totals = record core.totals { quiet = 0 } } in
     let out = λ (i : ℕ). c.put_child_out.ensures.posts i ∙ ap (λ rows. if post_at s.0 c.args.slot == i then out_of (slice_get rows s.0) else slice_get core.posts.items i) c.deref.ensures.value in
     let started = again_started core s c.args.no c.args.slot c.put_child_out.new.posts x known out c.put_child_out.ensures.len in
-    let fields = started_fields core core.topology core.journal.steps s c.args.no c.args.slot c.push_spare.new.self c.put_child_out.new.posts core.inboxes core.chunks core.children core.places x.fields started in
+    let fields = started_fields core core.topology core.journal.steps s c.args.no c.args.slot c.push_spare.new.self c.put_child_out.new.posts core.came core.inboxes core.chunks core.children core.places x.fields started in
     holds_after core new (Child s c.args.no c.args.slot) x refl c.push_spare.ensures.written c.requires.legal fields

@@ -21,6 +21,12 @@ put_child_out-requires-clause-post c =
     let known = fresh_child c.args.core.now c.args.stage c.args.no c.start_in-slot.result x c.start_in-slot.ensures.free (c.requires.legal c.start_in-slot.result c.start_in-slot.ensures.slot c.start_in-slot.ensures.free) in
     omega (arith, c.requires.within, known.low, x.fields.sized.posts)
 
+pub note_came-requires : goal.note_came-requires
+note_came-requires c =
+    let x = c.requires.holds in
+    let known = fresh_child c.args.core.now c.args.stage c.args.no c.start_in-slot.result x c.start_in-slot.ensures.free (c.requires.legal c.start_in-slot.result c.start_in-slot.ensures.slot c.start_in-slot.ensures.free) in
+    omega (arith, c.requires.within, known.low, x.fields.sized.came)
+
 pub returns-clause-holds : goal.returns-clause-holds
 returns-clause-holds c =
     let core = c.args.core.now in
@@ -30,12 +36,12 @@ returns-clause-holds c =
     let x = c.requires.holds in
     let allowed = c.requires.legal slot c.start_in-slot.ensures.slot c.start_in-slot.ensures.free in
     let known = fresh_child core s m slot x c.start_in-slot.ensures.free allowed in
-    let new : Core = record core { journal = c.push_spare.new.self; posts = c.put_child_out.new.posts; inboxes = c.start_chunk.new.inboxes; chunks = c.start_chunk.new.chunks; children = c.start_in-slot.new.children; places = c.run_all.new.places; totals = record core.totals { quiet = 0 } } in
+    let new : Core = record core { journal = c.push_spare.new.self; posts = c.put_child_out.new.posts; came = c.note_came.new.came; inboxes = c.start_chunk.new.inboxes; chunks = c.start_chunk.new.chunks; children = c.start_in-slot.new.children; places = c.run_all.new.places; totals = record core.totals { quiet = 0 } } in
     let out = λ (i : ℕ). c.put_child_out.ensures.posts i ∙ ap (λ rows. if post_at s.0 slot == i then out_of (slice_get rows s.0) else slice_get core.posts.items i) c.deref.ensures.value in
     let started =
-    fresh_started core s c.args.sub m slot c.put_child_out.new.posts c.start_chunk.new.inboxes c.start_chunk.new.chunks c.start_in-slot.new.children c.run_all.new.places x known c.requires.within c.requires.sub
-    out c.put_child_out.ensures.len c.start_chunk.ensures.inboxes c.start_chunk.ensures.inboxes_len c.start_chunk.ensures.chunks c.start_chunk.ensures.chunks_len
+    fresh_started core s c.args.sub m slot c.put_child_out.new.posts c.note_came.new.came c.start_chunk.new.inboxes c.start_chunk.new.chunks c.start_in-slot.new.children c.run_all.new.places x known c.requires.within c.requires.sub
+    out c.put_child_out.ensures.len c.note_came.ensures.came c.note_came.ensures.len c.start_chunk.ensures.inboxes c.start_chunk.ensures.inboxes_len c.start_chunk.ensures.chunks c.start_chunk.ensures.chunks_len
     c.start_in-slot.ensures.started c.start_in-slot.ensures.len c.start_in-slot.ensures.kept c.run_all.ensures.placed c.run_all.ensures.len in
     let fields =
-    started_fields core core.topology core.journal.steps s m slot c.push_spare.new.self c.put_child_out.new.posts c.start_chunk.new.inboxes c.start_chunk.new.chunks c.start_in-slot.new.children c.run_all.new.places x.fields started in
+    started_fields core core.topology core.journal.steps s m slot c.push_spare.new.self c.put_child_out.new.posts c.note_came.new.came c.start_chunk.new.inboxes c.start_chunk.new.chunks c.start_in-slot.new.children c.run_all.new.places x.fields started in
     holds_after core new (Child s m slot) x refl c.push_spare.ensures.written allowed fields

@@ -1,5 +1,6 @@
+use Rattle.core_sends.specs.Losing.{still_waits}
 use Rattle.core_sends.proofs.Kept.{Passed}
 use Rattle.core_sends.proofs.leaving.keep_waiting.Given as goal
 
 abbrev pub invariant-loop-k : goal.invariant-loop-k
-invariant-loop-k l = Passed l.places l.stage l.fn.queue.items l.queue.items l.k l.kept
+invariant-loop-k l = Passed (still_waits l.places l.stage) l.fn.queue.items l.queue.items l.k l.kept

@@ -7,7 +7,7 @@ use Rattle.pipe_model.specs.Jobs.{with_step}
 use Rattle.pipe_model.specs.Legal.{allows, first_unit}
 use Rattle.core_tables.specs.Tables.{queue_at}
 use Rattle.core_state.proofs.Steps.{still_stands}
-use Rattle.core_takes.specs.Takes.{sub_first}
+use Rattle.core_laws.specs.Columns.{sub_first}
 use Rattle.core_takes.proofs.TakenClosed.{first_batch}
 use Rattle.core_takes.proofs.TakenOne.{one_batch, begins_with, batch_after, taken_there}
 use Rattle.core_takes.proofs.takes.take_batch.Goals as goal

@@ -6,7 +6,8 @@ use Rattle.pipe_model.specs.Flow.{inbox, units_on}
 use Rattle.pipe_model.specs.Jobs.{with_step}
 use Rattle.pipe_model.specs.Work.{chunk_of, messages_of}
 use Rattle.core_tables.specs.Tables.{queue_at}
-use Rattle.core_takes.specs.Takes.{sub_first, take_of}
+use Rattle.core_laws.specs.Columns.{sub_first}
+use Rattle.core_takes.specs.Takes.{take_of}
 use Rattle.core_takes.proofs.TakenChunk.{known_take, size_of}
 use Rattle.core_takes.proofs.TakenStep.{picked, same_take, same_allowed, chunk_after}
 use Rattle.core_takes.proofs.takes.take_messages.Goals as goal

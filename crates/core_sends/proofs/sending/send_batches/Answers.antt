@@ -1,0 +1,237 @@
+use Rattle.std.proofs.Common.{◌≡◌, ℕ, suc, ◌<◌, List, length, map, ◌∙◌, arith, refl, ap, sym, subst, All, drop, ◌++◌, [], ◌∷◌, true}
+use Rattle.std.specs.Prelude.{option_map}
+use Rattle.std.specs.Vec.{with_item}
+use Rattle.std.proofs.lemmas.List.{length-map}
+use Rattle.pipe_types.specs.declared.room.Sent.{Sent}
+use Rattle.pipe_types.specs.declared.step.Step.TheVariants.{Dispatch}
+use Rattle.pipe_types.specs.Stages.{spec_of}
+use Rattle.pipe_model.specs.Flow.{deliveries, waiting, delivered_to, subs_of}
+use Rattle.message_ack.specs.Ends.{sent_in}
+use Rattle.stage_subs.specs.Subs.{row_at, sent_more}
+use Rattle.core_tables.specs.Tables.{named, queue_at, count_between, HasRoom}
+use Rattle.core_laws.specs.Columns.{part_of}
+use Rattle.core_laws.specs.Laws.{IsSentWell}
+use Rattle.core_state.specs.declared.state.Core.{Core}
+use Rattle.core_state.specs.Stands.{Fields}
+use Rattle.core_state.proofs.Steps.{holds_after, unowed_after}
+use Rattle.core_sends.specs.Batches.{not_sent, with_legs, messages_of, subs_at}
+use Rattle.core_sends.specs.Losing.{numbers_in}
+use Rattle.core_sends.specs.Rooms.{planned}
+use Rattle.core_sends.proofs.AfterBatches.{are_begun, batch_fields, still_stands_with}
+use Rattle.core_sends.proofs.BatchesSent.{units_closed, none_begun, none_noted, rest_unsent}
+use Rattle.core_sends.proofs.Queued.{waiting_read, numbers_in_queue, long_queue}
+use Rattle.core_sends.proofs.Sendable.{dispatching, units_within, units_live, units_asked, room_named}
+use Rattle.core_sends.proofs.Sent.{deliveries_named, planned_below}
+use Rattle.core_sends.proofs.sending.send_batches.Goals as goal
+
+pub index-requires : goal.index-requires
+index-requires c =
+    let core = c.args.core.now in
+    let t = core.topology in
+    let before = core.journal.steps in
+    let s = c.args.stage in
+    let x = c.requires.stands.holds in
+    let known = dispatching core s x c.requires.legal in
+    omega (arith, known.within, x.fields.sized.waiting)
+
+pub index_mut-requires : goal.index_mut-requires
+index_mut-requires c =
+    let core = c.args.core.now in
+    let t = core.topology in
+    let before = core.journal.steps in
+    let s = c.args.stage in
+    let x = c.requires.stands.holds in
+    let known = dispatching core s x c.requires.legal in
+    omega (arith, known.within, x.fields.sized.waiting)
+
+pub name_units-requires : goal.name_units-requires
+name_units-requires c =
+    let core = c.args.core.now in
+    let t = core.topology in
+    let before = core.journal.steps in
+    let s = c.args.stage in
+    let x = c.requires.stands.holds in
+    let known = dispatching core s x c.requires.legal in
+    let queue = waiting_read core t before x.fields s c.index.result.now known.within c.index.ensures in
+    let numbers : numbers_in c.index.result.now.items ≡ waiting t before s = ap numbers_in queue ∙ numbers_in_queue (part_of t before (spec_of t s)) (waiting t before s) in
+    let long : length c.index.result.now.items ≡ length (waiting t before s) = ap length queue ∙ long_queue (part_of t before (spec_of t s)) (waiting t before s) in
+    record { within = subst (λ (us : List Sent). All (λ (d : Sent). d.unit < length c.index.result.now.items) us) (sym c.requires.planned) (subst (λ n. All (λ (d : Sent). d.unit < n) (planned t before s [])) (sym long) (planned_below t before s)) }
+
+pub deliver_all-requires-clause-within : goal.deliver_all-requires-clause-within
+deliver_all-requires-clause-within c =
+    let core = c.args.core.now in
+    let t = core.topology in
+    let before = core.journal.steps in
+    let s = c.args.stage in
+    let x = c.requires.stands.holds in
+    let known = dispatching core s x c.requires.legal in
+    let queue = waiting_read core t before x.fields s c.index.result.now known.within c.index.ensures in
+    let numbers : numbers_in c.index.result.now.items ≡ waiting t before s = ap numbers_in queue ∙ numbers_in_queue (part_of t before (spec_of t s)) (waiting t before s) in
+    let units : c.name_units.new.units.items ≡ deliveries t before s =
+    c.name_units.ensures ∙ (ap (map (named (numbers_in c.index.result.now.items))) c.requires.planned ∙ (ap (λ ws. map (named ws) (planned t before s [])) numbers ∙ sym (deliveries_named t before s))) in
+    let is : c.deref-3.result.now ≡ deliveries t before s = c.deref-3.ensures.value ∙ units in
+    let well : All (IsSentWell t before) c.deref-3.result.now = subst (All (IsSentWell t before)) (sym is) known.law.well in
+    units_within t before c.deref-3.result.now (length core.inboxes.items) x.sound x.fields.sized.inboxes well
+
+pub deliver_all-requires-clause-room : goal.deliver_all-requires-clause-room
+deliver_all-requires-clause-room c =
+    let core = c.args.core.now in
+    let t = core.topology in
+    let before = core.journal.steps in
+    let s = c.args.stage in
+    let x = c.requires.stands.holds in
+    let known = dispatching core s x c.requires.legal in
+    let is : c.deref-3.result.now ≡ map (named (numbers_in c.index.result.now.items)) c.args.sent.items = c.deref-3.ensures.value ∙ c.name_units.ensures in
+    let count : length c.args.sent.items ≡ length c.deref-3.result.now = sym (ap length is ∙ length-map c.args.sent.items (named (numbers_in c.index.result.now.items))) in
+    subst (All (HasRoom (length c.deref-3.result.now) core.inboxes.items)) (sym is)
+    (room_named (length c.args.sent.items) (length c.deref-3.result.now) core.inboxes.items (numbers_in c.index.result.now.items) c.args.sent.items count c.requires.room)
+
+pub count_all-requires-clause-live : goal.count_all-requires-clause-live
+count_all-requires-clause-live c =
+    let core = c.args.core.now in
+    let t = core.topology in
+    let before = core.journal.steps in
+    let s = c.args.stage in
+    let x = c.requires.stands.holds in
+    let known = dispatching core s x c.requires.legal in
+    let queue = waiting_read core t before x.fields s c.index.result.now known.within c.index.ensures in
+    let numbers : numbers_in c.index.result.now.items ≡ waiting t before s = ap numbers_in queue ∙ numbers_in_queue (part_of t before (spec_of t s)) (waiting t before s) in
+    let units : c.name_units.new.units.items ≡ deliveries t before s =
+    c.name_units.ensures ∙ (ap (map (named (numbers_in c.index.result.now.items))) c.requires.planned ∙ (ap (λ ws. map (named ws) (planned t before s [])) numbers ∙ sym (deliveries_named t before s))) in
+    let is : c.deref-4.result.now ≡ deliveries t before s = c.deref-4.ensures.value ∙ units in
+    let well : All (IsSentWell t before) c.deref-4.result.now = subst (All (IsSentWell t before)) (sym is) known.law.well in
+    units_live core t before c.deref-4.result.now x.fields well
+
+pub count_all-requires-clause-asked : goal.count_all-requires-clause-asked
+count_all-requires-clause-asked c =
+    let core = c.args.core.now in
+    let t = core.topology in
+    let before = core.journal.steps in
+    let s = c.args.stage in
+    let x = c.requires.stands.holds in
+    let known = dispatching core s x c.requires.legal in
+    let queue = waiting_read core t before x.fields s c.index.result.now known.within c.index.ensures in
+    let numbers : numbers_in c.index.result.now.items ≡ waiting t before s = ap numbers_in queue ∙ numbers_in_queue (part_of t before (spec_of t s)) (waiting t before s) in
+    let units : c.name_units.new.units.items ≡ deliveries t before s =
+    c.name_units.ensures ∙ (ap (map (named (numbers_in c.index.result.now.items))) c.requires.planned ∙ (ap (λ ws. map (named ws) (planned t before s [])) numbers ∙ sym (deliveries_named t before s))) in
+    let is : c.deref-4.result.now ≡ deliveries t before s = c.deref-4.ensures.value ∙ units in
+    let well : All (IsSentWell t before) c.deref-4.result.now = subst (All (IsSentWell t before)) (sym is) known.law.well in
+    units_asked core t before s c.deref-4.result.now x.fields known.law is well
+
+pub begin_all-requires-clause-within : goal.begin_all-requires-clause-within
+begin_all-requires-clause-within c =
+    let core = c.args.core.now in
+    let t = core.topology in
+    let before = core.journal.steps in
+    let s = c.args.stage in
+    let x = c.requires.stands.holds in
+    let known = dispatching core s x c.requires.legal in
+    let queue = waiting_read core t before x.fields s c.index.result.now known.within c.index.ensures in
+    let numbers : numbers_in c.index.result.now.items ≡ waiting t before s = ap numbers_in queue ∙ numbers_in_queue (part_of t before (spec_of t s)) (waiting t before s) in
+    let units : c.name_units.new.units.items ≡ deliveries t before s =
+    c.name_units.ensures ∙ (ap (map (named (numbers_in c.index.result.now.items))) c.requires.planned ∙ (ap (λ ws. map (named ws) (planned t before s [])) numbers ∙ sym (deliveries_named t before s))) in
+    let is : c.deref-2.result.now ≡ deliveries t before s = c.deref-2.ensures.value ∙ units in
+    let well : All (IsSentWell t before) c.deref-2.result.now = subst (All (IsSentWell t before)) (sym is) known.law.well in
+    units_closed t before s c.deref-2.result.now (length core.batches.items) c.requires.batches x.fields.sized.batches is well
+
+pub begin_all-requires-clause-not_begun : goal.begin_all-requires-clause-not_begun
+begin_all-requires-clause-not_begun c =
+    let core = c.args.core.now in
+    let t = core.topology in
+    let before = core.journal.steps in
+    let s = c.args.stage in
+    let x = c.requires.stands.holds in
+    let known = dispatching core s x c.requires.legal in
+    let queue = waiting_read core t before x.fields s c.index.result.now known.within c.index.ensures in
+    let numbers : numbers_in c.index.result.now.items ≡ waiting t before s = ap numbers_in queue ∙ numbers_in_queue (part_of t before (spec_of t s)) (waiting t before s) in
+    let units : c.name_units.new.units.items ≡ deliveries t before s =
+    c.name_units.ensures ∙ (ap (map (named (numbers_in c.index.result.now.items))) c.requires.planned ∙ (ap (λ ws. map (named ws) (planned t before s [])) numbers ∙ sym (deliveries_named t before s))) in
+    let is : c.deref-2.result.now ≡ deliveries t before s = c.deref-2.ensures.value ∙ units in
+    none_begun core t before s c.deref-2.result.now x.fields c.requires.batches is
+
+pub begin_all-requires-clause-not_noted : goal.begin_all-requires-clause-not_noted
+begin_all-requires-clause-not_noted c =
+    let core = c.args.core.now in
+    let t = core.topology in
+    let before = core.journal.steps in
+    let s = c.args.stage in
+    let x = c.requires.stands.holds in
+    let known = dispatching core s x c.requires.legal in
+    let queue = waiting_read core t before x.fields s c.index.result.now known.within c.index.ensures in
+    let numbers : numbers_in c.index.result.now.items ≡ waiting t before s = ap numbers_in queue ∙ numbers_in_queue (part_of t before (spec_of t s)) (waiting t before s) in
+    let units : c.name_units.new.units.items ≡ deliveries t before s =
+    c.name_units.ensures ∙ (ap (map (named (numbers_in c.index.result.now.items))) c.requires.planned ∙ (ap (λ ws. map (named ws) (planned t before s [])) numbers ∙ sym (deliveries_named t before s))) in
+    let is : c.deref-2.result.now ≡ deliveries t before s = c.deref-2.ensures.value ∙ units in
+    none_noted core t before s c.deref-2.result.now x.fields x.legal c.requires.batches is
+
+pub keep_unsent-requires-clause-within : goal.keep_unsent-requires-clause-within
+keep_unsent-requires-clause-within c =
+    let core = c.args.core.now in
+    let t = core.topology in
+    let before = core.journal.steps in
+    let s = c.args.stage in
+    let x = c.requires.stands.holds in
+    let known = dispatching core s x c.requires.legal in
+    let queue = waiting_read core t before x.fields s c.index.result.now known.within c.index.ensures in
+    let numbers : numbers_in c.index.result.now.items ≡ waiting t before s = ap numbers_in queue ∙ numbers_in_queue (part_of t before (spec_of t s)) (waiting t before s) in
+    let units : c.name_units.new.units.items ≡ deliveries t before s =
+    c.name_units.ensures ∙ (ap (map (named (numbers_in c.index.result.now.items))) c.requires.planned ∙ (ap (λ ws. map (named ws) (planned t before s [])) numbers ∙ sym (deliveries_named t before s))) in
+    let old = waiting_read core t before x.fields s c.index_mut.result.now known.within c.index_mut.ensures.value in
+    let long : length c.index_mut.result.now.items ≡ length (waiting t before s) = ap length old ∙ long_queue (part_of t before (spec_of t s)) (waiting t before s) in
+    let below : All (λ (d : Sent). d.unit < length (waiting t before s)) c.deref.result.now = subst (All (λ (d : Sent). d.unit < length (waiting t before s))) (sym (c.deref.ensures.value ∙ c.requires.planned)) (planned_below t before s) in
+    omega (arith, long, c.reach-first.ensures.least (length (waiting t before s)) below)
+
+pub keep_unsent-requires-clause-rest : goal.keep_unsent-requires-clause-rest
+keep_unsent-requires-clause-rest c =
+    let core = c.args.core.now in
+    let t = core.topology in
+    let before = core.journal.steps in
+    let s = c.args.stage in
+    let x = c.requires.stands.holds in
+    let known = dispatching core s x c.requires.legal in
+    let queue = waiting_read core t before x.fields s c.index.result.now known.within c.index.ensures in
+    let numbers : numbers_in c.index.result.now.items ≡ waiting t before s = ap numbers_in queue ∙ numbers_in_queue (part_of t before (spec_of t s)) (waiting t before s) in
+    let units : c.name_units.new.units.items ≡ deliveries t before s =
+    c.name_units.ensures ∙ (ap (map (named (numbers_in c.index.result.now.items))) c.requires.planned ∙ (ap (λ ws. map (named ws) (planned t before s [])) numbers ∙ sym (deliveries_named t before s))) in
+    let old = waiting_read core t before x.fields s c.index_mut.result.now known.within c.index_mut.ensures.value in
+    let is : c.deref-2.result.now ≡ deliveries t before s = c.deref-2.ensures.value ∙ units in
+    let begun = are_begun core t before s c.deref-2.result.now c.begin_all.new.legs is c.in_ok-begin_all.ensures.begun in
+    let above : All (λ (d : Sent). d.unit < c.reach-first.result) (planned t before s []) = subst (All (λ (d : Sent). d.unit < c.reach-first.result)) (c.deref.ensures.value ∙ c.requires.planned) c.reach-first.ensures.above in
+    subst (λ (us : List (ℕ × ℕ)). All (λ (unit : ℕ × ℕ). not_sent c.begin_all.new.legs unit.1 ≡ true) (drop c.reach-first.result us)) (sym old)
+    (rest_unsent core t before s c.reach-first.result c.begin_all.new.legs x.fields x.sound x.legal c.requires.batches begun above)
+
+pub returns-in_err-begin_all-clause-stands : goal.returns-in_err-begin_all-clause-stands
+returns-in_err-begin_all-clause-stands c =
+    still_stands_with c.args.core.now c.begin_all.new.batches c.begin_all.new.legs c.requires.stands c.begin_all.ensures.len c.begin_all.ensures.closed c.in_err-begin_all.ensures.subs_same c.in_err-begin_all.ensures.legs_same
+
+pub returns-clause-stands : goal.returns-clause-stands
+returns-clause-stands c =
+    let core = c.args.core.now in
+    let t = core.topology in
+    let before = core.journal.steps in
+    let s = c.args.stage in
+    let x = c.requires.stands.holds in
+    let known = dispatching core s x c.requires.legal in
+    let queue = waiting_read core t before x.fields s c.index.result.now known.within c.index.ensures in
+    let numbers : numbers_in c.index.result.now.items ≡ waiting t before s = ap numbers_in queue ∙ numbers_in_queue (part_of t before (spec_of t s)) (waiting t before s) in
+    let units : c.name_units.new.units.items ≡ deliveries t before s =
+    c.name_units.ensures ∙ (ap (map (named (numbers_in c.index.result.now.items))) c.requires.planned ∙ (ap (λ ws. map (named ws) (planned t before s [])) numbers ∙ sym (deliveries_named t before s))) in
+    let old = waiting_read core t before x.fields s c.index_mut.result.now known.within c.index_mut.ensures.value in
+    let core-new : Core = record core { journal = c.push_spare.new.self; subs = c.count_all.new.subs; waiting = with_item core.waiting s.0 c.keep_unsent.new.queue; inboxes = c.deliver_all.new.inboxes; batches = c.begin_all.new.batches; legs = c.begin_all.new.legs; totals = record core.totals { quiet = 0 } } in
+    let value = c.deref-2.ensures.value in
+    let fields : Fields core-new t (Dispatch s ∷ before) =
+    batch_fields core t before s c.name_units.new.units.items c.index_mut.result.now.items c.push_spare.new.self c.count_all.new.subs (with_item core.waiting s.0 c.keep_unsent.new.queue) c.deliver_all.new.inboxes c.begin_all.new.batches c.begin_all.new.legs c.keep_unsent.new.queue
+    x.fields x.sound x.legal c.requires.legal c.requires.batches known.law known.within units old
+    (record {
+      counted = λ d p. c.count_all.ensures d p ∙ ap (λ us. option_map (sent_more (count_between us d p)) (row_at core.subs d p)) c.deref-4.ensures.value;
+      queue = refl;
+      kept = c.keep_unsent.ensures;
+      came = λ d. c.deliver_all.ensures.delivered d ∙ ap (λ us. queue_at core.inboxes.items d ++ delivered_to us d) c.deref-3.ensures.value;
+      all_inboxes = c.deliver_all.ensures.len;
+      begun = λ i. c.in_ok-begin_all.ensures.begun i ∙ ap (λ us. with_legs (messages_of core.batches.items (suc i)) (subs_of us (suc i)) (sent_in core.legs (suc i))) value;
+      noted = λ i. c.in_ok-begin_all.ensures.noted i ∙ ap (λ us. option_map (λ vs. vs ++ subs_of us (suc i)) (subs_at core.batches.items i)) value;
+      closed = c.in_ok-begin_all.ensures.closed;
+      all_batches = c.in_ok-begin_all.ensures.len;
+    }) in
+    let holds = holds_after core core-new (Dispatch s) x refl c.push_spare.ensures.written c.requires.legal fields in
+    record { holds = holds; unowed = unowed_after core-new t (Dispatch s) before refl c.push_spare.ensures.written refl }
