@@ -23,7 +23,7 @@ use pipe_types::topology::{Dispatch, StageSpec};
 use std::collections::VecDeque;
 
 /// Whether the stage is live, and its dispatch sends something or loses what is over the size of its buffer.
-pub(crate) fn may_dispatch(core: &Core, spec: &StageSpec) -> bool
+pub fn may_dispatch(core: &Core, spec: &StageSpec) -> bool
     requires stands { Stands core.now }
     requires there { spec_of core.now.topology spec.now.no ≡ Some spec.now }
     ensures { result ≡ may_dispatch core.now.topology core.now.journal.steps spec.now.no }

@@ -65,7 +65,7 @@ fn first_of(inboxes: &[VecDeque<(SubNo, u32)>], at: usize) -> u32
 }
 
 /// Whether the batcher's open batch of the message's key takes one more.
-fn lets_in(core: &Core, spec: &StageSpec, no: u32) -> bool
+pub fn lets_in(core: &Core, spec: &StageSpec, no: u32) -> bool
     requires stands { Stands core.now }
     requires there { spec_of core.now.topology spec.now.no ≡ Some spec.now }
     requires least { 1 ≤ no }

@@ -5,8 +5,8 @@
 
 mod children;
 mod closes;
-mod dispatches;
+pub mod dispatches;
 pub mod drain;
 mod finds;
-mod gathers;
+pub mod gathers;
 pub mod moves;

@@ -5,14 +5,14 @@ use Rattle.core_allows.proofs.Held.{found_there}
 use Rattle.core_allows.proofs.Unfound.{unfound_dispatch}
 use Rattle.core_allows.proofs.dispatches.may_dispatch.Goals as goal
 
-pub may_spec_dispatch-requires-clause-there : goal.may_spec_dispatch-requires-clause-there
-may_spec_dispatch-requires-clause-there c = found_there c.args.core.now.topology c.args.stage c.in-Some.spec.now (sym c.in-Some.ensures)
+pub may_dispatch-requires-clause-there : goal.may_dispatch-requires-clause-there
+may_dispatch-requires-clause-there c = found_there c.args.core.now.topology c.args.stage c.in-Some.spec.now (sym c.in-Some.ensures)
 
 pub returns-in-Some : goal.returns-in-Some
 returns-in-Some c =
     let t = c.args.core.now.topology in
     let h = c.args.core.now.journal.steps in
-    c.may_spec_dispatch.ensures ∙ ap (may_dispatch t h) (found_no t c.args.stage c.in-Some.spec.now (sym c.in-Some.ensures))
+    c.may_dispatch.ensures ∙ ap (may_dispatch t h) (found_no t c.args.stage c.in-Some.spec.now (sym c.in-Some.ensures))
 
 pub returns-in-None : goal.returns-in-None
 returns-in-None c = unfound_dispatch c.args.core.now.topology c.args.core.now.journal.steps c.args.stage (sym c.in-None.ensures)

@@ -1,9 +1,0 @@
-use Rattle.std.proofs.Common.{◌≡◌, drop}
-use Rattle.std.specs.List.{list_any}
-use Rattle.core_sends.specs.Rooms.{room_between}
-use Rattle.core_laws.specs.Columns.{waiting_parts}
-use Rattle.core_moves.specs.Sends.{wants_in}
-use Rattle.core_allows.proofs.dispatches.is_any_wanted.Given as goal
-
-abbrev pub invariant-loop-spec : goal.invariant-loop-spec
-invariant-loop-spec l = list_any (λ c. wants_in (waiting_parts l.core.topology l.core.journal.steps l.producer.no) (room_between l.core.topology l.core.journal.steps l.producer.no c.no)) (drop l.spec-index l.spec-items) ≡ list_any (λ c. wants_in (waiting_parts l.core.topology l.core.journal.steps l.producer.no) (room_between l.core.topology l.core.journal.steps l.producer.no c.no)) l.spec-items
