@@ -1,11 +1,11 @@
 -- The rows of the pairs in a table, and what a call makes of them.
-use Rattle.std.specs.Prelude.{◌≡◌, ℕ, zero, suc, ◌+◌, ◌*◌, ◌-◌, ◌<◌, ◌≤◌, Bool, true, false, ◌&&◌, ◌==◌, nat_le, if◌then◌else◌, List, length, map, count_by, slice_index_or, Option, Some, None, option_map}
+use Rattle.std.specs.Prelude.{◌≡◌, ℕ, zero, suc, ◌+◌, ◌*◌, ◌-◌, ◌<◌, Bool, true, false, ◌&&◌, ◌==◌, nat_le, if◌then◌else◌, List, length, map, count_by, slice_index_or, Option, Some, None, option_map}
 use Rattle.pipe_types.specs.declared.numbers.StageNo.{StageNo}
 use Rattle.pipe_types.specs.declared.numbers.SubNo.{SubNo}
 use Rattle.pipe_types.specs.Numbers.{stage, same_stage, subscription}
 use Rattle.stage_demand.specs.Demand.{counts_of, due_of}
 use Rattle.stage_subs.specs.declared.SubRow.{SubRow}
-use Rattle.stage_subs.specs.declared.TheConstants.{LAST_STAGE, MOST_LIVE, STRIDE, CONSUMERS}
+use Rattle.stage_subs.specs.declared.TheConstants.{LAST_STAGE, STRIDE, CONSUMERS}
 use Rattle.stage_subs.specs.Pairs.{PairRow}
 
 -- a row as contracts see it
@@ -118,8 +118,7 @@ pub record IsChanged (old new : List (Option PairRow)) (u : SubNo) (change : Pai
 
 -- What a table keeps
 
--- it has no row yet or one for each pair, and these are its live subscriptions, no more than may be live
+-- it has no row yet or one for each pair, and so many of its subscriptions are live
 pub record IsTable (rows : List (Option SubRow)) (live : ℕ) : Type 0 where
   pub sized : 0 < length rows → length rows ≡ CONSUMERS * STRIDE
   pub counted : live_rows (rows_of rows) ≡ live
-  pub few : live ≤ MOST_LIVE

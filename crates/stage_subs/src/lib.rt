@@ -20,7 +20,7 @@ use stage_demand::Demand;
 use std::alloc::{AllocError, Global};
 use std::marker::Model;
 
-/// The most subscriptions that are live at once.
+/// From so many live subscriptions on none is added.
 pub const MOST_LIVE: u32 = 2_048;
 
 /// The greatest number of a stage.
@@ -107,7 +107,7 @@ impl Subs {
             sub ≡ subscription consumer producer (generation_in (row_at self.old consumer producer) + 1)) }
         ensures added { IfOk result (λ sub. IsPut self.old self.new consumer producer (begun sub.generation min max)) }
         ensures live { OnOk result (live_rows self.new ≡ live_rows self.old + 1) }
-        ensures full { (result ≡ Err SubsFault.Full) ↔ (live_rows self.old ≡ MOST_LIVE) }
+        ensures full { (result ≡ Err SubsFault.Full) ↔ (MOST_LIVE ≤ live_rows self.old) }
         ensures refused { OnErr result (self.new ≡ self.old) }
     {
         if self.live >= MOST_LIVE {
@@ -127,6 +127,29 @@ impl Subs {
             producer,
             generation,
         })
+    }
+
+    /// Begins the next subscription of a pair that had one and has no live one, with nothing asked for. It takes the
+    /// place of the last one, and no memory.
+    pub fn renew(&mut self, consumer: StageNo, producer: StageNo, min: u32, max: u32)
+        requires min_below_max { min < max }
+        requires max_in_range { max ≤ MAX_DEMAND }
+        requires had { IsSome (row_at self.old consumer producer) }
+        requires not_live { live_in (row_at self.old consumer producer) ≡ false }
+        requires generations { generation_in (row_at self.old consumer producer) < 2 ^ 32 - 1 }
+        ensures renewed { IsPut self.old self.new consumer producer (begun (generation_in (row_at self.old consumer producer) + 1) min max) }
+        ensures live { live_rows self.new ≡ live_rows self.old + 1 }
+    {
+        if let Some(last) = find(&self.rows, consumer, producer) {
+            let nothing_asked = Demand::new(min, max);
+            let row = SubRow {
+                generation: last.generation + 1,
+                live: true,
+                demand: nothing_asked,
+            };
+            put(&mut self.rows, consumer, producer, row);
+            self.live += 1;
+        }
     }
 
     /// Closes a live subscription. Its counts stay.

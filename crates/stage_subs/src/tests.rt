@@ -65,3 +65,29 @@ fn no_more_than_may_be_live(rt: HostRuntime) {
     let sub = sub_at(2_048);
     assert_eq!(rt; subs.live_of(sub.consumer, sub.producer), None);
 }
+
+// The pair's second subscription, after the first was closed.
+fn closed_and_renewed(subs: &mut Subs) -> Option<SubNo>
+    requires { subs.old ≡ [] }
+{
+    match subs.add(StageNo(2), StageNo(1), 5, 10) {
+        Ok(sub) => {
+            subs.close(sub);
+            subs.renew(StageNo(2), StageNo(1), 5, 10);
+            subs.live_of(StageNo(2), StageNo(1))
+        }
+        Err(_) => None,
+    }
+}
+
+#[test]
+fn a_closed_subscription_is_renewed(rt: HostRuntime) {
+    let mut subs = Subs::new(rt.alloc());
+    let sub = SubNo {
+        consumer: StageNo(2),
+        producer: StageNo(1),
+        generation: 2,
+    };
+    assert_eq!(rt; closed_and_renewed(&mut subs), Some(sub));
+    assert_eq!(rt; (subs.due(sub), subs.room_of(sub)), (10, 0));
+}

@@ -1,0 +1,4 @@
+pub mod Unbegun
+pub mod Times
+pub mod Pairs
+pub mod Revived

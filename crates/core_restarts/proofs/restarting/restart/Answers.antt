@@ -1,0 +1,85 @@
+use Rattle.std.proofs.Common.{◌∷◌, ◌∙◌, ap, sym, subst, refl, length, arith}
+use Rattle.std.specs.Prelude.{slice_get}
+use Rattle.pipe_types.specs.declared.step.Step.TheVariants.{Restart}
+use Rattle.pipe_model.specs.History.{History}
+use Rattle.pipe_model.specs.Legal.{restart_times}
+use Rattle.pipe_laws.proofs.Allowed.{restart_dead}
+use Rattle.stage_laws.proofs.Numbering.{numbered_topology}
+use Rattle.core_tables.specs.declared.rows.Totals.{Totals}
+use Rattle.core_laws.proofs.Past.{restart_known, known_within}
+use Rattle.core_state.specs.declared.state.Core.{Core}
+use Rattle.core_state.specs.Readings.{lives_by}
+use Rattle.core_state.proofs.Reading.{live_by, incarnation_is}
+use Rattle.core_state.proofs.Steps.{holds_after, unowed_after, still_stands}
+use Rattle.core_restarts.specs.Renewals.{live_upto, begins, AreRenewed}
+use Rattle.core_restarts.proofs.Unbegun.{incarnation_room}
+use Rattle.core_restarts.proofs.Times.{remembered_past, limit_some}
+use Rattle.core_restarts.proofs.Revived.{closed_rows, pairs_after, restarted_fields}
+use Rattle.core_restarts.proofs.restarting.restart.Goals as goal
+
+pub renew_all-requires-clause-first : goal.renew_all-requires-clause-first
+renew_all-requires-clause-first c =
+    let core = c.args.core.now in
+    (known_within core.topology c.args.stage (numbered_topology core.topology c.requires.stands.holds.sound) (restart_known core.topology core.journal.steps c.args.stage c.requires.legal)).0
+
+pub renew_all-requires-clause-within : goal.renew_all-requires-clause-within
+renew_all-requires-clause-within c =
+    let core = c.args.core.now in
+    (known_within core.topology c.args.stage (numbered_topology core.topology c.requires.stands.holds.sound) (restart_known core.topology core.journal.steps c.args.stage c.requires.legal)).1
+
+pub renew_all-requires-clause-dead : goal.renew_all-requires-clause-dead
+renew_all-requires-clause-dead c =
+    let core = c.args.core.now in
+    let s = c.args.stage in
+    ap (λ xs. lives_by (slice_get xs s.0) s.0) c.deref.ensures.value ∙ (live_by core s c.requires.stands.holds ∙ restart_dead core.topology core.journal.steps s c.requires.legal)
+
+pub renew_all-requires-clause-closed : goal.renew_all-requires-clause-closed
+renew_all-requires-clause-closed c = λ d p h.
+    let core = c.args.core.now in
+    let s = c.args.stage in
+    closed_rows core s d p c.requires.stands.holds (restart_known core.topology core.journal.steps s c.requires.legal) (restart_dead core.topology core.journal.steps s c.requires.legal)
+    (sym (ap (λ xs. begins core.topology (live_upto (length core.topology.stages) xs) s d p) c.deref.ensures.value) ∙ h)
+
+pub note_restart-requires-clause-within : goal.note_restart-requires-clause-within
+note_restart-requires-clause-within c =
+    let core = c.args.core.now in
+    let x = c.requires.stands.holds in
+    let w = known_within core.topology c.args.stage (numbered_topology core.topology x.sound) (restart_known core.topology core.journal.steps c.args.stage c.requires.legal) in
+    omega (arith, x.fields.sized.stages, w.1)
+
+pub note_restart-requires-clause-few : goal.note_restart-requires-clause-few
+note_restart-requires-clause-few c =
+    let core = c.args.core.now in
+    let x = c.requires.stands.holds in
+    omega (arith, incarnation_is core c.args.stage x, incarnation_room core.topology core.journal.steps c.args.stage x.sound x.legal)
+
+pub made-requires-clause-allowed : goal.made-requires-clause-allowed
+made-requires-clause-allowed c =
+    let core = c.args.core.now in
+    omega (arith, c.requires.stands.holds.fields.set.restarts.0, limit_some core.topology core.journal.steps c.args.stage c.requires.legal)
+
+pub made-requires-clause-latest : goal.made-requires-clause-latest
+made-requires-clause-latest c = λ k d low.
+    let core = c.args.core.now in
+    let x = c.requires.stands.holds in
+    let now = ap (λ (y : Totals). y.now) x.fields.totals in
+    omega (arith, remembered_past core.topology core.journal.steps core.restarts x.legal x.fields.restarts k d low, now)
+
+pub returns-clause-stands : goal.returns-clause-stands
+returns-clause-stands c =
+    let core = c.args.core.now in
+    let s = c.args.stage in
+    let x = c.requires.stands.holds in
+    let known = restart_known core.topology core.journal.steps s c.requires.legal in
+    let dead = restart_dead core.topology core.journal.steps s c.requires.legal in
+    let core-new : Core = record core { journal = c.push_spare.new.self; stages = c.note_restart.new.rows; subs = c.renew_all.new.subs; restarts = c.made.new.self; totals = record core.totals { quiet = 0 } } in
+    let written = c.push_spare.ensures.written ∙ ap (λ (h : History). Restart s ∷ h) c.in_ok-reserve.ensures.same_steps in
+    let are = subst (λ xs. AreRenewed core.topology (live_upto (length core.topology.stages) xs) s core.subs c.renew_all.new.subs) c.deref.ensures.value c.renew_all.ensures in
+    let fields = restarted_fields core core.topology core.journal.steps s c.push_spare.new.self c.note_restart.new.rows c.renew_all.new.subs c.made.new.self x.fields
+    c.note_restart.ensures.rows c.note_restart.ensures.len (λ d p fed. pairs_after core s d p c.renew_all.new.subs x known dead are fed)
+    c.made.ensures.limit (c.made.ensures.remembered (restart_times core.journal.steps) x.fields.restarts) in
+    let holds = holds_after core core-new (Restart s) x refl written c.requires.legal fields in
+    record { holds = holds; unowed = unowed_after core-new core.topology (Restart s) core.journal.steps refl written refl }
+
+pub returns-in_err-reserve-clause-stands : goal.returns-in_err-reserve-clause-stands
+returns-in_err-reserve-clause-stands c = still_stands c.args.core.now c.reserve.new.self c.requires.stands c.reserve.ensures.same_steps
