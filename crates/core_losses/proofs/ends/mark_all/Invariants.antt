@@ -1,0 +1,11 @@
+use Rattle.std.proofs.Common.{◌≡◌, ℕ, suc, length, drop}
+use Rattle.std.specs.Prelude.{option_map, slice_get}
+use Rattle.core_batches.specs.Writes.{marked}
+use Rattle.core_losses.proofs.ends.mark_all.Given as goal
+
+abbrev pub invariant-loop-no : goal.invariant-loop-no
+invariant-loop-no l =
+    record {
+      marks : (i : ℕ) → option_map (marked (drop l.no-index l.numbers) l.mark (suc i)) (slice_get l.marks.items i) ≡ option_map (marked l.numbers l.mark (suc i)) (slice_get l.fn.marks.items i);
+      len : length l.marks.items ≡ length l.fn.marks.items;
+    }

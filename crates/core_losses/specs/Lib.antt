@@ -1,0 +1,4 @@
+pub mod Losses
+pub mod Legs
+pub mod Batches
+pub mod Lost

@@ -1,0 +1,41 @@
+//! All that a kill takes with it.
+
+ghost use Rattle.std.specs.Prelude.{◌≡◌, length};
+ghost use Rattle.core_state.specs.Stands.{Holds};
+ghost use Rattle.core_losses.specs.Lost.{AreLost, IsKill};
+
+use crate::batches::lose_batches;
+use crate::messages::lose_messages;
+use core_state::Core;
+use pipe_types::message::Why;
+
+/// Notes what is lost of messages and of legs by the step that kills the stages for these reasons. It takes no memory.
+pub fn lose_held(core: &mut Core, killed: &[Option<Why>])
+    requires holds { Holds core.old }
+    requires rows { length killed.now ≡ length core.old.stages.items }
+    requires kills { IsKill core.old killed.now }
+    ensures lost { (kill : IsKill core.old killed.now) → AreLost core.old kill.step core.new.places core.new.settled core.new.legs }
+    ensures rest { core.new ≡ record core.old { places = core.new.places; settled = core.new.settled; legs = core.new.legs } }
+{
+    let mark = core.journal.len();
+    lose_batches(
+        &mut core.places,
+        &mut core.settled,
+        &mut core.legs,
+        &core.batches,
+        core.topology.stages.as_slice(),
+        &core.stages,
+        &core.posts,
+        &core.waiting,
+        &core.inboxes,
+        killed,
+        mark,
+    );
+    lose_messages(
+        &mut core.places,
+        &mut core.settled,
+        &core.stages,
+        killed,
+        mark,
+    );
+}
