@@ -30,7 +30,8 @@ next_calm (Failed why) next calm go = refl
 next_calm (Raised why) next calm go = refl
 next_calm Crashed next calm go = calm
 
-rules_calm : (count : ℕ) (rules : List Rule) (m : Message) → never_crashes rules ≡ true → is_crashed (rules_reply count rules m) ≡ false
+-- where no rule is a crash, no reply to a message is one
+pub rules_calm : (count : ℕ) (rules : List Rule) (m : Message) → never_crashes rules ≡ true → is_crashed (rules_reply count rules m) ≡ false
 rules_calm count [] m calm = refl
 rules_calm count (rule ∷ rules) m calm =
     let parts = and_parts (not (may_crash rule)) (never_crashes rules) calm in

@@ -2,4 +2,5 @@ pub mod CallCounts
 pub mod CalmRules
 pub mod ChunkSteps
 pub mod KindCounts
+pub mod OneMessage
 pub mod ToldSteps

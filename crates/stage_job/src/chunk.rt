@@ -17,6 +17,7 @@ use pipe_types::reason::Reason;
 use pipe_types::topology::Kind;
 use stage_callback::{Callback, FailedReply, Prepared};
 use std::alloc::{AllocError, Global};
+use std::slice;
 
 /// The replies of a callback to a chunk.
 ///
@@ -60,6 +61,38 @@ pub fn run_chunk(
         Prepared::Ready => answer_all(alloc, callback, messages),
         Prepared::Raised(why) => raise_all(alloc, callback, messages.as_slice(), why),
         Prepared::Crashed => Ok(ReplyList::from_vec(vec![in alloc; Reply::Crashed]?)),
+    }
+}
+
+/// The reply of a callback to a message alone, as to a chunk of one. The error is want of memory.
+pub fn run_message(
+    callback: &mut Box<dyn Callback + Send>,
+    message: Message,
+) -> Result<Reply, AllocError>
+    ensures same { (kind callback.new ≡ kind callback.old) × (spec callback.new ≡ spec callback.old)
+        × (told callback.new ≡ told callback.old) }
+    ensures replies { kind callback.old ≢ Kind.Own → IfOk result (λ r.
+        r ∷ [] ≡ chunk_replies (spec callback.old) (count callback.old) (message ∷ [])) }
+    ensures count { kind callback.old ≢ Kind.Own → IfOk result (λ r.
+        count callback.new ≡ counted (count callback.old) 1) }
+    ensures calm { kind callback.old ≢ Kind.Own → IsTrue (never_crashes (spec callback.old).rules)
+        → IfOk result (λ r. has_crash (r ∷ []) ≡ false) }
+    ensures no_counts { kind callback.old ≢ Kind.Own
+        → (calls callback.new ≡ calls callback.old) × (bad callback.new ≡ bad callback.old) }
+    ensures never_fall { (calls callback.old ≤ calls callback.new) × (bad callback.old ≤ bad callback.new) }
+    ensures shape { kind callback.old ≡ Kind.Own → IsTrue (is_message_for (spec callback.old).batchers message)
+        → IfOk result (λ r. IsTrue (are_own_replies (spec callback.old).batchers (message ∷ []) (r ∷ []))) }
+    ensures calls { kind callback.old ≡ Kind.Own → IfOk result (λ r.
+        RoseBy (count_by is_passed (r ∷ [])) (calls callback.old) (calls callback.new)) }
+    ensures bad { kind callback.old ≡ Kind.Own → IfOk result (λ r.
+        is_passed r ≡ false → Rose (bad callback.old) (bad callback.new)) }
+    ensures by_answers { IsTrue (told callback.old) → IfOk result (λ r. (answers : List Said)
+        × (said callback.new ≡ said callback.old ++ answers) × (r ∷ [] ≡ chunk_by answers)) }
+{
+    match show(callback, slice::from_ref(&message))? {
+        Prepared::Ready => answer(callback, message),
+        Prepared::Raised(why) => Ok(Reply::Raised(reason_for(callback, message.no, why)?)),
+        Prepared::Crashed => Ok(Reply::Crashed),
     }
 }
 
@@ -200,8 +233,8 @@ fn ask(callback: &mut Box<dyn Callback + Send>, message: Message) -> Result<Repl
     callback.message(message)
 }
 
-/// The reason that a failed message keeps, or what the callback puts in its place.
-fn reason_for(
+/// The reason that a failed message keeps, or what the callback puts in its place. The error is want of memory.
+pub fn reason_for(
     callback: &mut Box<dyn Callback + Send>,
     no: MsgNo,
     why: Reason,
