@@ -1,0 +1,167 @@
+-- What a job leaves of its body, and what it answers.
+use Rattle.std.specs.Prelude.{◌≡◌, ◌≢◌, ◌≤◌, ◌<◌, ◌^◌, ℕ, Bool, true, false, List, [], ◌∷◌, ◌++◌, length, take, count_by, All, IsTrue, IsSome, IfSome, Option, Some, None, is_some}
+use Rattle.std.specs.List.{list_all}
+use Rattle.pipe_types.specs.Counts.{Rose}
+use Rattle.pipe_types.specs.Lines.{max_bytes}
+use Rattle.pipe_types.specs.Handlers.{chunk_replies, batch_text, counted, count_after_batch, are_own_replies, is_successful}
+use Rattle.pipe_types.specs.declared.message.Message.{Message}
+use Rattle.pipe_types.specs.declared.message.Reply.{Reply}
+use Rattle.pipe_types.specs.declared.message.Outcome.{Outcome}
+use Rattle.pipe_types.specs.declared.message.BatchEnd.{BatchEnd}
+use Rattle.pipe_types.specs.declared.message.BatchEnd.TheVariants.{Outcomes, Crashed}
+use Rattle.pipe_types.specs.declared.step.SourceHow.TheVariants as how
+use Rattle.pipe_types.specs.declared.topology.Kind.{Kind}
+use Rattle.pipe_types.specs.declared.topology.Kind.TheVariants.{Own}
+use Rattle.pipe_model.specs.Content.{has_crash}
+use Rattle.pipe_model.specs.Work.{is_end_by, is_write_end, own_text, is_failed_by_sink}
+use Rattle.pipe_edges.specs.Cut.{CutsAll}
+use Rattle.pipe_edges.specs.declared.reading.LineEnd.{LineEnd}
+use Rattle.pipe_edges.specs.declared.reading.LineEnd.TheVariants as end
+use Rattle.stage_callback.specs.Callbacks.{is_message_for, is_passed}
+use Rattle.stage_callback.specs.declared.answers.Said.{Said}
+use Rattle.stage_job.specs.Chunks.{never_crashes, RoseBy}
+use Rattle.stage_job.specs.Told.{chunk_by}
+use Rattle.stage_bodies.specs.Seen.{SourceSeen, LineSeen, SinkSeen, BoxSeen, BodySeen}
+use Rattle.stage_bodies.specs.Reads.{AreReadFrom}
+use Rattle.stage_bodies.specs.Told.{end_told, text_told}
+use Rattle.stage_bodies.specs.declared.job.Work.{Work}
+use Rattle.stage_bodies.specs.declared.job.Work.TheVariants as work
+use Rattle.stage_bodies.specs.declared.job.Outcome.{Outcome as Came}
+use Rattle.stage_bodies.specs.declared.job.Outcome.TheVariants as came
+
+-- both are there and so related, or none is there
+abbrev pub Both : {A B : Type 0} → (A → B → Type 0) → Option A → Option B → Type 0
+Both R (Some a) (Some b) = R a b
+Both R None None = Unit {0}
+Both R _ _ = ⊥
+
+-- ---- fetches
+
+-- the records that an answer brings
+abbrev pub records_of : Came → List (List ℕ)
+records_of (came.Records records) = records
+records_of _ = []
+
+-- what the answer to a fetch of at most so many says, where these bytes are held behind it: the first lines that are held, 1
+-- to `most` of them, none too long, and fewer than `most` only where no whole line is held any more; that the waits rose; or
+-- the end that is known from now on
+abbrev pub IsFetched : (most waits waits' : ℕ) → (held : List ℕ) → Option LineEnd → Came → Type 0
+IsFetched most waits waits' held now (came.Records records) =
+    (1 ≤ length records) × (length records ≤ most) × CutsAll most records held × All (λ r. length r ≤ max_bytes) records × (¬ (now ≡ Some end.Fault)) × (¬ (now ≡ Some end.TooLong))
+IsFetched most waits waits' held now came.NotYet = Rose waits waits' × (now ≡ None)
+IsFetched most waits waits' held now (came.Ended how.End) = now ≡ Some end.End
+IsFetched most waits waits' held now (came.Ended how.Fault) = now ≡ Some end.Fault
+IsFetched most waits waits' held now (came.Ended how.TooLong) = now ≡ Some end.TooLong
+IsFetched most waits waits' held now _ = ⊥
+
+-- the records follow those that were read before
+abbrev pub ReadsOn : (records : List (List ℕ)) → (old new : LineSeen) → Type 0
+ReadsOn records old new =
+    (opened : SourceSeen) (earlier : List (List ℕ)) → AreReadFrom opened old earlier → AreReadFrom opened new (earlier ++ records)
+
+-- a fetch of at most so many records, and what it came to
+pub record Fetches (most : ℕ) (result : Came) (old new : LineSeen) : Type 0 where
+  pub reads : ReadsOn (records_of result) old new
+  pub end_stays : IfSome old.end (λ e. new.end ≡ Some e)
+  pub answer : IsFetched most old.source.waits new.source.waits new.waiting new.end result
+
+-- ---- callbacks
+
+-- it is the same callback, armed as before, and its counts do not fall; a built-in kind counts no calls
+pub record KeepsBox (old new : BoxSeen) : Type 0 where
+  pub kind : new.kind ≡ old.kind
+  pub spec : new.spec ≡ old.spec
+  pub told : new.told ≡ old.told
+  pub calls : old.calls ≤ new.calls
+  pub bad : old.bad ≤ new.bad
+  pub no_calls : old.kind ≢ Own → new.calls ≡ old.calls
+  pub no_bad : old.kind ≢ Own → new.bad ≡ old.bad
+
+-- the replies to a chunk: of a built-in kind those of its rules, counted on from its count; of a user's own kind of the form
+-- that it keeps, with a call counted for each that passed, and a bad answer where one did not
+pub record Replies (messages : List Message) (replies : List Reply) (old new : BoxSeen) : Type 0 where
+  pub kept : KeepsBox old new
+  pub by_rules : old.kind ≢ Own → replies ≡ chunk_replies old.spec old.count messages
+  pub count : old.kind ≢ Own → old.count < 2 ^ 64 → new.count ≡ counted old.count (length replies)
+  pub calm : old.kind ≢ Own → IsTrue (never_crashes old.spec.rules) → has_crash replies ≡ false
+  pub shape : old.kind ≡ Own → IsTrue (list_all (is_message_for old.spec.batchers) messages) → IsTrue (are_own_replies old.spec.batchers messages replies)
+  pub calls : old.kind ≡ Own → RoseBy (count_by is_passed replies) old.calls new.calls
+  pub bad : old.kind ≡ Own → list_all is_passed replies ≡ false → Rose old.bad new.bad
+  pub by_answers : IsTrue old.told → (answers : List Said) × (new.said ≡ old.said ++ answers) × (replies ≡ chunk_by answers)
+
+-- the same callback with its count at 0, as each run of a child begins
+abbrev pub reset : BoxSeen → BoxSeen
+reset box = record box { count = 0 }
+
+-- ---- batches
+
+-- the text of a batch that ended so
+abbrev pub text_by : Kind → BoxSeen → List Message → BatchEnd → List ℕ
+text_by Own box messages end = own_text messages end
+text_by _ box messages end = batch_text box.spec box.count messages
+
+-- the first so many bytes of the text were written; all of them unless the faults rose
+pub record Writes (bytes : ℕ) (text : List ℕ) (old new : SinkSeen) : Type 0 where
+  pub told : new.told ≡ old.told
+  pub held : IsTrue old.told → new.held ≡ old.held ++ take bytes text
+  pub faults_stay : old.faults ≤ new.faults
+  pub short : bytes < length text → Rose old.faults new.faults
+
+-- the end is a crash, or an outcome is neither success nor the sink's failure
+abbrev pub is_bad_end : BatchEnd → Bool
+is_bad_end Crashed = true
+is_bad_end (Outcomes outcomes) = not_all (list_all is_good outcomes)
+  where
+    good : Bool → Bool → Bool
+    good true b = true
+    good false b = b
+
+    is_good : Outcome → Bool
+    is_good o = good (is_successful o) (is_failed_by_sink o)
+
+    not_all : Bool → Bool
+    not_all true = false
+    not_all false = true
+
+-- the end of a batch: the handler's, and where a sink took less than the text each success fails by the sink
+pub record Ends (messages : List Message) (bytes : ℕ) (end : BatchEnd) (has_sink : Bool) (old new : BoxSeen) : Type 0 where
+  pub kept : KeepsBox old new
+  pub ended : IsTrue (is_end_by old.kind has_sink old.spec old.count messages bytes end)
+  pub count : old.kind ≢ Own → old.count < 2 ^ 64 → new.count ≡ count_after_batch old.spec old.count messages
+  pub calm : old.kind ≢ Own → IsTrue (never_crashes old.spec.rules) → end ≢ Crashed
+  pub calls : old.kind ≡ Own → Rose old.calls new.calls
+  pub bad : old.kind ≡ Own → is_bad_end end ≡ true → Rose old.bad new.bad
+  pub by_answers :
+      IsTrue old.told
+      → (answers : List Said) × (new.said ≡ old.said ++ answers) × IsTrue (is_write_end has_sink (end_told messages answers) (text_told answers) bytes end)
+
+-- ---- jobs
+
+-- the body holds what the work needs; a callback that handles batches is of the kind that its spec names
+abbrev pub Fits : Work → BodySeen → Type 0
+Fits (work.Fetch most) body = (1 ≤ most) × IsSome body.source
+Fits (work.Batch batch) body = IsSome body.callback × IfSome body.callback (λ box. box.kind ≡ box.spec.kind)
+Fits _ body = IsSome body.callback
+
+-- what the callback of the body left, seen from the sink
+abbrev pub EndsIn : List Message → (bytes : ℕ) → BatchEnd → BodySeen → BodySeen → BoxSeen → BoxSeen → Type 0
+EndsIn messages bytes end old new before after =
+    Ends messages bytes end (is_some old.sink) before after × Both (Writes bytes (text_by before.kind before messages end)) old.sink new.sink
+
+-- the work came to this answer, and what it did not use is as it was
+abbrev pub IsDone : Work → Came → BodySeen → BodySeen → Type 0
+IsDone (work.Fetch most) result old new =
+    Both (Fetches most result) old.source new.source × (new.sink ≡ old.sink) × (new.callback ≡ old.callback)
+IsDone (work.Chunk messages) (came.Replies replies) old new =
+    Both (Replies messages replies) old.callback new.callback × (new.source ≡ old.source) × (new.sink ≡ old.sink)
+IsDone (work.Batch batch) (came.Wrote bytes end) old new =
+    Both (EndsIn batch.messages bytes end old new) old.callback new.callback × (new.source ≡ old.source)
+IsDone (work.Child message) (came.Reply reply) old new =
+    Both (λ before after. Replies (message ∷ []) (reply ∷ []) (reset before) after) old.callback new.callback × (new.source ≡ old.source) × (new.sink ≡ old.sink)
+IsDone _ _ old new = ⊥
+
+-- memory was wanting: no line is gone, an end stays known, nothing was written, and the callback is the same
+pub record IsCutOff (old new : BodySeen) : Type 0 where
+  pub source : Both (λ before after. ReadsOn [] before after × IfSome before.end (λ e. after.end ≡ Some e)) old.source new.source
+  pub sink : new.sink ≡ old.sink
+  pub callback : Both KeepsBox old.callback new.callback

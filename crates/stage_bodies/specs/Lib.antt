@@ -1,0 +1,5 @@
+pub mod Seen
+pub mod Reads
+pub mod Told
+pub mod Jobs
+pub mod Posts
