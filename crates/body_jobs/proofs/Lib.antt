@@ -1,0 +1,5 @@
+pub mod Children
+pub mod Ending
+pub mod Handling
+pub mod Settling
+pub mod Sources

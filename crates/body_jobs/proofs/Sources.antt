@@ -1,0 +1,178 @@
+-- A fetch as it is seen.
+use Rattle.std.proofs.Common.{◌≡◌, ◌≤◌, Bool, ℕ, List, [], ◌∷◌, length, refl, ap, ◌∙◌, arith}
+use Rattle.std.specs.Prelude.{Option, Some, None, Result, Ok, Err, IfSome, IsNone, All}
+use Rattle.std.proofs.lemmas.List.{append-nil}
+use Rattle.std.proofs.lemmas.List.Elements.{All-nil, All-cons, All-head, All-tail}
+use Rattle.pipe_edges.specs.LineSource.{waiting, line_end_of}
+use Rattle.pipe_edges.specs.Fetch.{answer_of, records_in, records_of, FetchHasCause, Remembers}
+use Rattle.pipe_edges.specs.declared.lines.LineSource.{LineSource}
+use Rattle.pipe_types.specs.Lines.{max_bytes}
+use Rattle.pipe_edges.specs.Texts.{IsLine}
+use Rattle.pipe_edges.specs.declared.reading.LineEnd.{LineEnd}
+use Rattle.pipe_edges.specs.declared.reading.LineEnd.TheVariants as end
+use Rattle.pipe_edges.specs.declared.reading.Fetched.{Fetched}
+use Rattle.pipe_edges.specs.declared.reading.Fetched.TheVariants.{Records, NotYet, End, Fault, TooLong}
+use Rattle.source_lines.specs.Read.{IsReadFrom}
+use Rattle.source_lines.proofs.Fetches.{Fetches, read_more}
+use Rattle.stage_bodies.specs.Seen.{SourceSeen, LineSeen, source_seen, line_seen}
+use Rattle.stage_bodies.specs.Jobs.{Both, ReadsOn, IsFetched, Fetches as FetchesOn, records_of as records_in_outcome}
+use Rattle.body_jobs.specs.Fetched.{came_of, IsUnread}
+
+-- the same line source over what is seen of its bytes
+abbrev over : {B C : Type 0} → (B → C) → LineSource B → LineSource C
+over seen lines = record {
+  alloc = lines.alloc;
+  source = seen lines.source;
+  held = lines.held;
+  end = lines.end;
+  at_end = lines.at_end;
+  at_too_long = lines.at_too_long;
+}
+
+abbrev told_of : SourceSeen → Bool
+told_of s = s.told
+
+abbrev taken_of : SourceSeen → List ℕ
+taken_of s = s.taken
+
+abbrev left_of : SourceSeen → List ℕ
+left_of s = s.left
+
+abbrev faults_of : SourceSeen → ℕ
+faults_of s = s.faults
+
+abbrev waits_of : SourceSeen → ℕ
+waits_of s = s.waits
+
+fetches_over : {B E : Type 0} (told : B → Bool) (taken left : B → List ℕ) (faults waits : B → ℕ) (old new : LineSource B) (max : ℕ) (result : Result Fetched E)
+    → Fetches told taken left faults waits old new max result
+    → Fetches told_of taken_of left_of faults_of waits_of (over (source_seen told taken left faults waits) old) (over (source_seen told taken left faults waits) new) max result
+fetches_over told taken left faults waits old new max result f = record {
+  handed = record {
+    same_telling = f.handed.same_telling;
+    part = f.handed.part;
+    all_kept = f.handed.all_kept;
+    from_left = f.handed.from_left;
+    into_taken = f.handed.into_taken;
+    faults_stay = f.handed.faults_stay;
+    waits_stay = f.handed.waits_stay;
+  };
+  in_order = f.in_order;
+  each_is_a_line = f.each_is_a_line;
+  cause = f.cause;
+  nothing_left = f.nothing_left;
+  remembers = f.remembers;
+  again = again (line_end_of old) f.again;
+}
+  where
+    again : (known : Option LineEnd) → IfSome known (λ e. (result ≡ Ok (answer_of e)) × (new ≡ old))
+        → IfSome known (λ e. (result ≡ Ok (answer_of e)) × (over (source_seen told taken left faults waits) new ≡ over (source_seen told taken left faults waits) old))
+    again None fact = fact
+    again (Some e) fact = (fact.0, ap (over (source_seen told taken left faults waits)) fact.1)
+
+-- the records of a fetch follow those of the fetches before
+pub reads_on : {B E : Type 0} (told : B → Bool) (taken left : B → List ℕ) (faults waits : B → ℕ) (old new : LineSource B) (max : ℕ) (result : Result Fetched E)
+    → Fetches told taken left faults waits old new max result
+    → ReadsOn (records_in result) (line_seen told taken left faults waits old) (line_seen told taken left faults waits new)
+reads_on told taken left faults waits old new max result f opened earlier before =
+    let seen = source_seen told taken left faults waits in
+    let first : IsReadFrom told_of taken_of left_of faults_of waits_of opened (over seen old) earlier = record {
+      same_telling = before.same_telling;
+      each_is_a_line = before.each_is_a_line;
+      same_bytes = before.same_bytes;
+      to_come = before.to_come;
+      at_end = before.at_end;
+      at_long = before.at_long;
+      at_fault = before.at_fault;
+      faults_stay = before.faults_stay;
+      waits_stay = before.waits_stay;
+    } in
+    let then = read_more told_of taken_of left_of faults_of waits_of opened (over seen old) (over seen new) earlier max result (line_end_of old) refl (fetches_over told taken left faults waits old new max result f) first in
+    record {
+      same_telling = then.same_telling;
+      each_is_a_line = then.each_is_a_line;
+      same_bytes = then.same_bytes;
+      to_come = then.to_come;
+      at_end = then.at_end;
+      at_long = then.at_long;
+      at_fault = then.at_fault;
+      faults_stay = then.faults_stay;
+      waits_stay = then.waits_stay;
+    }
+
+-- a source that was not read
+not_read : (now : LineSeen) → ReadsOn [] now now
+not_read now opened earlier before = rw append-nil before
+
+short_lines : (records : List (List ℕ)) → All IsLine records → All (λ r. length r ≤ max_bytes) records
+short_lines [] each = All-nil (λ r. length r ≤ max_bytes)
+short_lines (r ∷ rs) each = All-cons (λ r. length r ≤ max_bytes) r rs (All-head IsLine r rs each).short (short_lines rs (All-tail IsLine r rs each))
+
+-- what the answer says
+answered : (E : Type 0) (max f f' w w' : ℕ) (held : List ℕ) (known now : Option LineEnd) (x : Fetched)
+    → (IsNone known → FetchHasCause max f f' w w' held x) → IfSome known (λ e. x ≡ answer_of e) → Remembers {E = E} now (Ok x) → All IsLine (records_of x)
+    → IsFetched max w w' held now (came_of x)
+answered E max f f' w w' held None now (Records rs) cause again remembers each =
+    let k = cause refl in
+    let most : 1 ≤ length rs = omega (arith, k.0) in
+    (most, k.1.at_most, k.1, short_lines rs each, λ is. grind arith, λ is. grind arith)
+answered E max f f' w w' held None now NotYet cause again remembers each = ((cause refl).0, remembers)
+answered E max f f' w w' held None now End cause again remembers each = remembers
+answered E max f f' w w' held None now Fault cause again remembers each = remembers
+answered E max f f' w w' held None now TooLong cause again remembers each = remembers
+answered E max f f' w w' held (Some end.End) now (Records rs) cause again remembers each = cc
+answered E max f f' w w' held (Some end.Fault) now (Records rs) cause again remembers each = cc
+answered E max f f' w w' held (Some end.TooLong) now (Records rs) cause again remembers each = cc
+answered E max f f' w w' held (Some end.End) now NotYet cause again remembers each = cc
+answered E max f f' w w' held (Some end.Fault) now NotYet cause again remembers each = cc
+answered E max f f' w w' held (Some end.TooLong) now NotYet cause again remembers each = cc
+answered E max f f' w w' held (Some e) now End cause again remembers each = remembers
+answered E max f f' w w' held (Some e) now Fault cause again remembers each = remembers
+answered E max f f' w w' held (Some e) now TooLong cause again remembers each = remembers
+
+-- an end stays known
+stays : {B : Type 0} (P : LineEnd → Type 0) (old new : LineSource B) (known : Option LineEnd) → line_end_of old ≡ known
+    → IfSome known (λ e. P e × (new ≡ old)) → IfSome known (λ e. line_end_of new ≡ Some e)
+stays P old new None is fact = fact
+stays P old new (Some e) is fact = ap line_end_of fact.1 ∙ is
+
+known_answer : {B : Type 0} (E : Type 0) (old new : LineSource B) (known : Option LineEnd) (x : Fetched) → IfSome known (λ e. (◌≡◌ {A = Result Fetched E} (Ok x) (Ok (answer_of e))) × (new ≡ old)) → IfSome known (λ e. x ≡ answer_of e)
+known_answer E old new None x fact = fact
+known_answer E old new (Some e) x fact = let is = fact.0 in cc
+
+abbrev ok_of : {E : Type 0} → Fetched → Result Fetched E
+ok_of x = Ok x
+
+-- a fetch that answered
+pub fetched_on : {B E : Type 0} (told : B → Bool) (taken left : B → List ℕ) (faults waits : B → ℕ) (old new : LineSource B) (max : ℕ) (x : Fetched) (came : _) → came ≡ came_of x
+    → Fetches told taken left faults waits old new max (ok_of {E = E} x)
+    → FetchesOn max came (line_seen told taken left faults waits old) (line_seen told taken left faults waits new)
+fetched_on {E = E} told taken left faults waits old new max x came is f = rw is (record {
+  reads = by_records x (reads_on told taken left faults waits old new max (Ok x) f);
+  end_stays = stays (λ e. ◌≡◌ {A = Result Fetched E} (Ok x) (Ok (answer_of e))) old new (line_end_of old) refl f.again;
+  answer = answered E max _ _ _ _ (waiting new) (line_end_of old) (line_end_of new) x f.cause (known_answer E old new (line_end_of old) x f.again) f.remembers f.each_is_a_line;
+})
+  where
+    by_records : (x : Fetched) → ReadsOn (records_of x) (line_seen told taken left faults waits old) (line_seen told taken left faults waits new)
+        → ReadsOn (records_in_outcome (came_of x)) (line_seen told taken left faults waits old) (line_seen told taken left faults waits new)
+    by_records (Records rs) h = h
+    by_records NotYet h = h
+    by_records End h = h
+    by_records Fault h = h
+    by_records TooLong h = h
+
+-- a fetch for which memory was wanting
+pub unread : {B E : Type 0} (told : B → Bool) (taken left : B → List ℕ) (faults waits : B → ℕ) (old new : LineSource B) (max : ℕ) (e : E)
+    → Fetches told taken left faults waits old new max (Err e)
+    → IsUnread (line_seen told taken left faults waits old) (line_seen told taken left faults waits new)
+unread told taken left faults waits old new max e f =
+    (reads_on told taken left faults waits old new max (Err e) f, stays (λ x. Err e ≡ Ok (answer_of x)) old new (line_end_of old) refl f.again)
+
+-- a source that no job read
+pub untouched : (now : Option LineSeen) → Both IsUnread now now
+untouched None = tt
+untouched (Some now) = (not_read now, known now.end)
+  where
+    known : (end : Option LineEnd) → IfSome end (λ e. end ≡ Some e)
+    known None = tt
+    known (Some e) = refl

@@ -1,0 +1,13 @@
+use Rattle.std.proofs.Common.{take}
+use Rattle.body_jobs.specs.Batches.{Settles}
+use Rattle.body_jobs.specs.Boxes.{box_of}
+use Rattle.body_jobs.proofs.batch.settle_all.Given as goal
+
+abbrev pub invariant-loop-at : goal.invariant-loop-at
+invariant-loop-at g l =
+    let first = goal.Callback-dyn g (l.initial.callback.vtable, l.initial.callback.value) in
+    let now = goal.Callback-dyn g (l.callback.vtable, l.callback.value) in
+    let a = l.initial.callback.value in
+    let b = l.callback.value in
+    Settles (take l.at l.outcomes) l.settled.items (box_of (first.kind a) (first.spec a) (first.count a) (first.calls a) (first.bad a) (first.told a) (first.said a))
+    (box_of (now.kind b) (now.spec b) (now.count b) (now.calls b) (now.bad b) (now.told b) (now.said b))

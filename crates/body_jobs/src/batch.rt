@@ -1,0 +1,168 @@
+//! Batches.
+
+ghost use Rattle.std.specs.Prelude.{◌≡◌, ◌∷◌, [], IfOk, length, map};
+ghost use Rattle.stage_bodies.specs.Told.{raised_with};
+ghost use Rattle.stage_bodies.specs.Jobs.{KeepsBox};
+ghost use Rattle.stage_job.specs.Told.{reason_by};
+ghost use Rattle.body_jobs.specs.Batches.{Asks, AsksFailed, Settles, Handles};
+ghost use Rattle.body_jobs.specs.Boxes.{box_of};
+
+use pipe_types::bytes::Bytes;
+use pipe_types::message::{Batch, BatchEnd, BatchReply, Message, Outcome, OutcomeList};
+use pipe_types::numbers::MsgNo;
+use pipe_types::reason::Reason;
+use stage_callback::{Callback, FailedReply};
+use std::alloc::{AllocError, Global};
+
+/// The end of a batch and the text to be written, by its callback.
+pub(crate) fn handle_batch(
+    alloc: Global,
+    callback: &mut Box<dyn Callback + Send>,
+    batch: &Batch,
+) -> Result<(BatchEnd, Bytes), AllocError>
+    ensures kept { let old = box_of (kind callback.old) (spec callback.old) (count callback.old) (calls callback.old) (bad callback.old) (told callback.old) (said callback.old) in
+        let new = box_of (kind callback.new) (spec callback.new) (count callback.new) (calls callback.new) (bad callback.new) (told callback.new) (said callback.new) in
+        KeepsBox old new }
+    ensures done { let old = box_of (kind callback.old) (spec callback.old) (count callback.old) (calls callback.old) (bad callback.old) (told callback.old) (said callback.old) in
+        let new = box_of (kind callback.new) (spec callback.new) (count callback.new) (calls callback.new) (bad callback.new) (told callback.new) (said callback.new) in
+        IfOk result (λ r. Handles batch.now.messages r.0 r.1 old new) }
+{
+    let messages = batch.messages.as_slice();
+    match ask(callback, batch)? {
+        BatchReply::Answered(outcomes, text) => {
+            match settle_all(alloc, callback, messages, outcomes.as_slice()) {
+                Ok(settled) => Ok((BatchEnd::Outcomes(settled), text)),
+                Err(e) => Err(e),
+            }
+        }
+        BatchReply::Raised(why) => {
+            let outcomes = fail_all(alloc, messages, why)?;
+            match settle_all(alloc, callback, messages, outcomes.as_slice()) {
+                Ok(settled) => Ok((
+                    BatchEnd::Outcomes(settled),
+                    Bytes::from_vec(Vec::new(alloc)),
+                )),
+                Err(e) => Err(e),
+            }
+        }
+        BatchReply::Crashed => Ok((BatchEnd::Crashed, Bytes::from_vec(Vec::new(alloc)))),
+    }
+}
+
+/// Calls `batch`.
+fn ask(callback: &mut Box<dyn Callback + Send>, batch: &Batch) -> Result<BatchReply, AllocError>
+    ensures kept { let old = box_of (kind callback.old) (spec callback.old) (count callback.old) (calls callback.old) (bad callback.old) (told callback.old) (said callback.old) in
+        let new = box_of (kind callback.new) (spec callback.new) (count callback.new) (calls callback.new) (bad callback.new) (told callback.new) (said callback.new) in
+        KeepsBox old new }
+    ensures done { let old = box_of (kind callback.old) (spec callback.old) (count callback.old) (calls callback.old) (bad callback.old) (told callback.old) (said callback.old) in
+        let new = box_of (kind callback.new) (spec callback.new) (count callback.new) (calls callback.new) (bad callback.new) (told callback.new) (said callback.new) in
+        IfOk result (λ reply. Asks batch.now.messages reply old new) }
+{
+    match callback.batch(batch) {
+        Ok(reply) => Ok(reply),
+        Err(e) => Err(e),
+    }
+}
+
+/// The outcomes of a batch that raised.
+fn fail_all(alloc: Global, messages: &[Message], why: Reason) -> Result<Vec<Outcome>, AllocError>
+    ensures { IfOk result (λ outcomes. outcomes.items ≡ raised_with why messages.now) }
+{
+    let mut outcomes = Vec::with_capacity(alloc, messages.len())?;
+    for _at in 0..messages.len() {
+        outcomes.push(Outcome::Failed(why))?;
+    }
+    Ok(outcomes)
+}
+
+/// The outcomes with the reasons that `failed` leaves the messages that failed.
+fn settle_all(
+    alloc: Global,
+    callback: &mut Box<dyn Callback + Send>,
+    messages: &[Message],
+    outcomes: &[Outcome],
+) -> Result<OutcomeList, AllocError>
+    requires { length messages.now ≡ length outcomes.now }
+    ensures kept { let old = box_of (kind callback.old) (spec callback.old) (count callback.old) (calls callback.old) (bad callback.old) (told callback.old) (said callback.old) in
+        let new = box_of (kind callback.new) (spec callback.new) (count callback.new) (calls callback.new) (bad callback.new) (told callback.new) (said callback.new) in
+        KeepsBox old new }
+    ensures done { let old = box_of (kind callback.old) (spec callback.old) (count callback.old) (calls callback.old) (bad callback.old) (told callback.old) (said callback.old) in
+        let new = box_of (kind callback.new) (spec callback.new) (count callback.new) (calls callback.new) (bad callback.new) (told callback.new) (said callback.new) in
+        IfOk result (λ settled. Settles outcomes.now settled old new) }
+{
+    let mut settled = Vec::with_capacity(alloc, outcomes.len())?;
+    for at in 0..outcomes.len() {
+        let outcome = settle(callback, messages[at].no, outcomes[at])?;
+        settled.push(outcome)?;
+    }
+    Ok(OutcomeList::from_vec(settled))
+}
+
+/// The outcome of one message, after `failed` where it failed.
+fn settle(
+    callback: &mut Box<dyn Callback + Send>,
+    no: MsgNo,
+    outcome: Outcome,
+) -> Result<Outcome, AllocError>
+    ensures kept { let old = box_of (kind callback.old) (spec callback.old) (count callback.old) (calls callback.old) (bad callback.old) (told callback.old) (said callback.old) in
+        let new = box_of (kind callback.new) (spec callback.new) (count callback.new) (calls callback.new) (bad callback.new) (told callback.new) (said callback.new) in
+        KeepsBox old new }
+    ensures done { let old = box_of (kind callback.old) (spec callback.old) (count callback.old) (calls callback.old) (bad callback.old) (told callback.old) (said callback.old) in
+        let new = box_of (kind callback.new) (spec callback.new) (count callback.new) (calls callback.new) (bad callback.new) (told callback.new) (said callback.new) in
+        IfOk result (λ settled. Settles (outcome ∷ []) (settled ∷ []) old new) }
+{
+    match outcome {
+        Outcome::Successful => Ok(Outcome::Successful),
+        Outcome::Failed(why) => match reason_left(callback, no, why) {
+            Ok(reason) => Ok(Outcome::Failed(reason)),
+            Err(e) => Err(e),
+        },
+    }
+}
+
+/// The reason that `failed` leaves a message that failed.
+fn reason_left(
+    callback: &mut Box<dyn Callback + Send>,
+    no: MsgNo,
+    why: Reason,
+) -> Result<Reason, AllocError>
+    ensures kept { let old = box_of (kind callback.old) (spec callback.old) (count callback.old) (calls callback.old) (bad callback.old) (told callback.old) (said callback.old) in
+        let new = box_of (kind callback.new) (spec callback.new) (count callback.new) (calls callback.new) (bad callback.new) (told callback.new) (said callback.new) in
+        KeepsBox old new }
+    ensures done { let old = box_of (kind callback.old) (spec callback.old) (count callback.old) (calls callback.old) (bad callback.old) (told callback.old) (said callback.old) in
+        let new = box_of (kind callback.new) (spec callback.new) (count callback.new) (calls callback.new) (bad callback.new) (told callback.new) (said callback.new) in
+        IfOk result (λ reason. Settles (Outcome.Failed why ∷ []) (Outcome.Failed reason ∷ []) old new) }
+{
+    match show_failed(callback, no, why) {
+        Ok(by) => Ok(reason_after(by, why)),
+        Err(e) => Err(e),
+    }
+}
+
+/// Calls `failed`.
+fn show_failed(
+    callback: &mut Box<dyn Callback + Send>,
+    no: MsgNo,
+    why: Reason,
+) -> Result<FailedReply, AllocError>
+    ensures kept { let old = box_of (kind callback.old) (spec callback.old) (count callback.old) (calls callback.old) (bad callback.old) (told callback.old) (said callback.old) in
+        let new = box_of (kind callback.new) (spec callback.new) (count callback.new) (calls callback.new) (bad callback.new) (told callback.new) (said callback.new) in
+        KeepsBox old new }
+    ensures done { let old = box_of (kind callback.old) (spec callback.old) (count callback.old) (calls callback.old) (bad callback.old) (told callback.old) (said callback.old) in
+        let new = box_of (kind callback.new) (spec callback.new) (count callback.new) (calls callback.new) (bad callback.new) (told callback.new) (said callback.new) in
+        IfOk result (λ by. AsksFailed by old new) }
+{
+    match callback.failed(no, &why) {
+        Ok(by) => Ok(by),
+        Err(e) => Err(e),
+    }
+}
+
+fn reason_after(by: FailedReply, why: Reason) -> Reason
+    ensures { result ≡ reason_by by why }
+{
+    match by {
+        FailedReply::Keep | FailedReply::Raised => why,
+        FailedReply::Replace(other) => other,
+    }
+}
