@@ -1,0 +1,253 @@
+-- What a job's answer makes of its body, beside what the journal says with it.
+use Rattle.std.proofs.Common.{◌≡◌, ℕ, ◌^◌, ◌≤◌, ◌<◌, List, [], ◌∷◌, ◌++◌, length, take, Bool, true, false, refl, ap, sym, ◌∙◌, subst, Some, None, Option, arith, ◌+◌}
+use Rattle.std.specs.Prelude.{not, ◌≢◌, ◌&&◌, nat_lt, IfSome, count_by, ◌||◌}
+use Rattle.std.specs.List.{list_all}
+use Rattle.std.proofs.lemmas.Bool.{eq-eqb, ltb-true}
+use Rattle.std.proofs.lemmas.List.{append-nil, append_assoc}
+use Rattle.std.proofs.lemmas.List.Elements.{All-cons}
+use Rattle.pipe_types.specs.declared.numbers.StageNo.{StageNo}
+use Rattle.pipe_types.specs.declared.numbers.Post.{Post}
+use Rattle.pipe_types.specs.declared.message.Message.{Message}
+use Rattle.pipe_types.specs.declared.message.Reply.{Reply}
+use Rattle.pipe_types.specs.declared.message.BatchEnd.{BatchEnd}
+use Rattle.pipe_types.specs.declared.step.SourceHow.{SourceHow}
+use Rattle.pipe_types.specs.declared.step.SourceHow.TheVariants as how
+use Rattle.pipe_types.specs.declared.step.Step.TheVariants.{Done, Wrote, ChildEnd}
+use Rattle.pipe_types.specs.declared.topology.Kind.{Kind}
+use Rattle.pipe_types.specs.declared.topology.Kind.TheVariants.{Steps, Lines, Own}
+use Rattle.pipe_types.specs.declared.topology.StageSpec.{StageSpec}
+use Rattle.pipe_types.specs.declared.topology.Topology.{Topology}
+use Rattle.pipe_types.specs.Handlers.{counted, count_after_batch, batch_text}
+use Rattle.pipe_types.specs.Numbers.{post, same_post}
+use Rattle.pipe_types.specs.Stages.{spec_of}
+use Rattle.pipe_model.specs.History.{History}
+use Rattle.pipe_model.specs.Lives.{is_live}
+use Rattle.pipe_model.specs.Posts.{is_out}
+use Rattle.pipe_model.specs.Outside.{fed, source_end, sink_text, text_taken}
+use Rattle.pipe_model.specs.Work.{count, batch_of, own_text}
+use Rattle.pipe_model.specs.Legal.{fetch_out, has_role, is_supervisor_role}
+use Rattle.pipe_edges.specs.Cut.{CutsAll}
+use Rattle.pipe_edges.specs.declared.reading.LineEnd.{LineEnd}
+use Rattle.pipe_laws.proofs.Tests.{clash, same_stage-self}
+use Rattle.run_claims.specs.Read.{quiets}
+use Rattle.stage_callback.specs.Callbacks.{is_passed}
+use Rattle.stage_job.specs.Chunks.{RoseBy}
+use Rattle.stage_bodies.specs.Seen.{SourceSeen, LineSeen, SinkSeen, BoxSeen}
+use Rattle.stage_bodies.specs.Reads.{AreReadFrom}
+use Rattle.stage_bodies.specs.Jobs.{KeepsBox, ReadsOn, IsFetched, Fetches, Replies, Ends, Writes, text_by, is_bad_end, reset}
+use Rattle.stage_bodies.specs.declared.job.Outcome.TheVariants as came
+use Rattle.body_laws.specs.Counts.{short_writes, calls_of, bad_of, brought, one_more}
+use Rattle.body_laws.specs.Keeps.{IsKnownEnd, AreFirstHeld, KeepsSource, KeepsSink, IsCounted, KeepsCallback}
+use Rattle.body_laws.specs.Ready.{IsArmed}
+use Rattle.body_laws.proofs.Posts.{same_post-self}
+use Rattle.body_laws.proofs.Steps.{is_present}
+use Rattle.body_laws.proofs.Rises.{rise_stays, rise_more, rise_one, rise_if, count_small, count_done, count_wrote, one_passed}
+
+-- ---- sources
+
+-- the waits of a source never fall
+waits_stay : (opened : SourceSeen) (earlier records : List (List ℕ)) (b c : LineSeen) → AreReadFrom opened b earlier → ReadsOn records b c → b.source.waits ≤ c.source.waits
+waits_stay opened earlier records b c read on =
+    (on (record opened { waits = b.source.waits }) earlier (record {
+      same_telling = read.same_telling;
+      each_is_a_line = read.each_is_a_line;
+      same_bytes = read.same_bytes;
+      to_come = read.to_come;
+      at_end = read.at_end;
+      at_long = read.at_long;
+      at_fault = read.at_fault;
+      faults_stay = read.faults_stay;
+      waits_stay = omega arith;
+    })).waits_stay
+
+-- an end that is known stays known
+end_known : (ended : Option SourceHow) (old new : Option LineEnd) → IfSome old (λ e. new ≡ Some e) → IsKnownEnd ended old → IsKnownEnd ended new
+end_known None old new stays known = tt
+end_known (Some how.End) old new stays known = rw known at stays
+end_known (Some how.Fault) old new stays known = rw known at stays
+end_known (Some how.TooLong) old new stays known = rw known at stays
+end_known (Some how.Limit) old new stays known = known
+
+-- these records were read, and the journal does not have them
+pub source_reads : (before : History) (s : StageNo) (records : List (List ℕ)) (a b c : LineSeen) → KeepsSource before s [] a b → ReadsOn records b c → IfSome b.end (λ e. c.end ≡ Some e) → KeepsSource before s records a c
+source_reads before s records a b c k on stays = record {
+  read = subst (λ r. AreReadFrom a.source c (r ++ records)) (append-nil (fed before s)) (on a.source (fed before s ++ []) k.read);
+  known = end_known (source_end before s) b.end c.end stays k.known;
+  quiet = rise_stays (quiets before s) a.source.waits b.source.waits c.source.waits k.quiet (waits_stay a.source (fed before s ++ []) records b c k.read on);
+  first = k.first;
+}
+
+-- a later journal has them
+pub source_accepts : (before after : History) (s : StageNo) (most : ℕ) (records : List (List ℕ)) (a b c : LineSeen) → fed after s ≡ fed before s ++ records → source_end after s ≡ source_end before s → quiets after s ≡ quiets before s
+    → brought after s ≡ record { asked = fetch_out before s; earlier = fed before s; records = records } ∷ brought before s
+    → most ≡ fetch_out before s → KeepsSource before s [] a b → Fetches most (came.Records records) b c → KeepsSource after s [] a c
+source_accepts before after s most records a b c same_fed same_end same_quiets same_brought is k fetched =
+    let on = source_reads before s records a b c k fetched.reads fetched.end_stays in
+    record {
+      read = rw same_fed (subst (λ r. AreReadFrom a.source c r) (sym (append-nil (fed before s ++ records))) on.read);
+      known = rw same_end on.known;
+      quiet = rw same_quiets on.quiet;
+      first = rw same_brought (All-cons (AreFirstHeld a.source) _ _ (record { source = c; read = on.read; all = subst (λ n. CutsAll n records c.waiting) is fetched.answer.2 }) k.first);
+    }
+
+-- it has one more quiet
+pub source_rests : (before after : History) (s : StageNo) (most : ℕ) (a b c : LineSeen) → fed after s ≡ fed before s → source_end after s ≡ source_end before s → quiets after s ≡ quiets before s + 1 → brought after s ≡ brought before s
+    → KeepsSource before s [] a b → Fetches most came.NotYet b c → KeepsSource after s [] a c
+source_rests before after s most a b c same_fed same_end same_quiets same_brought k fetched =
+    let on = source_reads before s [] a b c k fetched.reads fetched.end_stays in
+    record {
+      read = rw same_fed on.read;
+      known = rw same_end on.known;
+      quiet = rw same_quiets (rise_one (quiets before s) a.source.waits b.source.waits c.source.waits k.quiet fetched.answer.0 (waits_stay a.source (fed before s ++ []) [] b c k.read fetched.reads));
+      first = rw same_brought k.first;
+    }
+
+-- it has the end
+pub source_ends : (before after : History) (s : StageNo) (most : ℕ) (h : SourceHow) (a b c : LineSeen) → fed after s ≡ fed before s → source_end after s ≡ Some h → quiets after s ≡ quiets before s → brought after s ≡ brought before s
+    → KeepsSource before s [] a b → Fetches most (came.Ended h) b c → KeepsSource after s [] a c
+source_ends before after s most h a b c same_fed same_end same_quiets same_brought k fetched =
+    let on = source_reads before s [] a b c k fetched.reads fetched.end_stays in
+    record {
+      read = rw same_fed on.read;
+      known = rw same_end (by_how h fetched.answer);
+      quiet = rw same_quiets on.quiet;
+      first = rw same_brought k.first;
+    }
+  where
+    by_how : (h : SourceHow) → IsFetched most b.source.waits c.source.waits c.waiting c.end (came.Ended h) → IsKnownEnd (Some h) c.end
+    by_how how.End known = known
+    by_how how.Fault known = known
+    by_how how.TooLong known = known
+    by_how how.Limit known = known
+
+-- ---- sinks
+
+-- these bytes were written, and the journal does not have them
+pub sink_writes : (topology : Topology) (before : History) (s : StageNo) (bytes : ℕ) (text : List ℕ) (a b c : SinkSeen) → KeepsSink topology before s [] a b → Writes bytes text b c → KeepsSink topology before s (take bytes text) a c
+sink_writes topology before s bytes text a b c k written = record {
+  told = written.told ∙ k.told;
+  held = λ t. written.held (rw k.told t) ∙ ap (λ z. z ++ take bytes text) (k.held t) ∙ append_assoc a.held (sink_text topology before s ++ []) (take bytes text) ∙ ap (λ z. a.held ++ (z ++ take bytes text)) (append-nil (sink_text topology before s));
+  faults_stay = let one = k.faults_stay in let two = written.faults_stay in omega (arith, one, two);
+  short = rise_stays (short_writes topology before s) a.faults b.faults c.faults k.short written.faults_stay;
+}
+
+-- a later journal has them
+pub sink_wrote : (topology : Topology) (before after : History) (s : StageNo) (bytes : ℕ) (text : List ℕ) (end : BatchEnd) (a b c : SinkSeen) → sink_text topology after s ≡ sink_text topology before s ++ take bytes (text_taken topology before s end)
+    → short_writes topology after s ≡ one_more (nat_lt bytes (length (text_taken topology before s end))) (short_writes topology before s) → text ≡ text_taken topology before s end → KeepsSink topology before s [] a b → Writes bytes text b c → KeepsSink topology after s [] a c
+sink_wrote topology before after s bytes text end a b c same_text same_short is k written =
+    let on = sink_writes topology before s bytes text a b c k written in
+    record {
+      told = on.told;
+      held = λ t. rw same_text (on.held t ∙ ap (λ z. a.held ++ (sink_text topology before s ++ take bytes z)) is ∙ ap (λ z. a.held ++ z) (sym (append-nil (sink_text topology before s ++ take bytes (text_taken topology before s end)))));
+      faults_stay = on.faults_stay;
+      short = rw same_short (rise_if (nat_lt bytes (length (text_taken topology before s end))) (short_writes topology before s) a.faults b.faults c.faults k.short
+          (λ low. written.short (subst (λ z. bytes < length z) (sym is) (ltb-true bytes (length (text_taken topology before s end)) low))) written.faults_stay);
+    }
+
+-- the text by the callback is the text by the journal
+pub text_is_taken : (topology : Topology) (before : History) (s : StageNo) (end : BatchEnd) (spec : StageSpec) (messages : List Message) (box : BoxSeen) → spec_of topology s ≡ Some spec → has_role topology s is_supervisor_role ≡ false → (is_live topology before s || is_out before (post s 0)) ≡ true
+    → messages ≡ batch_of topology before s → IsArmed topology before s spec box → text_by box.kind box messages end ≡ text_taken topology before s end
+text_is_taken topology before s end spec messages box e calm present is armed = by_kind box.kind refl
+  where
+    built_in : (kind : Kind) → box.kind ≡ kind → (kind ≡ Own → ⊥) → batch_text box.spec box.count messages ≡ batch_text spec (count topology before s) (batch_of topology before s)
+    built_in kind k other =
+        ap (λ n. batch_text box.spec n messages) (armed.count (λ own. other (sym k ∙ own)) calm present) ∙ ap (λ x. batch_text x (count topology before s) messages) armed.spec
+        ∙ ap (λ ms. batch_text spec (count topology before s) ms) is
+
+    by_kind : (kind : Kind) → box.kind ≡ kind → text_by kind box messages end ≡ text_taken topology before s end
+    by_kind Own k = rw (e, (sym armed.kind ∙ k)) (ap (λ ms. own_text ms end) is)
+    by_kind Steps k =
+        let is_so : spec.kind ≡ Steps = sym armed.kind ∙ k in
+        rw (e, is_so) (built_in Steps k (λ x. cc) ∙ ap (λ x. batch_text x (count topology before s) (batch_of topology before s)) (λ i. record spec { kind = is_so i }))
+    by_kind Lines k =
+        let is_so : spec.kind ≡ Lines = sym armed.kind ∙ k in
+        rw (e, is_so) (built_in Lines k (λ x. cc) ∙ ap (λ x. batch_text x (count topology before s) (batch_of topology before s)) (λ i. record spec { kind = is_so i }))
+
+-- ---- callbacks
+
+pub box_then : (a b c : BoxSeen) → KeepsBox a b → KeepsBox b c → KeepsBox a c
+box_then a b c h k = record {
+  kind = k.kind ∙ h.kind;
+  spec = k.spec ∙ h.spec;
+  told = k.told ∙ h.told;
+  calls = let one = h.calls in let two = k.calls in omega (arith, one, two);
+  bad = let one = h.bad in let two = k.bad in omega (arith, one, two);
+  no_calls = λ own. k.no_calls (λ e. own (sym h.kind ∙ e)) ∙ h.no_calls own;
+  no_bad = λ own. k.no_bad (λ e. own (sym h.kind ∙ e)) ∙ h.no_bad own;
+}
+
+-- a child's callback begins at a count of 0
+pub box_reset : (a b : BoxSeen) → KeepsBox (reset a) b → KeepsBox a b
+box_reset a b k = record {
+  kind = k.kind;
+  spec = k.spec;
+  told = k.told;
+  calls = k.calls;
+  bad = k.bad;
+  no_calls = k.no_calls;
+  no_bad = k.no_bad;
+}
+
+pub self_post : (p : Post) → p.slot ≡ 0 → same_post p (post p.stage 0) ≡ true
+self_post p e = rw (same_stage-self p.stage) (eq-eqb p.slot 0 e)
+
+-- the count after replies
+pub counts_done : (topology : Topology) (before : History) (s : StageNo) (messages : List Message) (replies : List Reply) (b c : BoxSeen) → is_live topology before s ≡ true → IsCounted topology before s b → Replies messages replies b c → IsCounted topology (Done s replies ∷ before) s c
+counts_done topology before s messages replies b c live counted_so done = λ own calm now.
+    let built_in : b.kind ≢ Own = λ e. own (done.kept.kind ∙ e) in
+    let is : b.count ≡ count topology before s = counted_so built_in calm (is_present topology before s live) in
+    let small : b.count < 2 ^ 64 = subst (λ n. n < 2 ^ 64) (sym is) (count_small topology before s) in
+    done.count built_in small ∙ ap (λ n. counted n (length replies)) is ∙ sym (count_done topology before s replies)
+
+pub counts_wrote : (topology : Topology) (before : History) (s : StageNo) (spec : StageSpec) (bytes : ℕ) (end : BatchEnd) (has_sink : Bool) (messages : List Message) (b c : BoxSeen) → spec_of topology s ≡ Some spec → messages ≡ batch_of topology before s
+    → is_live topology before s ≡ true → IsArmed topology before s spec b → Ends messages bytes end has_sink b c → IsCounted topology (Wrote s bytes end ∷ before) s c
+counts_wrote topology before s spec bytes end has_sink messages b c e is live armed done = λ own calm now.
+    let built_in : b.kind ≢ Own = λ k. own (done.kept.kind ∙ k) in
+    let same : b.count ≡ count topology before s = armed.count built_in calm (is_present topology before s live) in
+    let small : b.count < 2 ^ 64 = subst (λ n. n < 2 ^ 64) (sym same) (count_small topology before s) in
+    done.count built_in small ∙ ap (λ n. count_after_batch b.spec n messages) same ∙ ap (λ x. count_after_batch x (count topology before s) messages) armed.spec
+    ∙ ap (λ ms. count_after_batch spec (count topology before s) ms) is ∙ sym (count_wrote topology before s bytes end spec e)
+
+pub callback_done : (topology : Topology) (before : History) (p : Post) (messages : List Message) (replies : List Reply) (a b c : BoxSeen) → p.slot ≡ 0 → is_live topology before p.stage ≡ true → KeepsCallback topology before p a b → Replies messages replies b c
+    → KeepsCallback topology (Done p.stage replies ∷ before) p a c
+callback_done topology before p messages replies a b c first live k done = record {
+  kept = box_then a b c k.kept done.kept;
+  count = counts_done topology before p.stage messages replies b c live k.count done;
+  calls = λ own. let own_before : b.kind ≡ Own = sym done.kept.kind ∙ own in
+      rw (self_post p first) (rise_more (calls_of before p) (count_by is_passed replies) a.calls b.calls c.calls (k.calls own_before) (done.calls own_before) done.kept.calls);
+  bad = λ own. let own_before : b.kind ≡ Own = sym done.kept.kind ∙ own in
+      rw (self_post p first) (rise_if (not (list_all is_passed replies)) (bad_of before p) a.bad b.bad c.bad (k.bad own_before) (λ some. done.bad own_before (turned (list_all is_passed replies) some)) done.kept.bad);
+}
+  where
+    turned : (t : Bool) → not t ≡ true → t ≡ false
+    turned true e = cc
+    turned false e = refl
+
+pub callback_wrote : (topology : Topology) (before : History) (p : Post) (spec : StageSpec) (bytes : ℕ) (end : BatchEnd) (has_sink : Bool) (messages : List Message) (a b c : BoxSeen) → p.slot ≡ 0 → spec_of topology p.stage ≡ Some spec → messages ≡ batch_of topology before p.stage
+    → is_live topology before p.stage ≡ true → IsArmed topology before p.stage spec b → KeepsCallback topology before p a b → Ends messages bytes end has_sink b c → KeepsCallback topology (Wrote p.stage bytes end ∷ before) p a c
+callback_wrote topology before p spec bytes end has_sink messages a b c first e is live armed k done = record {
+  kept = box_then a b c k.kept done.kept;
+  count = counts_wrote topology before p.stage spec bytes end has_sink messages b c e is live armed done;
+  calls = λ own. let own_before : b.kind ≡ Own = sym done.kept.kind ∙ own in
+      rw (self_post p first) (rise_one (calls_of before p) a.calls b.calls c.calls (k.calls own_before) (done.calls own_before) done.kept.calls);
+  bad = λ own. let own_before : b.kind ≡ Own = sym done.kept.kind ∙ own in
+      rw (self_post p first) (rise_if (is_bad_end end) (bad_of before p) a.bad b.bad c.bad (k.bad own_before) (λ bad. done.bad own_before bad) done.kept.bad);
+}
+
+pub callback_child : (topology : Topology) (before : History) (p : Post) (message : Message) (reply : Reply) (a b c : BoxSeen) → has_role topology p.stage is_supervisor_role ≡ true → KeepsCallback topology before p a b → Replies (message ∷ []) (reply ∷ []) (reset b) c
+    → KeepsCallback topology (ChildEnd p.stage p.slot reply ∷ before) p a c
+callback_child topology before p message reply a b c child k done = record {
+  kept = box_then a b c k.kept (box_reset b c done.kept);
+  count = λ own calm live. clash (has_role topology p.stage is_supervisor_role) child calm;
+  calls = λ own. let own_before : b.kind ≡ Own = sym done.kept.kind ∙ own in
+      rw (same_post-self p) (subst (λ n. RoseBy n a.calls c.calls) (one_passed reply (calls_of before p)) (rise_more (calls_of before p) (count_by is_passed (reply ∷ [])) a.calls b.calls c.calls (k.calls own_before) (done.calls own_before) done.kept.calls));
+  bad = λ own. let own_before : b.kind ≡ Own = sym done.kept.kind ∙ own in
+      rw (same_post-self p) (rise_if (not (is_passed reply)) (bad_of before p) a.bad b.bad c.bad (k.bad own_before) (λ some. done.bad own_before (turned (is_passed reply) some)) done.kept.bad);
+}
+  where
+    turned : (t : Bool) → not t ≡ true → (t && true) ≡ false
+    turned true e = cc
+    turned false e = refl
+
+pub box_stays : (topology : Topology) (before : History) (p : Post) (a b c : BoxSeen) → KeepsCallback topology before p a b → KeepsBox b c → KeepsBox a c
+box_stays topology before p a b c k on = box_then a b c k.kept on

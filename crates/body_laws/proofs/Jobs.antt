@@ -1,0 +1,410 @@
+-- The bodies of posts when their jobs begin, and what answers leave of them.
+use Rattle.std.proofs.Common.{◌≡◌, ℕ, List, [], ◌∷◌, take, Bool, true, false, refl, ap, sym, ◌∙◌, subst, Some, None, Option}
+use Rattle.std.specs.Prelude.{not, IsSome, is_some, ◌||◌, IfSome}
+use Rattle.pipe_types.specs.declared.numbers.StageNo.{StageNo}
+use Rattle.pipe_types.specs.declared.numbers.Post.{Post}
+use Rattle.pipe_types.specs.declared.message.Message.{Message}
+use Rattle.pipe_types.specs.declared.message.Reply.{Reply}
+use Rattle.pipe_types.specs.declared.message.BatchEnd.{BatchEnd}
+use Rattle.pipe_types.specs.declared.step.Step.{Step}
+use Rattle.pipe_types.specs.declared.step.Step.TheVariants.{Fetch, Accept, Quiet, SourceEnd, Take, Done, Wrote, Child, ChildEnd, Late, Restart}
+use Rattle.pipe_types.specs.declared.topology.Role.{Role}
+use Rattle.pipe_types.specs.declared.topology.Role.TheVariants.{Producer, Processor, Supervisor, Batcher, BatchProcessor}
+use Rattle.pipe_types.specs.declared.topology.StageSpec.{StageSpec}
+use Rattle.pipe_types.specs.declared.topology.Topology.{Topology}
+use Rattle.pipe_types.specs.Numbers.{post}
+use Rattle.pipe_types.specs.Stages.{spec_of}
+use Rattle.pipe_types.specs.Sound.{IsSound}
+use Rattle.pipe_model.specs.History.{History}
+use Rattle.pipe_model.specs.Lives.{is_live, restarts}
+use Rattle.pipe_model.specs.Posts.{puts_out, answers, is_out}
+use Rattle.pipe_model.specs.Outside.{fed, source_end, sink_text}
+use Rattle.pipe_model.specs.Work.{count, batch_of}
+use Rattle.pipe_model.specs.Legal.{fetch_out, is_legal, allows, has_role, has_ended, is_producer_role, is_processor_role, is_supervisor_role, is_batch_processor_role}
+use Rattle.pipe_laws.proofs.Tests.{clash, and_left, and_right, not_true, same_stage-self}
+use Rattle.pipe_laws.proofs.Allowed.{legal_step, unowed, take_facts, child_facts}
+use Rattle.run_claims.specs.Read.{quiets}
+use Rattle.stage_bodies.specs.Seen.{LineSeen, SinkSeen, BoxSeen, BodySeen}
+use Rattle.stage_bodies.specs.Jobs.{Both, KeepsBox, Fetches, EndsIn, Writes, IsDone, IsCutOff, records_of, text_by, Fits}
+use Rattle.stage_bodies.specs.Posts.{place_at, IsWorkOf, step_of}
+use Rattle.stage_bodies.specs.declared.job.Work.{Work}
+use Rattle.stage_bodies.specs.declared.job.Work.TheVariants as work
+use Rattle.stage_bodies.specs.declared.job.Outcome.{Outcome as Came}
+use Rattle.stage_bodies.specs.declared.job.Outcome.TheVariants as came
+use Rattle.body_laws.specs.Counts.{brought, short_writes, calls_of, bad_of}
+use Rattle.body_laws.specs.Keeps.{has_post, is_silent, KeepsSource, KeepsSink, KeepsCallback, KeepsBody, KeepsPartly, KeepsPost, Keeps}
+use Rattle.body_laws.specs.Ready.{There, IsArmed, IsBodyFor, IsBodyAt, Ready}
+use Rattle.body_laws.proofs.Posts.{same_post-true, some_role, put_has_post}
+use Rattle.body_laws.proofs.Steps.{writers_alone, stays, is_present}
+use Rattle.body_laws.proofs.Staying.{both_map, both_then, there_map, Quietly, post_stays, ready_stays}
+use Rattle.body_laws.proofs.Answering.{source_reads, source_accepts, source_rests, source_ends, sink_writes, sink_wrote, text_is_taken, callback_done, callback_wrote, callback_child, counts_done, counts_wrote, box_then, box_reset}
+
+-- ---- silent steps
+
+pub silent_quietly : (topology : Topology) (step : Step) → IsSound topology → is_silent step ≡ true → Quietly topology step
+silent_quietly topology step sound calm = record { unanswered = λ p here. unanswered step p here calm; unrestarted = λ p. unrestarted step p calm }
+  where
+    unanswered : (step : Step) (p : Post) → has_post topology p ≡ true → is_silent step ≡ true → answers step p ≡ false
+    unanswered (Accept t records) p here e = cc
+    unanswered (Quiet t) p here e = cc
+    unanswered (SourceEnd t how) p here e = rw e refl
+    unanswered (Done t replies) p here e = cc
+    unanswered (Wrote t bytes end) p here e = cc
+    unanswered (ChildEnd t slot reply) p here e = cc
+    unanswered (Late t slot i answer) p here e = cc
+    unanswered (Restart t) p here e = cc
+    unanswered _ p here e = refl
+
+    unrestarted : (step : Step) (p : Post) → is_silent step ≡ true → restarts step p.stage ≡ false
+    unrestarted (Restart t) p e = cc
+    unrestarted _ p e = refl
+
+-- ---- a post that goes out was at home
+
+put_was_home : (topology : Topology) (before : History) (step : Step) (p : Post) → allows topology before step ≡ true → puts_out step p ≡ true → is_out before p ≡ false
+put_was_home topology before (Fetch t n) p h e =
+    let one = and_right (is_live topology before t) _ (unowed topology before (Fetch t n) (λ s. refl) (λ s. refl) h) in
+    let two = and_right (has_role topology t is_producer_role) _ one in
+    let three = and_right (not (has_ended before t)) _ two in
+    ap (is_out before) (same_post-true p (post t 0) e) ∙ not_true (is_out before (post t 0)) (and_left (not (is_out before (post t 0))) _ three)
+put_was_home topology before (Take t u k) p h e = ap (is_out before) (same_post-true p (post t 0) e) ∙ (take_facts topology before t u k h).free
+put_was_home topology before (Child t m slot) p h e = ap (is_out before) (same_post-true p (post t slot) e) ∙ (child_facts topology before t m slot h).free
+put_was_home topology before step p h e = cc
+
+put_is_silent : (step : Step) (p : Post) → puts_out step p ≡ true → is_silent step ≡ true
+put_is_silent (Fetch t n) p e = refl
+put_is_silent (Take t u k) p e = refl
+put_is_silent (Child t m slot) p e = refl
+put_is_silent step p e = cc
+
+-- its body stands where the journal leaves it
+pub begun_keeps : (topology : Topology) (before : History) (step : Step) (p : Post) (opened now : ℕ → Option BodySeen) → IsSound topology → is_legal topology (step ∷ before) ≡ true → puts_out step p ≡ true
+    → Keeps topology before opened now → Both (KeepsBody topology (step ∷ before) p) (opened (place_at p)) (now (place_at p))
+begun_keeps topology before step p opened now sound legal put keeps =
+    let here = put_has_post topology before step p.stage p.slot legal put in
+    let calm = silent_quietly topology step sound (put_is_silent step p put) in
+    post_stays topology before step p false (opened (place_at p)) (now (place_at p)) (stays topology before step p sound legal here (calm.unanswered p here) (calm.unrestarted p))
+    (subst (λ b. KeepsPost topology before p b (opened (place_at p)) (now (place_at p))) (put_was_home topology before step p (legal_step topology before step legal) put) (keeps p here))
+
+-- and holds what the job needs
+pub begun_ready : (topology : Topology) (before : History) (step : Step) (p : Post) (now : ℕ → Option BodySeen) → IsSound topology → is_legal topology (step ∷ before) ≡ true → puts_out step p ≡ true
+    → Ready topology before now → There (now (place_at p)) (IsBodyAt topology (step ∷ before) p)
+begun_ready topology before step p now sound legal put ready =
+    let here = put_has_post topology before step p.stage p.slot legal put in
+    let calm = silent_quietly topology step sound (put_is_silent step p put) in
+    there_map (λ body h. ready_stays topology before step p body (stays topology before step p sound legal here (calm.unanswered p here) (calm.unrestarted p)) h) (now (place_at p))
+    (ready p here (put_was_home topology before step p (legal_step topology before step legal) put))
+
+-- ---- what a body of a role holds
+
+pub record Fit (topology : Topology) (before : History) (p : Post) (test : Role → Bool) (body : BodySeen) : Type 0 where
+  pub spec : StageSpec
+  pub is : spec_of topology p.stage ≡ Some spec
+  pub role : test spec.role ≡ true
+  pub holds : IsBodyFor topology before p.stage spec spec.role body
+
+pub fit_of : (topology : Topology) (before : History) (p : Post) (test : Role → Bool) (body : BodySeen) → has_role topology p.stage test ≡ true → IsBodyAt topology before p body → Fit topology before p test body
+fit_of topology before p test body h fit =
+    let found = some_role topology p.stage test h in
+    record {
+      spec = found.0;
+      is = found.1;
+      role = found.2;
+      holds = subst (λ o. There o (λ spec. IsBodyFor topology before p.stage spec spec.role body)) found.1 fit;
+    }
+
+pub fit_at : (topology : Topology) (before : History) (p : Post) (spec : StageSpec) (body : BodySeen) → spec_of topology p.stage ≡ Some spec → IsBodyFor topology before p.stage spec spec.role body → IsBodyAt topology before p body
+fit_at topology before p spec body e h = subst (λ o. There o (λ spec. IsBodyFor topology before p.stage spec spec.role body)) (sym e) h
+
+pub source_for : (topology : Topology) (before : History) (s : StageNo) (spec : StageSpec) (r : Role) (body : BodySeen) → is_producer_role r ≡ true → IsBodyFor topology before s spec r body → IsSome body.source
+source_for topology before s spec Producer body e h = h
+source_for topology before s spec Processor body e h = let x : false ≡ true = e in cc
+source_for topology before s spec Supervisor body e h = let x : false ≡ true = e in cc
+source_for topology before s spec Batcher body e h = let x : false ≡ true = e in cc
+source_for topology before s spec BatchProcessor body e h = let x : false ≡ true = e in cc
+
+pub for_source : (topology : Topology) (before : History) (s : StageNo) (spec : StageSpec) (r : Role) (body : BodySeen) → is_producer_role r ≡ true → IsSome body.source → IsBodyFor topology before s spec r body
+for_source topology before s spec Producer body e h = h
+for_source topology before s spec Processor body e h = let x : false ≡ true = e in cc
+for_source topology before s spec Supervisor body e h = let x : false ≡ true = e in cc
+for_source topology before s spec Batcher body e h = let x : false ≡ true = e in cc
+for_source topology before s spec BatchProcessor body e h = let x : false ≡ true = e in cc
+
+pub chunk_for : (topology : Topology) (before : History) (s : StageNo) (spec : StageSpec) (r : Role) (body : BodySeen) → is_processor_role r ≡ true → IsBodyFor topology before s spec r body → There body.callback (IsArmed topology before s spec)
+chunk_for topology before s spec Processor body e h = h
+chunk_for topology before s spec Producer body e h = let x : false ≡ true = e in cc
+chunk_for topology before s spec Supervisor body e h = let x : false ≡ true = e in cc
+chunk_for topology before s spec Batcher body e h = let x : false ≡ true = e in cc
+chunk_for topology before s spec BatchProcessor body e h = let x : false ≡ true = e in cc
+
+pub for_chunk : (topology : Topology) (before : History) (s : StageNo) (spec : StageSpec) (r : Role) (body : BodySeen) → is_processor_role r ≡ true → There body.callback (IsArmed topology before s spec) → IsBodyFor topology before s spec r body
+for_chunk topology before s spec Processor body e h = h
+for_chunk topology before s spec Producer body e h = let x : false ≡ true = e in cc
+for_chunk topology before s spec Supervisor body e h = let x : false ≡ true = e in cc
+for_chunk topology before s spec Batcher body e h = let x : false ≡ true = e in cc
+for_chunk topology before s spec BatchProcessor body e h = let x : false ≡ true = e in cc
+
+pub child_for : (topology : Topology) (before : History) (s : StageNo) (spec : StageSpec) (r : Role) (body : BodySeen) → is_supervisor_role r ≡ true → IsBodyFor topology before s spec r body → There body.callback (IsArmed topology before s spec)
+child_for topology before s spec Supervisor body e h = h
+child_for topology before s spec Producer body e h = let x : false ≡ true = e in cc
+child_for topology before s spec Processor body e h = let x : false ≡ true = e in cc
+child_for topology before s spec Batcher body e h = let x : false ≡ true = e in cc
+child_for topology before s spec BatchProcessor body e h = let x : false ≡ true = e in cc
+
+pub for_child : (topology : Topology) (before : History) (s : StageNo) (spec : StageSpec) (r : Role) (body : BodySeen) → is_supervisor_role r ≡ true → There body.callback (IsArmed topology before s spec) → IsBodyFor topology before s spec r body
+for_child topology before s spec Supervisor body e h = h
+for_child topology before s spec Producer body e h = let x : false ≡ true = e in cc
+for_child topology before s spec Processor body e h = let x : false ≡ true = e in cc
+for_child topology before s spec Batcher body e h = let x : false ≡ true = e in cc
+for_child topology before s spec BatchProcessor body e h = let x : false ≡ true = e in cc
+
+pub batch_for : (topology : Topology) (before : History) (s : StageNo) (spec : StageSpec) (r : Role) (body : BodySeen) → is_batch_processor_role r ≡ true → IsBodyFor topology before s spec r body → There body.callback (IsArmed topology before s spec) × (is_some body.sink ≡ is_some spec.edge)
+batch_for topology before s spec BatchProcessor body e h = h
+batch_for topology before s spec Producer body e h = let x : false ≡ true = e in cc
+batch_for topology before s spec Processor body e h = let x : false ≡ true = e in cc
+batch_for topology before s spec Supervisor body e h = let x : false ≡ true = e in cc
+batch_for topology before s spec Batcher body e h = let x : false ≡ true = e in cc
+
+pub for_batch : (topology : Topology) (before : History) (s : StageNo) (spec : StageSpec) (r : Role) (body : BodySeen) → is_batch_processor_role r ≡ true → There body.callback (IsArmed topology before s spec) × (is_some body.sink ≡ is_some spec.edge) → IsBodyFor topology before s spec r body
+for_batch topology before s spec BatchProcessor body e h = h
+for_batch topology before s spec Producer body e h = let x : false ≡ true = e in cc
+for_batch topology before s spec Processor body e h = let x : false ≡ true = e in cc
+for_batch topology before s spec Supervisor body e h = let x : false ≡ true = e in cc
+for_batch topology before s spec Batcher body e h = let x : false ≡ true = e in cc
+
+pub source_there : (topology : Topology) (before : History) (p : Post) (body : BodySeen) → has_role topology p.stage is_producer_role ≡ true → IsBodyAt topology before p body → IsSome body.source
+source_there topology before p body h fit = let f = fit_of topology before p is_producer_role body h fit in source_for topology before p.stage f.spec f.spec.role body f.role f.holds
+
+pub record Armed (topology : Topology) (before : History) (p : Post) (body : BodySeen) : Type 0 where
+  pub spec : StageSpec
+  pub is : spec_of topology p.stage ≡ Some spec
+  pub box : There body.callback (IsArmed topology before p.stage spec)
+
+pub chunk_armed : (topology : Topology) (before : History) (p : Post) (body : BodySeen) → has_role topology p.stage is_processor_role ≡ true → IsBodyAt topology before p body → Armed topology before p body
+chunk_armed topology before p body h fit =
+    let f = fit_of topology before p is_processor_role body h fit in
+    record { spec = f.spec; is = f.is; box = chunk_for topology before p.stage f.spec f.spec.role body f.role f.holds }
+
+pub child_armed : (topology : Topology) (before : History) (p : Post) (body : BodySeen) → has_role topology p.stage is_supervisor_role ≡ true → IsBodyAt topology before p body → Armed topology before p body
+child_armed topology before p body h fit =
+    let f = fit_of topology before p is_supervisor_role body h fit in
+    record { spec = f.spec; is = f.is; box = child_for topology before p.stage f.spec f.spec.role body f.role f.holds }
+
+pub batch_armed : (topology : Topology) (before : History) (p : Post) (body : BodySeen) → has_role topology p.stage is_batch_processor_role ≡ true → IsBodyAt topology before p body → Armed topology before p body
+batch_armed topology before p body h fit =
+    let f = fit_of topology before p is_batch_processor_role body h fit in
+    record { spec = f.spec; is = f.is; box = (batch_for topology before p.stage f.spec f.spec.role body f.role f.holds).0 }
+
+-- ---- what the journal says as before, after another step
+
+pub source_as : (h h' : History) (s : StageNo) (a b : LineSeen) → fed h' s ≡ fed h s → source_end h' s ≡ source_end h s → quiets h' s ≡ quiets h s → brought h' s ≡ brought h s → KeepsSource h s [] a b → KeepsSource h' s [] a b
+source_as h h' s a b e f g i k = record { read = rw e k.read; known = rw f k.known; quiet = rw g k.quiet; first = rw i k.first }
+
+pub sink_as : (topology : Topology) (h h' : History) (s : StageNo) (a b : SinkSeen) → sink_text topology h' s ≡ sink_text topology h s → short_writes topology h' s ≡ short_writes topology h s → KeepsSink topology h s [] a b → KeepsSink topology h' s [] a b
+sink_as topology h h' s a b e f k = record { told = k.told; held = λ t. rw e (k.held t); faults_stay = k.faults_stay; short = rw f k.short }
+
+callback_as : (topology : Topology) (h h' : History) (p : Post) (a b : BoxSeen) → count topology h' p.stage ≡ count topology h p.stage → ((is_live topology h' p.stage || is_out h' (post p.stage 0)) ≡ true → (is_live topology h p.stage || is_out h (post p.stage 0)) ≡ true) → calls_of h' p ≡ calls_of h p → bad_of h' p ≡ bad_of h p
+    → KeepsCallback topology h p a b → KeepsCallback topology h' p a b
+callback_as topology h h' p a b e l f g k = record {
+  kept = k.kept;
+  count = λ own calm now. k.count own calm (l now) ∙ sym e;
+  calls = λ own. rw f (k.calls own);
+  bad = λ own. rw g (k.bad own);
+}
+
+-- ---- no other answers
+
+pub no_fetch : (most : ℕ) (o : Came) (x y : Option LineSeen) → ((b c : LineSeen) → Fetches most o b c → ⊥) → IsSome x → Both (Fetches most o) x y → ⊥
+no_fetch most o (Some b) (Some c) f h k = f b c k
+no_fetch most o (Some b) None f h k = k
+no_fetch most o None y f h k = let x : false ≡ true = h in cc
+
+-- ---- the body with its answer in the journal
+
+fetched_body : (topology : Topology) (before : History) (p : Post) (most : ℕ) (o : Came) (a old new : BodySeen) → is_live topology before p.stage ≡ true → most ≡ fetch_out before p.stage → IsSome old.source → IsDone (work.Fetch most) o old new → KeepsBody topology before p a old
+    → KeepsBody topology (step_of p o ∷ before) p a new
+fetched_body topology before p most (came.Records records) a old new live is there done k = record {
+  source = both_then (λ x y z h f. source_accepts before (Accept p.stage records ∷ before) p.stage most records x y z (rw (same_stage-self p.stage) refl) refl refl (rw (same_stage-self p.stage) refl) is h f) a.source old.source new.source k.source done.0;
+  sink = subst (λ x. Both (KeepsSink topology (Accept p.stage records ∷ before) p.stage []) a.sink x) (sym done.1) (both_map (λ x y h. sink_as topology before (Accept p.stage records ∷ before) p.stage x y refl refl h) a.sink old.sink k.sink);
+  callback = subst (λ x. Both (KeepsCallback topology (Accept p.stage records ∷ before) p) a.callback x) (sym done.2) (both_map (λ x y h. callback_as topology before (Accept p.stage records ∷ before) p x y refl (λ now. is_present topology before p.stage live) refl refl h) a.callback old.callback k.callback);
+}
+fetched_body topology before p most came.NotYet a old new live is there done k = record {
+  source = both_then (λ x y z h f. source_rests before (Quiet p.stage ∷ before) p.stage most x y z refl refl (rw (same_stage-self p.stage) refl) refl h f) a.source old.source new.source k.source done.0;
+  sink = subst (λ x. Both (KeepsSink topology (Quiet p.stage ∷ before) p.stage []) a.sink x) (sym done.1) (both_map (λ x y h. sink_as topology before (Quiet p.stage ∷ before) p.stage x y refl refl h) a.sink old.sink k.sink);
+  callback = subst (λ x. Both (KeepsCallback topology (Quiet p.stage ∷ before) p) a.callback x) (sym done.2) (both_map (λ x y h. callback_as topology before (Quiet p.stage ∷ before) p x y refl (λ now. is_present topology before p.stage live) refl refl h) a.callback old.callback k.callback);
+}
+fetched_body topology before p most (came.Ended h) a old new live is there done k = record {
+  source = both_then (λ x y z k f. source_ends before (SourceEnd p.stage h ∷ before) p.stage most h x y z refl (rw (same_stage-self p.stage) refl) refl refl k f) a.source old.source new.source k.source done.0;
+  sink = subst (λ x. Both (KeepsSink topology (SourceEnd p.stage h ∷ before) p.stage []) a.sink x) (sym done.1) (both_map (λ x y k. sink_as topology before (SourceEnd p.stage h ∷ before) p.stage x y refl refl k) a.sink old.sink k.sink);
+  callback = subst (λ x. Both (KeepsCallback topology (SourceEnd p.stage h ∷ before) p) a.callback x) (sym done.2) (both_map (λ x y k. callback_as topology before (SourceEnd p.stage h ∷ before) p x y refl (λ now. is_present topology before p.stage live) refl refl k) a.callback old.callback k.callback);
+}
+fetched_body topology before p most (came.Replies replies) a old new live is there done k = absurd (no_fetch most (came.Replies replies) old.source new.source (λ b c f. f.answer) there done.0)
+fetched_body topology before p most (came.Wrote bytes end) a old new live is there done k = absurd (no_fetch most (came.Wrote bytes end) old.source new.source (λ b c f. f.answer) there done.0)
+fetched_body topology before p most (came.Reply reply) a old new live is there done k = absurd (no_fetch most (came.Reply reply) old.source new.source (λ b c f. f.answer) there done.0)
+
+chunk_body : (topology : Topology) (before : History) (p : Post) (messages : List Message) (replies : List Reply) (a old new : BodySeen) → p.slot ≡ 0 → is_live topology before p.stage ≡ true → IsDone (work.Chunk messages) (came.Replies replies) old new → KeepsBody topology before p a old
+    → KeepsBody topology (Done p.stage replies ∷ before) p a new
+chunk_body topology before p messages replies a old new first live done k = record {
+  source = subst (λ x. Both (KeepsSource (Done p.stage replies ∷ before) p.stage []) a.source x) (sym done.1) (both_map (λ x y h. source_as before (Done p.stage replies ∷ before) p.stage x y refl refl refl refl h) a.source old.source k.source);
+  sink = subst (λ x. Both (KeepsSink topology (Done p.stage replies ∷ before) p.stage []) a.sink x) (sym done.2) (both_map (λ x y h. sink_as topology before (Done p.stage replies ∷ before) p.stage x y refl refl h) a.sink old.sink k.sink);
+  callback = both_then (λ x y z h f. callback_done topology before p messages replies x y z first live h f) a.callback old.callback new.callback k.callback done.0;
+}
+
+child_body : (topology : Topology) (before : History) (p : Post) (message : Message) (reply : Reply) (a old new : BodySeen) → has_role topology p.stage is_supervisor_role ≡ true → IsDone (work.Child message) (came.Reply reply) old new → KeepsBody topology before p a old
+    → KeepsBody topology (ChildEnd p.stage p.slot reply ∷ before) p a new
+child_body topology before p message reply a old new child done k = record {
+  source = subst (λ x. Both (KeepsSource (ChildEnd p.stage p.slot reply ∷ before) p.stage []) a.source x) (sym done.1) (both_map (λ x y h. source_as before (ChildEnd p.stage p.slot reply ∷ before) p.stage x y refl refl refl refl h) a.source old.source k.source);
+  sink = subst (λ x. Both (KeepsSink topology (ChildEnd p.stage p.slot reply ∷ before) p.stage []) a.sink x) (sym done.2) (both_map (λ x y h. sink_as topology before (ChildEnd p.stage p.slot reply ∷ before) p.stage x y refl refl h) a.sink old.sink k.sink);
+  callback = both_then (λ x y z h f. callback_child topology before p message reply x y z child h f) a.callback old.callback new.callback k.callback done.0;
+}
+
+-- the sink and the callback of a batch
+batch_sink : (topology : Topology) (before : History) (s : StageNo) (spec : StageSpec) (messages : List Message) (bytes : ℕ) (end : BatchEnd) (old new : BodySeen) (a : Option SinkSeen) (x y : Option BoxSeen) → spec_of topology s ≡ Some spec → has_role topology s is_supervisor_role ≡ false → is_live topology before s ≡ true
+    → messages ≡ batch_of topology before s → There x (IsArmed topology before s spec) → Both (EndsIn messages bytes end old new) x y → Both (KeepsSink topology before s []) a old.sink → Both (KeepsSink topology (Wrote s bytes end ∷ before) s []) a new.sink
+batch_sink topology before s spec messages bytes end old new a (Some b) (Some c) e calm live is armed done k =
+    both_then (λ x y z h w. sink_wrote topology before (Wrote s bytes end ∷ before) s bytes (text_by b.kind b messages end) end x y z (rw (same_stage-self s) refl) (rw (same_stage-self s) refl) (text_is_taken topology before s end spec messages b e calm (is_present topology before s live) is armed) h w) a old.sink new.sink k done.1
+batch_sink topology before s spec messages bytes end old new a (Some b) None e calm live is armed done k = absurd done
+batch_sink topology before s spec messages bytes end old new a None y e calm live is armed done k = absurd armed
+
+batch_callback : (topology : Topology) (before : History) (p : Post) (spec : StageSpec) (messages : List Message) (bytes : ℕ) (end : BatchEnd) (old new : BodySeen) (a x y : Option BoxSeen) → p.slot ≡ 0 → spec_of topology p.stage ≡ Some spec
+    → messages ≡ batch_of topology before p.stage → is_live topology before p.stage ≡ true → There x (IsArmed topology before p.stage spec) → Both (EndsIn messages bytes end old new) x y → Both (KeepsCallback topology before p) a x → Both (KeepsCallback topology (Wrote p.stage bytes end ∷ before) p) a y
+batch_callback topology before p spec messages bytes end old new (Some a) (Some b) (Some c) first e is live armed done k = callback_wrote topology before p spec bytes end (is_some old.sink) messages a b c first e is live armed k done.0
+batch_callback topology before p spec messages bytes end old new None (Some b) (Some c) first e is live armed done k = absurd k
+batch_callback topology before p spec messages bytes end old new a (Some b) None first e is live armed done k = absurd done
+batch_callback topology before p spec messages bytes end old new a None y first e is live armed done k = absurd armed
+
+pub answered_body : (topology : Topology) (before : History) (p : Post) (w : Work) (o : Came) (a old new : BodySeen) → is_live topology before p.stage ≡ true → IsWorkOf topology before p w → IsBodyAt topology before p old → IsDone w o old new
+    → KeepsBody topology before p a old → KeepsBody topology (step_of p o ∷ before) p a new
+answered_body topology before p (work.Fetch most) o a old new live is fit done k = fetched_body topology before p most o a old new live is.1 (source_there topology before p old is.0 fit) done k
+answered_body topology before p (work.Chunk messages) (came.Replies replies) a old new live is fit done k = chunk_body topology before p messages replies a old new is.2 live done k
+answered_body topology before p (work.Chunk messages) o a old new live is fit done k = absurd done
+answered_body topology before p (work.Batch batch) (came.Wrote bytes end) a old new live is fit done k =
+    let f = batch_armed topology before p old is.0 fit in
+    record {
+      source = subst (λ x. Both (KeepsSource (Wrote p.stage bytes end ∷ before) p.stage []) a.source x) (sym done.1) (both_map (λ x y h. source_as before (Wrote p.stage bytes end ∷ before) p.stage x y refl refl refl refl h) a.source old.source k.source);
+      sink = batch_sink topology before p.stage f.spec batch.messages bytes end old new a.sink old.callback new.callback f.is (writers_alone topology p.stage is.0) live is.1 f.box done.0 k.sink;
+      callback = batch_callback topology before p f.spec batch.messages bytes end old new a.callback old.callback new.callback is.2 f.is is.1 live f.box done.0 k.callback;
+    }
+answered_body topology before p (work.Batch batch) o a old new live is fit done k = absurd done
+answered_body topology before p (work.Child message) (came.Reply reply) a old new live is fit done k = child_body topology before p message reply a old new is.0 done k
+answered_body topology before p (work.Child message) o a old new live is fit done k = absurd done
+
+-- ---- what it holds then
+
+pub some_after : {A : Type 0} (P : A → A → Type 0) (x y : Option A) → Both P x y → IsSome x → IsSome y
+some_after P (Some a) (Some b) k h = refl
+some_after P (Some a) None k h = absurd k
+some_after P None y k h = let x : false ≡ true = h in cc
+
+some_same : {A : Type 0} (P : A → A → Type 0) (x y : Option A) → Both P x y → is_some y ≡ is_some x
+some_same P (Some a) (Some b) k = refl
+some_same P None None k = refl
+some_same P (Some a) None k = absurd k
+some_same P None (Some b) k = absurd k
+
+pub armed_after : {P : BoxSeen → BoxSeen → Type 0} (topology : Topology) (h h' : History) (s : StageNo) (spec : StageSpec) (x y : Option BoxSeen) → ((b c : BoxSeen) → P b c → IsArmed topology h s spec b → IsArmed topology h' s spec c) → Both P x y → There x (IsArmed topology h s spec) → There y (IsArmed topology h' s spec)
+armed_after topology h h' s spec (Some b) (Some c) f k armed = f b c k armed
+armed_after topology h h' s spec (Some b) None f k armed = absurd k
+armed_after topology h h' s spec None y f k armed = absurd armed
+
+pub sink_same : (messages : List Message) (bytes : ℕ) (end : BatchEnd) (old new : BodySeen) (x y : Option BoxSeen) → IsSome x → Both (EndsIn messages bytes end old new) x y → is_some new.sink ≡ is_some old.sink
+sink_same messages bytes end old new (Some b) (Some c) h k = some_same (Writes bytes (text_by b.kind b messages end)) old.sink new.sink k.1
+sink_same messages bytes end old new (Some b) None h k = absurd k
+sink_same messages bytes end old new None y h k = let x : false ≡ true = h in cc
+
+pub there_some : {A : Type 0} (P : A → Type 0) (x : Option A) → There x P → IsSome x
+there_some P (Some a) h = refl
+there_some P None h = absurd h
+
+fetched_fit : (topology : Topology) (before : History) (p : Post) (most : ℕ) (o : Came) (old new : BodySeen) → has_role topology p.stage is_producer_role ≡ true → IsBodyAt topology before p old → IsDone (work.Fetch most) o old new → IsBodyAt topology (step_of p o ∷ before) p new
+fetched_fit topology before p most o old new h fit done =
+    let f = fit_of topology before p is_producer_role old h fit in
+    fit_at topology (step_of p o ∷ before) p f.spec new f.is
+    (for_source topology (step_of p o ∷ before) p.stage f.spec f.spec.role new f.role (some_after (Fetches most o) old.source new.source done.0 (source_for topology before p.stage f.spec f.spec.role old f.role f.holds)))
+
+pub answered_fit : (topology : Topology) (before : History) (p : Post) (w : Work) (o : Came) (old new : BodySeen) → is_live topology before p.stage ≡ true → IsWorkOf topology before p w → IsBodyAt topology before p old → IsDone w o old new
+    → IsBodyAt topology (step_of p o ∷ before) p new
+answered_fit topology before p (work.Fetch most) o old new live is fit done = fetched_fit topology before p most o old new is.0 fit done
+answered_fit topology before p (work.Chunk messages) (came.Replies replies) old new live is fit done =
+    let f = fit_of topology before p is_processor_role old is.0 fit in
+    fit_at topology (Done p.stage replies ∷ before) p f.spec new f.is
+    (for_chunk topology (Done p.stage replies ∷ before) p.stage f.spec f.spec.role new f.role
+    (armed_after topology before (Done p.stage replies ∷ before) p.stage f.spec old.callback new.callback
+    (λ b c d armed. record { spec = d.kept.spec ∙ armed.spec; kind = d.kept.kind ∙ armed.kind; count = counts_done topology before p.stage messages replies b c live armed.count d })
+    done.0 (chunk_for topology before p.stage f.spec f.spec.role old f.role f.holds)))
+answered_fit topology before p (work.Chunk messages) o old new live is fit done = absurd done
+answered_fit topology before p (work.Batch batch) (came.Wrote bytes end) old new live is fit done =
+    let f = fit_of topology before p is_batch_processor_role old is.0 fit in
+    let holds = batch_for topology before p.stage f.spec f.spec.role old f.role f.holds in
+    fit_at topology (Wrote p.stage bytes end ∷ before) p f.spec new f.is
+    (for_batch topology (Wrote p.stage bytes end ∷ before) p.stage f.spec f.spec.role new f.role (
+      armed_after topology before (Wrote p.stage bytes end ∷ before) p.stage f.spec old.callback new.callback
+          (λ b c d armed. record { spec = d.0.kept.spec ∙ armed.spec; kind = d.0.kept.kind ∙ armed.kind; count = counts_wrote topology before p.stage f.spec bytes end (is_some old.sink) batch.messages b c f.is is.1 live armed d.0 })
+          done.0 holds.0,
+      sink_same batch.messages bytes end old new old.callback new.callback (there_some (IsArmed topology before p.stage f.spec) old.callback holds.0) done.0 ∙ holds.1,
+    ))
+answered_fit topology before p (work.Batch batch) o old new live is fit done = absurd done
+answered_fit topology before p (work.Child message) (came.Reply reply) old new live is fit done =
+    let f = fit_of topology before p is_supervisor_role old is.0 fit in
+    fit_at topology (ChildEnd p.stage p.slot reply ∷ before) p f.spec new f.is
+    (for_child topology (ChildEnd p.stage p.slot reply ∷ before) p.stage f.spec f.spec.role new f.role
+    (armed_after topology before (ChildEnd p.stage p.slot reply ∷ before) p.stage f.spec old.callback new.callback
+    (λ b c d armed. record { spec = d.kept.spec ∙ armed.spec; kind = d.kept.kind ∙ armed.kind; count = λ own calm live. clash (has_role topology p.stage is_supervisor_role) is.0 calm })
+    done.0 (child_for topology before p.stage f.spec f.spec.role old f.role f.holds)))
+answered_fit topology before p (work.Child message) o old new live is fit done = absurd done
+
+-- ---- the body with an answer that the journal does not have
+
+batch_part : (topology : Topology) (before : History) (s : StageNo) (messages : List Message) (bytes : ℕ) (end : BatchEnd) (old new : BodySeen) (a : Option SinkSeen) (x y : Option BoxSeen) → IsSome x → Both (EndsIn messages bytes end old new) x y → Both (KeepsSink topology before s []) a old.sink
+    → Both (λ b c. (more : List ℕ) × KeepsSink topology before s more b c) a new.sink
+batch_part topology before s messages bytes end old new a (Some b) (Some c) h done k =
+    both_then (λ x y z h w. (take bytes (text_by b.kind b messages end), sink_writes topology before s bytes (text_by b.kind b messages end) x y z h w)) a old.sink new.sink k done.1
+batch_part topology before s messages bytes end old new a (Some b) None h done k = absurd done
+batch_part topology before s messages bytes end old new a None y h done k = let x : false ≡ true = h in cc
+
+pub unrecorded_body : (topology : Topology) (before : History) (p : Post) (w : Work) (o : Came) (a old new : BodySeen) → IsWorkOf topology before p w → IsBodyAt topology before p old → IsDone w o old new → KeepsBody topology before p a old → KeepsPartly topology before p a new
+unrecorded_body topology before p (work.Fetch most) o a old new is fit done k = record {
+  source = both_then (λ x y z h f. (records_of o, source_reads before p.stage (records_of o) x y z h f.reads f.end_stays)) a.source old.source new.source k.source done.0;
+  sink = subst (λ x. Both (λ b c. (more : List ℕ) × KeepsSink topology before p.stage more b c) a.sink x) (sym done.1) (both_map (λ x y h. ([], h)) a.sink old.sink k.sink);
+  callback = subst (λ x. Both KeepsBox a.callback x) (sym done.2) (both_map (λ x y h. h.kept) a.callback old.callback k.callback);
+}
+unrecorded_body topology before p (work.Chunk messages) (came.Replies replies) a old new is fit done k = record {
+  source = subst (λ x. Both (λ b c. (lost : List (List ℕ)) × KeepsSource before p.stage lost b c) a.source x) (sym done.1) (both_map (λ x y h. ([], h)) a.source old.source k.source);
+  sink = subst (λ x. Both (λ b c. (more : List ℕ) × KeepsSink topology before p.stage more b c) a.sink x) (sym done.2) (both_map (λ x y h. ([], h)) a.sink old.sink k.sink);
+  callback = both_then (λ x y z h f. box_then x y z h.kept f.kept) a.callback old.callback new.callback k.callback done.0;
+}
+unrecorded_body topology before p (work.Chunk messages) o a old new is fit done k = absurd done
+unrecorded_body topology before p (work.Batch batch) (came.Wrote bytes end) a old new is fit done k = record {
+  source = subst (λ x. Both (λ b c. (lost : List (List ℕ)) × KeepsSource before p.stage lost b c) a.source x) (sym done.1) (both_map (λ x y h. ([], h)) a.source old.source k.source);
+  sink = batch_part topology before p.stage batch.messages bytes end old new a.sink old.callback new.callback (there_some (IsArmed topology before p.stage (batch_armed topology before p old is.0 fit).spec) old.callback (batch_armed topology before p old is.0 fit).box) done.0 k.sink;
+  callback = both_then (λ x y z h f. box_then x y z h.kept f.0.kept) a.callback old.callback new.callback k.callback done.0;
+}
+unrecorded_body topology before p (work.Batch batch) o a old new is fit done k = absurd done
+unrecorded_body topology before p (work.Child message) (came.Reply reply) a old new is fit done k = record {
+  source = subst (λ x. Both (λ b c. (lost : List (List ℕ)) × KeepsSource before p.stage lost b c) a.source x) (sym done.1) (both_map (λ x y h. ([], h)) a.source old.source k.source);
+  sink = subst (λ x. Both (λ b c. (more : List ℕ) × KeepsSink topology before p.stage more b c) a.sink x) (sym done.2) (both_map (λ x y h. ([], h)) a.sink old.sink k.sink);
+  callback = both_then (λ x y z h f. box_then x y z h.kept (box_reset y z f.kept)) a.callback old.callback new.callback k.callback done.0;
+}
+unrecorded_body topology before p (work.Child message) o a old new is fit done k = absurd done
+
+-- ---- the body after want of memory
+
+pub cut_body : (topology : Topology) (before : History) (p : Post) (a old new : BodySeen) → IsCutOff old new → KeepsBody topology before p a old → KeepsPartly topology before p a new
+cut_body topology before p a old new cut k = record {
+  source = both_then (λ x y z h f. ([], source_reads before p.stage [] x y z h f.0 f.1)) a.source old.source new.source k.source cut.source;
+  sink = subst (λ x. Both (λ b c. (more : List ℕ) × KeepsSink topology before p.stage more b c) a.sink x) (sym cut.sink) (both_map (λ x y h. ([], h)) a.sink old.sink k.sink);
+  callback = both_then (λ x y z h f. box_then x y z h.kept f) a.callback old.callback new.callback k.callback cut.callback;
+}
+
+-- ---- the body fits its work
+
+there_fits : (spec : StageSpec) (topology : Topology) (before : History) (s : StageNo) (x : Option BoxSeen) → There x (IsArmed topology before s spec) → IsSome x × IfSome x (λ box. box.kind ≡ box.spec.kind)
+there_fits spec topology before s (Some box) armed = (refl, armed.kind ∙ ap (λ y. y.kind) (sym armed.spec))
+there_fits spec topology before s None armed = absurd armed
+
+-- a body that holds what the jobs of its post need fits the work that the journal has for it
+pub ready_fits : (topology : Topology) (before : History) (p : Post) (w : Work) (body : BodySeen) → IsWorkOf topology before p w → IsBodyAt topology before p body → Fits w body
+ready_fits topology before p (work.Fetch most) body is fit = (is.2, source_there topology before p body is.0 fit)
+ready_fits topology before p (work.Chunk messages) body is fit = let a = chunk_armed topology before p body is.0 fit in (there_fits a.spec topology before p.stage body.callback a.box).0
+ready_fits topology before p (work.Batch batch) body is fit = let a = batch_armed topology before p body is.0 fit in there_fits a.spec topology before p.stage body.callback a.box
+ready_fits topology before p (work.Child message) body is fit = let a = child_armed topology before p body is.0 fit in (there_fits a.spec topology before p.stage body.callback a.box).0

@@ -1,0 +1,12 @@
+pub mod Posts
+pub mod Steps
+pub mod Staying
+pub mod Rises
+pub mod Answering
+pub mod Jobs
+pub mod Laws
+pub mod Contents
+pub mod Starts
+pub mod Allowed
+pub mod Lating
+pub mod Restarting

@@ -1,0 +1,72 @@
+-- What a journal says of the reads, the writes and the answers of a post.
+use Rattle.std.specs.Prelude.{ℕ, ◌+◌, Bool, true, false, if◌then◌else◌, List, [], ◌∷◌, length, nat_lt, not, ◌&&◌, count_by}
+use Rattle.std.specs.List.{list_all}
+use Rattle.pipe_types.specs.declared.numbers.StageNo.{StageNo}
+use Rattle.pipe_types.specs.declared.numbers.Post.{Post}
+use Rattle.pipe_types.specs.declared.step.LateAnswer.TheVariants.{Records, Wrote as WroteLate}
+use Rattle.pipe_types.specs.declared.step.Step.{Step}
+use Rattle.pipe_types.specs.declared.step.Step.TheVariants.{Accept, Done, Wrote, ChildEnd, Late}
+use Rattle.pipe_types.specs.declared.topology.Topology.{Topology}
+use Rattle.pipe_types.specs.Numbers.{post, same_stage, same_post}
+use Rattle.pipe_model.specs.History.{History}
+use Rattle.pipe_model.specs.Legal.{fetch_out}
+use Rattle.pipe_model.specs.Outside.{fed, text_taken}
+use Rattle.stage_callback.specs.Callbacks.{is_passed}
+use Rattle.stage_bodies.specs.Jobs.{is_bad_end}
+
+-- what a fetch of a producer brought: how many it asked for, what was accepted before it, and its records
+pub record Brought : Type 0 where
+  pub asked : ℕ
+  pub earlier : List (List ℕ)
+  pub records : List (List ℕ)
+
+abbrev pub brought_after : History → Step → StageNo → List Brought → List Brought
+brought_after before (Accept s records) p old =
+    if same_stage s p then record { asked = fetch_out before p; earlier = fed before p; records = records } ∷ old else old
+brought_after before (Late s slot i (Records records)) p old =
+    if same_stage s p then record { asked = fetch_out before p; earlier = fed before p; records = records } ∷ old else old
+brought_after before _ p old = old
+
+-- what the producer's fetches brought, the last first
+abbrev pub brought : History → (producer : StageNo) → List Brought
+brought [] p = []
+brought (step ∷ before) p = brought_after before step p (brought before p)
+
+abbrev pub one_more : Bool → ℕ → ℕ
+one_more true old = old + 1
+one_more false old = old
+
+abbrev pub short_after : Topology → History → Step → StageNo → ℕ → ℕ
+short_after topology before (Wrote s bytes end) t old =
+    one_more (same_stage s t && nat_lt bytes (length (text_taken topology before s end))) old
+short_after topology before (Late s slot i (WroteLate bytes end)) t old =
+    one_more (same_stage s t && nat_lt bytes (length (text_taken topology before s end))) old
+short_after topology before _ t old = old
+
+-- how many writes of the stage had fewer bytes than their text
+abbrev pub short_writes : Topology → History → StageNo → ℕ
+short_writes topology [] s = 0
+short_writes topology (step ∷ before) s = short_after topology before step s (short_writes topology before s)
+
+abbrev pub calls_after : Step → Post → ℕ → ℕ
+calls_after (Done s replies) p old = if same_post p (post s 0) then old + count_by is_passed replies else old
+calls_after (Wrote s bytes end) p old = one_more (same_post p (post s 0)) old
+calls_after (ChildEnd s slot reply) p old = one_more (same_post p (post s slot) && is_passed reply) old
+calls_after _ p old = old
+
+-- the least calls of the post's callback: one for each message that passed, and one for each batch
+abbrev pub calls_of : History → Post → ℕ
+calls_of [] p = 0
+calls_of (step ∷ before) p = calls_after step p (calls_of before p)
+
+abbrev pub bad_after : Step → Post → ℕ → ℕ
+bad_after (Done s replies) p old = one_more (same_post p (post s 0) && not (list_all is_passed replies)) old
+bad_after (Wrote s bytes end) p old = one_more (same_post p (post s 0) && is_bad_end end) old
+bad_after (ChildEnd s slot reply) p old = one_more (same_post p (post s slot) && not (is_passed reply)) old
+bad_after _ p old = old
+
+-- the least bad answers of the post's callback: one for each answer with a reply that is no pass, with a crash, or with an
+-- outcome that is neither success nor the sink's failure
+abbrev pub bad_of : History → Post → ℕ
+bad_of [] p = 0
+bad_of (step ∷ before) p = bad_after step p (bad_of before p)

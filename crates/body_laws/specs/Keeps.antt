@@ -1,0 +1,132 @@
+-- What a journal has to do with what is seen of bodies.
+use Rattle.std.specs.Prelude.{◌≡◌, ◌≢◌, ◌≤◌, ◌⊎◌, ℕ, Bool, true, false, List, [], ◌++◌, nat_lt, ◌==◌, ◌||◌, All, IsTrue, Option, Some, None}
+use Rattle.pipe_types.specs.declared.numbers.StageNo.{StageNo}
+use Rattle.pipe_types.specs.declared.numbers.Post.{Post}
+use Rattle.pipe_types.specs.declared.step.SourceHow.{SourceHow}
+use Rattle.pipe_types.specs.declared.step.SourceHow.TheVariants as how
+use Rattle.pipe_types.specs.declared.step.Step.{Step}
+use Rattle.pipe_types.specs.declared.step.Step.TheVariants.{Accept, Quiet, SourceEnd, Done, Wrote, ChildEnd, Late, Restart}
+use Rattle.pipe_types.specs.declared.topology.Kind.TheVariants.{Own}
+use Rattle.pipe_types.specs.declared.topology.Role.{Role}
+use Rattle.pipe_types.specs.declared.topology.Role.TheVariants.{Supervisor, Batcher}
+use Rattle.pipe_types.specs.declared.topology.StageSpec.{StageSpec}
+use Rattle.pipe_types.specs.declared.topology.Topology.{Topology}
+use Rattle.pipe_types.specs.Numbers.{stage, post, same_stage}
+use Rattle.pipe_types.specs.Stages.{spec_of}
+use Rattle.pipe_model.specs.History.{History}
+use Rattle.pipe_model.specs.Lives.{is_live}
+use Rattle.pipe_model.specs.Posts.{is_out}
+use Rattle.pipe_model.specs.Outside.{fed, source_end, sink_text}
+use Rattle.pipe_model.specs.Work.{count}
+use Rattle.pipe_model.specs.Legal.{has_role, is_supervisor_role}
+use Rattle.pipe_edges.specs.Cut.{CutsAll}
+use Rattle.pipe_edges.specs.declared.reading.LineEnd.{LineEnd}
+use Rattle.pipe_edges.specs.declared.reading.LineEnd.TheVariants as end
+use Rattle.run_claims.specs.Read.{quiets}
+use Rattle.stage_job.specs.Chunks.{RoseBy}
+use Rattle.stage_bodies.specs.Seen.{SourceSeen, LineSeen, SinkSeen, BoxSeen, BodySeen}
+use Rattle.stage_bodies.specs.Reads.{AreReadFrom}
+use Rattle.stage_bodies.specs.Jobs.{Both, KeepsBox}
+use Rattle.stage_bodies.specs.Posts.{place_at}
+use Rattle.body_laws.specs.Counts.{Brought, brought, short_writes, calls_of, bad_of}
+
+-- ---- posts
+
+abbrev pub has_slot : Role → (max : ℕ) → (slot : ℕ) → Bool
+has_slot Supervisor max slot = nat_lt slot max
+has_slot Batcher max slot = false
+has_slot _ max slot = slot == 0
+
+abbrev pub has_post_in : Option StageSpec → (slot : ℕ) → Bool
+has_post_in None slot = false
+has_post_in (Some spec) slot = has_slot spec.role spec.max slot
+
+-- the topology has this post: slot 0 of a stage that does jobs, and of a supervisor a slot for each child
+abbrev pub has_post : Topology → Post → Bool
+has_post topology p = has_post_in (spec_of topology p.stage) p.slot
+
+-- ---- sources
+
+-- how the journal says that the source ended is how it ended
+abbrev pub IsKnownEnd : Option SourceHow → Option LineEnd → Type 0
+IsKnownEnd None now = Unit {0}
+IsKnownEnd (Some how.End) now = now ≡ Some end.End
+IsKnownEnd (Some how.Fault) now = now ≡ Some end.Fault
+IsKnownEnd (Some how.TooLong) now = now ≡ Some end.TooLong
+IsKnownEnd (Some how.Limit) now = ⊥
+
+-- they are the first lines that were held: behind them no whole line was held any more, or they are as many as were asked for
+pub record AreFirstHeld (opened : SourceSeen) (fetch : Brought) : Type 0 where
+  pub source : LineSeen
+  pub read : AreReadFrom opened source (fetch.earlier ++ fetch.records)
+  pub all : CutsAll fetch.asked fetch.records source.waiting
+
+-- what was read is what the journal has of the producer, and then what was lost; the end and each quiet have their cause in
+-- the source; each fetch brought the first lines that were held
+pub record KeepsSource (before : History) (s : StageNo) (lost : List (List ℕ)) (opened now : LineSeen) : Type 0 where
+  pub read : AreReadFrom opened.source now (fed before s ++ lost)
+  pub known : IsKnownEnd (source_end before s) now.end
+  pub quiet : RoseBy (quiets before s) opened.source.waits now.source.waits
+  pub first : All (AreFirstHeld opened.source) (brought before s)
+
+-- ---- sinks
+
+-- behind what it held stands the text of the stage, and then what more was written; each write of less than its text has
+-- its cause in the sink
+pub record KeepsSink (topology : Topology) (before : History) (s : StageNo) (more : List ℕ) (opened now : SinkSeen) : Type 0 where
+  pub told : now.told ≡ opened.told
+  pub held : IsTrue opened.told → now.held ≡ opened.held ++ (sink_text topology before s ++ more)
+  pub faults_stay : opened.faults ≤ now.faults
+  pub short : RoseBy (short_writes topology before s) opened.faults now.faults
+
+-- ---- callbacks
+
+-- a built-in callback of a stage that is no supervisor has the journal's count, while the stage is live or its post is out: a
+-- late answer counts in the callback alone, and a restart sets both to 0
+abbrev pub IsCounted : Topology → History → StageNo → BoxSeen → Type 0
+IsCounted topology before s box =
+    box.kind ≢ Own → has_role topology s is_supervisor_role ≡ false → (is_live topology before s || is_out before (post s 0)) ≡ true → box.count ≡ count topology before s
+
+-- it is the same callback, counted as the journal says; a user's own counted each call and each bad answer of the journal
+pub record KeepsCallback (topology : Topology) (before : History) (p : Post) (opened now : BoxSeen) : Type 0 where
+  pub kept : KeepsBox opened now
+  pub count : IsCounted topology before p.stage now
+  pub calls : now.kind ≡ Own → RoseBy (calls_of before p) opened.calls now.calls
+  pub bad : now.kind ≡ Own → RoseBy (bad_of before p) opened.bad now.bad
+
+-- ---- bodies
+
+-- the body stands where the journal leaves it
+pub record KeepsBody (topology : Topology) (before : History) (p : Post) (opened now : BodySeen) : Type 0 where
+  pub source : Both (KeepsSource before p.stage []) opened.source now.source
+  pub sink : Both (KeepsSink topology before p.stage []) opened.sink now.sink
+  pub callback : Both (KeepsCallback topology before p) opened.callback now.callback
+
+-- the same, where an answer is not in the journal: its source may have given more lines, and its sink may have got more bytes
+pub record KeepsPartly (topology : Topology) (before : History) (p : Post) (opened now : BodySeen) : Type 0 where
+  pub source : Both (λ old new. (lost : List (List ℕ)) × KeepsSource before p.stage lost old new) opened.source now.source
+  pub sink : Both (λ old new. (more : List ℕ) × KeepsSink topology before p.stage more old new) opened.sink now.sink
+  pub callback : Both KeepsBox opened.callback now.callback
+
+abbrev pub KeepsPost : Topology → History → Post → (out : Bool) → Option BodySeen → Option BodySeen → Type 0
+KeepsPost topology before p true opened now = (now ≡ None) ⊎ Both (KeepsPartly topology before p) opened now
+KeepsPost topology before p false opened now = Both (KeepsBody topology before p) opened now
+
+-- of each post that is not out, the body stands where the journal leaves it; that of one that is out is away or stands so in part
+abbrev pub Keeps : Topology → History → (opened now : ℕ → Option BodySeen) → Type 0
+Keeps topology before opened now =
+    (p : Post) → IsTrue (has_post topology p) → KeepsPost topology before p (is_out before p) (opened (place_at p)) (now (place_at p))
+
+-- ---- steps
+
+-- the step answers no post, and restarts no stage
+abbrev pub is_silent : Step → Bool
+is_silent (Accept s records) = false
+is_silent (Quiet s) = false
+is_silent (SourceEnd s how) = same_stage s (stage 0)
+is_silent (Done s replies) = false
+is_silent (Wrote s bytes end) = false
+is_silent (ChildEnd s slot reply) = false
+is_silent (Late s slot i answer) = false
+is_silent (Restart s) = false
+is_silent _ = true
