@@ -1,0 +1,4 @@
+pub mod Openings
+pub mod Returns
+mod Cuts
+pub mod Undoes

@@ -1,0 +1,103 @@
+-- What giving back adds, and what bodies keep.
+use Rattle.std.proofs.Common.{◌≡◌, ℕ, ◌+◌, ◌*◌, ◌≤◌, List, [], ◌++◌, take, refl, ap, sym, ◌∙◌, subst, arith}
+use Rattle.std.specs.Prelude.{slice_get, ◌==◌, Option, Some, None, if◌then◌else◌}
+use Rattle.std.proofs.lemmas.List.{append-nil, append_assoc}
+use Rattle.pipe_types.specs.Numbers.{post}
+use Rattle.pipe_types.specs.declared.topology.StageSpec.{StageSpec}
+use Rattle.pipe_types.specs.declared.topology.Topology.{Topology}
+use Rattle.pipe_edges.specs.declared.edges.EdgeKind.{EdgeKind}
+use Rattle.stage_bodies.specs.Seen.{SourceSeen, SinkSeen, BodySeen}
+use Rattle.stage_bodies.specs.Jobs.{Both}
+use Rattle.stage_bodies.specs.Posts.{place_at}
+use Rattle.stage_laws.specs.Numbered.{IsNumberedTopology}
+use Rattle.edge_names.specs.Seen.{EdgesSeen}
+use Rattle.edge_names.specs.Opened.{AreOpenedAt, IsOpened, edge_call}
+use Rattle.edge_names.specs.Returned.{GivesBack, KeepsCallbacks, named_source, named_sink, sources_of, sinks_of}
+use Rattle.edge_names.proofs.Openings.{take_next, flat_map_next}
+
+pub back_nothing : (a : EdgesSeen) → GivesBack [] [] a a
+back_nothing a = record {
+  same_telling = refl;
+  asked = λ t. refl;
+  back_sources = sym (append-nil a.sources_back);
+  back_sinks = sym (append-nil a.sinks_back);
+  no_fault = refl;
+}
+
+pub back_more : (xs xs' : List (List ℕ × SourceSeen)) (ys ys' : List (List ℕ × SinkSeen)) (a b c : EdgesSeen) → GivesBack xs ys a b → GivesBack xs' ys' b c → GivesBack (xs ++ xs') (ys ++ ys') a c
+back_more xs xs' ys ys' a b c h k = record {
+  same_telling = k.same_telling ∙ h.same_telling;
+  asked = λ t. k.asked (rw h.same_telling t) ∙ h.asked t;
+  back_sources = k.back_sources ∙ ap (λ z. z ++ xs') h.back_sources ∙ append_assoc a.sources_back xs xs';
+  back_sinks = k.back_sinks ∙ ap (λ z. z ++ ys') h.back_sinks ∙ append_assoc a.sinks_back ys ys';
+  no_fault = k.no_fault ∙ h.no_fault;
+}
+
+-- nothing more was given back
+pub back_same : (xs : List (List ℕ × SourceSeen)) (ys : List (List ℕ × SinkSeen)) (a b c : EdgesSeen) → GivesBack xs ys a b → GivesBack [] [] b c → GivesBack xs ys a c
+back_same xs ys a b c h k =
+    let more : GivesBack (xs ++ []) (ys ++ []) a c = back_more xs [] ys [] a b c h k in
+    rw (append-nil xs, append-nil ys) at more
+
+sources_step : (stages : List StageSpec) (n : ℕ) (spec : StageSpec) (was : ℕ → Option BodySeen) → slice_get stages n ≡ Some spec
+    → sources_of (take n stages) was ++ named_source (edge_call spec) (was (place_at (post spec.no 0))) ≡ sources_of (take (n + 1) stages) was
+sources_step stages n spec was here =
+    sym (ap (λ (xs : List StageSpec). sources_of xs was) (take_next stages n spec here) ∙ flat_map_next (λ (s : StageSpec). named_source (edge_call s) (was (place_at (post s.no 0)))) (take n stages) spec)
+
+sinks_step : (stages : List StageSpec) (n : ℕ) (spec : StageSpec) (was : ℕ → Option BodySeen) → slice_get stages n ≡ Some spec
+    → sinks_of (take n stages) was ++ named_sink (edge_call spec) (was (place_at (post spec.no 0))) ≡ sinks_of (take (n + 1) stages) was
+sinks_step stages n spec was here =
+    sym (ap (λ (xs : List StageSpec). sinks_of xs was) (take_next stages n spec here) ∙ flat_map_next (λ (s : StageSpec). named_sink (edge_call s) (was (place_at (post s.no 0)))) (take n stages) spec)
+
+-- one stage more
+pub back_turn : (topology : Topology) (n at : ℕ) (spec : StageSpec) (was now : ℕ → Option BodySeen) (a b c : EdgesSeen) → IsNumberedTopology topology → slice_get topology.stages n ≡ Some spec
+    → at ≡ spec.no.0 * 16 + 0 → ((s : ℕ) → (n + 1) * 16 ≤ s → now s ≡ was s)
+    → GivesBack (sources_of (take n topology.stages) was) (sinks_of (take n topology.stages) was) a b
+    → GivesBack (named_source (edge_call spec) (now at)) (named_sink (edge_call spec) (now at)) b c
+    → GivesBack (sources_of (take (n + 1) topology.stages) was) (sinks_of (take (n + 1) topology.stages) was) a c
+back_turn topology n at spec was now a b c numbered here is rest h k =
+    let no = numbered.numbers n spec here in
+    let place = place_at (post spec.no 0) in
+    let sources = sources_of (take n topology.stages) was in
+    let sinks = sinks_of (take n topology.stages) was in
+    let source = named_source (edge_call spec) (was place) in
+    let sink = named_sink (edge_call spec) (was place) in
+    let same : now at ≡ was place = ap now is ∙ rest place (omega (arith, no)) in
+    let given = subst (λ x. GivesBack (named_source (edge_call spec) x) (named_sink (edge_call spec) x) b c) same k in
+    let more : GivesBack (sources ++ source) (sinks ++ sink) a c = back_more sources source sinks sink a b c h given in
+    let by_sources = subst (λ xs. GivesBack xs (sinks ++ sink) a c) (sources_step topology.stages n spec was here) more in
+    subst (λ ys. GivesBack (sources_of (take (n + 1) topology.stages) was) ys a c) (sinks_step topology.stages n spec was here) by_sources
+
+pub rest_turn : (topology : Topology) (n at : ℕ) (spec : StageSpec) (was now next : ℕ → Option BodySeen) → IsNumberedTopology topology → slice_get topology.stages n ≡ Some spec
+    → at ≡ spec.no.0 * 16 + 0 → ((s : ℕ) → (n + 1) * 16 ≤ s → now s ≡ was s) → ((s : ℕ) → ¬ (at ≡ s) → next s ≡ now s)
+    → (s : ℕ) → (n + 1 + 1) * 16 ≤ s → next s ≡ was s
+rest_turn topology n at spec was now next numbered here is rest others s le =
+    let no = numbered.numbers n spec here in
+    others s (λ same. omega (arith, no, is, same, le)) ∙ rest s (omega (arith, le))
+
+both_callbacks : (x y z : Option BodySeen) → Both (λ before now. now.callback ≡ before.callback) x y → Both (λ before now. now.callback ≡ before.callback) y z → Both (λ (before now : BodySeen). now.callback ≡ before.callback) x z
+both_callbacks (Some x) (Some y) (Some z) h k = k ∙ h
+both_callbacks None None None h k = tt
+both_callbacks (Some x) (Some y) None h k = absurd k
+both_callbacks (Some x) None z h k = absurd h
+both_callbacks None (Some y) z h k = absurd h
+both_callbacks None None (Some z) h k = absurd k
+
+pub callbacks_more : (x y z : ℕ → Option BodySeen) → KeepsCallbacks x y → KeepsCallbacks y z → KeepsCallbacks x z
+callbacks_more x y z h k at = both_callbacks (x at) (y at) (z at) (h at) (k at)
+
+same_callback : (x : Option BodySeen) → Both (λ (before now : BodySeen). now.callback ≡ before.callback) x x
+same_callback (Some x) = refl
+same_callback None = tt
+
+pub callbacks_same : (x : ℕ → Option BodySeen) → KeepsCallbacks x x
+callbacks_same x at = same_callback (x at)
+
+one_callback : (call : Option (EdgeKind × List ℕ)) (edges : EdgesSeen) (x y : Option BodySeen) → Both (IsOpened edges call) x y → Both (λ (before now : BodySeen). now.callback ≡ before.callback) x y
+one_callback call edges (Some x) (Some y) h = h.callback
+one_callback call edges None None h = tt
+one_callback call edges (Some x) None h = absurd h
+one_callback call edges None (Some y) h = absurd h
+
+pub callbacks_at : (at : ℕ) (call : Option (EdgeKind × List ℕ)) (edges : EdgesSeen) (x y : ℕ → Option BodySeen) → AreOpenedAt at call edges x y → KeepsCallbacks x y
+callbacks_at at call edges x y h s = one_callback (if at == s then call else None) edges (x s) (y s) (h s)

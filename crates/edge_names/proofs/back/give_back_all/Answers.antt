@@ -1,0 +1,31 @@
+use Rattle.std.proofs.Common.{◌∙◌}
+use Rattle.stage_bodies.specs.Seen.{body_at, source_seen, sink_seen}
+use Rattle.stage_laws.proofs.Numbering.{numbered_topology}
+use Rattle.edge_names.specs.Seen.{edges_seen}
+use Rattle.edge_names.proofs.Openings.{here_at}
+use Rattle.edge_names.proofs.Returns.{back_turn, callbacks_more, rest_turn}
+use Rattle.edge_names.proofs.back.give_back_all.Goals as goal
+
+pub loop-spec-preserved : goal.loop-spec-preserved
+loop-spec-preserved g c =
+    let e = g.E.Edges in
+    let s = g.E.Source.ByteSource in
+    let k = g.E.Sink.ByteSink in
+    let seen = edges_seen e.told e.named e.asked e.faults e.sources_back e.sinks_back (source_seen s.told s.taken s.left s.faults s.waits) (sink_seen k.told k.held k.faults) in
+    let look = g.B.Works.look in
+    let x = c.loop-spec.invariant in
+    let topology = c.args.topology.now in
+    let n = c.loop-spec.spec-index in
+    let at = c.place_of-at.result in
+    let spec = c.spec-item.result in
+    let here = here_at topology.stages c.as_slice-spec-items.result.now n spec c.as_slice-spec-items.ensures c.loop-spec-test.true c.spec-item.is in
+    let numbered = numbered_topology topology c.requires.sound in
+    let was = body_at look c.args.bodies.now.items in
+    let now = body_at look c.loop-spec.bodies.items in
+    let next = body_at look c.back_stage.new.bodies.items in
+    record {
+      len = c.in-Ok.ensures.len ∙ x.len;
+      rest = rest_turn topology n at spec was now next numbered here c.place_of-at.ensures x.rest c.in-Ok.ensures.others;
+      back = back_turn topology n at spec was now (seen c.args.edges.now) (seen c.loop-spec.edges) (seen c.back_stage.new.edges) numbered here c.place_of-at.ensures x.rest x.back c.in-Ok.ensures.back;
+      callbacks = callbacks_more was now next x.callbacks c.in-Ok.ensures.callbacks;
+    }

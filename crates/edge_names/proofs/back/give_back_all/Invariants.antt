@@ -1,0 +1,21 @@
+use Rattle.std.proofs.Common.{◌≡◌, ◌≤◌, ◌+◌, ◌*◌, ℕ, take, length}
+use Rattle.stage_bodies.specs.Seen.{body_at, source_seen, sink_seen}
+use Rattle.edge_names.specs.Seen.{edges_seen}
+use Rattle.edge_names.specs.Returned.{GivesBack, KeepsCallbacks, sources_of, sinks_of}
+use Rattle.edge_names.proofs.back.give_back_all.Given as goal
+
+abbrev pub invariant-loop-spec : goal.invariant-loop-spec
+invariant-loop-spec g l =
+    let e = g.E.Edges in
+    let s = g.E.Source.ByteSource in
+    let k = g.E.Sink.ByteSink in
+    let seen = edges_seen e.told e.named e.asked e.faults e.sources_back e.sinks_back (source_seen s.told s.taken s.left s.faults s.waits) (sink_seen k.told k.held k.faults) in
+    let was = body_at g.B.Works.look l.fn.bodies.items in
+    let now = body_at g.B.Works.look l.bodies.items in
+    let done = take l.spec-index l.fn.topology.stages in
+    record {
+      len : length l.bodies.items ≡ length l.fn.bodies.items;
+      rest : (s : ℕ) → (l.spec-index + 1) * 16 ≤ s → now s ≡ was s;
+      back : GivesBack (sources_of done was) (sinks_of done was) (seen l.fn.edges) (seen l.edges);
+      callbacks : KeepsCallbacks was now;
+    }

@@ -1,0 +1,89 @@
+use Rattle.std.proofs.Common.{◌+◌, ◌*◌, refl, ◌∙◌, take}
+use Rattle.stage_bodies.specs.Seen.{body_at, source_seen, sink_seen}
+use Rattle.stage_laws.proofs.Numbering.{numbered_topology}
+use Rattle.edge_names.specs.Seen.{edges_seen}
+use Rattle.edge_names.specs.Opened.{calls_of, edge_call}
+use Rattle.edge_names.proofs.Openings.{asks_nothing, asked_more, here_at, home_still, opened_start, opened_turn, some_at}
+use Rattle.edge_names.proofs.Returns.{callbacks_at, callbacks_more, callbacks_same}
+use Rattle.edge_names.proofs.Cuts.{failed_by, cut_off_by}
+use Rattle.edge_names.proofs.opening.open_all.Goals as goal
+
+pub loop-spec-init : goal.loop-spec-init
+loop-spec-init g c =
+    let e = g.E.Edges in
+    let s = g.E.Source.ByteSource in
+    let k = g.E.Sink.ByteSink in
+    let seen = edges_seen e.told e.named e.asked e.faults e.sources_back e.sinks_back (source_seen s.told s.taken s.left s.faults s.waits) (sink_seen k.told k.held k.faults) in
+    record {
+      len = refl;
+      home = c.requires.home;
+      asks = asks_nothing (seen c.args.edges.now);
+      callbacks = callbacks_same (body_at g.B.Works.look c.args.bodies.now.items);
+      opened = opened_start c.args.topology.now (seen c.args.edges.now) (body_at g.B.Works.look c.args.bodies.now.items) (numbered_topology c.args.topology.now c.requires.sound);
+    }
+
+pub open_stage-requires-clause-home : goal.open_stage-requires-clause-home
+open_stage-requires-clause-home g c κs within = λ some.
+    let topology = c.args.topology.now in
+    let n = c.loop-spec.spec-index in
+    let spec = c.spec-item.result in
+    let here = here_at topology.stages c.as_slice-spec-items.result.now n spec c.as_slice-spec-items.ensures c.loop-spec-test.true c.spec-item.is in
+    let numbered = numbered_topology topology c.requires.sound in
+    some_at (body_at g.B.Works.look c.loop-spec.bodies.items) c.place_of-at.result (spec.no.0 * 16 + 0) c.place_of-at.ensures (c.loop-spec.invariant.home spec.no spec (numbered.found n spec here) some)
+
+pub returns-in-Err-clause-failed : goal.returns-in-Err-clause-failed
+returns-in-Err-clause-failed g c =
+    let e = g.E.Edges in
+    let s = g.E.Source.ByteSource in
+    let k = g.E.Sink.ByteSink in
+    let seen = edges_seen e.told e.named e.asked e.faults e.sources_back e.sinks_back (source_seen s.told s.taken s.left s.faults s.waits) (sink_seen k.told k.held k.faults) in
+    let look = g.B.Works.look in
+    let x = c.loop-spec.invariant in
+    let topology = c.args.topology.now in
+    let n = c.loop-spec.spec-index in
+    let spec = c.spec-item.result in
+    let here = here_at topology.stages c.as_slice-spec-items.result.now n spec c.as_slice-spec-items.ensures c.loop-spec-test.true c.spec-item.is in
+    failed_by (Unit {0}) topology n c.place_of-at.result spec c.in-Err.unopened (seen c.args.edges.now) (seen c.loop-spec.edges) (seen c.open_stage.new.edges)
+    (body_at look c.args.bodies.now.items) (body_at look c.loop-spec.bodies.items) (body_at look c.open_stage.new.bodies.items) here x.asks (rw c.in-Err.ensures.same x.opened) c.in-Err.ensures.opens
+
+pub returns-in-Err-clause-cut_off : goal.returns-in-Err-clause-cut_off
+returns-in-Err-clause-cut_off g c =
+    let e = g.E.Edges in
+    let s = g.E.Source.ByteSource in
+    let k = g.E.Sink.ByteSink in
+    let seen = edges_seen e.told e.named e.asked e.faults e.sources_back e.sinks_back (source_seen s.told s.taken s.left s.faults s.waits) (sink_seen k.told k.held k.faults) in
+    let look = g.B.Works.look in
+    let x = c.loop-spec.invariant in
+    let topology = c.args.topology.now in
+    let n = c.loop-spec.spec-index in
+    let spec = c.spec-item.result in
+    let here = here_at topology.stages c.as_slice-spec-items.result.now n spec c.as_slice-spec-items.ensures c.loop-spec-test.true c.spec-item.is in
+    cut_off_by (Unit {0}) topology n c.place_of-at.result spec c.in-Err.unopened (seen c.args.edges.now) (seen c.loop-spec.edges) (seen c.open_stage.new.edges)
+    (body_at look c.args.bodies.now.items) (body_at look c.loop-spec.bodies.items) (body_at look c.open_stage.new.bodies.items) here x.asks (rw c.in-Err.ensures.same x.opened) c.in-Err.ensures.opens
+
+pub loop-spec-preserved : goal.loop-spec-preserved
+loop-spec-preserved g c =
+    let e = g.E.Edges in
+    let s = g.E.Source.ByteSource in
+    let k = g.E.Sink.ByteSink in
+    let seen = edges_seen e.told e.named e.asked e.faults e.sources_back e.sinks_back (source_seen s.told s.taken s.left s.faults s.waits) (sink_seen k.told k.held k.faults) in
+    let look = g.B.Works.look in
+    let x = c.loop-spec.invariant in
+    let topology = c.args.topology.now in
+    let n = c.loop-spec.spec-index in
+    let at = c.place_of-at.result in
+    let spec = c.spec-item.result in
+    let here = here_at topology.stages c.as_slice-spec-items.result.now n spec c.as_slice-spec-items.ensures c.loop-spec-test.true c.spec-item.is in
+    let numbered = numbered_topology topology c.requires.sound in
+    let a = seen c.args.edges.now in
+    let b = seen c.loop-spec.edges in
+    let start = body_at look c.args.bodies.now.items in
+    let was = body_at look c.loop-spec.bodies.items in
+    let now = body_at look c.open_stage.new.bodies.items in
+    record {
+      len = c.in-Ok.ensures.len ∙ x.len;
+      home = home_still topology at (edge_call spec) b was now x.home c.in-Ok.ensures.opens.bodies;
+      asks = asked_more topology.stages n spec a b (seen c.open_stage.new.edges) here x.asks c.in-Ok.ensures.opens.asks;
+      callbacks = callbacks_more start was now x.callbacks (callbacks_at at (edge_call spec) b was now c.in-Ok.ensures.opens.bodies);
+      opened = opened_turn topology n at spec (calls_of (take n topology.stages)) a b (body_at look c.args.bodies.now.items) was now numbered here c.place_of-at.ensures x.asks x.opened c.in-Ok.ensures.opens.bodies;
+    }

@@ -1,0 +1,20 @@
+use Rattle.std.proofs.Common.{◌≡◌, length, take}
+use Rattle.stage_bodies.specs.Seen.{body_at, source_seen, sink_seen}
+use Rattle.edge_names.specs.Seen.{edges_seen}
+use Rattle.edge_names.specs.Opened.{Asks, AreHome, AreOpened, calls_of}
+use Rattle.edge_names.specs.Returned.{KeepsCallbacks}
+use Rattle.edge_names.proofs.opening.open_all.Given as goal
+
+abbrev pub invariant-loop-spec : goal.invariant-loop-spec
+invariant-loop-spec g l =
+    let e = g.E.Edges in
+    let s = g.E.Source.ByteSource in
+    let k = g.E.Sink.ByteSink in
+    let seen = edges_seen e.told e.named e.asked e.faults e.sources_back e.sinks_back (source_seen s.told s.taken s.left s.faults s.waits) (sink_seen k.told k.held k.faults) in
+    record {
+      len : length l.bodies.items ≡ length l.fn.bodies.items;
+      home : AreHome l.fn.topology (body_at g.B.Works.look l.bodies.items);
+      asks : Asks (calls_of (take l.spec-index l.fn.topology.stages)) (seen l.fn.edges) (seen l.edges);
+      callbacks : KeepsCallbacks (body_at g.B.Works.look l.fn.bodies.items) (body_at g.B.Works.look l.bodies.items);
+      opened : AreOpened l.fn.topology l.spec-index (seen l.fn.edges) (body_at g.B.Works.look l.fn.bodies.items) (body_at g.B.Works.look l.bodies.items);
+    }

@@ -1,0 +1,188 @@
+-- What a run opens by name, stage by stage, and what its bodies then hold.
+use Rattle.std.specs.Prelude.{◌≡◌, ◌≤◌, ◌<◌, ◌++◌, ◌&&◌, ◌==◌, if◌then◌else◌, nat_le, ℕ, List, [], ◌∷◌, take, slice_get, Option, Some, None, Result, Ok, Err, ◌⊎◌, IsTrue, IsSome}
+use Rattle.std.specs.List.{flat_map}
+use Rattle.pipe_types.specs.Counts.{Rose}
+use Rattle.pipe_types.specs.Numbers.{post}
+use Rattle.pipe_types.specs.Stages.{spec_of}
+use Rattle.pipe_types.specs.declared.numbers.StageNo.{StageNo}
+use Rattle.pipe_types.specs.declared.numbers.Post.{Post}
+use Rattle.pipe_types.specs.declared.topology.Role.{Role}
+use Rattle.pipe_types.specs.declared.topology.Role.TheVariants.{Producer, BatchProcessor}
+use Rattle.pipe_types.specs.declared.topology.StageSpec.{StageSpec}
+use Rattle.pipe_types.specs.declared.topology.Topology.{Topology}
+use Rattle.pipe_edges.specs.Named.{StandsAsBefore}
+use Rattle.pipe_edges.specs.declared.edges.EdgeKind.{EdgeKind}
+use Rattle.pipe_edges.specs.declared.edges.EdgeKind.TheVariants.{Source, Sink}
+use Rattle.stage_bodies.specs.Seen.{SourceSeen, SinkSeen, LineSeen, BodySeen}
+use Rattle.stage_bodies.specs.Jobs.{Both}
+use Rattle.stage_bodies.specs.Posts.{place_at}
+use Rattle.edge_names.specs.Seen.{EdgesSeen}
+use Rattle.edge_names.specs.Named.{GivesSource, GivesSink}
+use Rattle.edge_names.specs.declared.opening.Unopened.{Unopened}
+use Rattle.edge_names.specs.declared.opening.Unopened.TheVariants.{Failed, OutOfMemory}
+
+-- ---- calls
+
+abbrev pub call_by : Role → Option (List ℕ) → Option (EdgeKind × List ℕ)
+call_by Producer (Some name) = Some (Source, name)
+call_by BatchProcessor (Some name) = Some (Sink, name)
+call_by _ _ = None
+
+-- the call that a stage makes: a producer opens its source, a batch processor its sink, if it has one
+abbrev pub edge_call : StageSpec → Option (EdgeKind × List ℕ)
+edge_call spec = call_by spec.role spec.edge
+
+abbrev pub one : {A : Type 0} → Option A → List A
+one (Some x) = x ∷ []
+one None = []
+
+-- the calls of these stages, in their order
+abbrev pub calls_of : List StageSpec → List (EdgeKind × List ℕ)
+calls_of stages = flat_map (λ spec. one (edge_call spec)) stages
+
+abbrev pub edge_calls : Topology → List (EdgeKind × List ℕ)
+edge_calls topology = calls_of topology.stages
+
+-- these calls were made, and nothing was given back
+pub record Asks (calls : List (EdgeKind × List ℕ)) (old new : EdgesSeen) : Type 0 where
+  pub same_telling : new.told ≡ old.told
+  pub stands : IsTrue old.told → StandsAsBefore old.named new.named
+  pub asked : IsTrue old.told → new.asked ≡ old.asked ++ calls
+  pub sources : new.sources_back ≡ old.sources_back
+  pub sinks : new.sinks_back ≡ old.sinks_back
+  pub faults_stay : old.faults ≤ new.faults
+
+-- ---- bodies
+
+-- a source that was opened, of which no line was read
+abbrev pub fresh_lines : SourceSeen → LineSeen
+fresh_lines source = record { source = source; waiting = []; end = None }
+
+-- the source that this call opened, of which no line was read
+pub record GivesLines (edges : EdgesSeen) (name : List ℕ) (lines : LineSeen) : Type 0 where
+  pub source : GivesSource edges name lines.source
+  pub nothing_waits : lines.waiting ≡ []
+  pub no_end : lines.end ≡ None
+
+abbrev pub HasSource : EdgesSeen → Option (EdgeKind × List ℕ) → (old new : Option LineSeen) → Type 0
+HasSource edges (Some (Source, name)) old (Some lines) = GivesLines edges name lines
+HasSource edges (Some (Source, name)) old None = ⊥
+HasSource edges _ old new = new ≡ old
+
+abbrev pub HasSink : EdgesSeen → Option (EdgeKind × List ℕ) → (old new : Option SinkSeen) → Type 0
+HasSink edges (Some (Sink, name)) old (Some sink) = GivesSink edges name sink
+HasSink edges (Some (Sink, name)) old None = ⊥
+HasSink edges _ old new = new ≡ old
+
+-- the body has what the call opened, and is else as it was
+pub record IsOpened (edges : EdgesSeen) (call : Option (EdgeKind × List ℕ)) (old new : BodySeen) : Type 0 where
+  pub source : HasSource edges call old.source new.source
+  pub sink : HasSink edges call old.sink new.sink
+  pub callback : new.callback ≡ old.callback
+
+abbrev pub call_in : Option StageSpec → Option (EdgeKind × List ℕ)
+call_in (Some spec) = edge_call spec
+call_in None = None
+
+-- the call for the body of a post, where the first n stages made theirs: a stage's is for its slot 0
+abbrev pub call_at : Topology → (n : ℕ) → Post → Option (EdgeKind × List ℕ)
+call_at topology n p = if p.slot == 0 && nat_le p.stage.0 n then call_in (spec_of topology p.stage) else None
+
+-- the bodies have what the first n stages opened, and are else as they were
+abbrev pub AreOpened : Topology → (n : ℕ) → EdgesSeen → (old new : ℕ → Option BodySeen) → Type 0
+AreOpened topology n edges old new =
+    (p : Post) → p.slot < 16 → Both (IsOpened edges (call_at topology n p)) (old (place_at p)) (new (place_at p))
+
+-- the body of every stage that opens something is there
+abbrev pub AreHome : Topology → (ℕ → Option BodySeen) → Type 0
+AreHome topology table =
+    (s : StageNo) (spec : StageSpec) → spec_of topology s ≡ Some spec → IsSome (edge_call spec) → IsSome (table (place_at (post s 0)))
+
+-- ---- what is not opened
+
+abbrev pub IfFailed : Unopened → (List ℕ → Type 0) → Type 0
+IfFailed (Failed name) P = P name
+IfFailed OutOfMemory P = Unit {0}
+
+abbrev pub IfCutOff : Unopened → Type 0 → Type 0
+IfCutOff (Failed name) P = Unit {0}
+IfCutOff OutOfMemory P = P
+
+-- the call of a stage failed by this name, after those of the stages before it, whose bodies have what these opened
+pub record IsFailed (topology : Topology) (name : List ℕ) (old new : EdgesSeen) (start now : ℕ → Option BodySeen) : Type 0 where
+  pub at : ℕ
+  pub kind : EdgeKind
+  pub spec : StageSpec
+  pub here : slice_get topology.stages at ≡ Some spec
+  pub call : edge_call spec ≡ Some (kind, name)
+  pub asks : Asks (calls_of (take at topology.stages) ++ (kind, name) ∷ []) old new
+  pub fault : Rose old.faults new.faults
+  pub bodies : AreOpened topology at old start now
+
+-- what a call leaves where memory was wanting: it was not made, or it opened a source for whose lines there was no memory. That
+-- went back under its name, or was let go where there was no memory for that either
+pub data IsCut (edges : EdgesSeen) (call : Option (EdgeKind × List ℕ)) (calls : List (EdgeKind × List ℕ)) (back : List (List ℕ × SourceSeen)) : Type 0 where
+  uncalled : calls ≡ [] → back ≡ [] → IsCut edges call calls back
+  returned : (name : List ℕ) (source : SourceSeen) → call ≡ Some (Source, name) → calls ≡ (Source, name) ∷ [] → GivesSource edges name source → back ≡ (name, source) ∷ [] → IsCut edges call calls back
+  let_go : (name : List ℕ) → call ≡ Some (Source, name) → calls ≡ (Source, name) ∷ [] → back ≡ [] → IsCut edges call calls back
+
+-- ---- one stage
+
+-- the body at this place has what the call opened, and all others are as they were
+abbrev pub AreOpenedAt : (at : ℕ) → Option (EdgeKind × List ℕ) → EdgesSeen → (old new : ℕ → Option BodySeen) → Type 0
+AreOpenedAt at call edges old new = (s : ℕ) → Both (IsOpened edges (if at == s then call else None)) (old s) (new s)
+
+pub record IsOneOpened (call : Option (EdgeKind × List ℕ)) (at : ℕ) (old new : EdgesSeen) (start now : ℕ → Option BodySeen) : Type 0 where
+  pub asks : Asks (one call) old new
+  pub bodies : AreOpenedAt at call old start now
+
+-- the call failed by this name
+pub record IsOneFailed (call : Option (EdgeKind × List ℕ)) (name : List ℕ) (old new : EdgesSeen) : Type 0 where
+  pub kind : EdgeKind
+  pub is : call ≡ Some (kind, name)
+  pub asks : Asks ((kind, name) ∷ []) old new
+  pub fault : Rose old.faults new.faults
+
+-- memory was wanting
+pub record IsOneCut (call : Option (EdgeKind × List ℕ)) (old new : EdgesSeen) : Type 0 where
+  pub calls : List (EdgeKind × List ℕ)
+  pub back : List (List ℕ × SourceSeen)
+  pub cut : IsCut old call calls back
+  pub same_telling : new.told ≡ old.told
+  pub asked : IsTrue old.told → new.asked ≡ old.asked ++ calls
+  pub sources : new.sources_back ≡ old.sources_back ++ back
+  pub sinks : new.sinks_back ≡ old.sinks_back
+  pub faults_stay : old.faults ≤ new.faults
+
+-- what the opening of one stage comes to
+abbrev pub OpensOne : {T : Type 0} → Option (EdgeKind × List ℕ) → (at : ℕ) → Result T Unopened → (old new : EdgesSeen) → (start now : ℕ → Option BodySeen) → Type 0
+OpensOne call at (Ok _) old new start now = IsOneOpened call at old new start now
+OpensOne call at (Err (Failed name)) old new start now = IsOneFailed call name old new
+OpensOne call at (Err OutOfMemory) old new start now = IsOneCut call old new
+
+-- a source without memory for its lines went back under its name, or was let go where there was no memory for that either
+pub record IsReturned (name : List ℕ) (source : SourceSeen) (old new : EdgesSeen) : Type 0 where
+  pub same_telling : new.told ≡ old.told
+  pub asked : IsTrue old.told → new.asked ≡ old.asked
+  pub back : List (List ℕ × SourceSeen)
+  pub sources : new.sources_back ≡ old.sources_back ++ back
+  pub which : (back ≡ (name, source) ∷ []) ⊎ (back ≡ [])
+  pub sinks : new.sinks_back ≡ old.sinks_back
+  pub no_fault : new.faults ≡ old.faults
+
+-- ---- all stages
+
+-- memory was wanting at a stage, after the calls of the stages before it, whose bodies have what these opened
+pub record IsCutOff (topology : Topology) (old new : EdgesSeen) (start now : ℕ → Option BodySeen) : Type 0 where
+  pub at : ℕ
+  pub spec : StageSpec
+  pub here : slice_get topology.stages at ≡ Some spec
+  pub calls : List (EdgeKind × List ℕ)
+  pub back : List (List ℕ × SourceSeen)
+  pub cut : IsCut old (edge_call spec) calls back
+  pub same_telling : new.told ≡ old.told
+  pub asked : IsTrue old.told → new.asked ≡ old.asked ++ (calls_of (take at topology.stages) ++ calls)
+  pub sources : new.sources_back ≡ old.sources_back ++ back
+  pub sinks : new.sinks_back ≡ old.sinks_back
+  pub faults_stay : old.faults ≤ new.faults
+  pub bodies : AreOpened topology at old start now

@@ -1,0 +1,88 @@
+-- What a run gives back by name, stage by stage.
+use Rattle.std.specs.Prelude.{◌≡◌, ◌<◌, ◌≤◌, ◌++◌, ℕ, List, [], ◌∷◌, length, take, slice_get, Option, Some, None, option_map, IsTrue}
+use Rattle.std.specs.List.{flat_map}
+use Rattle.pipe_types.specs.Counts.{Rose}
+use Rattle.pipe_types.specs.Numbers.{post}
+use Rattle.pipe_types.specs.declared.topology.StageSpec.{StageSpec}
+use Rattle.pipe_types.specs.declared.topology.Topology.{Topology}
+use Rattle.pipe_edges.specs.declared.edges.EdgeKind.{EdgeKind}
+use Rattle.pipe_edges.specs.declared.edges.EdgeKind.TheVariants.{Source, Sink}
+use Rattle.stage_bodies.specs.Seen.{SourceSeen, SinkSeen, BodySeen}
+use Rattle.stage_bodies.specs.Jobs.{Both}
+use Rattle.stage_bodies.specs.Posts.{place_at}
+use Rattle.edge_names.specs.Seen.{EdgesSeen}
+use Rattle.edge_names.specs.Opened.{edge_call, calls_of, AreOpened}
+
+-- ---- what is given back
+
+abbrev pub source_in : Option BodySeen → Option SourceSeen
+source_in (Some body) = option_map (λ lines. lines.source) body.source
+source_in None = None
+
+abbrev pub sink_in : Option BodySeen → Option SinkSeen
+sink_in (Some body) = body.sink
+sink_in None = None
+
+abbrev pub with_name : {A : Type 0} → List ℕ → Option A → List (List ℕ × A)
+with_name name (Some x) = (name, x) ∷ []
+with_name name None = []
+
+-- the source that stands in the body of a stage that opened one, with its name
+abbrev pub named_source : Option (EdgeKind × List ℕ) → Option BodySeen → List (List ℕ × SourceSeen)
+named_source (Some (Source, name)) body = with_name name (source_in body)
+named_source _ body = []
+
+-- the sink that stands in the body of a stage that opened one, with its name
+abbrev pub named_sink : Option (EdgeKind × List ℕ) → Option BodySeen → List (List ℕ × SinkSeen)
+named_sink (Some (Sink, name)) body = with_name name (sink_in body)
+named_sink _ body = []
+
+-- the sources of these stages, with their names, in stage order
+abbrev pub sources_of : List StageSpec → (ℕ → Option BodySeen) → List (List ℕ × SourceSeen)
+sources_of stages table = flat_map (λ spec. named_source (edge_call spec) (table (place_at (post spec.no 0)))) stages
+
+-- the sinks of these stages, with their names, in stage order
+abbrev pub sinks_of : List StageSpec → (ℕ → Option BodySeen) → List (List ℕ × SinkSeen)
+sinks_of stages table = flat_map (λ spec. named_sink (edge_call spec) (table (place_at (post spec.no 0)))) stages
+
+-- these were given back, and nothing was asked
+pub record GivesBack (sources : List (List ℕ × SourceSeen)) (sinks : List (List ℕ × SinkSeen)) (old new : EdgesSeen) : Type 0 where
+  pub same_telling : new.told ≡ old.told
+  pub asked : IsTrue old.told → new.asked ≡ old.asked
+  pub back_sources : new.sources_back ≡ old.sources_back ++ sources
+  pub back_sinks : new.sinks_back ≡ old.sinks_back ++ sinks
+  pub no_fault : new.faults ≡ old.faults
+
+-- memory was wanting: what the first stages opened was given back
+pub record IsBackInPart (topology : Topology) (table : ℕ → Option BodySeen) (old new : EdgesSeen) : Type 0 where
+  pub stages : ℕ
+  pub some_left : stages < length topology.stages
+  pub back : GivesBack (sources_of (take stages topology.stages) table) (sinks_of (take stages topology.stages) table) old new
+
+-- every body has the callback that it had
+abbrev pub KeepsCallbacks : (old new : ℕ → Option BodySeen) → Type 0
+KeepsCallbacks old new = (at : ℕ) → Both (λ before now. now.callback ≡ before.callback) (old at) (new at)
+
+-- ---- what is undone
+
+-- the call of a stage failed by this name, and what was opened before it was given back in order
+pub record IsUndone (topology : Topology) (name : List ℕ) (start : ℕ → Option BodySeen) (old new : EdgesSeen) : Type 0 where
+  pub at : ℕ
+  pub kind : EdgeKind
+  pub spec : StageSpec
+  pub here : slice_get topology.stages at ≡ Some spec
+  pub call : edge_call spec ≡ Some (kind, name)
+  pub opened : ℕ → Option BodySeen
+  pub bodies : AreOpened topology at old start opened
+  pub same_telling : new.told ≡ old.told
+  pub asked : IsTrue old.told → new.asked ≡ old.asked ++ (calls_of (take at topology.stages) ++ (kind, name) ∷ [])
+  pub fault : Rose old.faults new.faults
+  pub sources : new.sources_back ≡ old.sources_back ++ sources_of topology.stages opened
+  pub sinks : new.sinks_back ≡ old.sinks_back ++ sinks_of topology.stages opened
+
+-- memory was wanting: so many of the first calls were made
+pub record IsAskedInPart (calls : List (EdgeKind × List ℕ)) (old new : EdgesSeen) : Type 0 where
+  pub same_telling : new.told ≡ old.told
+  pub count : ℕ
+  pub asked : IsTrue old.told → new.asked ≡ old.asked ++ take count calls
+  pub faults_stay : old.faults ≤ new.faults

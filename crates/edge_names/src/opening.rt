@@ -1,0 +1,225 @@
+//! Opening by name, in stage order.
+
+ghost use Rattle.std.specs.Prelude.{◌≡◌, ◌==◌, ℕ, None, Some, if◌then◌else◌, length, option_map, IfOk, IfErr, OnOk, OnErr, IsSome};
+ghost use Rattle.pipe_types.specs.Sound.{IsSound};
+ghost use Rattle.stage_bodies.specs.Seen.{line_seen, body_at, with_source, with_sink};
+ghost use Rattle.pipe_edges.specs.declared.edges.EdgeKind.TheVariants.{Source, Sink};
+ghost use Rattle.edge_names.specs.Returned.{IsAskedInPart, IsUndone, KeepsCallbacks};
+ghost use Rattle.edge_names.specs.Opened.{Asks, AreHome, AreOpened, IfCutOff, IfFailed, IsCutOff, IsFailed, IsReturned, OpensOne, edge_calls, edge_call, fresh_lines};
+
+use crate::back::give_back_all;
+use crate::seen::{SeenEdges, SeenSink, SeenSource, back_source, open_sink, open_source};
+use pipe_edges::{ByteSink, ByteSource, EdgeEnd, Edges, LineSource};
+use pipe_types::bytes::Text;
+use pipe_types::numbers::Post;
+use pipe_types::topology::{Role, StageSpec, Topology};
+use stage_bodies::{Houses, place_of, put_back, take_out};
+use std::alloc::{AllocError, Global};
+
+/// Why not everything is open.
+#[derive(Drop, Debug)]
+pub enum Unopened {
+    /// The call by this name failed.
+    Failed(Text),
+    OutOfMemory,
+}
+
+/// A text of its own.
+fn copy_text(alloc: Global, text: &Text) -> Result<Text, AllocError>
+    ensures { IfOk result (λ copy. copy ≡ text.now) }
+{
+    Ok(Text::from_string(String::from_str(alloc, text.as_str())?))
+}
+
+/// Gives a body its source.
+fn set_source<S: ByteSource + Drop, K: ByteSink, B: Houses<S, K>>(
+    bodies: &mut Vec<Option<B>>,
+    at: usize,
+    lines: LineSource<S>,
+)
+    ensures len { length bodies.new.items ≡ length bodies.old.items }
+    ensures others { (s : ℕ) → body_at B.look bodies.new.items s
+        ≡ (if at == s then option_map (with_source (line_seen S.told S.taken S.left S.faults S.waits lines)) (body_at B.look bodies.old.items s) else body_at B.look bodies.old.items s) }
+{
+    if let Some(body) = take_out(bodies, at) {
+        let mut body = body;
+        body.put_source(lines);
+        put_back(bodies, at, body);
+    }
+}
+
+/// Gives a body its sink.
+fn set_sink<S: ByteSource, K: ByteSink + Drop, B: Houses<S, K>>(
+    bodies: &mut Vec<Option<B>>,
+    at: usize,
+    sink: K,
+)
+    ensures len { length bodies.new.items ≡ length bodies.old.items }
+    ensures others { (s : ℕ) → body_at B.look bodies.new.items s
+        ≡ (if at == s then option_map (with_sink (⟦<K as SeenSink>⟧.seen sink)) (body_at B.look bodies.old.items s) else body_at B.look bodies.old.items s) }
+{
+    if let Some(body) = take_out(bodies, at) {
+        let mut body = body;
+        body.put_sink(sink);
+        put_back(bodies, at, body);
+    }
+}
+
+/// Puts an opened source into a body. For want of memory it goes back under its name, as far as there is memory for that.
+fn hold_source<E: Edges, B: Houses<E::Source, E::Sink>>(
+    alloc: Global,
+    name: &Text,
+    source: E::Source,
+    at: usize,
+    bodies: &mut Vec<Option<B>>,
+    edges: &mut E,
+) -> Result<(), AllocError>
+    ensures held { OnOk result ((s : ℕ) → body_at B.look bodies.new.items s
+        ≡ (if at == s then option_map (with_source (fresh_lines (⟦<E::Source as SeenSource>⟧.seen source))) (body_at B.look bodies.old.items s) else body_at B.look bodies.old.items s)) }
+    ensures untouched { OnOk result (edges.new ≡ edges.old) }
+    ensures returned { OnErr result (IsReturned name.now (⟦<E::Source as SeenSource>⟧.seen source) (⟦<E as SeenEdges>⟧.seen edges.old) (⟦<E as SeenEdges>⟧.seen edges.new)) }
+    ensures same { OnErr result (bodies.new.items ≡ bodies.old.items) }
+    ensures len { length bodies.new.items ≡ length bodies.old.items }
+{
+    match LineSource::new(alloc, source) {
+        Ok(lines) => {
+            set_source(bodies, at, lines);
+            Ok(())
+        }
+        Err((source, error)) => {
+            let _ = back_source(name, source, edges);
+            Err(error)
+        }
+    }
+}
+
+/// Opens the source of this name into the body at this place.
+fn open_source_into<E: Edges, B: Houses<E::Source, E::Sink>>(
+    alloc: Global,
+    name: &Text,
+    at: usize,
+    bodies: &mut Vec<Option<B>>,
+    edges: &mut E,
+) -> Result<(), Unopened>
+    requires home { IsSome (body_at B.look bodies.old.items at) }
+    ensures opens { OpensOne (Some (Source, name.now)) at result (⟦<E as SeenEdges>⟧.seen edges.old) (⟦<E as SeenEdges>⟧.seen edges.new) (body_at B.look bodies.old.items) (body_at B.look bodies.new.items) }
+    ensures same { OnErr result (bodies.new.items ≡ bodies.old.items) }
+    ensures len { length bodies.new.items ≡ length bodies.old.items }
+{
+    let Ok(source_name) = copy_text(alloc, name) else {
+        return Err(Unopened::OutOfMemory);
+    };
+    match open_source(name, edges) {
+        Ok(source) => match hold_source(alloc, name, source, at, bodies, edges) {
+            Ok(()) => Ok(()),
+            Err(AllocError) => Err(Unopened::OutOfMemory),
+        },
+        Err(EdgeEnd::Failed) => Err(Unopened::Failed(source_name)),
+        Err(EdgeEnd::OutOfMemory) => Err(Unopened::OutOfMemory),
+    }
+}
+
+/// Opens the sink of this name into the body at this place.
+fn open_sink_into<E: Edges, B: Houses<E::Source, E::Sink>>(
+    alloc: Global,
+    name: &Text,
+    at: usize,
+    bodies: &mut Vec<Option<B>>,
+    edges: &mut E,
+) -> Result<(), Unopened>
+    requires home { IsSome (body_at B.look bodies.old.items at) }
+    ensures opens { OpensOne (Some (Sink, name.now)) at result (⟦<E as SeenEdges>⟧.seen edges.old) (⟦<E as SeenEdges>⟧.seen edges.new) (body_at B.look bodies.old.items) (body_at B.look bodies.new.items) }
+    ensures same { OnErr result (bodies.new.items ≡ bodies.old.items) }
+    ensures len { length bodies.new.items ≡ length bodies.old.items }
+{
+    let Ok(sink_name) = copy_text(alloc, name) else {
+        return Err(Unopened::OutOfMemory);
+    };
+    match open_sink(name, edges) {
+        Ok(sink) => {
+            set_sink(bodies, at, sink);
+            Ok(())
+        }
+        Err(EdgeEnd::Failed) => Err(Unopened::Failed(sink_name)),
+        Err(EdgeEnd::OutOfMemory) => Err(Unopened::OutOfMemory),
+    }
+}
+
+/// Opens what a stage has, into the body at this place.
+fn open_stage<E: Edges, B: Houses<E::Source, E::Sink>>(
+    alloc: Global,
+    spec: &StageSpec,
+    at: usize,
+    bodies: &mut Vec<Option<B>>,
+    edges: &mut E,
+) -> Result<(), Unopened>
+    requires home { IsSome (edge_call spec.now) → IsSome (body_at B.look bodies.old.items at) }
+    ensures opens { OpensOne (edge_call spec.now) at result (⟦<E as SeenEdges>⟧.seen edges.old) (⟦<E as SeenEdges>⟧.seen edges.new) (body_at B.look bodies.old.items) (body_at B.look bodies.new.items) }
+    ensures same { OnErr result (bodies.new.items ≡ bodies.old.items) }
+    ensures len { length bodies.new.items ≡ length bodies.old.items }
+{
+    match &spec.edge {
+        Some(name) => match spec.role {
+            Role::Producer => open_source_into(alloc, name, at, bodies, edges),
+            Role::BatchProcessor => open_sink_into(alloc, name, at, bodies, edges),
+            _ => Ok(()),
+        },
+        None => Ok(()),
+    }
+}
+
+/// Opens the sources of the producers and the sinks of the batch processors, in stage order, into their bodies. After a
+/// failure what was opened before it stands in the bodies.
+pub fn open_all<E: Edges, B: Houses<E::Source, E::Sink>>(
+    alloc: Global,
+    topology: &Topology,
+    bodies: &mut Vec<Option<B>>,
+    edges: &mut E,
+) -> Result<(), Unopened>
+    requires sound { IsSound topology.now }
+    requires home { AreHome topology.now (body_at B.look bodies.old.items) }
+    ensures asks { OnOk result (Asks (edge_calls topology.now) (⟦<E as SeenEdges>⟧.seen edges.old) (⟦<E as SeenEdges>⟧.seen edges.new)) }
+    ensures opened { OnOk result (AreOpened topology.now (length topology.now.stages) (⟦<E as SeenEdges>⟧.seen edges.old) (body_at B.look bodies.old.items) (body_at B.look bodies.new.items)) }
+    ensures failed { IfErr result (λ e. IfFailed e (λ name. IsFailed topology.now name (⟦<E as SeenEdges>⟧.seen edges.old) (⟦<E as SeenEdges>⟧.seen edges.new) (body_at B.look bodies.old.items) (body_at B.look bodies.new.items))) }
+    ensures cut_off { IfErr result (λ e. IfCutOff e (IsCutOff topology.now (⟦<E as SeenEdges>⟧.seen edges.old) (⟦<E as SeenEdges>⟧.seen edges.new) (body_at B.look bodies.old.items) (body_at B.look bodies.new.items))) }
+    ensures len { length bodies.new.items ≡ length bodies.old.items }
+    ensures callbacks { KeepsCallbacks (body_at B.look bodies.old.items) (body_at B.look bodies.new.items) }
+{
+    for spec in topology.stages.as_slice() {
+        let at = place_of(Post {
+            stage: spec.no,
+            slot: 0,
+        });
+        match open_stage(alloc, spec, at, bodies, edges) {
+            Ok(()) => {}
+            Err(unopened) => return Err(unopened),
+        }
+    }
+    Ok(())
+}
+
+/// Opens all, or gives back what was opened before a call failed. Where giving back finds no memory, or opening did, some of
+/// what was opened may still stand in the bodies.
+pub fn open_or_give_back<E: Edges, B: Houses<E::Source, E::Sink>>(
+    alloc: Global,
+    topology: &Topology,
+    bodies: &mut Vec<Option<B>>,
+    edges: &mut E,
+) -> Result<(), Unopened>
+    requires sound { IsSound topology.now }
+    requires home { AreHome topology.now (body_at B.look bodies.old.items) }
+    ensures asks { OnOk result (Asks (edge_calls topology.now) (⟦<E as SeenEdges>⟧.seen edges.old) (⟦<E as SeenEdges>⟧.seen edges.new)) }
+    ensures opened { OnOk result (AreOpened topology.now (length topology.now.stages) (⟦<E as SeenEdges>⟧.seen edges.old) (body_at B.look bodies.old.items) (body_at B.look bodies.new.items)) }
+    ensures undone { IfErr result (λ e. IfFailed e (λ name. IsUndone topology.now name (body_at B.look bodies.old.items) (⟦<E as SeenEdges>⟧.seen edges.old) (⟦<E as SeenEdges>⟧.seen edges.new))) }
+    ensures in_part { IfErr result (λ e. IfCutOff e (IsAskedInPart (edge_calls topology.now) (⟦<E as SeenEdges>⟧.seen edges.old) (⟦<E as SeenEdges>⟧.seen edges.new))) }
+    ensures len { length bodies.new.items ≡ length bodies.old.items }
+    ensures callbacks { KeepsCallbacks (body_at B.look bodies.old.items) (body_at B.look bodies.new.items) }
+{
+    match open_all(alloc, topology, bodies, edges) {
+        Ok(()) => Ok(()),
+        Err(unopened) => match give_back_all(topology, bodies, edges) {
+            Ok(()) => Err(unopened),
+            Err(_) => Err(Unopened::OutOfMemory),
+        },
+    }
+}
