@@ -1,0 +1,106 @@
+//! The answers to jobs.
+
+ghost use Rattle.std.specs.Prelude.{◌≡◌, ◌∷◌, false, OnOk, OnErr, IsTrue};
+ghost use Rattle.pipe_types.specs.declared.step.Step.TheVariants.{Accept, Done, Wrote, ChildEnd};
+ghost use Rattle.pipe_model.specs.Content.{has_crash};
+ghost use Rattle.pipe_model.specs.Legal.{allows};
+ghost use Rattle.core_state.specs.Stands.{Stands};
+ghost use Rattle.core_accepts.specs.Records.{and_dispatch};
+ghost use Rattle.stage_bodies.specs.Posts.{step_of, is_crash, is_crashed_end};
+ghost use Rattle.core_jobs.specs.Recorded.{with_answer};
+
+use core_accepts::calls::accept;
+use core_batches::writes::wrote;
+use core_calls::sources::{quiet, source_end};
+use core_children::child_end;
+use core_state::Core;
+use core_takes::answers::answer;
+use pipe_types::bytes::BytesList;
+use pipe_types::message::{BatchEnd, Reply, ReplyList};
+use pipe_types::numbers::{Post, StageNo};
+use stage_bodies::{Answer, Outcome};
+use std::alloc::AllocError;
+
+/// Appends the answer to the job of a post, which is no crash of a processor or a batch processor. Behind records comes the
+/// dispatch that they owe. Where memory is wanting the answer is gone.
+pub fn record_answer(core: &mut Core, answer: Answer) -> Result<(), AllocError>
+    requires stands { Stands core.old }
+    requires legal { IsTrue (allows core.old.topology core.old.journal.steps (step_of answer.post answer.outcome)) }
+    requires calm { is_crash answer.outcome ≡ false }
+    ensures appended { OnOk result (core.new.journal.steps ≡ with_answer core.old.topology core.old.journal.steps answer.post answer.outcome) }
+    ensures unchanged { OnErr result (core.new.journal.steps ≡ core.old.journal.steps) }
+    ensures topology { core.new.topology ≡ core.old.topology }
+    ensures stands { Stands core.new }
+{
+    let Answer {
+        post: Post { stage, slot },
+        outcome,
+        ..
+    } = answer;
+    match outcome {
+        Outcome::Records(records) => bring(core, stage, records),
+        Outcome::NotYet => quiet(core, stage),
+        Outcome::Ended(how) => source_end(core, stage, how),
+        Outcome::Replies(replies) => reply(core, stage, replies),
+        Outcome::Wrote(bytes, end) => end_batch(core, stage, bytes, end),
+        Outcome::Reply(reply) => end_child(core, stage, slot, reply),
+    }
+}
+
+fn bring(core: &mut Core, stage: StageNo, records: BytesList) -> Result<(), AllocError>
+    requires stands { Stands core.old }
+    requires legal { IsTrue (allows core.old.topology core.old.journal.steps (Accept stage records)) }
+    ensures appended { OnOk result (core.new.journal.steps ≡ and_dispatch core.old.topology (Accept stage records ∷ core.old.journal.steps) stage) }
+    ensures unchanged { OnErr result (core.new.journal.steps ≡ core.old.journal.steps) }
+    ensures topology { core.new.topology ≡ core.old.topology }
+    ensures stands { Stands core.new }
+{
+    match accept(core, stage, records) {
+        Ok(()) => Ok(()),
+        Err((_, failed)) => Err(failed),
+    }
+}
+
+fn reply(core: &mut Core, stage: StageNo, replies: ReplyList) -> Result<(), AllocError>
+    requires stands { Stands core.old }
+    requires legal { IsTrue (allows core.old.topology core.old.journal.steps (Done stage replies)) }
+    requires calm { has_crash replies ≡ false }
+    ensures appended { OnOk result (core.new.journal.steps ≡ Done stage replies ∷ core.old.journal.steps) }
+    ensures unchanged { OnErr result (core.new.journal.steps ≡ core.old.journal.steps) }
+    ensures topology { core.new.topology ≡ core.old.topology }
+    ensures stands { Stands core.new }
+{
+    match answer(core, stage, replies) {
+        Ok(()) => Ok(()),
+        Err((_, failed)) => Err(failed),
+    }
+}
+
+fn end_batch(core: &mut Core, stage: StageNo, bytes: u64, end: BatchEnd) -> Result<(), AllocError>
+    requires stands { Stands core.old }
+    requires legal { IsTrue (allows core.old.topology core.old.journal.steps (Wrote stage bytes end)) }
+    requires calm { is_crashed_end end ≡ false }
+    ensures appended { OnOk result (core.new.journal.steps ≡ Wrote stage bytes end ∷ core.old.journal.steps) }
+    ensures unchanged { OnErr result (core.new.journal.steps ≡ core.old.journal.steps) }
+    ensures topology { core.new.topology ≡ core.old.topology }
+    ensures stands { Stands core.new }
+{
+    match wrote(core, stage, end, bytes) {
+        Ok(()) => Ok(()),
+        Err((_, failed)) => Err(failed),
+    }
+}
+
+fn end_child(core: &mut Core, stage: StageNo, slot: u16, reply: Reply) -> Result<(), AllocError>
+    requires stands { Stands core.old }
+    requires legal { IsTrue (allows core.old.topology core.old.journal.steps (ChildEnd stage slot reply)) }
+    ensures appended { OnOk result (core.new.journal.steps ≡ ChildEnd stage slot reply ∷ core.old.journal.steps) }
+    ensures unchanged { OnErr result (core.new.journal.steps ≡ core.old.journal.steps) }
+    ensures topology { core.new.topology ≡ core.old.topology }
+    ensures stands { Stands core.new }
+{
+    match child_end(core, stage, slot, reply) {
+        Ok(()) => Ok(()),
+        Err((_, failed)) => Err(failed),
+    }
+}

@@ -1,0 +1,130 @@
+//! The jobs that begin.
+
+ghost use Rattle.std.specs.Prelude.{◌≡◌, true, false, IfOk, OnErr, IsTrue};
+ghost use Rattle.pipe_types.specs.declared.step.Step.TheVariants.{Fetch};
+ghost use Rattle.pipe_model.specs.Jobs.{may_take_next};
+ghost use Rattle.pipe_model.specs.Legal.{allows, bound, has_role, is_producer_role, is_supervisor_role};
+ghost use Rattle.move_laws.specs.NextMoves.{MayBegin};
+ghost use Rattle.core_state.specs.Stands.{Stands};
+ghost use Rattle.core_children.specs.Starts.{may_start_child};
+ghost use Rattle.stage_bodies.specs.Posts.{IsJobOf};
+ghost use Rattle.core_jobs.specs.Begun.{IsBegun, work_on};
+
+use core_accepts::fetches::fetch;
+use core_children::child_start;
+use core_state::Core;
+use core_takes::takes::{Chunk, take};
+use pipe_types::numbers::{Post, StageNo};
+use pipe_types::topology::{Role, Topology};
+use stage_bodies::{Job, Work};
+use std::alloc::AllocError;
+
+/// Appends the begin of the stage's job that comes next, and gives the job out: a producer fetches, a processor or a batch
+/// processor takes what stands first in its inbox, and a supervisor starts a child.
+pub fn begin_job(core: &mut Core, stage: StageNo) -> Result<Job, AllocError>
+    requires stands { Stands core.old }
+    requires begins { MayBegin core.old.topology core.old.journal.steps stage }
+    ensures begun { IfOk result (λ job. IsBegun core.old.topology core.old.journal.steps stage core.new.journal.steps job) }
+    ensures job { IfOk result (λ job. IsJobOf core.new.topology core.new.journal.steps job) }
+    ensures unchanged { OnErr result (core.new.journal.steps ≡ core.old.journal.steps) }
+    ensures topology { core.new.topology ≡ core.old.topology }
+    ensures stands { Stands core.new }
+{
+    if is_producer(&core.topology, stage) {
+        return begin_fetch(core, stage);
+    }
+    if is_supervisor(&core.topology, stage) {
+        return begin_child(core, stage);
+    }
+    begin_take(core, stage)
+}
+
+/// Whether the stage is a producer.
+fn is_producer(topology: &Topology, stage: StageNo) -> bool
+    ensures { result ≡ has_role topology.now stage is_producer_role }
+{
+    match topology.stages.find(stage) {
+        Some(spec) => matches!(spec.role, Role::Producer),
+        None => false,
+    }
+}
+
+/// Whether the stage is a supervisor.
+fn is_supervisor(topology: &Topology, stage: StageNo) -> bool
+    ensures { result ≡ has_role topology.now stage is_supervisor_role }
+{
+    match topology.stages.find(stage) {
+        Some(spec) => matches!(spec.role, Role::Supervisor),
+        None => false,
+    }
+}
+
+/// Appends the fetch of the producer.
+fn begin_fetch(core: &mut Core, stage: StageNo) -> Result<Job, AllocError>
+    requires stands { Stands core.old }
+    requires legal { IsTrue (allows core.old.topology core.old.journal.steps (Fetch stage (bound core.old.topology core.old.journal.steps stage))) }
+    ensures begun { IfOk result (λ job. IsBegun core.old.topology core.old.journal.steps stage core.new.journal.steps job) }
+    ensures job { IfOk result (λ job. IsJobOf core.new.topology core.new.journal.steps job) }
+    ensures unchanged { OnErr result (core.new.journal.steps ≡ core.old.journal.steps) }
+    ensures topology { core.new.topology ≡ core.old.topology }
+    ensures stands { Stands core.new }
+{
+    let incarnation = core.incarnation(stage);
+    let most = fetch(core, stage)?;
+    Ok(Job {
+        post: Post { stage, slot: 0 },
+        incarnation,
+        work: Work::Fetch(most),
+    })
+}
+
+/// Appends the take of the processor or the batch processor.
+fn begin_take(core: &mut Core, stage: StageNo) -> Result<Job, AllocError>
+    requires stands { Stands core.old }
+    requires legal { IsTrue (may_take_next core.old.topology core.old.journal.steps stage) }
+    ensures begun { IfOk result (λ job. IsBegun core.old.topology core.old.journal.steps stage core.new.journal.steps job) }
+    ensures job { IfOk result (λ job. IsJobOf core.new.topology core.new.journal.steps job) }
+    ensures unchanged { OnErr result (core.new.journal.steps ≡ core.old.journal.steps) }
+    ensures topology { core.new.topology ≡ core.old.topology }
+    ensures stands { Stands core.new }
+{
+    let incarnation = core.incarnation(stage);
+    let chunk = take(core, stage)?;
+    Ok(Job {
+        post: Post { stage, slot: 0 },
+        incarnation,
+        work: work_of(chunk),
+    })
+}
+
+/// The work on what was taken.
+fn work_of(chunk: Chunk) -> Work
+    ensures { result ≡ work_on chunk }
+{
+    match chunk {
+        Chunk::Messages(messages) => Work::Chunk(messages),
+        Chunk::Batch(batch) => Work::Batch(batch),
+    }
+}
+
+/// Appends the start of a child of the supervisor.
+fn begin_child(core: &mut Core, stage: StageNo) -> Result<Job, AllocError>
+    requires stands { Stands core.old }
+    requires legal { IsTrue (may_start_child core.old.topology core.old.journal.steps stage) }
+    ensures begun { IfOk result (λ job. IsBegun core.old.topology core.old.journal.steps stage core.new.journal.steps job) }
+    ensures job { IfOk result (λ job. IsJobOf core.new.topology core.new.journal.steps job) }
+    ensures unchanged { OnErr result (core.new.journal.steps ≡ core.old.journal.steps) }
+    ensures topology { core.new.topology ≡ core.old.topology }
+    ensures stands { Stands core.new }
+{
+    let incarnation = core.incarnation(stage);
+    let child = child_start(core, stage)?;
+    Ok(Job {
+        post: Post {
+            stage,
+            slot: child.slot,
+        },
+        incarnation,
+        work: Work::Child(child.message),
+    })
+}

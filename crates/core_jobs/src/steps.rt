@@ -1,0 +1,44 @@
+//! The steps that a pipeline takes of its own accord.
+
+ghost use Rattle.std.specs.Prelude.{◌≡◌, ◌∷◌, OnOk, OnErr, IsTrue};
+ghost use Rattle.pipe_model.specs.Legal.{allows};
+ghost use Rattle.core_state.specs.Stands.{Stands};
+ghost use Rattle.core_jobs.specs.Steps.{is_own_step};
+
+use core_batches::gathers::gather;
+use core_calls::asks::ask;
+use core_closes::close;
+use core_moves::drain::begin;
+use core_sends::sending::dispatch;
+use core_state::Core;
+use pipe_types::step::Step;
+use std::alloc::AllocError;
+
+/// Appends the step: an ask, a dispatch, a gather, the close of a batch, or the begin of the drain.
+pub fn own_step(core: &mut Core, step: Step) -> Result<(), AllocError>
+    requires stands { Stands core.old }
+    requires legal { IsTrue (allows core.old.topology core.old.journal.steps step) }
+    requires own { IsTrue (is_own_step step) }
+    ensures appended { OnOk result (core.new.journal.steps ≡ step ∷ core.old.journal.steps) }
+    ensures unchanged { OnErr result (core.new.journal.steps ≡ core.old.journal.steps) }
+    ensures topology { core.new.topology ≡ core.old.topology }
+    ensures stands { Stands core.new }
+{
+    match step {
+        Step::Ask { sub, .. } => {
+            ask(core, sub)?;
+            Ok(())
+        }
+        Step::Dispatch { stage } => dispatch(core, stage),
+        Step::Gather { stage, .. } => {
+            gather(core, stage)?;
+            Ok(())
+        }
+        Step::Close { stage, first, .. } => {
+            close(core, stage, first)?;
+            Ok(())
+        }
+        Step::Drain { cause } => begin(core, cause),
+        _ => unreachable!(),
+    }
+}
