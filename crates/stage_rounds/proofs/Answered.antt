@@ -1,0 +1,236 @@
+-- What a job with its answer leaves of a run.
+use Rattle.std.proofs.Common.{◌≡◌, ℕ, ◌+◌, ◌≤◌, ◌<◌, ◌∷◌, Bool, true, false, refl, ap, sym, ◌∙◌, subst, inl, Some, None, Option, arith}
+use Rattle.std.specs.Prelude.{◌==◌, if◌then◌else◌, IsSome}
+use Rattle.pipe_types.specs.declared.numbers.StageNo.{StageNo}
+use Rattle.pipe_types.specs.declared.numbers.Post.{Post}
+use Rattle.pipe_types.specs.declared.step.Step.TheVariants.{Accept, SourceEnd, Done, Wrote, ChildEnd, Dispatch}
+use Rattle.pipe_types.specs.declared.topology.Topology.{Topology}
+use Rattle.pipe_types.specs.Sound.{IsSound}
+use Rattle.pipe_model.specs.History.{History, now}
+use Rattle.pipe_model.specs.Posts.{puts_out}
+use Rattle.pipe_model.specs.Legal.{is_legal, owed, may_dispatch, quiet_row}
+use Rattle.pipe_model.specs.Moves.{jobs_out}
+use Rattle.pipe_laws.proofs.Allowed.{legal_before}
+use Rattle.run_claims.specs.Followed.{FollowsMoves, IsNextMove}
+use Rattle.run_claims.specs.Read.{HasNoControl}
+use Rattle.work_laws.specs.Work.{is_killing}
+use Rattle.work_laws.specs.Left.{work_left}
+use Rattle.work_laws.proofs.Leaving.{work_lowers, quiet_lowers}
+use Rattle.stage_bodies.specs.Seen.{BodySeen}
+use Rattle.stage_bodies.specs.Jobs.{Both, IsDone}
+use Rattle.stage_bodies.specs.Posts.{place_at, IsOutNow, IsJobOf, step_of}
+use Rattle.stage_bodies.specs.declared.job.Answer.{Answer}
+use Rattle.stage_bodies.specs.declared.job.Job.{Job}
+use Rattle.stage_bodies.specs.declared.job.Outcome.{Outcome as Came}
+use Rattle.stage_bodies.specs.declared.job.Outcome.TheVariants as came
+use Rattle.body_laws.specs.Keeps.{KeepsBody, Keeps}
+use Rattle.body_laws.specs.Ready.{There, IsBodyAt, Ready}
+use Rattle.body_laws.proofs.Laws.{silent_keeps, silent_ready, away_keeps, away_ready, answer_keeps, answer_ready, step_puts_out, answers_self, names_slot, stage_low, NamesSlot}
+use Rattle.body_laws.proofs.Jobs.{begun_keeps, begun_ready}
+use Rattle.core_jobs.specs.Recorded.{with_answer}
+use Rattle.stage_rounds.specs.Steps.{jobs_begun, was_killed}
+use Rattle.stage_rounds.specs.Going.{GoesOn, IsAtRest, HasCallback}
+use Rattle.stage_rounds.proofs.Own.{unkilled_more, own_out}
+use Rattle.stage_rounds.proofs.Outs.{none_out_after, put_only}
+use Rattle.stage_rounds.proofs.Working.{Began}
+
+-- ---- the steps of an answer
+
+with_cases : (topology : Topology) (before : History) (p : Post) (o : Came) (P : History → Type 0) → is_legal topology (with_answer topology before p o) ≡ true
+    → (is_legal topology (step_of p o ∷ before) ≡ true → P (step_of p o ∷ before))
+    → ((s : StageNo) (h : History) → is_legal topology (Dispatch s ∷ h) ≡ true → IsSome (owed topology h) → P h → P (Dispatch s ∷ h)) → P (with_answer topology before p o)
+with_cases topology before p (came.Records records) P legal first more = by_may (may_dispatch topology (Accept p.stage records ∷ before) p.stage) refl legal
+  where
+    h : History
+    h = Accept p.stage records ∷ before
+
+    by_may : (b : Bool) → may_dispatch topology h p.stage ≡ b → is_legal topology (if b then Dispatch p.stage ∷ h else h) ≡ true → P (if b then Dispatch p.stage ∷ h else h)
+    by_may true e l = more p.stage h l (owes e) (first (legal_before topology h (Dispatch p.stage) l))
+      where
+        owes : may_dispatch topology h p.stage ≡ true → IsSome (owed topology h)
+        owes k = rw k refl
+    by_may false e l = first l
+with_cases topology before p came.NotYet P legal first more = first legal
+with_cases topology before p (came.Ended how) P legal first more = first legal
+with_cases topology before p (came.Replies replies) P legal first more = first legal
+with_cases topology before p (came.Wrote bytes end) P legal first more = first legal
+with_cases topology before p (came.Reply reply) P legal first more = first legal
+
+answer_next : (topology : Topology) (before : History) (p : Post) (o : Came) → IsNextMove topology before (step_of p o)
+answer_next topology before p (came.Records records) = tt
+answer_next topology before p came.NotYet = tt
+answer_next topology before p (came.Ended how) = tt
+answer_next topology before p (came.Replies replies) = tt
+answer_next topology before p (came.Wrote bytes end) = tt
+answer_next topology before p (came.Reply reply) = tt
+
+answer_harmless : (p : Post) (o : Came) → is_killing (step_of p o) ≡ false
+answer_harmless p (came.Records records) = refl
+answer_harmless p came.NotYet = refl
+answer_harmless p (came.Ended how) = refl
+answer_harmless p (came.Replies replies) = refl
+answer_harmless p (came.Wrote bytes end) = refl
+answer_harmless p (came.Reply reply) = refl
+
+none_more : (n : ℕ) → 0 + n ≡ n
+none_more n = omega arith
+
+answer_begins : (before : History) (p : Post) (o : Came) → jobs_begun (step_of p o ∷ before) ≡ jobs_begun before
+answer_begins before p (came.Records records) = none_more (jobs_begun before)
+answer_begins before p came.NotYet = none_more (jobs_begun before)
+answer_begins before p (came.Ended how) = none_more (jobs_begun before)
+answer_begins before p (came.Replies replies) = none_more (jobs_begun before)
+answer_begins before p (came.Wrote bytes end) = none_more (jobs_begun before)
+answer_begins before p (came.Reply reply) = none_more (jobs_begun before)
+
+answer_time : (before : History) (p : Post) (o : Came) → now (step_of p o ∷ before) ≡ now before
+answer_time before p (came.Records records) = refl
+answer_time before p came.NotYet = refl
+answer_time before p (came.Ended how) = refl
+answer_time before p (came.Replies replies) = refl
+answer_time before p (came.Wrote bytes end) = refl
+answer_time before p (came.Reply reply) = refl
+
+answer_control : (before : History) (p : Post) (o : Came) → 1 ≤ p.stage.0 → HasNoControl before → HasNoControl (step_of p o ∷ before)
+answer_control before p (came.Records records) low c = record { no_step = c.no_step; no_end = c.no_end }
+answer_control before p came.NotYet low c = record { no_step = c.no_step; no_end = c.no_end }
+answer_control before p (came.Ended how) low c = record { no_step = c.no_step; no_end = rw (other p.stage.0 low) c.no_end }
+  where
+    other : (n : ℕ) → 1 ≤ n → (n == 0) ≡ false
+    other n low = grind arith
+answer_control before p (came.Replies replies) low c = record { no_step = c.no_step; no_end = c.no_end }
+answer_control before p (came.Wrote bytes end) low c = record { no_step = c.no_step; no_end = c.no_end }
+answer_control before p (came.Reply reply) low c = record { no_step = c.no_step; no_end = c.no_end }
+
+answer_lowers : (topology : Topology) (before : History) (p : Post) (o : Came) → IsSound topology → is_legal topology (step_of p o ∷ before) ≡ true → quiet_row before < topology.idle_limit
+    → work_left topology (step_of p o ∷ before) < work_left topology before
+answer_lowers topology before p (came.Records records) sound legal row = work_lowers topology before (Accept p.stage records) sound legal refl
+answer_lowers topology before p came.NotYet sound legal row = quiet_lowers topology before p.stage row
+answer_lowers topology before p (came.Ended how) sound legal row = work_lowers topology before (SourceEnd p.stage how) sound legal refl
+answer_lowers topology before p (came.Replies replies) sound legal row = work_lowers topology before (Done p.stage replies) sound legal refl
+answer_lowers topology before p (came.Wrote bytes end) sound legal row = work_lowers topology before (Wrote p.stage bytes end) sound legal refl
+answer_lowers topology before p (came.Reply reply) sound legal row = work_lowers topology before (ChildEnd p.stage p.slot reply) sound legal refl
+
+-- ---- all together
+
+-- what a job leaves: the run goes on and is at rest again, and less work is left
+pub record Leaves (topology : Topology) (before : History) (home : ℕ → Option BodySeen) (after : History) (back : ℕ → Option BodySeen) : Type 0 where
+  pub follows : FollowsMoves topology before → FollowsMoves topology after
+  pub unkilled : was_killed after ≡ false
+  pub keeps : (opened : ℕ → Option BodySeen) → Keeps topology before opened home → Keeps topology after opened back
+  pub control : HasNoControl before → HasNoControl after
+  pub none_out : jobs_out topology after ≡ false
+  pub ready : Ready topology after back
+  pub same_time : now after ≡ now before
+  pub begun : jobs_begun after ≡ jobs_begun before + 1
+  pub less : 1 ≤ topology.idle_limit → work_left topology after < work_left topology before
+
+dispatched : (topology : Topology) (before : History) (home : ℕ → Option BodySeen) (s : StageNo) (h : History) (back : ℕ → Option BodySeen) → IsSound topology → is_legal topology (Dispatch s ∷ h) ≡ true → IsSome (owed topology h)
+    → Leaves topology before home h back → Leaves topology before home (Dispatch s ∷ h) back
+dispatched topology before home s h back sound legal owes l =
+    record {
+      follows = λ f. (l.follows f, inl owes);
+      unkilled = l.unkilled;
+      keeps = λ opened k. silent_keeps topology h (Dispatch s) opened back sound legal refl (l.keeps opened k);
+      control = λ n. let c = l.control n in record { no_step = c.no_step; no_end = c.no_end };
+      none_out = own_out topology h (Dispatch s) refl ∙ l.none_out;
+      ready = silent_ready topology h (Dispatch s) back sound legal refl l.ready;
+      same_time = l.same_time;
+      begun = none_more (jobs_begun h) ∙ l.begun;
+      less = λ limit. lower (l.less limit) (work_lowers topology h (Dispatch s) sound legal refl);
+    }
+  where
+    lower : work_left topology h < work_left topology before → work_left topology (Dispatch s ∷ h) < work_left topology h → work_left topology (Dispatch s ∷ h) < work_left topology before
+    lower a b = omega (arith, a, b)
+
+there_one : {A : Type 0} (P : A → Type 0) (x : Option A) (a : A) → x ≡ Some a → There x P → P a
+there_one P x a e h = subst (λ o. There o P) e h
+
+-- the answer itself
+answered_first : (topology : Topology) (before after : History) (home away back : ℕ → Option BodySeen) (job : Job) (answer : Answer) (old new : BodySeen) (b : Began topology before after job.post)
+    → IsSound topology → IsAtRest topology before home → is_legal topology (b.step ∷ before) ≡ true → IsJobOf topology (b.step ∷ before) job
+    → home (place_at job.post) ≡ Some old → ((s : ℕ) → away s ≡ (if place_at job.post == s then None else home s)) → ((s : ℕ) → back s ≡ (if place_at job.post == s then Some new else away s))
+    → answer.post ≡ job.post → IsDone job.work answer.outcome old new → is_legal topology (step_of answer.post answer.outcome ∷ b.step ∷ before) ≡ true
+    → Leaves topology before home (step_of answer.post answer.outcome ∷ b.step ∷ before) back
+answered_first topology before after home away back job answer old new b sound rest legal is at gone come same done answered =
+    record {
+      follows = λ f. ((f, b.next), answer_next topology h answer.post answer.outcome);
+      unkilled = unkilled_more (step_of answer.post answer.outcome) h (answer_harmless answer.post answer.outcome) (unkilled_more b.step before b.harmless rest.unkilled);
+      keeps = λ opened k.
+          answer_keeps topology h job answer old new opened away back sound answered is same fit done
+          (subst (λ o. Both (KeepsBody topology h job.post) (opened (place_at job.post)) o) at (begun_keeps topology before b.step job.post opened home sound legal b.puts k)) come
+          (away_keeps topology h job.post opened home away sound is.out gone (silent_keeps topology before b.step opened home sound legal b.silent k));
+      control = λ n. answer_control h answer.post answer.outcome low (b.control n);
+      none_out =
+          none_out_after topology before answer.post b.step (step_of answer.post answer.outcome)
+          (λ q. put_only answer.post q b.step (subst (λ r. puts_out b.step r ≡ true) (sym same) b.puts)) (λ q. step_puts_out answer.post answer.outcome q)
+          (answers_self answer.post answer.outcome low (subst (λ r. NamesSlot r answer.outcome) (sym same) (names_slot topology h job.post job.work answer.outcome old new is.work done))) rest.none_out;
+      ready =
+          answer_ready topology h job answer old new away back sound answered is same fit done come
+          (away_ready topology h job.post home away sound is.out gone (silent_ready topology before b.step home sound legal b.silent rest.ready));
+      same_time = answer_time h answer.post answer.outcome ∙ b.same_time;
+      begun = answer_begins h answer.post answer.outcome ∙ b.begun ∙ one_more (jobs_begun before);
+      less = λ limit. lower (answer_lowers topology h answer.post answer.outcome sound answered (b.row limit)) b.left;
+    }
+  where
+    h : History
+    h = b.step ∷ before
+
+    fit : IsBodyAt topology h job.post old
+    fit = there_one (IsBodyAt topology h job.post) (home (place_at job.post)) old at (begun_ready topology before b.step job.post home sound legal b.puts rest.ready)
+
+    low : 1 ≤ answer.post.stage.0
+    low = subst (λ r. 1 ≤ r.stage.0) (sym same) (stage_low topology h job.post sound legal is.out)
+
+    one_more : (n : ℕ) → 1 + n ≡ n + 1
+    one_more n = omega arith
+
+    lower : {a b c : ℕ} → a < b → b ≤ c → a < c
+    lower x y = omega (arith, x, y)
+
+pub answered : (topology : Topology) (before after done_after : History) (home away back : ℕ → Option BodySeen) (job : Job) (answer : Answer) (old new : BodySeen)
+    → IsSound topology → IsAtRest topology before home → Began topology before after job.post → is_legal topology after ≡ true → IsJobOf topology after job
+    → home (place_at job.post) ≡ Some old → ((s : ℕ) → away s ≡ (if place_at job.post == s then None else home s)) → ((s : ℕ) → back s ≡ (if place_at job.post == s then Some new else away s))
+    → answer.post ≡ job.post → IsDone job.work answer.outcome old new → done_after ≡ with_answer topology after answer.post answer.outcome → is_legal topology done_after ≡ true
+    → Leaves topology before home done_after back
+answered topology before after done_after home away back job answer old new sound rest b legal is at gone come same done ends ended =
+    subst (λ h. Leaves topology before home h back) (sym whole)
+    (with_cases topology (b.step ∷ before) answer.post answer.outcome (λ h. Leaves topology before home h back) (subst (λ h. is_legal topology h ≡ true) whole ended)
+    (λ l. answered_first topology before after home away back job answer old new b sound rest (subst (λ h. is_legal topology h ≡ true) b.is legal) (subst (λ h. IsJobOf topology h job) b.is is) at gone come same done l)
+    (λ s h l owes left. dispatched topology before home s h back sound l owes left))
+  where
+    whole : done_after ≡ with_answer topology (b.step ∷ before) answer.post answer.outcome
+    whole = ends ∙ ap (λ h. with_answer topology h answer.post answer.outcome) b.is
+
+-- ---- where memory was wanting
+
+pub stays_begun : (topology : Topology) (before after : History) (home : ℕ → Option BodySeen) (p : Post) → IsSound topology → IsAtRest topology before home → Began topology before after p → is_legal topology after ≡ true
+    → (back : ℕ → Option BodySeen) → ((opened : ℕ → Option BodySeen) → Keeps topology before opened home → Keeps topology after opened back)
+    → ((at : ℕ) → HasCallback (home at) → HasCallback (back at)) → GoesOn topology before home after back
+stays_begun topology before after home p sound rest b legal back keeps callbacks =
+    record {
+      follows = λ f. subst (λ h. FollowsMoves topology h) (sym b.is) (f, b.next);
+      unkilled = λ u. subst (λ h. was_killed h ≡ false) (sym b.is) (unkilled_more b.step before b.harmless u);
+      keeps = keeps;
+      callbacks = callbacks;
+      control = λ n. subst HasNoControl (sym b.is) (b.control n);
+    }
+
+-- the body that the job took, as the journal stood at its begin
+pub taken_body : (topology : Topology) (before after : History) (home : ℕ → Option BodySeen) (p : Post) (old : BodySeen) → IsSound topology → IsAtRest topology before home → Began topology before after p → is_legal topology after ≡ true
+    → home (place_at p) ≡ Some old → IsBodyAt topology after p old
+taken_body topology before after home p old sound rest b legal at =
+    subst (λ h. IsBodyAt topology h p old) (sym b.is)
+    (there_one (IsBodyAt topology (b.step ∷ before) p) (home (place_at p)) old at (begun_ready topology before b.step p home sound (subst (λ h. is_legal topology h ≡ true) b.is legal) b.puts rest.ready))
+
+pub taken_keeps : (topology : Topology) (before after : History) (opened home away : ℕ → Option BodySeen) (p : Post) → IsSound topology → IsAtRest topology before home → Began topology before after p → is_legal topology after ≡ true → IsOutNow topology after p
+    → ((s : ℕ) → away s ≡ (if place_at p == s then None else home s)) → Keeps topology before opened home → Keeps topology after opened away
+taken_keeps topology before after opened home away p sound rest b legal out gone k =
+    away_keeps topology after p opened home away sound out gone
+    (subst (λ h. Keeps topology h opened home) (sym b.is) (silent_keeps topology before b.step opened home sound (subst (λ h. is_legal topology h ≡ true) b.is legal) b.silent k))
+
+pub taken_stood : (topology : Topology) (before after : History) (opened home : ℕ → Option BodySeen) (p : Post) (old : BodySeen) → IsSound topology → Began topology before after p → is_legal topology after ≡ true
+    → home (place_at p) ≡ Some old → Keeps topology before opened home → Both (KeepsBody topology after p) (opened (place_at p)) (Some old)
+taken_stood topology before after opened home p old sound b legal at k =
+    subst (λ h. Both (KeepsBody topology h p) (opened (place_at p)) (Some old)) (sym b.is)
+    (subst (λ o. Both (KeepsBody topology (b.step ∷ before) p) (opened (place_at p)) o) at (begun_keeps topology before b.step p opened home sound (subst (λ h. is_legal topology h ≡ true) b.is legal) b.puts k))

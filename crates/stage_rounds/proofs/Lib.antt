@@ -1,0 +1,12 @@
+mod Moves
+mod Times
+mod Own
+mod Ticking
+mod Results
+mod Goings
+mod Outs
+mod Working
+mod Answered
+mod Doing
+mod Turning
+mod Callbacks

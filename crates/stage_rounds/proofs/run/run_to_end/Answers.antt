@@ -1,0 +1,27 @@
+use Rattle.std.proofs.Common.{subst}
+use Rattle.stage_bodies.specs.Seen.{body_at}
+use Rattle.stage_rounds.specs.Going.{GoesOn}
+use Rattle.stage_rounds.proofs.Goings.{goes_then}
+use Rattle.stage_rounds.proofs.run.run_to_end.Goals as goal
+
+pub returns-in-Drained-clause-goes : goal.returns-in-Drained-clause-goes
+returns-in-Drained-clause-goes g c =
+    let look = g.B.Works.look in
+    let t = c.args.core.now.topology in
+    goes_then t c.args.core.now.journal.steps c.loop.core.journal.steps c.round.new.core.journal.steps (body_at look c.args.bodies.now.items) (body_at look c.loop.bodies.items) (body_at look c.round.new.bodies.items)
+    c.loop.invariant.goes
+    (subst (λ o. GoesOn o c.loop.core.journal.steps (body_at look c.loop.bodies.items) c.round.new.core.journal.steps (body_at look c.round.new.bodies.items)) c.loop.invariant.topology c.in_ok-round.ensures.goes)
+
+pub returns-in-Drained-clause-clock : goal.returns-in-Drained-clause-clock
+returns-in-Drained-clause-clock g c opened k = c.in_ok-round.ensures.clock opened (c.loop.invariant.clock opened k)
+
+pub returns-in-Halted-clause-goes : goal.returns-in-Halted-clause-goes
+returns-in-Halted-clause-goes g c =
+    let look = g.B.Works.look in
+    let t = c.args.core.now.topology in
+    goes_then t c.args.core.now.journal.steps c.loop.core.journal.steps c.round.new.core.journal.steps (body_at look c.args.bodies.now.items) (body_at look c.loop.bodies.items) (body_at look c.round.new.bodies.items)
+    c.loop.invariant.goes
+    (subst (λ o. GoesOn o c.loop.core.journal.steps (body_at look c.loop.bodies.items) c.round.new.core.journal.steps (body_at look c.round.new.bodies.items)) c.loop.invariant.topology c.in_ok-round.ensures.goes)
+
+pub returns-in-Halted-clause-clock : goal.returns-in-Halted-clause-clock
+returns-in-Halted-clause-clock g c opened k = c.in_ok-round.ensures.clock opened (c.loop.invariant.clock opened k)

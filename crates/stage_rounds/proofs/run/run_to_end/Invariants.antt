@@ -1,0 +1,23 @@
+use Rattle.std.proofs.Common.{◌≡◌}
+use Rattle.core_state.specs.Stands.{Stands}
+use Rattle.stage_bodies.specs.Seen.{body_at}
+use Rattle.stage_rounds.specs.Going.{IsAtRest, GoesOn}
+use Rattle.stage_rounds.specs.Clocks.{ClockSeen, clock_seen, KeepsClock}
+use Rattle.stage_rounds.specs.Rounds.{rounds_left}
+use Rattle.stage_rounds.proofs.run.run_to_end.Given as goal
+
+abbrev pub invariant-loop : goal.invariant-loop
+invariant-loop g l =
+    let look = g.B.Works.look in
+    let clock = g.C.Clock in
+    record {
+      stands : Stands l.core;
+      topology : l.core.topology ≡ l.initial.core.topology;
+      rest : IsAtRest l.initial.core.topology l.core.journal.steps (body_at look l.bodies.items);
+      goes : GoesOn l.initial.core.topology l.initial.core.journal.steps (body_at look l.initial.bodies.items) l.core.journal.steps (body_at look l.bodies.items);
+      clock : (opened : ClockSeen) → KeepsClock l.initial.core.journal.steps opened (clock_seen clock.latest clock.readings l.initial.clock)
+          → KeepsClock l.core.journal.steps opened (clock_seen clock.latest clock.readings l.clock);
+    }
+
+abbrev pub decreases-loop : goal.decreases-loop
+decreases-loop g l = rounds_left l.core.topology l.core.journal.steps

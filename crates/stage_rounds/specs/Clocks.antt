@@ -1,0 +1,61 @@
+-- What a journal has to do with the clock.
+use Rattle.std.specs.Prelude.{◌≡◌, ◌≤◌, ◌<◌, ◌⊎◌, ◌∷◌, ℕ, max, Result, Ok, Err}
+use Rattle.pipe_types.specs.Counts.{Rose}
+use Rattle.pipe_types.specs.declared.step.Step.TheVariants.{Tick}
+use Rattle.pipe_model.specs.History.{History, now}
+use Rattle.stage_job.specs.Chunks.{RoseBy}
+use Rattle.stage_rounds.specs.Steps.{jobs_begun}
+
+-- a clock: the greatest reading that it has answered, and how often it was read
+pub record ClockSeen : Type 0 where
+  pub latest : ℕ
+  pub readings : ℕ
+
+abbrev pub clock_seen : {C : Type 0} → (latest readings : C → ℕ) → C → ClockSeen
+clock_seen latest readings clock = record { latest = latest clock; readings = readings clock }
+
+-- the last tick is the greatest reading of the run, and the clock was read for each job
+pub record KeepsClock (before : History) (opened clock : ClockSeen) : Type 0 where
+  pub latest : clock.latest ≡ max opened.latest (now before)
+  pub readings : RoseBy (jobs_begun before) opened.readings clock.readings
+
+-- where memory was wanting, the greatest reading may have no tick
+pub record KeepsClockPartly (before : History) (opened clock : ClockSeen) : Type 0 where
+  pub latest : max opened.latest (now before) ≤ clock.latest
+  pub readings : RoseBy (jobs_begun before) opened.readings clock.readings
+
+abbrev pub KeepsClockOn : {T E : Type 0} → Result T E → History → (opened clock : ClockSeen) → Type 0
+KeepsClockOn (Ok done) before opened clock = KeepsClock before opened clock
+KeepsClockOn (Err error) before opened clock = KeepsClockPartly before opened clock
+
+-- a tick was added where the reading is past the last one
+abbrev pub TicksTo : (reading : ℕ) → (old new : History) → Type 0
+TicksTo reading old new = ((now old < reading) × (new ≡ Tick reading ∷ old)) ⊎ ((reading ≤ now old) × (new ≡ old))
+
+-- the clock was read, and a tick stands for a reading past the last tick
+pub record HasRead (old new : History) (before after : ClockSeen) : Type 0 where
+  pub rose : Rose before.readings after.readings
+  pub reading : ℕ
+  pub latest : after.latest ≡ max before.latest reading
+  pub ticks : TicksTo reading old new
+
+-- the clock was read, and a tick stands for the reading, or for the last tick where that is greater
+pub record HasPaused (old new : History) (before after : ClockSeen) : Type 0 where
+  pub rose : Rose before.readings after.readings
+  pub reading : ℕ
+  pub latest : after.latest ≡ max before.latest reading
+  pub ticks : new ≡ Tick (max (now old) reading) ∷ old
+
+-- the clock was read, and memory was wanting for the tick
+pub record HasReadInVain (old new : History) (before after : ClockSeen) : Type 0 where
+  pub rose : Rose before.readings after.readings
+  pub latest : before.latest ≤ after.latest
+  pub unchanged : new ≡ old
+
+abbrev pub IsRead : {T E : Type 0} → Result T E → (old new : History) → (before after : ClockSeen) → Type 0
+IsRead (Ok done) old new before after = HasRead old new before after
+IsRead (Err error) old new before after = HasReadInVain old new before after
+
+abbrev pub IsPaused : {T E : Type 0} → Result T E → (old new : History) → (before after : ClockSeen) → Type 0
+IsPaused (Ok done) old new before after = HasPaused old new before after
+IsPaused (Err error) old new before after = HasReadInVain old new before after

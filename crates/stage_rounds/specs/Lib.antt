@@ -1,0 +1,4 @@
+pub mod Steps
+pub mod Going
+pub mod Clocks
+pub mod Rounds

@@ -1,0 +1,63 @@
+//! One round.
+
+ghost use Rattle.std.specs.Prelude.{◌≡◌, ◌<◌, ◌≤◌, ℕ, Ok, OnOk, IsTrue};
+ghost use Rattle.core_state.specs.Stands.{Stands};
+ghost use Rattle.stage_bodies.specs.Seen.{body_at};
+ghost use Rattle.stage_rounds.specs.Going.{IsAtRest, GoesOn};
+ghost use Rattle.stage_rounds.specs.Clocks.{ClockSeen, clock_seen, KeepsClock, KeepsClockOn};
+ghost use Rattle.stage_rounds.specs.Rounds.{rounds_left, HasEnded};
+ghost use Rattle.stage_rounds.specs.declared.run.RunEnd.{RunEnd};
+
+use crate::clocks::{pause, read_clock};
+use crate::jobs::work;
+use crate::steps::go_on;
+use core_moves::moves::Move;
+use core_state::Core;
+use pipe_edges::Clock;
+use stage_bodies::Works;
+use std::alloc::{AllocError, Global};
+
+/// What a round came to: more is to do, or the pipeline is drained, or it has halted.
+#[derive(Clone, Copy, Debug, PartialEq, Eq)]
+pub(crate) enum RoundEnd {
+    On,
+    Drained,
+    Halted,
+}
+
+/// Reads the clock, makes the steps that come next, and then does a job or lets time pass.
+pub(crate) fn round<B: Works, C: Clock>(
+    alloc: Global,
+    core: &mut Core,
+    bodies: &mut Vec<Option<B>>,
+    clock: &mut C,
+) -> Result<RoundEnd, AllocError>
+    requires stands { Stands core.old }
+    requires rest { IsAtRest core.old.topology core.old.journal.steps (body_at B.look bodies.old.items) }
+    ensures stands { Stands core.new }
+    ensures topology { core.new.topology ≡ core.old.topology }
+    ensures goes { GoesOn core.old.topology core.old.journal.steps (body_at B.look bodies.old.items) core.new.journal.steps (body_at B.look bodies.new.items) }
+    ensures rest { OnOk result (IsAtRest core.old.topology core.new.journal.steps (body_at B.look bodies.new.items)) }
+    ensures clock { (opened : ClockSeen) → KeepsClock core.old.journal.steps opened (clock_seen C.latest C.readings clock.old)
+        → KeepsClockOn result core.new.journal.steps opened (clock_seen C.latest C.readings clock.new) }
+    ensures drained { result ≡ Ok RoundEnd.Drained → HasEnded core.new.topology core.new.journal.steps RunEnd.Drained }
+    ensures halted { result ≡ Ok RoundEnd.Halted → HasEnded core.new.topology core.new.journal.steps RunEnd.Halted }
+    ensures progress { result ≡ Ok RoundEnd.On → 1 ≤ core.old.topology.idle_limit
+        → rounds_left core.old.topology core.new.journal.steps < rounds_left core.old.topology core.old.journal.steps }
+{
+    read_clock(core, clock)?;
+    match go_on(core)? {
+        Move::Job(stage) => {
+            work(alloc, core, bodies, stage)?;
+            Ok(RoundEnd::On)
+        }
+        Move::Pause => {
+            pause(core, clock)?;
+            Ok(RoundEnd::On)
+        }
+        Move::Drained => Ok(RoundEnd::Drained),
+        Move::Halted => Ok(RoundEnd::Halted),
+        Move::Step(_) => unreachable!(),
+        Move::JobsOut => unreachable!(),
+    }
+}
