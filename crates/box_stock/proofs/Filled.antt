@@ -1,0 +1,227 @@
+-- The bodies that a run begins with.
+use Rattle.std.proofs.Common.{◌≡◌, ◌≢◌, ℕ, Bool, true, false, List, [], length, refl, ap, sym, ◌∙◌, subst, Option, Some, None, inl, inr}
+use Rattle.std.specs.Prelude.{◌&&◌, ◌||◌, ◌==◌, nat_le, ◌⊎◌, is_some, if◌then◌else◌, IsSome, IfSome}
+use Rattle.std.proofs.lemmas.Bool.{eqb-true, eq-eqb, le-leb}
+use Rattle.pipe_laws.proofs.Tests.{and_left, and_right}
+use Rattle.queue_laws.proofs.Sounds.{sound_fields}
+use Rattle.pipe_types.specs.declared.numbers.StageNo.{StageNo}
+use Rattle.pipe_types.specs.declared.numbers.Post.{Post}
+use Rattle.pipe_types.specs.declared.topology.Kind.TheVariants.{Own}
+use Rattle.pipe_types.specs.declared.topology.Role.{Role}
+use Rattle.pipe_types.specs.declared.topology.Role.TheVariants.{Producer, Processor, Supervisor, Batcher, BatchProcessor}
+use Rattle.pipe_types.specs.declared.topology.StageSpec.{StageSpec}
+use Rattle.pipe_types.specs.declared.topology.Topology.{Topology}
+use Rattle.pipe_types.specs.Numbers.{post}
+use Rattle.pipe_types.specs.Sound.{IsSound, has_fields_of, is_producer_in, by_demand, by_partition, is_size, processors}
+use Rattle.pipe_types.specs.Stages.{spec_of}
+use Rattle.pipe_edges.specs.declared.edges.EdgeKind.{EdgeKind}
+use Rattle.pipe_edges.specs.declared.edges.EdgeKind.TheVariants.{Source, Sink}
+use Rattle.stage_bodies.specs.Seen.{BoxSeen, BodySeen, LineSeen, SinkSeen}
+use Rattle.stage_bodies.specs.Jobs.{Both}
+use Rattle.stage_bodies.specs.Posts.{place_at}
+use Rattle.stage_laws.proofs.Numbering.{numbered_topology}
+use Rattle.body_laws.specs.Keeps.{has_slot, has_post, has_post_in}
+use Rattle.body_laws.specs.Ready.{There, IsArmed, IsBodyFor, IsBodyAt, IsUnused, IsFilled}
+use Rattle.body_laws.proofs.Posts.{few_slots}
+use Rattle.edge_names.specs.Seen.{EdgesSeen}
+use Rattle.edge_names.specs.Opened.{AreHome, AreOpened, HasSource, HasSink, IsOpened, call_by, call_at, call_in}
+use Rattle.box_stock.specs.Lends.{AreHandedOut, IsBodyBefore, bare_body, body_with}
+
+-- ---- edges
+
+has_edge : (stages : List StageSpec) (s : StageSpec) → is_producer_in stages s ≡ true → is_some s.edge ≡ true
+has_edge stages s e =
+    let first = and_left ((by_demand s s.dispatch || (by_partition (length (processors stages)) s s.dispatch && nat_le s.field 255)) && (is_size s.size && is_some s.edge)) _ e in
+    and_right (is_size s.size) (is_some s.edge) (and_right (by_demand s s.dispatch || (by_partition (length (processors stages)) s s.dispatch && nat_le s.field 255)) _ first)
+
+-- ---- one body
+
+record IsReadyBody (topology : Topology) (s : StageNo) (spec : StageSpec) (role : Role) (body : BodySeen) : Type 0 where
+  pub ready : IsBodyFor topology [] s spec role body
+  pub unused : IsUnused body
+
+-- a body that holds a box alone, after its stage opened what it opens
+record IsWith (spec : StageSpec) (box : BoxSeen) (body : BodySeen) : Type 0 where
+  pub callback : body.callback ≡ Some box
+  pub source : body.source ≡ None
+  pub spec_of_box : box.spec ≡ spec
+  pub kind : box.kind ≡ spec.kind
+  pub count : box.count ≡ 0
+
+armed_box : (topology : Topology) (s : StageNo) (spec : StageSpec) (box : BoxSeen) → box.spec ≡ spec → box.kind ≡ spec.kind → box.count ≡ 0 → IsArmed topology [] s spec box
+armed_box topology s spec box own kind count = record { spec = own; kind = kind; count = λ a b c. count }
+
+with_box : (topology : Topology) (s : StageNo) (spec : StageSpec) (box : BoxSeen) (body : BodySeen) → IsWith spec box body → There body.callback (IsArmed topology [] s spec)
+with_box topology s spec box body w = subst (λ o. There o (IsArmed topology [] s spec)) (sym w.callback) (armed_box topology s spec box w.spec_of_box w.kind w.count)
+
+unused_with : (spec : StageSpec) (box : BoxSeen) (body : BodySeen) → IsWith spec box body → IsUnused body
+unused_with spec box body w = record {
+  waiting = subst (λ o. IfSome o (λ (lines : LineSeen). lines.waiting ≡ [])) (sym w.source) tt;
+  end = subst (λ o. IfSome o (λ (lines : LineSeen). lines.end ≡ None)) (sym w.source) tt;
+  count = subst (λ o. IfSome o (λ (b : BoxSeen). b.kind ≢ Own → b.count ≡ 0)) (sym w.callback) (λ other. w.count);
+}
+
+-- what a body holds before anything is opened
+record IsBefore (spec : StageSpec) (old : BodySeen) : Type 0 where
+  pub box : BoxSeen
+  pub is : old ≡ body_with box
+  pub own : box.spec ≡ spec
+  pub kind : box.kind ≡ spec.kind
+  pub count : box.count ≡ 0
+
+before_with : (spec : StageSpec) (o : Option BoxSeen) (old : BodySeen) → There o (λ box. (old ≡ body_with box) × (box.spec ≡ spec) × (box.kind ≡ spec.kind) × (box.count ≡ 0)) → IsBefore spec old
+before_with spec None old held = absurd held
+before_with spec (Some box) old (is, own, kind, count) = record { box = box; is = is; own = own; kind = kind; count = count }
+
+no_source : (edges : EdgesSeen) (call : Option (EdgeKind × List ℕ)) (old new : Option LineSeen) → (call ≡ None) ⊎ ((name : List ℕ) × (call ≡ Some (Sink, name))) → HasSource edges call old new → new ≡ old
+no_source edges call old new (inl none) h = subst (λ c. HasSource edges c old new) none h
+no_source edges call old new (inr some) h = subst (λ c. HasSource edges c old new) some.1 h
+
+-- a body with a box keeps it, where its stage opens no source
+still_with : (edges : EdgesSeen) (spec : StageSpec) (call : Option (EdgeKind × List ℕ)) (box : BoxSeen) (old new : BodySeen) → (call ≡ None) ⊎ ((name : List ℕ) × (call ≡ Some (Sink, name)))
+    → old ≡ body_with box → box.spec ≡ spec → box.kind ≡ spec.kind → box.count ≡ 0 → IsOpened edges call old new → IsWith spec box new
+still_with edges spec call box old new calls is own kind count opened = record {
+  callback = opened.callback ∙ ap (λ (b : BodySeen). b.callback) is;
+  source = no_source edges call old.source new.source calls opened.source ∙ ap (λ (b : BodySeen). b.source) is;
+  spec_of_box = own;
+  kind = kind;
+  count = count;
+}
+
+record IsFreshSource (source : Option LineSeen) : Type 0 where
+  pub some : IsSome source
+  pub waiting : IfSome source (λ lines. lines.waiting ≡ [])
+  pub end : IfSome source (λ lines. lines.end ≡ None)
+
+fresh_source : (edges : EdgesSeen) (name : List ℕ) (old new : Option LineSeen) → HasSource edges (Some (Source, name)) old new → IsFreshSource new
+fresh_source edges name old (Some lines) h = record { some = refl; waiting = h.nothing_waits; end = h.no_end }
+fresh_source edges name old None h = absurd h
+
+sink_there : (edges : EdgesSeen) (name : List ℕ) (old new : Option SinkSeen) → HasSink edges (Some (Sink, name)) old new → is_some new ≡ true
+sink_there edges name old (Some sink) h = refl
+sink_there edges name old None h = absurd h
+
+-- ---- by role
+
+ready_producer : (topology : Topology) (edges : EdgesSeen) (s : StageNo) (spec : StageSpec) (call : Option (EdgeKind × List ℕ)) (edge : Option (List ℕ)) (old new : BodySeen)
+    → is_some edge ≡ true → call ≡ call_by Producer edge → old ≡ bare_body → IsOpened edges call old new → IsReadyBody topology s spec Producer new
+ready_producer topology edges s spec call None old new some calls is opened = cc
+ready_producer topology edges s spec call (Some name) old new some calls is opened =
+    let fresh = fresh_source edges name old.source new.source (subst (λ c. HasSource edges c old.source new.source) calls opened.source) in
+    let none : new.callback ≡ None = opened.callback ∙ ap (λ (b : BodySeen). b.callback) is in
+    record {
+      ready = fresh.some;
+      unused = record { waiting = fresh.waiting; end = fresh.end; count = subst (λ o. IfSome o (λ (b : BoxSeen). b.kind ≢ Own → b.count ≡ 0)) (sym none) tt };
+    }
+
+ready_batch : (topology : Topology) (edges : EdgesSeen) (s : StageNo) (spec : StageSpec) (call : Option (EdgeKind × List ℕ)) (edge : Option (List ℕ)) (box : BoxSeen) (old new : BodySeen)
+    → spec.edge ≡ edge → call ≡ call_by BatchProcessor edge → old ≡ body_with box → box.spec ≡ spec → box.kind ≡ spec.kind → box.count ≡ 0 → IsOpened edges call old new → IsReadyBody topology s spec BatchProcessor new
+ready_batch topology edges s spec call None box old new edge calls is own kind count opened =
+    let w = still_with edges spec call box old new (inl calls) is own kind count opened in
+    let same : new.sink ≡ old.sink = subst (λ c. HasSink edges c old.sink new.sink) calls opened.sink in
+    let none : is_some new.sink ≡ is_some spec.edge = ap is_some (same ∙ ap (λ (b : BodySeen). b.sink) is) ∙ sym (ap is_some edge) in
+    record { ready = (with_box topology s spec box new w, none); unused = unused_with spec box new w }
+ready_batch topology edges s spec call (Some name) box old new edge calls is own kind count opened =
+    let w = still_with edges spec call box old new (inr (name, calls)) is own kind count opened in
+    let there : is_some new.sink ≡ true = sink_there edges name old.sink new.sink (subst (λ c. HasSink edges c old.sink new.sink) calls opened.sink) in
+    let some : is_some new.sink ≡ is_some spec.edge = there ∙ sym (ap is_some edge) in
+    record { ready = (with_box topology s spec box new w, some); unused = unused_with spec box new w }
+
+ready_by : (topology : Topology) (edges : EdgesSeen) (s : StageNo) (spec : StageSpec) (call : Option (EdgeKind × List ℕ)) (slot : ℕ) (r : Role) (old new : BodySeen)
+    → has_slot r spec.max slot ≡ true → has_fields_of topology.stages r spec ≡ true → (slot ≡ 0 → call ≡ call_by r spec.edge) → (call_by r spec.edge ≡ None → call ≡ None)
+    → IsBodyBefore spec r old → IsOpened edges call old new → IsReadyBody topology s spec r new
+ready_by topology edges s spec call slot Producer old new seat fields first other held opened =
+    ready_producer topology edges s spec call spec.edge old new (has_edge topology.stages spec fields) (first (eqb-true slot 0 seat)) held opened
+ready_by topology edges s spec call slot Processor old new seat fields first other held opened =
+    let box = before_with spec old.callback old held in
+    let w = still_with edges spec call box.box old new (inl (other (no_call_processor spec.edge))) box.is box.own box.kind box.count opened in
+    record { ready = with_box topology s spec box.box new w; unused = unused_with spec box.box new w }
+  where
+    no_call_processor : (edge : Option (List ℕ)) → call_by Processor edge ≡ None
+    no_call_processor (Some name) = refl
+    no_call_processor None = refl
+ready_by topology edges s spec call slot Supervisor old new seat fields first other held opened =
+    let box = before_with spec old.callback old held in
+    let w = still_with edges spec call box.box old new (inl (other (no_call_supervisor spec.edge))) box.is box.own box.kind box.count opened in
+    record { ready = with_box topology s spec box.box new w; unused = unused_with spec box.box new w }
+  where
+    no_call_supervisor : (edge : Option (List ℕ)) → call_by Supervisor edge ≡ None
+    no_call_supervisor (Some name) = refl
+    no_call_supervisor None = refl
+ready_by topology edges s spec call slot Batcher old new seat fields first other held opened = cc
+ready_by topology edges s spec call slot BatchProcessor old new seat fields first other held opened =
+    let box = before_with spec old.callback old held in
+    ready_batch topology edges s spec call spec.edge box.box old new refl (first (eqb-true slot 0 seat)) box.is box.own box.kind box.count opened
+
+-- ---- all
+
+call_of_zero : (t u : Bool) (x : Option (EdgeKind × List ℕ)) → t ≡ true → u ≡ true → (if t && u then x else None) ≡ x
+call_of_zero true true x e h = refl
+call_of_zero true false x e h = cc
+call_of_zero false u x e h = cc
+
+call_of_none : (t : Bool) (x : Option (EdgeKind × List ℕ)) → x ≡ None → (if t then x else None) ≡ None
+call_of_none true x none = none
+call_of_none false x none = refl
+
+ready_post : (topology : Topology) (edges : EdgesSeen) (p : Post) (sound : IsSound topology) → has_post topology p ≡ true → (o : Option StageSpec) → spec_of topology p.stage ≡ o → (x y : Option BodySeen)
+    → There x (λ body. There o (λ spec. IsBodyBefore spec spec.role body)) → Both (IsOpened edges (call_at topology (length topology.stages) p)) x y
+    → There y (λ body. There o (λ spec. IsReadyBody topology p.stage spec spec.role body))
+ready_post topology edges p sound post o is None y held opened = absurd held
+ready_post topology edges p sound post None is (Some old) y held opened = absurd held
+ready_post topology edges p sound post (Some spec) is (Some old) None held opened = absurd opened
+ready_post topology edges p sound post (Some spec) is (Some old) (Some new) held opened =
+    let slot : has_slot spec.role spec.max p.slot ≡ true = sym (ap (λ q. has_post_in q p.slot) is) ∙ post in
+    let within = ((numbered_topology topology sound).within p.stage spec is).1 in
+    let called : call_in (spec_of topology p.stage) ≡ call_by spec.role spec.edge = ap call_in is in
+    ready_by topology edges p.stage spec (call_at topology (length topology.stages) p) p.slot spec.role old new slot (sound_fields topology p.stage spec sound is)
+    (λ first. call_of_zero (p.slot == 0) (nat_le p.stage.0 (length topology.stages)) (call_in (spec_of topology p.stage)) (eq-eqb p.slot 0 first) (le-leb p.stage.0 (length topology.stages) within) ∙ called)
+    (λ none. call_of_none (p.slot == 0 && nat_le p.stage.0 (length topology.stages)) (call_in (spec_of topology p.stage)) (called ∙ none))
+    held opened
+
+there_map : {A : Type 0} (P Q : A → Type 0) (o : Option A) → ((x : A) → P x → Q x) → There o P → There o Q
+there_map P Q (Some x) f h = f x h
+there_map P Q None f h = h
+
+if_there : (o : Option BodySeen) (spec : Option StageSpec) (topology : Topology) (s : StageNo) → There o (λ body. There spec (λ sp. IsReadyBody topology s sp sp.role body)) → IfSome o IsUnused
+if_there None spec topology s h = absurd h
+if_there (Some body) None topology s h = absurd h
+if_there (Some body) (Some sp) topology s h = h.unused
+
+-- a table that was handed out is filled once everything is opened
+pub filled : (topology : Topology) (edges : EdgesSeen) (table now : ℕ → Option BodySeen) → IsSound topology → AreHandedOut topology table
+    → AreOpened topology (length topology.stages) edges table now → IsFilled topology now
+filled topology edges table now sound handed opened =
+    let all = λ (p : Post) (post : has_post topology p ≡ true).
+    ready_post topology edges p sound post (spec_of topology p.stage) refl (table (place_at p)) (now (place_at p)) (handed.posts p post) (opened p (few_slots topology p sound post)) in
+    record {
+      ready = λ p post out.
+          there_map (λ body. There (spec_of topology p.stage) (λ spec. IsReadyBody topology p.stage spec spec.role body)) (IsBodyAt topology [] p) (now (place_at p))
+          (λ body h. there_map (λ spec. IsReadyBody topology p.stage spec spec.role body) (λ spec. IsBodyFor topology [] p.stage spec spec.role body) (spec_of topology p.stage) (λ spec r. r.ready) h)
+          (all p post);
+      unused = λ p post. if_there (now (place_at p)) (spec_of topology p.stage) topology p.stage (all p post);
+    }
+
+-- ---- what opens finds its body
+
+edge_post : (r : Role) (max : ℕ) (edge : Option (List ℕ)) → IsSome (call_by r edge) → has_slot r max 0 ≡ true
+edge_post Producer max (Some name) some = refl
+edge_post Producer max None some = cc
+edge_post Processor max (Some name) some = cc
+edge_post Processor max None some = cc
+edge_post Supervisor max (Some name) some = cc
+edge_post Supervisor max None some = cc
+edge_post Batcher max (Some name) some = cc
+edge_post Batcher max None some = cc
+edge_post BatchProcessor max (Some name) some = refl
+edge_post BatchProcessor max None some = cc
+
+is_there : {A : Type 0} (P : A → Type 0) (o : Option A) → There o P → IsSome o
+is_there P (Some x) h = refl
+is_there P None h = absurd h
+
+-- every stage that opens something has its body in a table that was handed out
+pub homes : (topology : Topology) (table : ℕ → Option BodySeen) → AreHandedOut topology table → AreHome topology table
+homes topology table handed s spec is some =
+    let post_there : has_post topology (post s 0) ≡ true = ap (λ o. has_post_in o 0) is ∙ edge_post spec.role spec.max spec.edge some in
+    is_there (λ body. There (spec_of topology s) (λ sp. IsBodyBefore sp sp.role body)) (table (place_at (post s 0))) (handed.posts (post s 0) post_there)

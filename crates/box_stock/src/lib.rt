@@ -1,0 +1,49 @@
+//! Boxes of a stock, handed out to the posts of a topology and given back in their order.
+//!
+//! `hand_out` makes a table of bodies in which every post of the topology has its own: a producer's is bare, and a post that
+//! has a callback holds a box of its kind, armed with the spec of its stage. Boxes of a kind go to the posts that need one in
+//! order of stage and slot; what is not needed is kept. `take_back` gives the boxes back in the order in which they came.
+#![tactic(auto)]
+
+ghost use Rattle.std.specs.Prelude.{ℕ, List, length, Option};
+ghost use Rattle.pipe_types.specs.Sound.{IsSound};
+ghost use Rattle.pipe_types.specs.declared.topology.Topology.{Topology};
+ghost use Rattle.stage_bodies.specs.Seen.{BodySeen};
+ghost use Rattle.body_laws.specs.Ready.{IsFilled};
+ghost use Rattle.edge_names.specs.Seen.{EdgesSeen};
+ghost use Rattle.edge_names.specs.Opened.{AreHome, AreOpened};
+ghost use Rattle.box_stock.specs.Lends.{AreHandedOut, AreStillThere, CallbacksRemain};
+ghost use Rattle.box_stock.specs.declared.handing.Slip.{Slip};
+
+mod arming;
+mod boxed;
+mod handing;
+mod homes;
+mod returning;
+mod tables;
+#[cfg(test)]
+mod tests;
+
+pub use boxed::{Boxed, Carries};
+pub use handing::{Lent, Slip, hand_out};
+pub use homes::home_of;
+pub use returning::take_back;
+
+/// A table that was handed out is filled once everything is opened.
+pub fn opened_tables_are_filled()
+    ensures { (topology : Topology) (edges : EdgesSeen) (table now : ℕ → Option BodySeen) → IsSound topology → AreHandedOut topology table
+        → AreOpened topology (length topology.stages) edges table now → IsFilled topology now }
+{}
+
+/// In a table that was handed out every stage that opens something has its body.
+#[tactic(auto, using(crate::proofs::Filled::homes))]
+pub fn handed_out_tables_have_homes()
+    ensures { (topology : Topology) (table : ℕ → Option BodySeen) → AreHandedOut topology table → AreHome topology table }
+{}
+
+/// Where each post of the topology that had a callback has one still, the boxes that were lent are all there.
+#[tactic(auto, using(crate::proofs::Staying::still))]
+pub fn lent_boxes_stay<C>()
+    ensures { (slips : List (Slip C)) (topology : Topology) (table now : ℕ → Option BodySeen) → AreHandedOut topology table → AreStillThere slips table
+        → CallbacksRemain topology table now → AreStillThere slips now }
+{}
