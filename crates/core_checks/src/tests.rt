@@ -64,6 +64,26 @@ static BATCHED: [(&str, &[&str], &str); 2] = [
     ),
 ];
 
+/// A processor that a control line kills: it is restarted with its next subscription, and at the limit all halts. The
+/// kill of a producer takes along a processor whose mode says so, and both are restarted.
+static KILLED: [(&str, &[&str], &str); 3] = [
+    (
+        "version = 1\n[[producer]]\nname = \"p\"\nsource = \"mem:a\"\n[processors]\nkind = \"own\"\nconcurrency = 1\n",
+        &["xy", "!2", "w", ""],
+        "journal 1\nask 2 1 1 10\nfetch 1 10\naccept 1 78,79\ndispatch 1\nkill 2 kill\nrestart 2\nask 2 1 2 10\nfetch 1 10\naccept 1 77\ndispatch 1\ntake 2 1 2 1\ndone 2 p:0:0:-:77\nfetch 1 9\nsource 1 end\ndrain sources\nend 15\n",
+    ),
+    (
+        "version = 1\n[pipeline]\nmax_restarts = 1\n[[producer]]\nname = \"p\"\nsource = \"mem:a\"\n[processors]\nkind = \"own\"\nconcurrency = 1\n",
+        &["x", "!2", "!2"],
+        "journal 1\nask 2 1 1 10\nfetch 1 10\naccept 1 78\ndispatch 1\nkill 2 kill\nrestart 2\nkill 2 kill\nhalt\nend 8\n",
+    ),
+    (
+        "version = 1\n[[producer]]\nname = \"p\"\nsource = \"mem:a\"\n[processors]\nkind = \"own\"\nconcurrency = 1\ncancel = \"permanent\"\n",
+        &["x", "!1", ""],
+        "journal 1\nask 2 1 1 10\nfetch 1 10\naccept 1 78\ndispatch 1\nkill 1 kill\nrestart 1\nrestart 2\nask 2 1 2 10\nfetch 1 10\nsource 1 end\ndrain sources\nend 11\n",
+    ),
+];
+
 #[test]
 fn messages_go_by_demand_and_by_partition(rt: HostRuntime) -> Result<(), Fail> {
     let alloc = rt.alloc();
@@ -101,6 +121,17 @@ fn batches_are_gathered_by_key(rt: HostRuntime) -> Result<(), Fail> {
 fn a_child_starts_for_each_message(rt: HostRuntime) -> Result<(), Fail> {
     let alloc = rt.alloc();
     for &(file, brought, journal) in &STARTED {
+        let text = journal_of(&rt, alloc, Run { file, brought })?;
+        let shown = str::from_utf8(text.as_slice()).unwrap_or("no text");
+        assert!(rt; shown == journal, "{file}: {shown}");
+    }
+    Ok(())
+}
+
+#[test]
+fn a_killed_stage_is_restarted_up_to_the_limit(rt: HostRuntime) -> Result<(), Fail> {
+    let alloc = rt.alloc();
+    for &(file, brought, journal) in &KILLED {
         let text = journal_of(&rt, alloc, Run { file, brought })?;
         let shown = str::from_utf8(text.as_slice()).unwrap_or("no text");
         assert!(rt; shown == journal, "{file}: {shown}");

@@ -19,13 +19,16 @@ ghost use Rattle.core_checks.specs.Posts.{IsOut};
 
 use core_accepts::calls::accept;
 use core_accepts::fetches::fetch;
+use core_allows::allowing::allows;
 use core_batches::gathers::gather;
 use core_calls::asks::{ask, tick};
 use core_calls::sources::{quiet, source_end};
 use core_children::children::child_start;
 use core_closes::close;
+use core_kills::kills::{halt, kill};
 use core_moves::drain::begin;
 use core_moves::moves::{Move, next_move};
+use core_restarts::restart;
 use core_sends::sending::dispatch_messages;
 use core_state::Core;
 use core_takes::answers::answer;
@@ -34,7 +37,7 @@ use journal_texts::lines::journal_text;
 use pipe_config::read_topology;
 use pipe_journal::StepView;
 use pipe_types::bytes::{Bytes, BytesList};
-use pipe_types::message::{Message, MessageList, Reply, ReplyList};
+use pipe_types::message::{Message, MessageList, Reply, ReplyList, Why};
 use pipe_types::numbers::StageNo;
 use pipe_types::step::{SourceHow, Step};
 use pipe_types::topology::{Kind, Role, Topology};
@@ -51,7 +54,8 @@ const NAP: u64 = 1000;
 const MAX_BYTES: usize = 65_536;
 
 /// A topology file, and what each fetch brings: a record for each letter, `-` for nothing now, and the end of the source
-/// for no text and after the last.
+/// for no text and after the last. A text `!` with the number of a stage is a control line, which kills that stage as
+/// soon as it lives.
 #[derive(Clone, Copy)]
 pub(super) struct Run<'a> {
     pub(super) file: &'a str,
@@ -71,7 +75,7 @@ pub(super) fn journal_of(
         if !move_on(rt, alloc, &mut core, text_at(run.brought, fetches))? {
             break;
         }
-        fetches = fetches_in(&core);
+        fetches = read_in(&core);
     }
     journal_text(alloc, core.journal())
 }
@@ -93,19 +97,70 @@ fn text_at<'a>(texts: &'a [&'a str], at: usize) -> &'a str {
     }
 }
 
-/// How many fetches there were.
-fn fetches_in(core: &Core) -> usize {
+/// How many fetches and control lines there were.
+fn read_in(core: &Core) -> usize {
     let mut count: usize = 0;
     for at in 0..core.journal().len() {
-        if matches!(core.journal().view(at), StepView::Fetch { .. }) {
+        if matches!(
+            core.journal().view(at),
+            StepView::Fetch { .. } | StepView::Kill { .. }
+        ) {
             count = count.saturating_add(1);
         }
     }
     count
 }
 
-/// Makes the next move, and says whether there may be another. A fetch brings the text.
+/// The stage that a control line kills, where the text is one.
+fn killed_by(text: &str) -> Option<StageNo> {
+    let bytes = text.as_bytes();
+    if bytes.len() == 2 && bytes[0] == b'!' {
+        Some(StageNo(u16::from(bytes[1].saturating_sub(b'0'))))
+    } else {
+        None
+    }
+}
+
+/// Kills the stage by a control line, where one may, and says whether it did.
+fn kill_once(core: &mut Core, stage: StageNo) -> Result<bool, AllocError>
+    requires stands { Stands core.old }
+    ensures stands { Stands core.new }
+{
+    let step = Step::Kill {
+        stage,
+        why: Why::Kill,
+    };
+    if !allows(core, &step) {
+        return Ok(false);
+    }
+    kill(core, stage, Why::Kill)?;
+    Ok(true)
+}
+
+/// Obeys the control line, where the text is one that may be obeyed now, and says whether it did.
+fn obey(core: &mut Core, text: &str) -> Result<bool, AllocError>
+    requires stands { Stands core.old }
+    ensures stands { Stands core.new }
+{
+    match killed_by(text) {
+        Some(stage) => kill_once(core, stage),
+        None => Ok(false),
+    }
+}
+
+/// Obeys the control line or makes the next move, and says whether there may be another. A fetch brings the text.
 fn move_on(rt: &impl Abort, alloc: Global, core: &mut Core, text: &str) -> Result<bool, AllocError>
+    requires stands { Stands core.old }
+    ensures stands { Stands core.new }
+{
+    if obey(core, text)? {
+        return Ok(true);
+    }
+    go_on(rt, alloc, core, text)
+}
+
+/// Makes the next move, and says whether there may be another. A fetch brings the text.
+fn go_on(rt: &impl Abort, alloc: Global, core: &mut Core, text: &str) -> Result<bool, AllocError>
     requires stands { Stands core.old }
     ensures stands { Stands core.new }
 {
@@ -162,6 +217,8 @@ fn make(core: &mut Core, step: Step) -> Result<bool, AllocError>
             close(core, stage, first)?;
         }
         Step::Drain { cause } => begin(core, cause)?,
+        Step::Restart { stage } => restart(core, stage)?,
+        Step::Halt => halt(core)?,
         _ => return Ok(false),
     }
     Ok(true)
