@@ -34,6 +34,7 @@ undone topology name a b c start opened failed back = record {
   same_telling = back.same_telling ∙ failed.asks.same_telling;
   asked = λ t. back.asked (rw failed.asks.same_telling t) ∙ failed.asks.asked t;
   fault = rw back.no_fault failed.fault;
+  faults_stay = rw back.no_fault failed.asks.faults_stay;
   sources = back.back_sources ∙ ap (λ z. z ++ sources_of topology.stages opened) failed.asks.sources;
   sinks = back.back_sinks ∙ ap (λ z. z ++ sinks_of topology.stages opened) failed.asks.sinks;
 }

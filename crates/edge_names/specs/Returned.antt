@@ -77,6 +77,7 @@ pub record IsUndone (topology : Topology) (name : List ℕ) (start : ℕ → Opt
   pub same_telling : new.told ≡ old.told
   pub asked : IsTrue old.told → new.asked ≡ old.asked ++ (calls_of (take at topology.stages) ++ (kind, name) ∷ [])
   pub fault : Rose old.faults new.faults
+  pub faults_stay : old.faults ≤ new.faults
   pub sources : new.sources_back ≡ old.sources_back ++ sources_of topology.stages opened
   pub sinks : new.sinks_back ≡ old.sinks_back ++ sinks_of topology.stages opened
 

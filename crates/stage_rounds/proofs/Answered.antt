@@ -206,12 +206,13 @@ answered topology before after done_after home away back job answer old new soun
 
 pub stays_begun : (topology : Topology) (before after : History) (home : ℕ → Option BodySeen) (p : Post) → IsSound topology → IsAtRest topology before home → Began topology before after p → is_legal topology after ≡ true
     → (back : ℕ → Option BodySeen) → ((opened : ℕ → Option BodySeen) → Keeps topology before opened home → Keeps topology after opened back)
-    → ((at : ℕ) → HasCallback (home at) → HasCallback (back at)) → GoesOn topology before home after back
-stays_begun topology before after home p sound rest b legal back keeps callbacks =
+    → ((at : ℕ) → IsSome (home at) → IsSome (back at)) → ((at : ℕ) → HasCallback (home at) → HasCallback (back at)) → GoesOn topology before home after back
+stays_begun topology before after home p sound rest b legal back keeps bodies callbacks =
     record {
       follows = λ f. subst (λ h. FollowsMoves topology h) (sym b.is) (f, b.next);
       unkilled = λ u. subst (λ h. was_killed h ≡ false) (sym b.is) (unkilled_more b.step before b.harmless u);
       keeps = keeps;
+      bodies = bodies;
       callbacks = callbacks;
       control = λ n. subst HasNoControl (sym b.is) (b.control n);
     }

@@ -66,3 +66,17 @@ back_stays home away back place at old new here gone same come stays t has = by 
         (stays (subst HasCallback (ap home (sym (eqb-true place t e)) ∙ here) has))
     by false e =
         subst HasCallback (sym (come_here ∙ (pick_second (place == t) (Some new) (away t) e ∙ (gone t ∙ pick_second (place == t) None (home t) e)))) has
+
+-- and no body is gone
+pub back_there : (home away back : ℕ → Option BodySeen) (place at : ℕ) (new : BodySeen) → ((s : ℕ) → away s ≡ (if place == s then None else home s))
+    → at ≡ place → ((t : ℕ) → back t ≡ (if at == t then Some new else away t)) → (t : ℕ) → IsSome (home t) → IsSome (back t)
+back_there home away back place at new gone same come t some = by (place == t) refl
+  where
+    come_here : back t ≡ (if place == t then Some new else away t)
+    come_here = come t ∙ ap (λ a. if a == t then Some new else away t) same
+
+    by : (b : Bool) → (place == t) ≡ b → IsSome (back t)
+    by true e = subst (λ (x : Option BodySeen). IsSome x) (sym (come_here ∙ pick_first (place == t) (Some new) (away t) e)) refl
+    by false e =
+        subst (λ (x : Option BodySeen). IsSome x)
+        (sym (come_here ∙ (pick_second (place == t) (Some new) (away t) e ∙ (gone t ∙ pick_second (place == t) None (home t) e)))) some

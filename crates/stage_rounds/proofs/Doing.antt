@@ -1,6 +1,6 @@
 -- A job that was begun, and the body that left with it.
 use Rattle.std.proofs.Common.{◌≡◌, ℕ, ◌≤◌, ◌<◌, List, [], ◌∷◌, Bool, true, false, ap, sym, ◌∙◌, subst, Some, None, Option, arith}
-use Rattle.std.specs.Prelude.{not, ◌≢◌, ◌==◌, if◌then◌else◌, find, Result, OnOk, OnErr}
+use Rattle.std.specs.Prelude.{not, ◌≢◌, ◌==◌, if◌then◌else◌, find, Result, OnOk, OnErr, IsSome}
 use Rattle.std.specs.List.{list_all}
 use Rattle.pipe_types.specs.declared.numbers.StageNo.{StageNo}
 use Rattle.pipe_types.specs.declared.topology.Kind.{Kind}
@@ -32,7 +32,7 @@ use Rattle.stage_rounds.specs.Going.{GoesOn, IsAtRest, Within, HasCallback}
 use Rattle.stage_rounds.proofs.Working.{Began, began}
 use Rattle.stage_rounds.proofs.Answered.{Leaves, answered, stays_begun, taken_body, taken_keeps, taken_stood}
 use Rattle.stage_rounds.proofs.Results.{by_result, on_ok}
-use Rattle.stage_rounds.proofs.Callbacks.{done_stays, cut_stays, back_stays}
+use Rattle.stage_rounds.proofs.Callbacks.{done_stays, cut_stays, back_stays, back_there}
 
 -- ---- calm topologies
 
@@ -127,6 +127,7 @@ unrecorded {topology = t} {before = b} {after = h} {home = home} {away = away} {
     (λ opened k. unrecorded_keeps t h job answer.outcome old new opened away back d.sound d.is (taken_body t b h home job.post old d.sound d.rest d.began d.legal d.at) done
     (taken_stood t b h opened home job.post old d.sound d.began d.legal d.at k) (back_at at (place_at job.post) away back new place come)
     (taken_keeps t b h opened home away job.post d.sound d.rest d.began d.legal d.is.out d.gone k))
+    (back_there home away back (place_at job.post) at new d.gone place come)
     (back_stays home away back (place_at job.post) at old new d.at d.gone place come (done_stays job.work answer.outcome old new done))
 
 -- memory was wanting in the job
@@ -138,11 +139,12 @@ cut {topology = t} {before = b} {after = h} {home = home} {away = away} {job = j
     (λ opened k. cut_keeps t h job.post old new opened away back d.sound d.is.out cut_off
     (taken_stood t b h opened home job.post old d.sound d.began d.legal d.at k) (back_at at (place_at job.post) away back new place come)
     (taken_keeps t b h opened home away job.post d.sound d.rest d.began d.legal d.is.out d.gone k))
+    (back_there home away back (place_at job.post) at new d.gone place come)
     (back_stays home away back (place_at job.post) at old new d.at d.gone place come (cut_stays old new cut_off))
 
 goes_of : (topology : Topology) (before after : History) (home back : ℕ → Option BodySeen) → Leaves topology before home after back
-    → ((at : ℕ) → HasCallback (home at) → HasCallback (back at)) → GoesOn topology before home after back
-goes_of topology before after home back l callbacks = record { follows = l.follows; unkilled = λ u. l.unkilled; keeps = l.keeps; callbacks = callbacks; control = l.control }
+    → ((at : ℕ) → IsSome (home at) → IsSome (back at)) → ((at : ℕ) → HasCallback (home at) → HasCallback (back at)) → GoesOn topology before home after back
+goes_of topology before after home back l bodies callbacks = record { follows = l.follows; unkilled = λ u. l.unkilled; keeps = l.keeps; bodies = bodies; callbacks = callbacks; control = l.control }
 
 pub rests_of : (topology : Topology) (before after : History) (home back : ℕ → Option BodySeen) → IsAtRest topology before home → Leaves topology before home after back → IsAtRest topology after back
 rests_of topology before after home back rest l = record { none_out = l.none_out; unkilled = l.unkilled; calm = rest.calm; ready = l.ready }
@@ -154,6 +156,7 @@ pub recorded_goes : {T E : Type 0} {topology : Topology} {before after : History
 recorded_goes {topology = t} {before = b} {after = h} {home = home} {away = away} {job = job} {old = old} r other done_after back answer new at d place come same done other_is ok err legal =
     by_result (GoesOn t b home done_after back) (done_after ≡ with_answer t h answer.post answer.outcome) (done_after ≡ h) r ok err
     (λ e. goes_of t b done_after home back (leaves other done_after back answer new at d place come same done other_is e legal)
+    (back_there home away back (place_at job.post) at new d.gone place come)
     (back_stays home away back (place_at job.post) at old new d.at d.gone place come (done_stays job.work answer.outcome old new done)))
     (λ e. subst (λ x. GoesOn t b home x back) (sym e) (unrecorded back answer new at d place come done))
 

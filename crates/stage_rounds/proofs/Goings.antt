@@ -65,11 +65,11 @@ pub within_step : (before : History) (step : Step) → is_plain_step step ≡ tr
 within_step before step plain = let same = own_time before step plain in record { same_time = same.0; begun = let e = same.1 in omega (arith, e) }
 
 pub goes_quietly : (topology : Topology) (old new : History) (home : ℕ → Option BodySeen) → GoesQuietly topology old new → GoesOn topology old home new home
-goes_quietly topology old new home q = record { follows = q.follows; unkilled = q.unkilled; keeps = λ opened k. q.keeps opened home k; callbacks = λ at here. here; control = q.control }
+goes_quietly topology old new home q = record { follows = q.follows; unkilled = q.unkilled; keeps = λ opened k. q.keeps opened home k; bodies = λ at here. here; callbacks = λ at here. here; control = q.control }
 
 pub goes_then : (topology : Topology) (a b c : History) (x y z : ℕ → Option BodySeen) → GoesOn topology a x b y → GoesOn topology b y c z → GoesOn topology a x c z
 goes_then topology a b c x y z p q =
-    record { follows = λ f. q.follows (p.follows f); unkilled = λ u. q.unkilled (p.unkilled u); keeps = λ opened k. q.keeps opened (p.keeps opened k); callbacks = λ at here. q.callbacks at (p.callbacks at here); control = λ n. q.control (p.control n) }
+    record { follows = λ f. q.follows (p.follows f); unkilled = λ u. q.unkilled (p.unkilled u); keeps = λ opened k. q.keeps opened (p.keeps opened k); bodies = λ at here. q.bodies at (p.bodies at here); callbacks = λ at here. q.callbacks at (p.callbacks at here); control = λ n. q.control (p.control n) }
 
 pub rests_quietly : (topology : Topology) (old new : History) (home : ℕ → Option BodySeen) → GoesQuietly topology old new → IsAtRest topology old home → IsAtRest topology new home
 rests_quietly topology old new home q r = record { none_out = q.none_out r.none_out; unkilled = q.unkilled r.unkilled; calm = r.calm; ready = q.ready home r.ready }

@@ -30,12 +30,13 @@ pub record GoesQuietly (topology : Topology) (old new : History) : Type 0 where
 abbrev pub HasCallback : Option BodySeen → Type 0
 HasCallback body = There body (λ b. IsSome b.callback)
 
--- steps were added, each the next move when it came; what the journal says of the bodies holds on, no callback is gone, and
--- nothing was killed
+-- steps were added, each the next move when it came; what the journal says of the bodies holds on, no body and no callback is
+-- gone, and nothing was killed
 pub record GoesOn (topology : Topology) (old : History) (home : ℕ → Option BodySeen) (new : History) (home' : ℕ → Option BodySeen) : Type 0 where
   pub follows : FollowsMoves topology old → FollowsMoves topology new
   pub unkilled : was_killed old ≡ false → was_killed new ≡ false
   pub keeps : (opened : ℕ → Option BodySeen) → Keeps topology old opened home → Keeps topology new opened home'
+  pub bodies : (at : ℕ) → IsSome (home at) → IsSome (home' at)
   pub callbacks : (at : ℕ) → HasCallback (home at) → HasCallback (home' at)
   pub control : HasNoControl old → HasNoControl new
 
