@@ -21,7 +21,8 @@ use Rattle.stage_laws.proofs.Numbering.{numbered_topology}
 use Rattle.body_laws.specs.Keeps.{has_slot, has_post, has_post_in}
 use Rattle.body_laws.specs.Ready.{There}
 use Rattle.body_laws.proofs.Posts.{own_places}
-use Rattle.box_stock.specs.Homes.{joined, posts_in, posts_of, post_by, post_for, Suffices}
+use Rattle.topology_needs.specs.Needs.{posts_in, posts_of}
+use Rattle.box_stock.specs.Homes.{joined, post_by, post_for, Suffices}
 use Rattle.stage_job.specs.Boxes.{boxes_of_kind}
 use Rattle.box_stock.specs.Lends.{AreApart, AreHandedOut, AreStillThere, IsArmedFor, IsArmedWith, IsFreshBox, IsBodyBefore, IsHandedOut, IsLent, bare_body, body_with, box_at, callback_in, kinds_of, slip_at}
 use Rattle.box_stock.specs.declared.handing.Slip.{Slip}

@@ -1,6 +1,6 @@
 -- What arming, lending and giving back leave of boxes and bodies.
-use Rattle.std.proofs.Common.{◌≡◌, ◌≢◌, ℕ, zero, suc, ◌+◌, ◌-◌, ◌<◌, ◌≤◌, Bool, true, false, List, [], ◌∷◌, ◌++◌, length, take, refl, ap, sym, ◌∙◌, subst, arith, Option, Some, None, inl, inr}
-use Rattle.std.specs.Prelude.{slice_get, ◌==◌, if◌then◌else◌, option_map}
+use Rattle.std.proofs.Common.{◌≡◌, ◌≢◌, ℕ, zero, suc, ◌+◌, ◌-◌, ◌<◌, ◌≤◌, Bool, true, false, List, [], ◌∷◌, ◌++◌, length, take, refl, ap, sym, ◌∙◌, subst, arith, Option, Some, None, Result, Ok, Err, inl, inr}
+use Rattle.std.specs.Prelude.{slice_get, ◌==◌, if◌then◌else◌, option_map, OnErr}
 use Rattle.std.proofs.lemmas.Bool.{cases_lt, ne_eqb, eq-eqb}
 use Rattle.std.proofs.lemmas.Option.{slice_get_past, slice_get_within}
 use Rattle.pipe_laws.proofs.Tests.{same_stage-true}
@@ -18,12 +18,17 @@ use Rattle.stage_bodies.specs.Jobs.{Both}
 use Rattle.stage_bodies.specs.Posts.{place_at}
 use Rattle.stage_laws.specs.Numbered.{IsNumberedTopology}
 use Rattle.box_stock.specs.Homes.{joined}
-use Rattle.box_stock.specs.Lends.{IsSameBox, IsArmedWith, IsArmedFor, IsSlipOf, IsLent, HoldsBox, AreApart, spec_at, is_home, bare_body, body_with, box_at, callback_in, back_for}
+use Rattle.box_stock.specs.Lends.{IsSameBox, IsArmedWith, IsArmedFor, IsSlipOf, IsLent, HoldsBox, AreApart, spec_at, is_home, bare_body, body_with, box_at, callback_in, back_for, without_box}
 use Rattle.box_stock.specs.declared.handing.Slip.{Slip}
 use Rattle.box_stock.specs.declared.handing.Slip.TheVariants.{Lent, Kept}
 use Rattle.box_stock.proofs.Lists.{front, behind}
 
 -- ---- arming
+
+-- what is known holds also where there was an error
+pub on_err : {T E P : Type 0} → (r : Result T E) → P → OnErr r P
+on_err (Ok x) p = tt
+on_err (Err e) p = p
 
 pub same_box : (x : BoxSeen) → IsSameBox x x
 same_box x = record { kind = refl; told = refl; said = λ t. refl; calls = omega arith; bad = omega arith }
@@ -252,4 +257,23 @@ back_more seen boxes box done want count this before k within =
       | inr up ↦
           let is : k ≡ done = omega (arith, up, within) in
           ap (option_map seen) (last_of boxes box k (omega (arith, is, count))) ∙ (this ∙ ap want (sym is))
+    ]
+
+twice : (o : Option BodySeen) → option_map without_box (option_map without_box o) ≡ option_map without_box o
+twice None = refl
+twice (Some body) = refl
+
+-- where one body was emptied, what else the bodies hold is as it was
+pub rest_left : (at : ℕ) (old new : ℕ → Option BodySeen) → new at ≡ option_map without_box (old at) → ((s : ℕ) → at ≢ s → new s ≡ old s)
+    → (s : ℕ) → option_map without_box (new s) ≡ option_map without_box (old s)
+rest_left at old new emptied others s =
+    elim (cases_lt at s) [
+      | inl below ↦ ap (option_map without_box) (others s (λ e. omega (arith, below, e)))
+      | inr up ↦
+          elim (cases_lt s at) [
+            | inl above ↦ ap (option_map without_box) (others s (λ e. omega (arith, above, e)))
+            | inr down ↦
+                let is : at ≡ s = omega (arith, up, down) in
+                subst (λ i. option_map without_box (new i) ≡ option_map without_box (old i)) is (ap (option_map without_box) emptied ∙ twice (old at))
+          ]
     ]

@@ -1,6 +1,6 @@
 mod Lists
 mod Ranks
-mod Located
+pub mod Located
 mod Armable
 mod Lending
 mod Assembly

@@ -1,14 +1,16 @@
 -- The posts that need a callback, and the boxes that are for them.
-use Rattle.std.proofs.Common.{◌≡◌, ℕ, zero, suc, ◌+◌, ◌-◌, ◌<◌, ◌≤◌, Bool, true, false, List, [], ◌++◌, length, take, map, get_or, refl, ap, sym, ◌∙◌, subst, arith, Option, Some, None}
+use Rattle.std.proofs.Common.{◌≡◌, ℕ, zero, suc, ◌+◌, ◌-◌, ◌<◌, ◌≤◌, Bool, true, false, cond, List, [], ◌∷◌, ◌++◌, length, take, map, get_or, refl, ap, sym, ◌∙◌, subst, arith, Option, Some, None}
 use Rattle.std.specs.Prelude.{slice_get, option_map, if◌then◌else◌}
-use Rattle.std.specs.List.{flat_map}
+use Rattle.std.specs.List.{flat_map, sum_by}
 use Rattle.std.proofs.lemmas.Bool.{lt-ltb, eq-eqb}
 use Rattle.std.proofs.lemmas.Option.{slice_get_within, slice_get_past, slice_get_read, slice_get-map}
 use Rattle.std.proofs.lemmas.List.{length-append, take_all, take-map}
+use Rattle.std.proofs.lemmas.List.Sums.{sum_by-cons}
 use Rattle.edge_names.proofs.Openings.{take_next, flat_map_next}
 use Rattle.pipe_types.specs.declared.numbers.StageNo.{StageNo}
 use Rattle.pipe_types.specs.declared.numbers.Post.{Post}
 use Rattle.pipe_types.specs.declared.topology.Kind.{Kind}
+use Rattle.pipe_types.specs.declared.topology.Kind.TheVariants.{Steps, Lines, Own}
 use Rattle.pipe_types.specs.declared.topology.Role.{Role}
 use Rattle.pipe_types.specs.declared.topology.Role.TheVariants.{Producer, Processor, Supervisor, Batcher, BatchProcessor}
 use Rattle.pipe_types.specs.declared.topology.StageSpec.{StageSpec}
@@ -21,7 +23,9 @@ use Rattle.stage_laws.specs.Numbered.{IsNumberedTopology}
 use Rattle.stage_laws.proofs.Numbering.{numbered_topology}
 use Rattle.body_laws.specs.Keeps.{has_slot, has_post_in, has_post}
 use Rattle.body_laws.proofs.Posts.{own_places, few_slots}
-use Rattle.box_stock.specs.Homes.{posts_in, posts_of, slots_from, posts_for, posts_with, post_by, post_for, Suffices}
+use Rattle.topology_needs.specs.Needs.{posts_in, posts_of, of_kind, need_of, boxes_in, shortage_of}
+use Rattle.topology_needs.proofs.Rows.{enough}
+use Rattle.box_stock.specs.Homes.{slots_from, posts_for, posts_with, post_by, post_for, Suffices}
 use Rattle.box_stock.specs.Lends.{AreApart}
 use Rattle.box_stock.proofs.Lists.{find_in, at_index}
 use Rattle.box_stock.proofs.Ranks.{same_kind-true, same_kind-self, only_place, nth}
@@ -127,6 +131,27 @@ no_home kind topology i left before past rank =
     let all : length (flat_map (posts_for kind) (take i topology.stages)) ≡ length (posts_with kind topology) = ap (λ l. length (flat_map (posts_for kind) l)) (take_all i topology.stages past) in
     sym (slice_get_past (posts_with kind topology) before (omega (arith, all, rank)))
 
+-- ---- how many there are
+
+needed_in : (kind : Kind) (stages : List StageSpec) → length (flat_map (posts_for kind) stages) ≡ sum_by posts_of (of_kind kind stages)
+needed_in kind [] = refl
+needed_in kind (spec ∷ rest) = length-append (posts_for kind spec) (flat_map (posts_for kind) rest) ∙ by_kind (same_kind kind spec.kind) (needed_in kind rest)
+  where
+    by_kind : (t : Bool) → length (flat_map (posts_for kind) rest) ≡ sum_by posts_of (of_kind kind rest)
+        → length (if t then slots_from spec.no 0 (posts_of spec) else []) + length (flat_map (posts_for kind) rest) ≡ sum_by posts_of (cond t (spec ∷ of_kind kind rest) (of_kind kind rest))
+    by_kind true more = omega (arith, slot_len spec.no 0 (posts_of spec), sum_by-cons posts_of spec (of_kind kind rest), more)
+    by_kind false more = omega (arith, more)
+
+-- as many posts need a callback of the kind as the need says
+pub needed : (kind : Kind) (topology : Topology) → length (posts_with kind topology) ≡ need_of topology kind
+needed kind topology = needed_in kind topology.stages
+
+-- where none is short there is a box for each post that needs one
+pub suffices : (topology : Topology) (kinds : List Kind) → shortage_of topology (boxes_in kinds) ≡ None → Suffices topology kinds
+suffices topology kinds none Steps = enough topology (boxes_in kinds) Steps none
+suffices topology kinds none Lines = enough topology (boxes_in kinds) Lines none
+suffices topology kinds none Own = enough topology (boxes_in kinds) Own none
+
 -- ---- posts with a callback
 
 has_slot_by : (r : Role) (max slot : ℕ) → slot < posts_in r max → has_slot r max slot ≡ true
@@ -199,10 +224,10 @@ pub record HasBox (topology : Topology) (kinds : List Kind) (p : Post) (kind : K
 
 pub served : (topology : Topology) (kinds : List Kind) (at slot : ℕ) (spec : StageSpec) → Suffices topology kinds → slice_get topology.stages at ≡ Some spec → slot < posts_of spec
     → HasBox topology kinds (post spec.no slot) spec.kind
-served topology kinds at slot spec enough here below =
+served topology kinds at slot spec suffice here below =
     let rank = length (flat_map (posts_for spec.kind) (take at topology.stages)) + slot in
     let is = ranked spec.kind topology at slot spec here (same_kind-self spec.kind) below in
-    let within : rank < boxes_of_kind spec.kind kinds = omega (arith, slice_get_within (posts_with spec.kind topology) rank (post spec.no slot) is, enough spec.kind) in
+    let within : rank < boxes_of_kind spec.kind kinds = omega (arith, slice_get_within (posts_with spec.kind topology) rank (post spec.no slot) is, needed spec.kind topology, suffice spec.kind) in
     let box = nth spec.kind kinds rank within in
     record {
       at = box.at;

@@ -1,26 +1,14 @@
 -- Which post the box at a place of a stock is for.
-use Rattle.std.specs.Prelude.{◌≤◌, ℕ, zero, suc, List, [], ◌∷◌, length, take, slice_get, if◌then◌else◌, Option, Some, None}
+use Rattle.std.specs.Prelude.{◌≤◌, ℕ, zero, suc, List, [], ◌∷◌, take, slice_get, if◌then◌else◌, Option, Some, None}
 use Rattle.std.specs.List.{flat_map}
 use Rattle.pipe_types.specs.declared.numbers.StageNo.{StageNo}
 use Rattle.pipe_types.specs.declared.numbers.Post.{Post}
 use Rattle.pipe_types.specs.declared.topology.Kind.{Kind}
-use Rattle.pipe_types.specs.declared.topology.Role.{Role}
-use Rattle.pipe_types.specs.declared.topology.Role.TheVariants.{Producer, Processor, Supervisor, Batcher, BatchProcessor}
 use Rattle.pipe_types.specs.declared.topology.StageSpec.{StageSpec}
 use Rattle.pipe_types.specs.declared.topology.Topology.{Topology}
 use Rattle.pipe_types.specs.Numbers.{post}
 use Rattle.stage_job.specs.Boxes.{same_kind, boxes_of_kind}
-
--- how many posts of a stage have a callback: one of a processor or a batch processor, and one for each child of a supervisor
-abbrev pub posts_in : Role → (children : ℕ) → ℕ
-posts_in Producer children = 0
-posts_in Processor children = 1
-posts_in Supervisor children = children
-posts_in Batcher children = 0
-posts_in BatchProcessor children = 1
-
-abbrev pub posts_of : StageSpec → ℕ
-posts_of s = posts_in s.role s.max
+use Rattle.topology_needs.specs.Needs.{posts_of, need_of}
 
 -- so many slots of a stage, from this one on
 abbrev pub slots_from : StageNo → (slot many : ℕ) → List Post
@@ -34,10 +22,6 @@ posts_for kind spec = if same_kind kind spec.kind then slots_from spec.no 0 (pos
 -- the posts that need a callback of the kind, in order of stage and slot
 abbrev pub posts_with : Kind → Topology → List Post
 posts_with kind topology = flat_map (posts_for kind) topology.stages
-
--- how many posts need a callback of the kind
-abbrev pub need_of : Topology → Kind → ℕ
-need_of topology kind = length (posts_with kind topology)
 
 abbrev pub post_by : Topology → Option Kind → (before : List Kind) → Option Post
 post_by topology None before = None

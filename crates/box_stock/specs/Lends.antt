@@ -113,6 +113,10 @@ abbrev pub callback_in : Option BodySeen → Option BoxSeen
 callback_in (Some body) = body.callback
 callback_in None = None
 
+-- the body, without the callback that it may hold
+abbrev pub without_box : BodySeen → BodySeen
+without_box body = record body { callback = None }
+
 -- what comes back for a slip: what the table holds, or what was kept
 abbrev pub back_for : {C : Type 0} → (C → BoxSeen) → (table : ℕ → Option BodySeen) → Option (Slip C) → Option BoxSeen
 back_for seen table (Some (Lent at)) = callback_in (table at)

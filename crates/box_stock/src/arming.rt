@@ -1,6 +1,6 @@
 //! Boxes armed for their posts.
 
-ghost use Rattle.std.specs.Prelude.{◌≡◌, ◌≢◌, ◌<◌, ℕ, length, slice_get, IfOk, OnOk, OnErr};
+ghost use Rattle.std.specs.Prelude.{◌≡◌, ◌≢◌, ◌<◌, ℕ, length, slice_get, OnOk, OnErr};
 ghost use Rattle.pipe_types.specs.Sound.{IsSound};
 ghost use Rattle.stage_bodies.specs.Jobs.{Both};
 ghost use Rattle.box_stock.specs.Lends.{IsArmedFor, IsSameBox, box_at};
@@ -61,10 +61,7 @@ pub(crate) fn arm_all<C: Boxed>(
 {
     for at in 0..homes.len() {
         let home = home_in(homes, at);
-        match arm_at(topology, home, stock, at) {
-            Ok(()) => {}
-            Err(error) => return Err(error),
-        }
+        arm_at(topology, home, stock, at)?;
     }
     Ok(())
 }

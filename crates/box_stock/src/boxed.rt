@@ -1,6 +1,6 @@
 //! Boxes as plain data, and the bodies that hold them.
 
-ghost use Rattle.std.specs.Prelude.{◌≡◌, IsTrue, OnOk, OnErr, Some, None, option_map};
+ghost use Rattle.std.specs.Prelude.{◌≡◌, IsTrue, OnOk, OnErr, None, option_map};
 ghost use Rattle.stage_callback.specs.Callbacks.{can_arm};
 ghost use Rattle.stage_bodies.specs.Seen.{BoxSeen};
 ghost use Rattle.box_stock.specs.Lends.{IsSameBox, IsFreshBox, bare_body, body_with};

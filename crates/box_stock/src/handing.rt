@@ -1,6 +1,6 @@
 //! Handing out.
 
-ghost use Rattle.std.specs.Prelude.{◌≡◌, ◌≢◌, ◌<◌, ◌≤◌, ◌*◌, ℕ, Some, None, if◌then◌else◌, length, slice_get, IfSome, IfOk, IfErr, vec_capacity};
+ghost use Rattle.std.specs.Prelude.{◌≡◌, ◌≢◌, ◌<◌, ◌≤◌, ◌*◌, ℕ, Some, if◌then◌else◌, length, slice_get, IfSome, IfOk, IfErr, vec_capacity};
 ghost use Rattle.pipe_types.specs.Sound.{IsSound};
 ghost use Rattle.pipe_types.specs.declared.numbers.Post.{Post};
 ghost use Rattle.stage_bodies.specs.Seen.{body_at};

@@ -1,15 +1,17 @@
 //! Which post the boxes of a stock are for.
 
-ghost use Rattle.std.specs.Prelude.{◌≡◌, ◌<◌, ◌≤◌, ℕ, Some, if◌then◌else◌, length, slice_get, map, IfOk};
+ghost use Rattle.std.specs.Prelude.{◌≡◌, ◌<◌, ℕ, Some, if◌then◌else◌, length, slice_get, IfOk};
 ghost use Rattle.pipe_types.specs.Sound.{IsSound};
 ghost use Rattle.stage_job.specs.Boxes.{same_kind, boxes_of_kind};
-ghost use Rattle.box_stock.specs.Homes.{joined, posts_for, posts_of as posts_in_stage, posts_with, post_for};
+ghost use Rattle.topology_needs.specs.Needs.{boxes_in as boxes_by_kind, posts_of};
+ghost use Rattle.box_stock.specs.Homes.{joined, posts_with, post_for};
 ghost use Rattle.box_stock.specs.Lends.{kinds_of};
 
 use crate::boxed::Boxed;
 use pipe_types::numbers::Post;
-use pipe_types::topology::{Kind, Role, StageSpec, Topology};
+use pipe_types::topology::{Kind, StageSpec, Topology};
 use std::alloc::{AllocError, Global};
+use topology_needs::{Boxes, posts};
 
 /// The post of a box of this kind that has so many of its kind before it, or none where no post is left for it.
 pub fn home_of(topology: &Topology, kind: Kind, before: usize) -> Option<Post>
@@ -31,22 +33,12 @@ pub fn home_of(topology: &Topology, kind: Kind, before: usize) -> Option<Post>
 }
 
 fn posts_here(kind: Kind, spec: &StageSpec) -> usize
-    ensures { result ≡ (if same_kind kind spec.now.kind then posts_in_stage spec.now else 0) }
+    ensures { result ≡ (if same_kind kind spec.now.kind then posts_of spec.now else 0) }
 {
     if is_same(kind, spec.kind) {
-        posts_of(spec)
+        posts(spec)
     } else {
         0
-    }
-}
-
-fn posts_of(spec: &StageSpec) -> usize
-    ensures { result ≡ posts_in_stage spec.now }
-{
-    match spec.role {
-        Role::Producer | Role::Batcher => 0,
-        Role::Processor | Role::BatchProcessor => 1,
-        Role::Supervisor => spec.max as usize,
     }
 }
 
@@ -67,6 +59,17 @@ fn boxes_of<C: Boxed>(stock: &[C], wanted: Kind) -> usize
         }
     }
     boxes
+}
+
+/// How many boxes of each kind the stock has.
+pub fn boxes_in<C: Boxed>(stock: &[C]) -> Boxes
+    ensures { result ≡ boxes_by_kind (kinds_of C.seen stock.now) }
+{
+    Boxes {
+        steps: boxes_of(stock, Kind::Steps),
+        lines: boxes_of(stock, Kind::Lines),
+        own: boxes_of(stock, Kind::Own),
+    }
 }
 
 /// The post of the box at this place.

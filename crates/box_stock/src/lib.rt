@@ -3,15 +3,19 @@
 //! `hand_out` makes a table of bodies in which every post of the topology has its own: a producer's is bare, and a post that
 //! has a callback holds a box of its kind, armed with the spec of its stage. Boxes of a kind go to the posts that need one in
 //! order of stage and slot; what is not needed is kept. `take_back` gives the boxes back in the order in which they came.
+//! A stock suffices where `shortage` of `topology_needs`, asked with its `boxes_in`, finds none.
 #![tactic(auto)]
 
-ghost use Rattle.std.specs.Prelude.{ℕ, List, length, Option};
+ghost use Rattle.std.specs.Prelude.{◌≡◌, ℕ, List, length, Option, None};
 ghost use Rattle.pipe_types.specs.Sound.{IsSound};
+ghost use Rattle.pipe_types.specs.declared.topology.Kind.{Kind};
 ghost use Rattle.pipe_types.specs.declared.topology.Topology.{Topology};
 ghost use Rattle.stage_bodies.specs.Seen.{BodySeen};
 ghost use Rattle.body_laws.specs.Ready.{IsFilled};
 ghost use Rattle.edge_names.specs.Seen.{EdgesSeen};
 ghost use Rattle.edge_names.specs.Opened.{AreHome, AreOpened};
+ghost use Rattle.topology_needs.specs.Needs.{boxes_in as boxes_by_kind, shortage_of};
+ghost use Rattle.box_stock.specs.Homes.{Suffices};
 ghost use Rattle.box_stock.specs.Lends.{AreHandedOut, AreStillThere, CallbacksRemain};
 ghost use Rattle.box_stock.specs.declared.handing.Slip.{Slip};
 
@@ -26,8 +30,14 @@ mod tests;
 
 pub use boxed::{Boxed, Carries};
 pub use handing::{Lent, Slip, hand_out};
-pub use homes::home_of;
+pub use homes::{boxes_in, home_of};
 pub use returning::take_back;
+
+/// A stock of which no kind is short suffices.
+#[tactic(auto, using(crate::proofs::Located::suffices))]
+pub fn stocks_without_shortage_suffice()
+    ensures { (topology : Topology) (kinds : List Kind) → shortage_of topology (boxes_by_kind kinds) ≡ None → Suffices topology kinds }
+{}
 
 /// A table that was handed out is filled once everything is opened.
 pub fn opened_tables_are_filled()

@@ -3,7 +3,7 @@
 //! `RealEdges` opens sources and sinks by name, counts each failure before it answers it, and keeps what is given back
 //! until it is dropped. No object tells its bytes: what a file or a connection holds, and that a peer gets anything, is
 //! not claimed. `pipeline_prog` passes them to its run:
-//! `run_program(alloc, &words, stock, &mut edges, clock, &mut out, &mut err)`.
+//! `run_program(rt, alloc, &words, stock, &mut edges, clock, &mut out, &mut err)`.
 #![tactic(auto)]
 
 mod clock;

@@ -3,6 +3,7 @@ use Rattle.std.proofs.Common.{◌≡◌, ◌≢◌, ℕ, ◌≤◌, ◌<◌, Lis
 use Rattle.std.specs.Prelude.{◌⊎◌, IsTrue}
 use Rattle.std.proofs.lemmas.List.{append-nil, append_assoc, take_all, take_at}
 use Rattle.std.proofs.Math.Seq.{take-nil}
+use Rattle.std.proofs.lemmas.Bool.{le-leb}
 use Rattle.pipe_types.specs.declared.topology.Topology.{Topology}
 use Rattle.pipe_model.specs.History.{History}
 use Rattle.pipe_edges.specs.declared.edges.EdgeKind.{EdgeKind}
@@ -16,17 +17,16 @@ use Rattle.topology_needs.specs.Unbuilt.{unbuilt_of}
 use Rattle.config_table.specs.declared.fault.ConfigFault.{ConfigFault}
 use Rattle.config_flow.specs.Flow.{flow_topology_of}
 use Rattle.pipe_config.specs.File.{topology_of_file}
-use Rattle.stage_workers.specs.Steps.{ends_in_fetch}
-use Rattle.pipe_top.specs.Cases.{Case, NoCommand, NoTopology as BadTopology, TooFew, NotBuilt, Checks, Runs, case_of, run_case, unless_short, unless_unbuilt, for_topology, report_alone, source_of}
+use Rattle.pipe_top.specs.Cases.{Case, NoCommand, NoTopology as BadTopology, TooFew, NotBuilt, Checks, Runs, case_of, run_case, unless_short, unless_unbuilt, for_topology, report_alone}
 use Rattle.pipe_top.specs.Verdicts.{Adds, AddsPrefix, out_text_of, err_text_of, status_in, FaultBy, QuietBy}
-use Rattle.pipe_top.specs.Runs.{IsRunOrNone, IsEndOf, IsStopOf, IsOwnTopology, IsStatusOf, IsReportOf, Lost, IsReadBack, ForSource, IsRefusalStatus, IsUnopenedStatus, IsOr, Asks, FailsAt, NamesFault, IsEdgeLine, BeginsLine, out_text, case_line, error_text}
-use Rattle.pipe_top.specs.Flows.{IsRunVerdict, IsEarly, Outcome, RunBack, BackBy, AskedBy}
+use Rattle.pipe_top.specs.Runs.{OutsideSeen, IsRunOrNone, IsEndOf, IsOwnTopology, IsStatusOf, IsReportOf, Lost, IsUntouched, HasUsed, HasNotBegun, HasRunOrNot, IsGivenUp, IsOutsideOf, IsRefusalStatus, IsUnopenedStatus, IsOr, Asks, FailsAt, NamesFault, IsEdgeLine, BeginsLine, out_text, case_line, error_text}
+use Rattle.pipe_top.specs.Flows.{Outcome, IsEarly, AskedBy}
 use Rattle.pipe_top.specs.declared.verdict.Refusal.{Refusal}
-use Rattle.pipe_top.specs.declared.verdict.Refusal.TheVariants.{Usage, Topology as NoTopology, Stock, Unbuilt, Wait, Edge, Memory}
+use Rattle.pipe_top.specs.declared.verdict.Refusal.TheVariants.{Usage, Topology as NoTopology, Stock, Unbuilt, Edge, Memory}
 use Rattle.pipe_top.specs.declared.verdict.Shows.{Shows}
 use Rattle.pipe_top.specs.declared.verdict.Verdict.{Verdict}
 use Rattle.pipe_top.specs.declared.verdict.Verdict.TheVariants.{Refused, Done}
-use Rattle.pipe_top.proofs.Outcomes.{Fails, Early, early, Reported, ran, settled, is_small, not_small, not_both, small_of}
+use Rattle.pipe_top.proofs.Outcomes.{Fails, Early, early, Reported, ran, settled, is_small, not_small, not_both, few_of}
 
 -- ---- the statuses of verdicts
 
@@ -58,10 +58,9 @@ known (NotBuilt missing) fails topology before verdict (inr r) = rw r.refused (o
 known (Checks wanted) fails topology before verdict (inr r) = rw r.counted (omega arith)
 known (Runs shows wanted) fails topology before verdict (inr r) = by_run (ran verdict shows wanted before r.comes_to)
   where
-    by_run : Reported shows wanted before verdict ⊎ ((verdict ≡ Refused Wait) ⊎ (verdict ≡ Refused Memory)) → status_in verdict ≤ 10
-    by_run (inl v) = rw v.is (omega (arith, small_of v.status v.report.ended.possible))
-    by_run (inr (inl is)) = rw is (omega arith)
-    by_run (inr (inr is)) = rw is (omega arith)
+    by_run : Reported shows wanted before verdict ⊎ (verdict ≡ Refused Memory) → status_in verdict ≤ 10
+    by_run (inl v) = omega (arith, few_of v)
+    by_run (inr is) = rw is (omega arith)
 
 -- 8 is no status of a verdict
 pub never_eight : (case : Case) (fails : List ℕ → Type 0) (topology : Option Topology) (before : History) (verdict : Verdict) → Outcome case fails topology before verdict → status_in verdict ≢ 8
@@ -73,10 +72,9 @@ never_eight (NotBuilt missing) fails topology before verdict (inr r) = rw r.refu
 never_eight (Checks wanted) fails topology before verdict (inr r) = rw r.counted (λ x. cc)
 never_eight (Runs shows wanted) fails topology before verdict (inr r) = by_run (ran verdict shows wanted before r.comes_to)
   where
-    by_run : Reported shows wanted before verdict ⊎ ((verdict ≡ Refused Wait) ⊎ (verdict ≡ Refused Memory)) → status_in verdict ≢ 8
-    by_run (inl v) = rw v.is (λ at. omega (arith, at, small_of v.status v.report.ended.possible))
-    by_run (inr (inl is)) = rw is (λ x. cc)
-    by_run (inr (inr is)) = rw is (λ x. cc)
+    by_run : Reported shows wanted before verdict ⊎ (verdict ≡ Refused Memory) → status_in verdict ≢ 8
+    by_run (inl v) = λ at. omega (arith, at, few_of v)
+    by_run (inr is) = rw is (λ x. cc)
 
 -- ---- the topology and the end
 
@@ -108,36 +106,15 @@ ended_in (NotBuilt missing) fails topology before verdict (inr r) few = absurd (
 ended_in (Checks wanted) fails topology before verdict (inr r) few = (ap status_in r.counted, r.own, r.no_step)
 ended_in (Runs shows wanted) fails topology before verdict (inr r) few = by_run (ran verdict shows wanted before r.comes_to)
   where
-    by_run : Reported shows wanted before verdict ⊎ ((verdict ≡ Refused Wait) ⊎ (verdict ≡ Refused Memory)) → IsEndOf topology before (status_in verdict) (Runs shows wanted)
+    by_run : Reported shows wanted before verdict ⊎ (verdict ≡ Refused Memory) → IsEndOf topology before (status_in verdict) (Runs shows wanted)
     by_run (inl v) = (r.own, rw v.is v.report.ended)
-    by_run (inr (inl is)) = absurd (not_small 10 (status_in verdict) (ap status_in is) (omega arith) few)
-    by_run (inr (inr is)) = absurd (not_small 9 (status_in verdict) (ap status_in is) (omega arith) few)
+    by_run (inr is) = absurd (not_small 9 (status_in verdict) (ap status_in is) (omega arith) few)
 
 pub ended : (case : Case) (fails : List ℕ → Type 0) (topology : Option Topology) (before : History) (verdict : Verdict) (status : ℕ) → Outcome case fails topology before verdict
     → (status ≡ status_in verdict) ⊎ ((status ≡ 8) ⊎ (status ≡ 9)) → status ≤ 4 → IsEndOf topology before status case
 ended case fails topology before verdict status o is few =
     let e = is_small status (status_in verdict) is few in
     rw e (ended_in case fails topology before verdict o (rw e at few))
-
-pub stopped : (case : Case) (fails : List ℕ → Type 0) (topology : Option Topology) (before : History) (verdict : Verdict) → Outcome case fails topology before verdict → status_in verdict ≡ 10
-    → IsStopOf topology before case
-stopped case fails topology before verdict (inl e) ten = absurd (nine_or_five (status_in verdict) 10 (early_at fails topology before verdict e) ten (λ x. cc) (λ x. cc))
-stopped NoCommand fails topology before verdict (inr r) ten = absurd (not_both 7 10 (status_in verdict) (ap status_in r.refused) ten (λ x. cc))
-stopped (BadTopology fault) fails topology before verdict (inr r) ten = absurd (not_both 6 10 (status_in verdict) (ap status_in r.refused) ten (λ x. cc))
-stopped (TooFew shortage) fails topology before verdict (inr r) ten = absurd (not_both 6 10 (status_in verdict) (ap status_in r.refused) ten (λ x. cc))
-stopped (NotBuilt missing) fails topology before verdict (inr r) ten = (r.no_topology, r.no_step)
-stopped (Checks wanted) fails topology before verdict (inr r) ten = absurd (not_both 0 10 (status_in verdict) (ap status_in r.counted) ten (λ x. cc))
-stopped (Runs shows wanted) fails topology before verdict (inr r) ten = by_run (ran verdict shows wanted before r.comes_to)
-  where
-    waits : verdict ≡ Refused Wait → IsTrue (ends_in_fetch before)
-    waits is =
-        let v : IsRunVerdict (Refused Wait) shows wanted before = rw is at r.comes_to in
-        v
-
-    by_run : Reported shows wanted before verdict ⊎ ((verdict ≡ Refused Wait) ⊎ (verdict ≡ Refused Memory)) → IsStopOf topology before (Runs shows wanted)
-    by_run (inl v) = absurd (not_small 10 (status_in verdict) ten (omega arith) (rw v.is (small_of v.status v.report.ended.possible)))
-    by_run (inr (inl is)) = (r.own, waits is)
-    by_run (inr (inr is)) = absurd (not_both 9 10 (status_in verdict) (ap status_in is) ten (λ x. cc))
 
 -- ---- the output
 
@@ -151,10 +128,9 @@ small_text before (NotBuilt missing) fails topology verdict (inr r) few = absurd
 small_text before (Checks wanted) fails topology verdict (inr r) few = rw r.counted r.counts
 small_text before (Runs shows wanted) fails topology verdict (inr r) few = by_run (ran verdict shows wanted before r.comes_to)
   where
-    by_run : Reported shows wanted before verdict ⊎ ((verdict ≡ Refused Wait) ⊎ (verdict ≡ Refused Memory)) → out_text_of verdict ≡ out_text before (Runs shows wanted)
+    by_run : Reported shows wanted before verdict ⊎ (verdict ≡ Refused Memory) → out_text_of verdict ≡ out_text before (Runs shows wanted)
     by_run (inl v) = rw v.is v.report.by_journal
-    by_run (inr (inl is)) = absurd (not_small 10 (status_in verdict) (ap status_in is) (omega arith) few)
-    by_run (inr (inr is)) = absurd (not_small 9 (status_in verdict) (ap status_in is) (omega arith) few)
+    by_run (inr is) = absurd (not_small 9 (status_in verdict) (ap status_in is) (omega arith) few)
 
 pub reported : (case : Case) (fails : List ℕ → Type 0) (topology : Option Topology) (before : History) (verdict : Verdict) (status : ℕ) (held held' : List ℕ) → Outcome case fails topology before verdict
     → (status ≡ status_in verdict) ⊎ ((status ≡ 8) ⊎ (status ≡ 9)) → status ≤ 4 → Adds held held' (out_text_of verdict) → Adds held held' (out_text before case)
@@ -186,12 +162,11 @@ begun (Checks wanted) fails topology before verdict held held' (inr r) b =
     rw r.counts at counted
 begun (Runs shows wanted) fails topology before verdict held held' (inr r) b = by_run (ran verdict shows wanted before r.comes_to)
   where
-    by_run : Reported shows wanted before verdict ⊎ ((verdict ≡ Refused Wait) ⊎ (verdict ≡ Refused Memory)) → AddsPrefix held held' (out_text before (Runs shows wanted))
+    by_run : Reported shows wanted before verdict ⊎ (verdict ≡ Refused Memory) → AddsPrefix held held' (out_text before (Runs shows wanted))
     by_run (inl v) =
         let written : AddsPrefix held held' (out_text_of (Done v.texts v.status)) = rw v.is at b in
         rw v.report.by_journal at written
-    by_run (inr (inl is)) = begun_refusal held held' (out_text before (Runs shows wanted)) verdict Wait is b
-    by_run (inr (inr is)) = begun_refusal held held' (out_text before (Runs shows wanted)) verdict Memory is b
+    by_run (inr is) = begun_refusal held held' (out_text before (Runs shows wanted)) verdict Memory is b
 
 -- texts are written with 0 to 4 alone
 texts_small : (case : Case) (fails : List ℕ → Type 0) (topology : Option Topology) (before : History) (verdict : Verdict) → Outcome case fails topology before verdict
@@ -208,10 +183,9 @@ texts_small (NotBuilt missing) fails topology before verdict (inr r) = inr (ap o
 texts_small (Checks wanted) fails topology before verdict (inr r) = inl (rw r.counted (omega arith))
 texts_small (Runs shows wanted) fails topology before verdict (inr r) = by_run (ran verdict shows wanted before r.comes_to)
   where
-    by_run : Reported shows wanted before verdict ⊎ ((verdict ≡ Refused Wait) ⊎ (verdict ≡ Refused Memory)) → (status_in verdict ≤ 4) ⊎ (out_text_of verdict ≡ [])
-    by_run (inl v) = inl (rw v.is (small_of v.status v.report.ended.possible))
-    by_run (inr (inl is)) = inr (ap out_text_of is)
-    by_run (inr (inr is)) = inr (ap out_text_of is)
+    by_run : Reported shows wanted before verdict ⊎ (verdict ≡ Refused Memory) → (status_in verdict ≤ 4) ⊎ (out_text_of verdict ≡ [])
+    by_run (inl v) = inl (few_of v)
+    by_run (inr is) = inr (ap out_text_of is)
 
 -- the numbers of a refusal
 refusal_is : (s : ℕ) → IsRefusalStatus s → (4 < s) × (s ≢ 8) × (s ≢ 9)
@@ -248,10 +222,9 @@ status_is (NotBuilt missing) fails topology before verdict (inr r) a b = ap stat
 status_is (Checks wanted) fails topology before verdict (inr r) a b = ap status_in r.counted
 status_is (Runs shows wanted) fails topology before verdict (inr r) a b = by_run (ran verdict shows wanted before r.comes_to)
   where
-    by_run : Reported shows wanted before verdict ⊎ ((verdict ≡ Refused Wait) ⊎ (verdict ≡ Refused Memory)) → IsStatusOf (status_in verdict) (Runs shows wanted)
-    by_run (inl v) = inl (rw v.is (small_of v.status v.report.ended.possible))
-    by_run (inr (inl is)) = inr (ap status_in is)
-    by_run (inr (inr is)) = absurd (b (ap status_in is))
+    by_run : Reported shows wanted before verdict ⊎ (verdict ≡ Refused Memory) → IsStatusOf (status_in verdict) (Runs shows wanted)
+    by_run (inl v) = few_of v
+    by_run (inr is) = absurd (b (ap status_in is))
 
 pub line_is : (case : Case) (fails : List ℕ → Type 0) (topology : Option Topology) (before : History) (verdict : Verdict) → Outcome case fails topology before verdict
     → status_in verdict ≢ 5 → status_in verdict ≢ 9 → err_text_of verdict ≡ error_text (status_in verdict) case
@@ -267,15 +240,12 @@ line_is (NotBuilt missing) fails topology before verdict (inr r) a b = rw r.refu
 line_is (Checks wanted) fails topology before verdict (inr r) a b = rw r.counted refl
 line_is (Runs shows wanted) fails topology before verdict (inr r) a b = by_run (ran verdict shows wanted before r.comes_to)
   where
-    small_line : (s : ℕ) → (s ≡ 0) ⊎ ((s ≡ 1) ⊎ (s ≡ 4)) → [] ≡ error_text s (Runs shows wanted)
-    small_line s (inl is) = rw is refl
-    small_line s (inr (inl is)) = rw is refl
-    small_line s (inr (inr is)) = rw is refl
+    small_line : (s : ℕ) → s ≤ 4 → [] ≡ error_text s (Runs shows wanted)
+    small_line s few = rw (le-leb s 4 few) refl
 
-    by_run : Reported shows wanted before verdict ⊎ ((verdict ≡ Refused Wait) ⊎ (verdict ≡ Refused Memory)) → err_text_of verdict ≡ error_text (status_in verdict) (Runs shows wanted)
-    by_run (inl v) = rw v.is (small_line v.status v.report.ended.possible)
-    by_run (inr (inl is)) = rw is refl
-    by_run (inr (inr is)) = absurd (b (ap status_in is))
+    by_run : Reported shows wanted before verdict ⊎ (verdict ≡ Refused Memory) → err_text_of verdict ≡ error_text (status_in verdict) (Runs shows wanted)
+    by_run (inl v) = ap err_text_of v.is ∙ small_line (status_in verdict) (few_of v)
+    by_run (inr is) = absurd (b (ap status_in is))
 
 pub statuses : (case : Case) (fails : List ℕ → Type 0) (topology : Option Topology) (before : History) (verdict : Verdict) (status : ℕ) → Outcome case fails topology before verdict
     → (status ≡ status_in verdict) ⊎ ((status ≡ 8) ⊎ (status ≡ 9)) → status ≢ 5 → status ≢ 8 → status ≢ 9 → IsStatusOf status case
@@ -318,11 +288,10 @@ one_line (NotBuilt missing) told calls asked asked' fault topology before verdic
 one_line (Checks wanted) told calls asked asked' fault topology before verdict (inr r) = inl (ap err_text_of r.counted)
 one_line (Runs shows wanted) told calls asked asked' fault topology before verdict (inr r) = by_run (ran verdict shows wanted before r.comes_to)
   where
-    by_run : Reported shows wanted before verdict ⊎ ((verdict ≡ Refused Wait) ⊎ (verdict ≡ Refused Memory))
+    by_run : Reported shows wanted before verdict ⊎ (verdict ≡ Refused Memory)
         → (err_text_of verdict ≡ []) ⊎ ((err_text_of verdict ≡ case_line (Runs shows wanted)) ⊎ ((err_text_of verdict ≡ memory_line) ⊎ IsEdgeLine calls (err_text_of verdict)))
     by_run (inl v) = inl (ap err_text_of v.is)
-    by_run (inr (inl is)) = inr (inl (ap err_text_of is))
-    by_run (inr (inr is)) = inr (inr (inl (ap err_text_of is)))
+    by_run (inr is) = inr (inr (inl (ap err_text_of is)))
 
 pub line_begun : (case : Case) (told : Bool) (calls asked asked' : List (EdgeKind × List ℕ)) (fault : Type 0) (topology : Option Topology) (before : History) (verdict : Verdict) (held held' : List ℕ)
     → Outcome case (FailsAt told calls asked asked' fault) topology before verdict → AddsPrefix held held' (err_text_of verdict) → BeginsLine calls held held' case
@@ -353,10 +322,9 @@ named_fault (NotBuilt missing) told calls asked asked' fault err_told topology b
 named_fault (Checks wanted) told calls asked asked' fault err_told topology before verdict held held' (inr r) five adds = absurd (not_both 0 5 (status_in verdict) (ap status_in r.counted) five (λ x. cc))
 named_fault (Runs shows wanted) told calls asked asked' fault err_told topology before verdict held held' (inr r) five adds = absurd (by_run (ran verdict shows wanted before r.comes_to))
   where
-    by_run : Reported shows wanted before verdict ⊎ ((verdict ≡ Refused Wait) ⊎ (verdict ≡ Refused Memory)) → ⊥
-    by_run (inl v) = not_small 5 (status_in verdict) five (omega arith) (rw v.is (small_of v.status v.report.ended.possible))
-    by_run (inr (inl is)) = not_both 10 5 (status_in verdict) (ap status_in is) five (λ x. cc)
-    by_run (inr (inr is)) = not_both 9 5 (status_in verdict) (ap status_in is) five (λ x. cc)
+    by_run : Reported shows wanted before verdict ⊎ (verdict ≡ Refused Memory) → ⊥
+    by_run (inl v) = not_small 5 (status_in verdict) five (omega arith) (few_of v)
+    by_run (inr is) = not_both 9 5 (status_in verdict) (ap status_in is) five (λ x. cc)
 
 -- ---- a write that failed
 
@@ -405,8 +373,7 @@ of_seven (BadTopology fault) is = absurd (omega (arith, is))
 of_seven (TooFew shortage) is = absurd (omega (arith, is))
 of_seven (NotBuilt missing) is = absurd (omega (arith, is))
 of_seven (Checks wanted) is = absurd (omega (arith, is))
-of_seven (Runs shows wanted) (inl few) = absurd (omega (arith, few))
-of_seven (Runs shows wanted) (inr ten) = absurd (omega (arith, ten))
+of_seven (Runs shows wanted) few = absurd (omega (arith, few))
 
 -- the status 7 comes where the words are no command
 pub usage_by : (command : Option Command) (file : List ℕ) (boxes : Boxes) → IsStatusOf 7 (case_of command file boxes) → command ≡ None
@@ -430,20 +397,18 @@ no_command_by told asked asked' fault topology before verdict status (inl e) (in
 
 -- ---- calls without a run
 
-unopened_is : (s : ℕ) → IsUnopenedStatus s → (4 < s) × (s ≢ 8) × (s ≢ 9) × (s ≢ 10)
-unopened_is s (inl a) = (omega (arith, a), (λ at. omega (arith, a, at)), (λ at. omega (arith, a, at)), (λ at. omega (arith, a, at)))
-unopened_is s (inr (inl a)) = (omega (arith, a), (λ at. omega (arith, a, at)), (λ at. omega (arith, a, at)), (λ at. omega (arith, a, at)))
-unopened_is s (inr (inr a)) = (omega (arith, a), (λ at. omega (arith, a, at)), (λ at. omega (arith, a, at)), (λ at. omega (arith, a, at)))
+unopened_is : (s : ℕ) → IsUnopenedStatus s → (4 < s) × (s ≢ 5) × (s ≢ 9)
+unopened_is s (inl a) = (omega (arith, a), (λ at. omega (arith, a, at)), (λ at. omega (arith, a, at)))
+unopened_is s (inr (inl a)) = (omega (arith, a), (λ at. omega (arith, a, at)), (λ at. omega (arith, a, at)))
+unopened_is s (inr (inr a)) = (omega (arith, a), (λ at. omega (arith, a, at)), (λ at. omega (arith, a, at)))
 
--- a run has no such status
-run_opened : (verdict : Verdict) (shows : Shows) (wanted : Topology) (before : History)
-    → Reported shows wanted before verdict ⊎ ((verdict ≡ Refused Wait) ⊎ (verdict ≡ Refused Memory)) → IsUnopenedStatus (status_in verdict) → ⊥
-run_opened verdict shows wanted before (inl v) u = not_small (status_in verdict) (status_in verdict) refl (unopened_is (status_in verdict) u).0 (rw v.is (small_of v.status v.report.ended.possible))
-run_opened verdict shows wanted before (inr (inl is)) u = (unopened_is (status_in verdict) u).3 (ap status_in is)
-run_opened verdict shows wanted before (inr (inr is)) u = (unopened_is (status_in verdict) u).2 (ap status_in is)
+-- a run has no status of a refusal
+run_refused : {shows : Shows} {wanted : Topology} {before : History} (verdict : Verdict) → Reported shows wanted before verdict ⊎ (verdict ≡ Refused Memory) → IsRefusalStatus (status_in verdict) → ⊥
+run_refused verdict (inl v) u = not_small (status_in verdict) (status_in verdict) refl (refusal_is (status_in verdict) u).0 (few_of v)
+run_refused verdict (inr is) u = (refusal_is (status_in verdict) u).2 (ap status_in is)
 
 pub none_ran : (case : Case) (fails : List ℕ → Type 0) (topology : Option Topology) (before : History) (verdict : Verdict) → Outcome case fails topology before verdict
-    → IsUnopenedStatus (status_in verdict) → (topology ≡ None) × (before ≡ [])
+    → IsRefusalStatus (status_in verdict) → (topology ≡ None) × (before ≡ [])
 none_ran case fails topology before verdict (inl e) u = ((early fails topology before verdict e).no_topology, (early fails topology before verdict e).no_step)
 none_ran NoCommand fails topology before verdict (inr r) u = (r.no_topology, r.no_step)
 none_ran (BadTopology fault) fails topology before verdict (inr r) u = (r.no_topology, r.no_step)
@@ -451,129 +416,80 @@ none_ran (TooFew shortage) fails topology before verdict (inr r) u = (r.no_topol
 none_ran (NotBuilt missing) fails topology before verdict (inr r) u = (r.no_topology, r.no_step)
 none_ran (Checks wanted) fails topology before verdict (inr r) u =
     let counted : status_in verdict ≡ 0 = ap status_in r.counted in
-    absurd (omega (arith, counted, (unopened_is (status_in verdict) u).0))
-none_ran (Runs shows wanted) fails topology before verdict (inr r) u = absurd (run_opened verdict shows wanted before (ran verdict shows wanted before r.comes_to) u)
+    absurd (omega (arith, counted, (refusal_is (status_in verdict) u).0))
+none_ran (Runs shows wanted) fails topology before verdict (inr r) u = absurd (run_refused verdict (ran verdict shows wanted before r.comes_to) u)
 
-pub not_opened : (case : Case) (fails : List ℕ → Type 0) (topology : Option Topology) (before : History) (verdict : Verdict) (same : Type 0) (read partly : List ℕ → Type 0)
-    → Outcome case fails topology before verdict → IsUnopenedStatus (status_in verdict) → BackBy case topology verdict same read partly → same
-not_opened NoCommand fails topology before verdict same read partly o u back = back
-not_opened (BadTopology fault) fails topology before verdict same read partly o u back = back
-not_opened (TooFew shortage) fails topology before verdict same read partly o u back = back
-not_opened (NotBuilt missing) fails topology before verdict same read partly o u back = back
-not_opened (Checks wanted) fails topology before verdict same read partly o u back = back
-not_opened (Runs shows wanted) fails topology before verdict same read partly (inl e) u back = by_early (early fails topology before verdict e)
-  where
-    by_why : RunBack None verdict same (read (source_of wanted)) (partly (source_of wanted)) → (verdict ≡ Refused Memory) ⊎ Fails fails verdict → same
-    by_why b (inl is) = absurd ((unopened_is (status_in verdict) u).2 (ap status_in is))
-    by_why b (inr f) = rw f.is at b
+-- ---- the outside
 
-    by_early : Early fails topology before verdict → same
-    by_early v = by_why (rw v.no_topology at back) v.why
-not_opened (Runs shows wanted) fails topology before verdict same read partly (inr r) u back = absurd (run_opened verdict shows wanted before (ran verdict shows wanted before r.comes_to) u)
+-- where nothing was opened, nothing was given back
+run_opened : (shows : Shows) (wanted : Topology) (fails : List ℕ → Type 0) (topology : Option Topology) (before : History) (verdict : Verdict) → Outcome (Runs shows wanted) fails topology before verdict
+    → IsUnopenedStatus (status_in verdict) → ⊥
+run_opened shows wanted fails topology before verdict (inl e) u = nine_or_five (status_in verdict) (status_in verdict) (early_at fails topology before verdict e) refl (unopened_is (status_in verdict) u).2 (unopened_is (status_in verdict) u).1
+run_opened shows wanted fails topology before verdict (inr r) u = run_refused verdict (ran verdict shows wanted before r.comes_to) (inr u)
 
--- ---- the source
+pub not_opened : (case : Case) (fails : List ℕ → Type 0) (memory : Type 0) (topology : Option Topology) (before : History) (verdict : Verdict) (old new : OutsideSeen)
+    → Outcome case fails topology before verdict → IsUnopenedStatus (status_in verdict) → IsOutsideOf memory topology before case old new → IsUntouched old new
+not_opened NoCommand fails memory topology before verdict old new o u out = out
+not_opened (BadTopology fault) fails memory topology before verdict old new o u out = out
+not_opened (TooFew shortage) fails memory topology before verdict old new o u out = out
+not_opened (NotBuilt missing) fails memory topology before verdict old new o u out = out
+not_opened (Checks wanted) fails memory topology before verdict old new o u out = out
+not_opened (Runs shows wanted) fails memory topology before verdict old new o u out = absurd (run_opened shows wanted fails topology before verdict o u)
 
-pub read_as : {E S : Type 0} {told_names : E → Bool} {named : E → EdgeKind → List ℕ → List ℕ} {back : E → List (List ℕ × S)} {told : S → Bool} {taken left : S → List ℕ} {faults waits : S → ℕ} {old new : E} {name : List ℕ} {before : History} {waited : Type 0} (waits_now : Type 0)
-    → (waits_now → waited) → IsReadBack told_names named back told taken left faults waits old new name before waited
-    → IsReadBack told_names named back told taken left faults waits old new name before waits_now
-read_as waits_now so r = record {
-  source = r.source;
-  given = r.given;
-  reads = r.reads;
-  opened = r.opened;
-  wait = λ w. r.wait (so w);
+used_as : (memory wanting : Type 0) → (memory → wanting) → (wanted : Topology) (before : History) (old new : OutsideSeen) → HasUsed memory wanted before old new → HasUsed wanting wanted before old new
+used_as memory wanting so wanted before old new used = record {
+  whole = used.whole;
+  wanting = λ none. so (used.wanting none);
+  outside = used.outside;
+  time = used.time;
+  boxes = used.boxes;
 }
 
--- where a run ended or waited its source was read and given back
-pub read_back : (case : Case) (fails : List ℕ → Type 0) (topology : Option Topology) (before : History) (verdict : Verdict) (same : Type 0) (read partly now : List ℕ → Type 0)
-    → ((name : List ℕ) → (status_in verdict ≡ 10 → verdict ≡ Refused Wait) → read name → now name)
-    → Outcome case fails topology before verdict → (status_in verdict ≤ 4) ⊎ (status_in verdict ≡ 10) → BackBy case topology verdict same read partly → ForSource now same case
-read_back NoCommand fails topology before verdict same read partly now as_now o ran_on back = back
-read_back (BadTopology fault) fails topology before verdict same read partly now as_now o ran_on back = back
-read_back (TooFew shortage) fails topology before verdict same read partly now as_now o ran_on back = back
-read_back (NotBuilt missing) fails topology before verdict same read partly now as_now o ran_on back = back
-read_back (Checks wanted) fails topology before verdict same read partly now as_now o ran_on back = back
-read_back (Runs shows wanted) fails topology before verdict same read partly now as_now (inl e) ran_on back = absurd (by_early (early_at fails topology before verdict e) ran_on)
+not_begun_as : (memory wanting : Type 0) → (memory → wanting) → (wanted : Topology) (old new : OutsideSeen) → HasNotBegun memory wanted old new → HasNotBegun wanting wanted old new
+not_begun_as memory wanting so wanted old new n = record { edges = by_edges n.edges; clock = n.clock; boxes = n.boxes }
   where
-    by_early : (status_in verdict ≡ 9) ⊎ (status_in verdict ≡ 5) → (status_in verdict ≤ 4) ⊎ (status_in verdict ≡ 10) → ⊥
-    by_early (inl is) (inl few) = omega (arith, is, few)
-    by_early (inl is) (inr ten) = omega (arith, is, ten)
-    by_early (inr is) (inl few) = omega (arith, is, few)
-    by_early (inr is) (inr ten) = omega (arith, is, ten)
-read_back (Runs shows wanted) fails topology before verdict same read partly now as_now (inr r) ran_on back = by_run (ran verdict shows wanted before r.comes_to)
-  where
-    b : RunBack (Some wanted) verdict same (read (source_of wanted)) (partly (source_of wanted))
-    b = rw r.own at back
+    by_edges : memory ⊎ IsGivenUp wanted old.edges new.edges → wanting ⊎ IsGivenUp wanted old.edges new.edges
+    by_edges (inl m) = inl (so m)
+    by_edges (inr given) = inr given
 
-    nine : verdict ≡ Refused Memory → (status_in verdict ≤ 4) ⊎ (status_in verdict ≡ 10) → ⊥
-    nine is (inl few) = not_small 9 (status_in verdict) (ap status_in is) (omega arith) few
-    nine is (inr ten) = not_both 9 10 (status_in verdict) (ap status_in is) ten (λ x. cc)
+run_or_not_as : (memory wanting : Type 0) → (memory → wanting) → (wanted : Topology) (topology : Option Topology) (before : History) (old new : OutsideSeen)
+    → HasRunOrNot memory wanted topology before old new → HasRunOrNot wanting wanted topology before old new
+run_or_not_as memory wanting so wanted (Some topology) before old new r = used_as memory wanting so wanted before old new r
+run_or_not_as memory wanting so wanted None before old new r = not_begun_as memory wanting so wanted old new r
 
-    ten_small : (s : ℕ) → s ≤ 4 → s ≡ 10 → ⊥
-    ten_small s few ten = omega (arith, few, ten)
-
-    by_run : Reported shows wanted before verdict ⊎ ((verdict ≡ Refused Wait) ⊎ (verdict ≡ Refused Memory)) → now (source_of wanted)
-    by_run (inl v) = as_now (source_of wanted) (λ ten. absurd (ten_small (status_in verdict) (rw v.is (small_of v.status v.report.ended.possible)) ten)) (rw v.is at b)
-    by_run (inr (inl is)) = as_now (source_of wanted) (λ ten. is) (rw is at b)
-    by_run (inr (inr is)) = absurd (nine is ran_on)
-
--- and whatever the status is, no other source was given back than one of whose lines the journal has the first
-pub maybe_read : (case : Case) (fails : List ℕ → Type 0) (topology : Option Topology) (before : History) (verdict : Verdict) (same : Type 0) (read partly : List ℕ → Type 0)
-    → ((name : List ℕ) → read name → partly name)
-    → Outcome case fails topology before verdict → BackBy case topology verdict same read partly → ForSource (λ name. same ⊎ partly name) same case
-maybe_read NoCommand fails topology before verdict same read partly as_part o back = back
-maybe_read (BadTopology fault) fails topology before verdict same read partly as_part o back = back
-maybe_read (TooFew shortage) fails topology before verdict same read partly as_part o back = back
-maybe_read (NotBuilt missing) fails topology before verdict same read partly as_part o back = back
-maybe_read (Checks wanted) fails topology before verdict same read partly as_part o back = back
-maybe_read (Runs shows wanted) fails topology before verdict same read partly as_part (inl e) back = by_early (early fails topology before verdict e)
-  where
-    by_why : RunBack None verdict same (read (source_of wanted)) (partly (source_of wanted)) → (verdict ≡ Refused Memory) ⊎ Fails fails verdict → same ⊎ partly (source_of wanted)
-    by_why b (inl is) = rw is at b
-    by_why b (inr f) = inl (rw f.is at b)
-
-    by_early : Early fails topology before verdict → same ⊎ partly (source_of wanted)
-    by_early v = by_why (rw v.no_topology at back) v.why
-maybe_read (Runs shows wanted) fails topology before verdict same read partly as_part (inr r) back = by_run (ran verdict shows wanted before r.comes_to)
-  where
-    b : RunBack (Some wanted) verdict same (read (source_of wanted)) (partly (source_of wanted))
-    b = rw r.own at back
-
-    by_run : Reported shows wanted before verdict ⊎ ((verdict ≡ Refused Wait) ⊎ (verdict ≡ Refused Memory)) → same ⊎ partly (source_of wanted)
-    by_run (inl v) = inr (as_part (source_of wanted) (rw v.is at b))
-    by_run (inr (inl is)) = inr (as_part (source_of wanted) (rw is at b))
-    by_run (inr (inr is)) = rw is at b
+-- what the outside is like, where memory that was wanting is known otherwise
+pub outside_as : (memory wanting : Type 0) → (memory → wanting) → (topology : Option Topology) (before : History) (case : Case) (old new : OutsideSeen)
+    → IsOutsideOf memory topology before case old new → IsOutsideOf wanting topology before case old new
+outside_as memory wanting so topology before NoCommand old new out = out
+outside_as memory wanting so topology before (BadTopology fault) old new out = out
+outside_as memory wanting so topology before (TooFew shortage) old new out = out
+outside_as memory wanting so topology before (NotBuilt missing) old new out = out
+outside_as memory wanting so topology before (Checks wanted) old new out = out
+outside_as memory wanting so topology before (Runs shows wanted) old new out = run_or_not_as memory wanting so wanted topology before old new out
 
 -- ---- a text that was lost
 
-refusal_lost : (verdict : Verdict) (refusal : Refusal) (reported out_fault back quiet err_fault : Type 0) → verdict ≡ Refused refusal → FaultBy verdict out_fault err_fault → Lost reported out_fault back quiet err_fault
-refusal_lost verdict refusal reported out_fault back quiet err_fault is fault = inr (rw is at fault)
+refusal_lost : (verdict : Verdict) (refusal : Refusal) (reported out_fault quiet err_fault : Type 0) → verdict ≡ Refused refusal → FaultBy verdict out_fault err_fault → Lost reported out_fault quiet err_fault
+refusal_lost verdict refusal reported out_fault quiet err_fault is fault = inr (rw is at fault)
 
-pub lost_by : (case : Case) (fails : List ℕ → Type 0) (topology : Option Topology) (before : History) (verdict : Verdict) (same : Type 0) (read partly now : List ℕ → Type 0) (out_fault err_fault quiet : Type 0)
-    → ((name : List ℕ) → read name → now name)
-    → Outcome case fails topology before verdict → FaultBy verdict out_fault err_fault → BackBy case topology verdict same read partly → QuietBy verdict quiet
-    → Lost (IsReportOf topology before case) out_fault (ForSource now same case) quiet err_fault
-lost_by case fails topology before verdict same read partly now out_fault err_fault quiet as_now (inl e) fault back q = by_why (early fails topology before verdict e).why
+pub lost_by : (case : Case) (fails : List ℕ → Type 0) (topology : Option Topology) (before : History) (verdict : Verdict) (out_fault quiet err_fault : Type 0)
+    → Outcome case fails topology before verdict → FaultBy verdict out_fault err_fault → QuietBy verdict quiet → Lost (IsReportOf topology before case) out_fault quiet err_fault
+lost_by case fails topology before verdict out_fault quiet err_fault (inl e) fault q = by_why (early fails topology before verdict e).why
   where
-    by_why : (verdict ≡ Refused Memory) ⊎ Fails fails verdict → Lost (IsReportOf topology before case) out_fault (ForSource now same case) quiet err_fault
-    by_why (inl is) = refusal_lost verdict Memory _ out_fault _ quiet err_fault is fault
-    by_why (inr f) = refusal_lost verdict (Edge f.name) _ out_fault _ quiet err_fault f.is fault
-lost_by NoCommand fails topology before verdict same read partly now out_fault err_fault quiet as_now (inr r) fault back q = refusal_lost verdict Usage _ out_fault _ quiet err_fault r.refused fault
-lost_by (BadTopology f) fails topology before verdict same read partly now out_fault err_fault quiet as_now (inr r) fault back q = refusal_lost verdict (NoTopology f) _ out_fault _ quiet err_fault r.refused fault
-lost_by (TooFew shortage) fails topology before verdict same read partly now out_fault err_fault quiet as_now (inr r) fault back q = refusal_lost verdict (Stock shortage) _ out_fault _ quiet err_fault r.refused fault
-lost_by (NotBuilt missing) fails topology before verdict same read partly now out_fault err_fault quiet as_now (inr r) fault back q = refusal_lost verdict (Unbuilt missing) _ out_fault _ quiet err_fault r.refused fault
-lost_by (Checks wanted) fails topology before verdict same read partly now out_fault err_fault quiet as_now (inr r) fault back q =
-    inl (record { status = 0; end_of = (refl, r.own, r.no_step) }, rw r.counted at fault, back, rw r.counted at q)
-lost_by (Runs shows wanted) fails topology before verdict same read partly now out_fault err_fault quiet as_now (inr r) fault back q = by_run (ran verdict shows wanted before r.comes_to)
+    by_why : (verdict ≡ Refused Memory) ⊎ Fails fails verdict → Lost (IsReportOf topology before case) out_fault quiet err_fault
+    by_why (inl is) = refusal_lost verdict Memory _ out_fault quiet err_fault is fault
+    by_why (inr f) = refusal_lost verdict (Edge f.name) _ out_fault quiet err_fault f.is fault
+lost_by NoCommand fails topology before verdict out_fault quiet err_fault (inr r) fault q = refusal_lost verdict Usage _ out_fault quiet err_fault r.refused fault
+lost_by (BadTopology f) fails topology before verdict out_fault quiet err_fault (inr r) fault q = refusal_lost verdict (NoTopology f) _ out_fault quiet err_fault r.refused fault
+lost_by (TooFew shortage) fails topology before verdict out_fault quiet err_fault (inr r) fault q = refusal_lost verdict (Stock shortage) _ out_fault quiet err_fault r.refused fault
+lost_by (NotBuilt missing) fails topology before verdict out_fault quiet err_fault (inr r) fault q = refusal_lost verdict (Unbuilt missing) _ out_fault quiet err_fault r.refused fault
+lost_by (Checks wanted) fails topology before verdict out_fault quiet err_fault (inr r) fault q =
+    inl (record { status = 0; end_of = (refl, r.own, r.no_step) }, rw r.counted at fault, rw r.counted at q)
+lost_by (Runs shows wanted) fails topology before verdict out_fault quiet err_fault (inr r) fault q = by_run (ran verdict shows wanted before r.comes_to)
   where
-    b : RunBack (Some wanted) verdict same (read (source_of wanted)) (partly (source_of wanted))
-    b = rw r.own at back
-
-    by_run : Reported shows wanted before verdict ⊎ ((verdict ≡ Refused Wait) ⊎ (verdict ≡ Refused Memory))
-        → Lost (IsReportOf topology before (Runs shows wanted)) out_fault (now (source_of wanted)) quiet err_fault
-    by_run (inl v) = inl (record { status = v.status; end_of = (r.own, v.report.ended) }, rw v.is at fault, as_now (source_of wanted) (rw v.is at b), rw v.is at q)
-    by_run (inr (inl is)) = refusal_lost verdict Wait _ out_fault _ quiet err_fault is fault
-    by_run (inr (inr is)) = refusal_lost verdict Memory _ out_fault _ quiet err_fault is fault
+    by_run : Reported shows wanted before verdict ⊎ (verdict ≡ Refused Memory) → Lost (IsReportOf topology before (Runs shows wanted)) out_fault quiet err_fault
+    by_run (inl v) = inl (record { status = v.status; end_of = (r.own, v.report.ended) }, rw v.is at fault, rw v.is at q)
+    by_run (inr is) = refusal_lost verdict Memory _ out_fault quiet err_fault is fault
 
 -- ---- the calls
 
@@ -600,7 +516,6 @@ asks case told calls asked asked' fault topology before (Refused Usage) o t a = 
 asks case told calls asked asked' fault topology before (Refused (NoTopology f)) o t a = all_asked calls asked asked' a
 asks case told calls asked asked' fault topology before (Refused (Stock s)) o t a = all_asked calls asked asked' a
 asks case told calls asked asked' fault topology before (Refused (Unbuilt m)) o t a = all_asked calls asked asked' a
-asks case told calls asked asked' fault topology before (Refused Wait) o t a = all_asked calls asked asked' a
 asks case told calls asked asked' fault topology before (Refused (Edge name)) o t a =
     let f = named_fault case told calls asked asked' fault Bool.false topology before (Refused (Edge name)) [] [] o refl (λ never. cc) in
     up_to calls asked asked' f.fails.front f.fails.rest (f.fails.kind, f.name) f.fails.parts (f.fails.is_last t)
@@ -612,5 +527,4 @@ asks_all (Refused Usage) calls asked asked' a b is = is
 asks_all (Refused (NoTopology f)) calls asked asked' a b is = is
 asks_all (Refused (Stock s)) calls asked asked' a b is = is
 asks_all (Refused (Unbuilt m)) calls asked asked' a b is = is
-asks_all (Refused Wait) calls asked asked' a b is = is
 asks_all (Refused (Edge name)) calls asked asked' a b is = absurd (a refl)

@@ -1,129 +1,238 @@
 -- Where nothing failed, the run came to its end.
-use Rattle.std.proofs.Common.{◌≡◌, ◌≢◌, ℕ, List, [], ◌∷◌, ◌++◌, Bool, true, false, refl, sym, ap, ◌∙◌, inl, inr, Option, Some, None, arith}
-use Rattle.std.specs.Prelude.{◌⊎◌, is_some}
-use Rattle.pipe_types.specs.Numbers.{stage}
+use Rattle.std.proofs.Common.{◌≡◌, ◌≢◌, ℕ, ◌+◌, ◌<◌, ◌≤◌, List, [], ◌∷◌, ◌++◌, take, length, Bool, true, false, refl, sym, ap, ◌∙◌, subst, inl, inr, Option, Some, None, arith}
+use Rattle.std.specs.Prelude.{◌⊎◌, ◌&&◌, ◌||◌, All, IsTrue, is_some, find, nat_le, if◌then◌else◌}
+use Rattle.std.specs.List.{list_any}
+use Rattle.std.proofs.lemmas.List.{take_all}
+use Rattle.std.proofs.lemmas.List.Elements.{All-nil, All-cons, All-head, All-tail}
+use Rattle.pipe_types.specs.Counts.{Rose}
+use Rattle.pipe_types.specs.Numbers.{stage, post, same_stage}
+use Rattle.pipe_types.specs.Sound.{IsSound, producers, processors, by_demand, by_partition, is_size, is_producer_in}
+use Rattle.pipe_types.specs.Stages.{spec_of, spec_in}
+use Rattle.pipe_types.specs.declared.numbers.StageNo.{StageNo}
 use Rattle.pipe_types.specs.declared.step.SourceHow.{SourceHow}
 use Rattle.pipe_types.specs.declared.step.SourceHow.TheVariants as how
+use Rattle.pipe_types.specs.declared.topology.Role.{Role}
+use Rattle.pipe_types.specs.declared.topology.Role.TheVariants.{Producer, Processor, Supervisor, Batcher, BatchProcessor}
+use Rattle.pipe_types.specs.declared.topology.StageSpec.{StageSpec}
 use Rattle.pipe_types.specs.declared.topology.Topology.{Topology}
 use Rattle.pipe_model.specs.History.{History}
-use Rattle.pipe_model.specs.Legal.{happened, is_drain, is_halt, has_ended}
+use Rattle.pipe_model.specs.Legal.{happened, is_drain, is_halt, has_ended, has_role, is_producer_role}
+use Rattle.pipe_model.specs.Moves.{is_drained}
 use Rattle.pipe_model.specs.Outside.{fed, source_end}
 use Rattle.pipe_edges.specs.declared.edges.EdgeKind.{EdgeKind}
-use Rattle.core_flow.specs.OneEach.{Settings, one_each}
-use Rattle.core_flow.proofs.Allowed.{and_left}
-use Rattle.journal_texts.specs.Report.{places, is_lost, is_failed, is_source_fault, gravest_of}
-use Rattle.std.specs.List.{list_any}
-use Rattle.run_claims.specs.Read.{ReadsSource}
+use Rattle.pipe_edges.specs.declared.edges.EdgeKind.TheVariants.{Source}
+use Rattle.journal_texts.specs.Report.{places, is_fault, is_lost, is_failed, is_source_fault}
+use Rattle.run_claims.specs.Read.{quiets}
+use Rattle.stage_job.specs.Chunks.{RoseBy}
+use Rattle.stage_bodies.specs.Seen.{SourceSeen, BodySeen}
+use Rattle.stage_bodies.specs.Posts.{place_at}
+use Rattle.stage_laws.proofs.Groups.{fields_of}
+use Rattle.body_laws.specs.Ready.{There}
+use Rattle.body_laws.proofs.Posts.{some_role}
+use Rattle.pipe_laws.proofs.Tests.{and_left, and_right, clash, same_stage-true}
+use Rattle.edge_names.specs.Seen.{EdgesSeen}
+use Rattle.edge_names.specs.Opened.{call_by, call_in, edge_call}
+use Rattle.edge_names.specs.Returned.{named_source, source_in, sources_of, with_name}
+use Rattle.pipe_run.specs.Outside.{IsOutside, IsSourceRead, ReadsSource}
+use Rattle.pipe_run.specs.Whole.{HasCome}
 use Rattle.pipe_top.specs.Verdicts.{status_in}
-use Rattle.pipe_top.specs.Runs.{IsRun, IsEnded, IsReadBack, IsFaultless, IsComplete, IsCompleteIn, is_limit_drain}
-use Rattle.pipe_top.specs.Cases.{Case, NoCommand, NoTopology as BadTopology, TooFew, NotBuilt, Checks, Runs, source_of}
-use Rattle.pipe_top.specs.Flows.{Outcome, RunBack, BackBy}
-use Rattle.pipe_top.specs.declared.verdict.Refusal.TheVariants.{Wait, Memory}
+use Rattle.pipe_top.specs.Runs.{OutsideSeen, IsRun, IsEnded, HasUsed, IsOutsideOf, IsFaultless, AreFaultless, IsReadWhole, IsComplete, IsCompleteIn, is_limit_drain}
+use Rattle.pipe_top.specs.Cases.{Case, NoCommand, NoTopology as BadTopology, TooFew, NotBuilt, Checks, Runs}
+use Rattle.pipe_top.specs.Flows.{Outcome}
+use Rattle.pipe_top.specs.declared.verdict.Refusal.TheVariants.{Memory}
 use Rattle.pipe_top.specs.declared.verdict.Texts.{Texts}
 use Rattle.pipe_top.specs.declared.verdict.Verdict.{Verdict}
 use Rattle.pipe_top.specs.declared.verdict.Verdict.TheVariants.{Refused, Done}
-use Rattle.pipe_top.proofs.Endings.{EndsOnce, ends_once, ends_badly, ends_limited}
+use Rattle.pipe_top.proofs.Drains.{HasCause, limited, ended, controlled, rested, drain_shows}
+use Rattle.pipe_top.proofs.Ends.{EndsBadly, ends_limited, ended_as, faults_show, never_limited, producer_inner}
 use Rattle.pipe_top.proofs.Longs.{not_long}
 use Rattle.pipe_top.proofs.Outcomes.{Fails, early, Reported, ran}
+use Rattle.pipe_top.proofs.Statuses.{gravest_small}
+
+-- ---- the sources of a whole run
+
+-- the source of the producer is faultless, and was read as the journal says
+pub record IsWellRead (before : History) (p : StageNo) : Type 0 where
+  pub source : SourceSeen
+  pub reads : ReadsSource before p source
+  pub fine : IsFaultless source
+
+abbrev pub AreWellRead : Topology → History → Type 0
+AreWellRead topology before = (p : StageNo) → has_role topology p is_producer_role ≡ true → IsWellRead before p
+
+All-front : {A : Type 0} (P : A → Type 0) (xs ys : List A) → All P (xs ++ ys) → All P xs
+All-front P [] ys each = All-nil P
+All-front P (x ∷ xs) ys each = All-cons P x xs (All-head P x (xs ++ ys) each) (All-front P xs ys (All-tail P x (xs ++ ys) each))
+
+All-back : {A : Type 0} (P : A → Type 0) (xs ys : List A) → All P (xs ++ ys) → All P ys
+All-back P [] ys each = each
+All-back P (x ∷ xs) ys each = All-back P xs ys (All-tail P x (xs ++ ys) each)
+
+-- what holds of all that was given back holds of the source of each stage
+given_of : (P : List ℕ × SourceSeen → Type 0) (bodies : ℕ → Option BodySeen) (s : StageNo) (spec : StageSpec) (stages : List StageSpec) → spec_in stages s ≡ Some spec → All P (sources_of stages bodies)
+    → All P (named_source (edge_call spec) (bodies (place_at (post s 0))))
+given_of P bodies s spec [] found each = cc
+given_of P bodies s spec (x ∷ stages) found each =
+    either (same_stage x.no s) refl found (All-front P (named_source (edge_call x) (bodies (place_at (post x.no 0)))) (sources_of stages bodies) each)
+    (λ is. given_of P bodies s spec stages is (All-back P (named_source (edge_call x) (bodies (place_at (post x.no 0)))) (sources_of stages bodies) each))
+  where
+    either : (b : Bool) → same_stage x.no s ≡ b → (if b then Some x else find (λ y. same_stage y.no s) stages) ≡ Some spec
+        → All P (named_source (edge_call x) (bodies (place_at (post x.no 0))))
+        → (find (λ y. same_stage y.no s) stages ≡ Some spec → All P (named_source (edge_call spec) (bodies (place_at (post s 0)))))
+        → All P (named_source (edge_call spec) (bodies (place_at (post s 0))))
+    either true e is first rest =
+        let same : x ≡ spec = cc in
+        let at : x.no ≡ s = same_stage-true x.no s e in
+        subst (λ y. All P (named_source (edge_call y) (bodies (place_at (post s 0))))) same (subst (λ t. All P (named_source (edge_call x) (bodies (place_at (post t 0))))) at first)
+    either false e is first rest = rest is
+
+producer_is : (r : Role) → is_producer_role r ≡ true → r ≡ Producer
+producer_is Producer e = refl
+producer_is Processor e = cc
+producer_is Supervisor e = cc
+producer_is Batcher e = cc
+producer_is BatchProcessor e = cc
+
+-- a producer has a source
+has_edge : (topology : Topology) (p : StageNo) (spec : StageSpec) → IsSound topology → spec_of topology p ≡ Some spec → spec.role ≡ Producer → is_some spec.edge ≡ true
+has_edge topology p spec sound found producer =
+    let fields : is_producer_in topology.stages spec ≡ true = fields_of topology p spec Producer sound found producer in
+    and_right (is_size spec.size) _ (and_right (by_demand spec spec.dispatch || (by_partition (length (processors topology.stages)) spec spec.dispatch && nat_le spec.field 255)) _ (and_left ((by_demand spec spec.dispatch || (by_partition (length (processors topology.stages)) spec spec.dispatch && nat_le spec.field 255)) && (is_size spec.size && is_some spec.edge)) _ fields))
+
+source_well_read : (topology : Topology) (before : History) (old new : EdgesSeen) (p : StageNo) (spec : StageSpec) (name : List ℕ) (o : Option SourceSeen) → (outside : IsOutside true topology before old new)
+    → source_in (outside.bodies (place_at (post p 0))) ≡ o → edge_call spec ≡ Some (Source, name) → There o (IsSourceRead old before p name)
+    → All (λ (given : List ℕ × SourceSeen). IsFaultless given.1) (named_source (edge_call spec) (outside.bodies (place_at (post p 0)))) → IsWellRead before p
+source_well_read topology before old new p spec name None outside is call there each = absurd there
+source_well_read topology before old new p spec name (Some source) outside is call there each = record {
+  source = source;
+  reads = there.reads;
+  fine = All-head (λ (given : List ℕ × SourceSeen). IsFaultless given.1) (name, source) [] (subst (All (λ (given : List ℕ × SourceSeen). IsFaultless given.1)) given each);
+}
+  where
+    given : named_source (edge_call spec) (outside.bodies (place_at (post p 0))) ≡ (name, source) ∷ []
+    given = ap (λ c. named_source c (outside.bodies (place_at (post p 0)))) call ∙ ap (with_name name) is
+
+pub well_read : (topology : Topology) (before : History) (old new : EdgesSeen) → IsSound topology → IsOutside true topology before old new → AreFaultless old new → AreWellRead topology before
+well_read topology before old new sound outside faultless p role =
+    let found = some_role topology p is_producer_role role in
+    by_edge found.0 found.1 (producer_is found.0.role found.2) found.0.edge refl
+  where
+    back : All (λ (given : List ℕ × SourceSeen). IsFaultless given.1) (sources_of topology.stages outside.bodies)
+    back =
+        let all : length topology.stages ≤ outside.stages = let n = outside.all refl in omega (arith, n) in
+        subst (λ stages. All (λ (given : List ℕ × SourceSeen). IsFaultless given.1) (sources_of stages outside.bodies)) (take_all outside.stages topology.stages all)
+        (faultless (sources_of (take outside.stages topology.stages) outside.bodies) outside.sources)
+
+    by_edge : (spec : StageSpec) → spec_of topology p ≡ Some spec → spec.role ≡ Producer → (o : Option (List ℕ)) → spec.edge ≡ o → IsWellRead before p
+    by_edge spec found producer None is =
+        let some : is_some spec.edge ≡ true = has_edge topology p spec sound found producer in
+        clash (is_some spec.edge) some (ap is_some is)
+    by_edge spec found producer (Some name) is =
+        let call : edge_call spec ≡ Some (Source, name) = ap (λ r. call_by r spec.edge) producer ∙ ap (call_by Producer) is in
+        source_well_read topology before old new p spec name (source_in (outside.bodies (place_at (post p 0)))) outside refl call
+        (outside.used.sources p name (ap call_in found ∙ call))
+        (given_of (λ given. IsFaultless given.1) outside.bodies p spec topology.stages found back)
+
+-- ---- how it ended
 
 -- a faultless source did not end with a fault or with a line that is too long
-fine_end : {S : Type 0} (told : S → Bool) (taken left : S → List ℕ) (faults waits : S → ℕ) (before : History) (source : S) (end : Option SourceHow) → source_end before (stage 1) ≡ end
-    → ReadsSource told taken left faults waits before (stage 1) source → IsFaultless told taken left faults waits source → ends_badly end ≡ false
-fine_end told taken left faults waits before source None is reads fine = refl
-fine_end told taken left faults waits before source (Some how.End) is reads fine = refl
-fine_end told taken left faults waits before source (Some how.Limit) is reads fine = refl
-fine_end told taken left faults waits before source (Some how.Fault) is reads fine = absurd (fine.no_fault (reads.fault is))
-fine_end told taken left faults waits before source (Some how.TooLong) is reads fine =
-    absurd (not_long (taken source ++ left source) (fed before (stage 1)) (reads.too_long fine.tells is) fine.short)
+fine_end : (before : History) (p : StageNo) (end : SourceHow) → source_end before p ≡ Some end → IsWellRead before p → is_fault end ≡ false
+fine_end before p how.End is w = refl
+fine_end before p how.Limit is w = refl
+fine_end before p how.Fault is w = absurd (w.fine.no_fault (w.reads.fault is))
+fine_end before p how.TooLong is w = absurd (not_long (w.source.taken ++ w.source.left) (fed before p) (w.reads.too_long w.fine.tells is) w.fine.short)
 
 -- an end that is neither bad nor at a limit is the end of the source
-end_is : (end : Option SourceHow) → is_some end ≡ true → ends_badly end ≡ false → ends_limited end ≡ false → end ≡ Some how.End
-end_is None some good unlimited = cc
-end_is (Some how.End) some good unlimited = refl
-end_is (Some how.Fault) some good unlimited = cc
-end_is (Some how.TooLong) some good unlimited = cc
-end_is (Some how.Limit) some good unlimited = cc
+end_is : (before : History) (p : StageNo) (end : Option SourceHow) → source_end before p ≡ end → is_some end ≡ true → ends_limited end ≡ false → IsWellRead before p → source_end before p ≡ Some how.End
+end_is before p None is some unlimited w = cc
+end_is before p (Some how.End) is some unlimited w = is
+end_is before p (Some how.Fault) is some unlimited w = clash (is_fault how.Fault) refl (fine_end before p how.Fault is w)
+end_is before p (Some how.TooLong) is some unlimited w = clash (is_fault how.TooLong) refl (fine_end before p how.TooLong is w)
+end_is before p (Some how.Limit) is some unlimited w = cc
 
-not_four : (fault halted lost failed : Bool) (status : ℕ) → fault ≡ false → status ≡ gravest_of fault halted lost failed → (status ≡ 0) ⊎ ((status ≡ 1) ⊎ (status ≡ 4))
-    → (status ≡ 0) ⊎ ((status ≡ 1) ⊎ (status ≡ 9))
-not_four fault halted lost failed status none is (inl zero_is) = inl zero_is
-not_four fault halted lost failed status none is (inr (inl one_is)) = inr (inl one_is)
-not_four true halted lost failed status none is (inr (inr four)) = cc
-not_four false true lost failed status none is (inr (inr four)) = absurd (omega (arith, is, four))
-not_four false false true failed status none is (inr (inr four)) = absurd (omega (arith, is, four))
-not_four false false false true status none is (inr (inr four)) = absurd (omega (arith, is, four))
-not_four false false false false status none is (inr (inr four)) = absurd (omega (arith, is, four))
+no_fault : (topology : Topology) (before : History) → IsSound topology → IsRun topology before → AreWellRead topology before → happened is_source_fault before ≡ false
+no_fault topology before sound run read = either (happened is_source_fault before) refl
+  where
+    by_end : (is_some (source_end before (stage 0)) ≡ true) ⊎ EndsBadly topology before → ⊥
+    by_end (inl some) = clash (is_some (source_end before (stage 0))) some (ap is_some run.control.no_end)
+    by_end (inr b) = clash (is_fault b.ended) b.bad (fine_end before b.at b.ended b.end (read b.at b.role))
+
+    either : (b : Bool) → happened is_source_fault before ≡ b → happened is_source_fault before ≡ false
+    either false e = e
+    either true e = absurd (by_end (faults_show topology before sound run.claims.legal e))
+
+-- a faultless source never had nothing ready
+never_rested : (before : History) (p : StageNo) → IsWellRead before p → 1 ≤ quiets before p → ⊥
+never_rested before p w some = w.fine.no_wait (rose w.reads.quiet)
+  where
+    rose : RoseBy (quiets before p) 0 w.source.waits → Rose 0 w.source.waits
+    rose (inl h) = inl (omega (arith, h, some))
+    rose (inr full) = inl (omega (arith, full))
 
 -- a run that was reported
-ended_whole : {S : Type 0} (told : S → Bool) (taken left : S → List ℕ) (faults waits : S → ℕ) (before : History) (now : S) (settings : Settings) (topology : Topology) (status : ℕ)
-    → topology ≡ one_each settings → IsRun topology before → IsEnded topology before status
-    → ReadsSource told taken left faults waits before (stage 1) now → IsFaultless told taken left faults waits now → IsComplete before status
-ended_whole told taken left faults waits before now settings topology status shape run ended reads fine =
-    let once : EndsOnce before = ends_once settings before (rw shape at run.claims.legal) run.kinds in
-    let good : ends_badly (source_end before (stage 1)) ≡ false = fine_end told taken left faults waits before now (source_end before (stage 1)) refl reads fine in
-    record {
-      status_is = not_four (happened is_source_fault before) (happened is_halt before) (list_any is_lost (places topology before))
-          (list_any is_failed (places topology before)) status (once.fault ∙ good) ended.by_journal ended.possible;
-      whole = λ other. by_drain once good (once.drain (and_left (happened is_drain before) _ ended.drained));
-    }
+pub ended_whole : (topology : Topology) (before : History) (status : ℕ) → IsSound topology → IsRun topology before → IsEnded topology before status → AreWellRead topology before → IsComplete topology before status
+ended_whole topology before status sound run end read = record {
+  status_is = inl (rw end.by_journal (rw (no_fault topology before sound run read)
+      (gravest_small (happened is_halt before) (list_any is_lost (places topology before)) (list_any is_failed (places topology before)))));
+  whole = λ other. by_end end.ended;
+}
   where
-    by_drain : EndsOnce before → ends_badly (source_end before (stage 1)) ≡ false → (happened is_limit_drain before ≡ true) ⊎ (has_ended before (stage 1) ≡ true)
-        → (happened is_limit_drain before ≡ true) ⊎ (source_end before (stage 1) ≡ Some how.End)
-    by_drain once good (inl limit) = inl limit
-    by_drain once good (inr ended) = inr (end_is (source_end before (stage 1)) (sym once.ended ∙ ended) good once.no_limit)
+    by_cause : HasCause topology before → IsReadWhole topology before ⊎ (IsTrue (happened is_limit_drain before) ⊎ IsTrue (happened is_halt before))
+    by_cause (limited h) = inr (inl h)
+    by_cause (ended each) = inl (λ p role.
+        end_is before p (source_end before p) refl (ended_as before p ∙ each p role)
+        (never_limited topology before p run.claims.legal (producer_inner topology p sound role)) (read p role))
+    by_cause (controlled some) = absurd (let none = run.control.no_step in omega (arith, some, none))
+    by_cause (rested r) = absurd (never_rested before r.at (read r.at r.role) r.some)
+
+    by_end : HasCome topology before → IsReadWhole topology before ⊎ (IsTrue (happened is_limit_drain before) ⊎ IsTrue (happened is_halt before))
+    by_end (inl drained) = by_cause (drain_shows topology before run.claims.legal (and_left (happened is_drain before) _ drained))
+    by_end (inr halted) = inr (inr halted.0)
+
+-- ---- in the case of the call
 
 -- want of memory
-wanting : (before : History) (status : ℕ) → status ≡ 9 → IsComplete before status
-wanting before status is = record {
-  status_is = inr (inr is);
-  whole = λ other. absurd (other is);
-}
+wanting : (topology : Topology) (before : History) (status : ℕ) → status ≡ 9 → IsComplete topology before status
+wanting topology before status nine = record { status_is = inr nine; whole = λ other. absurd (other nine) }
 
-memory_or : (fails : List ℕ → Type 0) (before : History) (verdict : Verdict) (status : ℕ) → status ≡ status_in verdict → (verdict ≡ Refused Memory) ⊎ Fails fails verdict
-    → ((name : List ℕ) → fails name → ⊥) → IsComplete before status
-memory_or fails before verdict status is (inl memory) calm = wanting before status (is ∙ ap status_in memory)
-memory_or fails before verdict status is (inr f) calm = absurd (calm f.name f.so)
+memory_or : (topology : Topology) (fails : List ℕ → Type 0) (before : History) (verdict : Verdict) (status : ℕ) → status ≡ status_in verdict → (verdict ≡ Refused Memory) ⊎ Fails fails verdict
+    → ((name : List ℕ) → fails name → ⊥) → IsComplete topology before status
+memory_or topology fails before verdict status is (inl memory) calm = wanting topology before status (is ∙ ap status_in memory)
+memory_or topology fails before verdict status is (inr f) calm = absurd (calm f.name f.so)
 
-read_done : (wanted : Topology) (verdict : Verdict) (same read partly : Type 0) (texts : Texts) (s : ℕ) → verdict ≡ Done texts s → RunBack (Some wanted) verdict same read partly → read
-read_done wanted verdict same read partly texts s is b = rw is at b
+-- where memory was not wanting, all was used
+all_used : (memory : Type 0) (topology : Topology) (before : History) (old new : OutsideSeen) → HasUsed memory topology before old new → (memory → ⊥) → IsOutside true topology before old.edges new.edges
+all_used memory topology before old new used never = by_whole used.whole used.wanting used.outside
+  where
+    by_whole : (b : Bool) → (b ≡ false → memory) → IsOutside b topology before old.edges new.edges → IsOutside true topology before old.edges new.edges
+    by_whole true w outside = outside
+    by_whole false w outside = absurd (never (w refl))
 
-read_wait : (wanted : Topology) (verdict : Verdict) (same read partly : Type 0) → verdict ≡ Refused Wait → RunBack (Some wanted) verdict same read partly → read
-read_wait wanted verdict same read partly is b = rw is at b
+done_is_no_refusal : (verdict : Verdict) (texts : Texts) (status : ℕ) → verdict ≡ Done texts status → verdict ≡ Refused Memory → ⊥
+done_is_no_refusal verdict texts status is memory = cc
 
-pub complete_in : {E S : Type 0} (told_names : E → Bool) (named : E → EdgeKind → List ℕ → List ℕ) (back : E → List (List ℕ × S)) (told : S → Bool) (taken left : S → List ℕ) (faults waits : S → ℕ) (old new : E)
-    (case : Case) (same : Type 0) (partly : List ℕ → Type 0) (fails : List ℕ → Type 0) (topology : Option Topology) (before : History) (verdict : Verdict) (status : ℕ)
-    → status ≡ status_in verdict → ((name : List ℕ) → fails name → ⊥)
-    → ((name : List ℕ) (now : S) → back new ≡ back old ++ (name, now) ∷ [] → IsFaultless told taken left faults waits now)
-    → Outcome case fails topology before verdict
-    → BackBy case topology verdict same (λ name. IsReadBack told_names named back told taken left faults waits old new name before (verdict ≡ Refused Wait)) partly
+complete_in : (case : Case) (fails : List ℕ → Type 0) (topology : Option Topology) (before : History) (verdict : Verdict) (status : ℕ) (old new : OutsideSeen)
+    → status ≡ status_in verdict → ((name : List ℕ) → fails name → ⊥) → AreFaultless old.edges new.edges
+    → Outcome case fails topology before verdict → IsOutsideOf (verdict ≡ Refused Memory) topology before case old new
     → IsCompleteIn before status case
-complete_in told_names named back told taken left faults waits old new NoCommand same partly fails topology before verdict status is calm fine o b = tt
-complete_in told_names named back told taken left faults waits old new (BadTopology fault) same partly fails topology before verdict status is calm fine o b = tt
-complete_in told_names named back told taken left faults waits old new (TooFew shortage) same partly fails topology before verdict status is calm fine o b = tt
-complete_in told_names named back told taken left faults waits old new (NotBuilt missing) same partly fails topology before verdict status is calm fine o b = tt
-complete_in told_names named back told taken left faults waits old new (Checks wanted) same partly fails topology before verdict status is calm fine o b = tt
-complete_in told_names named back told taken left faults waits old new (Runs shows wanted) same partly fails topology before verdict status is calm fine (inl e) b =
-    memory_or fails before verdict status is (early fails topology before verdict e).why calm
-complete_in {E} {S} told_names named back told taken left faults waits old new (Runs shows wanted) same partly fails topology before verdict status is calm fine (inr r) b =
+complete_in NoCommand fails topology before verdict status old new is calm fine o out = tt
+complete_in (BadTopology fault) fails topology before verdict status old new is calm fine o out = tt
+complete_in (TooFew shortage) fails topology before verdict status old new is calm fine o out = tt
+complete_in (NotBuilt missing) fails topology before verdict status old new is calm fine o out = tt
+complete_in (Checks wanted) fails topology before verdict status old new is calm fine o out = tt
+complete_in (Runs shows wanted) fails topology before verdict status old new is calm fine (inl e) out =
+    memory_or wanted fails before verdict status is (early fails topology before verdict e).why calm
+complete_in (Runs shows wanted) fails topology before verdict status old new is calm fine (inr r) out =
     by_run (ran verdict shows wanted before r.comes_to)
   where
-    Back : Type 0
-    Back = IsReadBack told_names named back told taken left faults waits old new (source_of wanted) before (verdict ≡ Refused Wait)
+    used : HasUsed (verdict ≡ Refused Memory) wanted before old new
+    used = rw r.own at out
 
-    given : RunBack (Some wanted) verdict same Back (partly (source_of wanted))
-    given = rw r.own at b
-
-    by_report : Reported shows wanted before verdict → Back → IsComplete before status
-    by_report v back_as =
-        rw (is ∙ ap status_in v.is) (ended_whole told taken left faults waits before back_as.source r.runnable.one_each.settings wanted v.status r.runnable.one_each.is r.run v.report.ended back_as.reads
-        (fine (source_of wanted) back_as.source back_as.given))
-
-    by_run : Reported shows wanted before verdict ⊎ ((verdict ≡ Refused Wait) ⊎ (verdict ≡ Refused Memory)) → IsComplete before status
-    by_run (inl v) = by_report v (read_done wanted verdict same Back (partly (source_of wanted)) v.texts v.status v.is given)
-    by_run (inr (inl waits_is)) =
-        let back_as : Back = read_wait wanted verdict same Back (partly (source_of wanted)) waits_is given in
-        absurd ((fine (source_of wanted) back_as.source back_as.given).no_wait (back_as.wait waits_is))
-    by_run (inr (inr memory)) = wanting before status (is ∙ ap status_in memory)
+    by_run : Reported shows wanted before verdict ⊎ (verdict ≡ Refused Memory) → IsComplete wanted before status
+    by_run (inl v) =
+        let whole : IsOutside true wanted before old.edges new.edges = all_used (verdict ≡ Refused Memory) wanted before old new used (done_is_no_refusal verdict v.texts v.status v.is) in
+        rw (is ∙ ap status_in v.is) (ended_whole wanted before v.status r.sound r.run v.report.ended (well_read wanted before old.edges new.edges r.sound whole fine))
+    by_run (inr memory) = wanting wanted before status (is ∙ ap status_in memory)
 
 nine_complete : (case : Case) (before : History) (status : ℕ) → status ≡ 9 → IsCompleteIn before status case
 nine_complete NoCommand before status is = tt
@@ -131,19 +240,15 @@ nine_complete (BadTopology fault) before status is = tt
 nine_complete (TooFew shortage) before status is = tt
 nine_complete (NotBuilt missing) before status is = tt
 nine_complete (Checks wanted) before status is = tt
-nine_complete (Runs shows wanted) before status is = wanting before status is
+nine_complete (Runs shows wanted) before status is = wanting wanted before status is
 
-pub complete_by : {E S : Type 0} (told_names : E → Bool) (named : E → EdgeKind → List ℕ → List ℕ) (back : E → List (List ℕ × S)) (told : S → Bool) (taken left : S → List ℕ) (faults waits : S → ℕ) (old new : E)
-    (case : Case) (same : Type 0) (partly : List ℕ → Type 0) (fails : List ℕ → Type 0) (topology : Option Topology) (before : History) (verdict : Verdict) (status : ℕ)
-    → (status ≡ status_in verdict) ⊎ ((status ≡ 8) ⊎ (status ≡ 9)) → status ≢ 8 → ((name : List ℕ) → fails name → ⊥)
-    → ((name : List ℕ) (now : S) → back new ≡ back old ++ (name, now) ∷ [] → IsFaultless told taken left faults waits now)
-    → Outcome case fails topology before verdict
-    → BackBy case topology verdict same (λ name. IsReadBack told_names named back told taken left faults waits old new name before (verdict ≡ Refused Wait)) partly
+pub complete_by : (case : Case) (fails : List ℕ → Type 0) (topology : Option Topology) (before : History) (verdict : Verdict) (status : ℕ) (old new : OutsideSeen)
+    → (status ≡ status_in verdict) ⊎ ((status ≡ 8) ⊎ (status ≡ 9)) → status ≢ 8 → ((name : List ℕ) → fails name → ⊥) → AreFaultless old.edges new.edges
+    → Outcome case fails topology before verdict → IsOutsideOf (verdict ≡ Refused Memory) topology before case old new
     → IsCompleteIn before status case
-complete_by told_names named back told taken left faults waits old new case same partly fails topology before verdict status (inl is) written calm fine o b =
-    complete_in told_names named back told taken left faults waits old new case same partly fails topology before verdict status is calm fine o b
-complete_by told_names named back told taken left faults waits old new case same partly fails topology before verdict status (inr (inl is)) written calm fine o b = absurd (written is)
-complete_by told_names named back told taken left faults waits old new case same partly fails topology before verdict status (inr (inr is)) written calm fine o b = nine_complete case before status is
+complete_by case fails topology before verdict status old new (inl is) written calm fine o out = complete_in case fails topology before verdict status old new is calm fine o out
+complete_by case fails topology before verdict status old new (inr (inl is)) written calm fine o out = absurd (written is)
+complete_by case fails topology before verdict status old new (inr (inr is)) written calm fine o out = nine_complete case before status is
 
 -- where no write failed, no text was lost
 pub unwritten : {out err : Type 0} → out ⊎ err → ¬ out → ¬ err → ⊥

@@ -3,12 +3,15 @@ use Rattle.std.proofs.Common.{◌≡◌, ◌≢◌, ℕ, ◌≤◌, ◌<◌, Lis
 use Rattle.std.specs.Prelude.{◌⊎◌}
 use Rattle.pipe_types.specs.declared.topology.Topology.{Topology}
 use Rattle.pipe_model.specs.History.{History}
-use Rattle.pipe_top.specs.Flows.{IsReport, IsRunVerdict, IsEarly}
-use Rattle.pipe_top.specs.declared.verdict.Refusal.TheVariants.{Usage, Topology as NoTopology, Stock, Unbuilt, Wait, Edge, Memory}
+use Rattle.pipe_top.specs.Flows.{IsReport, IsJudgement, IsEarly}
+use Rattle.pipe_top.specs.Runs.{IsRefusalStatus, IsUnopenedStatus}
+use Rattle.pipe_top.specs.Verdicts.{status_in}
+use Rattle.pipe_top.specs.declared.verdict.Refusal.TheVariants.{Usage, Topology as NoTopology, Stock, Unbuilt, Edge, Memory}
 use Rattle.pipe_top.specs.declared.verdict.Shows.{Shows}
 use Rattle.pipe_top.specs.declared.verdict.Texts.{Texts}
 use Rattle.pipe_top.specs.declared.verdict.Verdict.{Verdict}
 use Rattle.pipe_top.specs.declared.verdict.Verdict.TheVariants.{Refused, Done}
+use Rattle.pipe_top.proofs.Statuses.{ended_few}
 
 -- the call by this name failed
 pub record Fails (fails : List ℕ → Type 0) (verdict : Verdict) : Type 0 where
@@ -33,7 +36,6 @@ early fails None before (Refused Usage) e = absurd e
 early fails None before (Refused (NoTopology fault)) e = absurd e
 early fails None before (Refused (Stock shortage)) e = absurd e
 early fails None before (Refused (Unbuilt missing)) e = absurd e
-early fails None before (Refused Wait) e = absurd e
 early fails None before (Done texts status) e = absurd e
 early fails (Some t) before verdict e = absurd e
 
@@ -44,12 +46,15 @@ pub record Reported (shows : Shows) (topology : Topology) (before : History) (ve
   pub is : verdict ≡ Done texts status
   pub report : IsReport shows topology before texts status
 
--- a run was reported, or it waited, or memory was wanting
-pub ran : (verdict : Verdict) (shows : Shows) (topology : Topology) (before : History) → IsRunVerdict verdict shows topology before
-    → Reported shows topology before verdict ⊎ ((verdict ≡ Refused Wait) ⊎ (verdict ≡ Refused Memory))
+-- the status of a report is at most 4
+pub few_of : {shows : Shows} {topology : Topology} {before : History} {verdict : Verdict} → Reported shows topology before verdict → status_in verdict ≤ 4
+few_of {shows} {topology} {before} {verdict} v = rw v.is (ended_few topology before v.status v.report.ended)
+
+-- a run was reported, or memory was wanting
+pub ran : (verdict : Verdict) (shows : Shows) (topology : Topology) (before : History) → IsJudgement verdict shows topology before
+    → Reported shows topology before verdict ⊎ (verdict ≡ Refused Memory)
 ran (Done texts status) shows topology before v = inl (record { texts = texts; status = status; is = refl; report = v })
-ran (Refused Wait) shows topology before v = inr (inl refl)
-ran (Refused Memory) shows topology before v = inr (inr refl)
+ran (Refused Memory) shows topology before v = inr refl
 ran (Refused Usage) shows topology before v = absurd v
 ran (Refused (NoTopology fault)) shows topology before v = absurd v
 ran (Refused (Stock shortage)) shows topology before v = absurd v
@@ -81,24 +86,20 @@ not_small n status is more few = omega (arith, is, more, few)
 pub not_both : (a b n : ℕ) → n ≡ a → n ≡ b → a ≢ b → ⊥
 not_both a b n p q apart = apart (omega (arith, p, q))
 
--- the statuses of a report
-pub small_of : (s : ℕ) → (s ≡ 0) ⊎ ((s ≡ 1) ⊎ (s ≡ 4)) → s ≤ 4
-small_of s (inl is) = omega (arith, is)
-small_of s (inr (inl is)) = omega (arith, is)
-small_of s (inr (inr is)) = omega (arith, is)
-
 pub within : (status wanted : ℕ) → (status ≡ wanted) ⊎ ((status ≡ 8) ⊎ (status ≡ 9)) → wanted ≤ 10 → status ≤ 10
 within status wanted (inl is) few = omega (arith, is, few)
 within status wanted (inr (inl is)) few = omega (arith, is)
 within status wanted (inr (inr is)) few = omega (arith, is)
 
--- so is a status that is 5, 6 or 7 ..
-pub unopened_as : (status wanted : ℕ) → (status ≡ wanted) ⊎ ((status ≡ 8) ⊎ (status ≡ 9)) → (status ≡ 5) ⊎ ((status ≡ 6) ⊎ (status ≡ 7)) → (wanted ≡ 5) ⊎ ((wanted ≡ 6) ⊎ (wanted ≡ 7))
-unopened_as status wanted is (inl five) = inl (is_status status wanted 5 is five (λ x. cc) (λ x. cc))
-unopened_as status wanted is (inr (inl six)) = inr (inl (is_status status wanted 6 is six (λ x. cc) (λ x. cc)))
-unopened_as status wanted is (inr (inr seven)) = inr (inr (is_status status wanted 7 is seven (λ x. cc) (λ x. cc)))
+-- so is a status of a refusal ..
+pub refusal_as : (status wanted : ℕ) → (status ≡ wanted) ⊎ ((status ≡ 8) ⊎ (status ≡ 9)) → IsRefusalStatus status → IsRefusalStatus wanted
+refusal_as status wanted is (inl five) = inl (is_status status wanted 5 is five (λ x. cc) (λ x. cc))
+refusal_as status wanted is (inr (inl six)) = inr (inl (is_status status wanted 6 is six (λ x. cc) (λ x. cc)))
+refusal_as status wanted is (inr (inr (inl seven))) = inr (inr (inl (is_status status wanted 7 is seven (λ x. cc) (λ x. cc))))
+refusal_as status wanted is (inr (inr (inr ten))) = inr (inr (inr (is_status status wanted 10 is ten (λ x. cc) (λ x. cc))))
 
--- .. or that of a run that ended or waited
-pub ran_as : (status wanted : ℕ) → (status ≡ wanted) ⊎ ((status ≡ 8) ⊎ (status ≡ 9)) → (status ≤ 4) ⊎ (status ≡ 10) → (wanted ≤ 4) ⊎ (wanted ≡ 10)
-ran_as status wanted is (inl few) = let e = is_small status wanted is few in inl (omega (arith, e, few))
-ran_as status wanted is (inr ten) = inr (is_status status wanted 10 is ten (λ x. cc) (λ x. cc))
+-- .. and one where nothing was opened
+pub unopened_as : (status wanted : ℕ) → (status ≡ wanted) ⊎ ((status ≡ 8) ⊎ (status ≡ 9)) → IsUnopenedStatus status → IsUnopenedStatus wanted
+unopened_as status wanted is (inl six) = inl (is_status status wanted 6 is six (λ x. cc) (λ x. cc))
+unopened_as status wanted is (inr (inl seven)) = inr (inl (is_status status wanted 7 is seven (λ x. cc) (λ x. cc)))
+unopened_as status wanted is (inr (inr ten)) = inr (inr (is_status status wanted 10 is ten (λ x. cc) (λ x. cc)))

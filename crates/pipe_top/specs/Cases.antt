@@ -1,17 +1,13 @@
 -- What the words, the topology file and the stock of callbacks come to.
-use Rattle.std.specs.Prelude.{◌≡◌, ℕ, Bool, false, List, [], ◌∷◌, ◌++◌, take, IsTrue, Option, Some, None, Result, Ok, Err, option_and_then, unwrap_or}
-use Rattle.pipe_types.specs.declared.topology.Kind.{Kind}
-use Rattle.pipe_types.specs.declared.topology.Kind.TheVariants.{Steps, Lines, Own}
+use Rattle.std.specs.Prelude.{◌≡◌, ℕ, Bool, false, List, [], ◌∷◌, ◌++◌, take, IsTrue, Option, Some, None, Result, Ok, Err}
 use Rattle.pipe_types.specs.declared.topology.Topology.{Topology}
-use Rattle.pipe_types.specs.Numbers.{stage}
-use Rattle.pipe_types.specs.Stages.{spec_of}
 use Rattle.pipe_edges.specs.declared.edges.EdgeKind.{EdgeKind}
-use Rattle.pipe_edges.specs.declared.edges.EdgeKind.TheVariants.{File, Source}
+use Rattle.pipe_edges.specs.declared.edges.EdgeKind.TheVariants.{File}
 use Rattle.config_table.specs.declared.fault.ConfigFault.{ConfigFault}
 use Rattle.pipe_config.specs.File.{topology_of_file}
 use Rattle.config_flow.specs.Flow.{flow_topology_of}
 use Rattle.program_words.specs.Words.{Command, Flow, Check, Run}
-use Rattle.stage_job.specs.Boxes.{boxes_of_kind}
+use Rattle.edge_names.specs.Opened.{edge_calls}
 use Rattle.topology_needs.specs.declared.stock.Boxes.{Boxes}
 use Rattle.topology_needs.specs.declared.stock.Shortage.{Shortage}
 use Rattle.topology_needs.specs.declared.unbuilt.Unbuilt.{Unbuilt}
@@ -57,10 +53,6 @@ case_of (Some (Flow source prefix)) file boxes = run_case boxes 1 report_alone (
 case_of (Some (Check path)) file boxes = for_topology (topology_of_file file) Checks
 case_of (Some (Run path workers acks steps)) file boxes = for_topology (topology_of_file file) (run_case boxes workers (record { steps = steps; acks = acks }))
 
--- the boxes of a stock with these kinds
-abbrev pub boxes_in : List Kind → Boxes
-boxes_in kinds = record { steps = boxes_of_kind Steps kinds; lines = boxes_of_kind Lines kinds; own = boxes_of_kind Own kinds }
-
 -- ---- names
 
 -- the topology file that the command names
@@ -74,21 +66,18 @@ abbrev pub IsNamedFile : (told : Bool) → (named : EdgeKind → List ℕ → Li
 IsNamedFile told named None file = Unit {0}
 IsNamedFile told named (Some name) file = IsTrue told → file ≡ take 1048577 (named File name)
 
--- the source of the producer
-abbrev pub source_of : Topology → List ℕ
-source_of topology = unwrap_or (option_and_then (λ producer. producer.edge) (spec_of topology (stage 1))) []
-
 abbrev pub file_calls : Option (List ℕ) → List (EdgeKind × List ℕ)
 file_calls None = []
 file_calls (Some name) = (File, name) ∷ []
 
-abbrev pub source_calls : Case → List (EdgeKind × List ℕ)
-source_calls (Runs shows topology) = (Source, source_of topology) ∷ []
-source_calls _ = []
+-- the calls that open what a run reads and writes, in stage order
+abbrev pub opening_calls : Case → List (EdgeKind × List ℕ)
+opening_calls (Runs shows topology) = edge_calls topology
+opening_calls _ = []
 
--- the calls by name: first the topology file is read, where one is named, and then the source of a run is opened
+-- the calls by name: first the topology file is read, where one is named, and then the sources and sinks of a run are opened
 abbrev pub calls_of : Option Command → Case → List (EdgeKind × List ℕ)
-calls_of command case = file_calls (file_name command) ++ source_calls case
+calls_of command case = file_calls (file_name command) ++ opening_calls case
 
 -- what holds in the case of the command, for the bytes of its file
 pub record InCase (told : Bool) (named : EdgeKind → List ℕ → List ℕ) (command : Option Command) (boxes : Boxes) (holds : Case → Type 0) : Type 0 where

@@ -2,4 +2,3 @@ pub mod Cases
 pub mod Verdicts
 pub mod Runs
 pub mod Flows
-pub mod Stock

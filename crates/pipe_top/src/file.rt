@@ -6,16 +6,23 @@ ghost use Rattle.pipe_types.specs.Sound.{IsSound};
 ghost use Rattle.pipe_config.specs.File.{topology_of_file};
 ghost use Rattle.pipe_top.specs.Flows.{ReadsFile, ReadsTopology, IsChecked, IsCheckedOrNot};
 
-use crate::run::{Ran, refused, text_of};
+use crate::run::{Ran, refused};
 use crate::verdict::{Refusal, Texts, Verdict};
+use edge_names::SeenEdges;
 use pipe_config::{ConfigFault, read_topology};
 use pipe_edges::{EdgeEnd, Edges};
 use pipe_journal::Journal;
-use pipe_types::bytes::Bytes;
+use pipe_types::bytes::{Bytes, Text};
 use pipe_types::topology::Topology;
 use program_words::counts_line;
-use std::alloc::Global;
+use std::alloc::{AllocError, Global};
 use topology_needs::subscriptions;
+
+fn text_of(alloc: Global, word: &str) -> Result<Text, AllocError>
+    ensures { IfOk result (λ text. text ≡ word.now) }
+{
+    Ok(Text::from_string(String::from_str(alloc, word)?))
+}
 
 /// The topology of the file with this name, or why there is none.
 pub(crate) fn read_named<E: Edges>(
@@ -23,7 +30,7 @@ pub(crate) fn read_named<E: Edges>(
     name: &str,
     edges: &mut E,
 ) -> Result<Topology, Refusal>
-    ensures { ReadsFile E.told E.named E.asked E.faults E.sources_back E.sinks_back edges.old edges.new name.now topology_of_file result }
+    ensures { ReadsFile (⟦<E as SeenEdges>⟧.seen edges.old) (⟦<E as SeenEdges>⟧.seen edges.new) name.now topology_of_file result }
 {
     let Ok(name) = text_of(alloc, name) else {
         return Err(Refusal::Memory);
@@ -47,9 +54,10 @@ fn topology_in(alloc: Global, bytes: &Bytes) -> Result<Topology, Refusal>
 }
 
 /// The counts of a topology that is only checked.
-pub(crate) fn checked(alloc: Global, topology: Topology) -> Ran
+pub(crate) fn checked<C>(alloc: Global, topology: Topology, stock: Vec<C>) -> Ran<C>
     requires sound { IsSound topology }
-    ensures { IsCheckedOrNot topology result.topology result.journal.steps result.verdict }
+    ensures same_boxes { result.stock.items ≡ stock.items }
+    ensures checked { IsCheckedOrNot topology result.topology result.journal.steps result.verdict }
 {
     let stages = topology.stages.as_slice().len();
     match counts_line(alloc, stages, subscriptions(&topology)) {
@@ -64,7 +72,8 @@ pub(crate) fn checked(alloc: Global, topology: Topology) -> Ran
             },
             topology: Some(topology),
             journal: Journal::new(alloc),
+            stock,
         },
-        Err(_) => refused(alloc, Refusal::Memory),
+        Err(_) => refused(alloc, Refusal::Memory, stock),
     }
 }

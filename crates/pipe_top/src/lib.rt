@@ -1,8 +1,9 @@
 //! The top call: from the words of the program to its texts and its status.
 //!
-//! `run_program` reads the words, counts the stock of callbacks, opens the source, runs, gives the source back, and
-//! writes the report or why there is none. Its contract says that the journal of the run is legal and keeps every
-//! claim, that the records are the source's lines and the output is the journal's report, and when each status comes.
+//! `run_program` reads the words and the topology file, counts the stock of callbacks, opens sources and sinks, runs, gives
+//! them back, and writes the report or why there is none. Its contract says that the journal of the run is legal and keeps
+//! every claim, that the records are the sources' lines, the sinks hold its texts and the output is its report, and when each
+//! status comes.
 #![tactic(auto)]
 
 mod file;

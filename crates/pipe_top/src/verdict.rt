@@ -32,8 +32,6 @@ pub(crate) enum Refusal {
     Stock(Shortage),
     /// The topology has something that is not built yet.
     Unbuilt(Unbuilt),
-    /// The source had nothing ready, for which no run waits yet.
-    Wait,
     /// Nothing of this name was read or opened.
     Edge(Text),
     Memory,
@@ -143,7 +141,7 @@ fn status_of(refusal: &Refusal) -> u8
 {
     match refusal {
         Refusal::Usage => 7,
-        Refusal::Unbuilt(_) | Refusal::Wait => 10,
+        Refusal::Unbuilt(_) => 10,
         Refusal::Topology(_) | Refusal::Stock(_) => 6,
         Refusal::Edge(_) => 5,
         Refusal::Memory => 9,
@@ -160,7 +158,6 @@ fn refusal_line(alloc: Global, refusal: &Refusal) -> Result<Bytes, AllocError>
             stock_line(alloc, shortage.kind, shortage.need, shortage.have)
         }
         Refusal::Unbuilt(missing) => unbuilt_line(alloc, missing.word()),
-        Refusal::Wait => unbuilt_line(alloc, "wait"),
         Refusal::Edge(name) => edge_line(alloc, name.as_str()),
         Refusal::Memory => memory_line(alloc),
     }

@@ -2,12 +2,17 @@
 //! its clock to `run_program`, and ends with the status that this answers.
 #![tactic(auto)]
 
-use file_socket_sinks::{RealClock, RealEdges, RealOut};
+use body_jobs::Body;
+use file_socket_sinks::{Reader, RealClock, RealEdges, RealOut, RealSource, Writer};
 use pipe_top::run_program;
 use stage_callback::{Callback, LinesBox, StepsBox};
 use std::alloc::AllocError;
 use std::process::ExitCode;
+use std::sync::Wait;
 use std::{env, io};
+
+/// A callback in its box.
+type Handler = Box<dyn Callback + Send>;
 
 /// How many callbacks of each built-in kind a run may use.
 const STOCK: usize = 64;
@@ -30,10 +35,11 @@ fn words_of(rt: &HostRuntime) -> Result<Vec<String>, AllocError> {
     }
 }
 
-fn run(rt: &HostRuntime) -> Result<u8, AllocError> {
+// A run may wait for its sources, which takes a handle of its own.
+fn run<R: Wait>(rt: &HostRuntime, waits: &R) -> Result<u8, AllocError> {
     let alloc = rt.alloc();
     let words = words_of(rt)?;
-    let mut stock: Vec<Box<dyn Callback + Send>> = Vec::new(alloc);
+    let mut stock: Vec<Handler> = Vec::new(alloc);
     for _ in 0..STOCK {
         stock.push(Box::new(alloc, StepsBox::new(alloc))?)?;
         stock.push(Box::new(alloc, LinesBox::new(alloc))?)?;
@@ -42,11 +48,20 @@ fn run(rt: &HostRuntime) -> Result<u8, AllocError> {
     let mut out = RealOut::standard_output(rt);
     let mut err = RealOut::standard_error(rt);
     let clock = RealClock::new(rt);
-    Ok(run_program(alloc, &words, stock, &mut edges, clock, &mut out, &mut err).status)
+    let end = run_program::<
+        R,
+        RealEdges,
+        Handler,
+        Body<RealSource<Reader>, RealOut<Writer>>,
+        RealClock,
+    >(
+        waits, alloc, &words, stock, &mut edges, clock, &mut out, &mut err,
+    );
+    Ok(end.status)
 }
 
 fn main(rt: HostRuntime) -> ExitCode {
-    match run(&rt) {
+    match run(&rt, &rt) {
         Ok(status) => ExitCode::from(status),
         Err(AllocError) => {
             let _ = rt.eprintln("memory");

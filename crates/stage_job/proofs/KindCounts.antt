@@ -1,7 +1,7 @@
 -- Boxes counted one after another.
-use Rattle.std.proofs.Common.{◌≡◌, ℕ, ◌+◌, ◌<◌, Bool, true, false, cond, List, length, map, take, get_or, sym, ap, ◌∙◌, arith}
+use Rattle.std.proofs.Common.{◌≡◌, ℕ, ◌+◌, ◌<◌, Bool, true, false, List, length, map, take, get_or, sym, ap, ◌∙◌, arith}
 use Rattle.std.proofs.lemmas.List.{length-map, get_or-map}
-use Rattle.std.proofs.lemmas.List.Sums.{count_by_more_yes, count_by_more_no, sum_by-take-le}
+use Rattle.std.proofs.lemmas.List.Sums.{count_by_more_yes, count_by_more_no}
 use Rattle.pipe_types.specs.declared.topology.Kind.{Kind}
 use Rattle.stage_job.specs.Boxes.{same_kind, boxes_of_kind}
 
@@ -24,11 +24,3 @@ pub one_more : {A : Type 0} (f : A → Kind) (wanted : Kind) (xs : List A) (i : 
     → same_kind wanted (f x) ≡ true → boxes_of_kind wanted (take (i + 1) (map f xs)) ≡ boxes_of_kind wanted (take i (map f xs)) + 1
 one_more f wanted xs i x below is this =
     count_by_more_yes (same_kind wanted) (map f xs) i (f x) (in_range f xs i below) (kind_there f wanted xs i x true below is this)
-
--- where there is a box of this kind their number is not 0
-pub not_none : {A : Type 0} (f : A → Kind) (wanted : Kind) (xs : List A) (i : ℕ) (x : A) → i < length xs → x ≡ get_or xs i x
-    → same_kind wanted (f x) ≡ true → boxes_of_kind wanted (map f xs) ≡ 0 → ⊥
-not_none f wanted xs i x below is this none =
-    let more = one_more f wanted xs i x below is this in
-    let le = sum_by-take-le (λ k. cond (same_kind wanted k) 1 0) (map f xs) (i + 1) in
-    omega (arith, more, le, none)

@@ -1,37 +1,56 @@
--- Where nothing is unbuilt no row of the table applies.
-use Rattle.std.proofs.Common.{◌≡◌, ℕ, zero, suc, ◌<◌, Bool, true, false, cond, List, [], ◌∷◌, length, get_or, Option, Some, None, refl, arith, lit<}
-use Rattle.std.specs.Prelude.{find}
+-- What is known where no row of a table applies.
+use Rattle.std.proofs.Common.{◌≡◌, ℕ, ◌≤◌, Bool, true, false, cond, [], ◌∷◌, Option, Some, None, is_some, refl}
+use Rattle.std.specs.Prelude.{find, option_map}
+use Rattle.std.proofs.lemmas.Bool.{not-false, ltb-false}
 use Rattle.pipe_types.specs.declared.topology.Topology.{Topology}
+use Rattle.pipe_types.specs.declared.topology.Kind.{Kind}
+use Rattle.pipe_types.specs.declared.topology.Kind.TheVariants.{Steps, Lines, Own}
+use Rattle.topology_needs.specs.declared.stock.Boxes.{Boxes}
 use Rattle.topology_needs.specs.declared.unbuilt.Unbuilt.TheVariants as word
-use Rattle.topology_needs.specs.Unbuilt.{unbuilt_of, applies, in_order, has_supervisor, may_crash, has_partition, has_batcher, has_push, has_many}
+use Rattle.topology_needs.specs.Needs.{need_of, boxes_of, is_short, need_and_have, shortage_of}
+use Rattle.topology_needs.specs.Unbuilt.{unbuilt_of, applies, has_workers, names_control, may_crash, is_calm}
 
 passed_by : {A : Type 0} (b : Bool) (x : A) (o : Option A) → cond b (Some x) o ≡ None → (b ≡ false) × (o ≡ None)
 passed_by true x o h = cc
 passed_by false x o h = (refl, h)
 
--- where nothing is found no place passes
-none_at : {A : Type 0} (p : A → Bool) (xs : List A) (i : ℕ) (d : A) → find p xs ≡ None → i < length xs → p (get_or xs i d) ≡ false
-none_at p [] i d h below = absurd (omega arith)
-none_at p (x ∷ xs) zero d h below = (passed_by (p x) x (find p xs) h).0
-none_at p (x ∷ xs) (suc i) d h below = none_at p xs i d (passed_by (p x) x (find p xs) h).1 (omega arith)
+-- ---- what is not built
 
--- the rows that shape the stages
-pub record NoneApplies (topology : Topology) : Type 0 where
-  pub supervisor : has_supervisor topology ≡ false
-  pub crash : may_crash topology ≡ false
-  pub partition : has_partition topology ≡ false
-  pub batcher : has_batcher topology ≡ false
-  pub push : has_push topology ≡ false
-  pub many : has_many topology ≡ false
+no_control : {A : Type 0} (o : Option A) → is_some o ≡ false → o ≡ None
+no_control None h = refl
+no_control (Some x) h = cc
 
-pub none_applies : (n : ℕ) (topology : Topology) → unbuilt_of n topology ≡ None → NoneApplies topology
+pub record NoneApplies (n : ℕ) (topology : Topology) : Type 0 where
+  pub workers : n ≤ 1
+  pub control : topology.control ≡ None
+  pub calm : is_calm topology ≡ true
+
+pub none_applies : (n : ℕ) (topology : Topology) → unbuilt_of n topology ≡ None → NoneApplies n topology
 none_applies n topology h =
-    let none = λ (i : ℕ) (below : i < 9). none_at (applies n topology) in_order i word.Workers h below in
+    let first = passed_by (has_workers n) word.Workers (find (applies n topology) (word.Control ∷ word.Crash ∷ [])) h in
+    let second = passed_by (names_control topology) word.Control (find (applies n topology) (word.Crash ∷ [])) first.1 in
+    let third = passed_by (may_crash topology) word.Crash None second.1 in
     record {
-      supervisor = none 1 (lit< tt);
-      crash = none 3 (lit< tt);
-      partition = none 5 (lit< tt);
-      batcher = none 6 (lit< tt);
-      push = none 7 (lit< tt);
-      many = none 8 (lit< tt);
+      workers = ltb-false 1 n first.0;
+      control = no_control topology.control second.0;
+      calm = not-false (is_calm topology) third.0;
     }
+
+-- ---- what is short
+
+none_short : {A B : Type 0} (f : A → B) (o : Option A) → option_map f o ≡ None → o ≡ None
+none_short f None h = refl
+none_short f (Some x) h = cc
+
+pub enough : (topology : Topology) (boxes : Boxes) (kind : Kind) → shortage_of topology boxes ≡ None → need_of topology kind ≤ boxes_of boxes kind
+enough topology boxes kind h =
+    let short = is_short topology boxes in
+    let first = passed_by (short Steps) Steps (find short (Lines ∷ Own ∷ [])) (none_short (need_and_have topology boxes) (find short (Steps ∷ Lines ∷ Own ∷ [])) h) in
+    let second = passed_by (short Lines) Lines (find short (Own ∷ [])) first.1 in
+    let third = passed_by (short Own) Own None second.1 in
+    by_kind kind first.0 second.0 third.0
+  where
+    by_kind : (kind : Kind) → is_short topology boxes Steps ≡ false → is_short topology boxes Lines ≡ false → is_short topology boxes Own ≡ false → need_of topology kind ≤ boxes_of boxes kind
+    by_kind Steps steps lines own = ltb-false boxes.steps (need_of topology Steps) steps
+    by_kind Lines steps lines own = ltb-false boxes.lines (need_of topology Lines) lines
+    by_kind Own steps lines own = ltb-false boxes.own (need_of topology Own) own

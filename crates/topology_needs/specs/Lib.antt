@@ -1,4 +1,3 @@
 pub mod Needs
 pub mod Unbuilt
-pub mod Built
 pub mod Samples

@@ -8,7 +8,7 @@ use Rattle.pipe_types.specs.declared.topology.Role.TheVariants.{Producer, Proces
 use Rattle.pipe_types.specs.declared.topology.Kind.{Kind}
 use Rattle.pipe_types.specs.declared.topology.Kind.TheVariants.{Steps, Lines, Own}
 use Rattle.pipe_types.specs.Stages.{spec_feeds}
-use Rattle.stage_job.specs.Boxes.{same_kind}
+use Rattle.stage_job.specs.Boxes.{same_kind, boxes_of_kind}
 use Rattle.topology_needs.specs.declared.stock.Boxes.{Boxes}
 use Rattle.topology_needs.specs.declared.stock.Shortage.{Shortage}
 
@@ -36,6 +36,10 @@ abbrev pub boxes_of : Boxes → Kind → ℕ
 boxes_of boxes Steps = boxes.steps
 boxes_of boxes Lines = boxes.lines
 boxes_of boxes Own = boxes.own
+
+-- the boxes of a stock with these kinds
+abbrev pub boxes_in : List Kind → Boxes
+boxes_in kinds = record { steps = boxes_of_kind Steps kinds; lines = boxes_of_kind Lines kinds; own = boxes_of_kind Own kinds }
 
 -- fewer boxes of this kind than posts that need one
 abbrev pub is_short : Topology → Boxes → Kind → Bool

@@ -1,28 +1,26 @@
-//! Laws of what is built, without code.
+//! Laws of what is built and of what is enough, without code.
 
-ghost use Rattle.std.specs.Prelude.{◌≡◌, None};
-ghost use Rattle.pipe_types.specs.Sound.{IsSound};
-ghost use Rattle.core_flow.specs.OneEach.{IsOneEach};
+ghost use Rattle.std.specs.Prelude.{◌≡◌, ◌≤◌, None, IsTrue};
 ghost use Rattle.config_flow.specs.Flow.{flow_topology_of};
-ghost use Rattle.topology_needs.specs.Needs.{need_of};
-ghost use Rattle.topology_needs.specs.Unbuilt.{unbuilt_of};
-ghost use Rattle.topology_needs.specs.Built.{IsBuilt};
+ghost use Rattle.topology_needs.specs.Needs.{need_of, boxes_of, shortage_of};
+ghost use Rattle.topology_needs.specs.Unbuilt.{is_calm, unbuilt_of};
 
+use crate::stock::Boxes;
 use pipe_types::topology::{Kind, Topology};
 
-/// A sound topology of which nothing is unbuilt has one pull producer with a source and one processor, whose callback
-/// is built in and never crashes.
-pub fn is_built(topology: &Topology, workers: u16)
-    requires sound { IsSound topology.now }
-    requires built { unbuilt_of workers topology.now ≡ None }
-    ensures { IsBuilt topology.now }
+/// Where nothing is unbuilt there is at most one worker and no control source, and each callback is built in and has no
+/// rule that is a crash.
+pub fn nothing_is_unbuilt(topology: &Topology, workers: u16)
+    requires { unbuilt_of workers topology.now ≡ None }
+    ensures workers { workers ≤ 1 }
+    ensures control { topology.now.control ≡ None }
+    ensures calm { IsTrue (is_calm topology.now) }
 {}
 
-/// So it is of the form that the core of one producer and one processor takes.
-pub fn built_is_one_each(topology: &Topology, workers: u16)
-    requires sound { IsSound topology.now }
-    requires built { unbuilt_of workers topology.now ≡ None }
-    ensures { IsOneEach topology.now }
+/// Where no kind is short there are at least as many boxes of each as posts that need one.
+pub fn nothing_is_short(topology: &Topology, boxes: &Boxes, kind: Kind)
+    requires { shortage_of topology.now boxes.now ≡ None }
+    ensures { need_of topology.now kind ≤ boxes_of boxes.now kind }
 {}
 
 /// Of the topology of `flow` nothing is unbuilt on one worker. It needs one box, of the kind of steps.

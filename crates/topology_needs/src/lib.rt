@@ -1,9 +1,9 @@
 //! What a topology needs before it can run.
 //!
-//! `need` counts the posts that have a callback of a kind, and `shortage` names the first kind of which a stock has
-//! too few boxes. `first_unbuilt` names the first form in the topology for which no pipeline is built yet; where there
-//! is none, the law `is_built` says that the topology is one pull producer and one processor that never crashes.
-//! `subscriptions` counts the subscriptions with which the pipeline begins.
+//! `posts` and `need` count the posts that have a callback, of a stage and of a kind, and `shortage` names the first kind
+//! of which a stock has too few boxes. `first_unbuilt` names the first form in the topology for which no pipeline is
+//! built yet; where there is none, the law `nothing_is_unbuilt` says that there is one worker at most and no control
+//! source, and that no callback crashes. `subscriptions` counts the subscriptions with which the pipeline begins.
 #![tactic(auto)]
 
 mod feeding;
@@ -15,6 +15,6 @@ mod tests;
 mod unbuilt;
 
 pub use feeding::subscriptions;
-pub use needs::{need, shortage};
+pub use needs::{need, posts, shortage};
 pub use stock::{Boxes, Shortage};
 pub use unbuilt::{Unbuilt, first_unbuilt};

@@ -8,8 +8,19 @@ ghost use Rattle.topology_needs.specs.Needs.{need_of, posts_of, of_kind, boxes_o
 use crate::stock::{Boxes, Shortage};
 use pipe_types::topology::{Kind, Role, StageSpec, Topology};
 
-/// How many posts of the topology have a callback of this kind: one for each processor and each batch processor, and
-/// `max` for a supervisor. It is at most 1,024.
+/// How many posts of the stage have a callback: one of a processor or a batch processor, `max` of a supervisor, and none
+/// of another stage.
+pub fn posts(stage: &StageSpec) -> usize
+    ensures { result ≡ posts_of stage.now }
+{
+    match stage.role {
+        Role::Producer | Role::Batcher => 0,
+        Role::Processor | Role::BatchProcessor => 1,
+        Role::Supervisor => stage.max as usize,
+    }
+}
+
+/// How many posts of the topology have a callback of this kind. It is at most 1,024.
 pub fn need(topology: &Topology, kind: Kind) -> usize
     requires sound { IsSound topology.now }
     ensures { result ≡ need_of topology.now kind }
@@ -37,11 +48,11 @@ fn lack(topology: &Topology, boxes: &Boxes, kind: Kind) -> Option<Shortage>
     ensures { result ≡ (if is_short topology.now boxes.now kind then Some (need_and_have topology.now boxes.now kind) else None) }
 {
     let need = need(topology, kind);
-    let have = boxes_in(boxes, kind);
+    let have = boxes_with(boxes, kind);
     (have < need).then_some(Shortage { kind, need, have })
 }
 
-fn boxes_in(boxes: &Boxes, kind: Kind) -> usize
+fn boxes_with(boxes: &Boxes, kind: Kind) -> usize
     ensures { result ≡ boxes_of boxes.now kind }
 {
     match kind {
@@ -60,16 +71,6 @@ fn posts_of_kind(stages: &[StageSpec], kind: Kind) -> usize
         .filter(|stage| is_same(kind, stage.kind))
         .map(posts)
         .sum()
-}
-
-fn posts(stage: &StageSpec) -> usize
-    ensures { result ≡ posts_of stage.now }
-{
-    match stage.role {
-        Role::Producer | Role::Batcher => 0,
-        Role::Processor | Role::BatchProcessor => 1,
-        Role::Supervisor => stage.max as usize,
-    }
 }
 
 fn is_same(wanted: Kind, found: Kind) -> bool

@@ -243,46 +243,27 @@ fn what_topologies_need(rt: HostRuntime) -> Result<(), Fail> {
 }
 
 /// The forms in their order, with their words.
-const ORDER: [(Unbuilt, &str); 9] = [
+const ORDER: [(Unbuilt, &str); 3] = [
     (Unbuilt::Workers, "workers"),
-    (Unbuilt::Supervisor, "supervisor"),
     (Unbuilt::Control, "control"),
     (Unbuilt::Crash, "crash"),
-    (Unbuilt::Broadcast, "broadcast"),
-    (Unbuilt::Partition, "partition"),
-    (Unbuilt::Batcher, "batcher"),
-    (Unbuilt::Push, "push"),
-    (Unbuilt::Many, "many"),
 ];
 
-/// A topology, not always a sound one, of each form from this place of the order on.
+/// A topology, not a sound one, of many forms that are built, and of each that is not from this place of the order on.
 fn forms_from(alloc: Global, place: usize) -> Result<Topology, AllocError> {
     let mut p = source(alloc, 1, "p", 0)?;
-    p.push = place <= 7;
-    let mut processor = worker(alloc, 2, "processors.0", Role::Processor, 0, Kind::Steps)?;
-    if place <= 3 {
+    p.push = true;
+    let q = source(alloc, 2, "q", 1)?;
+    let mut processor = router(alloc, 3, "processors.0", 0)?;
+    if place <= 2 {
         processor.rules = RuleList::from_vec(vec![in alloc; Rule::Crash(bytes(alloc, b"!")?)]?);
     }
-    let mut stages = vec![in alloc; p, processor]?;
-    if place <= 8 {
-        stages.push(source(alloc, 1, "q", 1)?)?;
-    }
-    if place <= 6 {
-        stages.push(gatherer(alloc, 3, "b", 0)?)?;
-    }
-    if place <= 5 {
-        stages.push(gatherer(alloc, 4, "c", 1)?)?;
-    }
-    if place <= 4 {
-        let mut copies = gatherer(alloc, 5, "d", 2)?;
-        copies.dispatch = Dispatch::Broadcast;
-        stages.push(copies)?;
-    }
+    let mut copies = gatherer(alloc, 4, "b", 0)?;
+    copies.dispatch = Dispatch::Broadcast;
+    let other = gatherer(alloc, 5, "c", 1)?;
+    let supervisor = worker(alloc, 6, "supervisor", Role::Supervisor, 0, Kind::Steps)?;
+    let mut whole = topology(vec![in alloc; p, q, processor, copies, other, supervisor]?);
     if place <= 1 {
-        stages.push(worker(alloc, 6, "supervisor", Role::Supervisor, 0, Kind::Steps)?)?;
-    }
-    let mut whole = topology(stages);
-    if place <= 2 {
         whole.control = Some(text(alloc, "mem:c")?);
     }
     Ok(whole)
@@ -297,14 +278,23 @@ fn the_first_form_that_is_not_built(rt: HostRuntime) -> Result<(), Fail> {
         assert_eq!(rt; first_unbuilt(&topology, workers), Some(*unbuilt), "{word}");
         assert!(rt; unbuilt.word() == *word, "{word}");
     }
-    assert_eq!(rt; first_unbuilt(&forms_from(alloc, 9)?, 1), None);
     assert_eq!(rt;
         first_unbuilt(&one_stage(alloc, Kind::Own)?, 1),
         Some(Unbuilt::Crash)
     );
+    Ok(())
+}
+
+#[test]
+fn the_forms_that_are_built(rt: HostRuntime) -> Result<(), Fail> {
+    let alloc = rt.alloc();
+    assert_eq!(rt; first_unbuilt(&forms_from(alloc, 3)?, 1), None);
+    assert_eq!(rt; first_unbuilt(&one_stage(alloc, Kind::Steps)?, 1), None);
+    assert_eq!(rt; first_unbuilt(&supervised(alloc)?, 1), None);
+    assert_eq!(rt; first_unbuilt(&hot_and_cold(alloc)?, 1), None);
     assert_eq!(rt;
-        first_unbuilt(&hot_and_cold(alloc)?, 1),
-        Some(Unbuilt::Partition)
+        first_unbuilt(&hot_and_cold(alloc)?, 2),
+        Some(Unbuilt::Workers)
     );
     Ok(())
 }

@@ -1,5 +1,10 @@
 //! A call of the program over objects in memory, and what it came to.
 
+ghost use Rattle.std.specs.Prelude.{◌≡◌, IfOk};
+ghost use Rattle.mem_edges.specs.MemSource.{IsUnread};
+ghost use Rattle.mem_edges.specs.MemSink.{IsUnwritten};
+
+use body_jobs::Body;
 use mem_edges::{
     CallList, MemClock, MemEdges, MemSink, MemSource, SinkAct, SinkScript, SourceAct, SourceScript,
 };
@@ -7,9 +12,14 @@ use pipe_edges::Edges;
 use pipe_journal::Journal;
 use pipe_top::run_program;
 use pipe_types::bytes::{Bytes, Text};
+use pipe_types::topology::Kind;
 use stage_callback::{Callback, LinesBox, StepsBox};
 use std::alloc::{AllocError, Global};
 use std::process::Abort;
+use std::sync::Wait;
+
+/// The beginning of a topology file, with one producer.
+pub(super) const PRODUCER: &str = "version = 1\n[[producer]]\nname = \"p\"\nsource = \"mem:a\"\n";
 
 /// The topology file "one stage".
 pub(super) const ONE_STAGE: &str =
@@ -19,10 +29,10 @@ pub(super) const ONE_STAGE: &str =
 const STOCK: usize = 64;
 
 /// Room for every text that a call here writes.
-const ROOM: usize = 10_000;
+const ROOM: usize = 100_000;
 
-/// What a call is given. The words are parted by single spaces. The topology file stands under `t`, and `source` is the
-/// name under which the lines stand.
+/// What a call is given. The words are parted by single spaces. The topology file stands under `t`, and lines under the
+/// name `source`.
 #[derive(Clone, Copy)]
 pub(super) struct Given<'a> {
     pub(super) words: &'a str,
@@ -30,14 +40,18 @@ pub(super) struct Given<'a> {
     pub(super) source: &'a str,
     pub(super) lines: &'a str,
     pub(super) acts: &'a [SourceAct],
+    /// By how many milliseconds the clock goes on at each pause.
+    pub(super) nap: u64,
+    /// The numbers of the calls, from 1, that read or open something and fail.
+    pub(super) fails: &'a [u64],
     pub(super) steps_boxes: usize,
     pub(super) lines_boxes: usize,
     pub(super) out_acts: &'a [SinkAct],
     pub(super) err_acts: &'a [SinkAct],
 }
 
-/// What a call came to: `ran` says whether the answer has a topology, and `free` whether the source can be opened
-/// again.
+/// What a call came to: `ran` says whether the answer has a topology, `free` whether the source can be opened again, and
+/// `same_stock` whether the boxes came back in their order.
 #[derive(Drop)]
 pub(super) struct Came {
     pub(super) status: u8,
@@ -47,9 +61,11 @@ pub(super) struct Came {
     pub(super) steps: u64,
     pub(super) accepted: usize,
     free: bool,
+    same_stock: bool,
 }
 
-/// A call with these words, this topology file and these lines, the program's stock, and outputs that take all.
+/// A call with these words, this topology file and these lines, the program's stock, a clock that stays at 0, and sinks
+/// and outputs that take all.
 pub(super) fn on<'a>(words: &'a str, file: &'a str, lines: &'a str) -> Given<'a> {
     Given {
         words,
@@ -57,6 +73,8 @@ pub(super) fn on<'a>(words: &'a str, file: &'a str, lines: &'a str) -> Given<'a>
         source: "mem:a",
         lines,
         acts: &[],
+        nap: 0,
+        fails: &[],
         steps_boxes: STOCK,
         lines_boxes: STOCK,
         out_acts: &[],
@@ -64,39 +82,47 @@ pub(super) fn on<'a>(words: &'a str, file: &'a str, lines: &'a str) -> Given<'a>
     }
 }
 
-/// Calls the program, and wants this status and these outputs, and that the source is closed again.
+/// Calls the program, and wants this status and these outputs, and that all sources and sinks are closed again.
 pub(super) fn expect(
-    rt: &impl Abort,
+    rt: &(impl Abort + Wait),
     alloc: Global,
     given: Given<'_>,
     status: u8,
     out: &str,
     err: &str,
 ) -> Result<Came, AllocError> {
-    let came = call(alloc, given)?;
+    let came = call(rt, alloc, given)?;
     let (words, file) = (given.words, given.file);
     let (told, said) = (shown(&came.out), shown(&came.err));
     assert!(rt; said == err, "{words}: {file}: {said}");
     assert!(rt; told == out, "{words}: {file}: {told}");
     assert_eq!(rt; came.status, status, "{words}: {file}");
     assert!(rt; came.free, "{words}: {file}");
+    assert!(rt; came.same_stock, "{words}: {file}");
     Ok(came)
 }
 
 /// Calls the program.
-pub(super) fn call(alloc: Global, given: Given<'_>) -> Result<Came, AllocError> {
+pub(super) fn call<R: Wait>(rt: &R, alloc: Global, given: Given<'_>) -> Result<Came, AllocError> {
     let mut edges = edges_of(alloc, given)?;
-    let name = text_of(alloc, given.source)?;
+    let source = text_of(alloc, given.source)?;
     let words = words_of(alloc, given.words)?;
     let stock = stock_of(alloc, given.steps_boxes, given.lines_boxes)?;
     let mut out = sink_of(alloc, given.out_acts)?;
     let mut err = sink_of(alloc, given.err_acts)?;
-    let end = run_program(
+    let end = run_program::<
+        R,
+        MemEdges,
+        Box<dyn Callback + Send>,
+        Body<MemSource, MemSink>,
+        MemClock,
+    >(
+        rt,
         alloc,
         &words,
         stock,
         &mut edges,
-        clock(),
+        clock(given.nap),
         &mut out,
         &mut err,
     );
@@ -107,7 +133,8 @@ pub(super) fn call(alloc: Global, given: Given<'_>) -> Result<Came, AllocError> 
         ran: end.topology.is_some(),
         steps: end.journal.len(),
         accepted: accepted_in(&end.journal),
-        free: edges.open_source(&name).is_ok(),
+        free: edges.open_source(&source).is_ok(),
+        same_stock: is_stock(&end.stock, given.steps_boxes, given.lines_boxes),
     })
 }
 
@@ -143,7 +170,9 @@ pub(super) fn copies(alloc: Global, text: &str, count: usize) -> Result<String, 
     Ok(all)
 }
 
-fn text_of(alloc: Global, text: &str) -> Result<Text, AllocError> {
+fn text_of(alloc: Global, text: &str) -> Result<Text, AllocError>
+    ensures { IfOk result (λ t. t ≡ text.now) }
+{
     Ok(Text::from_string(String::from_str(alloc, text)?))
 }
 
@@ -163,15 +192,24 @@ fn words_of(alloc: Global, text: &str) -> Result<Vec<String>, AllocError> {
 }
 
 fn edges_of(alloc: Global, given: Given<'_>) -> Result<MemEdges, AllocError> {
-    let mut edges = MemEdges::new(alloc, CallList::from_vec(Vec::new(alloc)));
+    let fails = CallList::from_vec(Vec::from_slice(alloc, given.fails)?);
+    let mut edges = MemEdges::new(alloc, fails);
     edges.add_file(text_of(alloc, "t")?, bytes_of(alloc, given.file)?)?;
-    let script = SourceScript::from_vec(Vec::from_slice(alloc, given.acts)?);
-    let source = MemSource::new(bytes_of(alloc, given.lines)?, script);
+    let source = source_of(alloc, given.lines, given.acts)?;
     edges.add_source(text_of(alloc, given.source)?, source)?;
     Ok(edges)
 }
 
-fn sink_of(alloc: Global, acts: &[SinkAct]) -> Result<MemSink, AllocError> {
+fn source_of(alloc: Global, lines: &str, acts: &[SourceAct]) -> Result<MemSource, AllocError>
+    ensures { IfOk result IsUnread }
+{
+    let script = SourceScript::from_vec(Vec::from_slice(alloc, acts)?);
+    Ok(MemSource::new(bytes_of(alloc, lines)?, script))
+}
+
+fn sink_of(alloc: Global, acts: &[SinkAct]) -> Result<MemSink, AllocError>
+    ensures { IfOk result IsUnwritten }
+{
     let script = SinkScript::from_vec(Vec::from_slice(alloc, acts)?);
     MemSink::new(alloc, Bytes::from_vec(Vec::new(alloc)), ROOM, script)
 }
@@ -191,12 +229,21 @@ fn stock_of(
     Ok(stock)
 }
 
-// A clock that stays at 0.
-fn clock() -> MemClock {
+fn is_stock(stock: &Vec<Box<dyn Callback + Send>>, steps: usize, lines: usize) -> bool {
+    for (at, callback) in stock.iter().enumerate() {
+        if matches!(callback.kind(), Kind::Lines) != (at < lines) {
+            return false;
+        }
+    }
+    stock.len() == steps.saturating_add(lines)
+}
+
+// A clock that stays, from 0, but for its pauses.
+fn clock(nap: u64) -> MemClock {
     MemClock {
         at: 0,
         step: 0,
-        nap: 0,
+        nap,
         latest: 0,
         readings: 0,
     }

@@ -166,7 +166,7 @@ fn what_is_not_there_is_named(rt: HostRuntime) -> Result<(), Fail> {
         ("run t", "mem:b", "edge mem:a\n"),
         ("run t --acks --steps", "mem:b", "edge mem:a\n"),
         ("run t", "t", "edge mem:a\n"),
-        ("flow mem:b a", "mem:a", "edge mem:b\n"),
+        ("flow mem:z a", "mem:a", "edge mem:z\n"),
         ("flow t a", "mem:a", "edge t\n"),
     ] {
         let given = Given {

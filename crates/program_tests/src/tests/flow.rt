@@ -55,41 +55,42 @@ fn flow_reads_each_line_and_reports(rt: HostRuntime) -> Result<(), Fail> {
 }
 
 #[test]
-fn long_lines_and_many_lines_meet_their_limits(rt: HostRuntime) -> Result<(), Fail> {
+fn a_line_has_a_longest_length(rt: HostRuntime) -> Result<(), Fail> {
     let alloc = rt.alloc();
-    for (length, tail, count, status, out) in [
+    for (length, tail, status, out) in [
         (
             65_536,
             "\n",
-            1,
             0,
             "accepted 1\nsuccessful 1\nfailed 0\nlost 0\nrestarts 0\nrefused 0\nend sources\n",
         ),
         (
             65_537,
             "",
-            1,
             4,
             "accepted 0\nsuccessful 0\nfailed 0\nlost 0\nrestarts 0\nrefused 0\nsource source toolong\nend sources\n",
         ),
-        (
-            1,
-            "\n",
-            200_001,
-            0,
-            "accepted 200000\nsuccessful 200000\nfailed 0\nlost 0\nrestarts 0\nrefused 0\nend limit\n",
-        ),
     ] {
         let line = joined(alloc, copies(alloc, "a", length)?.as_str(), tail)?;
-        let lines = copies(alloc, line.as_str(), count)?;
-        expect(
-            &rt,
-            alloc,
-            on("flow mem:a a", "", lines.as_str()),
-            status,
-            out,
-            "",
-        )?;
+        let given = on("flow mem:a a", "", line.as_str());
+        expect(&rt, alloc, given, status, out, "")?;
     }
+    Ok(())
+}
+
+#[test]
+fn many_lines_are_read_piece_by_piece(rt: HostRuntime) -> Result<(), Fail> {
+    let alloc = rt.alloc();
+    let lines = copies(alloc, "aa\na\n\nb\n", 1_000)?;
+    let out =
+        "accepted 4000\nsuccessful 2000\nfailed 2000\nlost 0\nreason require 2000\nrestarts 0\nrefused 0\nend sources\n";
+    expect(
+        &rt,
+        alloc,
+        on("flow mem:a a", "", lines.as_str()),
+        1,
+        out,
+        "",
+    )?;
     Ok(())
 }

@@ -55,7 +55,7 @@ static WORDS: [(&str, u8, &str); 42] = [
 fn words_have_their_status(rt: HostRuntime) -> Result<(), Fail> {
     let alloc = rt.alloc();
     for &(words, status, line) in &WORDS {
-        let came = call(alloc, on(words, ONE_STAGE, "a\n"))?;
+        let came = call(&rt, alloc, on(words, ONE_STAGE, "a\n"))?;
         let (told, said) = (shown(&came.out), shown(&came.err));
         assert_eq!(rt; came.status, status, "{words}: {said}");
         assert!(rt; said == line, "{words}: {said}");

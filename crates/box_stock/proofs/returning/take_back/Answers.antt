@@ -51,4 +51,5 @@ loop-done-preserved g c =
       held = λ k at below lent.
           c.come_back-callback.ensures.others at (λ is. let e : k ≡ length rest = c.requires.there.apart k (length rest) at lent (here ∙ ap Some is) in omega (arith, below, e))
           ∙ x.held k at (omega (arith, below, count)) lent;
+      rest = λ s. c.come_back-callback.ensures.rest s ∙ x.rest s;
     }

@@ -1,9 +1,9 @@
 use Rattle.std.proofs.Common.{None, refl, inr}
-use Rattle.pipe_top.proofs.Sources.{unrun}
+use Rattle.pipe_top.proofs.Openings.{unrun}
 use Rattle.pipe_top.proofs.file.checked.Goals as goal
 
-pub returns-in-Ok : goal.returns-in-Ok
-returns-in-Ok c = inr (record {
+pub returns-in-Ok-clause-checked : goal.returns-in-Ok-clause-checked
+returns-in-Ok-clause-checked g c = inr (record {
   texts = record {
     steps = None;
     acks = None;

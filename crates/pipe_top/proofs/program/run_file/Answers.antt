@@ -2,24 +2,19 @@ use Rattle.std.proofs.Common.{refl}
 use Rattle.pipe_top.proofs.Reading.{run_came, run_unread}
 use Rattle.pipe_top.proofs.program.run_file.Goals as goal
 
-pub returns-in-Ok-clause-came : goal.returns-in-Ok-clause-came
-returns-in-Ok-clause-came g c =
-    let e = g.E.Edges in
-    let s = g.E.Source.ByteSource in
-    let r = c.run_topology in
-    run_came e.told e.named e.asked e.faults e.sources_back e.sinks_back s.told s.taken s.left s.faults s.waits c.args.edges.now c.read_named.new.edges r.new.edges _ c.args.words.topology.now
-    c.args.words.workers c.args.words.acks c.args.words.steps c.in-Ok.topology r.result.topology r.result.journal.steps r.result.verdict c.in-Ok.ensures r.ensures.comes
+pub returns-in-Ok : goal.returns-in-Ok
+returns-in-Ok g c =
+    let r = c.run_or_refuse in
+    let w = c.args.words in
+    record {
+      came = run_came _ _ _ _ w.topology.now w.workers w.acks w.steps c.in-Ok.topology r.result.topology r.result.journal.steps r.result.verdict c.in-Ok.ensures r.ensures.comes;
+    }
 
-pub returns-in-Err-clause-came : goal.returns-in-Err-clause-came
-returns-in-Err-clause-came g c =
-    let e = g.E.Edges in
-    let s = g.E.Source.ByteSource in
+pub returns-in-Err : goal.returns-in-Err
+returns-in-Err g c =
     let r = c.refused in
-    run_unread e.told e.named e.asked e.faults e.sources_back e.sinks_back s.told s.taken s.left s.faults s.waits c.args.edges.now c.read_named.new.edges _ c.args.words.topology.now
-    c.args.words.workers c.args.words.acks c.args.words.steps c.in-Err.refusal r.result.topology r.result.journal.steps r.result.verdict c.in-Err.ensures r.ensures.verdict r.ensures.no_run
-
-pub returns-in-Ok-clause-used : goal.returns-in-Ok-clause-used
-returns-in-Ok-clause-used g c = c.run_topology.ensures.used
-
-pub returns-in-Err-clause-used : goal.returns-in-Err-clause-used
-returns-in-Err-clause-used g c = rw c.refused.ensures.no_run.0 refl
+    let w = c.args.words in
+    record {
+      came = run_unread _ _ _ w.topology.now w.workers w.acks w.steps c.in-Err.refusal r.result.topology r.result.journal.steps r.result.verdict c.in-Err.ensures r.ensures.verdict r.ensures.no_run
+          refl (rw r.ensures.same_boxes refl);
+    }

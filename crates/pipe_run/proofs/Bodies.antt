@@ -1,0 +1,251 @@
+-- What the bodies hold of what their stages opened by name.
+use Rattle.std.proofs.Common.{◌≡◌, ◌≢◌, ℕ, ◌<◌, ◌≤◌, ◌++◌, List, [], length, Bool, true, false, arith, refl, ap, sym, ◌∙◌, subst, inl, inr, Option, Some, None}
+use Rattle.std.specs.Prelude.{IsTrue, IsSome, ◌⊎◌, ◌==◌, option_map}
+use Rattle.std.proofs.lemmas.Bool.{ne_eqb}
+use Rattle.pipe_types.specs.Numbers.{stage, post, same_stage}
+use Rattle.pipe_types.specs.Sound.{IsSound}
+use Rattle.pipe_types.specs.Stages.{spec_of}
+use Rattle.pipe_types.specs.declared.numbers.StageNo.{StageNo}
+use Rattle.pipe_types.specs.declared.numbers.Post.{Post}
+use Rattle.pipe_types.specs.declared.topology.Role.{Role}
+use Rattle.pipe_types.specs.declared.topology.Role.TheVariants.{Producer, Processor, Supervisor, Batcher, BatchProcessor}
+use Rattle.pipe_types.specs.declared.topology.StageSpec.{StageSpec}
+use Rattle.pipe_types.specs.declared.topology.Topology.{Topology}
+use Rattle.pipe_model.specs.History.{History}
+use Rattle.pipe_model.specs.Legal.{is_legal, has_role, is_producer_role, is_batch_processor_role}
+use Rattle.pipe_model.specs.Moves.{jobs_out}
+use Rattle.pipe_model.specs.Posts.{is_out}
+use Rattle.pipe_laws.proofs.Tests.{clash}
+use Rattle.stage_laws.proofs.Numbering.{numbered_topology}
+use Rattle.move_laws.proofs.Still.{slot_none}
+use Rattle.pipe_edges.specs.declared.edges.EdgeKind.{EdgeKind}
+use Rattle.pipe_edges.specs.declared.edges.EdgeKind.TheVariants.{Source, Sink}
+use Rattle.stage_bodies.specs.Seen.{SourceSeen, SinkSeen, LineSeen, BodySeen}
+use Rattle.stage_bodies.specs.Jobs.{Both}
+use Rattle.stage_bodies.specs.Posts.{place_at}
+use Rattle.body_laws.specs.Keeps.{Keeps, KeepsPost, KeepsPartly, KeepsSource, KeepsSink, has_slot, has_post}
+use Rattle.body_laws.specs.Ready.{There}
+use Rattle.body_laws.proofs.Posts.{first_post, producer_post}
+use Rattle.edge_names.specs.Seen.{EdgesSeen}
+use Rattle.edge_names.specs.Named.{GivesSink}
+use Rattle.edge_names.specs.Opened.{AreHome, AreOpened, GivesLines, IsOpened, call_by, call_in, edge_call}
+use Rattle.edge_names.specs.Returned.{source_in, sink_in}
+use Rattle.edge_names.proofs.Openings.{opened_stage, given_source, given_sink}
+use Rattle.pipe_run.specs.Outside.{AreUsed, IsSourceRead, IsSinkWritten, IsSinkWrittenBy}
+use Rattle.pipe_run.proofs.Sources.{source_read}
+use Rattle.pipe_run.proofs.Sinks.{sink_written}
+
+-- ---- the stage of a call
+
+record IsCallOf (topology : Topology) (s : StageNo) (kind : EdgeKind) (name : List ℕ) : Type 0 where
+  pub spec : StageSpec
+  pub found : spec_of topology s ≡ Some spec
+  pub call : edge_call spec ≡ Some (kind, name)
+
+call_of : (topology : Topology) (s : StageNo) (kind : EdgeKind) (name : List ℕ) → call_in (spec_of topology s) ≡ Some (kind, name) → IsCallOf topology s kind name
+call_of topology s kind name e = by (spec_of topology s) refl e
+  where
+    by : (o : Option StageSpec) → spec_of topology s ≡ o → call_in o ≡ Some (kind, name) → IsCallOf topology s kind name
+    by None is e = cc
+    by (Some spec) is e = record { spec = spec; found = is; call = e }
+
+abbrev kind_in : Option (EdgeKind × List ℕ) → EdgeKind
+kind_in (Some call) = call.0
+kind_in None = Source
+
+source_role : (r : Role) (edge : Option (List ℕ)) (name : List ℕ) → call_by r edge ≡ Some (Source, name) → is_producer_role r ≡ true
+source_role Producer edge name e = refl
+source_role Processor (Some x) name e = cc
+source_role Processor None name e = cc
+source_role Supervisor (Some x) name e = cc
+source_role Supervisor None name e = cc
+source_role Batcher (Some x) name e = cc
+source_role Batcher None name e = cc
+source_role BatchProcessor (Some x) name e = let kind : Sink ≡ Source = ap kind_in e in cc
+source_role BatchProcessor None name e = cc
+
+sink_role : (r : Role) (edge : Option (List ℕ)) (name : List ℕ) → call_by r edge ≡ Some (Sink, name) → is_batch_processor_role r ≡ true
+sink_role BatchProcessor edge name e = refl
+sink_role Processor (Some x) name e = cc
+sink_role Processor None name e = cc
+sink_role Supervisor (Some x) name e = cc
+sink_role Supervisor None name e = cc
+sink_role Batcher (Some x) name e = cc
+sink_role Batcher None name e = cc
+sink_role Producer (Some x) name e = let kind : Source ≡ Sink = ap kind_in e in cc
+sink_role Producer None name e = cc
+
+batch_post : (r : Role) (max : ℕ) → is_batch_processor_role r ≡ true → has_slot r max 0 ≡ true
+batch_post BatchProcessor max h = refl
+batch_post Producer max h = refl
+batch_post Processor max h = refl
+batch_post Supervisor max h = let x : false ≡ true = h in cc
+batch_post Batcher max h = let x : false ≡ true = h in cc
+
+role_at : (topology : Topology) (s : StageNo) (spec : StageSpec) (test : Role → Bool) → spec_of topology s ≡ Some spec → test spec.role ≡ true → has_role topology s test ≡ true
+role_at topology s spec test found is =
+    let same : has_role topology s test ≡ test spec.role = rw found refl in
+    same ∙ is
+
+-- ---- what is opened
+
+some_from : (P : BodySeen → Type 0) (o : Option BodySeen) → There o P → IsSome o
+some_from P (Some x) h = refl
+some_from P None h = absurd h
+
+there_at : {A : Type 0} (P : A → Type 0) (o : Option A) (x : A) → o ≡ Some x → P x → There o P
+there_at P o x e h = subst (λ z. There z P) (sym e) h
+
+record IsSourceOpened (edges : EdgesSeen) (name : List ℕ) (body : Option BodySeen) : Type 0 where
+  pub lines : LineSeen
+  pub has : There body (λ b. b.source ≡ Some lines)
+  pub gives : GivesLines edges name lines
+
+source_opened : (edges : EdgesSeen) (name : List ℕ) (x y : Option BodySeen) → IsSome x → Both (IsOpened edges (Some (Source, name))) x y → IsSourceOpened edges name y
+source_opened edges name (Some a) (Some b) some h =
+    let g = given_source edges name a.source b.source h.source in
+    record { lines = g.0; has = g.1; gives = g.2 }
+source_opened edges name (Some a) None some h = absurd h
+source_opened edges name None y some h = let x : false ≡ true = some in cc
+
+record IsSinkOpened (edges : EdgesSeen) (name : List ℕ) (body : Option BodySeen) : Type 0 where
+  pub sink : SinkSeen
+  pub has : There body (λ b. b.sink ≡ Some sink)
+  pub gives : GivesSink edges name sink
+
+sink_opened : (edges : EdgesSeen) (name : List ℕ) (x y : Option BodySeen) → IsSome x → Both (IsOpened edges (Some (Sink, name))) x y → IsSinkOpened edges name y
+sink_opened edges name (Some a) (Some b) some h =
+    let g = given_sink edges name a.sink b.sink h.sink in
+    record { sink = g.0; has = g.1; gives = g.2 }
+sink_opened edges name (Some a) None some h = absurd h
+sink_opened edges name None y some h = let x : false ≡ true = some in cc
+
+-- ---- what became of it
+
+record IsSourceKept (before : History) (s : StageNo) (out : Bool) (opened : LineSeen) (body : Option BodySeen) : Type 0 where
+  pub now : LineSeen
+  pub is : source_in body ≡ Some now.source
+  pub lost : List (List ℕ)
+  pub in_fetch : (lost ≡ []) ⊎ (out ≡ true)
+  pub keeps : KeepsSource before s lost opened now
+
+source_whole : (before : History) (s : StageNo) (out : Bool) (lines : LineSeen) (c : BodySeen) (x y : Option LineSeen) → x ≡ Some lines → c.source ≡ y → Both (KeepsSource before s []) x y → IsSourceKept before s out lines (Some c)
+source_whole before s out lines c (Some a) (Some now) e is h = record {
+  now = now;
+  is = ap (option_map (λ (l : LineSeen). l.source)) is;
+  lost = [];
+  in_fetch = inl refl;
+  keeps = let same : a ≡ lines = cc in subst (λ z. KeepsSource before s [] z now) same h;
+}
+source_whole before s out lines c (Some a) None e is h = absurd h
+source_whole before s out lines c None y e is h = cc
+
+source_partly : (before : History) (s : StageNo) (lines : LineSeen) (c : BodySeen) (x y : Option LineSeen) → x ≡ Some lines → c.source ≡ y
+    → Both (λ old new. (lost : List (List ℕ)) × KeepsSource before s lost old new) x y → IsSourceKept before s true lines (Some c)
+source_partly before s lines c (Some a) (Some now) e is h = record {
+  now = now;
+  is = ap (option_map (λ (l : LineSeen). l.source)) is;
+  lost = h.0;
+  in_fetch = inr refl;
+  keeps = let same : a ≡ lines = cc in subst (λ z. KeepsSource before s h.0 z now) same h.1;
+}
+source_partly before s lines c (Some a) None e is h = absurd h
+source_partly before s lines c None y e is h = cc
+
+source_kept : (topology : Topology) (before : History) (p : Post) (out : Bool) (lines : LineSeen) (o n : Option BodySeen) → There o (λ b. b.source ≡ Some lines) → IsSome n → KeepsPost topology before p out o n → IsSourceKept before p.stage out lines n
+source_kept topology before p false lines (Some b) (Some c) has some k = source_whole before p.stage false lines c b.source c.source has refl k.source
+source_kept topology before p true lines (Some b) (Some c) has some (inl none) = cc
+source_kept topology before p true lines (Some b) (Some c) has some (inr k) = source_partly before p.stage lines c b.source c.source has refl k.source
+source_kept topology before p out lines (Some b) None has some k = let x : false ≡ true = some in cc
+source_kept topology before p out lines None n has some k = absurd has
+
+record IsSinkKept (topology : Topology) (before : History) (s : StageNo) (out : Bool) (opened : SinkSeen) (body : Option BodySeen) : Type 0 where
+  pub now : SinkSeen
+  pub is : sink_in body ≡ Some now
+  pub more : List ℕ
+  pub all : out ≡ false → more ≡ []
+  pub keeps : KeepsSink topology before s more opened now
+
+sink_whole : (topology : Topology) (before : History) (s : StageNo) (out : Bool) (sink : SinkSeen) (c : BodySeen) (x y : Option SinkSeen) → x ≡ Some sink → c.sink ≡ y → Both (KeepsSink topology before s []) x y
+    → IsSinkKept topology before s out sink (Some c)
+sink_whole topology before s out sink c (Some a) (Some now) e is h = record {
+  now = now;
+  is = is;
+  more = [];
+  all = λ home. refl;
+  keeps = let same : a ≡ sink = cc in subst (λ z. KeepsSink topology before s [] z now) same h;
+}
+sink_whole topology before s out sink c (Some a) None e is h = absurd h
+sink_whole topology before s out sink c None y e is h = cc
+
+sink_partly : (topology : Topology) (before : History) (s : StageNo) (sink : SinkSeen) (c : BodySeen) (x y : Option SinkSeen) → x ≡ Some sink → c.sink ≡ y
+    → Both (λ old new. (more : List ℕ) × KeepsSink topology before s more old new) x y → IsSinkKept topology before s true sink (Some c)
+sink_partly topology before s sink c (Some a) (Some now) e is h = record {
+  now = now;
+  is = is;
+  more = h.0;
+  all = λ home. cc;
+  keeps = let same : a ≡ sink = cc in subst (λ z. KeepsSink topology before s h.0 z now) same h.1;
+}
+sink_partly topology before s sink c (Some a) None e is h = absurd h
+sink_partly topology before s sink c None y e is h = cc
+
+sink_kept : (topology : Topology) (before : History) (p : Post) (out : Bool) (sink : SinkSeen) (o n : Option BodySeen) → There o (λ b. b.sink ≡ Some sink) → IsSome n → KeepsPost topology before p out o n → IsSinkKept topology before p.stage out sink n
+sink_kept topology before p false sink (Some b) (Some c) has some k = sink_whole topology before p.stage false sink c b.sink c.sink has refl k.sink
+sink_kept topology before p true sink (Some b) (Some c) has some (inl none) = cc
+sink_kept topology before p true sink (Some b) (Some c) has some (inr k) = sink_partly topology before p.stage sink c b.sink c.sink has refl k.sink
+sink_kept topology before p out sink (Some b) None has some k = let x : false ≡ true = some in cc
+sink_kept topology before p out sink None n has some k = absurd has
+
+-- ---- all
+
+-- a run of which the bodies keep the journal, after everything was opened
+pub record IsRunFrom (whole : Bool) (topology : Topology) (edges : EdgesSeen) (before : History) (table opened bodies : ℕ → Option BodySeen) : Type 0 where
+  pub sound : IsSound topology
+  pub legal : is_legal topology before ≡ true
+  pub home : AreHome topology table
+  pub opens : AreOpened topology (length topology.stages) edges table opened
+  pub keeps : Keeps topology before opened bodies
+  pub stay : (at : ℕ) → IsSome (opened at) → IsSome (bodies at)
+  pub none_out : IsTrue whole → jobs_out topology before ≡ false
+
+sources_used : (whole : Bool) (topology : Topology) (edges : EdgesSeen) (before : History) (table opened bodies : ℕ → Option BodySeen) → IsRunFrom whole topology edges before table opened bodies
+    → (s : StageNo) (name : List ℕ) → call_in (spec_of topology s) ≡ Some (Source, name) → There (source_in (bodies (place_at (post s 0)))) (IsSourceRead edges before s name)
+sources_used whole topology edges before table opened bodies run s name e =
+    let at = place_at (post s 0) in
+    let c = call_of topology s Source name e in
+    let numbered = numbered_topology topology run.sound in
+    let role = role_at topology s c.spec is_producer_role c.found (source_role c.spec.role c.spec.edge name c.call) in
+    let some : IsSome (edge_call c.spec) = subst (λ (o : Option (EdgeKind × List ℕ)). IsSome o) (sym c.call) refl in
+    let both = subst (λ o. Both (IsOpened edges o) (table at) (opened at)) c.call (opened_stage topology s c.spec edges table opened numbered c.found run.opens) in
+    let o = source_opened edges name (table at) (opened at) (run.home s c.spec c.found some) both in
+    let there = run.stay at (some_from (λ b. b.source ≡ Some o.lines) (opened at) o.has) in
+    let kept = source_kept topology before (post s 0) (is_out before (post s 0)) o.lines (opened at) (bodies at) o.has there (run.keeps (post s 0) (first_post topology s is_producer_role producer_post role)) in
+    let own : same_stage s (stage 0) ≡ false = ne_eqb s.0 0 (λ zero. omega (arith, zero, (numbered.within s c.spec c.found).0)) in
+    there_at (IsSourceRead edges before s name) (source_in (bodies at)) kept.now.source kept.is
+    (source_read topology before s kept.lost edges name o.lines kept.now run.legal role own kept.in_fetch o.gives kept.keeps)
+
+written_by : (whole : Bool) (topology : Topology) (edges : EdgesSeen) (before : History) (s : StageNo) (name more : List ℕ) (sink : SinkSeen) → (IsTrue whole → more ≡ []) → IsSinkWritten topology edges before s name more sink
+    → IsSinkWrittenBy whole topology edges before s name sink
+written_by true topology edges before s name more sink none h = subst (λ x. IsSinkWritten topology edges before s name x sink) (none refl) h
+written_by false topology edges before s name more sink none h = (more, h)
+
+sinks_used : (whole : Bool) (topology : Topology) (edges : EdgesSeen) (before : History) (table opened bodies : ℕ → Option BodySeen) → IsRunFrom whole topology edges before table opened bodies
+    → (s : StageNo) (name : List ℕ) → call_in (spec_of topology s) ≡ Some (Sink, name) → There (sink_in (bodies (place_at (post s 0)))) (IsSinkWrittenBy whole topology edges before s name)
+sinks_used whole topology edges before table opened bodies run s name e =
+    let at = place_at (post s 0) in
+    let c = call_of topology s Sink name e in
+    let numbered = numbered_topology topology run.sound in
+    let role = role_at topology s c.spec is_batch_processor_role c.found (sink_role c.spec.role c.spec.edge name c.call) in
+    let some : IsSome (edge_call c.spec) = subst (λ (o : Option (EdgeKind × List ℕ)). IsSome o) (sym c.call) refl in
+    let both = subst (λ o. Both (IsOpened edges o) (table at) (opened at)) c.call (opened_stage topology s c.spec edges table opened numbered c.found run.opens) in
+    let o = sink_opened edges name (table at) (opened at) (run.home s c.spec c.found some) both in
+    let there = run.stay at (some_from (λ b. b.sink ≡ Some o.sink) (opened at) o.has) in
+    let kept = sink_kept topology before (post s 0) (is_out before (post s 0)) o.sink (opened at) (bodies at) o.has there (run.keeps (post s 0) (first_post topology s is_batch_processor_role batch_post role)) in
+    let home = λ (w : IsTrue whole). slot_none topology before s c.spec 0 (run.none_out w) c.found (omega arith) in
+    there_at (IsSinkWrittenBy whole topology edges before s name) (sink_in (bodies at)) kept.now kept.is
+    (written_by whole topology edges before s name kept.more kept.now (λ w. kept.all (home w)) (sink_written topology before s edges name kept.more o.sink kept.now o.gives kept.keeps))
+
+pub used : (whole : Bool) (topology : Topology) (edges : EdgesSeen) (before : History) (table opened bodies : ℕ → Option BodySeen) → IsRunFrom whole topology edges before table opened bodies → AreUsed whole topology edges before bodies
+used whole topology edges before table opened bodies run =
+    record { sources = sources_used whole topology edges before table opened bodies run; sinks = sinks_used whole topology edges before table opened bodies run }

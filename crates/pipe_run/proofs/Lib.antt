@@ -1,0 +1,9 @@
+mod Sources
+mod Sinks
+mod Bodies
+mod Callbacks
+mod Stocks
+mod Calls
+mod Starts
+mod Runs
+mod Wholes

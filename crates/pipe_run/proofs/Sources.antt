@@ -1,0 +1,178 @@
+-- From what a body's source was read to, to what the journal says of the source that was opened.
+use Rattle.std.proofs.Common.{◌≡◌, ◌≢◌, ℕ, ◌+◌, List, [], ◌∷◌, ◌++◌, Bool, true, false, arith, refl, ap, sym, ◌∙◌, subst, inl, inr, Option, Some, None}
+use Rattle.std.specs.Prelude.{IsTrue, ◌⊎◌, ◌||◌, ◌==◌, if◌then◌else◌}
+use Rattle.std.proofs.lemmas.List.{append_assoc, append-nil, take-append-le, length-append}
+use Rattle.pipe_types.specs.Counts.{Rose}
+use Rattle.pipe_types.specs.Lines.{max_bytes, lines}
+use Rattle.pipe_types.specs.Numbers.{stage, post, same_stage}
+use Rattle.pipe_types.specs.declared.numbers.StageNo.{StageNo}
+use Rattle.pipe_types.specs.declared.step.LateAnswer.TheVariants as late
+use Rattle.pipe_types.specs.declared.step.SourceHow.{SourceHow}
+use Rattle.pipe_types.specs.declared.step.SourceHow.TheVariants as how
+use Rattle.pipe_types.specs.declared.step.Step.{Step}
+use Rattle.pipe_types.specs.declared.step.Step.TheVariants.{SourceEnd, Late}
+use Rattle.pipe_types.specs.declared.topology.Topology.{Topology}
+use Rattle.pipe_model.specs.History.{History}
+use Rattle.pipe_model.specs.Legal.{is_legal, ends_source, has_ended, has_role, is_producer_role}
+use Rattle.pipe_model.specs.Outside.{fed, source_end, end_by_step}
+use Rattle.pipe_model.specs.Posts.{is_out}
+use Rattle.pipe_laws.proofs.Tests.{clash, same_stage-flip}
+use Rattle.count_laws.proofs.Crashes.{ended_rests}
+use Rattle.pipe_edges.specs.declared.reading.LineEnd.{LineEnd}
+use Rattle.pipe_edges.specs.declared.reading.LineEnd.TheVariants as end
+use Rattle.pipe_edges.specs.Texts.{BeginsTooLong}
+use Rattle.pipe_edges.proofs.TextLaws.{lines_ended, lines_too_long}
+use Rattle.source_lines.specs.Cut.{AreFirstLines, AreAllLines, AreLinesBeforeLong}
+use Rattle.run_claims.specs.Read.{quiets}
+use Rattle.stage_job.specs.Chunks.{RoseBy}
+use Rattle.stage_bodies.specs.Reads.{AreReadFrom}
+use Rattle.stage_bodies.specs.Seen.{SourceSeen, LineSeen}
+use Rattle.body_laws.specs.Keeps.{IsKnownEnd, KeepsSource}
+use Rattle.edge_names.specs.Seen.{EdgesSeen}
+use Rattle.edge_names.specs.Opened.{GivesLines}
+use Rattle.pipe_run.specs.Outside.{ReadsSource, IsSourceRead}
+
+-- ---- ends
+
+known_end : (now : Option SourceHow) (line_end : Option LineEnd) → IsKnownEnd now line_end → now ≡ Some how.End → line_end ≡ Some end.End
+known_end now line_end known is = rw is at known
+
+known_long : (now : Option SourceHow) (line_end : Option LineEnd) → IsKnownEnd now line_end → now ≡ Some how.TooLong → line_end ≡ Some end.TooLong
+known_long now line_end known is = rw is at known
+
+known_fault : (now : Option SourceHow) (line_end : Option LineEnd) → IsKnownEnd now line_end → now ≡ Some how.Fault → line_end ≡ Some end.Fault
+known_fault now line_end known is = rw is at known
+
+not_end : (line_end : Option LineEnd) → line_end ≡ None → ¬ (line_end ≡ Some end.End)
+not_end line_end none is = cc
+
+not_end_by : (line_end : Option LineEnd) (e : LineEnd) → line_end ≡ Some e → (e ≡ end.End → ⊥) → ¬ (line_end ≡ Some end.End)
+not_end_by line_end e is other at_end = other (same_end e (sym is ∙ at_end))
+  where
+    same_end : (e : LineEnd) → Some e ≡ Some end.End → e ≡ end.End
+    same_end e s = cc
+
+end_later : (t : Bool) (h : SourceHow) (how : SourceHow) (old : Option SourceHow) → (if t then Some h else old) ≡ Some how → (t ≡ true) ⊎ (old ≡ Some how)
+end_later true h how old e = inl refl
+end_later false h how old e = inr e
+
+end_by_or_before : (step : Step) (s : StageNo) (how : SourceHow) (old : Option SourceHow) → end_by_step step s old ≡ Some how → (ends_source s step ≡ true) ⊎ (old ≡ Some how)
+end_by_or_before (SourceEnd t h) s how old e = by (end_later (same_stage t s) h how old e)
+  where
+    by : (same_stage t s ≡ true) ⊎ (old ≡ Some how) → (same_stage s t ≡ true) ⊎ (old ≡ Some how)
+    by (inl same) = inl (same_stage-flip t s same)
+    by (inr before) = inr before
+end_by_or_before (Late t slot i (late.Source h)) s how old e = by (end_later (same_stage t s) h how old e)
+  where
+    by : (same_stage t s ≡ true) ⊎ (old ≡ Some how) → (same_stage s t ≡ true) ⊎ (old ≡ Some how)
+    by (inl same) = inl (same_stage-flip t s same)
+    by (inr before) = inr before
+end_by_or_before _ s how old e = inr e
+
+-- a source of which the journal says how it ended has ended
+ended_by : (before : History) (s : StageNo) (how : SourceHow) → source_end before s ≡ Some how → has_ended before s ≡ true
+ended_by [] s how e = cc
+ended_by (step ∷ before) s how e = by (end_by_or_before step s how (source_end before s) e) (λ earlier. ended_by before s how earlier)
+  where
+    first : (a b : Bool) → a ≡ true → (a || b) ≡ true
+    first a b h = rw h refl
+
+    second : (a b : Bool) → b ≡ true → (a || b) ≡ true
+    second true b h = refl
+    second false b h = h
+
+    by : (ends_source s step ≡ true) ⊎ (source_end before s ≡ Some how) → (source_end before s ≡ Some how → has_ended before s ≡ true) → has_ended (step ∷ before) s ≡ true
+    by (inl here) more = first (ends_source s step) (has_ended before s) here
+    by (inr earlier) more = second (ends_source s step) (has_ended before s) (more earlier)
+
+-- records are lost only while a fetch is out, and so before the source ends
+none_lost : {X : Type 0} (topology : Topology) (before : History) (s : StageNo) (lost : List X) (how : SourceHow) → is_legal topology before ≡ true → has_role topology s is_producer_role ≡ true → same_stage s (stage 0) ≡ false
+    → (lost ≡ []) ⊎ (is_out before (post s 0) ≡ true) → source_end before s ≡ Some how → lost ≡ []
+none_lost topology before s lost how legal role own (inl none) ended = none
+none_lost topology before s lost how legal role own (inr out) ended =
+    clash (is_out before (post s 0)) out (ended_rests topology before s legal role own (ended_by before s how ended))
+
+-- ---- lines
+
+-- the records are the first of the lines of all the bytes
+in_order : (line_end : Option LineEnd) (opened : SourceSeen) (now : LineSeen) (records : List (List ℕ)) → now.end ≡ line_end → AreReadFrom opened now records → IsTrue opened.told → AreFirstLines opened.left records
+in_order None opened now records is r t = record {
+  others = lines (now.waiting ++ now.source.left);
+  parts = ap lines (r.to_come t (not_end now.end is)) ∙ lines_ended records (now.waiting ++ now.source.left) r.each_is_a_line;
+}
+in_order (Some end.End) opened now records is r t = record {
+  others = [];
+  parts = rw append-nil (sym (r.at_end t is).all);
+}
+in_order (Some end.Fault) opened now records is r t = record {
+  others = lines (now.waiting ++ now.source.left);
+  parts = ap lines (r.to_come t (not_end_by now.end end.Fault is (λ e. cc))) ∙ lines_ended records (now.waiting ++ now.source.left) r.each_is_a_line;
+}
+in_order (Some end.TooLong) opened now records is r t = record {
+  others = lines (now.waiting ++ now.source.left);
+  parts = ap lines (r.to_come t (not_end_by now.end end.TooLong is (λ e. cc))) ∙ lines_ended records (now.waiting ++ now.source.left) r.each_is_a_line;
+}
+
+long_append : (w rest : List ℕ) → BeginsTooLong w → BeginsTooLong (w ++ rest)
+long_append w rest b = record {
+  long = omega (arith, length-append w rest, b.long);
+  unbroken = rw (take-append-le (max_bytes + 1) w rest (omega (arith, b.long))) b.unbroken;
+}
+
+before_long : (opened : SourceSeen) (now : LineSeen) (records : List (List ℕ)) → now.end ≡ Some end.TooLong → AreReadFrom opened now records → IsTrue opened.told → AreLinesBeforeLong opened.left records
+before_long opened now records is r t =
+    let come = r.to_come t (not_end_by now.end end.TooLong is (λ e. cc)) in record {
+      all = sym (
+          ap lines come
+          ∙ lines_ended records (now.waiting ++ now.source.left) r.each_is_a_line
+          ∙ ap (λ x. records ++ x) (lines_too_long now.waiting now.source.left (r.at_long is))
+          ∙ append-nil records);
+      rest = now.waiting ++ now.source.left;
+      parts = come;
+      long = long_append now.waiting now.source.left (r.at_long is);
+    }
+
+-- what the source gave and has left is what it had left when it was opened
+all_bytes : (opened : SourceSeen) (now : LineSeen) (records : List (List ℕ)) → opened.taken ≡ [] → AreReadFrom opened now records → IsTrue opened.told → now.source.taken ++ now.source.left ≡ opened.left
+all_bytes opened now records fresh r t = r.same_bytes t ∙ ap (λ x. x ++ opened.left) fresh
+
+-- ---- the source of a producer
+
+-- the journal's records are the first of the source's lines, and where it ended they are as its end says
+reads_source : (topology : Topology) (before : History) (s : StageNo) (lost : List (List ℕ)) (edges : EdgesSeen) (name : List ℕ) (opened now : LineSeen) → is_legal topology before ≡ true → has_role topology s is_producer_role ≡ true → same_stage s (stage 0) ≡ false
+    → (lost ≡ []) ⊎ (is_out before (post s 0) ≡ true) → GivesLines edges name opened → KeepsSource before s lost opened now → ReadsSource before s now.source
+reads_source topology before s lost edges name opened now legal role own in_fetch gives k =
+    let f = fed before s in
+    let source = opened.source in
+    let told_then = λ (t : IsTrue now.source.told). subst (λ b. b ≡ true) k.read.same_telling t in
+    let to_end = λ (h : SourceHow) (ended : source_end before s ≡ Some h).
+    subst (λ records. AreReadFrom source now records) (ap (λ x. f ++ x) (none_lost topology before s lost h legal role own in_fetch ended) ∙ append-nil f) k.read in
+    record {
+      in_order = λ t.
+          let first = in_order now.end source now (f ++ lost) refl k.read (told_then t) in
+          subst (λ bytes. AreFirstLines bytes f) (sym (all_bytes source now (f ++ lost) gives.source.nothing_taken k.read (told_then t))) (record {
+            others = lost ++ first.others;
+            parts = first.parts ∙ append_assoc f lost first.others;
+          });
+      whole = λ t e.
+          let read = to_end how.End e in
+          subst (λ bytes. AreAllLines bytes f) (sym (all_bytes source now f gives.source.nothing_taken read (told_then t)))
+          (read.at_end (told_then t) (known_end (source_end before s) now.end k.known e));
+      too_long = λ t e.
+          let read = to_end how.TooLong e in
+          subst (λ bytes. AreLinesBeforeLong bytes f) (sym (all_bytes source now f gives.source.nothing_taken read (told_then t)))
+          (before_long source now f (known_long (source_end before s) now.end k.known e) read (told_then t));
+      fault = λ e. subst (λ n. Rose n now.source.faults) gives.source.no_fault (k.read.at_fault (known_fault (source_end before s) now.end k.known e));
+      quiet = subst (λ n. RoseBy (quiets before s) n now.source.waits) gives.source.no_wait k.quiet;
+    }
+
+pub source_read : (topology : Topology) (before : History) (s : StageNo) (lost : List (List ℕ)) (edges : EdgesSeen) (name : List ℕ) (opened now : LineSeen) → is_legal topology before ≡ true → has_role topology s is_producer_role ≡ true → same_stage s (stage 0) ≡ false
+    → (lost ≡ []) ⊎ (is_out before (post s 0) ≡ true) → GivesLines edges name opened → KeepsSource before s lost opened now → IsSourceRead edges before s name now.source
+source_read topology before s lost edges name opened now legal role own in_fetch gives k = record {
+  opened = opened.source;
+  given = gives.source;
+  same_telling = k.read.same_telling;
+  same_bytes = λ t. all_bytes opened.source now (fed before s ++ lost) gives.source.nothing_taken k.read t;
+  reads = reads_source topology before s lost edges name opened now legal role own in_fetch gives k;
+  first = k.first;
+}

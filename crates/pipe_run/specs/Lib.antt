@@ -1,0 +1,4 @@
+pub mod Outside
+pub mod Boxes
+pub mod Whole
+pub mod Steps

@@ -1,0 +1,52 @@
+-- What a whole run comes to, and what a run comes to that does not begin.
+use Rattle.std.specs.Prelude.{◌≡◌, ◌⊎◌, ◌++◌, ◌∷◌, [], true, false, Bool, List, ℕ, IsTrue}
+use Rattle.pipe_types.specs.Counts.{Rose}
+use Rattle.pipe_types.specs.declared.topology.Topology.{Topology}
+use Rattle.pipe_model.specs.History.{History}
+use Rattle.pipe_model.specs.Legal.{happened, is_halt}
+use Rattle.pipe_model.specs.Moves.{is_drained, jobs_out}
+use Rattle.pipe_edges.specs.declared.edges.EdgeKind.{EdgeKind}
+use Rattle.run_claims.specs.Followed.{FollowsMoves}
+use Rattle.run_claims.specs.Read.{HasNoControl}
+use Rattle.stage_rounds.specs.Clocks.{ClockSeen, KeepsClock, KeepsClockPartly}
+use Rattle.edge_names.specs.Seen.{EdgesSeen}
+use Rattle.edge_names.specs.Opened.{edge_calls}
+use Rattle.pipe_run.specs.Outside.{AreAsked, IsOutside, IsUnopened}
+use Rattle.pipe_run.specs.declared.run.NoRun.{NoRun}
+use Rattle.pipe_run.specs.declared.run.NoRun.TheVariants.{Unopened, OutOfMemory}
+
+-- every accepted message is acknowledged or lost and no job is out, or the pipeline halted and no job is out
+abbrev pub HasCome : Topology → History → Type 0
+HasCome topology before = IsTrue (is_drained topology before) ⊎ ((happened is_halt before ≡ true) × (jobs_out topology before ≡ false))
+
+-- where memory was wanting, the greatest reading may have no tick
+abbrev pub IsTimeOf : (whole : Bool) → History → (old new : ClockSeen) → Type 0
+IsTimeOf true before old new = KeepsClock before old new
+IsTimeOf false before old new = KeepsClockPartly before old new
+
+-- a run to its end, or until memory was wanting: each step of its own accord was the next move, none comes from a control
+-- source, and its time is the clock's
+pub record IsRunOf (whole : Bool) (topology : Topology) (before : History) (old new : EdgesSeen) (clock clock' : ClockSeen) : Type 0 where
+  pub follows : FollowsMoves topology before
+  pub control : HasNoControl before
+  pub ended : IsTrue whole → HasCome topology before
+  pub outside : IsOutside whole topology before old new
+  pub time : IsTimeOf whole before clock clock'
+  pub asks : AreAsked (edge_calls topology) old new
+
+-- the calls up to the one that failed
+pub record IsAskedUntil (topology : Topology) (name : List ℕ) (old new : EdgesSeen) : Type 0 where
+  pub kind : EdgeKind
+  pub front : List (EdgeKind × List ℕ)
+  pub rest : List (EdgeKind × List ℕ)
+  pub calls : edge_calls topology ≡ front ++ (kind, name) ∷ rest
+  pub asks : AreAsked (front ++ (kind, name) ∷ []) old new
+  pub fault : Rose old.faults new.faults
+
+abbrev pub IfUnopened : NoRun → (List ℕ → Type 0) → Type 0
+IfUnopened (Unopened name) P = P name
+IfUnopened OutOfMemory P = Unit {0}
+
+abbrev pub IfWanting : NoRun → Type 0 → Type 0
+IfWanting (Unopened name) P = Unit {0}
+IfWanting OutOfMemory P = P

@@ -1,0 +1,273 @@
+-- What a call comes to after a call by name that gave nothing back.
+use Rattle.std.proofs.Common.{◌≡◌, ℕ, suc, ◌≤◌, ◌<◌, List, [], ◌∷◌, ◌++◌, take, Bool, true, false, Option, Some, None, refl, sym, ◌∙◌, ap, inl, inr, arith}
+use Rattle.std.specs.Prelude.{◌⊎◌, IsTrue}
+use Rattle.std.proofs.lemmas.List.{append_assoc}
+use Rattle.pipe_types.specs.Counts.{Rose}
+use Rattle.pipe_types.specs.declared.numbers.StageNo.{StageNo}
+use Rattle.pipe_types.specs.declared.topology.Topology.{Topology}
+use Rattle.pipe_types.specs.Numbers.{post}
+use Rattle.pipe_types.specs.Stages.{spec_of}
+use Rattle.pipe_model.specs.History.{History}
+use Rattle.pipe_edges.specs.declared.edges.EdgeKind.{EdgeKind}
+use Rattle.pipe_edges.specs.declared.edges.EdgeKind.TheVariants.{File, Source, Sink}
+use Rattle.stage_bodies.specs.Seen.{SourceSeen, SinkSeen, LineSeen, BodySeen}
+use Rattle.stage_bodies.specs.Jobs.{Both}
+use Rattle.stage_bodies.specs.Posts.{place_at}
+use Rattle.body_laws.specs.Ready.{There}
+use Rattle.edge_names.specs.Seen.{EdgesSeen}
+use Rattle.edge_names.specs.Named.{GivesSource, GivesSink}
+use Rattle.edge_names.specs.Opened.{GivesLines, HasSource, HasSink, IsOpened, AreOpened, call_at}
+use Rattle.edge_names.specs.Returned.{source_in, sink_in, sources_of, sinks_of}
+use Rattle.pipe_run.specs.Outside.{IsSourceRead, IsSinkWritten, IsSinkWrittenBy, AreUsed, IsOutside, IsUnopened}
+use Rattle.pipe_top.specs.Cases.{Case, NoCommand, NoTopology as BadTopology, TooFew, NotBuilt, Checks, Runs}
+use Rattle.pipe_top.specs.Runs.{OutsideSeen, IsUntouched, HasUsed, IsGivenUp, HasNotBegun, HasRunOrNot, IsOutsideOf, FailsAt}
+use Rattle.pipe_top.specs.Flows.{IsEarly, Outcome, AskedBy, ComesBy}
+use Rattle.pipe_top.specs.declared.verdict.Refusal.{Refusal}
+use Rattle.pipe_top.specs.declared.verdict.Refusal.TheVariants.{Usage, Topology as NoTopology, Stock, Unbuilt, Edge, Memory}
+use Rattle.pipe_top.specs.declared.verdict.Verdict.{Verdict}
+use Rattle.pipe_top.specs.declared.verdict.Verdict.TheVariants.{Refused, Done}
+
+-- ---- what is given by name
+
+-- the names stand as before
+pub record SameNames (old new : EdgesSeen) : Type 0 where
+  pub same_telling : new.told ≡ old.told
+  pub same_names : IsTrue old.told → (kind : EdgeKind) (other : List ℕ) → new.named kind other ≡ old.named kind other
+
+gives_source : (old new : EdgesSeen) (name : List ℕ) (source : SourceSeen) → SameNames old new → GivesSource new name source → GivesSource old name source
+gives_source old new name source same x = record {
+  nothing_taken = x.nothing_taken;
+  no_fault = x.no_fault;
+  no_wait = x.no_wait;
+  given = λ t.
+      let g = x.given (rw same.same_telling t) in
+      (g.0, g.1 ∙ same.same_names t Source name);
+}
+
+gives_sink : (old new : EdgesSeen) (name : List ℕ) (sink : SinkSeen) → SameNames old new → GivesSink new name sink → GivesSink old name sink
+gives_sink old new name sink same x = record {
+  no_fault = x.no_fault;
+  given = λ t.
+      let g = x.given (rw same.same_telling t) in
+      (g.0, g.1 ∙ same.same_names t Sink name);
+}
+
+has_source : (old new : EdgesSeen) (call : Option (EdgeKind × List ℕ)) (x y : Option LineSeen) → SameNames old new → HasSource new call x y → HasSource old call x y
+has_source old new (Some (Source, name)) x (Some lines) same h = record {
+  source = gives_source old new name lines.source same h.source;
+  nothing_waits = h.nothing_waits;
+  no_end = h.no_end;
+}
+has_source old new (Some (Source, name)) x None same h = absurd h
+has_source old new (Some (Sink, name)) x y same h = h
+has_source old new (Some (File, name)) x y same h = h
+has_source old new None x y same h = h
+
+has_sink : (old new : EdgesSeen) (call : Option (EdgeKind × List ℕ)) (x y : Option SinkSeen) → SameNames old new → HasSink new call x y → HasSink old call x y
+has_sink old new (Some (Sink, name)) x (Some sink) same h = gives_sink old new name sink same h
+has_sink old new (Some (Sink, name)) x None same h = absurd h
+has_sink old new (Some (Source, name)) x y same h = h
+has_sink old new (Some (File, name)) x y same h = h
+has_sink old new None x y same h = h
+
+is_opened : (old new : EdgesSeen) (call : Option (EdgeKind × List ℕ)) (x y : BodySeen) → SameNames old new → IsOpened new call x y → IsOpened old call x y
+is_opened old new call x y same h = record {
+  source = has_source old new call x.source y.source same h.source;
+  sink = has_sink old new call x.sink y.sink same h.sink;
+  callback = h.callback;
+}
+
+both_as : {A B : Type 0} (R S : A → B → Type 0) (x : Option A) (y : Option B) → ((a : A) (b : B) → R a b → S a b) → Both R x y → Both S x y
+both_as R S (Some a) (Some b) so h = so a b h
+both_as R S None None so h = tt
+both_as R S (Some a) None so h = absurd h
+both_as R S None (Some b) so h = absurd h
+
+there_as : {A : Type 0} (P Q : A → Type 0) (x : Option A) → ((a : A) → P a → Q a) → There x P → There x Q
+there_as P Q (Some a) so h = so a h
+there_as P Q None so h = absurd h
+
+are_opened : (topology : Topology) (n : ℕ) (old new : EdgesSeen) (start bodies : ℕ → Option BodySeen) → SameNames old new → AreOpened topology n new start bodies → AreOpened topology n old start bodies
+are_opened topology n old new start bodies same h = λ p few.
+    both_as (IsOpened new (call_at topology n p)) (IsOpened old (call_at topology n p)) (start (place_at p)) (bodies (place_at p))
+    (λ x y. is_opened old new (call_at topology n p) x y same) (h p few)
+
+source_read : (old new : EdgesSeen) (before : History) (p : StageNo) (name : List ℕ) (source : SourceSeen) → SameNames old new → IsSourceRead new before p name source → IsSourceRead old before p name source
+source_read old new before p name source same x = record {
+  opened = x.opened;
+  given = gives_source old new name x.opened same x.given;
+  same_telling = x.same_telling;
+  same_bytes = x.same_bytes;
+  reads = x.reads;
+  first = x.first;
+}
+
+sink_written : (topology : Topology) (old new : EdgesSeen) (before : History) (s : StageNo) (name more : List ℕ) (sink : SinkSeen) → SameNames old new
+    → IsSinkWritten topology new before s name more sink → IsSinkWritten topology old before s name more sink
+sink_written topology old new before s name more sink same x = record {
+  opened = x.opened;
+  given = gives_sink old new name x.opened same x.given;
+  same_telling = x.same_telling;
+  held = x.held;
+  short = x.short;
+}
+
+sink_written_by : (whole : Bool) (topology : Topology) (old new : EdgesSeen) (before : History) (s : StageNo) (name : List ℕ) (sink : SinkSeen) → SameNames old new
+    → IsSinkWrittenBy whole topology new before s name sink → IsSinkWrittenBy whole topology old before s name sink
+sink_written_by true topology old new before s name sink same x = sink_written topology old new before s name [] sink same x
+sink_written_by false topology old new before s name sink same x = (x.0, sink_written topology old new before s name x.0 sink same x.1)
+
+are_used : (whole : Bool) (topology : Topology) (old new : EdgesSeen) (before : History) (bodies : ℕ → Option BodySeen) → SameNames old new
+    → AreUsed whole topology new before bodies → AreUsed whole topology old before bodies
+are_used whole topology old new before bodies same x = record {
+  sources = λ s name call.
+      there_as (IsSourceRead new before s name) (IsSourceRead old before s name) (source_in (bodies (place_at (post s 0))))
+      (λ source. source_read old new before s name source same) (x.sources s name call);
+  sinks = λ s name call.
+      there_as (IsSinkWrittenBy whole topology new before s name) (IsSinkWrittenBy whole topology old before s name) (sink_in (bodies (place_at (post s 0))))
+      (λ sink. sink_written_by whole topology old new before s name sink same) (x.sinks s name call);
+}
+
+-- ---- the outside
+
+-- what became of the edges by a call by name that gave nothing back
+pub record Called (old new : EdgesSeen) (call : EdgeKind × List ℕ) : Type 0 where
+  pub names : SameNames old new
+  pub same_sources : new.sources_back ≡ old.sources_back
+  pub same_sinks : new.sinks_back ≡ old.sinks_back
+  pub faults_stay : old.faults ≤ new.faults
+  pub one_call : IsTrue old.told → new.asked ≡ old.asked ++ call ∷ []
+
+abbrev with_edges : OutsideSeen → EdgesSeen → OutsideSeen
+with_edges old edges = record old { edges = edges }
+
+outside_as : (whole : Bool) (topology : Topology) (before : History) (call : EdgeKind × List ℕ) (old middle new : EdgesSeen) → Called old middle call
+    → IsOutside whole topology before middle new → IsOutside whole topology before old new
+outside_as whole topology before call old middle new c x = record {
+  bodies = x.bodies;
+  used = are_used whole topology old middle before x.bodies c.names x.used;
+  stages = x.stages;
+  all = x.all;
+  sources = x.sources ∙ ap (λ l. l ++ sources_of (take x.stages topology.stages) x.bodies) c.same_sources;
+  sinks = x.sinks ∙ ap (λ l. l ++ sinks_of (take x.stages topology.stages) x.bodies) c.same_sinks;
+}
+
+unopened_as : (topology : Topology) (name : List ℕ) (call : EdgeKind × List ℕ) (old middle new : EdgesSeen) → Called old middle call
+    → IsUnopened topology name middle new → IsUnopened topology name old new
+unopened_as topology name call old middle new c x = record {
+  at = x.at;
+  kind = x.kind;
+  spec = x.spec;
+  here = x.here;
+  call = x.call;
+  start = x.start;
+  handed = x.handed;
+  bodies = x.bodies;
+  opened = are_opened topology x.at old middle x.start x.bodies c.names x.opened;
+  sources = x.sources ∙ ap (λ l. l ++ sources_of topology.stages x.bodies) c.same_sources;
+  sinks = x.sinks ∙ ap (λ l. l ++ sinks_of topology.stages x.bodies) c.same_sinks;
+}
+
+given_up_as : (topology : Topology) (call : EdgeKind × List ℕ) (old middle new : EdgesSeen) → Called old middle call → IsGivenUp topology middle new → IsGivenUp topology old new
+given_up_as topology call old middle new c (inl x) = inl (x.0 ∙ c.same_sources, x.1 ∙ c.same_sinks)
+given_up_as topology call old middle new c (inr x) = inr (x.0, unopened_as topology x.0 call old middle new c x.1)
+
+given_or_wanting : (memory : Type 0) (topology : Topology) (call : EdgeKind × List ℕ) (old middle new : EdgesSeen) → Called old middle call
+    → memory ⊎ IsGivenUp topology middle new → memory ⊎ IsGivenUp topology old new
+given_or_wanting memory topology call old middle new c (inl m) = inl m
+given_or_wanting memory topology call old middle new c (inr x) = inr (given_up_as topology call old middle new c x)
+
+run_or_not_as : (memory : Type 0) (wanted : Topology) (topology : Option Topology) (before : History) (call : EdgeKind × List ℕ) (old : OutsideSeen) (middle : EdgesSeen) (new : OutsideSeen) → Called old.edges middle call
+    → HasRunOrNot memory wanted topology before (with_edges old middle) new → HasRunOrNot memory wanted topology before old new
+run_or_not_as memory wanted (Some t) before call old middle new c x = record {
+  whole = x.whole;
+  wanting = x.wanting;
+  outside = outside_as x.whole wanted before call old.edges middle new.edges c x.outside;
+  time = x.time;
+  boxes = x.boxes;
+}
+run_or_not_as memory wanted None before call old middle new c x = record {
+  edges = given_or_wanting memory wanted call old.edges middle new.edges c x.edges;
+  clock = x.clock;
+  boxes = x.boxes;
+}
+
+untouched_as : (call : EdgeKind × List ℕ) (old : OutsideSeen) (middle : EdgesSeen) (new : OutsideSeen) → Called old.edges middle call → IsUntouched (with_edges old middle) new → IsUntouched old new
+untouched_as call old middle new c x = record {
+  sources = x.sources ∙ c.same_sources;
+  sinks = x.sinks ∙ c.same_sinks;
+  clock = x.clock;
+  boxes = x.boxes;
+}
+
+outside_of_as : (memory : Type 0) (case : Case) (topology : Option Topology) (before : History) (call : EdgeKind × List ℕ) (old : OutsideSeen) (middle : EdgesSeen) (new : OutsideSeen) → Called old.edges middle call
+    → IsOutsideOf memory topology before case (with_edges old middle) new → IsOutsideOf memory topology before case old new
+outside_of_as memory NoCommand topology before call old middle new c x = untouched_as call old middle new c x
+outside_of_as memory (BadTopology fault) topology before call old middle new c x = untouched_as call old middle new c x
+outside_of_as memory (TooFew shortage) topology before call old middle new c x = untouched_as call old middle new c x
+outside_of_as memory (NotBuilt missing) topology before call old middle new c x = untouched_as call old middle new c x
+outside_of_as memory (Checks wanted) topology before call old middle new c x = untouched_as call old middle new c x
+outside_of_as memory (Runs shows wanted) topology before call old middle new c x = run_or_not_as memory wanted topology before call old middle new c x
+
+-- ---- the outcome
+
+early_as : (fails fails' : List ℕ → Type 0) (topology : Option Topology) (before : History) (verdict : Verdict) → ((name : List ℕ) → fails name → fails' name)
+    → IsEarly fails topology before verdict → IsEarly fails' topology before verdict
+early_as fails fails' None before (Refused Memory) so e = e
+early_as fails fails' None before (Refused (Edge name)) so e = (e.0, so name e.1)
+early_as fails fails' None before (Refused Usage) so e = absurd e
+early_as fails fails' None before (Refused (NoTopology fault)) so e = absurd e
+early_as fails fails' None before (Refused (Stock shortage)) so e = absurd e
+early_as fails fails' None before (Refused (Unbuilt missing)) so e = absurd e
+early_as fails fails' None before (Done texts status) so e = absurd e
+early_as fails fails' (Some t) before verdict so e = absurd e
+
+outcome_as : (case : Case) (fails fails' : List ℕ → Type 0) (topology : Option Topology) (before : History) (verdict : Verdict) → ((name : List ℕ) → fails name → fails' name)
+    → Outcome case fails topology before verdict → Outcome case fails' topology before verdict
+outcome_as case fails fails' topology before verdict so (inl e) = inl (early_as fails fails' topology before verdict so e)
+outcome_as case fails fails' topology before verdict so (inr r) = inr r
+
+rose_from : (a b c : ℕ) → a ≤ b → Rose b c → Rose a c
+rose_from a b c at_least (inl more) = inl (omega (arith, at_least, more))
+rose_from a b c at_least (inr full) = inr full
+
+fails_as : (told told' : Bool) (call : EdgeKind × List ℕ) (calls asked middle asked' : List (EdgeKind × List ℕ)) (f f' f'' : ℕ) (name : List ℕ) → told' ≡ told → f ≤ f' → (IsTrue told → middle ≡ asked ++ call ∷ [])
+    → FailsAt told' calls middle asked' (Rose f' f'') name → FailsAt told (call ∷ calls) asked asked' (Rose f f'') name
+fails_as told told' call calls asked middle asked' f f' f'' name same at_least first x = record {
+  kind = x.kind;
+  front = call ∷ x.front;
+  rest = x.rest;
+  parts = ap (λ l. call ∷ l) x.parts;
+  is_last = λ t. x.is_last (rw same t) ∙ ap (λ l. l ++ (x.front ++ (x.kind, name) ∷ [])) (first t) ∙ append_assoc asked (call ∷ []) (x.front ++ (x.kind, name) ∷ []);
+  rose = rose_from f f' f'' at_least x.rose;
+}
+
+-- ---- the calls
+
+asked_as : (verdict : Verdict) (call : EdgeKind × List ℕ) (calls asked middle asked' : List (EdgeKind × List ℕ)) → middle ≡ asked ++ call ∷ [] → AskedBy verdict calls middle asked' → AskedBy verdict (call ∷ calls) asked asked'
+asked_as (Refused (Edge name)) call calls asked middle asked' first a = tt
+asked_as (Refused Memory) call calls asked middle asked' first a = record {
+  count = suc a.count;
+  is = a.is ∙ ap (λ x. x ++ take a.count calls) first ∙ append_assoc asked (call ∷ []) (take a.count calls);
+}
+asked_as (Done texts status) call calls asked middle asked' first a = a ∙ ap (λ x. x ++ calls) first ∙ append_assoc asked (call ∷ []) calls
+asked_as (Refused Usage) call calls asked middle asked' first a = a ∙ ap (λ x. x ++ calls) first ∙ append_assoc asked (call ∷ []) calls
+asked_as (Refused (NoTopology fault)) call calls asked middle asked' first a = a ∙ ap (λ x. x ++ calls) first ∙ append_assoc asked (call ∷ []) calls
+asked_as (Refused (Stock shortage)) call calls asked middle asked' first a = a ∙ ap (λ x. x ++ calls) first ∙ append_assoc asked (call ∷ []) calls
+asked_as (Refused (Unbuilt missing)) call calls asked middle asked' first a = a ∙ ap (λ x. x ++ calls) first ∙ append_assoc asked (call ∷ []) calls
+
+-- ---- the whole
+
+pub after_call : (old : OutsideSeen) (middle : EdgesSeen) (new : OutsideSeen) (case : Case) (call : EdgeKind × List ℕ) (calls : List (EdgeKind × List ℕ)) (topology : Option Topology) (before : History) (verdict : Verdict)
+    → Called old.edges middle call → ComesBy (record old { edges = middle }) new case calls topology before verdict → ComesBy old new case (call ∷ calls) topology before verdict
+after_call old middle new case call calls topology before verdict c x = record {
+  outcome = outcome_as case
+      (FailsAt middle.told calls middle.asked new.edges.asked (Rose middle.faults new.edges.faults))
+      (FailsAt old.edges.told (call ∷ calls) old.edges.asked new.edges.asked (Rose old.edges.faults new.edges.faults))
+      topology before verdict
+      (λ name f. fails_as old.edges.told middle.told call calls old.edges.asked middle.asked new.edges.asked old.edges.faults middle.faults new.edges.faults name c.names.same_telling c.faults_stay c.one_call f)
+      x.outcome;
+  outside = outside_of_as (verdict ≡ Refused Memory) case topology before call old middle new c x.outside;
+  asked_by = λ t. asked_as verdict call calls old.edges.asked middle.asked new.edges.asked (c.one_call t) (x.asked_by (rw c.names.same_telling t));
+  same_telling = x.same_telling ∙ c.names.same_telling;
+}

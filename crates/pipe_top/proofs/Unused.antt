@@ -1,0 +1,53 @@
+-- What a call comes to that uses nothing of its outside.
+use Rattle.std.proofs.Common.{◌≡◌, ℕ, List, [], ◌++◌, Option, Some, None, refl, sym, ◌∙◌, ap, inl, inr, arith}
+use Rattle.std.specs.Prelude.{◌≤◌, IsTrue, length, slice_get}
+use Rattle.std.proofs.lemmas.List.{append-nil}
+use Rattle.pipe_types.specs.declared.topology.Topology.{Topology}
+use Rattle.pipe_model.specs.History.{History}
+use Rattle.pipe_edges.specs.declared.edges.EdgeKind.{EdgeKind}
+use Rattle.stage_bodies.specs.Seen.{BoxSeen}
+use Rattle.stage_bodies.specs.Jobs.{Both}
+use Rattle.box_stock.specs.Lends.{IsSameBox}
+use Rattle.pipe_run.specs.Boxes.{AreSameBoxes}
+use Rattle.pipe_top.specs.Cases.{Case, NoCommand, NoTopology, TooFew, NotBuilt, Checks, Runs}
+use Rattle.pipe_top.specs.Runs.{OutsideSeen, IsUntouched, IsOutsideOf, Asks}
+use Rattle.pipe_top.specs.Flows.{ComesBy}
+use Rattle.pipe_top.specs.declared.verdict.Refusal.TheVariants.{Memory}
+use Rattle.pipe_top.specs.declared.verdict.Verdict.{Verdict}
+use Rattle.pipe_top.specs.declared.verdict.Verdict.TheVariants.{Refused}
+
+-- no call was made
+pub asks_none : (calls asked : List (EdgeKind × List ℕ)) → Asks calls asked asked
+asks_none calls asked = record { count = 0; is = sym (append-nil asked) }
+
+same_box : (o : Option BoxSeen) → Both IsSameBox o o
+same_box None = tt
+same_box (Some box) = record { kind = refl; told = refl; said = λ t. refl; calls = omega arith; bad = omega arith }
+
+same_boxes : (boxes : List BoxSeen) → AreSameBoxes boxes boxes
+same_boxes boxes = record { as_many = refl; each = λ k. same_box (slice_get boxes k) }
+
+-- where nothing is used there was no run
+pub outside_of_none : (memory : Type 0) (before : History) (case : Case) (old new : OutsideSeen) → IsUntouched old new → IsOutsideOf memory None before case old new
+outside_of_none memory before NoCommand old new u = u
+outside_of_none memory before (NoTopology fault) old new u = u
+outside_of_none memory before (TooFew shortage) old new u = u
+outside_of_none memory before (NotBuilt missing) old new u = u
+outside_of_none memory before (Checks wanted) old new u = u
+outside_of_none memory before (Runs shows wanted) old new u = record {
+  edges = inr (inl (u.sources, u.sinks));
+  clock = u.clock;
+  boxes = rw u.boxes (same_boxes old.boxes);
+}
+
+-- memory was wanting before anything was opened
+pub wanting : (old new : OutsideSeen) (case : Case) (calls : List (EdgeKind × List ℕ)) (topology : Option Topology) (before : History) (verdict : Verdict)
+    → verdict ≡ Refused Memory → (topology ≡ None) × (before ≡ []) → IsUntouched old new → (IsTrue old.edges.told → Asks calls old.edges.asked new.edges.asked) → new.edges.told ≡ old.edges.told
+    → ComesBy old new case calls topology before verdict
+wanting old new case calls topology before verdict is none untouched asks telling =
+    rw (is, none.0) (record {
+      outcome = inl none.1;
+      outside = outside_of_none (Refused Memory ≡ Refused Memory) before case old new untouched;
+      asked_by = asks;
+      same_telling = telling;
+    })

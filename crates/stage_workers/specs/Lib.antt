@@ -1,4 +1,0 @@
-pub mod Steps
-pub mod Ready
-pub mod Reads
-pub mod Used
