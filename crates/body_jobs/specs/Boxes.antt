@@ -1,17 +1,10 @@
 -- What is seen of a callback.
-use Rattle.std.specs.Prelude.{◌≡◌, ℕ, Bool, List, IsTrue}
+use Rattle.std.specs.Prelude.{ℕ, Bool, List}
 use Rattle.pipe_types.specs.declared.topology.Kind.{Kind}
 use Rattle.pipe_types.specs.declared.topology.StageSpec.{StageSpec}
 use Rattle.stage_callback.specs.declared.answers.Said.{Said}
 use Rattle.stage_bodies.specs.Seen.{BoxSeen}
-use Rattle.stage_bodies.specs.Jobs.{KeepsBox}
 
 abbrev pub box_of : Kind → StageSpec → (count calls bad : ℕ) → (told : Bool) → List Said → BoxSeen
 box_of kind spec count calls bad told said =
     record { kind = kind; spec = spec; count = count; calls = calls; bad = bad; told = told; said = said }
-
--- the same callback with its count at 0
-pub record IsReset (old new : BoxSeen) : Type 0 where
-  pub kept : KeepsBox old new
-  pub zero : new.count ≡ 0
-  pub no_answer : IsTrue old.told → new.said ≡ old.said

@@ -4,7 +4,7 @@ ghost use Rattle.std.specs.Prelude.{◌≡◌, None, Some, option_map};
 ghost use Rattle.stage_bodies.specs.Seen.{BodySeen, BoxSeen, source_seen, sink_seen, line_seen, with_source, with_callback};
 ghost use Rattle.body_jobs.specs.Boxes.{box_of};
 
-use crate::work::run_work;
+use crate::work::{run_work, start_over};
 use pipe_edges::{ByteSink, ByteSource, LineSource};
 use stage_bodies::{Answer, Houses, Job, Works};
 use stage_callback::Callback;
@@ -45,6 +45,12 @@ impl<S: ByteSource + Drop, K: ByteSink + Drop> Works for Body<S, K> {
             incarnation,
             outcome,
         })
+    }
+
+    fn reset(&mut self) {
+        if let Some(callback) = &mut self.callback {
+            start_over(callback);
+        }
     }
 }
 

@@ -150,6 +150,35 @@ fn a_child_begins_from_zero(rt: HostRuntime) -> Result<(), Fail> {
 }
 
 #[test]
+fn a_reset_begins_from_zero(rt: HostRuntime) -> Result<(), Fail> {
+    let alloc = rt.alloc();
+    let mut callback: Box<dyn Callback + Send> = Box::new(alloc, StepsBox::new(alloc))?;
+    let spec = spec_of(alloc)?;
+    assert!(rt; may_arm(&spec));
+    callback.arm(&spec)?;
+    let mut next = Some(callback);
+    for _ in 0..2 {
+        let mut body: Body<MemSource, MemSink> = Body {
+            callback: Some(next.take().ok_or("a callback")?),
+            source: None,
+            sink: None,
+        };
+        let chunk = Job {
+            post: post(),
+            incarnation: 1,
+            work: Work::Chunk(three_of(alloc)?),
+        };
+        let Outcome::Replies(replies) = body.run_job(alloc, chunk)?.outcome else {
+            return Err("replies".into());
+        };
+        assert!(rt; are_three(replies.as_slice()));
+        body.reset();
+        next = body.take_box();
+    }
+    Ok(())
+}
+
+#[test]
 fn a_short_write_fails_every_message(rt: HostRuntime) -> Result<(), Fail> {
     let alloc = rt.alloc();
     let mut callback: Box<dyn Callback + Send> = Box::new(alloc, LinesBox::new(alloc))?;

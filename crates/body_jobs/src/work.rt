@@ -1,8 +1,8 @@
 //! The work of a post on its body.
 
 ghost use Rattle.std.specs.Prelude.{OnErr, IfOk};
-ghost use Rattle.stage_bodies.specs.Jobs.{Fits, IsDone, IsCutOff};
-ghost use Rattle.body_jobs.specs.Boxes.{box_of, IsReset};
+ghost use Rattle.stage_bodies.specs.Jobs.{Fits, IsDone, IsCutOff, IsReset};
+ghost use Rattle.body_jobs.specs.Boxes.{box_of};
 
 use crate::Body;
 use crate::batch::handle_batch;
@@ -84,7 +84,7 @@ fn answer_child<S: ByteSource + Drop, K: ByteSink + Drop>(
 }
 
 /// Counts from 0.
-fn start_over(callback: &mut Box<dyn Callback + Send>)
+pub(crate) fn start_over(callback: &mut Box<dyn Callback + Send>)
     ensures { let old = box_of (kind callback.old) (spec callback.old) (count callback.old) (calls callback.old) (bad callback.old) (told callback.old) (said callback.old) in
         let new = box_of (kind callback.new) (spec callback.new) (count callback.new) (calls callback.new) (bad callback.new) (told callback.new) (said callback.new) in
         IsReset old new }

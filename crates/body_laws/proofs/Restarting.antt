@@ -1,6 +1,6 @@
 -- The bodies of a stage that is restarted.
-use Rattle.std.proofs.Common.{◌≡◌, ℕ, ◌∷◌, Bool, true, false, refl, sym, subst, Some, None, Option}
-use Rattle.std.specs.Prelude.{option_map}
+use Rattle.std.proofs.Common.{◌≡◌, ℕ, [], ◌∷◌, Bool, true, false, refl, ap, sym, ◌∙◌, subst, Some, None, Option}
+use Rattle.std.specs.Prelude.{IsSome, is_some}
 use Rattle.pipe_types.specs.declared.numbers.StageNo.{StageNo}
 use Rattle.pipe_types.specs.declared.numbers.Post.{Post}
 use Rattle.pipe_types.specs.declared.step.Step.TheVariants.{Restart}
@@ -18,15 +18,18 @@ use Rattle.pipe_model.specs.Legal.{is_legal, needs_restart, no_post_out}
 use Rattle.pipe_laws.proofs.Tests.{and_left, and_right, not_true, same_stage-true, same_stage-self}
 use Rattle.pipe_laws.proofs.Allowed.{legal_step, unowed}
 use Rattle.stage_laws.proofs.FewSlots.{none_any, slot_case}
-use Rattle.stage_bodies.specs.Seen.{BoxSeen, BodySeen}
-use Rattle.stage_bodies.specs.Jobs.{Both, KeepsBox, reset}
+use Rattle.stage_bodies.specs.Seen.{LineSeen, SinkSeen, BoxSeen, BodySeen}
+use Rattle.stage_bodies.specs.Jobs.{Both, IsReset, IsResetBody}
 use Rattle.stage_bodies.specs.Posts.{place_at}
-use Rattle.body_laws.specs.Keeps.{has_post, KeepsCallback, KeepsBody, KeepsPost, Keeps}
-use Rattle.body_laws.specs.Lates.{reset_body, AreReset}
+use Rattle.body_laws.specs.Counts.{calls_of, bad_of}
+use Rattle.body_laws.specs.Keeps.{has_post, KeepsSource, KeepsSink, KeepsCallback, KeepsBody, KeepsPost, Keeps}
+use Rattle.body_laws.specs.Lates.{AreReset}
 use Rattle.body_laws.specs.Ready.{There, IsArmed, IsBodyFor, IsBodyAt, Ready}
 use Rattle.body_laws.proofs.Posts.{few_slots}
+use Rattle.body_laws.proofs.Rises.{rise_stays}
 use Rattle.body_laws.proofs.Steps.{stays, flip}
-use Rattle.body_laws.proofs.Staying.{both_map, there_map, post_stays, ready_stays}
+use Rattle.body_laws.proofs.Answering.{box_then}
+use Rattle.body_laws.proofs.Staying.{both_map, both_then, there_map, post_stays, ready_stays}
 use Rattle.body_laws.proofs.Jobs.{source_as, sink_as}
 
 -- no post of the stage is out
@@ -39,50 +42,47 @@ home topology before p sound legal here =
 count_none : (topology : Topology) (before : History) (s : StageNo) → count topology (Restart s ∷ before) s ≡ 0
 count_none topology before s = rw (same_stage-self s) refl
 
-box_reset : (a b : BoxSeen) → KeepsBox a b → KeepsBox a (reset b)
-box_reset a b k = record { kind = k.kind; spec = k.spec; told = k.told; calls = k.calls; bad = k.bad; no_calls = k.no_calls; no_bad = k.no_bad }
-
-callback_restarts : (topology : Topology) (before : History) (p : Post) (a b : BoxSeen) → KeepsCallback topology before p a b → KeepsCallback topology (Restart p.stage ∷ before) p a (reset b)
-callback_restarts topology before p a b k = record {
-  kept = box_reset a b k.kept;
-  count = λ own calm present. sym (count_none topology before p.stage);
-  calls = k.calls;
-  bad = k.bad;
+callback_restarts : (topology : Topology) (before : History) (p : Post) (a b c : BoxSeen) → KeepsCallback topology before p a b → IsReset b c → KeepsCallback topology (Restart p.stage ∷ before) p a c
+callback_restarts topology before p a b c k r = record {
+  kept = box_then a b c k.kept r.kept;
+  count = λ own calm present. r.zero ∙ sym (count_none topology before p.stage);
+  calls = λ own. rise_stays (calls_of before p) a.calls b.calls c.calls (k.calls (sym r.kept.kind ∙ own)) r.kept.calls;
+  bad = λ own. rise_stays (bad_of before p) a.bad b.bad c.bad (k.bad (sym r.kept.kind ∙ own)) r.kept.bad;
 }
 
-callbacks_restart : (topology : Topology) (before : History) (p : Post) (x y : Option BoxSeen) → Both (KeepsCallback topology before p) x y → Both (KeepsCallback topology (Restart p.stage ∷ before) p) x (option_map reset y)
-callbacks_restart topology before p (Some a) (Some b) k = callback_restarts topology before p a b k
-callbacks_restart topology before p None None k = k
-callbacks_restart topology before p (Some a) None k = k
-callbacks_restart topology before p None (Some b) k = k
+source_restarts : (before : History) (s : StageNo) (a b : Option LineSeen) → Both (KeepsSource before s []) a b → Both (KeepsSource (Restart s ∷ before) s []) a b
+source_restarts before s a b k = both_map (λ x y h. source_as before (Restart s ∷ before) s x y refl refl refl refl h) a b k
 
-body_restarts : (topology : Topology) (before : History) (p : Post) (a b : BodySeen) → KeepsBody topology before p a b → KeepsBody topology (Restart p.stage ∷ before) p a (reset_body b)
-body_restarts topology before p a b k = record {
-  source = both_map (λ x y h. source_as before (Restart p.stage ∷ before) p.stage x y refl refl refl refl h) a.source b.source k.source;
-  sink = both_map (λ x y h. sink_as topology before (Restart p.stage ∷ before) p.stage x y refl refl h) a.sink b.sink k.sink;
-  callback = callbacks_restart topology before p a.callback b.callback k.callback;
+sink_restarts : (topology : Topology) (before : History) (s : StageNo) (a b : Option SinkSeen) → Both (KeepsSink topology before s []) a b → Both (KeepsSink topology (Restart s ∷ before) s []) a b
+sink_restarts topology before s a b k = both_map (λ x y h. sink_as topology before (Restart s ∷ before) s x y refl refl h) a b k
+
+body_restarts : (topology : Topology) (before : History) (p : Post) (a b c : BodySeen) → KeepsBody topology before p a b → IsResetBody b c → KeepsBody topology (Restart p.stage ∷ before) p a c
+body_restarts topology before p a b c k r = record {
+  source = source_restarts before p.stage a.source c.source (subst (λ o. Both (KeepsSource before p.stage []) a.source o) (sym r.source) k.source);
+  sink = sink_restarts topology before p.stage a.sink c.sink (subst (λ o. Both (KeepsSink topology before p.stage []) a.sink o) (sym r.sink) k.sink);
+  callback = both_then (λ x y z h g. callback_restarts topology before p x y z h g) a.callback b.callback c.callback k.callback r.callback;
 }
 
-bodies_restart : (topology : Topology) (before : History) (p : Post) (x y : Option BodySeen) → Both (KeepsBody topology before p) x y → Both (KeepsBody topology (Restart p.stage ∷ before) p) x (option_map reset_body y)
-bodies_restart topology before p (Some a) (Some b) k = body_restarts topology before p a b k
-bodies_restart topology before p None None k = k
-bodies_restart topology before p (Some a) None k = k
-bodies_restart topology before p None (Some b) k = k
+armed_restarts : (topology : Topology) (before : History) (s : StageNo) (spec : StageSpec) (x y : Option BoxSeen) → Both IsReset x y → There x (IsArmed topology before s spec) → There y (IsArmed topology (Restart s ∷ before) s spec)
+armed_restarts topology before s spec (Some b) (Some c) r armed =
+    record { spec = r.kept.spec ∙ armed.spec; kind = r.kept.kind ∙ armed.kind; count = λ own calm present. r.zero ∙ sym (count_none topology before s) }
+armed_restarts topology before s spec None None r armed = armed
+armed_restarts topology before s spec (Some b) None r armed = r
+armed_restarts topology before s spec None (Some c) r armed = absurd r
 
-armed_restarts : (topology : Topology) (before : History) (s : StageNo) (spec : StageSpec) (x : Option BoxSeen) → There x (IsArmed topology before s spec) → There (option_map reset x) (IsArmed topology (Restart s ∷ before) s spec)
-armed_restarts topology before s spec (Some b) armed = record { spec = armed.spec; kind = armed.kind; count = λ own calm present. sym (count_none topology before s) }
-armed_restarts topology before s spec None armed = armed
+fit_restarts : (topology : Topology) (before : History) (s : StageNo) (spec : StageSpec) (role : Role) (body after : BodySeen) → IsResetBody body after → IsBodyFor topology before s spec role body → IsBodyFor topology (Restart s ∷ before) s spec role after
+fit_restarts topology before s spec Producer body after r k = subst (λ (o : Option LineSeen). IsSome o) (sym r.source) k
+fit_restarts topology before s spec Processor body after r k = armed_restarts topology before s spec body.callback after.callback r.callback k
+fit_restarts topology before s spec Supervisor body after r k = armed_restarts topology before s spec body.callback after.callback r.callback k
+fit_restarts topology before s spec Batcher body after r k = k
+fit_restarts topology before s spec BatchProcessor body after r k =
+    (armed_restarts topology before s spec body.callback after.callback r.callback k.0, ap (λ (o : Option SinkSeen). is_some o) r.sink ∙ k.1)
 
-fit_restarts : (topology : Topology) (before : History) (s : StageNo) (spec : StageSpec) (role : Role) (body : BodySeen) → IsBodyFor topology before s spec role body → IsBodyFor topology (Restart s ∷ before) s spec role (reset_body body)
-fit_restarts topology before s spec Producer body k = k
-fit_restarts topology before s spec Processor body k = armed_restarts topology before s spec body.callback k
-fit_restarts topology before s spec Supervisor body k = armed_restarts topology before s spec body.callback k
-fit_restarts topology before s spec Batcher body k = k
-fit_restarts topology before s spec BatchProcessor body k = (armed_restarts topology before s spec body.callback k.0, k.1)
-
-ready_restarts : (topology : Topology) (before : History) (p : Post) (x : Option BodySeen) → There x (IsBodyAt topology before p) → There (option_map reset_body x) (IsBodyAt topology (Restart p.stage ∷ before) p)
-ready_restarts topology before p (Some body) k = there_map (λ spec h. fit_restarts topology before p.stage spec spec.role body h) (spec_of topology p.stage) k
-ready_restarts topology before p None k = k
+ready_restarts : (topology : Topology) (before : History) (p : Post) (x y : Option BodySeen) → Both IsResetBody x y → There x (IsBodyAt topology before p) → There y (IsBodyAt topology (Restart p.stage ∷ before) p)
+ready_restarts topology before p (Some body) (Some after) r k = there_map (λ spec h. fit_restarts topology before p.stage spec spec.role body after r h) (spec_of topology p.stage) k
+ready_restarts topology before p None None r k = k
+ready_restarts topology before p (Some body) None r k = r
+ready_restarts topology before p None (Some after) r k = absurd k
 
 as_home : (topology : Topology) (before : History) (p : Post) (b : Bool) (x y : Option BodySeen) → b ≡ false → KeepsPost topology before p b x y → KeepsPost topology before p false x y
 as_home topology before p b x y e k = subst (λ c. KeepsPost topology before p c x y) e k
@@ -97,10 +97,10 @@ restart_keeps topology before s opened now after sound legal all keeps q here = 
     either true e =
         let is : s ≡ q.stage = same_stage-true s q.stage e in
         let at : is_out before q ≡ false = home topology before q sound (subst (λ t. is_legal topology (Restart t ∷ before) ≡ true) is legal) here in
-        subst (λ x. KeepsPost topology (Restart s ∷ before) q (is_out before q) (opened (place_at q)) x) (sym (all.here q here (sym is)))
-        (subst (λ b. KeepsPost topology (Restart s ∷ before) q b (opened (place_at q)) (option_map reset_body (now (place_at q)))) (sym at)
-        (subst (λ t. Both (KeepsBody topology (Restart t ∷ before) q) (opened (place_at q)) (option_map reset_body (now (place_at q)))) (sym is)
-        (bodies_restart topology before q (opened (place_at q)) (now (place_at q)) (as_home topology before q (is_out before q) (opened (place_at q)) (now (place_at q)) at (keeps q here)))))
+        subst (λ b. KeepsPost topology (Restart s ∷ before) q b (opened (place_at q)) (after (place_at q))) (sym at)
+        (subst (λ t. Both (KeepsBody topology (Restart t ∷ before) q) (opened (place_at q)) (after (place_at q))) (sym is)
+        (both_then (λ x y z h r. body_restarts topology before q x y z h r) (opened (place_at q)) (now (place_at q)) (after (place_at q))
+        (as_home topology before q (is_out before q) (opened (place_at q)) (now (place_at q)) at (keeps q here)) (all.here q here (sym is))))
 
 pub restart_ready : (topology : Topology) (before : History) (s : StageNo) (now after : ℕ → Option BodySeen) → IsSound topology → is_legal topology (Restart s ∷ before) ≡ true → AreReset topology s now after → Ready topology before now → Ready topology (Restart s ∷ before) after
 restart_ready topology before s now after sound legal all ready q here at = either (same_stage s q.stage) refl
@@ -111,5 +111,5 @@ restart_ready topology before s now after sound legal all ready q here at = eith
         (there_map (λ body h. ready_stays topology before (Restart s) q body (stays topology before (Restart s) q sound legal here refl (flip s q.stage e)) h) (now (place_at q)) (ready q here at))
     either true e =
         let is : s ≡ q.stage = same_stage-true s q.stage e in
-        subst (λ x. There x (IsBodyAt topology (Restart s ∷ before) q)) (sym (all.here q here (sym is)))
-        (subst (λ t. There (option_map reset_body (now (place_at q))) (IsBodyAt topology (Restart t ∷ before) q)) (sym is) (ready_restarts topology before q (now (place_at q)) (ready q here at)))
+        subst (λ t. There (after (place_at q)) (IsBodyAt topology (Restart t ∷ before) q)) (sym is)
+        (ready_restarts topology before q (now (place_at q)) (after (place_at q)) (all.here q here (sym is)) (ready q here at))

@@ -1,10 +1,10 @@
 -- Killed incarnations: the answers that come late, and the bodies of the stage's next incarnation.
-use Rattle.std.specs.Prelude.{◌≡◌, ℕ, false, IsTrue, Option, option_map}
+use Rattle.std.specs.Prelude.{◌≡◌, ℕ, false, IsTrue, Option}
 use Rattle.pipe_types.specs.declared.numbers.StageNo.{StageNo}
 use Rattle.pipe_types.specs.declared.topology.Topology.{Topology}
 use Rattle.pipe_types.specs.Numbers.{same_stage}
 use Rattle.stage_bodies.specs.Seen.{BodySeen}
-use Rattle.stage_bodies.specs.Jobs.{reset}
+use Rattle.stage_bodies.specs.Jobs.{Both, IsResetBody}
 use Rattle.stage_bodies.specs.Posts.{place_at}
 use Rattle.body_laws.specs.Keeps.{has_post}
 use Rattle.pipe_types.specs.declared.numbers.Post.{Post}
@@ -30,11 +30,7 @@ late_step p i outcome = Late p.stage p.slot i (late_of outcome)
 
 -- ---- restarts
 
--- the body with its callback's count at 0
-abbrev pub reset_body : BodySeen → BodySeen
-reset_body body = record body { callback = option_map reset body.callback }
-
 -- the bodies of the stage's posts are reset, and the others are as they were
 pub record AreReset (topology : Topology) (s : StageNo) (now after : ℕ → Option BodySeen) : Type 0 where
-  pub here : (p : Post) → IsTrue (has_post topology p) → p.stage ≡ s → after (place_at p) ≡ option_map reset_body (now (place_at p))
+  pub here : (p : Post) → IsTrue (has_post topology p) → p.stage ≡ s → Both IsResetBody (now (place_at p)) (after (place_at p))
   pub elsewhere : (p : Post) → IsTrue (has_post topology p) → same_stage s p.stage ≡ false → after (place_at p) ≡ now (place_at p)

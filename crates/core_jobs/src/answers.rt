@@ -1,14 +1,15 @@
 //! The answers to jobs.
 
-ghost use Rattle.std.specs.Prelude.{◌≡◌, ◌∷◌, false, OnOk, OnErr, IsTrue};
+ghost use Rattle.std.specs.Prelude.{◌≡◌, ◌∷◌, OnOk, OnErr, IsTrue};
 ghost use Rattle.pipe_types.specs.declared.step.Step.TheVariants.{Accept, Done, Wrote, ChildEnd};
 ghost use Rattle.pipe_model.specs.Content.{has_crash};
 ghost use Rattle.pipe_model.specs.Legal.{allows};
 ghost use Rattle.core_state.specs.Stands.{Stands};
 ghost use Rattle.core_accepts.specs.Records.{and_dispatch};
-ghost use Rattle.stage_bodies.specs.Posts.{step_of, is_crash, is_crashed_end};
-ghost use Rattle.core_jobs.specs.Recorded.{with_answer};
+ghost use Rattle.stage_bodies.specs.Posts.{step_of, is_crashed_end};
+ghost use Rattle.core_jobs.specs.Recorded.{and_kill, with_answer};
 
+use crate::crashes::{any_crashed, crash_batch, crash_chunk, has_crashed};
 use core_accepts::calls::accept;
 use core_batches::writes::wrote;
 use core_calls::sources::{quiet, source_end};
@@ -21,12 +22,12 @@ use pipe_types::numbers::{Post, StageNo};
 use stage_bodies::{Answer, Outcome};
 use std::alloc::AllocError;
 
-/// Appends the answer to the job of a post, which is no crash of a processor or a batch processor. Behind records comes the
-/// dispatch that they owe. Where memory is wanting the answer is gone.
+/// Appends the answer to the job of a post, and the step that it owes: behind records the dispatch, and behind the crash of
+/// a processor or a batch processor the kill of its stage. Where memory is wanting nothing is appended, and the answer is
+/// gone.
 pub fn record_answer(core: &mut Core, answer: Answer) -> Result<(), AllocError>
     requires stands { Stands core.old }
     requires legal { IsTrue (allows core.old.topology core.old.journal.steps (step_of answer.post answer.outcome)) }
-    requires calm { is_crash answer.outcome ≡ false }
     ensures appended { OnOk result (core.new.journal.steps ≡ with_answer core.old.topology core.old.journal.steps answer.post answer.outcome) }
     ensures unchanged { OnErr result (core.new.journal.steps ≡ core.old.journal.steps) }
     ensures topology { core.new.topology ≡ core.old.topology }
@@ -64,12 +65,14 @@ fn bring(core: &mut Core, stage: StageNo, records: BytesList) -> Result<(), Allo
 fn reply(core: &mut Core, stage: StageNo, replies: ReplyList) -> Result<(), AllocError>
     requires stands { Stands core.old }
     requires legal { IsTrue (allows core.old.topology core.old.journal.steps (Done stage replies)) }
-    requires calm { has_crash replies ≡ false }
-    ensures appended { OnOk result (core.new.journal.steps ≡ Done stage replies ∷ core.old.journal.steps) }
+    ensures appended { OnOk result (core.new.journal.steps ≡ and_kill (has_crash replies) stage (Done stage replies ∷ core.old.journal.steps)) }
     ensures unchanged { OnErr result (core.new.journal.steps ≡ core.old.journal.steps) }
     ensures topology { core.new.topology ≡ core.old.topology }
     ensures stands { Stands core.new }
 {
+    if any_crashed(replies.as_slice()) {
+        return crash_chunk(core, stage, replies);
+    }
     match answer(core, stage, replies) {
         Ok(()) => Ok(()),
         Err((_, failed)) => Err(failed),
@@ -79,12 +82,14 @@ fn reply(core: &mut Core, stage: StageNo, replies: ReplyList) -> Result<(), Allo
 fn end_batch(core: &mut Core, stage: StageNo, bytes: u64, end: BatchEnd) -> Result<(), AllocError>
     requires stands { Stands core.old }
     requires legal { IsTrue (allows core.old.topology core.old.journal.steps (Wrote stage bytes end)) }
-    requires calm { is_crashed_end end ≡ false }
-    ensures appended { OnOk result (core.new.journal.steps ≡ Wrote stage bytes end ∷ core.old.journal.steps) }
+    ensures appended { OnOk result (core.new.journal.steps ≡ and_kill (is_crashed_end end) stage (Wrote stage bytes end ∷ core.old.journal.steps)) }
     ensures unchanged { OnErr result (core.new.journal.steps ≡ core.old.journal.steps) }
     ensures topology { core.new.topology ≡ core.old.topology }
     ensures stands { Stands core.new }
 {
+    if has_crashed(&end) {
+        return crash_batch(core, stage);
+    }
     match wrote(core, stage, end, bytes) {
         Ok(()) => Ok(()),
         Err((_, failed)) => Err(failed),

@@ -8,13 +8,15 @@ ghost use Rattle.core_jobs.specs.Steps.{is_own_step};
 use core_batches::gathers::gather;
 use core_calls::asks::ask;
 use core_closes::close;
+use core_kills::kills::halt;
 use core_moves::drain::begin;
+use core_restarts::restart;
 use core_sends::sending::dispatch;
 use core_state::Core;
 use pipe_types::step::Step;
 use std::alloc::AllocError;
 
-/// Appends the step: an ask, a dispatch, a gather, the close of a batch, or the begin of the drain.
+/// Appends the step: an ask, a dispatch, a gather, the close of a batch, a restart, the begin of the drain, or the halt.
 pub fn own_step(core: &mut Core, step: Step) -> Result<(), AllocError>
     requires stands { Stands core.old }
     requires legal { IsTrue (allows core.old.topology core.old.journal.steps step) }
@@ -38,7 +40,9 @@ pub fn own_step(core: &mut Core, step: Step) -> Result<(), AllocError>
             close(core, stage, first)?;
             Ok(())
         }
+        Step::Restart { stage } => restart(core, stage),
         Step::Drain { cause } => begin(core, cause),
+        Step::Halt => halt(core),
         _ => unreachable!(),
     }
 }

@@ -16,7 +16,6 @@ use Rattle.body_laws.proofs.Rises.{rise_none}
 use Rattle.body_laws.proofs.Starts.{starts}
 use Rattle.stage_rounds.specs.Clocks.{ClockSeen, KeepsClock}
 use Rattle.stage_rounds.specs.Going.{IsAtRest}
-use Rattle.stage_rounds.specs.Steps.{is_calm}
 
 none_in : (stages : List StageSpec) → list_any (λ spec. has_post_out [] spec.no) stages ≡ false
 none_in [] = refl
@@ -25,9 +24,9 @@ none_in (spec ∷ rest) = none_in rest
 pub none_yet : (topology : Topology) → jobs_out topology [] ≡ false
 none_yet topology = none_in topology.stages
 
-pub at_rest : (topology : Topology) (before : History) (table : ℕ → Option BodySeen) → before ≡ [] → is_calm topology ≡ true → IsFilled topology table → IsAtRest topology before table
-at_rest topology before table empty calm filled =
-    subst (λ h. IsAtRest topology h table) (sym empty) (record { none_out = none_yet topology; unkilled = refl; calm = calm; ready = filled.ready })
+pub at_rest : (topology : Topology) (before : History) (table : ℕ → Option BodySeen) → before ≡ [] → IsFilled topology table → IsAtRest topology before table
+at_rest topology before table empty filled =
+    subst (λ h. IsAtRest topology h table) (sym empty) (record { none_out = none_yet topology; ready = filled.ready })
 
 pub clock_starts : (before : History) (clock : ClockSeen) → before ≡ [] → KeepsClock before clock clock
 clock_starts before clock empty = subst (λ h. KeepsClock h clock clock) (sym empty) (record { latest = omega arith; readings = rise_none clock.readings })

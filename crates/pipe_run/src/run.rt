@@ -1,6 +1,6 @@
 //! The run.
 
-ghost use Rattle.std.specs.Prelude.{◌≡◌, ◌≤◌, ◌<◌, ◌*◌, ℕ, [], length, true, map, is_ok, IfOk, IfErr, OnOk, OnErr};
+ghost use Rattle.std.specs.Prelude.{◌≡◌, ◌≤◌, ◌<◌, ◌*◌, ℕ, [], length, map, is_ok, IfOk, IfErr, OnOk, OnErr};
 ghost use Rattle.pipe_types.specs.Sound.{IsSound};
 ghost use Rattle.core_state.specs.Stands.{Stands};
 ghost use Rattle.stage_bodies.specs.Seen.{body_at};
@@ -8,7 +8,6 @@ ghost use Rattle.stage_bodies.specs.Jobs.{Both};
 ghost use Rattle.body_laws.specs.Ready.{IsFilled};
 ghost use Rattle.stage_rounds.specs.Clocks.{clock_seen};
 ghost use Rattle.stage_rounds.specs.Rounds.{HasEnded};
-ghost use Rattle.stage_rounds.specs.Steps.{is_calm};
 ghost use Rattle.edge_names.specs.Opened.{edge_calls};
 ghost use Rattle.edge_names.specs.Returned.{IsAskedInPart, KeepsCallbacks};
 ghost use Rattle.box_stock.specs.Homes.{Suffices};
@@ -68,7 +67,6 @@ pub fn run_topology<
     clock: &mut K,
 ) -> Ended<C>
     requires sound { IsSound topology }
-    requires calm { is_calm topology ≡ true }
     requires suffices { Suffices topology (kinds_of C.seen stock.items) }
     ensures topology { IfOk result.run (λ run. run.core.topology ≡ topology) }
     ensures stands { IfOk result.run (λ run. Stands run.core) }
@@ -106,7 +104,6 @@ fn run_bodies<R: Wait, E: Edges, C: Boxed, B: Carries<C> + Houses<E::Source, E::
     clock: &mut K,
 ) -> Result<Run, NoRun>
     requires sound { IsSound topology }
-    requires calm { is_calm topology ≡ true }
     requires handed { AreHandedOut topology (body_at B.look bodies.old.items) }
     ensures topology { IfOk result (λ run. run.core.topology ≡ topology) }
     ensures stands { IfOk result (λ run. Stands run.core) }
@@ -141,7 +138,6 @@ fn run_opened<R: Wait, E: Edges, B: Houses<E::Source, E::Sink>, K: Clock>(
 ) -> Run
     requires stands { Stands core }
     requires empty { core.journal.steps ≡ [] }
-    requires calm { is_calm core.topology ≡ true }
     requires filled { IsFilled core.topology (body_at B.look bodies.old.items) }
     ensures topology { result.core.topology ≡ core.topology }
     ensures stands { Stands result.core }

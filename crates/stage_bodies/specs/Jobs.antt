@@ -93,6 +93,18 @@ pub record Replies (messages : List Message) (replies : List Reply) (old new : B
 abbrev pub reset : BoxSeen → BoxSeen
 reset box = record box { count = 0 }
 
+-- the same callback, which counts from 0 again and gave no answer
+pub record IsReset (old new : BoxSeen) : Type 0 where
+  pub kept : KeepsBox old new
+  pub zero : new.count ≡ 0
+  pub no_answer : IsTrue old.told → new.said ≡ old.said
+
+-- the callback is reset, and the source and the sink are as they were
+pub record IsResetBody (old new : BodySeen) : Type 0 where
+  pub source : new.source ≡ old.source
+  pub sink : new.sink ≡ old.sink
+  pub callback : Both IsReset old.callback new.callback
+
 -- ---- batches
 
 -- the text of a batch that ended so

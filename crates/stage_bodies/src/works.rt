@@ -2,7 +2,7 @@
 
 ghost use Rattle.std.specs.Prelude.{◌≡◌, OnErr, IfOk};
 ghost use Rattle.stage_bodies.specs.Seen.{BodySeen};
-ghost use Rattle.stage_bodies.specs.Jobs.{Fits, IsDone, IsCutOff};
+ghost use Rattle.stage_bodies.specs.Jobs.{Fits, IsDone, IsCutOff, IsResetBody};
 
 use crate::job::{Answer, Job};
 use std::alloc::{AllocError, Global};
@@ -19,4 +19,8 @@ pub trait Works: Drop {
         ensures post { IfOk result (λ answer. (answer.post ≡ job.post) × (answer.incarnation ≡ job.incarnation)) }
         ensures done { IfOk result (λ answer. IsDone job.work answer.outcome (look self.old) (look self.new)) }
         ensures cut_off { OnErr result (IsCutOff (look self.old) (look self.new)) };
+
+    /// Has its callback count from 0 again. It takes no memory.
+    fn reset(&mut self)
+        ensures { IsResetBody (look self.old) (look self.new) };
 }

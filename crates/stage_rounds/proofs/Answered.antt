@@ -1,24 +1,25 @@
 -- What a job with its answer leaves of a run.
-use Rattle.std.proofs.Common.{◌≡◌, ℕ, ◌+◌, ◌≤◌, ◌<◌, ◌∷◌, Bool, true, false, refl, ap, sym, ◌∙◌, subst, inl, Some, None, Option, arith}
+use Rattle.std.proofs.Common.{◌≡◌, ℕ, ◌+◌, ◌≤◌, ◌<◌, List, ◌∷◌, Bool, true, false, refl, ap, sym, ◌∙◌, subst, inl, Some, None, Option, arith}
 use Rattle.std.specs.Prelude.{◌==◌, if◌then◌else◌, IsSome}
 use Rattle.pipe_types.specs.declared.numbers.StageNo.{StageNo}
 use Rattle.pipe_types.specs.declared.numbers.Post.{Post}
-use Rattle.pipe_types.specs.declared.step.Step.TheVariants.{Accept, SourceEnd, Done, Wrote, ChildEnd, Dispatch}
+use Rattle.pipe_types.specs.declared.message.Why.TheVariants.{Crash}
+use Rattle.pipe_types.specs.declared.step.Step.TheVariants.{Accept, SourceEnd, Done, Wrote, ChildEnd, Dispatch, Kill}
 use Rattle.pipe_types.specs.declared.topology.Topology.{Topology}
 use Rattle.pipe_types.specs.Sound.{IsSound}
 use Rattle.pipe_model.specs.History.{History, now}
+use Rattle.pipe_model.specs.Content.{has_crash}
 use Rattle.pipe_model.specs.Posts.{puts_out}
 use Rattle.pipe_model.specs.Legal.{is_legal, owed, may_dispatch, quiet_row}
 use Rattle.pipe_model.specs.Moves.{jobs_out}
 use Rattle.pipe_laws.proofs.Allowed.{legal_before}
 use Rattle.run_claims.specs.Followed.{FollowsMoves, IsNextMove}
 use Rattle.run_claims.specs.Read.{HasNoControl}
-use Rattle.work_laws.specs.Work.{is_killing}
 use Rattle.work_laws.specs.Left.{work_left}
 use Rattle.work_laws.proofs.Leaving.{work_lowers, quiet_lowers}
 use Rattle.stage_bodies.specs.Seen.{BodySeen}
 use Rattle.stage_bodies.specs.Jobs.{Both, IsDone}
-use Rattle.stage_bodies.specs.Posts.{place_at, IsOutNow, IsJobOf, step_of}
+use Rattle.stage_bodies.specs.Posts.{place_at, IsOutNow, IsJobOf, step_of, is_crashed_end}
 use Rattle.stage_bodies.specs.declared.job.Answer.{Answer}
 use Rattle.stage_bodies.specs.declared.job.Job.{Job}
 use Rattle.stage_bodies.specs.declared.job.Outcome.{Outcome as Came}
@@ -28,9 +29,8 @@ use Rattle.body_laws.specs.Ready.{There, IsBodyAt, Ready}
 use Rattle.body_laws.proofs.Laws.{silent_keeps, silent_ready, away_keeps, away_ready, answer_keeps, answer_ready, step_puts_out, answers_self, names_slot, stage_low, NamesSlot}
 use Rattle.body_laws.proofs.Jobs.{begun_keeps, begun_ready}
 use Rattle.core_jobs.specs.Recorded.{with_answer}
-use Rattle.stage_rounds.specs.Steps.{jobs_begun, was_killed}
+use Rattle.stage_rounds.specs.Steps.{jobs_begun}
 use Rattle.stage_rounds.specs.Going.{GoesOn, IsAtRest, HasCallback}
-use Rattle.stage_rounds.proofs.Own.{unkilled_more, own_out}
 use Rattle.stage_rounds.proofs.Outs.{none_out_after, put_only}
 use Rattle.stage_rounds.proofs.Working.{Began}
 
@@ -38,23 +38,29 @@ use Rattle.stage_rounds.proofs.Working.{Began}
 
 with_cases : (topology : Topology) (before : History) (p : Post) (o : Came) (P : History → Type 0) → is_legal topology (with_answer topology before p o) ≡ true
     → (is_legal topology (step_of p o ∷ before) ≡ true → P (step_of p o ∷ before))
-    → ((s : StageNo) (h : History) → is_legal topology (Dispatch s ∷ h) ≡ true → IsSome (owed topology h) → P h → P (Dispatch s ∷ h)) → P (with_answer topology before p o)
-with_cases topology before p (came.Records records) P legal first more = by_may (may_dispatch topology (Accept p.stage records ∷ before) p.stage) refl legal
+    → ((s : StageNo) (h : History) → is_legal topology (Dispatch s ∷ h) ≡ true → IsSome (owed topology h) → P h → P (Dispatch s ∷ h))
+    → ((s : StageNo) (h : History) → is_legal topology (Kill s Crash ∷ h) ≡ true → P h → P (Kill s Crash ∷ h)) → P (with_answer topology before p o)
+with_cases topology before p o P legal first more kill = by_outcome o legal first
   where
-    h : History
-    h = Accept p.stage records ∷ before
+    by_may : (h : History) (b : Bool) → may_dispatch topology h p.stage ≡ b → (may_dispatch topology h p.stage ≡ true → IsSome (owed topology h)) → is_legal topology (if b then Dispatch p.stage ∷ h else h) ≡ true → (is_legal topology h ≡ true → P h)
+        → P (if b then Dispatch p.stage ∷ h else h)
+    by_may h true e owes l at = more p.stage h l (owes e) (at (legal_before topology h (Dispatch p.stage) l))
+    by_may h false e owes l at = at l
 
-    by_may : (b : Bool) → may_dispatch topology h p.stage ≡ b → is_legal topology (if b then Dispatch p.stage ∷ h else h) ≡ true → P (if b then Dispatch p.stage ∷ h else h)
-    by_may true e l = more p.stage h l (owes e) (first (legal_before topology h (Dispatch p.stage) l))
-      where
-        owes : may_dispatch topology h p.stage ≡ true → IsSome (owed topology h)
-        owes k = rw k refl
-    by_may false e l = first l
-with_cases topology before p came.NotYet P legal first more = first legal
-with_cases topology before p (came.Ended how) P legal first more = first legal
-with_cases topology before p (came.Replies replies) P legal first more = first legal
-with_cases topology before p (came.Wrote bytes end) P legal first more = first legal
-with_cases topology before p (came.Reply reply) P legal first more = first legal
+    by_crash : (h : History) (b : Bool) → is_legal topology (if b then Kill p.stage Crash ∷ h else h) ≡ true → (is_legal topology h ≡ true → P h) → P (if b then Kill p.stage Crash ∷ h else h)
+    by_crash h true l at = kill p.stage h l (at (legal_before topology h (Kill p.stage Crash) l))
+    by_crash h false l at = at l
+
+    owes : (records : List (List ℕ)) → may_dispatch topology (Accept p.stage records ∷ before) p.stage ≡ true → IsSome (owed topology (Accept p.stage records ∷ before))
+    owes records k = rw k refl
+
+    by_outcome : (o : Came) → is_legal topology (with_answer topology before p o) ≡ true → (is_legal topology (step_of p o ∷ before) ≡ true → P (step_of p o ∷ before)) → P (with_answer topology before p o)
+    by_outcome (came.Records records) l at = by_may (Accept p.stage records ∷ before) (may_dispatch topology (Accept p.stage records ∷ before) p.stage) refl (owes records) l at
+    by_outcome came.NotYet l at = at l
+    by_outcome (came.Ended how) l at = at l
+    by_outcome (came.Replies replies) l at = by_crash (Done p.stage replies ∷ before) (has_crash replies) l at
+    by_outcome (came.Wrote bytes end) l at = by_crash (Wrote p.stage bytes end ∷ before) (is_crashed_end end) l at
+    by_outcome (came.Reply reply) l at = at l
 
 answer_next : (topology : Topology) (before : History) (p : Post) (o : Came) → IsNextMove topology before (step_of p o)
 answer_next topology before p (came.Records records) = tt
@@ -63,14 +69,6 @@ answer_next topology before p (came.Ended how) = tt
 answer_next topology before p (came.Replies replies) = tt
 answer_next topology before p (came.Wrote bytes end) = tt
 answer_next topology before p (came.Reply reply) = tt
-
-answer_harmless : (p : Post) (o : Came) → is_killing (step_of p o) ≡ false
-answer_harmless p (came.Records records) = refl
-answer_harmless p came.NotYet = refl
-answer_harmless p (came.Ended how) = refl
-answer_harmless p (came.Replies replies) = refl
-answer_harmless p (came.Wrote bytes end) = refl
-answer_harmless p (came.Reply reply) = refl
 
 none_more : (n : ℕ) → 0 + n ≡ n
 none_more n = omega arith
@@ -116,7 +114,6 @@ answer_lowers topology before p (came.Reply reply) sound legal row = work_lowers
 -- what a job leaves: the run goes on and is at rest again, and less work is left
 pub record Leaves (topology : Topology) (before : History) (home : ℕ → Option BodySeen) (after : History) (back : ℕ → Option BodySeen) : Type 0 where
   pub follows : FollowsMoves topology before → FollowsMoves topology after
-  pub unkilled : was_killed after ≡ false
   pub keeps : (opened : ℕ → Option BodySeen) → Keeps topology before opened home → Keeps topology after opened back
   pub control : HasNoControl before → HasNoControl after
   pub none_out : jobs_out topology after ≡ false
@@ -125,23 +122,35 @@ pub record Leaves (topology : Topology) (before : History) (home : ℕ → Optio
   pub begun : jobs_begun after ≡ jobs_begun before + 1
   pub less : 1 ≤ topology.idle_limit → work_left topology after < work_left topology before
 
+lower : (topology : Topology) (before h after : History) → work_left topology h < work_left topology before → work_left topology after < work_left topology h → work_left topology after < work_left topology before
+lower topology before h after a b = omega (arith, a, b)
+
 dispatched : (topology : Topology) (before : History) (home : ℕ → Option BodySeen) (s : StageNo) (h : History) (back : ℕ → Option BodySeen) → IsSound topology → is_legal topology (Dispatch s ∷ h) ≡ true → IsSome (owed topology h)
     → Leaves topology before home h back → Leaves topology before home (Dispatch s ∷ h) back
-dispatched topology before home s h back sound legal owes l =
-    record {
-      follows = λ f. (l.follows f, inl owes);
-      unkilled = l.unkilled;
-      keeps = λ opened k. silent_keeps topology h (Dispatch s) opened back sound legal refl (l.keeps opened k);
-      control = λ n. let c = l.control n in record { no_step = c.no_step; no_end = c.no_end };
-      none_out = own_out topology h (Dispatch s) refl ∙ l.none_out;
-      ready = silent_ready topology h (Dispatch s) back sound legal refl l.ready;
-      same_time = l.same_time;
-      begun = none_more (jobs_begun h) ∙ l.begun;
-      less = λ limit. lower (l.less limit) (work_lowers topology h (Dispatch s) sound legal refl);
-    }
-  where
-    lower : work_left topology h < work_left topology before → work_left topology (Dispatch s ∷ h) < work_left topology h → work_left topology (Dispatch s ∷ h) < work_left topology before
-    lower a b = omega (arith, a, b)
+dispatched topology before home s h back sound legal owes l = record {
+  follows = λ f. (l.follows f, inl owes);
+  keeps = λ opened k. silent_keeps topology h (Dispatch s) opened back sound legal refl (l.keeps opened k);
+  control = λ n. let c = l.control n in record { no_step = c.no_step; no_end = c.no_end };
+  none_out = l.none_out;
+  ready = silent_ready topology h (Dispatch s) back sound legal refl l.ready;
+  same_time = l.same_time;
+  begun = none_more (jobs_begun h) ∙ l.begun;
+  less = λ limit. lower topology before h (Dispatch s ∷ h) (l.less limit) (work_lowers topology h (Dispatch s) sound legal refl);
+}
+
+-- the kill that a crash owes: no job is out, and none comes back late
+killed : (topology : Topology) (before : History) (home : ℕ → Option BodySeen) (s : StageNo) (h : History) (back : ℕ → Option BodySeen) → IsSound topology → is_legal topology (Kill s Crash ∷ h) ≡ true
+    → Leaves topology before home h back → Leaves topology before home (Kill s Crash ∷ h) back
+killed topology before home s h back sound legal l = record {
+  follows = λ f. (l.follows f, tt);
+  keeps = λ opened k. silent_keeps topology h (Kill s Crash) opened back sound legal refl (l.keeps opened k);
+  control = λ n. let c = l.control n in record { no_step = c.no_step; no_end = c.no_end };
+  none_out = l.none_out;
+  ready = silent_ready topology h (Kill s Crash) back sound legal refl l.ready;
+  same_time = l.same_time;
+  begun = none_more (jobs_begun h) ∙ l.begun;
+  less = λ limit. lower topology before h (Kill s Crash ∷ h) (l.less limit) (work_lowers topology h (Kill s Crash) sound legal refl);
+}
 
 there_one : {A : Type 0} (P : A → Type 0) (x : Option A) (a : A) → x ≡ Some a → There x P → P a
 there_one P x a e h = subst (λ o. There o P) e h
@@ -155,7 +164,6 @@ answered_first : (topology : Topology) (before after : History) (home away back 
 answered_first topology before after home away back job answer old new b sound rest legal is at gone come same done answered =
     record {
       follows = λ f. ((f, b.next), answer_next topology h answer.post answer.outcome);
-      unkilled = unkilled_more (step_of answer.post answer.outcome) h (answer_harmless answer.post answer.outcome) (unkilled_more b.step before b.harmless rest.unkilled);
       keeps = λ opened k.
           answer_keeps topology h job answer old new opened away back sound answered is same fit done
           (subst (λ o. Both (KeepsBody topology h job.post) (opened (place_at job.post)) o) at (begun_keeps topology before b.step job.post opened home sound legal b.puts k)) come
@@ -170,7 +178,7 @@ answered_first topology before after home away back job answer old new b sound r
           (away_ready topology h job.post home away sound is.out gone (silent_ready topology before b.step home sound legal b.silent rest.ready));
       same_time = answer_time h answer.post answer.outcome ∙ b.same_time;
       begun = answer_begins h answer.post answer.outcome ∙ b.begun ∙ one_more (jobs_begun before);
-      less = λ limit. lower (answer_lowers topology h answer.post answer.outcome sound answered (b.row limit)) b.left;
+      less = λ limit. below (answer_lowers topology h answer.post answer.outcome sound answered (b.row limit)) b.left;
     }
   where
     h : History
@@ -185,8 +193,8 @@ answered_first topology before after home away back job answer old new b sound r
     one_more : (n : ℕ) → 1 + n ≡ n + 1
     one_more n = omega arith
 
-    lower : {a b c : ℕ} → a < b → b ≤ c → a < c
-    lower x y = omega (arith, x, y)
+    below : {a b c : ℕ} → a < b → b ≤ c → a < c
+    below x y = omega (arith, x, y)
 
 pub answered : (topology : Topology) (before after done_after : History) (home away back : ℕ → Option BodySeen) (job : Job) (answer : Answer) (old new : BodySeen)
     → IsSound topology → IsAtRest topology before home → Began topology before after job.post → is_legal topology after ≡ true → IsJobOf topology after job
@@ -197,7 +205,7 @@ answered topology before after done_after home away back job answer old new soun
     subst (λ h. Leaves topology before home h back) (sym whole)
     (with_cases topology (b.step ∷ before) answer.post answer.outcome (λ h. Leaves topology before home h back) (subst (λ h. is_legal topology h ≡ true) whole ended)
     (λ l. answered_first topology before after home away back job answer old new b sound rest (subst (λ h. is_legal topology h ≡ true) b.is legal) (subst (λ h. IsJobOf topology h job) b.is is) at gone come same done l)
-    (λ s h l owes left. dispatched topology before home s h back sound l owes left))
+    (λ s h l owes left. dispatched topology before home s h back sound l owes left) (λ s h l left. killed topology before home s h back sound l left))
   where
     whole : done_after ≡ with_answer topology (b.step ∷ before) answer.post answer.outcome
     whole = ends ∙ ap (λ h. with_answer topology h answer.post answer.outcome) b.is
@@ -210,7 +218,6 @@ pub stays_begun : (topology : Topology) (before after : History) (home : ℕ →
 stays_begun topology before after home p sound rest b legal back keeps bodies callbacks =
     record {
       follows = λ f. subst (λ h. FollowsMoves topology h) (sym b.is) (f, b.next);
-      unkilled = λ u. subst (λ h. was_killed h ≡ false) (sym b.is) (unkilled_more b.step before b.harmless u);
       keeps = keeps;
       bodies = bodies;
       callbacks = callbacks;

@@ -44,11 +44,11 @@ done_stays (Child message) (Wrote x y) old new h here = absurd h
 pub cut_stays : (old new : BodySeen) → IsCutOff old new → IsSome old.callback → IsSome new.callback
 cut_stays old new h here = both_some _ old.callback new.callback h.callback here
 
-pick_first : (b : Bool) (x y : Option BodySeen) → b ≡ true → (if b then x else y) ≡ x
+pub pick_first : (b : Bool) (x y : Option BodySeen) → b ≡ true → (if b then x else y) ≡ x
 pick_first true x y e = refl
 pick_first false x y e = cc
 
-pick_second : (b : Bool) (x y : Option BodySeen) → b ≡ false → (if b then x else y) ≡ y
+pub pick_second : (b : Bool) (x y : Option BodySeen) → b ≡ false → (if b then x else y) ≡ y
 pick_second true x y e = cc
 pick_second false x y e = refl
 

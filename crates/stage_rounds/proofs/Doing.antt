@@ -1,58 +1,29 @@
 -- A job that was begun, and the body that left with it.
-use Rattle.std.proofs.Common.{◌≡◌, ℕ, ◌≤◌, ◌<◌, List, [], ◌∷◌, Bool, true, false, ap, sym, ◌∙◌, subst, Some, None, Option, arith}
-use Rattle.std.specs.Prelude.{not, ◌≢◌, ◌==◌, if◌then◌else◌, find, Result, OnOk, OnErr, IsSome}
-use Rattle.std.specs.List.{list_all}
+use Rattle.std.proofs.Common.{◌≡◌, ℕ, ◌≤◌, ◌<◌, ◌∷◌, true, ap, sym, ◌∙◌, subst, Some, None, Option, arith}
+use Rattle.std.specs.Prelude.{◌==◌, if◌then◌else◌, IsSome, Result, OnOk, OnErr}
 use Rattle.pipe_types.specs.declared.numbers.StageNo.{StageNo}
-use Rattle.pipe_types.specs.declared.topology.Kind.{Kind}
-use Rattle.pipe_types.specs.declared.topology.Kind.TheVariants.{Steps, Lines, Own}
-use Rattle.pipe_types.specs.declared.topology.StageSpec.{StageSpec}
 use Rattle.pipe_types.specs.declared.topology.Topology.{Topology}
-use Rattle.pipe_types.specs.Stages.{spec_of}
-use Rattle.pipe_types.specs.Numbers.{same_stage}
 use Rattle.pipe_types.specs.Sound.{IsSound}
 use Rattle.pipe_model.specs.History.{History}
 use Rattle.pipe_model.specs.Legal.{is_legal, owed, allows}
 use Rattle.pipe_model.specs.Moves.{move, Job as JobMove}
-use Rattle.pipe_laws.proofs.Tests.{and_left, and_right}
 use Rattle.work_laws.specs.Left.{work_left}
-use Rattle.stage_job.specs.Chunks.{never_crashes}
 use Rattle.stage_bodies.specs.Seen.{BodySeen}
 use Rattle.stage_bodies.specs.Jobs.{Fits, IsDone, IsCutOff}
-use Rattle.stage_bodies.specs.Posts.{place_at, IsJobOf, step_of, is_crash}
+use Rattle.stage_bodies.specs.Posts.{place_at, IsJobOf, step_of}
 use Rattle.stage_bodies.specs.declared.job.Answer.{Answer}
 use Rattle.stage_bodies.specs.declared.job.Job.{Job}
 use Rattle.body_laws.specs.Ready.{There, IsBodyAt}
 use Rattle.body_laws.proofs.Jobs.{begun_ready, ready_fits}
 use Rattle.body_laws.proofs.Laws.{unrecorded_keeps, cut_keeps}
-use Rattle.body_laws.proofs.Allowed.{answer_allowed, no_crash}
+use Rattle.body_laws.proofs.Allowed.{answer_allowed}
 use Rattle.core_jobs.specs.Begun.{IsBegun}
 use Rattle.core_jobs.specs.Recorded.{with_answer}
-use Rattle.stage_rounds.specs.Steps.{is_own, is_calm_stage, is_calm}
 use Rattle.stage_rounds.specs.Going.{GoesOn, IsAtRest, Within, HasCallback}
 use Rattle.stage_rounds.proofs.Working.{Began, began}
 use Rattle.stage_rounds.proofs.Answered.{Leaves, answered, stays_begun, taken_body, taken_keeps, taken_stood}
 use Rattle.stage_rounds.proofs.Results.{by_result, on_ok}
 use Rattle.stage_rounds.proofs.Callbacks.{done_stays, cut_stays, back_stays, back_there}
-
--- ---- calm topologies
-
-all_found : (test : StageSpec → Bool) (pick : StageSpec → Bool) (xs : List StageSpec) (x : StageSpec) → list_all test xs ≡ true → find pick xs ≡ Some x → test x ≡ true
-all_found test pick [] x all is = cc
-all_found test pick (y ∷ ys) x all is = either (pick y) is (λ e. all_found test pick ys x (and_right (test y) _ all) e)
-  where
-    either : (b : Bool) → (if b then Some y else find pick ys) ≡ Some x → (find pick ys ≡ Some x → test x ≡ true) → test x ≡ true
-    either true e rest = let same : y ≡ x = cc in ap test (sym same) ∙ and_left (test y) _ all
-    either false e rest = rest e
-
-not_own : (kind : Kind) → not (is_own kind) ≡ true → kind ≢ Own
-not_own Own h e = let x : false ≡ true = h in cc
-not_own Steps h e = cc
-not_own Lines h e = cc
-
-pub calm_at : (topology : Topology) (s : StageNo) (spec : StageSpec) → is_calm topology ≡ true → spec_of topology s ≡ Some spec → (spec.kind ≢ Own) × (never_crashes spec.rules ≡ true)
-calm_at topology s spec calm is =
-    let here : is_calm_stage spec ≡ true = all_found is_calm_stage (λ spec. same_stage spec.no s) topology.stages spec calm is in
-    (not_own spec.kind (and_left (not (is_own spec.kind)) _ here), and_right (not (is_own spec.kind)) _ here)
 
 -- ---- the job and its body
 
@@ -101,11 +72,6 @@ pub may_answer : {topology : Topology} {before after : History} {home away : ℕ
 may_answer {topology = t} {before = b} {after = h} {home = home} {job = job} {old = old} answer new d same done =
     answer_allowed t h job answer old new d.sound d.legal d.free d.is same (taken_body t b h home job.post old d.sound d.rest d.began d.legal d.at) done
 
-pub is_calm_answer : {topology : Topology} {before after : History} {home away : ℕ → Option BodySeen} {job : Job} {old : BodySeen} (answer : Answer) (new : BodySeen) → Doing topology before after home away job old
-    → IsDone job.work answer.outcome old new → is_crash answer.outcome ≡ false
-is_calm_answer {topology = t} {before = b} {after = h} {home = home} {job = job} {old = old} answer new d done =
-    no_crash t h job answer.outcome old new d.is.work (taken_body t b h home job.post old d.sound d.rest d.began d.legal d.at) done (λ spec is. calm_at t job.post.stage spec d.rest.calm is)
-
 -- ---- what is left
 
 back_at : (at place : ℕ) (away back : ℕ → Option BodySeen) (new : BodySeen) → at ≡ place → ((t : ℕ) → back t ≡ (if at == t then Some new else away t)) → (t : ℕ) → back t ≡ (if place == t then Some new else away t)
@@ -144,10 +110,10 @@ cut {topology = t} {before = b} {after = h} {home = home} {away = away} {job = j
 
 goes_of : (topology : Topology) (before after : History) (home back : ℕ → Option BodySeen) → Leaves topology before home after back
     → ((at : ℕ) → IsSome (home at) → IsSome (back at)) → ((at : ℕ) → HasCallback (home at) → HasCallback (back at)) → GoesOn topology before home after back
-goes_of topology before after home back l bodies callbacks = record { follows = l.follows; unkilled = λ u. l.unkilled; keeps = l.keeps; bodies = bodies; callbacks = callbacks; control = l.control }
+goes_of topology before after home back l bodies callbacks = record { follows = l.follows; keeps = l.keeps; bodies = bodies; callbacks = callbacks; control = l.control }
 
-pub rests_of : (topology : Topology) (before after : History) (home back : ℕ → Option BodySeen) → IsAtRest topology before home → Leaves topology before home after back → IsAtRest topology after back
-rests_of topology before after home back rest l = record { none_out = l.none_out; unkilled = l.unkilled; calm = rest.calm; ready = l.ready }
+pub rests_of : (topology : Topology) (before after : History) (home back : ℕ → Option BodySeen) → Leaves topology before home after back → IsAtRest topology after back
+rests_of topology before after home back l = record { none_out = l.none_out; ready = l.ready }
 
 -- whatever recording came to
 pub recorded_goes : {T E : Type 0} {topology : Topology} {before after : History} {home away : ℕ → Option BodySeen} {job : Job} {old : BodySeen} (r : Result T E) (other : Topology) (done_after : History) (back : ℕ → Option BodySeen) (answer : Answer) (new : BodySeen) (at : ℕ)
@@ -181,7 +147,7 @@ pub recorded_rests : {T E : Type 0} {topology : Topology} {before after : Histor
     → other ≡ topology → OnOk r (done_after ≡ with_answer topology after answer.post answer.outcome) → is_legal other done_after ≡ true → OnOk r (IsAtRest topology done_after back)
 recorded_rests {topology = t} {before = b} {after = h} {home = home} r other done_after back answer new at d place come same done other_is ok legal =
     on_ok (done_after ≡ with_answer t h answer.post answer.outcome) (IsAtRest t done_after back) r ok
-    (λ e. rests_of t b done_after home back d.rest (leaves other done_after back answer new at d place come same done other_is e legal))
+    (λ e. rests_of t b done_after home back (leaves other done_after back answer new at d place come same done other_is e legal))
 
 pub recorded_less : {T E : Type 0} {topology : Topology} {before after : History} {home away : ℕ → Option BodySeen} {job : Job} {old : BodySeen} (r : Result T E) (other : Topology) (done_after : History) (back : ℕ → Option BodySeen) (answer : Answer) (new : BodySeen) (at : ℕ)
     → Doing topology before after home away job old → at ≡ place_at job.post → ((t : ℕ) → back t ≡ (if at == t then Some new else away t)) → answer.post ≡ job.post → IsDone job.work answer.outcome old new

@@ -3,6 +3,7 @@ mod Times
 mod Own
 mod Ticking
 mod Results
+mod Resetting
 mod Goings
 mod Outs
 mod Working

@@ -10,7 +10,7 @@ use Rattle.pipe_types.specs.declared.step.Step.TheVariants.{Tick}
 use Rattle.pipe_model.specs.History.{History, now}
 use Rattle.stage_job.specs.Chunks.{RoseBy}
 use Rattle.stage_rounds.specs.Steps.{jobs_begun}
-use Rattle.stage_rounds.specs.Clocks.{ClockSeen, KeepsClock, KeepsClockPartly, HasRead, HasPaused, HasReadInVain, TicksTo}
+use Rattle.stage_rounds.specs.Clocks.{ClockSeen, KeepsClock, KeepsClockPartly, KeepsClockAhead, HasRead, HasPaused, HasReadInVain, TicksTo}
 
 max_max : (a b c : ℕ) → max (max a b) c ≡ max a (max b c)
 max_max a b c = by_order (order a b) (order b c) (order a c)
@@ -42,15 +42,26 @@ tick_is : (reading : ℕ) (old new : History) → TicksTo reading old new → no
 tick_is reading old new (inl (less, is)) = rw is (sym (max-eq_right (omega (arith, less))))
 tick_is reading old new (inr (le, is)) = rw is (sym (max-eq_left le))
 
--- ---- a round, with at most one job, and with a pause
+-- ---- a round: the clock is read, at most one job begins, and where the run pauses the clock is read again
 
-pub read_then : (a b c : History) (opened before after : ClockSeen) → KeepsClock a opened before → HasRead a b before after
-    → now c ≡ now b → jobs_begun c ≤ jobs_begun a + 1 → KeepsClock c opened after
-read_then a b c opened before after k r same few =
+pub read_ahead : (a b c : History) (opened before after : ClockSeen) → KeepsClock a opened before → HasRead a b before after → now c ≡ now b → jobs_begun c ≤ jobs_begun a → KeepsClockAhead c opened after
+read_ahead a b c opened before after k r same few =
     record {
       latest = r.latest ∙ ap (λ x. max x r.reading) k.latest ∙ max_max opened.latest (now a) r.reading ∙ ap (max opened.latest) (sym (same ∙ tick_is r.reading a b r.ticks));
-      readings = rose_by (jobs_begun a) (jobs_begun c) opened.readings before.readings after.readings k.readings r.rose few;
+      readings = rose_by (jobs_begun a) (jobs_begun c + 1) opened.readings before.readings after.readings k.readings r.rose (omega (arith, few));
     }
+
+-- with so many jobs more, at most one
+pub ahead_then : (a b : History) (opened clock : ClockSeen) → KeepsClockAhead a opened clock → now b ≡ now a → jobs_begun b ≤ jobs_begun a + 1 → KeepsClock b opened clock
+ahead_then a b opened clock k same few =
+    record { latest = k.latest ∙ ap (max opened.latest) (sym same); readings = fewer (jobs_begun a + 1) (jobs_begun b) opened.readings clock.readings k.readings few }
+  where
+    fewer : (m n x y : ℕ) → RoseBy m x y → n ≤ m → RoseBy n x y
+    fewer m n x y (inl low) le = inl (omega (arith, low, le))
+    fewer m n x y (inr full) le = inr full
+
+pub ahead_same : (a : History) (opened clock : ClockSeen) → KeepsClockAhead a opened clock → KeepsClock a opened clock
+ahead_same a opened clock k = ahead_then a a opened clock k refl (omega arith)
 
 pub paused_then : (a b : History) (opened before after : ClockSeen) → KeepsClock a opened before → HasPaused a b before after → KeepsClock b opened after
 paused_then a b opened before after k p =
@@ -62,8 +73,8 @@ paused_then a b opened before after k p =
     few : b ≡ Tick (max (now a) p.reading) ∷ a → jobs_begun b ≤ jobs_begun a + 1
     few e = rw e (omega arith)
 
-pub partly : (a : History) (opened before : ClockSeen) → KeepsClock a opened before → KeepsClockPartly a opened before
-partly a opened before k = record { latest = omega (arith, k.latest); readings = k.readings }
+pub partly : (a : History) (opened clock : ClockSeen) → KeepsClock a opened clock → KeepsClockPartly a opened clock
+partly a opened clock k = record { latest = omega (arith, k.latest); readings = k.readings }
 
 -- want of memory for a tick
 pub in_vain : (a b : History) (opened before after : ClockSeen) → KeepsClock a opened before → HasReadInVain a b before after → KeepsClockPartly b opened after

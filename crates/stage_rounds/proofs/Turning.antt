@@ -1,10 +1,10 @@
 -- A round: the clock, the steps of the pipeline's own, and then a job or a pause.
 use Rattle.std.proofs.Common.{◌≡◌, ℕ, ◌+◌, ◌*◌, ◌≤◌, ◌<◌, [], ◌∷◌, true, false, refl, ap, sym, ◌∙◌, subst, inl, inr, None, arith}
-use Rattle.std.specs.Prelude.{◌⊎◌, Result, Ok, Err, max, not, ◌&&◌}
+use Rattle.std.specs.Prelude.{◌⊎◌, Option, Result, Ok, Err, OnOk, max, not, ◌&&◌}
 use Rattle.std.specs.Result.{IsErr}
 use Rattle.pipe_types.specs.Sound.{IsSound}
 use Rattle.pipe_types.specs.declared.topology.Topology.{Topology}
-use Rattle.pipe_types.specs.declared.step.Step.TheVariants.{Ask, Fetch, Accept, Quiet, SourceEnd, Dispatch, Take, Done, Gather, Close, Wrote, Child, ChildEnd, Kill, Late, Restart, Tick, Drain, Halt, Refuse}
+use Rattle.pipe_types.specs.declared.step.Step.TheVariants.{Tick}
 use Rattle.pipe_model.specs.History.{History, now}
 use Rattle.pipe_model.specs.Legal.{is_legal, owed, happened, is_halt}
 use Rattle.pipe_model.specs.Moves.{move, Pause, JobsOut, Halted, Drained, is_drained, jobs_out}
@@ -13,27 +13,20 @@ use Rattle.work_laws.specs.Left.{work_left}
 use Rattle.work_laws.proofs.Leaving.{tick_keeps}
 use Rattle.move_laws.proofs.Laws.{tick_law, move_law}
 use Rattle.move_laws.specs.NextMoves.{IsLegalMove}
+use Rattle.stage_bodies.specs.Seen.{BodySeen}
+use Rattle.body_laws.proofs.Laws.{silent_keeps, silent_ready}
 use Rattle.stage_rounds.specs.Steps.{jobs_begun}
-use Rattle.stage_rounds.specs.Going.{GoesQuietly, Within}
-use Rattle.stage_rounds.specs.Clocks.{ClockSeen, KeepsClock, KeepsClockPartly, KeepsClockOn, HasRead, HasPaused, IsRead, TicksTo}
+use Rattle.stage_rounds.specs.Going.{GoesOn, IsAtRest, Advances, Within}
+use Rattle.stage_rounds.specs.Clocks.{ClockSeen, KeepsClock, KeepsClockPartly, KeepsClockAhead, KeepsClockOn, KeepsClockAheadOn, HasRead, HasPaused, IsRead, IsPaused, TicksTo}
 use Rattle.stage_rounds.specs.Rounds.{may_pause, rounds_left}
-use Rattle.stage_rounds.proofs.Times.{read_then, partly}
-use Rattle.stage_rounds.proofs.Goings.{quiet_then, read_quietly, ticks_begin_none}
+use Rattle.stage_rounds.proofs.Times.{read_ahead, ahead_then, ahead_same, partly}
+use Rattle.stage_rounds.proofs.Goings.{goes_same, goes_then}
 
-pub settled : {T E : Type 0} (topology one : Topology) (a m b : History) (r : Result T E) (before after : ClockSeen) → IsSound topology → one ≡ topology → is_legal one m ≡ true → IsRead r a m before after → GoesQuietly one m b → GoesQuietly topology a b
-settled topology one a m b r before after sound same legal read quiet =
-    quiet_then topology a m b (read_quietly topology one a m r before after sound same legal read) (subst (λ o. GoesQuietly o m b) same quiet)
+-- ---- what holds whatever a call came to
 
-few : (jobs : ℕ) (a m b c : History) → jobs_begun m ≡ jobs_begun a → Within 0 m b → Within jobs b c → jobs_begun c ≤ jobs_begun a + jobs
-few jobs a m b c e p q = let x = p.begun in let y = q.begun in omega (arith, e, x, y)
-
--- the clock after a round with at most one job
-pub worked_clock : (T E : Type 0) (done : T) (a m b c : History) (opened before after : ClockSeen) → HasRead a m before after → Within 0 m b → Within 1 b c → KeepsClock a opened before → KeepsClock c opened after
-worked_clock T E done a m b c opened before after read p q k =
-    read_then a m c opened before after k read (q.same_time ∙ p.same_time) (few 1 a m b c (ticks_begin_none {T = T} {E = E} a m (Ok done) before after read) p q)
-
-pub settled_clock : (T E : Type 0) (done : T) (a m b : History) (opened before after : ClockSeen) → HasRead a m before after → Within 0 m b → KeepsClock a opened before → KeepsClock b opened after
-settled_clock T E done a m b opened before after read p k = worked_clock T E done a m b b opened before after read p (record { same_time = refl; begun = omega arith }) k
+pub always_ok : {T E : Type 0} (A : Type 0) (r : Result T E) → A → OnOk r A
+always_ok A (Ok x) a = a
+always_ok A (Err e) a = tt
 
 pub either_way : {T E : Type 0} (r : Result T E) (a : History) (opened clock : ClockSeen) → KeepsClock a opened clock → KeepsClockOn r a opened clock
 either_way (Ok x) a opened clock k = k
@@ -43,85 +36,126 @@ pub vain_way : {T E : Type 0} (r : Result T E) (a : History) (opened clock : Clo
 vain_way (Ok x) a opened clock h k = let x : false ≡ true = h in cc
 vain_way (Err e) a opened clock h k = k
 
+pub ahead_way : {T E : Type 0} (r : Result T E) (a : History) (opened clock : ClockSeen) → KeepsClockAhead a opened clock → KeepsClockAheadOn r a opened clock
+ahead_way (Ok x) a opened clock k = k
+ahead_way (Err e) a opened clock k = partly a opened clock (ahead_same a opened clock k)
+
+pub vain_ahead : {T E : Type 0} (r : Result T E) (a : History) (opened clock : ClockSeen) → IsErr r → KeepsClockPartly a opened clock → KeepsClockAheadOn r a opened clock
+vain_ahead (Ok x) a opened clock h k = let x : false ≡ true = h in cc
+vain_ahead (Err e) a opened clock h k = k
+
+-- ---- the clock was read
+
+-- a run that goes on with all bodies where they are
+pub record Waits (topology : Topology) (old new : History) : Type 0 where
+  pub goes : (home : ℕ → Option BodySeen) → GoesOn topology old home new home
+  pub rest : (home : ℕ → Option BodySeen) → IsAtRest topology old home → IsAtRest topology new home
+
+waits_same : (topology : Topology) (before : History) → Waits topology before before
+waits_same topology before = record { goes = λ home. goes_same topology before home; rest = λ home r. r }
+
+waits_tick : (topology : Topology) (before : History) (t : ℕ) → IsSound topology → is_legal topology (Tick t ∷ before) ≡ true → Waits topology before (Tick t ∷ before)
+waits_tick topology before t sound legal = record {
+  goes = λ home. record {
+    follows = λ f. (f, tt);
+    keeps = λ opened k. silent_keeps topology before (Tick t) opened home sound legal refl k;
+    bodies = λ at here. here;
+    callbacks = λ at here. here;
+    control = λ n. record { no_step = n.no_step; no_end = n.no_end };
+  };
+  rest = λ home r. record { none_out = r.none_out; ready = silent_ready topology before (Tick t) home sound legal refl r.ready };
+}
+
+pub read_waits : {T E : Type 0} (topology other : Topology) (before after : History) (r : Result T E) (old new : ClockSeen) → IsSound topology → other ≡ topology → is_legal other after ≡ true → IsRead r before after old new
+    → Waits topology before after
+read_waits topology other before after (Err e) old new sound same legal read = subst (λ x. Waits topology before x) (sym read.unchanged) (waits_same topology before)
+read_waits topology other before after (Ok x) old new sound same legal read = by_tick read.ticks
+  where
+    by_tick : TicksTo read.reading before after → Waits topology before after
+    by_tick (inl (less, e)) =
+        subst (λ x. Waits topology before x) (sym e) (waits_tick topology before read.reading sound (subst (λ x. is_legal topology x ≡ true) e (subst (λ o. is_legal o after ≡ true) same legal)))
+    by_tick (inr (le, e)) = subst (λ x. Waits topology before x) (sym e) (waits_same topology before)
+
+pub paused_waits : {T E : Type 0} (topology other : Topology) (before after : History) (r : Result T E) (old new : ClockSeen) → IsSound topology → other ≡ topology → is_legal other after ≡ true → IsPaused r before after old new
+    → Waits topology before after
+paused_waits topology other before after (Err e) old new sound same legal read = subst (λ x. Waits topology before x) (sym read.unchanged) (waits_same topology before)
+paused_waits topology other before after (Ok x) old new sound same legal read =
+    subst (λ x. Waits topology before x) (sym read.ticks)
+    (waits_tick topology before (max (now before) read.reading) sound (subst (λ x. is_legal topology x ≡ true) read.ticks (subst (λ o. is_legal o after ≡ true) same legal)))
+
+-- a tick begins no job
+ticks_begin_none : (before after : History) (old new : ClockSeen) → HasRead before after old new → jobs_begun after ≡ jobs_begun before
+ticks_begin_none before after old new read = by_tick read.ticks
+  where
+    none_more : (n : ℕ) → 0 + n ≡ n
+    none_more n = omega arith
+
+    by_tick : TicksTo read.reading before after → jobs_begun after ≡ jobs_begun before
+    by_tick (inl (less, e)) = ap jobs_begun e ∙ none_more (jobs_begun before)
+    by_tick (inr (le, e)) = ap jobs_begun e
+
+-- ---- the clock, and the steps of the pipeline's own
+
+pub on_goes : (topology one : Topology) (a m b : History) (home back : ℕ → Option BodySeen) → Waits topology a m → one ≡ topology → Advances one m home b back → GoesOn topology a home b back
+on_goes topology one a m b home back w same q = goes_then topology a m b home home back (w.goes home) (subst (λ o. GoesOn o m home b back) same q.goes)
+
+pub on_clock : (a m b : History) (opened before after : ClockSeen) → HasRead a m before after → Within 0 m b → KeepsClock a opened before → KeepsClockAhead b opened after
+on_clock a m b opened before after read p k =
+    read_ahead a m b opened before after k read p.same_time (few (jobs_begun b) (jobs_begun m) (jobs_begun a) p.begun (ticks_begin_none a m before after read))
+  where
+    few : (x y z : ℕ) → x ≤ y + 0 → y ≡ z → x ≤ z
+    few x y z h e = omega (arith, h, e)
+
+pub worked_clock : (b c : History) (opened clock : ClockSeen) → KeepsClockAhead b opened clock → Within 1 b c → KeepsClock c opened clock
+worked_clock b c opened clock k w = ahead_then b c opened clock k w.same_time w.begun
+
 -- ---- rounds that are left
 
 pause_at_most : (before : History) → may_pause before ≤ 1
 pause_at_most [] = omega arith
-pause_at_most (Ask u n ∷ before) = omega arith
-pause_at_most (Fetch s n ∷ before) = omega arith
-pause_at_most (Accept s records ∷ before) = omega arith
-pause_at_most (Quiet s ∷ before) = omega arith
-pause_at_most (SourceEnd s how ∷ before) = omega arith
-pause_at_most (Dispatch s ∷ before) = omega arith
-pause_at_most (Take s u k ∷ before) = omega arith
-pause_at_most (Done s replies ∷ before) = omega arith
-pause_at_most (Gather s m ∷ before) = omega arith
-pause_at_most (Close s first trigger ∷ before) = omega arith
-pause_at_most (Wrote s bytes end ∷ before) = omega arith
-pause_at_most (Child s m slot ∷ before) = omega arith
-pause_at_most (ChildEnd s slot reply ∷ before) = omega arith
-pause_at_most (Kill s why ∷ before) = omega arith
-pause_at_most (Late s slot i answer ∷ before) = omega arith
-pause_at_most (Restart s ∷ before) = omega arith
 pause_at_most (Tick t ∷ before) = omega arith
-pause_at_most (Drain cause ∷ before) = omega arith
-pause_at_most (Halt ∷ before) = omega arith
-pause_at_most (Refuse line ∷ before) = omega arith
+pause_at_most (step ∷ before) = omega arith
 
-read_left : (topology : Topology) (a m : History) (before after : ClockSeen) → HasRead a m before after → work_left topology m ≡ work_left topology a
-read_left topology a m before after read = by_tick read.ticks
+read_left : {T E : Type 0} (topology : Topology) (a m : History) (r : Result T E) (before after : ClockSeen) → IsRead r a m before after → work_left topology m ≡ work_left topology a
+read_left topology a m (Err e) before after read = ap (work_left topology) read.unchanged
+read_left topology a m (Ok x) before after read = by_tick read.ticks
   where
     by_tick : TicksTo read.reading a m → work_left topology m ≡ work_left topology a
     by_tick (inl (less, e)) = ap (work_left topology) e ∙ tick_keeps topology a read.reading
     by_tick (inr (le, e)) = ap (work_left topology) e
 
-no_more : (topology : Topology) (m b : History) → (b ≡ m) ⊎ (work_left topology b < work_left topology m) → work_left topology b ≤ work_left topology m
-no_more topology m b (inl e) = subst (λ x. work_left topology x ≤ work_left topology m) (sym e) (same (work_left topology m))
+pub read_no_more : {T E : Type 0} (topology : Topology) (a m : History) (r : Result T E) (before after : ClockSeen) → IsRead r a m before after → work_left topology m ≤ work_left topology a
+read_no_more topology a m r before after read = same (work_left topology m) (work_left topology a) (read_left topology a m r before after read)
   where
-    same : (n : ℕ) → n ≤ n
-    same n = omega arith
-no_more topology m b (inr less) = omega (arith, less)
+    same : (x y : ℕ) → x ≡ y → x ≤ y
+    same x y e = omega (arith, e)
 
-pub job_leaves : (topology : Topology) (a m b c : History) (before after : ClockSeen) → HasRead a m before after → (b ≡ m) ⊎ (work_left topology b < work_left topology m) → work_left topology c < work_left topology b
-    → rounds_left topology c < rounds_left topology a
-job_leaves topology a m b c before after read progress less =
-    fewer (work_left topology a) (work_left topology m) (work_left topology b) (work_left topology c) (may_pause a) (may_pause c) (read_left topology a m before after read) (no_more topology m b progress) less (pause_at_most c)
+pub on_no_more : {T E : Type 0} (topology one : Topology) (a m b : History) (r : Result T E) (before after : ClockSeen) (home back : ℕ → Option BodySeen) → IsRead r a m before after → one ≡ topology → Advances one m home b back
+    → work_left topology b ≤ work_left topology a
+on_no_more topology one a m b r before after home back read same q = by_progress (subst (λ o. (b ≡ m) ⊎ (work_left o b < work_left o m)) same q.progress)
   where
-    fewer : (x y z w p q : ℕ) → y ≡ x → z ≤ y → w < z → q ≤ 1 → 2 * w + q < 2 * x + p
-    fewer x y z w p q e le lt few = omega (arith, e, le, lt, few)
+    by_same : (x y z : ℕ) → y ≡ x → z ≡ y → z ≤ x
+    by_same x y z e f = omega (arith, e, f)
+
+    by_less : (x y z : ℕ) → y ≡ x → z < y → z ≤ x
+    by_less x y z e f = omega (arith, e, f)
+
+    by_progress : (b ≡ m) ⊎ (work_left topology b < work_left topology m) → work_left topology b ≤ work_left topology a
+    by_progress (inl f) = by_same (work_left topology a) (work_left topology m) (work_left topology b) (read_left topology a m r before after read) (ap (work_left topology) f)
+    by_progress (inr less) = by_less (work_left topology a) (work_left topology m) (work_left topology b) (read_left topology a m r before after read) less
 
 -- a pipeline that pauses did not have a tick as its last step
 pause_here : (topology : Topology) (a : History) → IsSound topology → is_legal topology a ≡ true → move topology a ≡ Pause → may_pause a ≡ 1
 pause_here topology [] sound legal e = refl
 pause_here topology (Tick t ∷ a) sound legal e = absurd (tick_law topology a t sound legal e)
-pause_here topology (Ask u n ∷ before) sound legal e = refl
-pause_here topology (Fetch s n ∷ before) sound legal e = refl
-pause_here topology (Accept s records ∷ before) sound legal e = refl
-pause_here topology (Quiet s ∷ before) sound legal e = refl
-pause_here topology (SourceEnd s how ∷ before) sound legal e = refl
-pause_here topology (Dispatch s ∷ before) sound legal e = refl
-pause_here topology (Take s u k ∷ before) sound legal e = refl
-pause_here topology (Done s replies ∷ before) sound legal e = refl
-pause_here topology (Gather s m ∷ before) sound legal e = refl
-pause_here topology (Close s first trigger ∷ before) sound legal e = refl
-pause_here topology (Wrote s bytes end ∷ before) sound legal e = refl
-pause_here topology (Child s m slot ∷ before) sound legal e = refl
-pause_here topology (ChildEnd s slot reply ∷ before) sound legal e = refl
-pause_here topology (Kill s why ∷ before) sound legal e = refl
-pause_here topology (Late s slot i answer ∷ before) sound legal e = refl
-pause_here topology (Restart s ∷ before) sound legal e = refl
-pause_here topology (Drain cause ∷ before) sound legal e = refl
-pause_here topology (Halt ∷ before) sound legal e = refl
-pause_here topology (Refuse line ∷ before) sound legal e = refl
+pause_here topology (step ∷ a) sound legal e = refl
 
-pub pause_leaves : (topology : Topology) (a m b c : History) (before after last : ClockSeen) → IsSound topology → is_legal topology b ≡ true → HasRead a m before after → (b ≡ m) ⊎ (work_left topology b < work_left topology m) → move topology b ≡ Pause → HasPaused b c after last
-    → rounds_left topology c < rounds_left topology a
-pause_leaves topology a m b c before after last sound legal read progress pauses paused =
-    subst (λ x. rounds_left topology x < rounds_left topology a) (sym paused.ticks)
-    (fewer (work_left topology (Tick (max (now b) paused.reading) ∷ b)) (work_left topology b) (tick_keeps topology b (max (now b) paused.reading)) (by_progress progress))
+pub on_pauses : (topology one other : Topology) (a m b : History) (before after : ClockSeen) (home back : ℕ → Option BodySeen) → IsSound topology → other ≡ topology → is_legal other b ≡ true → HasRead a m before after → one ≡ topology → Advances one m home b back
+    → move topology b ≡ Pause → 2 * work_left topology b < rounds_left topology a
+on_pauses topology one other a m b before after home back sound same legal_there read same_one q pauses = by_progress (subst (λ o. (b ≡ m) ⊎ (work_left o b < work_left o m)) same_one q.progress)
   where
-    fewer : (x y : ℕ) → x ≡ y → 2 * y < rounds_left topology a → 2 * x + 0 < rounds_left topology a
-    fewer x y e lt = omega (arith, e, lt)
+    legal : is_legal topology b ≡ true
+    legal = subst (λ o. is_legal o b ≡ true) same legal_there
 
     twice : (x y z p : ℕ) → y ≡ x → z < y → 2 * z < 2 * x + p
     twice x y z p e lt = omega (arith, e, lt)
@@ -130,17 +164,31 @@ pause_leaves topology a m b c before after last sound legal read progress pauses
     once x y p e one = omega (arith, e, one)
 
     by_tick : b ≡ m → TicksTo read.reading a m → 2 * work_left topology b < rounds_left topology a
-    by_tick same (inl (less, e)) =
-        let at : b ≡ Tick read.reading ∷ a = same ∙ e in
+    by_tick here (inl (less, e)) =
+        let at : b ≡ Tick read.reading ∷ a = here ∙ e in
         absurd (tick_law topology a read.reading sound (subst (λ x. is_legal topology x ≡ true) at legal) (subst (λ x. move topology x ≡ Pause) at pauses))
-    by_tick same (inr (le, e)) =
-        let at : b ≡ a = same ∙ e in
+    by_tick here (inr (le, e)) =
+        let at : b ≡ a = here ∙ e in
         once (work_left topology a) (work_left topology b) (may_pause a) (ap (work_left topology) at)
         (pause_here topology a sound (subst (λ x. is_legal topology x ≡ true) at legal) (subst (λ x. move topology x ≡ Pause) at pauses))
 
     by_progress : (b ≡ m) ⊎ (work_left topology b < work_left topology m) → 2 * work_left topology b < rounds_left topology a
-    by_progress (inl same) = by_tick same read.ticks
-    by_progress (inr less) = twice (work_left topology a) (work_left topology m) (work_left topology b) (may_pause a) (read_left topology a m before after read) less
+    by_progress (inl here) = by_tick here read.ticks
+    by_progress (inr less) = twice (work_left topology a) (work_left topology m) (work_left topology b) (may_pause a) (read_left {T = Unit {0}} {E = Unit {0}} topology a m (Ok tt) before after read) less
+
+pub job_leaves : (topology : Topology) (a b c : History) → work_left topology b ≤ work_left topology a → work_left topology c < work_left topology b → rounds_left topology c < rounds_left topology a
+job_leaves topology a b c le less = fewer (work_left topology a) (work_left topology b) (work_left topology c) (may_pause a) (may_pause c) le less (pause_at_most c)
+  where
+    fewer : (x z w p q : ℕ) → z ≤ x → w < z → q ≤ 1 → 2 * w + q < 2 * x + p
+    fewer x z w p q le lt few = omega (arith, le, lt, few)
+
+pub pause_leaves : (topology : Topology) (a b c : History) (before after : ClockSeen) → 2 * work_left topology b < rounds_left topology a → HasPaused b c before after → rounds_left topology c < rounds_left topology a
+pause_leaves topology a b c before after less paused =
+    subst (λ x. rounds_left topology x < rounds_left topology a) (sym paused.ticks)
+    (fewer (work_left topology (Tick (max (now b) paused.reading) ∷ b)) (work_left topology b) (tick_keeps topology b (max (now b) paused.reading)) less)
+  where
+    fewer : (x y : ℕ) → x ≡ y → 2 * y < rounds_left topology a → 2 * x + 0 < rounds_left topology a
+    fewer x y e lt = omega (arith, e, lt)
 
 -- ---- ends
 

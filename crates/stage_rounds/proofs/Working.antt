@@ -17,7 +17,6 @@ use Rattle.pipe_laws.proofs.Tests.{and_left, and_right, not_true}
 use Rattle.pipe_laws.proofs.Allowed.{legal_step, unowed}
 use Rattle.run_claims.specs.Followed.{IsNextMove}
 use Rattle.run_claims.specs.Read.{HasNoControl}
-use Rattle.work_laws.specs.Work.{is_killing}
 use Rattle.work_laws.specs.Left.{work_left}
 use Rattle.work_laws.proofs.Leaving.{work_lowers, fetch_keeps}
 use Rattle.move_laws.proofs.Laws.{idle_law}
@@ -33,7 +32,6 @@ pub record Began (topology : Topology) (before after : History) (p : Post) : Typ
   pub is : after ≡ step ∷ before
   pub puts : puts_out step p ≡ true
   pub next : IsNextMove topology before step
-  pub harmless : is_killing step ≡ false
   pub silent : is_silent step ≡ true
   pub same_time : now (step ∷ before) ≡ now before
   pub begun : jobs_begun (step ∷ before) ≡ 1 + jobs_begun before
@@ -63,7 +61,6 @@ began topology before after s job sound legal free first (fetched p e) =
       is = e;
       puts = posts_itself job.post s 0 p;
       next = first;
-      harmless = refl;
       silent = refl;
       same_time = refl;
       begun = refl;
@@ -80,7 +77,6 @@ began topology before after s job sound legal free first (taken u k p t e) =
       is = e;
       puts = posts_itself job.post s 0 p;
       next = first;
-      harmless = refl;
       silent = refl;
       same_time = refl;
       begun = refl;
@@ -97,7 +93,6 @@ began topology before after s job sound legal free first (started slot p e) =
       is = e;
       puts = posts_itself job.post s slot p;
       next = first;
-      harmless = refl;
       silent = refl;
       same_time = refl;
       begun = refl;

@@ -1,5 +1,5 @@
 -- What a journal has to do with the clock.
-use Rattle.std.specs.Prelude.{◌≡◌, ◌≤◌, ◌<◌, ◌⊎◌, ◌∷◌, ℕ, max, Result, Ok, Err}
+use Rattle.std.specs.Prelude.{◌≡◌, ◌≤◌, ◌<◌, ◌⊎◌, ◌∷◌, ◌+◌, ℕ, max, Result, Ok, Err}
 use Rattle.pipe_types.specs.Counts.{Rose}
 use Rattle.pipe_types.specs.declared.step.Step.TheVariants.{Tick}
 use Rattle.pipe_model.specs.History.{History, now}
@@ -27,6 +27,15 @@ pub record KeepsClockPartly (before : History) (opened clock : ClockSeen) : Type
 abbrev pub KeepsClockOn : {T E : Type 0} → Result T E → History → (opened clock : ClockSeen) → Type 0
 KeepsClockOn (Ok done) before opened clock = KeepsClock before opened clock
 KeepsClockOn (Err error) before opened clock = KeepsClockPartly before opened clock
+
+-- the last tick is the greatest reading of the run, and the clock was read for each job, and once more
+pub record KeepsClockAhead (before : History) (opened clock : ClockSeen) : Type 0 where
+  pub latest : clock.latest ≡ max opened.latest (now before)
+  pub readings : RoseBy (jobs_begun before + 1) opened.readings clock.readings
+
+abbrev pub KeepsClockAheadOn : {T E : Type 0} → Result T E → History → (opened clock : ClockSeen) → Type 0
+KeepsClockAheadOn (Ok done) before opened clock = KeepsClockAhead before opened clock
+KeepsClockAheadOn (Err error) before opened clock = KeepsClockPartly before opened clock
 
 -- a tick was added where the reading is past the last one
 abbrev pub TicksTo : (reading : ℕ) → (old new : History) → Type 0

@@ -1,5 +1,5 @@
 -- How a run goes on, from one step to the next.
-use Rattle.std.specs.Prelude.{◌≡◌, ◌≤◌, ◌+◌, ℕ, false, true, Option, IsSome}
+use Rattle.std.specs.Prelude.{◌≡◌, ◌≤◌, ◌<◌, ◌⊎◌, ◌+◌, ℕ, false, Option, IsSome}
 use Rattle.pipe_types.specs.declared.topology.Topology.{Topology}
 use Rattle.pipe_model.specs.History.{History, now}
 use Rattle.pipe_model.specs.Moves.{jobs_out}
@@ -8,33 +8,22 @@ use Rattle.run_claims.specs.Read.{HasNoControl}
 use Rattle.stage_bodies.specs.Seen.{BodySeen}
 use Rattle.body_laws.specs.Keeps.{Keeps}
 use Rattle.body_laws.specs.Ready.{Ready, There}
-use Rattle.stage_rounds.specs.Steps.{jobs_begun, was_killed, is_calm}
+use Rattle.work_laws.specs.Left.{work_left}
+use Rattle.stage_rounds.specs.Steps.{jobs_begun}
 
--- a run between two moves: no job is out and nothing was killed, and the body of each post is ready for its next job
+-- a run between two moves: no job is out, and the body of each post is ready for its next job
 pub record IsAtRest (topology : Topology) (before : History) (home : ℕ → Option BodySeen) : Type 0 where
   pub none_out : jobs_out topology before ≡ false
-  pub unkilled : was_killed before ≡ false
-  pub calm : is_calm topology ≡ true
   pub ready : Ready topology before home
-
--- steps were added that touch no body, each the next move when it came
-pub record GoesQuietly (topology : Topology) (old new : History) : Type 0 where
-  pub follows : FollowsMoves topology old → FollowsMoves topology new
-  pub unkilled : was_killed old ≡ false → was_killed new ≡ false
-  pub none_out : jobs_out topology old ≡ false → jobs_out topology new ≡ false
-  pub keeps : (opened home : ℕ → Option BodySeen) → Keeps topology old opened home → Keeps topology new opened home
-  pub ready : (home : ℕ → Option BodySeen) → Ready topology old home → Ready topology new home
-  pub control : HasNoControl old → HasNoControl new
 
 -- a body is there, and has its callback
 abbrev pub HasCallback : Option BodySeen → Type 0
 HasCallback body = There body (λ b. IsSome b.callback)
 
--- steps were added, each the next move when it came; what the journal says of the bodies holds on, no body and no callback is
--- gone, and nothing was killed
+-- steps were added, each the next move when it came; what the journal says of the bodies holds on, and no body and no callback
+-- is gone
 pub record GoesOn (topology : Topology) (old : History) (home : ℕ → Option BodySeen) (new : History) (home' : ℕ → Option BodySeen) : Type 0 where
   pub follows : FollowsMoves topology old → FollowsMoves topology new
-  pub unkilled : was_killed old ≡ false → was_killed new ≡ false
   pub keeps : (opened : ℕ → Option BodySeen) → Keeps topology old opened home → Keeps topology new opened home'
   pub bodies : (at : ℕ) → IsSome (home at) → IsSome (home' at)
   pub callbacks : (at : ℕ) → HasCallback (home at) → HasCallback (home' at)
@@ -44,3 +33,10 @@ pub record GoesOn (topology : Topology) (old : History) (home : ℕ → Option B
 pub record Within (jobs : ℕ) (old new : History) : Type 0 where
   pub same_time : now new ≡ now old
   pub begun : jobs_begun new ≤ jobs_begun old + jobs
+
+-- steps of the pipeline's own were added: the run is at rest again, and less work is left, or there was no step to add
+pub record Advances (topology : Topology) (old : History) (home : ℕ → Option BodySeen) (new : History) (home' : ℕ → Option BodySeen) : Type 0 where
+  pub goes : GoesOn topology old home new home'
+  pub rest : IsAtRest topology new home'
+  pub within : Within 0 old new
+  pub progress : (new ≡ old) ⊎ (work_left topology new < work_left topology old)

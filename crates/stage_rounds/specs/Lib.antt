@@ -1,4 +1,5 @@
 pub mod Steps
 pub mod Going
+pub mod Resets
 pub mod Clocks
 pub mod Rounds

@@ -1,13 +1,8 @@
 //! The time of a run.
 
-ghost use Rattle.std.specs.Prelude.{◌≡◌, ◌⊎◌, ◌∷◌, ◌≢◌, ℕ, false, Ok, OnOk, OnErr, max};
-ghost use Rattle.pipe_types.specs.Counts.{Rose};
-ghost use Rattle.pipe_types.specs.declared.step.Step.TheVariants.{Tick};
-ghost use Rattle.pipe_model.specs.History.{now as last_tick};
+ghost use Rattle.std.specs.Prelude.{◌≡◌, false};
 ghost use Rattle.pipe_model.specs.Legal.{happened, is_halt};
 ghost use Rattle.core_state.specs.Stands.{Stands};
-ghost use Rattle.stage_rounds.specs.Steps.{was_killed};
-ghost use Rattle.stage_rounds.specs.Going.{GoesQuietly};
 ghost use Rattle.stage_rounds.specs.Clocks.{clock_seen, IsRead, IsPaused};
 
 use core_calls::asks::tick;
@@ -18,7 +13,7 @@ use std::alloc::AllocError;
 /// Reads the clock, and appends a tick where the reading is past the last one.
 pub(crate) fn read_clock<C: Clock>(core: &mut Core, clock: &mut C) -> Result<(), AllocError>
     requires stands { Stands core.old }
-    requires unkilled { was_killed core.old.journal.steps ≡ false }
+    requires going { happened is_halt core.old.journal.steps ≡ false }
     ensures stands { Stands core.new }
     ensures topology { core.new.topology ≡ core.old.topology }
     ensures read { IsRead result core.old.journal.steps core.new.journal.steps (clock_seen C.latest C.readings clock.old) (clock_seen C.latest C.readings clock.new) }
@@ -33,14 +28,13 @@ pub(crate) fn read_clock<C: Clock>(core: &mut Core, clock: &mut C) -> Result<(),
 /// Lets time pass, reads the clock, and appends a tick with that reading, or with the last tick where the reading is below.
 pub(crate) fn pause<C: Clock>(core: &mut Core, clock: &mut C) -> Result<(), AllocError>
     requires stands { Stands core.old }
-    requires unkilled { was_killed core.old.journal.steps ≡ false }
+    requires going { happened is_halt core.old.journal.steps ≡ false }
     ensures stands { Stands core.new }
     ensures topology { core.new.topology ≡ core.old.topology }
     ensures paused { IsPaused result core.old.journal.steps core.new.journal.steps (clock_seen C.latest C.readings clock.old) (clock_seen C.latest C.readings clock.new) }
 {
     clock.pause();
     let reading = clock.now();
-    let last = core.now();
-    let now = if reading > last { reading } else { last };
+    let now = core.now().max(reading);
     tick(core, now)
 }

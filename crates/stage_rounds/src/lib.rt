@@ -1,12 +1,14 @@
-//! A run on one worker: its rounds, until the pipeline is drained.
+//! A run on one worker: its rounds, until the pipeline is drained or has halted.
 //!
 //! A round reads the clock, makes the steps of the pipeline's own that come next, and then does one job with its answer, or
-//! lets time pass where nothing else is left to do. `run_here` goes on so. Where the topology has an idle limit, a run
+//! lets time pass where nothing else is left to do. A job that crashes is answered with the kill of its stage; a stage that
+//! is restarted has its callbacks count from 0 again. `run_here` goes on so. Where the topology has an idle limit, a run
 //! returns; where it has none, it may wait for its sources for ever.
 #![tactic(auto)]
 
 mod clocks;
 mod jobs;
+mod resets;
 mod round;
 mod run;
 mod steps;

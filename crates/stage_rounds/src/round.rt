@@ -1,10 +1,15 @@
 //! One round.
 
-ghost use Rattle.std.specs.Prelude.{◌≡◌, ◌<◌, ◌≤◌, ℕ, Ok, OnOk, IsTrue};
+ghost use Rattle.std.specs.Prelude.{◌≡◌, ◌<◌, ◌≤◌, ◌*◌, false, Ok, OnOk, IfOk};
+ghost use Rattle.pipe_types.specs.declared.step.Step.{Step as StepSeen};
+ghost use Rattle.pipe_model.specs.Legal.{happened, is_halt};
+ghost use Rattle.pipe_model.specs.Moves.{move as next_move_of, StepMove, Pause as PauseMove};
+ghost use Rattle.work_laws.specs.Left.{work_left};
 ghost use Rattle.core_state.specs.Stands.{Stands};
+ghost use Rattle.core_moves.specs.Moves.{seen_as};
 ghost use Rattle.stage_bodies.specs.Seen.{body_at};
 ghost use Rattle.stage_rounds.specs.Going.{IsAtRest, GoesOn};
-ghost use Rattle.stage_rounds.specs.Clocks.{ClockSeen, clock_seen, KeepsClock, KeepsClockOn};
+ghost use Rattle.stage_rounds.specs.Clocks.{ClockSeen, clock_seen, KeepsClock, KeepsClockOn, KeepsClockAheadOn};
 ghost use Rattle.stage_rounds.specs.Rounds.{rounds_left, HasEnded};
 ghost use Rattle.stage_rounds.specs.declared.run.RunEnd.{RunEnd};
 
@@ -12,6 +17,7 @@ use crate::clocks::{pause, read_clock};
 use crate::jobs::work;
 use crate::steps::go_on;
 use core_moves::moves::Move;
+use core_rows::jobs::is_halted;
 use core_state::Core;
 use pipe_edges::Clock;
 use stage_bodies::Works;
@@ -25,7 +31,8 @@ pub(crate) enum RoundEnd {
     Halted,
 }
 
-/// Reads the clock, makes the steps that come next, and then does a job or lets time pass.
+/// Reads the clock, makes the steps that come next, and then does a job or lets time pass. Where the pipeline has halted,
+/// there is nothing to do.
 pub(crate) fn round<B: Works, C: Clock>(
     alloc: Global,
     core: &mut Core,
@@ -45,8 +52,10 @@ pub(crate) fn round<B: Works, C: Clock>(
     ensures progress { result ≡ Ok RoundEnd.On → 1 ≤ core.old.topology.idle_limit
         → rounds_left core.old.topology core.new.journal.steps < rounds_left core.old.topology core.old.journal.steps }
 {
-    read_clock(core, clock)?;
-    match go_on(core)? {
+    if is_halted(core) {
+        return Ok(RoundEnd::Halted);
+    }
+    match advance(core, bodies, clock)? {
         Move::Job(stage) => {
             work(alloc, core, bodies, stage)?;
             Ok(RoundEnd::On)
@@ -60,4 +69,29 @@ pub(crate) fn round<B: Works, C: Clock>(
         Move::Step(_) => unreachable!(),
         Move::JobsOut => unreachable!(),
     }
+}
+
+/// Reads the clock, makes the steps of the pipeline's own that come next, and answers the move that comes then.
+fn advance<B: Works, C: Clock>(
+    core: &mut Core,
+    bodies: &mut Vec<Option<B>>,
+    clock: &mut C,
+) -> Result<Move, AllocError>
+    requires stands { Stands core.old }
+    requires rest { IsAtRest core.old.topology core.old.journal.steps (body_at B.look bodies.old.items) }
+    requires going { happened is_halt core.old.journal.steps ≡ false }
+    ensures stands { Stands core.new }
+    ensures topology { core.new.topology ≡ core.old.topology }
+    ensures goes { GoesOn core.old.topology core.old.journal.steps (body_at B.look bodies.old.items) core.new.journal.steps (body_at B.look bodies.new.items) }
+    ensures rest { IsAtRest core.old.topology core.new.journal.steps (body_at B.look bodies.new.items) }
+    ensures clock { (opened : ClockSeen) → KeepsClock core.old.journal.steps opened (clock_seen C.latest C.readings clock.old)
+        → KeepsClockAheadOn result core.new.journal.steps opened (clock_seen C.latest C.readings clock.new) }
+    ensures no_more { work_left core.old.topology core.new.journal.steps ≤ work_left core.old.topology core.old.journal.steps }
+    ensures pauses { OnOk result (next_move_of core.old.topology core.new.journal.steps ≡ PauseMove
+        → 2 * work_left core.old.topology core.new.journal.steps < rounds_left core.old.topology core.old.journal.steps) }
+    ensures next { IfOk result (λ move. seen_as move ≡ next_move_of core.new.topology core.new.journal.steps) }
+    ensures no_step { IfOk result (λ move. (step : StepSeen) → ¬ (seen_as move ≡ StepMove step)) }
+{
+    read_clock(core, clock)?;
+    go_on(core, bodies)
 }

@@ -10,7 +10,7 @@ use Rattle.pipe_run.proofs.run.run_opened.Goals as goal
 
 pub run_here-end-requires-clause-rest : goal.run_here-end-requires-clause-rest
 run_here-end-requires-clause-rest g c =
-    at_rest c.args.core.topology c.args.core.journal.steps (body_at g.B.Works.look c.args.bodies.now.items) c.requires.empty c.requires.calm c.requires.filled
+    at_rest c.args.core.topology c.args.core.journal.steps (body_at g.B.Works.look c.args.bodies.now.items) c.requires.empty c.requires.filled
 
 pub returns-in-Ok-clause-went : goal.returns-in-Ok-clause-went
 returns-in-Ok-clause-went g c =

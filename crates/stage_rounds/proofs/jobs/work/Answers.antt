@@ -4,7 +4,7 @@ use Rattle.move_laws.proofs.Laws.{move_law}
 use Rattle.move_laws.specs.NextMoves.{IsLegalMove}
 use Rattle.stage_bodies.specs.Seen.{body_at}
 use Rattle.stage_bodies.specs.Posts.{step_of}
-use Rattle.stage_rounds.proofs.Doing.{doing, is_there, fits, may_answer, is_calm_answer, cut, recorded_goes, recorded_rests, recorded_within, recorded_less}
+use Rattle.stage_rounds.proofs.Doing.{doing, is_there, fits, may_answer, cut, recorded_goes, recorded_rests, recorded_within, recorded_less}
 use Rattle.stage_rounds.proofs.jobs.work.Goals as goal
 
 pub begin_job-requires-clause-begins : goal.begin_job-requires-clause-begins
@@ -36,15 +36,6 @@ record_answer-requires-clause-legal g c =
     e.begun e.job c.place_of-at.ensures c.in-Some.ensures.out c.in-Some.ensures.others in
     subst (λ o. allows o c.begin_job.new.core.journal.steps (step_of c.in-Ok.answer.post c.in-Ok.answer.outcome) ≡ true) (sym e.topology)
     (may_answer c.in-Ok.answer (look c.run_job.new.self) d c.in-Ok.ensures.post.0 c.in-Ok.ensures.done)
-
-pub record_answer-requires-clause-calm : goal.record_answer-requires-clause-calm
-record_answer-requires-clause-calm g c =
-    let e = c.in_ok-job.ensures in
-    let look = g.B.Works.look in
-    let d = doing c.args.core.now.topology c.begin_job.new.core.topology c.args.core.now.journal.steps c.begin_job.new.core.journal.steps (body_at look c.args.bodies.now.items) (body_at look c.take_out.new.bodies.items)
-    c.args.stage c.in_ok-job.job c.place_of-at.result (look c.in-Some.body) c.requires.stands.holds.sound c.requires.rest c.requires.stands.unowed c.requires.first e.topology e.stands.holds.legal e.stands.unowed
-    e.begun e.job c.place_of-at.ensures c.in-Some.ensures.out c.in-Some.ensures.others in
-    is_calm_answer c.in-Ok.answer (look c.run_job.new.self) d c.in-Ok.ensures.done
 
 pub returns-in-Ok-clause-goes : goal.returns-in-Ok-clause-goes
 returns-in-Ok-clause-goes g c =

@@ -1,31 +1,49 @@
-use Rattle.std.proofs.Common.{◌≡◌, ◌<◌, ◌∙◌, subst}
-use Rattle.std.specs.Prelude.{◌⊎◌}
-use Rattle.work_laws.specs.Left.{work_left}
-use Rattle.stage_rounds.specs.Going.{GoesQuietly}
-use Rattle.stage_rounds.proofs.Goings.{quiet_then, within_then, less_or_same}
+use Rattle.std.proofs.Common.{refl, sym, ◌∙◌, subst}
+use Rattle.stage_bodies.specs.Seen.{body_at}
+use Rattle.stage_rounds.specs.Going.{IsAtRest, Advances}
+use Rattle.stage_rounds.proofs.Goings.{advances_same, advances_then}
 use Rattle.stage_rounds.proofs.steps.go_on.Goals as goal
 
+pub loop-step-init : goal.loop-step-init
+loop-step-init g c = record {
+  stands = c.requires.stands;
+  topology = refl;
+  advances = advances_same c.args.core.now.topology c.args.core.now.journal.steps (body_at g.B.Works.look c.args.bodies.now.items) c.requires.rest;
+}
+
+pub make-requires-clause-rest : goal.make-requires-clause-rest
+make-requires-clause-rest g c =
+    let x = c.loop-step.invariant in
+    subst (λ o. IsAtRest o c.loop-step.core.journal.steps (body_at g.B.Works.look c.loop-step.bodies.items)) (sym x.topology) x.advances.rest
+
 pub loop-step-preserved : goal.loop-step-preserved
-loop-step-preserved c =
+loop-step-preserved g c =
+    let look = g.B.Works.look in
     let x = c.loop-step.invariant in
     let e = c.make.ensures in
     let t = c.args.core.now.topology in
     let a = c.args.core.now.journal.steps in
     let b = c.loop-step.core.journal.steps in
     let d = c.make.new.core.journal.steps in
-    let q = subst (λ o. GoesQuietly o b d) x.topology e.quietly in
+    let home = body_at look c.args.bodies.now.items in
+    let here = body_at look c.loop-step.bodies.items in
+    let back = body_at look c.make.new.bodies.items in
     record {
       stands = e.stands;
       topology = e.topology ∙ x.topology;
-      unkilled = q.unkilled x.unkilled;
-      quietly = quiet_then t a b d x.quietly q;
-      within = within_then 0 0 a b d x.within e.within;
-      progress = less_or_same t a b d x.progress (subst (λ o. (d ≡ b) ⊎ (work_left o d < work_left o b)) x.topology e.progress);
+      advances = advances_then t a b d home here back x.advances (subst (λ o. Advances o b here d back) x.topology e.advances);
     }
 
-pub returns-in_err-make-in-Step-clause-quietly : goal.returns-in_err-make-in-Step-clause-quietly
-returns-in_err-make-in-Step-clause-quietly c =
+pub returns-in_err-make-in-Step-clause-advances : goal.returns-in_err-make-in-Step-clause-advances
+returns-in_err-make-in-Step-clause-advances g c =
+    let look = g.B.Works.look in
     let x = c.loop-step.invariant in
     let e = c.make.ensures in
-    quiet_then c.args.core.now.topology c.args.core.now.journal.steps c.loop-step.core.journal.steps c.make.new.core.journal.steps x.quietly
-    (subst (λ o. GoesQuietly o c.loop-step.core.journal.steps c.make.new.core.journal.steps) x.topology e.quietly)
+    let t = c.args.core.now.topology in
+    let a = c.args.core.now.journal.steps in
+    let b = c.loop-step.core.journal.steps in
+    let d = c.make.new.core.journal.steps in
+    let home = body_at look c.args.bodies.now.items in
+    let here = body_at look c.loop-step.bodies.items in
+    let back = body_at look c.make.new.bodies.items in
+    advances_then t a b d home here back x.advances (subst (λ o. Advances o b here d back) x.topology e.advances)

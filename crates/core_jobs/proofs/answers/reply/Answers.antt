@@ -1,0 +1,23 @@
+use Rattle.std.proofs.Common.{rules, ◌∷◌, true, false}
+use Rattle.pipe_types.specs.declared.step.Step.TheVariants.{Done}
+use Rattle.pipe_model.specs.Content.{has_crash}
+use Rattle.core_jobs.proofs.Owing.{crash_read, with_kill, without_kill}
+use Rattle.core_jobs.proofs.answers.reply.Goals as goal
+
+pub crash_chunk-requires-clause-crash : goal.crash_chunk-requires-clause-crash
+crash_chunk-requires-clause-crash c = crash_read c.args.replies c.as_slice.result.now c.any_crashed.result true c.as_slice.ensures c.any_crashed.ensures c.if-any_crashed.true
+
+pub returns-then-any_crashed-clause-appended : goal.returns-then-any_crashed-clause-appended
+returns-then-any_crashed-clause-appended c =
+    with_kill c.crash_chunk.result (has_crash c.args.replies) c.args.stage (Done c.args.stage c.args.replies ∷ c.args.core.now.journal.steps) c.crash_chunk.new.core.journal.steps
+    (crash_read c.args.replies c.as_slice.result.now c.any_crashed.result true c.as_slice.ensures c.any_crashed.ensures c.if-any_crashed.true)
+    c.crash_chunk.ensures.appended
+
+pub answer-requires-clause-calm : goal.answer-requires-clause-calm
+answer-requires-clause-calm c = crash_read c.args.replies c.as_slice.result.now c.any_crashed.result false c.as_slice.ensures c.any_crashed.ensures c.if-any_crashed.false
+
+pub returns-clause-appended : goal.returns-clause-appended
+returns-clause-appended c =
+    without_kill c.match-answer.result (has_crash c.args.replies) c.args.stage (Done c.args.stage c.args.replies ∷ c.args.core.now.journal.steps) c.answer.new.core.journal.steps
+    (crash_read c.args.replies c.as_slice.result.now c.any_crashed.result false c.as_slice.ensures c.any_crashed.ensures c.if-any_crashed.false)
+    (search rules)
