@@ -1,14 +1,12 @@
 -- A topology that is not refused can run.
-use Rattle.std.proofs.Common.{◌≡◌, ℕ, List, true, Option, Some, None, refl}
+use Rattle.std.proofs.Common.{◌≡◌, ℕ, List, Option, Some, None, refl}
 use Rattle.pipe_types.specs.declared.topology.Kind.{Kind}
 use Rattle.pipe_types.specs.declared.topology.Topology.{Topology}
-use Rattle.stage_rounds.specs.Steps.{is_calm}
 use Rattle.topology_needs.specs.declared.stock.Boxes.{Boxes}
 use Rattle.topology_needs.specs.declared.stock.Shortage.{Shortage}
 use Rattle.topology_needs.specs.declared.unbuilt.Unbuilt.{Unbuilt as Missing}
 use Rattle.topology_needs.specs.Needs.{boxes_in, shortage_of}
 use Rattle.topology_needs.specs.Unbuilt.{unbuilt_of}
-use Rattle.topology_needs.proofs.Rows.{none_applies}
 use Rattle.box_stock.specs.Homes.{Suffices}
 use Rattle.box_stock.proofs.Located.{suffices}
 use Rattle.pipe_top.specs.Cases.{Runs, run_case}
@@ -33,7 +31,3 @@ case_is boxes workers shows topology e =
 -- there is a box for each post that needs one
 pub enough : (kinds : List Kind) (workers : ℕ) (topology : Topology) → refusal_in (shortage_of topology (boxes_in kinds)) (unbuilt_of workers topology) ≡ None → Suffices topology kinds
 enough kinds workers topology e = suffices topology kinds (none_short (shortage_of topology (boxes_in kinds)) (unbuilt_of workers topology) e)
-
--- and no callback crashes
-pub calm : (boxes : Boxes) (workers : ℕ) (topology : Topology) → refusal_in (shortage_of topology boxes) (unbuilt_of workers topology) ≡ None → is_calm topology ≡ true
-calm boxes workers topology e = (none_applies workers topology (none_missing (shortage_of topology boxes) (unbuilt_of workers topology) e)).calm

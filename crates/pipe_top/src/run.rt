@@ -5,7 +5,6 @@ ghost use Rattle.pipe_types.specs.Sound.{IsSound};
 ghost use Rattle.pipe_model.specs.Places.{ArePlaces};
 ghost use Rattle.core_state.specs.Stands.{Stands};
 ghost use Rattle.stage_rounds.specs.Clocks.{clock_seen};
-ghost use Rattle.stage_rounds.specs.Steps.{is_calm};
 ghost use Rattle.edge_names.specs.Opened.{edge_calls};
 ghost use Rattle.box_stock.specs.Homes.{Suffices};
 ghost use Rattle.box_stock.specs.Lends.{kinds_of};
@@ -111,7 +110,6 @@ fn run_built<R: Wait, E: Edges, C: Boxed, B: Carries<C> + Houses<E::Source, E::S
     clock: &mut K,
 ) -> Ran<C>
     requires sound { IsSound topology }
-    requires calm { is_calm topology ≡ true }
     requires suffices { Suffices topology (kinds_of C.seen stock.items) }
     ensures comes { ComesBy
         (record { edges = ⟦<E as SeenEdges>⟧.seen edges.old; clock = clock_seen K.latest K.readings clock.old; boxes = map C.seen stock.items })

@@ -2,6 +2,7 @@
 
 mod calls;
 mod children;
+mod crashes;
 mod demand;
 mod files;
 mod flow;

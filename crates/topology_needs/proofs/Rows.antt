@@ -1,14 +1,14 @@
 -- What is known where no row of a table applies.
 use Rattle.std.proofs.Common.{◌≡◌, ℕ, ◌≤◌, Bool, true, false, cond, [], ◌∷◌, Option, Some, None, is_some, refl}
 use Rattle.std.specs.Prelude.{find, option_map}
-use Rattle.std.proofs.lemmas.Bool.{not-false, ltb-false}
+use Rattle.std.proofs.lemmas.Bool.{ltb-false}
 use Rattle.pipe_types.specs.declared.topology.Topology.{Topology}
 use Rattle.pipe_types.specs.declared.topology.Kind.{Kind}
 use Rattle.pipe_types.specs.declared.topology.Kind.TheVariants.{Steps, Lines, Own}
 use Rattle.topology_needs.specs.declared.stock.Boxes.{Boxes}
 use Rattle.topology_needs.specs.declared.unbuilt.Unbuilt.TheVariants as word
 use Rattle.topology_needs.specs.Needs.{need_of, boxes_of, is_short, need_and_have, shortage_of}
-use Rattle.topology_needs.specs.Unbuilt.{unbuilt_of, applies, has_workers, names_control, may_crash, is_calm}
+use Rattle.topology_needs.specs.Unbuilt.{unbuilt_of, applies, has_workers, names_control}
 
 passed_by : {A : Type 0} (b : Bool) (x : A) (o : Option A) → cond b (Some x) o ≡ None → (b ≡ false) × (o ≡ None)
 passed_by true x o h = cc
@@ -23,17 +23,14 @@ no_control (Some x) h = cc
 pub record NoneApplies (n : ℕ) (topology : Topology) : Type 0 where
   pub workers : n ≤ 1
   pub control : topology.control ≡ None
-  pub calm : is_calm topology ≡ true
 
 pub none_applies : (n : ℕ) (topology : Topology) → unbuilt_of n topology ≡ None → NoneApplies n topology
 none_applies n topology h =
-    let first = passed_by (has_workers n) word.Workers (find (applies n topology) (word.Control ∷ word.Crash ∷ [])) h in
-    let second = passed_by (names_control topology) word.Control (find (applies n topology) (word.Crash ∷ [])) first.1 in
-    let third = passed_by (may_crash topology) word.Crash None second.1 in
+    let first = passed_by (has_workers n) word.Workers (find (applies n topology) (word.Control ∷ [])) h in
+    let second = passed_by (names_control topology) word.Control None first.1 in
     record {
       workers = ltb-false 1 n first.0;
       control = no_control topology.control second.0;
-      calm = not-false (is_calm topology) third.0;
     }
 
 -- ---- what is short

@@ -1,20 +1,18 @@
 //! Laws of what is built and of what is enough, without code.
 
-ghost use Rattle.std.specs.Prelude.{◌≡◌, ◌≤◌, None, IsTrue};
+ghost use Rattle.std.specs.Prelude.{◌≡◌, ◌≤◌, None};
 ghost use Rattle.config_flow.specs.Flow.{flow_topology_of};
 ghost use Rattle.topology_needs.specs.Needs.{need_of, boxes_of, shortage_of};
-ghost use Rattle.topology_needs.specs.Unbuilt.{is_calm, unbuilt_of};
+ghost use Rattle.topology_needs.specs.Unbuilt.{unbuilt_of};
 
 use crate::stock::Boxes;
 use pipe_types::topology::{Kind, Topology};
 
-/// Where nothing is unbuilt there is at most one worker and no control source, and each callback is built in and has no
-/// rule that is a crash.
+/// Where nothing is unbuilt there is at most one worker and no control source.
 pub fn nothing_is_unbuilt(topology: &Topology, workers: u16)
     requires { unbuilt_of workers topology.now ≡ None }
     ensures workers { workers ≤ 1 }
     ensures control { topology.now.control ≡ None }
-    ensures calm { IsTrue (is_calm topology.now) }
 {}
 
 /// Where no kind is short there are at least as many boxes of each as posts that need one.

@@ -3,7 +3,7 @@
 //! `posts` and `need` count the posts that have a callback, of a stage and of a kind, and `shortage` names the first kind
 //! of which a stock has too few boxes. `first_unbuilt` names the first form in the topology for which no pipeline is
 //! built yet; where there is none, the law `nothing_is_unbuilt` says that there is one worker at most and no control
-//! source, and that no callback crashes. `subscriptions` counts the subscriptions with which the pipeline begins.
+//! source. `subscriptions` counts the subscriptions with which the pipeline begins.
 #![tactic(auto)]
 
 mod feeding;

@@ -243,11 +243,7 @@ fn what_topologies_need(rt: HostRuntime) -> Result<(), Fail> {
 }
 
 /// The forms in their order, with their words.
-const ORDER: [(Unbuilt, &str); 3] = [
-    (Unbuilt::Workers, "workers"),
-    (Unbuilt::Control, "control"),
-    (Unbuilt::Crash, "crash"),
-];
+const ORDER: [(Unbuilt, &str); 2] = [(Unbuilt::Workers, "workers"), (Unbuilt::Control, "control")];
 
 /// A topology, not a sound one, of many forms that are built, and of each that is not from this place of the order on.
 fn forms_from(alloc: Global, place: usize) -> Result<Topology, AllocError> {
@@ -255,9 +251,7 @@ fn forms_from(alloc: Global, place: usize) -> Result<Topology, AllocError> {
     p.push = true;
     let q = source(alloc, 2, "q", 1)?;
     let mut processor = router(alloc, 3, "processors.0", 0)?;
-    if place <= 2 {
-        processor.rules = RuleList::from_vec(vec![in alloc; Rule::Crash(bytes(alloc, b"!")?)]?);
-    }
+    processor.rules = RuleList::from_vec(vec![in alloc; Rule::Crash(bytes(alloc, b"!")?)]?);
     let mut copies = gatherer(alloc, 4, "b", 0)?;
     copies.dispatch = Dispatch::Broadcast;
     let other = gatherer(alloc, 5, "c", 1)?;
@@ -278,17 +272,14 @@ fn the_first_form_that_is_not_built(rt: HostRuntime) -> Result<(), Fail> {
         assert_eq!(rt; first_unbuilt(&topology, workers), Some(*unbuilt), "{word}");
         assert!(rt; unbuilt.word() == *word, "{word}");
     }
-    assert_eq!(rt;
-        first_unbuilt(&one_stage(alloc, Kind::Own)?, 1),
-        Some(Unbuilt::Crash)
-    );
     Ok(())
 }
 
 #[test]
 fn the_forms_that_are_built(rt: HostRuntime) -> Result<(), Fail> {
     let alloc = rt.alloc();
-    assert_eq!(rt; first_unbuilt(&forms_from(alloc, 3)?, 1), None);
+    assert_eq!(rt; first_unbuilt(&forms_from(alloc, 2)?, 1), None);
+    assert_eq!(rt; first_unbuilt(&one_stage(alloc, Kind::Own)?, 1), None);
     assert_eq!(rt; first_unbuilt(&one_stage(alloc, Kind::Steps)?, 1), None);
     assert_eq!(rt; first_unbuilt(&supervised(alloc)?, 1), None);
     assert_eq!(rt; first_unbuilt(&hot_and_cold(alloc)?, 1), None);

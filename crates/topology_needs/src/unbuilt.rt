@@ -1,11 +1,9 @@
 //! What a pipeline is not built for yet.
 
 ghost use Rattle.std.specs.Prelude.{◌≡◌};
-ghost use Rattle.std.specs.List.{list_all};
 ghost use Rattle.topology_needs.specs.Unbuilt as spec;
 
-use pipe_types::topology::{Kind, StageSpec, Topology};
-use stage_job::never_crashes;
+use pipe_types::topology::Topology;
 
 /// A form of topology, or a number of workers, for which no pipeline is built yet, in the order in which they are
 /// tried.
@@ -15,8 +13,6 @@ pub enum Unbuilt {
     Workers,
     /// A control source.
     Control,
-    /// A rule that crashes, or a callback of the user's own.
-    Crash,
 }
 
 impl Unbuilt {
@@ -27,7 +23,6 @@ impl Unbuilt {
         match self {
             Unbuilt::Workers => "workers",
             Unbuilt::Control => "control",
-            Unbuilt::Crash => "crash",
         }
     }
 
@@ -38,7 +33,6 @@ impl Unbuilt {
         match self {
             Unbuilt::Workers => workers > 1,
             Unbuilt::Control => topology.control.is_some(),
-            Unbuilt::Crash => !are_calm(topology.stages.as_slice()),
         }
     }
 }
@@ -48,21 +42,9 @@ impl Unbuilt {
 pub fn first_unbuilt(topology: &Topology, workers: u16) -> Option<Unbuilt>
     ensures { result ≡ spec.unbuilt_of workers topology.now }
 {
-    let in_order = [Unbuilt::Workers, Unbuilt::Control, Unbuilt::Crash];
+    let in_order = [Unbuilt::Workers, Unbuilt::Control];
     in_order
         .iter()
         .copied()
         .find(|unbuilt| unbuilt.applies(topology, workers))
-}
-
-fn are_calm(stages: &[StageSpec]) -> bool
-    ensures { result ≡ list_all spec.is_calm_stage stages.now }
-{
-    stages.iter().all(|stage| is_calm(stage))
-}
-
-fn is_calm(stage: &StageSpec) -> bool
-    ensures { result ≡ spec.is_calm_stage stage.now }
-{
-    !matches!(stage.kind, Kind::Own) && never_crashes(stage.rules.as_slice())
 }

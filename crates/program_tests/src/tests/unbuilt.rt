@@ -12,30 +12,12 @@ const TWO: &str =
     "producer = [{name = 'p', source = 'mem:a'}, {name = 'q', source = 'mem:b', mode = 'push'}]";
 
 /// Topologies, as their producers and the rest, with their counts and with the word for which they do not run.
-static FORMS: [(&str, &str, &str, &str); 7] = [
+static FORMS: [(&str, &str, &str, &str); 3] = [
     (
         ONE,
         "processors = {concurrency = 1}\npipeline = {control = 'mem:c'}",
         "2 subscriptions 1",
         "control",
-    ),
-    (
-        ONE,
-        "processors = {concurrency = 1, steps = ['pass', 'crash !']}",
-        "2 subscriptions 1",
-        "crash",
-    ),
-    (
-        ONE,
-        "processors = {concurrency = 1}\nbatcher = [{name = 'b', steps = ['crash ']}]",
-        "4 subscriptions 3",
-        "crash",
-    ),
-    (
-        ONE,
-        "supervisor = {steps = ['crash !']}",
-        "2 subscriptions 1",
-        "crash",
     ),
     (
         TWO,
@@ -48,12 +30,6 @@ static FORMS: [(&str, &str, &str, &str); 7] = [
         "processors = {steps = ['crash !', 'route 1 c x'], partition_by = 0}\nbatcher = [{name = 'b', dispatch = 'broadcast'}, {name = 'c'}]\npipeline = {control = 'mem:c'}",
         "8 subscriptions 10",
         "control",
-    ),
-    (
-        TWO,
-        "processors = {steps = ['crash !', 'route 1 c x'], partition_by = 0}\nbatcher = [{name = 'b', dispatch = 'broadcast'}, {name = 'c'}]",
-        "8 subscriptions 10",
-        "crash",
     ),
 ];
 

@@ -3,13 +3,8 @@ use Rattle.topology_needs.specs.Needs.{boxes_in, shortage_of}
 use Rattle.topology_needs.specs.Unbuilt.{unbuilt_of}
 use Rattle.box_stock.specs.Lends.{kinds_of}
 use Rattle.pipe_top.proofs.Openings.{refused_topology}
-use Rattle.pipe_top.proofs.Runnables.{case_is, enough, calm}
+use Rattle.pipe_top.proofs.Runnables.{case_is, enough}
 use Rattle.pipe_top.proofs.run.run_or_refuse.Goals as goal
-
-pub run_built-requires-clause-calm : goal.run_built-requires-clause-calm
-run_built-requires-clause-calm g c =
-    let none = rw (c.boxes_in.ensures, c.as_slice.ensures.value) at (sym c.refusal_of.ensures.refusal ∙ c.in-None.is) in
-    λ κs lives. calm (boxes_in (kinds_of g.C.Boxed.seen c.args.stock.items)) c.args.workers c.args.topology none
 
 pub run_built-requires-clause-suffices : goal.run_built-requires-clause-suffices
 run_built-requires-clause-suffices g c =
