@@ -10,11 +10,9 @@ use pipe_types::step::SourceHow;
 use stage_bodies::Outcome;
 use std::alloc::AllocError;
 
-/// Reads at most so many records. For want of memory no line is gone, and an end stays known.
-pub(crate) fn fetch<S: ByteSource>(
-    source: &mut LineSource<S>,
-    most: u32,
-) -> Result<Outcome, AllocError>
+/// Reads at most so many records of the source, as the job of a producer does. For want of memory no line is gone, and an end
+/// stays known.
+pub fn fetch<S: ByteSource>(source: &mut LineSource<S>, most: u32) -> Result<Outcome, AllocError>
     requires { 0 < most }
     ensures done { IfOk result (λ came. Fetches most came
         (line_seen S.told S.taken S.left S.faults S.waits source.old) (line_seen S.told S.taken S.left S.faults S.waits source.new)) }

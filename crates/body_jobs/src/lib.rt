@@ -7,7 +7,7 @@
 
 mod batch;
 mod body;
-mod fetch;
+pub mod fetch;
 #[cfg(test)]
 mod tests;
 mod work;

@@ -80,6 +80,10 @@ cut_off topology n spec a b c start now here asks opened cut = record {
   bodies = opened;
 }
 
+pub rose_after : (x y z : ℕ) → x ≤ y → Rose y z → Rose x z
+rose_after x y z le (inl lt) = inl (omega arith)
+rose_after x y z le (inr full) = inr full
+
 pub failed_off : (topology : Topology) (n : ℕ) (spec : StageSpec) (name : List ℕ) (a b c : EdgesSeen) (start now : ℕ → Option BodySeen) → slice_get topology.stages n ≡ Some spec
     → Asks (calls_of (take n topology.stages)) a b → AreOpened topology n a start now → IsOneFailed (edge_call spec) name b c → IsFailed topology name a c start now
 failed_off topology n spec name a b c start now here asks opened failed = record {
@@ -92,10 +96,6 @@ failed_off topology n spec name a b c start now here asks opened failed = record
   fault = rose_after a.faults b.faults c.faults asks.faults_stay failed.fault;
   bodies = opened;
 }
-  where
-    rose_after : (x y z : ℕ) → x ≤ y → Rose y z → Rose x z
-    rose_after x y z le (inl lt) = inl (omega arith)
-    rose_after x y z le (inr full) = inr full
 
 -- ---- by what ended the opening
 
@@ -108,3 +108,11 @@ pub cut_off_by : (T : Type 0) (topology : Topology) (n at : ℕ) (spec : StageSp
     → Asks (calls_of (take n topology.stages)) a b → AreOpened topology n a start now → OpensOne {T = T} (edge_call spec) at (Err u) b c mid now → IfCutOff u (IsCutOff topology a c start now)
 cut_off_by T topology n at spec (Failed name) a b c start mid now here asks opened one = tt
 cut_off_by T topology n at spec NoMemory a b c start mid now here asks opened one = cut_off topology n spec a b c start now here asks opened one
+
+-- ---- one call
+
+-- it did not open
+pub opens_not : (T : Type 0) (u : Unopened) (call : Option (EdgeKind × List ℕ)) (at : ℕ) (old new : EdgesSeen) (start now : ℕ → Option BodySeen) → IfFailed u (λ name. IsOneFailed call name old new) → IfCutOff u (IsOneCut call old new)
+    → OpensOne {T = T} call at (Err u) old new start now
+opens_not T (Failed name) call at old new start now failed cut = failed
+opens_not T NoMemory call at old new start now failed cut = cut

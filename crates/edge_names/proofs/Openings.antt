@@ -76,7 +76,7 @@ gives_sink_from calls a b name sink h g = record {
   given = λ t. let both = g.given (rw h.same_telling t) in (both.0, both.1 ∙ h.stands t Sink name);
 }
 
-has_source_from : (calls : List (EdgeKind × List ℕ)) (a b : EdgesSeen) (call : Option (EdgeKind × List ℕ)) (x y z : Option LineSeen) → Asks calls a b → y ≡ x → HasSource b call y z → HasSource a call x z
+pub has_source_from : (calls : List (EdgeKind × List ℕ)) (a b : EdgesSeen) (call : Option (EdgeKind × List ℕ)) (x y z : Option LineSeen) → Asks calls a b → y ≡ x → HasSource b call y z → HasSource a call x z
 has_source_from calls a b None x y z asks e h = h ∙ e
 has_source_from calls a b (Some (File, name)) x y z asks e h = h ∙ e
 has_source_from calls a b (Some (Sink, name)) x y z asks e h = h ∙ e
@@ -84,7 +84,7 @@ has_source_from calls a b (Some (Source, name)) x y None asks e h = h
 has_source_from calls a b (Some (Source, name)) x y (Some lines) asks e h =
     record { source = gives_source_from calls a b name lines.source asks h.source; nothing_waits = h.nothing_waits; no_end = h.no_end }
 
-has_sink_from : (calls : List (EdgeKind × List ℕ)) (a b : EdgesSeen) (call : Option (EdgeKind × List ℕ)) (x y z : Option SinkSeen) → Asks calls a b → y ≡ x → HasSink b call y z → HasSink a call x z
+pub has_sink_from : (calls : List (EdgeKind × List ℕ)) (a b : EdgesSeen) (call : Option (EdgeKind × List ℕ)) (x y z : Option SinkSeen) → Asks calls a b → y ≡ x → HasSink b call y z → HasSink a call x z
 has_sink_from calls a b None x y z asks e h = h ∙ e
 has_sink_from calls a b (Some (File, name)) x y z asks e h = h ∙ e
 has_sink_from calls a b (Some (Source, name)) x y z asks e h = h ∙ e

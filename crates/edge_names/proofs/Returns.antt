@@ -1,18 +1,19 @@
 -- What giving back adds, and what bodies keep.
-use Rattle.std.proofs.Common.{◌≡◌, ℕ, ◌+◌, ◌*◌, ◌≤◌, List, [], ◌++◌, take, refl, ap, sym, ◌∙◌, subst, arith}
-use Rattle.std.specs.Prelude.{slice_get, ◌==◌, Option, Some, None, if◌then◌else◌}
+use Rattle.std.proofs.Common.{◌≡◌, ℕ, suc, ◌+◌, ◌*◌, ◌≤◌, List, [], ◌++◌, take, refl, ap, sym, ◌∙◌, subst, arith}
+use Rattle.std.specs.Prelude.{slice_get, ◌==◌, Option, Some, None, Result, Ok, Err, OnErr, if◌then◌else◌}
 use Rattle.std.proofs.lemmas.List.{append-nil, append_assoc}
 use Rattle.pipe_types.specs.Numbers.{post}
 use Rattle.pipe_types.specs.declared.topology.StageSpec.{StageSpec}
 use Rattle.pipe_types.specs.declared.topology.Topology.{Topology}
 use Rattle.pipe_edges.specs.declared.edges.EdgeKind.{EdgeKind}
-use Rattle.stage_bodies.specs.Seen.{SourceSeen, SinkSeen, BodySeen}
+use Rattle.stage_bodies.specs.Seen.{SourceSeen, SinkSeen, LineSeen, BodySeen}
 use Rattle.stage_bodies.specs.Jobs.{Both}
 use Rattle.stage_bodies.specs.Posts.{place_at}
 use Rattle.stage_laws.specs.Numbered.{IsNumberedTopology}
 use Rattle.edge_names.specs.Seen.{EdgesSeen}
+use Rattle.edge_names.specs.Controls.{IsGivenInPart, named_control}
 use Rattle.edge_names.specs.Opened.{AreOpenedAt, IsOpened, edge_call}
-use Rattle.edge_names.specs.Returned.{GivesBack, KeepsCallbacks, named_source, named_sink, sources_of, sinks_of}
+use Rattle.edge_names.specs.Returned.{GivesBack, IsBackInPart, KeepsCallbacks, named_source, named_sink, sources_of, sinks_of}
 use Rattle.edge_names.proofs.Openings.{take_next, flat_map_next}
 
 pub back_nothing : (a : EdgesSeen) → GivesBack [] [] a a
@@ -38,6 +39,23 @@ pub back_same : (xs : List (List ℕ × SourceSeen)) (ys : List (List ℕ × Sin
 back_same xs ys a b c h k =
     let more : GivesBack (xs ++ []) (ys ++ []) a c = back_more xs [] ys [] a b c h k in
     rw (append-nil xs, append-nil ys) at more
+
+-- the control source was given back, and the first stages
+part_back : (topology : Topology) (control : Option LineSeen) (table : ℕ → Option BodySeen) (a b c : EdgesSeen) → GivesBack (named_control topology.control control) [] a b → IsBackInPart topology table b c → IsGivenInPart topology control table a c
+part_back topology control table a b c first part = record {
+  parts = suc part.stages;
+  some_left = omega (arith, part.some_left);
+  back = back_more (named_control topology.control control) (sources_of (take part.stages topology.stages) table) [] (sinks_of (take part.stages topology.stages) table) a b c first part.back;
+}
+
+pub part_back_on : (T E : Type 0) (r : Result T E) (topology : Topology) (control : Option LineSeen) (table : ℕ → Option BodySeen) (a b c : EdgesSeen) → GivesBack (named_control topology.control control) [] a b
+    → OnErr r (IsBackInPart topology table b c) → OnErr r (IsGivenInPart topology control table a c)
+part_back_on T E (Ok done) topology control table a b c first part = tt
+part_back_on T E (Err error) topology control table a b c first part = part_back topology control table a b c first part
+
+-- nothing was given back
+pub none_back : (topology : Topology) (control : Option LineSeen) (table : ℕ → Option BodySeen) (a b : EdgesSeen) → GivesBack [] [] a b → IsGivenInPart topology control table a b
+none_back topology control table a b back = record { parts = 0; some_left = omega arith; back = back }
 
 sources_step : (stages : List StageSpec) (n : ℕ) (spec : StageSpec) (was : ℕ → Option BodySeen) → slice_get stages n ≡ Some spec
     → sources_of (take n stages) was ++ named_source (edge_call spec) (was (place_at (post spec.no 0))) ≡ sources_of (take (n + 1) stages) was

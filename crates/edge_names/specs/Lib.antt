@@ -2,3 +2,4 @@ pub mod Seen
 pub mod Named
 pub mod Opened
 pub mod Returned
+pub mod Controls

@@ -1,7 +1,6 @@
 -- What a run gives back by name, stage by stage.
-use Rattle.std.specs.Prelude.{◌≡◌, ◌<◌, ◌≤◌, ◌++◌, ℕ, List, [], ◌∷◌, length, take, slice_get, Option, Some, None, option_map, IsTrue}
+use Rattle.std.specs.Prelude.{◌≡◌, ◌<◌, ◌≤◌, ◌++◌, ℕ, List, [], ◌∷◌, length, take, Option, Some, None, option_map, IsTrue}
 use Rattle.std.specs.List.{flat_map}
-use Rattle.pipe_types.specs.Counts.{Rose}
 use Rattle.pipe_types.specs.Numbers.{post}
 use Rattle.pipe_types.specs.declared.topology.StageSpec.{StageSpec}
 use Rattle.pipe_types.specs.declared.topology.Topology.{Topology}
@@ -11,7 +10,7 @@ use Rattle.stage_bodies.specs.Seen.{SourceSeen, SinkSeen, BodySeen}
 use Rattle.stage_bodies.specs.Jobs.{Both}
 use Rattle.stage_bodies.specs.Posts.{place_at}
 use Rattle.edge_names.specs.Seen.{EdgesSeen}
-use Rattle.edge_names.specs.Opened.{edge_call, calls_of, AreOpened}
+use Rattle.edge_names.specs.Opened.{edge_call}
 
 -- ---- what is given back
 
@@ -63,23 +62,7 @@ pub record IsBackInPart (topology : Topology) (table : ℕ → Option BodySeen) 
 abbrev pub KeepsCallbacks : (old new : ℕ → Option BodySeen) → Type 0
 KeepsCallbacks old new = (at : ℕ) → Both (λ before now. now.callback ≡ before.callback) (old at) (new at)
 
--- ---- what is undone
-
--- the call of a stage failed by this name, and what was opened before it was given back in order
-pub record IsUndone (topology : Topology) (name : List ℕ) (start : ℕ → Option BodySeen) (old new : EdgesSeen) : Type 0 where
-  pub at : ℕ
-  pub kind : EdgeKind
-  pub spec : StageSpec
-  pub here : slice_get topology.stages at ≡ Some spec
-  pub call : edge_call spec ≡ Some (kind, name)
-  pub opened : ℕ → Option BodySeen
-  pub bodies : AreOpened topology at old start opened
-  pub same_telling : new.told ≡ old.told
-  pub asked : IsTrue old.told → new.asked ≡ old.asked ++ (calls_of (take at topology.stages) ++ (kind, name) ∷ [])
-  pub fault : Rose old.faults new.faults
-  pub faults_stay : old.faults ≤ new.faults
-  pub sources : new.sources_back ≡ old.sources_back ++ sources_of topology.stages opened
-  pub sinks : new.sinks_back ≡ old.sinks_back ++ sinks_of topology.stages opened
+-- ---- what is asked
 
 -- memory was wanting: so many of the first calls were made
 pub record IsAskedInPart (calls : List (EdgeKind × List ℕ)) (old new : EdgesSeen) : Type 0 where

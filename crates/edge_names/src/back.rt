@@ -1,13 +1,15 @@
 //! Giving back by name, in stage order.
 
-ghost use Rattle.std.specs.Prelude.{◌≡◌, ◌≢◌, ℕ, [], length, option_map, OnOk, OnErr};
+ghost use Rattle.std.specs.Prelude.{◌≡◌, ◌≢◌, ◌++◌, ℕ, [], length, option_map, OnOk, OnErr};
 ghost use Rattle.pipe_types.specs.Sound.{IsSound};
-ghost use Rattle.stage_bodies.specs.Seen.{body_at};
+ghost use Rattle.stage_bodies.specs.Seen.{body_at, line_seen};
+ghost use Rattle.edge_names.specs.Controls.{IsGivenInPart, named_control};
 ghost use Rattle.edge_names.specs.Opened.{edge_call};
 ghost use Rattle.edge_names.specs.Returned.{GivesBack, IsBackInPart, KeepsCallbacks, named_source, named_sink, source_in, sink_in, sources_of, sinks_of};
 
+use crate::control::back_control;
 use crate::seen::{SeenEdges, SeenSink, SeenSource, back_sink, back_source};
-use pipe_edges::{ByteSink, ByteSource, Edges};
+use pipe_edges::{ByteSink, ByteSource, Edges, LineSource};
 use pipe_types::numbers::Post;
 use pipe_types::topology::{Role, StageSpec, Topology};
 use stage_bodies::{Houses, place_of, put_back, take_out};
@@ -79,7 +81,7 @@ fn back_stage<E: Edges, B: Houses<E::Source, E::Sink>>(
 
 /// Gives the sources and sinks that stand in the bodies back under the names of their stages, in stage order. Want of memory
 /// ends it: the source or sink at hand is then let go, and those of later stages stay in their bodies.
-pub fn give_back_all<E: Edges, B: Houses<E::Source, E::Sink>>(
+fn give_back_stages<E: Edges, B: Houses<E::Source, E::Sink>>(
     topology: &Topology,
     bodies: &mut Vec<Option<B>>,
     edges: &mut E,
@@ -102,4 +104,29 @@ pub fn give_back_all<E: Edges, B: Houses<E::Source, E::Sink>>(
         }
     }
     Ok(())
+}
+
+/// Gives the control source back under its name, and then the sources and sinks that stand in the bodies. Want of memory ends
+/// it, and nothing more is given back.
+pub fn give_back<E: Edges, B: Houses<E::Source, E::Sink>>(
+    topology: &Topology,
+    control: Option<LineSource<E::Source>>,
+    bodies: &mut Vec<Option<B>>,
+    edges: &mut E,
+) -> Result<(), AllocError>
+    requires sound { IsSound topology.now }
+    ensures back { OnOk result (GivesBack
+        (named_control topology.now.control (option_map (line_seen E.Source.told E.Source.taken E.Source.left E.Source.faults E.Source.waits) control)
+        ++ sources_of topology.now.stages (body_at B.look bodies.old.items))
+        (sinks_of topology.now.stages (body_at B.look bodies.old.items))
+        (⟦<E as SeenEdges>⟧.seen edges.old) (⟦<E as SeenEdges>⟧.seen edges.new)) }
+    ensures in_part { OnErr result (IsGivenInPart topology.now (option_map (line_seen E.Source.told E.Source.taken E.Source.left E.Source.faults E.Source.waits) control)
+        (body_at B.look bodies.old.items) (⟦<E as SeenEdges>⟧.seen edges.old) (⟦<E as SeenEdges>⟧.seen edges.new)) }
+    ensures callbacks { KeepsCallbacks (body_at B.look bodies.old.items) (body_at B.look bodies.new.items) }
+    ensures len { length bodies.new.items ≡ length bodies.old.items }
+{
+    match back_control(&topology.control, control, edges) {
+        Ok(()) => give_back_stages(topology, bodies, edges),
+        Err(error) => Err(error),
+    }
 }

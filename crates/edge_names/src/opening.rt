@@ -4,17 +4,20 @@ ghost use Rattle.std.specs.Prelude.{◌≡◌, ◌==◌, ℕ, None, Some, if◌t
 ghost use Rattle.pipe_types.specs.Sound.{IsSound};
 ghost use Rattle.stage_bodies.specs.Seen.{line_seen, body_at, with_source, with_sink};
 ghost use Rattle.pipe_edges.specs.declared.edges.EdgeKind.TheVariants.{Source, Sink};
-ghost use Rattle.edge_names.specs.Returned.{IsAskedInPart, IsUndone, KeepsCallbacks};
-ghost use Rattle.edge_names.specs.Opened.{Asks, AreHome, AreOpened, IfCutOff, IfFailed, IsCutOff, IsFailed, IsReturned, OpensOne, edge_calls, edge_call, fresh_lines};
+ghost use Rattle.edge_names.specs.Controls.{IsUndone, control_call, run_calls};
+ghost use Rattle.edge_names.specs.Opened.{Asks, AreHome, AreOpened, HasSource, IfCutOff, IfFailed, IsCutOff, IsFailed, OpensOne, edge_calls, edge_call};
+ghost use Rattle.edge_names.specs.Returned.{IsAskedInPart, KeepsCallbacks};
 
-use crate::back::give_back_all;
-use crate::seen::{SeenEdges, SeenSink, SeenSource, back_source, open_sink, open_source};
+use crate::back::give_back;
+use crate::control::open_control;
+use crate::lines::{copy_text, open_lines};
+use crate::seen::{SeenEdges, SeenSink, open_sink};
 use pipe_edges::{ByteSink, ByteSource, EdgeEnd, Edges, LineSource};
 use pipe_types::bytes::Text;
 use pipe_types::numbers::Post;
 use pipe_types::topology::{Role, StageSpec, Topology};
 use stage_bodies::{Houses, place_of, put_back, take_out};
-use std::alloc::{AllocError, Global};
+use std::alloc::Global;
 
 /// Why not everything is open.
 #[derive(Drop, Debug)]
@@ -22,13 +25,6 @@ pub enum Unopened {
     /// The call by this name failed.
     Failed(Text),
     OutOfMemory,
-}
-
-/// A text of its own.
-fn copy_text(alloc: Global, text: &Text) -> Result<Text, AllocError>
-    ensures { IfOk result (λ copy. copy ≡ text.now) }
-{
-    Ok(Text::from_string(String::from_str(alloc, text.as_str())?))
 }
 
 /// Gives a body its source.
@@ -65,34 +61,6 @@ fn set_sink<S: ByteSource, K: ByteSink + Drop, B: Houses<S, K>>(
     }
 }
 
-/// Puts an opened source into a body. For want of memory it goes back under its name, as far as there is memory for that.
-fn hold_source<E: Edges, B: Houses<E::Source, E::Sink>>(
-    alloc: Global,
-    name: &Text,
-    source: E::Source,
-    at: usize,
-    bodies: &mut Vec<Option<B>>,
-    edges: &mut E,
-) -> Result<(), AllocError>
-    ensures held { OnOk result ((s : ℕ) → body_at B.look bodies.new.items s
-        ≡ (if at == s then option_map (with_source (fresh_lines (⟦<E::Source as SeenSource>⟧.seen source))) (body_at B.look bodies.old.items s) else body_at B.look bodies.old.items s)) }
-    ensures untouched { OnOk result (edges.new ≡ edges.old) }
-    ensures returned { OnErr result (IsReturned name.now (⟦<E::Source as SeenSource>⟧.seen source) (⟦<E as SeenEdges>⟧.seen edges.old) (⟦<E as SeenEdges>⟧.seen edges.new)) }
-    ensures same { OnErr result (bodies.new.items ≡ bodies.old.items) }
-    ensures len { length bodies.new.items ≡ length bodies.old.items }
-{
-    match LineSource::new(alloc, source) {
-        Ok(lines) => {
-            set_source(bodies, at, lines);
-            Ok(())
-        }
-        Err((source, error)) => {
-            let _ = back_source(name, source, edges);
-            Err(error)
-        }
-    }
-}
-
 /// Opens the source of this name into the body at this place.
 fn open_source_into<E: Edges, B: Houses<E::Source, E::Sink>>(
     alloc: Global,
@@ -106,16 +74,12 @@ fn open_source_into<E: Edges, B: Houses<E::Source, E::Sink>>(
     ensures same { OnErr result (bodies.new.items ≡ bodies.old.items) }
     ensures len { length bodies.new.items ≡ length bodies.old.items }
 {
-    let Ok(source_name) = copy_text(alloc, name) else {
-        return Err(Unopened::OutOfMemory);
-    };
-    match open_source(name, edges) {
-        Ok(source) => match hold_source(alloc, name, source, at, bodies, edges) {
-            Ok(()) => Ok(()),
-            Err(AllocError) => Err(Unopened::OutOfMemory),
-        },
-        Err(EdgeEnd::Failed) => Err(Unopened::Failed(source_name)),
-        Err(EdgeEnd::OutOfMemory) => Err(Unopened::OutOfMemory),
+    match open_lines(alloc, name, edges) {
+        Ok(lines) => {
+            set_source(bodies, at, lines);
+            Ok(())
+        }
+        Err(unopened) => Err(unopened),
     }
 }
 
@@ -170,7 +134,7 @@ fn open_stage<E: Edges, B: Houses<E::Source, E::Sink>>(
 
 /// Opens the sources of the producers and the sinks of the batch processors, in stage order, into their bodies. After a
 /// failure what was opened before it stands in the bodies.
-pub fn open_all<E: Edges, B: Houses<E::Source, E::Sink>>(
+fn open_stages<E: Edges, B: Houses<E::Source, E::Sink>>(
     alloc: Global,
     topology: &Topology,
     bodies: &mut Vec<Option<B>>,
@@ -198,28 +162,33 @@ pub fn open_all<E: Edges, B: Houses<E::Source, E::Sink>>(
     Ok(())
 }
 
-/// Opens all, or gives back what was opened before a call failed. Where giving back finds no memory, or opening did, some of
-/// what was opened may still stand in the bodies.
+/// Opens the control source, and then what the stages name; or gives back what was opened before a call failed, the control
+/// source first. Where giving back finds no memory, or opening did, some of what was opened may still stand in the bodies.
 pub fn open_or_give_back<E: Edges, B: Houses<E::Source, E::Sink>>(
     alloc: Global,
     topology: &Topology,
     bodies: &mut Vec<Option<B>>,
     edges: &mut E,
-) -> Result<(), Unopened>
+) -> Result<Option<LineSource<E::Source>>, Unopened>
     requires sound { IsSound topology.now }
     requires home { AreHome topology.now (body_at B.look bodies.old.items) }
-    ensures asks { OnOk result (Asks (edge_calls topology.now) (⟦<E as SeenEdges>⟧.seen edges.old) (⟦<E as SeenEdges>⟧.seen edges.new)) }
+    ensures asks { OnOk result (Asks (run_calls topology.now) (⟦<E as SeenEdges>⟧.seen edges.old) (⟦<E as SeenEdges>⟧.seen edges.new)) }
+    ensures control { IfOk result (λ control. HasSource (⟦<E as SeenEdges>⟧.seen edges.old) (control_call topology.now.control) None
+        (option_map (line_seen E.Source.told E.Source.taken E.Source.left E.Source.faults E.Source.waits) control)) }
     ensures opened { OnOk result (AreOpened topology.now (length topology.now.stages) (⟦<E as SeenEdges>⟧.seen edges.old) (body_at B.look bodies.old.items) (body_at B.look bodies.new.items)) }
     ensures undone { IfErr result (λ e. IfFailed e (λ name. IsUndone topology.now name (body_at B.look bodies.old.items) (⟦<E as SeenEdges>⟧.seen edges.old) (⟦<E as SeenEdges>⟧.seen edges.new))) }
-    ensures in_part { IfErr result (λ e. IfCutOff e (IsAskedInPart (edge_calls topology.now) (⟦<E as SeenEdges>⟧.seen edges.old) (⟦<E as SeenEdges>⟧.seen edges.new))) }
+    ensures in_part { IfErr result (λ e. IfCutOff e (IsAskedInPart (run_calls topology.now) (⟦<E as SeenEdges>⟧.seen edges.old) (⟦<E as SeenEdges>⟧.seen edges.new))) }
     ensures len { length bodies.new.items ≡ length bodies.old.items }
     ensures callbacks { KeepsCallbacks (body_at B.look bodies.old.items) (body_at B.look bodies.new.items) }
 {
-    match open_all(alloc, topology, bodies, edges) {
-        Ok(()) => Ok(()),
-        Err(unopened) => match give_back_all(topology, bodies, edges) {
-            Ok(()) => Err(unopened),
-            Err(_) => Err(Unopened::OutOfMemory),
+    match open_control(alloc, &topology.control, edges) {
+        Ok(control) => match open_stages(alloc, topology, bodies, edges) {
+            Ok(()) => Ok(control),
+            Err(unopened) => match give_back(topology, control, bodies, edges) {
+                Ok(()) => Err(unopened),
+                Err(_) => Err(Unopened::OutOfMemory),
+            },
         },
+        Err(unopened) => Err(unopened),
     }
 }

@@ -1,25 +1,40 @@
 -- The calls that a run makes by name, and those that it gives up after.
-use Rattle.std.proofs.Common.{◌≡◌, ℕ, ◌+◌, ◌≤◌, ◌∷◌, ◌++◌, List, [], take, drop, length, Bool, arith, refl, ap, sym, ◌∙◌, subst}
-use Rattle.std.specs.Prelude.{IsTrue, Option, Some}
+use Rattle.std.proofs.Common.{◌≡◌, ℕ, suc, ◌+◌, ◌≤◌, ◌∷◌, ◌++◌, List, [], take, drop, length, Bool, arith, refl, ap, sym, ◌∙◌, subst, inl, inr}
+use Rattle.std.specs.Prelude.{IsTrue, Option, Some, None, option_map}
+use Rattle.std.proofs.lemmas.List.{append_assoc}
 use Rattle.pipe_types.specs.declared.topology.Topology.{Topology}
 use Rattle.pipe_model.specs.History.{History}
 use Rattle.pipe_edges.specs.declared.edges.EdgeKind.{EdgeKind}
-use Rattle.stage_bodies.specs.Seen.{SourceSeen, SinkSeen, BodySeen}
+use Rattle.stage_bodies.specs.Seen.{SourceSeen, SinkSeen, LineSeen, BodySeen}
 use Rattle.edge_names.specs.Seen.{EdgesSeen}
-use Rattle.edge_names.specs.Opened.{Asks, calls_of, edge_call, edge_calls, one}
-use Rattle.edge_names.specs.Returned.{GivesBack, IsUndone, sources_of, sinks_of}
+use Rattle.edge_names.specs.Controls.{IsStageUndone, IsUndone, control_call, first_sources, first_sinks}
+use Rattle.edge_names.specs.Opened.{Asks, IsOneFailed, calls_of, edge_call, edge_calls, one}
+use Rattle.edge_names.specs.Returned.{GivesBack}
 use Rattle.edge_names.proofs.Undoes.{calls_parts}
 use Rattle.box_stock.specs.Lends.{AreHandedOut}
-use Rattle.pipe_run.specs.Outside.{AreAsked, AreUsed, IsOutside, IsUnopened}
+use Rattle.pipe_run.specs.Outside.{AreAsked, AreUsed, HasControl, IsControlUnopened, IsOutside, IsStageUnopened, IsUnopened}
 use Rattle.pipe_run.specs.Whole.{IsAskedUntil}
 
-pub unopened : (topology : Topology) (name : List ℕ) (start : ℕ → Option BodySeen) (old new : EdgesSeen) → AreHandedOut topology start → IsUndone topology name start old new → IsUnopened topology name old new
-unopened topology name start old new handed u = record {
+unopened_control : (topology : Topology) (name : List ℕ) (old new : EdgesSeen) → IsOneFailed (control_call topology.control) name old new → IsControlUnopened topology name old new
+unopened_control topology name old new failed = record {
+  call = named topology.control failed.is;
+  sources = failed.asks.sources;
+  sinks = failed.asks.sinks;
+}
+  where
+    named : (control : Option (List ℕ)) → control_call control ≡ Some (failed.kind, name) → control ≡ Some name
+    named (Some n) is = ap (option_map (λ (call : EdgeKind × List ℕ). call.1)) is
+    named None is = cc
+
+unopened_stage : (topology : Topology) (name : List ℕ) (start : ℕ → Option BodySeen) (old new : EdgesSeen) → AreHandedOut topology start → IsStageUndone topology name start old new → IsStageUnopened topology name old new
+unopened_stage topology name start old new handed u = record {
   at = u.at;
   kind = u.kind;
   spec = u.spec;
   here = u.here;
   call = u.call;
+  control = u.control;
+  unread = u.lines;
   start = start;
   handed = handed;
   bodies = u.opened;
@@ -28,16 +43,37 @@ unopened topology name start old new handed u = record {
   sinks = u.sinks;
 }
 
+pub unopened : (topology : Topology) (name : List ℕ) (start : ℕ → Option BodySeen) (old new : EdgesSeen) → AreHandedOut topology start → IsUndone topology name start old new → IsUnopened topology name old new
+unopened topology name start old new handed (inl failed) = inl (unopened_control topology name old new failed)
+unopened topology name start old new handed (inr u) = inr (unopened_stage topology name start old new handed u)
+
 pub asked_until : (topology : Topology) (name : List ℕ) (start : ℕ → Option BodySeen) (old new : EdgesSeen) → IsUndone topology name start old new → IsAskedUntil topology name old new
-asked_until topology name start old new u = record {
-  kind = u.kind;
-  front = calls_of (take u.at topology.stages);
-  rest = calls_of (drop (u.at + 1) topology.stages);
-  calls = calls_parts topology.stages u.at u.spec u.here
-      ∙ ap (λ (call : Option (EdgeKind × List ℕ)). calls_of (take u.at topology.stages) ++ (one call ++ calls_of (drop (u.at + 1) topology.stages))) u.call;
-  asks = record { same_telling = u.same_telling; asked = u.asked; faults_stay = u.faults_stay };
-  fault = u.fault;
+asked_until topology name start old new (inl failed) = record {
+  kind = failed.kind;
+  front = [];
+  rest = edge_calls topology;
+  calls = ap (λ (call : Option (EdgeKind × List ℕ)). one call ++ edge_calls topology) failed.is;
+  asks = record { same_telling = failed.asks.same_telling; asked = failed.asks.asked; faults_stay = failed.asks.faults_stay };
+  fault = failed.fault;
 }
+asked_until topology name start old new (inr u) =
+    let first = one (control_call topology.control) in
+    let before = calls_of (take u.at topology.stages) in
+    let after = calls_of (drop (u.at + 1) topology.stages) in
+    let parts : edge_calls topology ≡ before ++ (u.kind, name) ∷ after =
+    calls_parts topology.stages u.at u.spec u.here ∙ ap (λ (call : Option (EdgeKind × List ℕ)). before ++ (one call ++ after)) u.call in
+    record {
+      kind = u.kind;
+      front = first ++ before;
+      rest = after;
+      calls = ap (λ calls. first ++ calls) parts ∙ sym (append_assoc first before ((u.kind, name) ∷ after));
+      asks = record {
+        same_telling = u.same_telling;
+        asked = λ t. u.asked t ∙ ap (λ calls. old.asked ++ calls) (sym (append_assoc first before ((u.kind, name) ∷ [])));
+        faults_stay = u.faults_stay;
+      };
+      fault = u.fault;
+    }
 
 -- what was opened was asked for, and nothing more
 pub asked_all : (calls : List (EdgeKind × List ℕ)) (sources : List (List ℕ × SourceSeen)) (sinks : List (List ℕ × SinkSeen)) (old mid new : EdgesSeen) → Asks calls old mid → GivesBack sources sinks mid new → AreAsked calls old new
@@ -47,13 +83,16 @@ asked_all calls sources sinks old mid new asks back = record {
   faults_stay = omega (arith, asks.faults_stay, back.no_fault);
 }
 
-pub outside : (whole : Bool) (topology : Topology) (before : History) (calls : List (EdgeKind × List ℕ)) (old mid new : EdgesSeen) (bodies : ℕ → Option BodySeen) (n : ℕ) → (IsTrue whole → n ≡ length topology.stages) → AreUsed whole topology old before bodies
-    → Asks calls old mid → GivesBack (sources_of (take n topology.stages) bodies) (sinks_of (take n topology.stages) bodies) mid new → IsOutside whole topology before old new
-outside whole topology before calls old mid new bodies n all used asks back = record {
+pub outside : (whole : Bool) (topology : Topology) (before : History) (calls : List (EdgeKind × List ℕ)) (old mid new : EdgesSeen) (control : Option LineSeen) (bodies : ℕ → Option BodySeen) (n : ℕ) → (IsTrue whole → n ≡ suc (length topology.stages))
+    → HasControl topology old before topology.control control → AreUsed whole topology old before bodies
+    → Asks calls old mid → GivesBack (first_sources n topology control bodies) (first_sinks n topology bodies) mid new → IsOutside whole topology before old new
+outside whole topology before calls old mid new control bodies n all obeyed used asks back = record {
+  control = control;
+  obeyed = obeyed;
   bodies = bodies;
   used = used;
-  stages = n;
+  parts = n;
   all = all;
-  sources = back.back_sources ∙ ap (λ z. z ++ sources_of (take n topology.stages) bodies) asks.sources;
-  sinks = back.back_sinks ∙ ap (λ z. z ++ sinks_of (take n topology.stages) bodies) asks.sinks;
+  sources = back.back_sources ∙ ap (λ z. z ++ first_sources n topology control bodies) asks.sources;
+  sinks = back.back_sinks ∙ ap (λ z. z ++ first_sinks n topology bodies) asks.sinks;
 }

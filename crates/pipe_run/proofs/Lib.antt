@@ -1,5 +1,6 @@
 mod Sources
 mod Sinks
+mod Controls
 mod Bodies
 mod Callbacks
 mod Stocks

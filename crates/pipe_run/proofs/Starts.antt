@@ -1,6 +1,6 @@
 -- What holds before the first step.
 use Rattle.std.proofs.Common.{◌≡◌, ℕ, List, [], ◌∷◌, Bool, true, false, arith, refl, ap, sym, subst, inl, Option}
-use Rattle.std.specs.Prelude.{◌||◌, ◌⊎◌, max}
+use Rattle.std.specs.Prelude.{◌||◌, ◌⊎◌, IfSome, max}
 use Rattle.std.specs.List.{list_any}
 use Rattle.pipe_types.specs.declared.topology.StageSpec.{StageSpec}
 use Rattle.pipe_types.specs.declared.topology.Topology.{Topology}
@@ -8,12 +8,13 @@ use Rattle.pipe_model.specs.History.{History}
 use Rattle.pipe_model.specs.Moves.{jobs_out}
 use Rattle.pipe_model.specs.Posts.{has_post_out}
 use Rattle.run_claims.specs.Followed.{FollowsMoves}
-use Rattle.run_claims.specs.Read.{HasNoControl}
-use Rattle.stage_bodies.specs.Seen.{BodySeen}
+use Rattle.stage_bodies.specs.Seen.{LineSeen, BodySeen}
 use Rattle.body_laws.specs.Keeps.{Keeps}
 use Rattle.body_laws.specs.Ready.{IsFilled, Ready}
 use Rattle.body_laws.proofs.Rises.{rise_none}
 use Rattle.body_laws.proofs.Starts.{starts}
+use Rattle.control_lines.specs.Keeping.{IsFresh, KeepsControl}
+use Rattle.control_lines.proofs.Kept.{fresh_control}
 use Rattle.stage_rounds.specs.Clocks.{ClockSeen, KeepsClock}
 use Rattle.stage_rounds.specs.Going.{IsAtRest}
 
@@ -34,8 +35,8 @@ clock_starts before clock empty = subst (λ h. KeepsClock h clock clock) (sym em
 pub follows_yet : (topology : Topology) (before : History) → before ≡ [] → FollowsMoves topology before
 follows_yet topology before empty = subst (λ h. FollowsMoves topology h) (sym empty) tt
 
-pub no_control_yet : (before : History) → before ≡ [] → HasNoControl before
-no_control_yet before empty = subst HasNoControl (sym empty) (record { no_step = refl; no_end = refl })
+pub control_starts : (topology : Topology) (before : History) (fresh : Option LineSeen) → before ≡ [] → IfSome fresh IsFresh → KeepsControl topology before 0 fresh fresh
+control_starts topology before fresh empty is = subst (λ h. KeepsControl topology h 0 fresh fresh) (sym empty) (fresh_control topology fresh is)
 
 pub keeps_yet : (topology : Topology) (before : History) (table : ℕ → Option BodySeen) → before ≡ [] → IsFilled topology table → Keeps topology before table table
 keeps_yet topology before table empty filled = subst (λ h. Keeps topology h table table) (sym empty) (starts topology table filled)

@@ -1,15 +1,16 @@
 -- What a whole run comes to, from its parts.
-use Rattle.std.proofs.Common.{◌≡◌, ℕ, List, Bool, true, length, take, map, Option, Result, Ok, Err}
+use Rattle.std.proofs.Common.{◌≡◌, ℕ, List, Bool, true, length, map, Option, None, Result, Ok, Err}
 use Rattle.std.specs.Prelude.{is_ok, IfOk, OnErr}
 use Rattle.pipe_types.specs.Sound.{IsSound}
 use Rattle.pipe_types.specs.declared.topology.Topology.{Topology}
 use Rattle.pipe_model.specs.History.{History}
 use Rattle.pipe_model.specs.Legal.{is_legal}
-use Rattle.stage_bodies.specs.Seen.{BoxSeen, BodySeen}
+use Rattle.stage_bodies.specs.Seen.{LineSeen, BoxSeen, BodySeen}
 use Rattle.stage_rounds.specs.Clocks.{ClockSeen}
 use Rattle.edge_names.specs.Seen.{EdgesSeen}
-use Rattle.edge_names.specs.Opened.{AreOpened, Asks, edge_calls}
-use Rattle.edge_names.specs.Returned.{KeepsCallbacks, sources_of, sinks_of}
+use Rattle.edge_names.specs.Controls.{control_call, first_sources, first_sinks, run_calls}
+use Rattle.edge_names.specs.Opened.{AreOpened, Asks, HasSource}
+use Rattle.edge_names.specs.Returned.{KeepsCallbacks}
 use Rattle.box_stock.specs.Lends.{AreHandedOut, CallbacksRemain}
 use Rattle.box_stock.specs.declared.handing.Slip.{Slip}
 use Rattle.box_stock.proofs.Filled.{homes}
@@ -21,12 +22,14 @@ use Rattle.pipe_run.specs.declared.run.NoRun.{NoRun}
 use Rattle.pipe_run.proofs.Bodies.{IsRunFrom, used}
 use Rattle.pipe_run.proofs.Callbacks.{leaves, left_remain, same_remain}
 use Rattle.pipe_run.proofs.Calls.{asked_all, outside}
+use Rattle.pipe_run.proofs.Controls.{has_control, no_control}
 use Rattle.pipe_run.proofs.Stocks.{IsTakenBack, boxes_left, boxes_same}
 
 -- everything was opened, the rounds went on, and all was given back
-pub run_of : (whole : Bool) (topology : Topology) (before : History) (table opened final : ℕ → Option BodySeen) (old mid new : EdgesSeen) (clock clock' : ClockSeen) → IsSound topology → is_legal topology before ≡ true → AreHandedOut topology table
-    → AreOpened topology (length topology.stages) old table opened → Asks (edge_calls topology) old mid → WentOn whole topology before opened final mid new clock clock' → IsRunOf whole topology before old new clock clock'
-run_of whole topology before table opened final old mid new clock clock' sound legal handed opens asks went =
+pub run_of : (whole : Bool) (topology : Topology) (before : History) (table opened final : ℕ → Option BodySeen) (fresh : Option LineSeen) (old mid new : EdgesSeen) (clock clock' : ClockSeen) → IsSound topology → is_legal topology before ≡ true → AreHandedOut topology table
+    → AreOpened topology (length topology.stages) old table opened → HasSource old (control_call topology.control) None fresh → Asks (run_calls topology) old mid → WentOn whole topology before opened final fresh mid new clock clock'
+    → IsRunOf whole topology before old new clock clock'
+run_of whole topology before table opened final fresh old mid new clock clock' sound legal handed opens lines asks went =
     let from : IsRunFrom whole topology old before table opened went.bodies = record {
       sound = sound;
       legal = legal;
@@ -36,18 +39,19 @@ run_of whole topology before table opened final old mid new clock clock' sound l
       stay = went.stay;
       none_out = went.none_out;
     } in
+    let obeyed = has_control topology old before topology.control fresh went.control lines went.obeyed in
     record {
       follows = went.follows;
-      control = went.control;
+      control = λ none. no_control topology old before topology.control fresh went.control none lines went.obeyed;
       ended = went.ended;
-      outside = outside whole topology before (edge_calls topology) old mid new went.bodies went.stages went.all (used whole topology old before table opened went.bodies from) asks went.back;
+      outside = outside whole topology before (run_calls topology) old mid new went.control went.bodies went.parts went.all obeyed (used whole topology old before table opened went.bodies from) asks went.back;
       time = went.time;
-      asks = asked_all (edge_calls topology) (sources_of (take went.stages topology.stages) went.bodies) (sinks_of (take went.stages topology.stages) went.bodies) old mid new asks went.back;
+      asks = asked_all (run_calls topology) (first_sources went.parts topology went.control went.bodies) (first_sinks went.parts topology went.bodies) old mid new asks went.back;
     }
 
-pub run_leaves : (whole : Bool) (topology : Topology) (before : History) (table opened final : ℕ → Option BodySeen) (mid new : EdgesSeen) (clock clock' : ClockSeen) → IsSound topology → KeepsCallbacks table opened
-    → WentOn whole topology before opened final mid new clock clock' → LeavesCallbacks whole topology before table final
-run_leaves whole topology before table opened final mid new clock clock' sound first went =
+pub run_leaves : (whole : Bool) (topology : Topology) (before : History) (table opened final : ℕ → Option BodySeen) (fresh : Option LineSeen) (mid new : EdgesSeen) (clock clock' : ClockSeen) → IsSound topology → KeepsCallbacks table opened
+    → WentOn whole topology before opened final fresh mid new clock clock' → LeavesCallbacks whole topology before table final
+run_leaves whole topology before table opened final fresh mid new clock clock' sound first went =
     leaves whole topology before table opened went.bodies final sound first went.keeps went.none_out went.remain went.kept
 
 -- ---- whether or not there was a run

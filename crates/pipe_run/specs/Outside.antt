@@ -1,5 +1,5 @@
 -- What a run read of its sources, and wrote to its sinks.
-use Rattle.std.specs.Prelude.{◌≡◌, ◌≤◌, ◌++◌, ℕ, Bool, true, false, List, [], length, take, slice_get, All, IsTrue, Option, Some}
+use Rattle.std.specs.Prelude.{◌≡◌, ◌≤◌, ◌⊎◌, ◌++◌, ℕ, suc, Bool, true, false, List, [], length, slice_get, All, IsTrue, Option, Some, None}
 use Rattle.pipe_types.specs.Counts.{Rose}
 use Rattle.pipe_types.specs.declared.numbers.StageNo.{StageNo}
 use Rattle.pipe_types.specs.declared.step.SourceHow.TheVariants.{End, Fault, TooLong}
@@ -14,15 +14,17 @@ use Rattle.pipe_edges.specs.declared.edges.EdgeKind.TheVariants.{Source, Sink}
 use Rattle.source_lines.specs.Cut.{AreFirstLines, AreAllLines, AreLinesBeforeLong}
 use Rattle.run_claims.specs.Read.{quiets}
 use Rattle.stage_job.specs.Chunks.{RoseBy}
-use Rattle.stage_bodies.specs.Seen.{SourceSeen, SinkSeen, BodySeen}
+use Rattle.stage_bodies.specs.Seen.{SourceSeen, SinkSeen, LineSeen, BodySeen}
 use Rattle.stage_bodies.specs.Posts.{place_at}
 use Rattle.body_laws.specs.Counts.{brought, short_writes}
 use Rattle.body_laws.specs.Keeps.{AreFirstHeld}
 use Rattle.body_laws.specs.Ready.{There}
+use Rattle.control_lines.specs.Obeyed.{IsControlRead}
 use Rattle.edge_names.specs.Seen.{EdgesSeen}
 use Rattle.edge_names.specs.Named.{GivesSource, GivesSink}
-use Rattle.edge_names.specs.Opened.{AreOpened, call_in, edge_call}
+use Rattle.edge_names.specs.Opened.{AreOpened, HasSource, call_in, edge_call}
 use Rattle.edge_names.specs.Returned.{source_in, sink_in, sources_of, sinks_of}
+use Rattle.edge_names.specs.Controls.{control_call, named_control, first_sources, first_sinks}
 use Rattle.box_stock.specs.Lends.{AreHandedOut}
 
 -- the records are the first lines of what the source gave and has left: all of them, none too long, where it ended; all
@@ -45,6 +47,21 @@ pub record IsSourceRead (edges : EdgesSeen) (before : History) (p : StageNo) (na
   pub reads : ReadsSource before p source
   pub first : All (AreFirstHeld opened) (brought before p)
 
+-- the control source that was opened under this name has the bytes that stood there, and the control steps of the journal are
+-- those of its lines
+pub record IsControlUsed (topology : Topology) (edges : EdgesSeen) (before : History) (name : List ℕ) (source : SourceSeen) : Type 0 where
+  pub opened : SourceSeen
+  pub given : GivesSource edges name opened
+  pub same_telling : source.told ≡ opened.told
+  pub same_bytes : IsTrue opened.told → source.taken ++ source.left ≡ opened.left
+  pub reads : IsControlRead topology before source
+
+-- the control source, if one is named
+abbrev pub HasControl : Topology → EdgesSeen → History → (name : Option (List ℕ)) → Option LineSeen → Type 0
+HasControl topology edges before (Some name) (Some lines) = IsControlUsed topology edges before name lines.source
+HasControl topology edges before None None = Unit {0}
+HasControl topology edges before _ _ = ⊥
+
 -- the sink that was opened under this name holds what it held then, then the journal's text, and then what more was written;
 -- each write of less than its text has its cause in the sink, whose count was 0
 pub record IsSinkWritten (topology : Topology) (edges : EdgesSeen) (before : History) (s : StageNo) (name more : List ℕ) (sink : SinkSeen) : Type 0 where
@@ -66,29 +83,44 @@ pub record AreUsed (whole : Bool) (topology : Topology) (edges : EdgesSeen) (bef
   pub sinks : (s : StageNo) (name : List ℕ) → call_in (spec_of topology s) ≡ Some (Sink, name)
       → There (sink_in (bodies (place_at (post s 0)))) (IsSinkWrittenBy whole topology edges before s name)
 
--- everything that was opened by name was read and written as the journal says, and then given back in stage order: all of it,
--- unless memory was wanting
+-- everything that was opened by name was read and written as the journal says, and then given back, the control source first
+-- and then what the stages opened, in their order: all of it, unless memory was wanting
 pub record IsOutside (whole : Bool) (topology : Topology) (before : History) (old new : EdgesSeen) : Type 0 where
+  pub control : Option LineSeen
+  pub obeyed : HasControl topology old before topology.control control
   pub bodies : ℕ → Option BodySeen
   pub used : AreUsed whole topology old before bodies
-  pub stages : ℕ
-  pub all : IsTrue whole → stages ≡ length topology.stages
-  pub sources : new.sources_back ≡ old.sources_back ++ sources_of (take stages topology.stages) bodies
-  pub sinks : new.sinks_back ≡ old.sinks_back ++ sinks_of (take stages topology.stages) bodies
+  pub parts : ℕ
+  pub all : IsTrue whole → parts ≡ suc (length topology.stages)
+  pub sources : new.sources_back ≡ old.sources_back ++ first_sources parts topology control bodies
+  pub sinks : new.sinks_back ≡ old.sinks_back ++ first_sinks parts topology bodies
 
--- a call by this name failed, and what the stages before it had opened was given back in stage order, unread and unwritten
-pub record IsUnopened (topology : Topology) (name : List ℕ) (old new : EdgesSeen) : Type 0 where
+-- the call of the control source failed by this name, and nothing was given back
+pub record IsControlUnopened (topology : Topology) (name : List ℕ) (old new : EdgesSeen) : Type 0 where
+  pub call : topology.control ≡ Some name
+  pub sources : new.sources_back ≡ old.sources_back
+  pub sinks : new.sinks_back ≡ old.sinks_back
+
+-- the call of a stage failed by this name, and the control source and then what the stages before it had opened, in their order,
+-- was given back, unread and unwritten
+pub record IsStageUnopened (topology : Topology) (name : List ℕ) (old new : EdgesSeen) : Type 0 where
   pub at : ℕ
   pub kind : EdgeKind
   pub spec : StageSpec
   pub here : slice_get topology.stages at ≡ Some spec
   pub call : edge_call spec ≡ Some (kind, name)
+  pub control : Option LineSeen
+  pub unread : HasSource old (control_call topology.control) None control
   pub start : ℕ → Option BodySeen
   pub handed : AreHandedOut topology start
   pub bodies : ℕ → Option BodySeen
   pub opened : AreOpened topology at old start bodies
-  pub sources : new.sources_back ≡ old.sources_back ++ sources_of topology.stages bodies
+  pub sources : new.sources_back ≡ old.sources_back ++ (named_control topology.control control ++ sources_of topology.stages bodies)
   pub sinks : new.sinks_back ≡ old.sinks_back ++ sinks_of topology.stages bodies
+
+-- a call by this name failed, and what was opened before it was given back
+abbrev pub IsUnopened : Topology → (name : List ℕ) → (old new : EdgesSeen) → Type 0
+IsUnopened topology name old new = IsControlUnopened topology name old new ⊎ IsStageUnopened topology name old new
 
 -- these calls by name were made, of edges that tell as before
 pub record AreAsked (calls : List (EdgeKind × List ℕ)) (old new : EdgesSeen) : Type 0 where

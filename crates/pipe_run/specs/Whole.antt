@@ -1,5 +1,5 @@
 -- What a whole run comes to, and what a run comes to that does not begin.
-use Rattle.std.specs.Prelude.{◌≡◌, ◌⊎◌, ◌++◌, ◌∷◌, [], true, false, Bool, List, ℕ, IsTrue}
+use Rattle.std.specs.Prelude.{◌≡◌, ◌⊎◌, ◌++◌, ◌∷◌, [], true, false, Bool, List, ℕ, IsTrue, None}
 use Rattle.pipe_types.specs.Counts.{Rose}
 use Rattle.pipe_types.specs.declared.topology.Topology.{Topology}
 use Rattle.pipe_model.specs.History.{History}
@@ -10,7 +10,7 @@ use Rattle.run_claims.specs.Followed.{FollowsMoves}
 use Rattle.run_claims.specs.Read.{HasNoControl}
 use Rattle.stage_rounds.specs.Clocks.{ClockSeen, KeepsClock, KeepsClockPartly}
 use Rattle.edge_names.specs.Seen.{EdgesSeen}
-use Rattle.edge_names.specs.Opened.{edge_calls}
+use Rattle.edge_names.specs.Controls.{run_calls}
 use Rattle.pipe_run.specs.Outside.{AreAsked, IsOutside, IsUnopened}
 use Rattle.pipe_run.specs.declared.run.NoRun.{NoRun}
 use Rattle.pipe_run.specs.declared.run.NoRun.TheVariants.{Unopened, OutOfMemory}
@@ -25,21 +25,21 @@ IsTimeOf true before old new = KeepsClock before old new
 IsTimeOf false before old new = KeepsClockPartly before old new
 
 -- a run to its end, or until memory was wanting: each step of its own accord was the next move, none comes from a control
--- source, and its time is the clock's
+-- source where none is named, and its time is the clock's
 pub record IsRunOf (whole : Bool) (topology : Topology) (before : History) (old new : EdgesSeen) (clock clock' : ClockSeen) : Type 0 where
   pub follows : FollowsMoves topology before
-  pub control : HasNoControl before
+  pub control : topology.control ≡ None → HasNoControl before
   pub ended : IsTrue whole → HasCome topology before
   pub outside : IsOutside whole topology before old new
   pub time : IsTimeOf whole before clock clock'
-  pub asks : AreAsked (edge_calls topology) old new
+  pub asks : AreAsked (run_calls topology) old new
 
 -- the calls up to the one that failed
 pub record IsAskedUntil (topology : Topology) (name : List ℕ) (old new : EdgesSeen) : Type 0 where
   pub kind : EdgeKind
   pub front : List (EdgeKind × List ℕ)
   pub rest : List (EdgeKind × List ℕ)
-  pub calls : edge_calls topology ≡ front ++ (kind, name) ∷ rest
+  pub calls : run_calls topology ≡ front ++ (kind, name) ∷ rest
   pub asks : AreAsked (front ++ (kind, name) ∷ []) old new
   pub fault : Rose old.faults new.faults
 

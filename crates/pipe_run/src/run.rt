@@ -1,14 +1,15 @@
 //! The run.
 
-ghost use Rattle.std.specs.Prelude.{◌≡◌, ◌≤◌, ◌<◌, ◌*◌, ℕ, [], length, map, is_ok, IfOk, IfErr, OnOk, OnErr};
+ghost use Rattle.std.specs.Prelude.{◌≡◌, ◌≤◌, ◌<◌, ◌*◌, ℕ, [], length, true, map, option_map, is_ok, IfOk, IfErr, IfSome, OnOk, OnErr};
 ghost use Rattle.pipe_types.specs.Sound.{IsSound};
 ghost use Rattle.core_state.specs.Stands.{Stands};
-ghost use Rattle.stage_bodies.specs.Seen.{body_at};
+ghost use Rattle.stage_bodies.specs.Seen.{body_at, line_seen};
 ghost use Rattle.stage_bodies.specs.Jobs.{Both};
 ghost use Rattle.body_laws.specs.Ready.{IsFilled};
+ghost use Rattle.control_lines.specs.Keeping.{IsFresh};
 ghost use Rattle.stage_rounds.specs.Clocks.{clock_seen};
 ghost use Rattle.stage_rounds.specs.Rounds.{HasEnded};
-ghost use Rattle.edge_names.specs.Opened.{edge_calls};
+ghost use Rattle.edge_names.specs.Controls.{run_calls};
 ghost use Rattle.edge_names.specs.Returned.{IsAskedInPart, KeepsCallbacks};
 ghost use Rattle.box_stock.specs.Homes.{Suffices};
 ghost use Rattle.box_stock.specs.Lends.{AreHandedOut, AreStillThere, IsSameBox, box_at, kinds_of};
@@ -19,8 +20,8 @@ ghost use Rattle.pipe_run.specs.Whole.{IsRunOf, IsAskedUntil, HasCome, IfUnopene
 
 use box_stock::{Boxed, Carries, Lent, hand_out, take_back};
 use core_state::Core;
-use edge_names::{SeenEdges, Unopened, give_back_all, open_or_give_back};
-use pipe_edges::{Clock, Edges};
+use edge_names::{SeenEdges, Unopened, give_back, open_or_give_back};
+use pipe_edges::{ByteSource, Clock, Edges, LineSource};
 use pipe_types::bytes::Text;
 use pipe_types::topology::Topology;
 use stage_bodies::Houses;
@@ -76,7 +77,7 @@ pub fn run_topology<
     ensures boxes { IfOk result.run (λ run. AreBoxesLeft (is_ok run.end) topology run.core.journal.steps (map C.seen stock.items) (map C.seen result.stock.items)) }
     ensures unopened { IfErr result.run (λ e. IfUnopened e (λ name. IsUnopened topology name (⟦<E as SeenEdges>⟧.seen edges.old) (⟦<E as SeenEdges>⟧.seen edges.new))) }
     ensures failed { IfErr result.run (λ e. IfUnopened e (λ name. IsAskedUntil topology name (⟦<E as SeenEdges>⟧.seen edges.old) (⟦<E as SeenEdges>⟧.seen edges.new))) }
-    ensures wanting { IfErr result.run (λ e. IfWanting e (IsAskedInPart (edge_calls topology) (⟦<E as SeenEdges>⟧.seen edges.old) (⟦<E as SeenEdges>⟧.seen edges.new))) }
+    ensures wanting { IfErr result.run (λ e. IfWanting e (IsAskedInPart (run_calls topology) (⟦<E as SeenEdges>⟧.seen edges.old) (⟦<E as SeenEdges>⟧.seen edges.new))) }
     ensures same_boxes { OnErr result.run (AreSameBoxes (map C.seen stock.items) (map C.seen result.stock.items)) }
     ensures same_clock { OnErr result.run (clock.new ≡ clock.old) }
 {
@@ -113,7 +114,7 @@ fn run_bodies<R: Wait, E: Edges, C: Boxed, B: Carries<C> + Houses<E::Source, E::
     ensures boxes { IfOk result (λ run. LeavesCallbacks (is_ok run.end) topology run.core.journal.steps (body_at B.look bodies.old.items) (body_at B.look bodies.new.items)) }
     ensures unopened { IfErr result (λ e. IfUnopened e (λ name. IsUnopened topology name (⟦<E as SeenEdges>⟧.seen edges.old) (⟦<E as SeenEdges>⟧.seen edges.new))) }
     ensures failed { IfErr result (λ e. IfUnopened e (λ name. IsAskedUntil topology name (⟦<E as SeenEdges>⟧.seen edges.old) (⟦<E as SeenEdges>⟧.seen edges.new))) }
-    ensures wanting { IfErr result (λ e. IfWanting e (IsAskedInPart (edge_calls topology) (⟦<E as SeenEdges>⟧.seen edges.old) (⟦<E as SeenEdges>⟧.seen edges.new))) }
+    ensures wanting { IfErr result (λ e. IfWanting e (IsAskedInPart (run_calls topology) (⟦<E as SeenEdges>⟧.seen edges.old) (⟦<E as SeenEdges>⟧.seen edges.new))) }
     ensures same_callbacks { OnErr result (KeepsCallbacks (body_at B.look bodies.old.items) (body_at B.look bodies.new.items)) }
     ensures same_clock { OnErr result (clock.new ≡ clock.old) }
 {
@@ -121,7 +122,7 @@ fn run_bodies<R: Wait, E: Edges, C: Boxed, B: Carries<C> + Houses<E::Source, E::
         return Err(NoRun::OutOfMemory);
     };
     match open_or_give_back(alloc, core.topology(), bodies, edges) {
-        Ok(()) => Ok(run_opened(rt, alloc, core, bodies, edges, clock)),
+        Ok(control) => Ok(run_opened(rt, alloc, core, control, bodies, edges, clock)),
         Err(Unopened::Failed(name)) => Err(NoRun::Unopened(name)),
         Err(Unopened::OutOfMemory) => Err(NoRun::OutOfMemory),
     }
@@ -132,6 +133,7 @@ fn run_opened<R: Wait, E: Edges, B: Houses<E::Source, E::Sink>, K: Clock>(
     rt: &R,
     alloc: Global,
     core: Core,
+    control: Option<LineSource<E::Source>>,
     bodies: &mut Vec<Option<B>>,
     edges: &mut E,
     clock: &mut K,
@@ -139,15 +141,18 @@ fn run_opened<R: Wait, E: Edges, B: Houses<E::Source, E::Sink>, K: Clock>(
     requires stands { Stands core }
     requires empty { core.journal.steps ≡ [] }
     requires filled { IsFilled core.topology (body_at B.look bodies.old.items) }
+    requires fresh { IfSome (option_map (line_seen E.Source.told E.Source.taken E.Source.left E.Source.faults E.Source.waits) control) IsFresh }
     ensures topology { result.core.topology ≡ core.topology }
     ensures stands { Stands result.core }
     ensures ended { IfOk result.end (HasEnded core.topology result.core.journal.steps) }
     ensures went { WentOn (is_ok result.end) core.topology result.core.journal.steps (body_at B.look bodies.old.items) (body_at B.look bodies.new.items)
+        (option_map (line_seen E.Source.told E.Source.taken E.Source.left E.Source.faults E.Source.waits) control)
         (⟦<E as SeenEdges>⟧.seen edges.old) (⟦<E as SeenEdges>⟧.seen edges.new) (clock_seen K.latest K.readings clock.old) (clock_seen K.latest K.readings clock.new) }
 {
     let mut core = core;
-    let end = run_here(rt, alloc, &mut core, bodies, clock);
-    match give_back_all(core.topology(), bodies, edges) {
+    let mut control = control;
+    let end = run_here(rt, alloc, &mut core, bodies, &mut control, clock);
+    match give_back(core.topology(), control, bodies, edges) {
         Ok(()) => Run { core, end },
         Err(error) => Run {
             core,

@@ -7,17 +7,16 @@ use Rattle.pipe_types.specs.declared.message.Why.TheVariants.{Crash}
 use Rattle.pipe_types.specs.declared.step.Step.TheVariants.{Accept, SourceEnd, Done, Wrote, ChildEnd, Dispatch, Kill}
 use Rattle.pipe_types.specs.declared.topology.Topology.{Topology}
 use Rattle.pipe_types.specs.Sound.{IsSound}
-use Rattle.pipe_model.specs.History.{History, now}
+use Rattle.pipe_model.specs.History.{History, now, controls}
 use Rattle.pipe_model.specs.Content.{has_crash}
 use Rattle.pipe_model.specs.Posts.{puts_out}
 use Rattle.pipe_model.specs.Legal.{is_legal, owed, may_dispatch, quiet_row}
 use Rattle.pipe_model.specs.Moves.{jobs_out}
 use Rattle.pipe_laws.proofs.Allowed.{legal_before}
 use Rattle.run_claims.specs.Followed.{FollowsMoves, IsNextMove}
-use Rattle.run_claims.specs.Read.{HasNoControl}
 use Rattle.work_laws.specs.Left.{work_left}
 use Rattle.work_laws.proofs.Leaving.{work_lowers, quiet_lowers}
-use Rattle.stage_bodies.specs.Seen.{BodySeen}
+use Rattle.stage_bodies.specs.Seen.{BodySeen, LineSeen}
 use Rattle.stage_bodies.specs.Jobs.{Both, IsDone}
 use Rattle.stage_bodies.specs.Posts.{place_at, IsOutNow, IsJobOf, step_of, is_crashed_end}
 use Rattle.stage_bodies.specs.declared.job.Answer.{Answer}
@@ -29,8 +28,11 @@ use Rattle.body_laws.specs.Ready.{There, IsBodyAt, Ready}
 use Rattle.body_laws.proofs.Laws.{silent_keeps, silent_ready, away_keeps, away_ready, answer_keeps, answer_ready, step_puts_out, answers_self, names_slot, stage_low, NamesSlot}
 use Rattle.body_laws.proofs.Jobs.{begun_keeps, begun_ready}
 use Rattle.core_jobs.specs.Recorded.{with_answer}
-use Rattle.stage_rounds.specs.Steps.{jobs_begun}
+use Rattle.control_lines.specs.Steps.{jobs_begun}
+use Rattle.control_lines.specs.Keeping.{KeepsControl}
+use Rattle.control_lines.proofs.Kept.{job_keeps}
 use Rattle.stage_rounds.specs.Going.{GoesOn, IsAtRest, HasCallback}
+use Rattle.stage_rounds.proofs.Controls.{IsOther, other_step, other_count, job_count}
 use Rattle.stage_rounds.proofs.Outs.{none_out_after, put_only}
 use Rattle.stage_rounds.proofs.Working.{Began}
 
@@ -89,16 +91,16 @@ answer_time before p (came.Replies replies) = refl
 answer_time before p (came.Wrote bytes end) = refl
 answer_time before p (came.Reply reply) = refl
 
-answer_control : (before : History) (p : Post) (o : Came) → 1 ≤ p.stage.0 → HasNoControl before → HasNoControl (step_of p o ∷ before)
-answer_control before p (came.Records records) low c = record { no_step = c.no_step; no_end = c.no_end }
-answer_control before p came.NotYet low c = record { no_step = c.no_step; no_end = c.no_end }
-answer_control before p (came.Ended how) low c = record { no_step = c.no_step; no_end = rw (other p.stage.0 low) c.no_end }
+answer_other : (p : Post) (o : Came) → 1 ≤ p.stage.0 → IsOther (step_of p o)
+answer_other p (came.Records records) low = record { control = refl; ends = refl; jobless = refl }
+answer_other p came.NotYet low = record { control = refl; ends = refl; jobless = refl }
+answer_other p (came.Ended how) low = record { control = refl; ends = other p.stage.0 low; jobless = refl }
   where
-    other : (n : ℕ) → 1 ≤ n → (n == 0) ≡ false
+    other : (n : ℕ) → 1 ≤ n → (0 == n) ≡ false
     other n low = grind arith
-answer_control before p (came.Replies replies) low c = record { no_step = c.no_step; no_end = c.no_end }
-answer_control before p (came.Wrote bytes end) low c = record { no_step = c.no_step; no_end = c.no_end }
-answer_control before p (came.Reply reply) low c = record { no_step = c.no_step; no_end = c.no_end }
+answer_other p (came.Replies replies) low = record { control = refl; ends = refl; jobless = refl }
+answer_other p (came.Wrote bytes end) low = record { control = refl; ends = refl; jobless = refl }
+answer_other p (came.Reply reply) low = record { control = refl; ends = refl; jobless = refl }
 
 answer_lowers : (topology : Topology) (before : History) (p : Post) (o : Came) → IsSound topology → is_legal topology (step_of p o ∷ before) ≡ true → quiet_row before < topology.idle_limit
     → work_left topology (step_of p o ∷ before) < work_left topology before
@@ -115,7 +117,8 @@ answer_lowers topology before p (came.Reply reply) sound legal row = work_lowers
 pub record Leaves (topology : Topology) (before : History) (home : ℕ → Option BodySeen) (after : History) (back : ℕ → Option BodySeen) : Type 0 where
   pub follows : FollowsMoves topology before → FollowsMoves topology after
   pub keeps : (opened : ℕ → Option BodySeen) → Keeps topology before opened home → Keeps topology after opened back
-  pub control : HasNoControl before → HasNoControl after
+  pub control : (opened lines : Option LineSeen) → KeepsControl topology before 1 opened lines → KeepsControl topology after 0 opened lines
+  pub same_controls : controls after ≡ controls before
   pub none_out : jobs_out topology after ≡ false
   pub ready : Ready topology after back
   pub same_time : now after ≡ now before
@@ -130,7 +133,8 @@ dispatched : (topology : Topology) (before : History) (home : ℕ → Option Bod
 dispatched topology before home s h back sound legal owes l = record {
   follows = λ f. (l.follows f, inl owes);
   keeps = λ opened k. silent_keeps topology h (Dispatch s) opened back sound legal refl (l.keeps opened k);
-  control = λ n. let c = l.control n in record { no_step = c.no_step; no_end = c.no_end };
+  control = λ opened lines k. other_step topology h (Dispatch s) 0 opened lines (record { control = refl; ends = refl; jobless = refl }) (l.control opened lines k);
+  same_controls = l.same_controls;
   none_out = l.none_out;
   ready = silent_ready topology h (Dispatch s) back sound legal refl l.ready;
   same_time = l.same_time;
@@ -144,7 +148,8 @@ killed : (topology : Topology) (before : History) (home : ℕ → Option BodySee
 killed topology before home s h back sound legal l = record {
   follows = λ f. (l.follows f, tt);
   keeps = λ opened k. silent_keeps topology h (Kill s Crash) opened back sound legal refl (l.keeps opened k);
-  control = λ n. let c = l.control n in record { no_step = c.no_step; no_end = c.no_end };
+  control = λ opened lines k. other_step topology h (Kill s Crash) 0 opened lines (record { control = refl; ends = refl; jobless = refl }) (l.control opened lines k);
+  same_controls = l.same_controls;
   none_out = l.none_out;
   ready = silent_ready topology h (Kill s Crash) back sound legal refl l.ready;
   same_time = l.same_time;
@@ -168,7 +173,8 @@ answered_first topology before after home away back job answer old new b sound r
           answer_keeps topology h job answer old new opened away back sound answered is same fit done
           (subst (λ o. Both (KeepsBody topology h job.post) (opened (place_at job.post)) o) at (begun_keeps topology before b.step job.post opened home sound legal b.puts k)) come
           (away_keeps topology h job.post opened home away sound is.out gone (silent_keeps topology before b.step opened home sound legal b.silent k));
-      control = λ n. answer_control h answer.post answer.outcome low (b.control n);
+      control = λ opened lines k. other_step topology h (step_of answer.post answer.outcome) 0 opened lines (answer_other answer.post answer.outcome low) (job_keeps topology before b.step opened lines b.job k);
+      same_controls = other_count h (step_of answer.post answer.outcome) (answer_other answer.post answer.outcome low) ∙ job_count before b.step b.job;
       none_out =
           none_out_after topology before answer.post b.step (step_of answer.post answer.outcome)
           (λ q. put_only answer.post q b.step (subst (λ r. puts_out b.step r ≡ true) (sym same) b.puts)) (λ q. step_puts_out answer.post answer.outcome q)
@@ -221,7 +227,6 @@ stays_begun topology before after home p sound rest b legal back keeps bodies ca
       keeps = keeps;
       bodies = bodies;
       callbacks = callbacks;
-      control = λ n. subst HasNoControl (sym b.is) (b.control n);
     }
 
 -- the body that the job took, as the journal stood at its begin

@@ -19,9 +19,11 @@ use Rattle.body_laws.proofs.Laws.{unrecorded_keeps, cut_keeps}
 use Rattle.body_laws.proofs.Allowed.{answer_allowed}
 use Rattle.core_jobs.specs.Begun.{IsBegun}
 use Rattle.core_jobs.specs.Recorded.{with_answer}
+use Rattle.control_lines.proofs.Kept.{job_keeps}
 use Rattle.stage_rounds.specs.Going.{GoesOn, IsAtRest, Within, HasCallback}
 use Rattle.stage_rounds.proofs.Working.{Began, began}
 use Rattle.stage_rounds.proofs.Answered.{Leaves, answered, stays_begun, taken_body, taken_keeps, taken_stood}
+use Rattle.stage_rounds.proofs.Controls.{job_count}
 use Rattle.stage_rounds.proofs.Results.{by_result, on_ok}
 use Rattle.stage_rounds.proofs.Callbacks.{done_stays, cut_stays, back_stays, back_there}
 
@@ -110,7 +112,7 @@ cut {topology = t} {before = b} {after = h} {home = home} {away = away} {job = j
 
 goes_of : (topology : Topology) (before after : History) (home back : ℕ → Option BodySeen) → Leaves topology before home after back
     → ((at : ℕ) → IsSome (home at) → IsSome (back at)) → ((at : ℕ) → HasCallback (home at) → HasCallback (back at)) → GoesOn topology before home after back
-goes_of topology before after home back l bodies callbacks = record { follows = l.follows; keeps = l.keeps; bodies = bodies; callbacks = callbacks; control = l.control }
+goes_of topology before after home back l bodies callbacks = record { follows = l.follows; keeps = l.keeps; bodies = bodies; callbacks = callbacks }
 
 pub rests_of : (topology : Topology) (before after : History) (home back : ℕ → Option BodySeen) → Leaves topology before home after back → IsAtRest topology after back
 rests_of topology before after home back l = record { none_out = l.none_out; ready = l.ready }
@@ -127,20 +129,21 @@ recorded_goes {topology = t} {before = b} {after = h} {home = home} {away = away
     (λ e. subst (λ x. GoesOn t b home x back) (sym e) (unrecorded back answer new at d place come done))
 
 -- and how many jobs were begun
-pub begun_within : (topology : Topology) (before after : History) (home back : ℕ → Option BodySeen) → Leaves topology before home after back → Within 1 before after
-begun_within topology before after home back l = record { same_time = l.same_time; begun = let e = l.begun in omega (arith, e) }
+pub begun_within : (topology : Topology) (before after : History) (home back : ℕ → Option BodySeen) → Leaves topology before home after back → Within topology 1 before after
+begun_within topology before after home back l = record { same_time = l.same_time; begun = let e = l.begun in omega (arith, e); control = l.control; same_controls = l.same_controls }
 
-began_within : (topology : Topology) (before after : History) (home away : ℕ → Option BodySeen) (job : Job) (old : BodySeen) → Doing topology before after home away job old → Within 1 before after
+pub began_within : (topology : Topology) (before after : History) (home away : ℕ → Option BodySeen) (job : Job) (old : BodySeen) → Doing topology before after home away job old → Within topology 1 before after
 began_within topology before after home away job old d =
-    subst (λ h. Within 1 before h) (sym d.began.is) (record { same_time = d.began.same_time; begun = let e = d.began.begun in omega (arith, e) })
+    subst (λ h. Within topology 1 before h) (sym d.began.is)
+    (record { same_time = d.began.same_time; begun = let e = d.began.begun in omega (arith, e); control = λ opened lines k. job_keeps topology before d.began.step opened lines d.began.job k; same_controls = job_count before d.began.step d.began.job })
 
 pub recorded_within : {T E : Type 0} {topology : Topology} {before after : History} {home away : ℕ → Option BodySeen} {job : Job} {old : BodySeen} (r : Result T E) (other : Topology) (done_after : History) (back : ℕ → Option BodySeen) (answer : Answer) (new : BodySeen) (at : ℕ)
     → Doing topology before after home away job old → at ≡ place_at job.post → ((t : ℕ) → back t ≡ (if at == t then Some new else away t)) → answer.post ≡ job.post → IsDone job.work answer.outcome old new
-    → other ≡ topology → OnOk r (done_after ≡ with_answer topology after answer.post answer.outcome) → OnErr r (done_after ≡ after) → is_legal other done_after ≡ true → Within 1 before done_after
+    → other ≡ topology → OnOk r (done_after ≡ with_answer topology after answer.post answer.outcome) → OnErr r (done_after ≡ after) → is_legal other done_after ≡ true → Within topology 1 before done_after
 recorded_within {topology = t} {before = b} {after = h} {home = home} {away = away} {job = job} {old = old} r other done_after back answer new at d place come same done other_is ok err legal =
-    by_result (Within 1 b done_after) (done_after ≡ with_answer t h answer.post answer.outcome) (done_after ≡ h) r ok err
+    by_result (Within t 1 b done_after) (done_after ≡ with_answer t h answer.post answer.outcome) (done_after ≡ h) r ok err
     (λ e. begun_within t b done_after home back (leaves other done_after back answer new at d place come same done other_is e legal))
-    (λ e. subst (λ x. Within 1 b x) (sym e) (began_within t b h home away job old d))
+    (λ e. subst (λ x. Within t 1 b x) (sym e) (began_within t b h home away job old d))
 
 pub recorded_rests : {T E : Type 0} {topology : Topology} {before after : History} {home away : ℕ → Option BodySeen} {job : Job} {old : BodySeen} (r : Result T E) (other : Topology) (done_after : History) (back : ℕ → Option BodySeen) (answer : Answer) (new : BodySeen) (at : ℕ)
     → Doing topology before after home away job old → at ≡ place_at job.post → ((t : ℕ) → back t ≡ (if at == t then Some new else away t)) → answer.post ≡ job.post → IsDone job.work answer.outcome old new

@@ -1,5 +1,5 @@
 -- How a run goes on over one step, and over several.
-use Rattle.std.proofs.Common.{◌≡◌, ℕ, ◌+◌, ◌*◌, ◌<◌, ◌∷◌, true, refl, sym, ◌∙◌, inl, inr, arith, subst}
+use Rattle.std.proofs.Common.{◌≡◌, ℕ, ◌*◌, ◌<◌, ◌∷◌, true, refl, sym, ◌∙◌, inl, inr, arith, subst}
 use Rattle.std.specs.Prelude.{◌⊎◌, ◌≢◌, Option, IsSome, Result, OnOk, OnErr}
 use Rattle.pipe_types.specs.Sound.{IsSound}
 use Rattle.pipe_types.specs.declared.numbers.StageNo.{StageNo}
@@ -15,27 +15,37 @@ use Rattle.stage_bodies.specs.Seen.{BodySeen}
 use Rattle.body_laws.specs.Lates.{AreReset}
 use Rattle.body_laws.proofs.Laws.{silent_keeps, silent_ready}
 use Rattle.body_laws.proofs.Restarting.{restart_keeps, restart_ready}
+use Rattle.control_lines.proofs.Kept.{jobless_keeps}
 use Rattle.stage_rounds.specs.Going.{GoesOn, Within, IsAtRest, HasCallback, Advances}
 use Rattle.stage_rounds.specs.Resets.{AreResetFrom}
 use Rattle.stage_rounds.proofs.Results.{by_result}
 use Rattle.stage_rounds.proofs.Moves.{named_move}
-use Rattle.stage_rounds.proofs.Own.{named_work, named_next, named_out, named_time, named_silent, named_control}
+use Rattle.stage_rounds.proofs.Own.{named_work, named_next, named_out, named_time, named_silent, named_other}
+use Rattle.stage_rounds.proofs.Controls.{other_step, other_count}
 use Rattle.stage_rounds.proofs.Resetting.{are_reset, reset_there, reset_stays}
 
 pub goes_same : (topology : Topology) (before : History) (home : ℕ → Option BodySeen) → GoesOn topology before home before home
-goes_same topology before home = record { follows = λ f. f; keeps = λ opened k. k; bodies = λ at here. here; callbacks = λ at here. here; control = λ c. c }
+goes_same topology before home = record { follows = λ f. f; keeps = λ opened k. k; bodies = λ at here. here; callbacks = λ at here. here }
 
 pub goes_then : (topology : Topology) (a b c : History) (x y z : ℕ → Option BodySeen) → GoesOn topology a x b y → GoesOn topology b y c z → GoesOn topology a x c z
 goes_then topology a b c x y z p q =
-    record { follows = λ f. q.follows (p.follows f); keeps = λ opened k. q.keeps opened (p.keeps opened k); bodies = λ at here. q.bodies at (p.bodies at here); callbacks = λ at here. q.callbacks at (p.callbacks at here); control = λ n. q.control (p.control n) }
+    record { follows = λ f. q.follows (p.follows f); keeps = λ opened k. q.keeps opened (p.keeps opened k); bodies = λ at here. q.bodies at (p.bodies at here); callbacks = λ at here. q.callbacks at (p.callbacks at here) }
 
-pub within_same : (before : History) → Within 0 before before
-within_same before = record { same_time = refl; begun = omega arith }
+pub within_same : (topology : Topology) (before : History) → Within topology 0 before before
+within_same topology before = record { same_time = refl; begun = omega arith; control = λ opened lines k. k; same_controls = refl }
 
-pub within_then : (m n : ℕ) (a b c : History) → Within m a b → Within n b c → Within (m + n) a c
-within_then m n a b c p q = record { same_time = q.same_time ∙ p.same_time; begun = let x = p.begun in let y = q.begun in omega (arith, x, y) }
+pub within_none : (topology : Topology) (before : History) → Within topology 1 before before
+within_none topology before = record { same_time = refl; begun = omega arith; control = λ opened lines k. jobless_keeps topology before opened lines k; same_controls = refl }
 
-less_or_same : (topology : Topology) (a b c : History) → (b ≡ a) ⊎ (work_left topology b < work_left topology a) → (c ≡ b) ⊎ (work_left topology c < work_left topology b)
+within_then : (topology : Topology) (a b c : History) → Within topology 0 a b → Within topology 0 b c → Within topology 0 a c
+within_then topology a b c p q = record {
+  same_time = q.same_time ∙ p.same_time;
+  begun = let x = p.begun in let y = q.begun in omega (arith, x, y);
+  control = λ opened lines k. q.control opened lines (p.control opened lines k);
+  same_controls = q.same_controls ∙ p.same_controls;
+}
+
+pub less_or_same : (topology : Topology) (a b c : History) → (b ≡ a) ⊎ (work_left topology b < work_left topology a) → (c ≡ b) ⊎ (work_left topology c < work_left topology b)
     → (c ≡ a) ⊎ (work_left topology c < work_left topology a)
 less_or_same topology a b c (inl e) (inl f) = inl (f ∙ e)
 less_or_same topology a b c (inl e) (inr g) = inr (subst (λ h. work_left topology c < work_left topology h) e g)
@@ -43,16 +53,25 @@ less_or_same topology a b c (inr g) (inl f) = inr (subst (λ h. work_left topolo
 less_or_same topology a b c (inr g) (inr h) = inr (omega (arith, g, h))
 
 pub advances_same : (topology : Topology) (before : History) (home : ℕ → Option BodySeen) → IsAtRest topology before home → Advances topology before home before home
-advances_same topology before home rest = record { goes = goes_same topology before home; rest = rest; within = within_same before; progress = inl refl }
+advances_same topology before home rest = record { goes = goes_same topology before home; rest = rest; within = within_same topology before; progress = inl refl }
 
 pub advances_then : (topology : Topology) (a b c : History) (x y z : ℕ → Option BodySeen) → Advances topology a x b y → Advances topology b y c z → Advances topology a x c z
 advances_then topology a b c x y z p q =
-    record { goes = goes_then topology a b c x y z p.goes q.goes; rest = q.rest; within = within_then 0 0 a b c p.within q.within; progress = less_or_same topology a b c p.progress q.progress }
+    record { goes = goes_then topology a b c x y z p.goes q.goes; rest = q.rest; within = within_then topology a b c p.within q.within; progress = less_or_same topology a b c p.progress q.progress }
 
 -- ---- one step
 
-within_step : (topology : Topology) (before : History) (step : Step) → move topology before ≡ StepMove step → Within 0 before (step ∷ before)
-within_step topology before step next = let same = named_time before step (named_move topology before step next) in record { same_time = same.0; begun = let e = same.1 in omega (arith, e) }
+within_step : (topology : Topology) (before : History) (step : Step) → move topology before ≡ StepMove step → Within topology 0 before (step ∷ before)
+within_step topology before step next =
+    let named = named_move topology before step next in
+    let other = named_other step named in
+    let same = named_time before step named in
+    record {
+      same_time = same.0;
+      begun = let e = same.1 in omega (arith, e);
+      control = λ opened lines k. other_step topology before step 1 opened lines other k;
+      same_controls = other_count before step other;
+    }
 
 pub step_lowers : (topology : Topology) (before : History) (step : Step) → IsSound topology → is_legal topology (step ∷ before) ≡ true → move topology before ≡ StepMove step → work_left topology (step ∷ before) < work_left topology before
 step_lowers topology before step sound legal next = work_lowers topology before step sound legal (named_work step (named_move topology before step next))
@@ -68,7 +87,6 @@ advances_step topology before step home sound rest legal next never =
         keeps = λ opened k. silent_keeps topology before step opened home sound legal silent k;
         bodies = λ at here. here;
         callbacks = λ at here. here;
-        control = λ n. named_control before step named n;
       };
       rest = record {
         none_out = named_out topology before step named ∙ rest.none_out;
@@ -86,7 +104,6 @@ advances_restart topology before s home back sound rest legal next all bodies ca
     keeps = λ opened k. restart_keeps topology before s opened home back sound legal all k;
     bodies = bodies;
     callbacks = callbacks;
-    control = λ n. named_control before (Restart s) refl n;
   };
   rest = record {
     none_out = named_out topology before (Restart s) refl ∙ rest.none_out;

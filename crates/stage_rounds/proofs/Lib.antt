@@ -1,5 +1,6 @@
 mod Moves
 mod Times
+mod Controls
 mod Own
 mod Ticking
 mod Results

@@ -9,12 +9,12 @@ use Rattle.pipe_types.specs.declared.step.Step.TheVariants.{Ask, Dispatch, Gathe
 use Rattle.pipe_model.specs.History.{History, now}
 use Rattle.pipe_model.specs.Moves.{StepMove, move, jobs_out}
 use Rattle.run_claims.specs.Followed.{IsNextMove}
-use Rattle.run_claims.specs.Read.{HasNoControl}
 use Rattle.work_laws.specs.Work.{is_work}
 use Rattle.body_laws.specs.Keeps.{is_silent}
 use Rattle.core_jobs.specs.Steps.{is_own_step}
-use Rattle.stage_rounds.specs.Steps.{jobs_begun}
+use Rattle.control_lines.specs.Steps.{jobs_begun}
 use Rattle.stage_rounds.proofs.Moves.{is_named}
+use Rattle.stage_rounds.proofs.Controls.{IsOther}
 
 pub named_own : (step : Step) → is_named step ≡ true → is_own_step step ≡ true
 named_own (Ask u n) h = refl
@@ -65,17 +65,17 @@ named_silent (Drain Idle) h never = refl
 named_silent Halt h never = refl
 named_silent step h never = cc
 
-pub named_control : (before : History) (step : Step) → is_named step ≡ true → HasNoControl before → HasNoControl (step ∷ before)
-named_control before (Ask u n) h c = record { no_step = c.no_step; no_end = c.no_end }
-named_control before (Dispatch s) h c = record { no_step = c.no_step; no_end = c.no_end }
-named_control before (Gather s m) h c = record { no_step = c.no_step; no_end = c.no_end }
-named_control before (Close s first trigger) h c = record { no_step = c.no_step; no_end = c.no_end }
-named_control before (Restart s) h c = record { no_step = c.no_step; no_end = c.no_end }
-named_control before (Drain Sources) h c = record { no_step = c.no_step; no_end = c.no_end }
-named_control before (Drain Limit) h c = record { no_step = c.no_step; no_end = c.no_end }
-named_control before (Drain Idle) h c = record { no_step = c.no_step; no_end = c.no_end }
-named_control before Halt h c = record { no_step = c.no_step; no_end = c.no_end }
-named_control before step h c = cc
+pub named_other : (step : Step) → is_named step ≡ true → IsOther step
+named_other (Ask u n) h = record { control = refl; ends = refl; jobless = refl }
+named_other (Dispatch s) h = record { control = refl; ends = refl; jobless = refl }
+named_other (Gather s m) h = record { control = refl; ends = refl; jobless = refl }
+named_other (Close s first trigger) h = record { control = refl; ends = refl; jobless = refl }
+named_other (Restart s) h = record { control = refl; ends = refl; jobless = refl }
+named_other (Drain Sources) h = record { control = refl; ends = refl; jobless = refl }
+named_other (Drain Limit) h = record { control = refl; ends = refl; jobless = refl }
+named_other (Drain Idle) h = record { control = refl; ends = refl; jobless = refl }
+named_other Halt h = record { control = refl; ends = refl; jobless = refl }
+named_other step h = cc
 
 none_more : (n : ℕ) → 0 + n ≡ n
 none_more n = omega arith

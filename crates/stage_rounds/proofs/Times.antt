@@ -9,7 +9,7 @@ use Rattle.pipe_types.specs.Counts.{Rose}
 use Rattle.pipe_types.specs.declared.step.Step.TheVariants.{Tick}
 use Rattle.pipe_model.specs.History.{History, now}
 use Rattle.stage_job.specs.Chunks.{RoseBy}
-use Rattle.stage_rounds.specs.Steps.{jobs_begun}
+use Rattle.control_lines.specs.Steps.{jobs_begun}
 use Rattle.stage_rounds.specs.Clocks.{ClockSeen, KeepsClock, KeepsClockPartly, KeepsClockAhead, HasRead, HasPaused, HasReadInVain, TicksTo}
 
 max_max : (a b c : ℕ) → max (max a b) c ≡ max a (max b c)

@@ -5,7 +5,7 @@ use Rattle.std.specs.Result.{IsErr}
 use Rattle.pipe_types.specs.Sound.{IsSound}
 use Rattle.pipe_types.specs.declared.topology.Topology.{Topology}
 use Rattle.pipe_types.specs.declared.step.Step.TheVariants.{Tick}
-use Rattle.pipe_model.specs.History.{History, now}
+use Rattle.pipe_model.specs.History.{History, now, controls}
 use Rattle.pipe_model.specs.Legal.{is_legal, owed, happened, is_halt}
 use Rattle.pipe_model.specs.Moves.{move, Pause, JobsOut, Halted, Drained, is_drained, jobs_out}
 use Rattle.pipe_laws.proofs.Tests.{and_left, and_right, not_true}
@@ -13,14 +13,17 @@ use Rattle.work_laws.specs.Left.{work_left}
 use Rattle.work_laws.proofs.Leaving.{tick_keeps}
 use Rattle.move_laws.proofs.Laws.{tick_law, move_law}
 use Rattle.move_laws.specs.NextMoves.{IsLegalMove}
-use Rattle.stage_bodies.specs.Seen.{BodySeen}
+use Rattle.stage_bodies.specs.Seen.{BodySeen, LineSeen}
 use Rattle.body_laws.proofs.Laws.{silent_keeps, silent_ready}
-use Rattle.stage_rounds.specs.Steps.{jobs_begun}
+use Rattle.control_lines.specs.Steps.{jobs_begun}
+use Rattle.control_lines.specs.Keeping.{KeepsControl}
+use Rattle.control_lines.specs.Rest.{LeavesAtRest}
 use Rattle.stage_rounds.specs.Going.{GoesOn, IsAtRest, Advances, Within}
 use Rattle.stage_rounds.specs.Clocks.{ClockSeen, KeepsClock, KeepsClockPartly, KeepsClockAhead, KeepsClockOn, KeepsClockAheadOn, HasRead, HasPaused, IsRead, IsPaused, TicksTo}
 use Rattle.stage_rounds.specs.Rounds.{may_pause, rounds_left}
 use Rattle.stage_rounds.proofs.Times.{read_ahead, ahead_then, ahead_same, partly}
-use Rattle.stage_rounds.proofs.Goings.{goes_same, goes_then}
+use Rattle.stage_rounds.proofs.Controls.{other_step}
+use Rattle.stage_rounds.proofs.Goings.{goes_same, goes_then, less_or_same}
 
 -- ---- what holds whatever a call came to
 
@@ -50,9 +53,12 @@ vain_ahead (Err e) a opened clock h k = k
 pub record Waits (topology : Topology) (old new : History) : Type 0 where
   pub goes : (home : ℕ → Option BodySeen) → GoesOn topology old home new home
   pub rest : (home : ℕ → Option BodySeen) → IsAtRest topology old home → IsAtRest topology new home
+  pub control : (jobs : ℕ) (opened lines : Option LineSeen) → KeepsControl topology old jobs opened lines → KeepsControl topology new jobs opened lines
+  pub same_controls : controls new ≡ controls old
+  pub same_halt : happened is_halt new ≡ happened is_halt old
 
 waits_same : (topology : Topology) (before : History) → Waits topology before before
-waits_same topology before = record { goes = λ home. goes_same topology before home; rest = λ home r. r }
+waits_same topology before = record { goes = λ home. goes_same topology before home; rest = λ home r. r; control = λ jobs opened lines k. k; same_controls = refl; same_halt = refl }
 
 waits_tick : (topology : Topology) (before : History) (t : ℕ) → IsSound topology → is_legal topology (Tick t ∷ before) ≡ true → Waits topology before (Tick t ∷ before)
 waits_tick topology before t sound legal = record {
@@ -61,9 +67,11 @@ waits_tick topology before t sound legal = record {
     keeps = λ opened k. silent_keeps topology before (Tick t) opened home sound legal refl k;
     bodies = λ at here. here;
     callbacks = λ at here. here;
-    control = λ n. record { no_step = n.no_step; no_end = n.no_end };
   };
   rest = λ home r. record { none_out = r.none_out; ready = silent_ready topology before (Tick t) home sound legal refl r.ready };
+  control = λ jobs opened lines k. other_step topology before (Tick t) jobs opened lines (record { control = refl; ends = refl; jobless = refl }) k;
+  same_controls = refl;
+  same_halt = refl;
 }
 
 pub read_waits : {T E : Type 0} (topology other : Topology) (before after : History) (r : Result T E) (old new : ClockSeen) → IsSound topology → other ≡ topology → is_legal other after ≡ true → IsRead r before after old new
@@ -83,6 +91,13 @@ paused_waits topology other before after (Ok x) old new sound same legal read =
     subst (λ x. Waits topology before x) (sym read.ticks)
     (waits_tick topology before (max (now before) read.reading) sound (subst (λ x. is_legal topology x ≡ true) read.ticks (subst (λ o. is_legal o after ≡ true) same legal)))
 
+-- a control line was read
+pub line_waits : (topology : Topology) (before after : History) (home : ℕ → Option BodySeen) → LeavesAtRest topology before after → GoesOn topology before home after home
+line_waits topology before after home l = record { follows = l.follows; keeps = λ opened k. l.keeps opened home k; bodies = λ at here. here; callbacks = λ at here. here }
+
+pub line_rests : (topology : Topology) (before after : History) (home : ℕ → Option BodySeen) → LeavesAtRest topology before after → IsAtRest topology before home → IsAtRest topology after home
+line_rests topology before after home l r = record { none_out = l.same_out ∙ r.none_out; ready = l.ready home r.ready }
+
 -- a tick begins no job
 ticks_begin_none : (before after : History) (old new : ClockSeen) → HasRead before after old new → jobs_begun after ≡ jobs_begun before
 ticks_begin_none before after old new read = by_tick read.ticks
@@ -94,20 +109,27 @@ ticks_begin_none before after old new read = by_tick read.ticks
     by_tick (inl (less, e)) = ap jobs_begun e ∙ none_more (jobs_begun before)
     by_tick (inr (le, e)) = ap jobs_begun e
 
--- ---- the clock, and the steps of the pipeline's own
+-- ---- the clock, a control line, and the steps of the pipeline's own
 
-pub on_goes : (topology one : Topology) (a m b : History) (home back : ℕ → Option BodySeen) → Waits topology a m → one ≡ topology → Advances one m home b back → GoesOn topology a home b back
-on_goes topology one a m b home back w same q = goes_then topology a m b home home back (w.goes home) (subst (λ o. GoesOn o m home b back) same q.goes)
+pub line_goes : (topology : Topology) (a m n : History) (home : ℕ → Option BodySeen) → Waits topology a m → LeavesAtRest topology m n → GoesOn topology a home n home
+line_goes topology a m n home w l = goes_then topology a m n home home home (w.goes home) (line_waits topology m n home l)
 
-pub on_clock : (a m b : History) (opened before after : ClockSeen) → HasRead a m before after → Within 0 m b → KeepsClock a opened before → KeepsClockAhead b opened after
-on_clock a m b opened before after read p k =
-    read_ahead a m b opened before after k read p.same_time (few (jobs_begun b) (jobs_begun m) (jobs_begun a) p.begun (ticks_begin_none a m before after read))
+pub on_goes : (topology : Topology) (a m n b : History) (home back : ℕ → Option BodySeen) → Waits topology a m → LeavesAtRest topology m n → Advances topology n home b back → GoesOn topology a home b back
+on_goes topology a m n b home back w l q = goes_then topology a n b home home back (line_goes topology a m n home w l) q.goes
+
+-- less work is left than behind the clock, or no step was added
+pub on_progress : (topology : Topology) (m n b : History) (home back : ℕ → Option BodySeen) → LeavesAtRest topology m n → Advances topology n home b back → (b ≡ m) ⊎ (work_left topology b < work_left topology m)
+on_progress topology m n b home back l q = less_or_same topology m n b l.progress q.progress
+
+pub on_clock : (topology : Topology) (a m n b : History) (opened before after : ClockSeen) → HasRead a m before after → LeavesAtRest topology m n → Within topology 0 n b → KeepsClock a opened before → KeepsClockAhead b opened after
+on_clock topology a m n b opened before after read l p k =
+    read_ahead a m b opened before after k read (p.same_time ∙ l.same_time) (few (jobs_begun b) (jobs_begun n) (jobs_begun a) p.begun (l.same_jobs ∙ ticks_begin_none a m before after read))
   where
     few : (x y z : ℕ) → x ≤ y + 0 → y ≡ z → x ≤ z
     few x y z h e = omega (arith, h, e)
 
-pub worked_clock : (b c : History) (opened clock : ClockSeen) → KeepsClockAhead b opened clock → Within 1 b c → KeepsClock c opened clock
-worked_clock b c opened clock k w = ahead_then b c opened clock k w.same_time w.begun
+pub worked_clock : (topology : Topology) (b c : History) (opened clock : ClockSeen) → KeepsClockAhead b opened clock → Within topology 1 b c → KeepsClock c opened clock
+worked_clock topology b c opened clock k w = ahead_then b c opened clock k w.same_time w.begun
 
 -- ---- rounds that are left
 
@@ -130,9 +152,9 @@ read_no_more topology a m r before after read = same (work_left topology m) (wor
     same : (x y : ℕ) → x ≡ y → x ≤ y
     same x y e = omega (arith, e)
 
-pub on_no_more : {T E : Type 0} (topology one : Topology) (a m b : History) (r : Result T E) (before after : ClockSeen) (home back : ℕ → Option BodySeen) → IsRead r a m before after → one ≡ topology → Advances one m home b back
+pub on_no_more : {T E : Type 0} (topology : Topology) (a m b : History) (r : Result T E) (before after : ClockSeen) → IsRead r a m before after → (b ≡ m) ⊎ (work_left topology b < work_left topology m)
     → work_left topology b ≤ work_left topology a
-on_no_more topology one a m b r before after home back read same q = by_progress (subst (λ o. (b ≡ m) ⊎ (work_left o b < work_left o m)) same q.progress)
+on_no_more topology a m b r before after read progress = by_progress progress
   where
     by_same : (x y z : ℕ) → y ≡ x → z ≡ y → z ≤ x
     by_same x y z e f = omega (arith, e, f)
@@ -150,9 +172,9 @@ pause_here topology [] sound legal e = refl
 pause_here topology (Tick t ∷ a) sound legal e = absurd (tick_law topology a t sound legal e)
 pause_here topology (step ∷ a) sound legal e = refl
 
-pub on_pauses : (topology one other : Topology) (a m b : History) (before after : ClockSeen) (home back : ℕ → Option BodySeen) → IsSound topology → other ≡ topology → is_legal other b ≡ true → HasRead a m before after → one ≡ topology → Advances one m home b back
+pub on_pauses : (topology other : Topology) (a m b : History) (before after : ClockSeen) → IsSound topology → other ≡ topology → is_legal other b ≡ true → HasRead a m before after → (b ≡ m) ⊎ (work_left topology b < work_left topology m)
     → move topology b ≡ Pause → 2 * work_left topology b < rounds_left topology a
-on_pauses topology one other a m b before after home back sound same legal_there read same_one q pauses = by_progress (subst (λ o. (b ≡ m) ⊎ (work_left o b < work_left o m)) same_one q.progress)
+on_pauses topology other a m b before after sound same legal_there read progress pauses = by_progress progress
   where
     legal : is_legal topology b ≡ true
     legal = subst (λ o. is_legal o b ≡ true) same legal_there

@@ -16,7 +16,6 @@ use Rattle.pipe_model.specs.Moves.{move, Job as JobMove, next_in_slot}
 use Rattle.pipe_laws.proofs.Tests.{and_left, and_right, not_true}
 use Rattle.pipe_laws.proofs.Allowed.{legal_step, unowed}
 use Rattle.run_claims.specs.Followed.{IsNextMove}
-use Rattle.run_claims.specs.Read.{HasNoControl}
 use Rattle.work_laws.specs.Left.{work_left}
 use Rattle.work_laws.proofs.Leaving.{work_lowers, fetch_keeps}
 use Rattle.move_laws.proofs.Laws.{idle_law}
@@ -24,7 +23,7 @@ use Rattle.stage_bodies.specs.declared.job.Job.{Job}
 use Rattle.body_laws.specs.Keeps.{is_silent}
 use Rattle.body_laws.proofs.Posts.{same_post-self}
 use Rattle.core_jobs.specs.Begun.{IsBegun, fetched, taken, started}
-use Rattle.stage_rounds.specs.Steps.{jobs_begun}
+use Rattle.control_lines.specs.Steps.{begins, jobs_begun}
 
 -- the step that began the job of a post
 pub record Began (topology : Topology) (before after : History) (p : Post) : Type 0 where
@@ -35,7 +34,7 @@ pub record Began (topology : Topology) (before after : History) (p : Post) : Typ
   pub silent : is_silent step ≡ true
   pub same_time : now (step ∷ before) ≡ now before
   pub begun : jobs_begun (step ∷ before) ≡ 1 + jobs_begun before
-  pub control : HasNoControl before → HasNoControl (step ∷ before)
+  pub job : begins step ≡ true
   pub left : work_left topology (step ∷ before) ≤ work_left topology before
   pub row : 1 ≤ topology.idle_limit → quiet_row (step ∷ before) < topology.idle_limit
 
@@ -64,7 +63,7 @@ began topology before after s job sound legal free first (fetched p e) =
       silent = refl;
       same_time = refl;
       begun = refl;
-      control = λ n. record { no_step = n.no_step; no_end = n.no_end };
+      job = refl;
       left = same_left (fetch_keeps topology before s (bound topology before s));
       row = λ limit. idle_law topology before s free (fetch_undrained topology before s (bound topology before s) (legal_step topology before step fetch_legal)) first limit;
     }
@@ -80,7 +79,7 @@ began topology before after s job sound legal free first (taken u k p t e) =
       silent = refl;
       same_time = refl;
       begun = refl;
-      control = λ n. record { no_step = n.no_step; no_end = n.no_end };
+      job = refl;
       left = below (work_lowers topology before (Take s u k) sound (subst (λ h. is_legal topology h ≡ true) e legal) refl);
       row = λ limit. limit;
     }
@@ -96,7 +95,7 @@ began topology before after s job sound legal free first (started slot p e) =
       silent = refl;
       same_time = refl;
       begun = refl;
-      control = λ n. record { no_step = n.no_step; no_end = n.no_end };
+      job = refl;
       left = below (work_lowers topology before (Child s (message_no (next_in_slot topology before s slot)) slot) sound (subst (λ h. is_legal topology h ≡ true) e legal) refl);
       row = λ limit. limit;
     }

@@ -4,7 +4,7 @@ use Rattle.pipe_types.specs.Counts.{Rose}
 use Rattle.pipe_types.specs.declared.step.Step.TheVariants.{Tick}
 use Rattle.pipe_model.specs.History.{History, now}
 use Rattle.stage_job.specs.Chunks.{RoseBy}
-use Rattle.stage_rounds.specs.Steps.{jobs_begun}
+use Rattle.control_lines.specs.Steps.{jobs_begun}
 
 -- a clock: the greatest reading that it has answered, and how often it was read
 pub record ClockSeen : Type 0 where

@@ -1,15 +1,15 @@
 -- How a run goes on, from one step to the next.
-use Rattle.std.specs.Prelude.{◌≡◌, ◌≤◌, ◌<◌, ◌⊎◌, ◌+◌, ℕ, false, Option, IsSome}
+use Rattle.std.specs.Prelude.{◌≡◌, ◌≤◌, ◌<◌, ◌⊎◌, ◌+◌, ◌-◌, ℕ, false, Option, IsSome}
 use Rattle.pipe_types.specs.declared.topology.Topology.{Topology}
-use Rattle.pipe_model.specs.History.{History, now}
+use Rattle.pipe_model.specs.History.{History, now, controls}
 use Rattle.pipe_model.specs.Moves.{jobs_out}
 use Rattle.run_claims.specs.Followed.{FollowsMoves}
-use Rattle.run_claims.specs.Read.{HasNoControl}
-use Rattle.stage_bodies.specs.Seen.{BodySeen}
+use Rattle.stage_bodies.specs.Seen.{BodySeen, LineSeen}
 use Rattle.body_laws.specs.Keeps.{Keeps}
 use Rattle.body_laws.specs.Ready.{Ready, There}
 use Rattle.work_laws.specs.Left.{work_left}
-use Rattle.stage_rounds.specs.Steps.{jobs_begun}
+use Rattle.control_lines.specs.Steps.{jobs_begun}
+use Rattle.control_lines.specs.Keeping.{KeepsControl}
 
 -- a run between two moves: no job is out, and the body of each post is ready for its next job
 pub record IsAtRest (topology : Topology) (before : History) (home : ℕ → Option BodySeen) : Type 0 where
@@ -27,16 +27,18 @@ pub record GoesOn (topology : Topology) (old : History) (home : ℕ → Option B
   pub keeps : (opened : ℕ → Option BodySeen) → Keeps topology old opened home → Keeps topology new opened home'
   pub bodies : (at : ℕ) → IsSome (home at) → IsSome (home' at)
   pub callbacks : (at : ℕ) → HasCallback (home at) → HasCallback (home' at)
-  pub control : HasNoControl old → HasNoControl new
 
--- no tick was added, and at most so many jobs were begun
-pub record Within (jobs : ℕ) (old new : History) : Type 0 where
+-- no tick was added, and at most so many jobs were begun, of the one that may be begun behind a reading of the control source;
+-- no step came from it
+pub record Within (topology : Topology) (jobs : ℕ) (old new : History) : Type 0 where
   pub same_time : now new ≡ now old
   pub begun : jobs_begun new ≤ jobs_begun old + jobs
+  pub control : (opened lines : Option LineSeen) → KeepsControl topology old 1 opened lines → KeepsControl topology new (1 - jobs) opened lines
+  pub same_controls : controls new ≡ controls old
 
 -- steps of the pipeline's own were added: the run is at rest again, and less work is left, or there was no step to add
 pub record Advances (topology : Topology) (old : History) (home : ℕ → Option BodySeen) (new : History) (home' : ℕ → Option BodySeen) : Type 0 where
   pub goes : GoesOn topology old home new home'
   pub rest : IsAtRest topology new home'
-  pub within : Within 0 old new
+  pub within : Within topology 0 old new
   pub progress : (new ≡ old) ⊎ (work_left topology new < work_left topology old)

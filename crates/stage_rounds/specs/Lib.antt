@@ -1,4 +1,3 @@
-pub mod Steps
 pub mod Going
 pub mod Resets
 pub mod Clocks

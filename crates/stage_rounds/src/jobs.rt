@@ -27,7 +27,7 @@ pub(crate) fn work<B: Works>(
     ensures topology { core.new.topology ≡ core.old.topology }
     ensures goes { GoesOn core.old.topology core.old.journal.steps (body_at B.look bodies.old.items) core.new.journal.steps (body_at B.look bodies.new.items) }
     ensures rest { OnOk result (IsAtRest core.old.topology core.new.journal.steps (body_at B.look bodies.new.items)) }
-    ensures within { Within 1 core.old.journal.steps core.new.journal.steps }
+    ensures within { Within core.old.topology 1 core.old.journal.steps core.new.journal.steps }
     ensures progress { OnOk result (1 ≤ core.old.topology.idle_limit → work_left core.old.topology core.new.journal.steps < work_left core.old.topology core.old.journal.steps) }
 {
     let job = begin_job(core, stage)?;

@@ -1,13 +1,15 @@
 //! One round.
 
-ghost use Rattle.std.specs.Prelude.{◌≡◌, ◌<◌, ◌≤◌, ◌*◌, false, Ok, OnOk, IfOk};
+ghost use Rattle.std.specs.Prelude.{◌≡◌, ◌<◌, ◌≤◌, ◌+◌, ◌*◌, false, Ok, OnOk, IfOk, Option, option_map};
 ghost use Rattle.pipe_types.specs.declared.step.Step.{Step as StepSeen};
+ghost use Rattle.pipe_model.specs.History.{controls};
 ghost use Rattle.pipe_model.specs.Legal.{happened, is_halt};
 ghost use Rattle.pipe_model.specs.Moves.{move as next_move_of, StepMove, Pause as PauseMove};
 ghost use Rattle.work_laws.specs.Left.{work_left};
 ghost use Rattle.core_state.specs.Stands.{Stands};
 ghost use Rattle.core_moves.specs.Moves.{seen_as};
-ghost use Rattle.stage_bodies.specs.Seen.{body_at};
+ghost use Rattle.stage_bodies.specs.Seen.{LineSeen, body_at, line_seen};
+ghost use Rattle.control_lines.specs.Keeping.{KeepsControl, KeepsControlOn};
 ghost use Rattle.stage_rounds.specs.Going.{IsAtRest, GoesOn};
 ghost use Rattle.stage_rounds.specs.Clocks.{ClockSeen, clock_seen, KeepsClock, KeepsClockOn, KeepsClockAheadOn};
 ghost use Rattle.stage_rounds.specs.Rounds.{rounds_left, HasEnded};
@@ -16,10 +18,11 @@ ghost use Rattle.stage_rounds.specs.declared.run.RunEnd.{RunEnd};
 use crate::clocks::{pause, read_clock};
 use crate::jobs::work;
 use crate::steps::go_on;
+use control_lines::read_control;
 use core_moves::moves::Move;
 use core_rows::jobs::is_halted;
 use core_state::Core;
-use pipe_edges::Clock;
+use pipe_edges::{ByteSource, Clock, LineSource};
 use stage_bodies::Works;
 use std::alloc::{AllocError, Global};
 
@@ -31,12 +34,13 @@ pub(crate) enum RoundEnd {
     Halted,
 }
 
-/// Reads the clock, makes the steps that come next, and then does a job or lets time pass. Where the pipeline has halted,
-/// there is nothing to do.
-pub(crate) fn round<B: Works, C: Clock>(
+/// Reads the clock and one control line, makes the steps that come next, and then does a job or lets time pass. Where the
+/// pipeline has halted, there is nothing to do.
+pub(crate) fn round<B: Works, S: ByteSource, C: Clock>(
     alloc: Global,
     core: &mut Core,
     bodies: &mut Vec<Option<B>>,
+    control: &mut Option<LineSource<S>>,
     clock: &mut C,
 ) -> Result<RoundEnd, AllocError>
     requires stands { Stands core.old }
@@ -47,6 +51,10 @@ pub(crate) fn round<B: Works, C: Clock>(
     ensures rest { OnOk result (IsAtRest core.old.topology core.new.journal.steps (body_at B.look bodies.new.items)) }
     ensures clock { (opened : ClockSeen) → KeepsClock core.old.journal.steps opened (clock_seen C.latest C.readings clock.old)
         → KeepsClockOn result core.new.journal.steps opened (clock_seen C.latest C.readings clock.new) }
+    ensures control { (opened : Option LineSeen)
+        → KeepsControl core.old.topology core.old.journal.steps 0 opened (option_map (line_seen S.told S.taken S.left S.faults S.waits) control.old)
+        → KeepsControlOn result core.old.topology core.new.journal.steps 0 opened (option_map (line_seen S.told S.taken S.left S.faults S.waits) control.new) }
+    ensures one_line { controls core.new.journal.steps ≤ controls core.old.journal.steps + 1 }
     ensures drained { result ≡ Ok RoundEnd.Drained → HasEnded core.new.topology core.new.journal.steps RunEnd.Drained }
     ensures halted { result ≡ Ok RoundEnd.Halted → HasEnded core.new.topology core.new.journal.steps RunEnd.Halted }
     ensures progress { result ≡ Ok RoundEnd.On → 1 ≤ core.old.topology.idle_limit
@@ -55,7 +63,7 @@ pub(crate) fn round<B: Works, C: Clock>(
     if is_halted(core) {
         return Ok(RoundEnd::Halted);
     }
-    match advance(core, bodies, clock)? {
+    match advance(core, bodies, control, clock)? {
         Move::Job(stage) => {
             work(alloc, core, bodies, stage)?;
             Ok(RoundEnd::On)
@@ -71,10 +79,12 @@ pub(crate) fn round<B: Works, C: Clock>(
     }
 }
 
-/// Reads the clock, makes the steps of the pipeline's own that come next, and answers the move that comes then.
-fn advance<B: Works, C: Clock>(
+/// Reads the clock and one control line, makes the steps of the pipeline's own that come next, and answers the move that
+/// comes then. One job may then be begun.
+fn advance<B: Works, S: ByteSource, C: Clock>(
     core: &mut Core,
     bodies: &mut Vec<Option<B>>,
+    control: &mut Option<LineSource<S>>,
     clock: &mut C,
 ) -> Result<Move, AllocError>
     requires stands { Stands core.old }
@@ -86,6 +96,10 @@ fn advance<B: Works, C: Clock>(
     ensures rest { IsAtRest core.old.topology core.new.journal.steps (body_at B.look bodies.new.items) }
     ensures clock { (opened : ClockSeen) → KeepsClock core.old.journal.steps opened (clock_seen C.latest C.readings clock.old)
         → KeepsClockAheadOn result core.new.journal.steps opened (clock_seen C.latest C.readings clock.new) }
+    ensures control { (opened : Option LineSeen)
+        → KeepsControl core.old.topology core.old.journal.steps 0 opened (option_map (line_seen S.told S.taken S.left S.faults S.waits) control.old)
+        → KeepsControlOn result core.old.topology core.new.journal.steps 1 opened (option_map (line_seen S.told S.taken S.left S.faults S.waits) control.new) }
+    ensures one_line { controls core.new.journal.steps ≤ controls core.old.journal.steps + 1 }
     ensures no_more { work_left core.old.topology core.new.journal.steps ≤ work_left core.old.topology core.old.journal.steps }
     ensures pauses { OnOk result (next_move_of core.old.topology core.new.journal.steps ≡ PauseMove
         → 2 * work_left core.old.topology core.new.journal.steps < rounds_left core.old.topology core.old.journal.steps) }
@@ -93,5 +107,6 @@ fn advance<B: Works, C: Clock>(
     ensures no_step { IfOk result (λ move. (step : StepSeen) → ¬ (seen_as move ≡ StepMove step)) }
 {
     read_clock(core, clock)?;
+    read_control(core, control)?;
     go_on(core, bodies)
 }

@@ -1,16 +1,17 @@
 use Rattle.std.proofs.Common.{◌≡◌, ◌∙◌, ap, length, is_ok, subst, true}
-use Rattle.std.specs.Prelude.{slice_get}
+use Rattle.std.specs.Prelude.{None, option_map}
 use Rattle.pipe_types.specs.declared.topology.Topology.{Topology}
 use Rattle.pipe_model.specs.Legal.{is_legal}
-use Rattle.stage_bodies.specs.Seen.{body_at, source_seen, sink_seen}
+use Rattle.stage_bodies.specs.Seen.{body_at, line_seen, source_seen, sink_seen}
 use Rattle.body_laws.specs.Ready.{IsFilled}
 use Rattle.stage_rounds.specs.Clocks.{clock_seen}
 use Rattle.edge_names.specs.Seen.{edges_seen}
-use Rattle.edge_names.specs.Opened.{AreHome, AreOpened, Asks, edge_calls}
-use Rattle.edge_names.specs.Returned.{IsUndone}
+use Rattle.edge_names.specs.Controls.{IsUndone, control_call, run_calls}
+use Rattle.edge_names.specs.Opened.{AreHome, AreOpened, Asks, HasSource}
 use Rattle.box_stock.proofs.Filled.{filled, homes}
 use Rattle.pipe_run.specs.Steps.{WentOn}
-use Rattle.pipe_run.proofs.Calls.{asked_until}
+use Rattle.pipe_run.proofs.Calls.{asked_until, unopened}
+use Rattle.pipe_run.proofs.Controls.{unread}
 use Rattle.pipe_run.proofs.Wholes.{run_leaves, run_of}
 use Rattle.pipe_run.proofs.run.run_bodies.Goals as goal
 
@@ -33,12 +34,22 @@ run_opened-requires-clause-filled g c κs within =
     let opens = subst (λ (t : Topology). AreOpened t (length t.stages) (seen c.args.edges.now) table opened) same c.in-Ok-open_or_give_back.ensures.opened in
     rw c.in-Ok.ensures.topology (filled topology (seen c.args.edges.now) table opened c.requires.sound c.requires.handed opens)
 
+pub run_opened-requires-clause-fresh : goal.run_opened-requires-clause-fresh
+run_opened-requires-clause-fresh g c κs within =
+    let e = g.E.Edges in
+    let s = g.E.Source.ByteSource in
+    let k = g.E.Sink.ByteSink in
+    let seen = edges_seen e.told e.named e.asked e.faults e.sources_back e.sinks_back (source_seen s.told s.taken s.left s.faults s.waits) (sink_seen k.told k.held k.faults) in
+    let fresh = option_map (line_seen s.told s.taken s.left s.faults s.waits) c.in-Ok-open_or_give_back.control in
+    unread (seen c.args.edges.now) c.topology.result.now.control fresh c.in-Ok-open_or_give_back.ensures.control
+
 pub returns-in-Ok-open_or_give_back-clause-ran : goal.returns-in-Ok-open_or_give_back-clause-ran
 returns-in-Ok-open_or_give_back-clause-ran g c =
     let e = g.E.Edges in
     let s = g.E.Source.ByteSource in
     let k = g.E.Sink.ByteSink in
     let seen = edges_seen e.told e.named e.asked e.faults e.sources_back e.sinks_back (source_seen s.told s.taken s.left s.faults s.waits) (sink_seen k.told k.held k.faults) in
+    let fresh = option_map (line_seen s.told s.taken s.left s.faults s.waits) c.in-Ok-open_or_give_back.control in
     let time = clock_seen g.K.Clock.latest g.K.Clock.readings in
     let own = c.in-Ok.ensures.topology in
     let same = c.topology.ensures ∙ own in
@@ -51,10 +62,11 @@ returns-in-Ok-open_or_give_back-clause-ran g c =
     let mid = seen c.open_or_give_back.new.edges in
     let new = seen c.run_opened.new.edges in
     let opens = subst (λ (t : Topology). AreOpened t (length t.stages) old table opened) same c.in-Ok-open_or_give_back.ensures.opened in
-    let asks = subst (λ (t : Topology). Asks (edge_calls t) old mid) same c.in-Ok-open_or_give_back.ensures.asks in
+    let asks = subst (λ (t : Topology). Asks (run_calls t) old mid) same c.in-Ok-open_or_give_back.ensures.asks in
+    let lines = subst (λ (t : Topology). HasSource old (control_call t.control) None fresh) same c.in-Ok-open_or_give_back.ensures.control in
     let legal = subst (λ (t : Topology). is_legal t run.core.journal.steps ≡ true) (c.run_opened.ensures.topology ∙ own) c.run_opened.ensures.stands.holds.legal in
-    let went = subst (λ (t : Topology). WentOn (is_ok run.end) t run.core.journal.steps opened final mid new (time c.args.clock.now) (time c.run_opened.new.clock)) own c.run_opened.ensures.went in
-    run_of (is_ok run.end) topology run.core.journal.steps table opened final old mid new (time c.args.clock.now) (time c.run_opened.new.clock) c.requires.sound legal c.requires.handed opens asks went
+    let went = subst (λ (t : Topology). WentOn (is_ok run.end) t run.core.journal.steps opened final fresh mid new (time c.args.clock.now) (time c.run_opened.new.clock)) own c.run_opened.ensures.went in
+    run_of (is_ok run.end) topology run.core.journal.steps table opened final fresh old mid new (time c.args.clock.now) (time c.run_opened.new.clock) c.requires.sound legal c.requires.handed opens lines asks went
 
 pub returns-in-Ok-open_or_give_back-clause-boxes : goal.returns-in-Ok-open_or_give_back-clause-boxes
 returns-in-Ok-open_or_give_back-clause-boxes g c =
@@ -62,6 +74,7 @@ returns-in-Ok-open_or_give_back-clause-boxes g c =
     let s = g.E.Source.ByteSource in
     let k = g.E.Sink.ByteSink in
     let seen = edges_seen e.told e.named e.asked e.faults e.sources_back e.sinks_back (source_seen s.told s.taken s.left s.faults s.waits) (sink_seen k.told k.held k.faults) in
+    let fresh = option_map (line_seen s.told s.taken s.left s.faults s.waits) c.in-Ok-open_or_give_back.control in
     let time = clock_seen g.K.Clock.latest g.K.Clock.readings in
     let own = c.in-Ok.ensures.topology in
     let topology = c.args.topology in
@@ -71,8 +84,8 @@ returns-in-Ok-open_or_give_back-clause-boxes g c =
     let final = body_at g.B.Works.look c.run_opened.new.bodies.items in
     let mid = seen c.open_or_give_back.new.edges in
     let new = seen c.run_opened.new.edges in
-    let went = subst (λ (t : Topology). WentOn (is_ok run.end) t run.core.journal.steps opened final mid new (time c.args.clock.now) (time c.run_opened.new.clock)) own c.run_opened.ensures.went in
-    run_leaves (is_ok run.end) topology run.core.journal.steps table opened final mid new (time c.args.clock.now) (time c.run_opened.new.clock) c.requires.sound c.in-Ok-open_or_give_back.ensures.callbacks went
+    let went = subst (λ (t : Topology). WentOn (is_ok run.end) t run.core.journal.steps opened final fresh mid new (time c.args.clock.now) (time c.run_opened.new.clock)) own c.run_opened.ensures.went in
+    run_leaves (is_ok run.end) topology run.core.journal.steps table opened final fresh mid new (time c.args.clock.now) (time c.run_opened.new.clock) c.requires.sound c.in-Ok-open_or_give_back.ensures.callbacks went
 
 pub returns-in-Err-Failed-clause-failed : goal.returns-in-Err-Failed-clause-failed
 returns-in-Err-Failed-clause-failed g c =
@@ -87,3 +100,17 @@ returns-in-Err-Failed-clause-failed g c =
     let undone = rw c.in-Err-Failed.field-0-is at c.in-Err-Failed.ensures.undone in
     let asked = asked_until c.args.topology c.in-Err-Failed.name table old new (subst (λ (t : Topology). IsUndone t c.in-Err-Failed.name table old new) same undone) in
     rw c.in-Err-Failed.field-0-is asked
+
+pub returns-in-Err-Failed-clause-unopened : goal.returns-in-Err-Failed-clause-unopened
+returns-in-Err-Failed-clause-unopened g c =
+    let e = g.E.Edges in
+    let s = g.E.Source.ByteSource in
+    let k = g.E.Sink.ByteSink in
+    let seen = edges_seen e.told e.named e.asked e.faults e.sources_back e.sinks_back (source_seen s.told s.taken s.left s.faults s.waits) (sink_seen k.told k.held k.faults) in
+    let same = c.topology.ensures ∙ c.in-Ok.ensures.topology in
+    let table = body_at g.B.Works.look c.args.bodies.now.items in
+    let old = seen c.args.edges.now in
+    let new = seen c.open_or_give_back.new.edges in
+    let undone = rw c.in-Err-Failed.field-0-is at c.in-Err-Failed.ensures.undone in
+    let given = unopened c.args.topology c.in-Err-Failed.name table old new c.requires.handed (subst (λ (t : Topology). IsUndone t c.in-Err-Failed.name table old new) same undone) in
+    rw c.in-Err-Failed.field-0-is given

@@ -4,7 +4,9 @@ use Rattle.move_laws.proofs.Laws.{move_law}
 use Rattle.move_laws.specs.NextMoves.{IsLegalMove}
 use Rattle.stage_bodies.specs.Seen.{body_at}
 use Rattle.stage_bodies.specs.Posts.{step_of}
-use Rattle.stage_rounds.proofs.Doing.{doing, is_there, fits, may_answer, cut, recorded_goes, recorded_rests, recorded_within, recorded_less}
+use Rattle.stage_rounds.specs.Going.{Within}
+use Rattle.stage_rounds.proofs.Goings.{within_none}
+use Rattle.stage_rounds.proofs.Doing.{doing, is_there, fits, may_answer, cut, began_within, recorded_goes, recorded_rests, recorded_within, recorded_less}
 use Rattle.stage_rounds.proofs.jobs.work.Goals as goal
 
 pub begin_job-requires-clause-begins : goal.begin_job-requires-clause-begins
@@ -93,3 +95,22 @@ returns-in-Err-clause-goes g c =
     c.args.stage c.in_ok-job.job c.place_of-at.result (look c.in-Some.body) c.requires.stands.holds.sound c.requires.rest c.requires.stands.unowed c.requires.first e.topology e.stands.holds.legal e.stands.unowed
     e.begun e.job c.place_of-at.ensures c.in-Some.ensures.out c.in-Some.ensures.others in
     cut (body_at look c.put_back-in-Err.new.bodies.items) (look c.run_job.new.self) c.place_of-at.result d c.place_of-at.ensures c.put_back-in-Err.ensures.others c.in-Err.ensures.cut_off
+
+pub returns-in_err-job-clause-within : goal.returns-in_err-job-clause-within
+returns-in_err-job-clause-within g c =
+    let t = c.args.core.now.topology in
+    let h = c.args.core.now.journal.steps in
+    subst (λ x. Within t 1 h x) (sym c.in_err-job.ensures.unchanged) (within_none t h)
+
+pub returns-in-Err-clause-within : goal.returns-in-Err-clause-within
+returns-in-Err-clause-within g c =
+    let e = c.in_ok-job.ensures in
+    let look = g.B.Works.look in
+    let t = c.args.core.now.topology in
+    let h = c.args.core.now.journal.steps in
+    let home = body_at look c.args.bodies.now.items in
+    let away = body_at look c.take_out.new.bodies.items in
+    let d = doing t c.begin_job.new.core.topology h c.begin_job.new.core.journal.steps home away
+    c.args.stage c.in_ok-job.job c.place_of-at.result (look c.in-Some.body) c.requires.stands.holds.sound c.requires.rest c.requires.stands.unowed c.requires.first e.topology e.stands.holds.legal e.stands.unowed
+    e.begun e.job c.place_of-at.ensures c.in-Some.ensures.out c.in-Some.ensures.others in
+    began_within t h c.begin_job.new.core.journal.steps home away c.in_ok-job.job (look c.in-Some.body) d

@@ -1,12 +1,18 @@
-use Rattle.std.proofs.Common.{◌≡◌, ◌*◌, ◌<◌, sym, ◌∙◌, subst}
-use Rattle.stage_bodies.specs.Seen.{body_at}
+use Rattle.std.proofs.Common.{◌≡◌, ◌*◌, ◌<◌, refl, sym, ◌∙◌, subst}
+use Rattle.std.specs.Prelude.{option_map}
+use Rattle.stage_bodies.specs.Seen.{body_at, line_seen}
 use Rattle.pipe_model.specs.Moves.{move, Pause}
 use Rattle.work_laws.specs.Left.{work_left}
-use Rattle.stage_rounds.specs.Going.{IsAtRest}
+use Rattle.control_lines.specs.Keeping.{KeepsControl, KeepsControlPartly}
+use Rattle.control_lines.specs.Rest.{LeavesAtRest}
+use Rattle.control_lines.proofs.Kept.{kept_partly}
+use Rattle.stage_rounds.specs.Going.{IsAtRest, Advances}
 use Rattle.stage_rounds.specs.Clocks.{clock_seen}
 use Rattle.stage_rounds.specs.Rounds.{rounds_left}
 use Rattle.stage_rounds.proofs.Times.{in_vain}
-use Rattle.stage_rounds.proofs.Turning.{read_waits, read_no_more, on_goes, on_clock, on_no_more, on_pauses, ahead_way, vain_ahead, always_ok}
+use Rattle.stage_rounds.proofs.Controls.{one_read, none_read, one_line, ahead_on, partly_on}
+use Rattle.stage_rounds.proofs.Goings.{within_same}
+use Rattle.stage_rounds.proofs.Turning.{read_waits, read_no_more, line_goes, line_rests, on_goes, on_progress, on_clock, on_no_more, on_pauses, ahead_way, vain_ahead, always_ok}
 use Rattle.stage_rounds.proofs.round.advance.Goals as goal
 
 pub returns-in_err-read_clock-clause-goes : goal.returns-in_err-read_clock-clause-goes
@@ -30,62 +36,265 @@ returns-in_err-read_clock-clause-clock g c opened k =
     vain_ahead c.from_residual.result c.read_clock.new.core.journal.steps opened c1 c.from_residual.ensures.0
     (in_vain c.args.core.now.journal.steps c.read_clock.new.core.journal.steps opened c0 c1 k c.in_err-read_clock.ensures.read)
 
+pub returns-in_err-read_clock-clause-one_line : goal.returns-in_err-read_clock-clause-one_line
+returns-in_err-read_clock-clause-one_line g c =
+    let t = c.args.core.now.topology in
+    let a = c.args.core.now.journal.steps in
+    let m = c.read_clock.new.core.journal.steps in
+    let e1 = c.read_clock.ensures in
+    let c0 = clock_seen g.C.Clock.latest g.C.Clock.readings c.args.clock.now in
+    let c1 = clock_seen g.C.Clock.latest g.C.Clock.readings c.read_clock.new.clock in
+    let w = read_waits t c.read_clock.new.core.topology a m c.read_clock.result c0 c1 c.requires.stands.holds.sound e1.topology e1.stands.holds.legal e1.read in
+    none_read a m w.same_controls
+
 pub returns-in_err-read_clock-clause-no_more : goal.returns-in_err-read_clock-clause-no_more
 returns-in_err-read_clock-clause-no_more g c =
     let c0 = clock_seen g.C.Clock.latest g.C.Clock.readings c.args.clock.now in
     let c1 = clock_seen g.C.Clock.latest g.C.Clock.readings c.read_clock.new.clock in
     read_no_more c.args.core.now.topology c.args.core.now.journal.steps c.read_clock.new.core.journal.steps c.read_clock.result c0 c1 c.read_clock.ensures.read
 
-pub go_on-requires-clause-rest : goal.go_on-requires-clause-rest
-go_on-requires-clause-rest g c =
-    let home = body_at g.B.Works.look c.args.bodies.now.items in
-    let e1 = c.read_clock.ensures in
-    let c0 = clock_seen g.C.Clock.latest g.C.Clock.readings c.args.clock.now in
-    let c1 = clock_seen g.C.Clock.latest g.C.Clock.readings c.read_clock.new.clock in
-    subst (λ o. IsAtRest o c.read_clock.new.core.journal.steps home) (sym e1.topology)
-    ((read_waits c.args.core.now.topology c.read_clock.new.core.topology c.args.core.now.journal.steps c.read_clock.new.core.journal.steps c.read_clock.result c0 c1 c.requires.stands.holds.sound e1.topology e1.stands.holds.legal e1.read).rest home c.requires.rest)
-
-pub returns-clause-goes : goal.returns-clause-goes
-returns-clause-goes g c =
-    let look = g.B.Works.look in
+pub returns-in_err-read_clock-clause-control : goal.returns-in_err-read_clock-clause-control
+returns-in_err-read_clock-clause-control g c opened k =
     let t = c.args.core.now.topology in
     let a = c.args.core.now.journal.steps in
     let m = c.read_clock.new.core.journal.steps in
     let e1 = c.read_clock.ensures in
-    let e2 = c.go_on.ensures in
     let c0 = clock_seen g.C.Clock.latest g.C.Clock.readings c.args.clock.now in
     let c1 = clock_seen g.C.Clock.latest g.C.Clock.readings c.read_clock.new.clock in
-    on_goes t c.read_clock.new.core.topology a m c.go_on.new.core.journal.steps (body_at look c.args.bodies.now.items) (body_at look c.go_on.new.bodies.items)
-    (read_waits t c.read_clock.new.core.topology a m c.read_clock.result c0 c1 c.requires.stands.holds.sound e1.topology e1.stands.holds.legal e1.read) e1.topology e2.advances
+    let w = read_waits t c.read_clock.new.core.topology a m c.read_clock.result c0 c1 c.requires.stands.holds.sound e1.topology e1.stands.holds.legal e1.read in
+    let s = g.S.ByteSource in
+    let l0 = option_map (line_seen s.told s.taken s.left s.faults s.waits) c.args.control.now in
+    partly_on c.from_residual.result t m 1 opened l0 c.from_residual.ensures.0 (kept_partly t m opened l0 (w.control 0 opened l0 k))
+
+pub read_control-requires-clause-going : goal.read_control-requires-clause-going
+read_control-requires-clause-going g c =
+    let t = c.args.core.now.topology in
+    let a = c.args.core.now.journal.steps in
+    let m = c.read_clock.new.core.journal.steps in
+    let e1 = c.read_clock.ensures in
+    let c0 = clock_seen g.C.Clock.latest g.C.Clock.readings c.args.clock.now in
+    let c1 = clock_seen g.C.Clock.latest g.C.Clock.readings c.read_clock.new.clock in
+    let w = read_waits t c.read_clock.new.core.topology a m c.read_clock.result c0 c1 c.requires.stands.holds.sound e1.topology e1.stands.holds.legal e1.read in
+    w.same_halt ∙ c.requires.going
+
+pub returns-in_err-read_control-clause-goes : goal.returns-in_err-read_control-clause-goes
+returns-in_err-read_control-clause-goes g c =
+    let t = c.args.core.now.topology in
+    let a = c.args.core.now.journal.steps in
+    let m = c.read_clock.new.core.journal.steps in
+    let n = c.read_control.new.core.journal.steps in
+    let home = body_at g.B.Works.look c.args.bodies.now.items in
+    let e1 = c.read_clock.ensures in
+    let e2 = c.read_control.ensures in
+    let c0 = clock_seen g.C.Clock.latest g.C.Clock.readings c.args.clock.now in
+    let c1 = clock_seen g.C.Clock.latest g.C.Clock.readings c.read_clock.new.clock in
+    let w = read_waits t c.read_clock.new.core.topology a m c.read_clock.result c0 c1 c.requires.stands.holds.sound e1.topology e1.stands.holds.legal e1.read in
+    let line = subst (λ o. LeavesAtRest o m n) e1.topology e2.rest in
+    line_goes t a m n home w line
+
+pub returns-in_err-read_control-clause-rest : goal.returns-in_err-read_control-clause-rest
+returns-in_err-read_control-clause-rest g c =
+    let t = c.args.core.now.topology in
+    let a = c.args.core.now.journal.steps in
+    let m = c.read_clock.new.core.journal.steps in
+    let n = c.read_control.new.core.journal.steps in
+    let home = body_at g.B.Works.look c.args.bodies.now.items in
+    let e1 = c.read_clock.ensures in
+    let e2 = c.read_control.ensures in
+    let c0 = clock_seen g.C.Clock.latest g.C.Clock.readings c.args.clock.now in
+    let c1 = clock_seen g.C.Clock.latest g.C.Clock.readings c.read_clock.new.clock in
+    let w = read_waits t c.read_clock.new.core.topology a m c.read_clock.result c0 c1 c.requires.stands.holds.sound e1.topology e1.stands.holds.legal e1.read in
+    let line = subst (λ o. LeavesAtRest o m n) e1.topology e2.rest in
+    line_rests t m n home line (w.rest home c.requires.rest)
+
+pub returns-in_err-read_control-clause-clock : goal.returns-in_err-read_control-clause-clock
+returns-in_err-read_control-clause-clock g c opened k =
+    let t = c.args.core.now.topology in
+    let a = c.args.core.now.journal.steps in
+    let m = c.read_clock.new.core.journal.steps in
+    let n = c.read_control.new.core.journal.steps in
+    let e1 = c.read_clock.ensures in
+    let e2 = c.read_control.ensures in
+    let c0 = clock_seen g.C.Clock.latest g.C.Clock.readings c.args.clock.now in
+    let c1 = clock_seen g.C.Clock.latest g.C.Clock.readings c.read_clock.new.clock in
+    let line = subst (λ o. LeavesAtRest o m n) e1.topology e2.rest in
+    ahead_way c.from_residual-in_err-read_control.result n opened c1 (on_clock t a m n n opened c0 c1 c.in_ok-read_clock.ensures.read line (within_same t n) k)
+
+pub returns-in_err-read_control-clause-control : goal.returns-in_err-read_control-clause-control
+returns-in_err-read_control-clause-control g c opened k =
+    let t = c.args.core.now.topology in
+    let a = c.args.core.now.journal.steps in
+    let m = c.read_clock.new.core.journal.steps in
+    let n = c.read_control.new.core.journal.steps in
+    let e1 = c.read_clock.ensures in
+    let e2 = c.read_control.ensures in
+    let c0 = clock_seen g.C.Clock.latest g.C.Clock.readings c.args.clock.now in
+    let c1 = clock_seen g.C.Clock.latest g.C.Clock.readings c.read_clock.new.clock in
+    let w = read_waits t c.read_clock.new.core.topology a m c.read_clock.result c0 c1 c.requires.stands.holds.sound e1.topology e1.stands.holds.legal e1.read in
+    let s = g.S.ByteSource in
+    let l0 = option_map (line_seen s.told s.taken s.left s.faults s.waits) c.args.control.now in
+    let l1 = option_map (line_seen s.told s.taken s.left s.faults s.waits) c.read_control.new.control in
+    partly_on c.from_residual-in_err-read_control.result t n 1 opened l1 c.from_residual-in_err-read_control.ensures.0
+    (subst (λ o. KeepsControlPartly o n opened l1) e1.topology (c.in_err-read_control.ensures.keeps opened (subst (λ o. KeepsControl o m 0 opened l0) (sym e1.topology) (w.control 0 opened l0 k))))
+
+pub returns-in_err-read_control-clause-one_line : goal.returns-in_err-read_control-clause-one_line
+returns-in_err-read_control-clause-one_line g c =
+    let t = c.args.core.now.topology in
+    let a = c.args.core.now.journal.steps in
+    let m = c.read_clock.new.core.journal.steps in
+    let e1 = c.read_clock.ensures in
+    let c0 = clock_seen g.C.Clock.latest g.C.Clock.readings c.args.clock.now in
+    let c1 = clock_seen g.C.Clock.latest g.C.Clock.readings c.read_clock.new.clock in
+    let w = read_waits t c.read_clock.new.core.topology a m c.read_clock.result c0 c1 c.requires.stands.holds.sound e1.topology e1.stands.holds.legal e1.read in
+    let n = c.read_control.new.core.journal.steps in
+    one_line a m n n w.same_controls (one_read m n c.read_control.ensures.adds) refl
+
+pub returns-in_err-read_control-clause-no_more : goal.returns-in_err-read_control-clause-no_more
+returns-in_err-read_control-clause-no_more g c =
+    let t = c.args.core.now.topology in
+    let a = c.args.core.now.journal.steps in
+    let m = c.read_clock.new.core.journal.steps in
+    let n = c.read_control.new.core.journal.steps in
+    let e1 = c.read_clock.ensures in
+    let e2 = c.read_control.ensures in
+    let c0 = clock_seen g.C.Clock.latest g.C.Clock.readings c.args.clock.now in
+    let c1 = clock_seen g.C.Clock.latest g.C.Clock.readings c.read_clock.new.clock in
+    let line = subst (λ o. LeavesAtRest o m n) e1.topology e2.rest in
+    on_no_more t a m n c.read_clock.result c0 c1 e1.read line.progress
+
+pub go_on-requires-clause-rest : goal.go_on-requires-clause-rest
+go_on-requires-clause-rest g c =
+    let t = c.args.core.now.topology in
+    let a = c.args.core.now.journal.steps in
+    let m = c.read_clock.new.core.journal.steps in
+    let n = c.read_control.new.core.journal.steps in
+    let home = body_at g.B.Works.look c.args.bodies.now.items in
+    let e1 = c.read_clock.ensures in
+    let e2 = c.read_control.ensures in
+    let c0 = clock_seen g.C.Clock.latest g.C.Clock.readings c.args.clock.now in
+    let c1 = clock_seen g.C.Clock.latest g.C.Clock.readings c.read_clock.new.clock in
+    let w = read_waits t c.read_clock.new.core.topology a m c.read_clock.result c0 c1 c.requires.stands.holds.sound e1.topology e1.stands.holds.legal e1.read in
+    let line = subst (λ o. LeavesAtRest o m n) e1.topology e2.rest in
+    subst (λ o. IsAtRest o n home) (sym (e2.topology ∙ e1.topology)) (line_rests t m n home line (w.rest home c.requires.rest))
+
+pub returns-clause-goes : goal.returns-clause-goes
+returns-clause-goes g c =
+    let t = c.args.core.now.topology in
+    let a = c.args.core.now.journal.steps in
+    let m = c.read_clock.new.core.journal.steps in
+    let n = c.read_control.new.core.journal.steps in
+    let b = c.go_on.new.core.journal.steps in
+    let home = body_at g.B.Works.look c.args.bodies.now.items in
+    let back = body_at g.B.Works.look c.go_on.new.bodies.items in
+    let e1 = c.read_clock.ensures in
+    let e2 = c.read_control.ensures in
+    let e3 = c.go_on.ensures in
+    let c0 = clock_seen g.C.Clock.latest g.C.Clock.readings c.args.clock.now in
+    let c1 = clock_seen g.C.Clock.latest g.C.Clock.readings c.read_clock.new.clock in
+    let w = read_waits t c.read_clock.new.core.topology a m c.read_clock.result c0 c1 c.requires.stands.holds.sound e1.topology e1.stands.holds.legal e1.read in
+    let line = subst (λ o. LeavesAtRest o m n) e1.topology e2.rest in
+    let on = subst (λ o. Advances o n home b back) (e2.topology ∙ e1.topology) e3.advances in
+    on_goes t a m n b home back w line on
 
 pub returns-clause-rest : goal.returns-clause-rest
 returns-clause-rest g c =
-    subst (λ o. IsAtRest o c.go_on.new.core.journal.steps (body_at g.B.Works.look c.go_on.new.bodies.items)) c.read_clock.ensures.topology c.go_on.ensures.advances.rest
+    let n = c.read_control.new.core.journal.steps in
+    let b = c.go_on.new.core.journal.steps in
+    let home = body_at g.B.Works.look c.args.bodies.now.items in
+    let back = body_at g.B.Works.look c.go_on.new.bodies.items in
+    let e1 = c.read_clock.ensures in
+    let e2 = c.read_control.ensures in
+    let e3 = c.go_on.ensures in
+    let on = subst (λ o. Advances o n home b back) (e2.topology ∙ e1.topology) e3.advances in
+    on.rest
 
 pub returns-clause-clock : goal.returns-clause-clock
 returns-clause-clock g c opened k =
+    let t = c.args.core.now.topology in
+    let a = c.args.core.now.journal.steps in
+    let m = c.read_clock.new.core.journal.steps in
+    let n = c.read_control.new.core.journal.steps in
+    let b = c.go_on.new.core.journal.steps in
+    let home = body_at g.B.Works.look c.args.bodies.now.items in
+    let back = body_at g.B.Works.look c.go_on.new.bodies.items in
+    let e1 = c.read_clock.ensures in
+    let e2 = c.read_control.ensures in
+    let e3 = c.go_on.ensures in
     let c0 = clock_seen g.C.Clock.latest g.C.Clock.readings c.args.clock.now in
     let c1 = clock_seen g.C.Clock.latest g.C.Clock.readings c.read_clock.new.clock in
-    ahead_way c.go_on.result c.go_on.new.core.journal.steps opened c1
-    (on_clock c.args.core.now.journal.steps c.read_clock.new.core.journal.steps c.go_on.new.core.journal.steps opened c0 c1 c.in_ok-read_clock.ensures.read c.go_on.ensures.advances.within k)
+    let line = subst (λ o. LeavesAtRest o m n) e1.topology e2.rest in
+    let on = subst (λ o. Advances o n home b back) (e2.topology ∙ e1.topology) e3.advances in
+    ahead_way c.go_on.result b opened c1 (on_clock t a m n b opened c0 c1 c.in_ok-read_clock.ensures.read line on.within k)
+
+pub returns-clause-control : goal.returns-clause-control
+returns-clause-control g c opened k =
+    let t = c.args.core.now.topology in
+    let a = c.args.core.now.journal.steps in
+    let m = c.read_clock.new.core.journal.steps in
+    let n = c.read_control.new.core.journal.steps in
+    let b = c.go_on.new.core.journal.steps in
+    let home = body_at g.B.Works.look c.args.bodies.now.items in
+    let back = body_at g.B.Works.look c.go_on.new.bodies.items in
+    let e1 = c.read_clock.ensures in
+    let e2 = c.read_control.ensures in
+    let e3 = c.go_on.ensures in
+    let c0 = clock_seen g.C.Clock.latest g.C.Clock.readings c.args.clock.now in
+    let c1 = clock_seen g.C.Clock.latest g.C.Clock.readings c.read_clock.new.clock in
+    let w = read_waits t c.read_clock.new.core.topology a m c.read_clock.result c0 c1 c.requires.stands.holds.sound e1.topology e1.stands.holds.legal e1.read in
+    let on = subst (λ o. Advances o n home b back) (e2.topology ∙ e1.topology) e3.advances in
+    let s = g.S.ByteSource in
+    let l0 = option_map (line_seen s.told s.taken s.left s.faults s.waits) c.args.control.now in
+    let l1 = option_map (line_seen s.told s.taken s.left s.faults s.waits) c.read_control.new.control in
+    ahead_on c.go_on.result t b opened l1
+    (on.within.control opened l1
+    (subst (λ o. KeepsControl o n 1 opened l1) e1.topology (c.in_ok-read_control.ensures.keeps opened (subst (λ o. KeepsControl o m 0 opened l0) (sym e1.topology) (w.control 0 opened l0 k)))))
+
+pub returns-clause-one_line : goal.returns-clause-one_line
+returns-clause-one_line g c =
+    let t = c.args.core.now.topology in
+    let a = c.args.core.now.journal.steps in
+    let m = c.read_clock.new.core.journal.steps in
+    let e1 = c.read_clock.ensures in
+    let c0 = clock_seen g.C.Clock.latest g.C.Clock.readings c.args.clock.now in
+    let c1 = clock_seen g.C.Clock.latest g.C.Clock.readings c.read_clock.new.clock in
+    let w = read_waits t c.read_clock.new.core.topology a m c.read_clock.result c0 c1 c.requires.stands.holds.sound e1.topology e1.stands.holds.legal e1.read in
+    let n = c.read_control.new.core.journal.steps in
+    let b = c.go_on.new.core.journal.steps in
+    one_line a m n b w.same_controls (one_read m n c.read_control.ensures.adds) c.go_on.ensures.advances.within.same_controls
 
 pub returns-clause-no_more : goal.returns-clause-no_more
 returns-clause-no_more g c =
-    let look = g.B.Works.look in
+    let t = c.args.core.now.topology in
+    let a = c.args.core.now.journal.steps in
+    let m = c.read_clock.new.core.journal.steps in
+    let n = c.read_control.new.core.journal.steps in
+    let b = c.go_on.new.core.journal.steps in
+    let home = body_at g.B.Works.look c.args.bodies.now.items in
+    let back = body_at g.B.Works.look c.go_on.new.bodies.items in
+    let e1 = c.read_clock.ensures in
+    let e2 = c.read_control.ensures in
+    let e3 = c.go_on.ensures in
     let c0 = clock_seen g.C.Clock.latest g.C.Clock.readings c.args.clock.now in
     let c1 = clock_seen g.C.Clock.latest g.C.Clock.readings c.read_clock.new.clock in
-    on_no_more c.args.core.now.topology c.read_clock.new.core.topology c.args.core.now.journal.steps c.read_clock.new.core.journal.steps c.go_on.new.core.journal.steps c.read_clock.result c0 c1
-    (body_at look c.args.bodies.now.items) (body_at look c.go_on.new.bodies.items) c.read_clock.ensures.read c.read_clock.ensures.topology c.go_on.ensures.advances
+    let line = subst (λ o. LeavesAtRest o m n) e1.topology e2.rest in
+    let on = subst (λ o. Advances o n home b back) (e2.topology ∙ e1.topology) e3.advances in
+    on_no_more t a m b c.read_clock.result c0 c1 e1.read (on_progress t m n b home back line on)
 
 pub returns-clause-pauses : goal.returns-clause-pauses
 returns-clause-pauses g c =
-    let look = g.B.Works.look in
     let t = c.args.core.now.topology in
+    let a = c.args.core.now.journal.steps in
+    let m = c.read_clock.new.core.journal.steps in
+    let n = c.read_control.new.core.journal.steps in
     let b = c.go_on.new.core.journal.steps in
+    let home = body_at g.B.Works.look c.args.bodies.now.items in
+    let back = body_at g.B.Works.look c.go_on.new.bodies.items in
     let e1 = c.read_clock.ensures in
-    let e2 = c.go_on.ensures in
+    let e2 = c.read_control.ensures in
+    let e3 = c.go_on.ensures in
     let c0 = clock_seen g.C.Clock.latest g.C.Clock.readings c.args.clock.now in
     let c1 = clock_seen g.C.Clock.latest g.C.Clock.readings c.read_clock.new.clock in
-    always_ok (move t b ≡ Pause → 2 * work_left t b < rounds_left t c.args.core.now.journal.steps) c.go_on.result
-    (λ pauses. on_pauses t c.read_clock.new.core.topology c.go_on.new.core.topology c.args.core.now.journal.steps c.read_clock.new.core.journal.steps b c0 c1
-    (body_at look c.args.bodies.now.items) (body_at look c.go_on.new.bodies.items) c.requires.stands.holds.sound (e2.topology ∙ e1.topology) e2.stands.holds.legal c.in_ok-read_clock.ensures.read e1.topology e2.advances pauses)
+    let line = subst (λ o. LeavesAtRest o m n) e1.topology e2.rest in
+    let on = subst (λ o. Advances o n home b back) (e2.topology ∙ e1.topology) e3.advances in
+    always_ok (move t b ≡ Pause → 2 * work_left t b < rounds_left t a) c.go_on.result
+    (λ pauses. on_pauses t c.go_on.new.core.topology a m b c0 c1 c.requires.stands.holds.sound (e3.topology ∙ e2.topology ∙ e1.topology) e3.stands.holds.legal c.in_ok-read_clock.ensures.read (on_progress t m n b home back line on) pauses)

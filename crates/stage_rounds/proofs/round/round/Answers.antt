@@ -1,10 +1,13 @@
-use Rattle.std.proofs.Common.{◌≡◌, ◌<◌, ◌≤◌, ◌∙◌, sym, subst, false}
+use Rattle.std.proofs.Common.{◌≡◌, ◌<◌, ◌≤◌, ◌∙◌, refl, sym, subst, false}
+use Rattle.std.specs.Prelude.{option_map}
 use Rattle.pipe_model.specs.Moves.{move, Pause, jobs_out}
 use Rattle.work_laws.specs.Left.{work_left}
 use Rattle.move_laws.proofs.Laws.{pause_law}
-use Rattle.stage_bodies.specs.Seen.{body_at}
-use Rattle.stage_rounds.specs.Going.{GoesOn, IsAtRest}
+use Rattle.stage_bodies.specs.Seen.{body_at, line_seen}
+use Rattle.control_lines.proofs.Kept.{jobless_keeps}
+use Rattle.stage_rounds.specs.Going.{GoesOn, IsAtRest, Within}
 use Rattle.stage_rounds.specs.Clocks.{clock_seen}
+use Rattle.stage_rounds.proofs.Controls.{none_read, no_more_lines, over_on, partly_on}
 use Rattle.stage_rounds.proofs.Goings.{goes_same, goes_then}
 use Rattle.stage_rounds.proofs.Times.{ahead_same, paused_then, in_vain}
 use Rattle.stage_rounds.proofs.Turning.{either_way, vain_way, worked_clock, paused_waits, job_leaves, pause_leaves, no_jobs_out, drained_at, halted_at}
@@ -13,10 +16,26 @@ use Rattle.stage_rounds.proofs.round.round.Goals as goal
 pub returns-then-is_halted-clause-goes : goal.returns-then-is_halted-clause-goes
 returns-then-is_halted-clause-goes g c = goes_same c.args.core.now.topology c.args.core.now.journal.steps (body_at g.B.Works.look c.args.bodies.now.items)
 
+pub returns-then-is_halted-clause-control : goal.returns-then-is_halted-clause-control
+returns-then-is_halted-clause-control g c opened k = k
+
+pub returns-then-is_halted-clause-one_line : goal.returns-then-is_halted-clause-one_line
+returns-then-is_halted-clause-one_line g c =
+    let a = c.args.core.now.journal.steps in
+    none_read a a refl
+
 pub returns-in_err-stage-clause-clock : goal.returns-in_err-stage-clause-clock
 returns-in_err-stage-clause-clock g c opened k =
     let c1 = clock_seen g.C.Clock.latest g.C.Clock.readings c.advance.new.clock in
     vain_way c.from_residual.result c.advance.new.core.journal.steps opened c1 c.from_residual.ensures.0 (c.in_err-stage.ensures.clock opened k)
+
+pub returns-in_err-stage-clause-control : goal.returns-in_err-stage-clause-control
+returns-in_err-stage-clause-control g c opened k =
+    let t = c.args.core.now.topology in
+    let b = c.advance.new.core.journal.steps in
+    let s = g.S.ByteSource in
+    let l1 = option_map (line_seen s.told s.taken s.left s.faults s.waits) c.advance.new.control in
+    partly_on c.from_residual.result t b 0 opened l1 c.from_residual.ensures.0 (c.in_err-stage.ensures.control opened k)
 
 pub work-requires-clause-rest : goal.work-requires-clause-rest
 work-requires-clause-rest g c = subst (λ o. IsAtRest o c.advance.new.core.journal.steps (body_at g.B.Works.look c.advance.new.bodies.items)) (sym c.advance.ensures.topology) c.advance.ensures.rest
@@ -35,7 +54,23 @@ pub returns-in_err-work-in-Job-clause-clock : goal.returns-in_err-work-in-Job-cl
 returns-in_err-work-in-Job-clause-clock g c opened k =
     let c1 = clock_seen g.C.Clock.latest g.C.Clock.readings c.advance.new.clock in
     either_way c.from_residual-in_err-work-in-Job.result c.work.new.core.journal.steps opened c1
-    (worked_clock c.advance.new.core.journal.steps c.work.new.core.journal.steps opened c1 (c.in_ok-stage.ensures.clock opened k) c.work.ensures.within)
+    (worked_clock c.advance.new.core.topology c.advance.new.core.journal.steps c.work.new.core.journal.steps opened c1 (c.in_ok-stage.ensures.clock opened k) c.work.ensures.within)
+
+pub returns-in_err-work-in-Job-clause-control : goal.returns-in_err-work-in-Job-clause-control
+returns-in_err-work-in-Job-clause-control g c opened k =
+    let t = c.args.core.now.topology in
+    let b = c.advance.new.core.journal.steps in
+    let d = c.work.new.core.journal.steps in
+    let s = g.S.ByteSource in
+    let l1 = option_map (line_seen s.told s.taken s.left s.faults s.waits) c.advance.new.control in
+    let w = subst (λ o. Within o 1 b d) c.advance.ensures.topology c.work.ensures.within in
+    over_on c.from_residual-in_err-work-in-Job.result t d opened l1 (w.control opened l1 (c.in_ok-stage.ensures.control opened k))
+
+pub returns-in_err-work-in-Job-clause-one_line : goal.returns-in_err-work-in-Job-clause-one_line
+returns-in_err-work-in-Job-clause-one_line g c =
+    let a = c.args.core.now.journal.steps in
+    let b = c.advance.new.core.journal.steps in
+    no_more_lines a b c.work.new.core.journal.steps c.advance.ensures.one_line c.work.ensures.within.same_controls
 
 pub returns-in_ok-work-in-Job-clause-goes : goal.returns-in_ok-work-in-Job-clause-goes
 returns-in_ok-work-in-Job-clause-goes g c =
@@ -50,7 +85,23 @@ returns-in_ok-work-in-Job-clause-goes g c =
 pub returns-in_ok-work-in-Job-clause-clock : goal.returns-in_ok-work-in-Job-clause-clock
 returns-in_ok-work-in-Job-clause-clock g c opened k =
     let c1 = clock_seen g.C.Clock.latest g.C.Clock.readings c.advance.new.clock in
-    worked_clock c.advance.new.core.journal.steps c.work.new.core.journal.steps opened c1 (c.in_ok-stage.ensures.clock opened k) c.work.ensures.within
+    worked_clock c.advance.new.core.topology c.advance.new.core.journal.steps c.work.new.core.journal.steps opened c1 (c.in_ok-stage.ensures.clock opened k) c.work.ensures.within
+
+pub returns-in_ok-work-in-Job-clause-control : goal.returns-in_ok-work-in-Job-clause-control
+returns-in_ok-work-in-Job-clause-control g c opened k =
+    let t = c.args.core.now.topology in
+    let b = c.advance.new.core.journal.steps in
+    let d = c.work.new.core.journal.steps in
+    let s = g.S.ByteSource in
+    let l1 = option_map (line_seen s.told s.taken s.left s.faults s.waits) c.advance.new.control in
+    let w = subst (λ o. Within o 1 b d) c.advance.ensures.topology c.work.ensures.within in
+    w.control opened l1 (c.in_ok-stage.ensures.control opened k)
+
+pub returns-in_ok-work-in-Job-clause-one_line : goal.returns-in_ok-work-in-Job-clause-one_line
+returns-in_ok-work-in-Job-clause-one_line g c =
+    let a = c.args.core.now.journal.steps in
+    let b = c.advance.new.core.journal.steps in
+    no_more_lines a b c.work.new.core.journal.steps c.advance.ensures.one_line c.work.ensures.within.same_controls
 
 pub returns-in_ok-work-in-Job-clause-progress : goal.returns-in_ok-work-in-Job-clause-progress
 returns-in_ok-work-in-Job-clause-progress g c is limit =
@@ -88,6 +139,31 @@ returns-in_err-pause-in-Pause-clause-clock g c opened k =
     vain_way c.from_residual-in_err-pause-in-Pause.result p opened c2 c.from_residual-in_err-pause-in-Pause.ensures.0
     (in_vain b p opened c1 c2 (ahead_same b opened c1 (c.in_ok-stage.ensures.clock opened k)) c.in_err-pause-in-Pause.ensures.paused)
 
+pub returns-in_err-pause-in-Pause-clause-control : goal.returns-in_err-pause-in-Pause-clause-control
+returns-in_err-pause-in-Pause-clause-control g c opened k =
+    let t = c.args.core.now.topology in
+    let b = c.advance.new.core.journal.steps in
+    let p = c.pause.new.core.journal.steps in
+    let s = g.S.ByteSource in
+    let l1 = option_map (line_seen s.told s.taken s.left s.faults s.waits) c.advance.new.control in
+    let c1 = clock_seen g.C.Clock.latest g.C.Clock.readings c.advance.new.clock in
+    let c2 = clock_seen g.C.Clock.latest g.C.Clock.readings c.pause.new.clock in
+    let e = c.pause.ensures in
+    let v = paused_waits t c.pause.new.core.topology b p c.pause.result c1 c2 c.requires.stands.holds.sound (e.topology ∙ c.advance.ensures.topology) e.stands.holds.legal e.paused in
+    over_on c.from_residual-in_err-pause-in-Pause.result t p opened l1 (jobless_keeps t p opened l1 (v.control 1 opened l1 (c.in_ok-stage.ensures.control opened k)))
+
+pub returns-in_err-pause-in-Pause-clause-one_line : goal.returns-in_err-pause-in-Pause-clause-one_line
+returns-in_err-pause-in-Pause-clause-one_line g c =
+    let t = c.args.core.now.topology in
+    let a = c.args.core.now.journal.steps in
+    let b = c.advance.new.core.journal.steps in
+    let p = c.pause.new.core.journal.steps in
+    let c1 = clock_seen g.C.Clock.latest g.C.Clock.readings c.advance.new.clock in
+    let c2 = clock_seen g.C.Clock.latest g.C.Clock.readings c.pause.new.clock in
+    let e = c.pause.ensures in
+    no_more_lines a b p c.advance.ensures.one_line
+    (paused_waits t c.pause.new.core.topology b p c.pause.result c1 c2 c.requires.stands.holds.sound (e.topology ∙ c.advance.ensures.topology) e.stands.holds.legal e.paused).same_controls
+
 pub returns-in_ok-pause-in-Pause-clause-goes : goal.returns-in_ok-pause-in-Pause-clause-goes
 returns-in_ok-pause-in-Pause-clause-goes g c =
     let look = g.B.Works.look in
@@ -119,6 +195,31 @@ returns-in_ok-pause-in-Pause-clause-clock g c opened k =
     let c2 = clock_seen g.C.Clock.latest g.C.Clock.readings c.pause.new.clock in
     paused_then b c.pause.new.core.journal.steps opened c1 c2 (ahead_same b opened c1 (c.in_ok-stage.ensures.clock opened k)) c.in_ok-pause-in-Pause.ensures.paused
 
+pub returns-in_ok-pause-in-Pause-clause-control : goal.returns-in_ok-pause-in-Pause-clause-control
+returns-in_ok-pause-in-Pause-clause-control g c opened k =
+    let t = c.args.core.now.topology in
+    let b = c.advance.new.core.journal.steps in
+    let p = c.pause.new.core.journal.steps in
+    let s = g.S.ByteSource in
+    let l1 = option_map (line_seen s.told s.taken s.left s.faults s.waits) c.advance.new.control in
+    let c1 = clock_seen g.C.Clock.latest g.C.Clock.readings c.advance.new.clock in
+    let c2 = clock_seen g.C.Clock.latest g.C.Clock.readings c.pause.new.clock in
+    let e = c.pause.ensures in
+    let v = paused_waits t c.pause.new.core.topology b p c.pause.result c1 c2 c.requires.stands.holds.sound (e.topology ∙ c.advance.ensures.topology) e.stands.holds.legal e.paused in
+    jobless_keeps t p opened l1 (v.control 1 opened l1 (c.in_ok-stage.ensures.control opened k))
+
+pub returns-in_ok-pause-in-Pause-clause-one_line : goal.returns-in_ok-pause-in-Pause-clause-one_line
+returns-in_ok-pause-in-Pause-clause-one_line g c =
+    let t = c.args.core.now.topology in
+    let a = c.args.core.now.journal.steps in
+    let b = c.advance.new.core.journal.steps in
+    let p = c.pause.new.core.journal.steps in
+    let c1 = clock_seen g.C.Clock.latest g.C.Clock.readings c.advance.new.clock in
+    let c2 = clock_seen g.C.Clock.latest g.C.Clock.readings c.pause.new.clock in
+    let e = c.pause.ensures in
+    no_more_lines a b p c.advance.ensures.one_line
+    (paused_waits t c.pause.new.core.topology b p c.pause.result c1 c2 c.requires.stands.holds.sound (e.topology ∙ c.advance.ensures.topology) e.stands.holds.legal e.paused).same_controls
+
 pub returns-in_ok-pause-in-Pause-clause-progress : goal.returns-in_ok-pause-in-Pause-clause-progress
 returns-in_ok-pause-in-Pause-clause-progress g c is limit =
     let t = c.args.core.now.topology in
@@ -132,6 +233,14 @@ pub returns-in-Drained-clause-clock : goal.returns-in-Drained-clause-clock
 returns-in-Drained-clause-clock g c opened k =
     ahead_same c.advance.new.core.journal.steps opened (clock_seen g.C.Clock.latest g.C.Clock.readings c.advance.new.clock) (c.in_ok-stage.ensures.clock opened k)
 
+pub returns-in-Drained-clause-control : goal.returns-in-Drained-clause-control
+returns-in-Drained-clause-control g c opened k =
+    let t = c.args.core.now.topology in
+    let b = c.advance.new.core.journal.steps in
+    let s = g.S.ByteSource in
+    let l1 = option_map (line_seen s.told s.taken s.left s.faults s.waits) c.advance.new.control in
+    jobless_keeps t b opened l1 (c.in_ok-stage.ensures.control opened k)
+
 pub returns-in-Drained-clause-drained : goal.returns-in-Drained-clause-drained
 returns-in-Drained-clause-drained g c is =
     drained_at c.advance.new.core.topology c.advance.new.core.journal.steps c.advance.ensures.stands.holds.legal c.advance.ensures.stands.unowed (rw c.in-Drained.is at c.in_ok-stage.ensures.next)
@@ -139,6 +248,14 @@ returns-in-Drained-clause-drained g c is =
 pub returns-in-Halted-clause-clock : goal.returns-in-Halted-clause-clock
 returns-in-Halted-clause-clock g c opened k =
     ahead_same c.advance.new.core.journal.steps opened (clock_seen g.C.Clock.latest g.C.Clock.readings c.advance.new.clock) (c.in_ok-stage.ensures.clock opened k)
+
+pub returns-in-Halted-clause-control : goal.returns-in-Halted-clause-control
+returns-in-Halted-clause-control g c opened k =
+    let t = c.args.core.now.topology in
+    let b = c.advance.new.core.journal.steps in
+    let s = g.S.ByteSource in
+    let l1 = option_map (line_seen s.told s.taken s.left s.faults s.waits) c.advance.new.control in
+    jobless_keeps t b opened l1 (c.in_ok-stage.ensures.control opened k)
 
 pub returns-in-Halted-clause-halted : goal.returns-in-Halted-clause-halted
 returns-in-Halted-clause-halted g c is =

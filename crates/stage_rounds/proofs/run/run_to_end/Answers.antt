@@ -1,8 +1,21 @@
 use Rattle.std.proofs.Common.{subst}
-use Rattle.stage_bodies.specs.Seen.{body_at}
+use Rattle.std.specs.Prelude.{option_map}
+use Rattle.stage_bodies.specs.Seen.{body_at, line_seen}
+use Rattle.control_lines.specs.Keeping.{KeepsControl, KeepsControlPartly}
 use Rattle.stage_rounds.specs.Going.{GoesOn}
+use Rattle.stage_rounds.proofs.Controls.{partly_on}
 use Rattle.stage_rounds.proofs.Goings.{goes_then}
 use Rattle.stage_rounds.proofs.run.run_to_end.Goals as goal
+
+pub returns-in_err-round-clause-control : goal.returns-in_err-round-clause-control
+returns-in_err-round-clause-control g c opened k =
+    let s = g.S.ByteSource in
+    let b = c.loop.core.journal.steps in
+    let d = c.round.new.core.journal.steps in
+    let l0 = option_map (line_seen s.told s.taken s.left s.faults s.waits) c.loop.control in
+    let l1 = option_map (line_seen s.told s.taken s.left s.faults s.waits) c.round.new.control in
+    partly_on c.from_residual.result c.args.core.now.topology d 0 opened l1 c.from_residual.ensures.0
+    (subst (λ o. KeepsControl o b 0 opened l0 → KeepsControlPartly o d opened l1) c.loop.invariant.topology (c.in_err-round.ensures.control opened) (c.loop.invariant.control opened k))
 
 pub returns-in-Drained-clause-goes : goal.returns-in-Drained-clause-goes
 returns-in-Drained-clause-goes g c =
@@ -15,6 +28,15 @@ returns-in-Drained-clause-goes g c =
 pub returns-in-Drained-clause-clock : goal.returns-in-Drained-clause-clock
 returns-in-Drained-clause-clock g c opened k = c.in_ok-round.ensures.clock opened (c.loop.invariant.clock opened k)
 
+pub returns-in-Drained-clause-control : goal.returns-in-Drained-clause-control
+returns-in-Drained-clause-control g c opened k =
+    let s = g.S.ByteSource in
+    let b = c.loop.core.journal.steps in
+    let d = c.round.new.core.journal.steps in
+    let l0 = option_map (line_seen s.told s.taken s.left s.faults s.waits) c.loop.control in
+    let l1 = option_map (line_seen s.told s.taken s.left s.faults s.waits) c.round.new.control in
+    subst (λ o. KeepsControl o b 0 opened l0 → KeepsControl o d 0 opened l1) c.loop.invariant.topology (c.in_ok-round.ensures.control opened) (c.loop.invariant.control opened k)
+
 pub returns-in-Halted-clause-goes : goal.returns-in-Halted-clause-goes
 returns-in-Halted-clause-goes g c =
     let look = g.B.Works.look in
@@ -25,3 +47,12 @@ returns-in-Halted-clause-goes g c =
 
 pub returns-in-Halted-clause-clock : goal.returns-in-Halted-clause-clock
 returns-in-Halted-clause-clock g c opened k = c.in_ok-round.ensures.clock opened (c.loop.invariant.clock opened k)
+
+pub returns-in-Halted-clause-control : goal.returns-in-Halted-clause-control
+returns-in-Halted-clause-control g c opened k =
+    let s = g.S.ByteSource in
+    let b = c.loop.core.journal.steps in
+    let d = c.round.new.core.journal.steps in
+    let l0 = option_map (line_seen s.told s.taken s.left s.faults s.waits) c.loop.control in
+    let l1 = option_map (line_seen s.told s.taken s.left s.faults s.waits) c.round.new.control in
+    subst (λ o. KeepsControl o b 0 opened l0 → KeepsControl o d 0 opened l1) c.loop.invariant.topology (c.in_ok-round.ensures.control opened) (c.loop.invariant.control opened k)

@@ -6,7 +6,7 @@ use Rattle.edge_names.specs.Opened.{calls_of, edge_call}
 use Rattle.edge_names.proofs.Openings.{asks_nothing, asked_more, here_at, home_still, opened_start, opened_turn, some_at}
 use Rattle.edge_names.proofs.Returns.{callbacks_at, callbacks_more, callbacks_same}
 use Rattle.edge_names.proofs.Cuts.{failed_by, cut_off_by}
-use Rattle.edge_names.proofs.opening.open_all.Goals as goal
+use Rattle.edge_names.proofs.opening.open_stages.Goals as goal
 
 pub loop-spec-init : goal.loop-spec-init
 loop-spec-init g c =

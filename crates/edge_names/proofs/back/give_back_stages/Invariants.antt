@@ -2,7 +2,7 @@ use Rattle.std.proofs.Common.{◌≡◌, ◌≤◌, ◌+◌, ◌*◌, ℕ, take,
 use Rattle.stage_bodies.specs.Seen.{body_at, source_seen, sink_seen}
 use Rattle.edge_names.specs.Seen.{edges_seen}
 use Rattle.edge_names.specs.Returned.{GivesBack, KeepsCallbacks, sources_of, sinks_of}
-use Rattle.edge_names.proofs.back.give_back_all.Given as goal
+use Rattle.edge_names.proofs.back.give_back_stages.Given as goal
 
 abbrev pub invariant-loop-spec : goal.invariant-loop-spec
 invariant-loop-spec g l =

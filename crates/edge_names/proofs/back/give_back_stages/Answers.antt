@@ -4,7 +4,7 @@ use Rattle.stage_laws.proofs.Numbering.{numbered_topology}
 use Rattle.edge_names.specs.Seen.{edges_seen}
 use Rattle.edge_names.proofs.Openings.{here_at}
 use Rattle.edge_names.proofs.Returns.{back_turn, callbacks_more, rest_turn}
-use Rattle.edge_names.proofs.back.give_back_all.Goals as goal
+use Rattle.edge_names.proofs.back.give_back_stages.Goals as goal
 
 pub loop-spec-preserved : goal.loop-spec-preserved
 loop-spec-preserved g c =

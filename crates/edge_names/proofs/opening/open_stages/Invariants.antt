@@ -3,7 +3,7 @@ use Rattle.stage_bodies.specs.Seen.{body_at, source_seen, sink_seen}
 use Rattle.edge_names.specs.Seen.{edges_seen}
 use Rattle.edge_names.specs.Opened.{Asks, AreHome, AreOpened, calls_of}
 use Rattle.edge_names.specs.Returned.{KeepsCallbacks}
-use Rattle.edge_names.proofs.opening.open_all.Given as goal
+use Rattle.edge_names.proofs.opening.open_stages.Given as goal
 
 abbrev pub invariant-loop-spec : goal.invariant-loop-spec
 invariant-loop-spec g l =

@@ -1,0 +1,33 @@
+use Rattle.std.proofs.Common.{◌≡◌, drop, ◌∙◌, arith, ap, sym, Some, Bool, []}
+use Rattle.std.specs.Prelude.{find, option_map}
+use Rattle.std.proofs.lemmas.List.{drop_all}
+use Rattle.pipe_types.specs.declared.topology.StageSpec.{StageSpec}
+use Rattle.core_rows.proofs.Finding.{found_here, not_here}
+use Rattle.control_lines.proofs.Naming.{is_live_name}
+use Rattle.control_lines.proofs.orders.live_named.Goals as goal
+
+pub returns-then-is_live_named : goal.returns-then-is_live_named
+returns-then-is_live_named c =
+    let core = c.args.core.now in
+    let test : StageSpec → Bool = is_live_name core.topology core.journal.steps c.args.word.now c.args.line.now in
+    let specs = c.as_slice-spec-items.result.now in
+    let i = c.loop-spec.spec-index in
+    let spec = c.spec-item.result in
+    let here = ap test (sym c.spec-item.is) ∙ (sym c.is_live_named.ensures ∙ c.if-is_live_named.true) in
+    let all = sym (found_here test specs i spec c.loop-spec-test.true here) ∙ (c.loop-spec.invariant ∙ ap (find test) c.as_slice-spec-items.ensures) in
+    ap (λ (o : StageSpec). Some o.no) c.spec-item.is ∙ ap (option_map (λ (s : StageSpec). s.no)) all
+
+pub loop-spec-preserved : goal.loop-spec-preserved
+loop-spec-preserved c =
+    let core = c.args.core.now in
+    let test : StageSpec → Bool = is_live_name core.topology core.journal.steps c.args.word.now c.args.line.now in
+    let here = ap test (sym c.spec-item.is) ∙ (sym c.is_live_named.ensures ∙ c.if-is_live_named.false) in
+    not_here test c.as_slice-spec-items.result.now c.loop-spec.spec-index c.spec-item.result c.loop-spec-test.true here ∙ c.loop-spec.invariant
+
+pub returns : goal.returns
+returns c =
+    let core = c.args.core.now in
+    let test : StageSpec → Bool = is_live_name core.topology core.journal.steps c.args.word.now c.args.line.now in
+    let specs = c.as_slice-spec-items.result.now in
+    let none : drop c.loop-spec.spec-index specs ≡ [] = drop_all c.loop-spec.spec-index specs (omega arith) in
+    ap (λ xs. option_map (λ (s : StageSpec). s.no) (find test xs)) (sym none) ∙ ap (option_map (λ (s : StageSpec). s.no)) (c.loop-spec.invariant ∙ ap (find test) c.as_slice-spec-items.ensures)

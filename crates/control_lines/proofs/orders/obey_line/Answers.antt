@@ -1,0 +1,29 @@
+use Rattle.std.proofs.Common.{◌≡◌, ◌+◌, true, arith, ap, sym, ◌∙◌, subst}
+use Rattle.pipe_types.specs.declared.step.Step.{Step}
+use Rattle.pipe_model.specs.History.{controls}
+use Rattle.pipe_model.specs.Legal.{allows}
+use Rattle.core_tables.specs.declared.rows.Totals.{Totals}
+use Rattle.count_laws.proofs.Laws.{controls_law}
+use Rattle.control_lines.specs.Orders.{step_for}
+use Rattle.control_lines.proofs.Naming.{reading_allowed}
+use Rattle.control_lines.proofs.orders.obey_line.Goals as goal
+
+pub kill-requires-clause-legal : goal.kill-requires-clause-legal
+kill-requires-clause-legal c =
+    let core = c.args.core.now in
+    let n = controls core.journal.steps + 1 in
+    subst (λ (step : Step). allows core.topology core.journal.steps step ≡ true) (sym (ap (step_for n) (sym c.in-Kill.is) ∙ c.order_of.ensures n))
+    (reading_allowed core.topology core.journal.steps c.args.line.now c.requires.stands.unowed c.requires.going c.requires.may)
+
+pub begin-requires-clause-legal : goal.begin-requires-clause-legal
+begin-requires-clause-legal c =
+    let core = c.args.core.now in
+    let n = controls core.journal.steps + 1 in
+    subst (λ (step : Step). allows core.topology core.journal.steps step ≡ true) (sym (ap (step_for n) (sym c.in-Drain.is) ∙ c.order_of.ensures n))
+    (reading_allowed core.topology core.journal.steps c.args.line.now c.requires.stands.unowed c.requires.going c.requires.may)
+
+pub overflow_add-core : goal.overflow_add-core
+overflow_add-core c =
+    let core = c.args.core.now in
+    let same = ap (λ (t : Totals). t.controls) c.requires.stands.holds.fields.totals in
+    omega (arith, same, controls_law core.topology core.journal.steps c.requires.stands.holds.legal)

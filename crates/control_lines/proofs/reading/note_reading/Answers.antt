@@ -1,0 +1,10 @@
+use Rattle.std.proofs.Common.{subst}
+use Rattle.control_lines.specs.Orders.{IsReading}
+use Rattle.control_lines.proofs.Naming.{end_allowed}
+use Rattle.control_lines.proofs.Noting.{no_limit}
+use Rattle.control_lines.proofs.reading.note_reading.Goals as goal
+
+pub source_end-requires-clause-legal : goal.source_end-requires-clause-legal
+source_end-requires-clause-legal c =
+    let core = c.args.core.now in
+    end_allowed core.topology core.journal.steps c.in-Ended.how c.requires.stands.unowed c.requires.going c.requires.may (no_limit c.in-Ended.how (subst IsReading c.in-Ended.is c.requires.reading))

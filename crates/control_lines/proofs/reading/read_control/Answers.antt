@@ -1,0 +1,13 @@
+use Rattle.std.proofs.Common.{◌≡◌, true, subst}
+use Rattle.pipe_types.specs.declared.topology.Topology.{Topology}
+use Rattle.pipe_model.specs.Legal.{is_legal}
+use Rattle.control_lines.proofs.Resting.{leaves_at_rest}
+use Rattle.control_lines.proofs.reading.read_control.Goals as goal
+
+pub returns-in-Some-clause-rest : goal.returns-in-Some-clause-rest
+returns-in-Some-clause-rest g c =
+    let core = c.args.core.now in
+    let after = c.read_next.new.core in
+    let e = c.read_next.ensures in
+    leaves_at_rest core.topology core.journal.steps after.journal.steps c.requires.stands.holds.sound
+    (subst (λ (t : Topology). is_legal t after.journal.steps ≡ true) e.topology e.stands.holds.legal) e.adds

@@ -1,0 +1,67 @@
+use Rattle.std.proofs.Common.{sym, ◌∙◌, inl, refl}
+use Rattle.stage_bodies.specs.Seen.{line_seen}
+use Rattle.control_lines.proofs.Kept.{ended_keeps, is_reading}
+use Rattle.control_lines.proofs.Naming.{may_read, limit_allowed}
+use Rattle.control_lines.proofs.Noting.{limit_on, limit_adds, reading_on, reading_adds_on, unread_on, full_at, not_full}
+use Rattle.control_lines.proofs.reading.read_next.Goals as goal
+
+pub returns-then-is_ended-clause-adds : goal.returns-then-is_ended-clause-adds
+returns-then-is_ended-clause-adds g c = inl refl
+
+pub returns-then-is_ended-clause-keeps : goal.returns-then-is_ended-clause-keeps
+returns-then-is_ended-clause-keeps g c opened k =
+    let core = c.args.core.now in
+    let s = g.S.ByteSource in
+    ended_keeps core.topology core.journal.steps opened (line_seen s.told s.taken s.left s.faults s.waits c.args.lines.now) (sym c.is_ended.ensures ∙ c.if-is_ended.true) k
+
+pub source_end-requires-clause-legal : goal.source_end-requires-clause-legal
+source_end-requires-clause-legal g c =
+    let core = c.args.core.now in
+    limit_allowed core.topology core.journal.steps c.requires.stands.unowed c.requires.going (sym c.is_ended.ensures ∙ c.if-is_ended.false)
+    (full_at core.topology core.journal.steps c.requires.stands.holds.legal (sym c.is_full.ensures ∙ c.if-is_full.true))
+
+pub returns-then-is_full-clause-adds : goal.returns-then-is_full-clause-adds
+returns-then-is_full-clause-adds g c =
+    limit_adds c.source_end.result c.args.core.now.journal.steps c.source_end.new.core.journal.steps c.source_end.ensures.appended c.source_end.ensures.unchanged
+
+pub returns-then-is_full-clause-keeps : goal.returns-then-is_full-clause-keeps
+returns-then-is_full-clause-keeps g c opened k =
+    let core = c.args.core.now in
+    let s = g.S.ByteSource in
+    limit_on c.source_end.result core.topology core.journal.steps c.source_end.new.core.journal.steps opened (line_seen s.told s.taken s.left s.faults s.waits c.args.lines.now)
+    c.source_end.ensures.appended c.source_end.ensures.unchanged
+    (full_at core.topology core.journal.steps c.requires.stands.holds.legal (sym c.is_full.ensures ∙ c.if-is_full.true)) k
+
+pub returns-in_err-outcome-clause-adds : goal.returns-in_err-outcome-clause-adds
+returns-in_err-outcome-clause-adds g c = inl refl
+
+pub returns-in_err-outcome-clause-keeps : goal.returns-in_err-outcome-clause-keeps
+returns-in_err-outcome-clause-keeps g c opened k =
+    let core = c.args.core.now in
+    let s = g.S.ByteSource in
+    unread_on c.from_residual.result core.topology core.journal.steps opened
+    (line_seen s.told s.taken s.left s.faults s.waits c.args.lines.now) (line_seen s.told s.taken s.left s.faults s.waits c.fetch.new.source)
+    c.from_residual.ensures.0 (sym c.is_ended.ensures ∙ c.if-is_ended.false) c.in_err-outcome.ensures.cut_off.0 k
+
+pub note_reading-requires-clause-may : goal.note_reading-requires-clause-may
+note_reading-requires-clause-may g c =
+    let core = c.args.core.now in
+    may_read core.journal.steps (sym c.is_ended.ensures ∙ c.if-is_ended.false) (not_full _ (sym c.is_full.ensures ∙ c.if-is_full.false))
+
+pub note_reading-requires-clause-reading : goal.note_reading-requires-clause-reading
+note_reading-requires-clause-reading g c =
+    let s = g.S.ByteSource in
+    is_reading c.in_ok-outcome.outcome (line_seen s.told s.taken s.left s.faults s.waits c.args.lines.now) (line_seen s.told s.taken s.left s.faults s.waits c.fetch.new.source) c.in_ok-outcome.ensures.done
+
+pub returns-clause-adds : goal.returns-clause-adds
+returns-clause-adds g c =
+    let core = c.args.core.now in
+    reading_adds_on c.note_reading.result core.topology core.journal.steps c.note_reading.new.core.journal.steps c.in_ok-outcome.outcome c.note_reading.ensures.noted c.note_reading.ensures.unchanged
+
+pub returns-clause-keeps : goal.returns-clause-keeps
+returns-clause-keeps g c opened k =
+    let core = c.args.core.now in
+    let s = g.S.ByteSource in
+    reading_on c.note_reading.result core.topology core.journal.steps c.note_reading.new.core.journal.steps c.in_ok-outcome.outcome opened
+    (line_seen s.told s.taken s.left s.faults s.waits c.args.lines.now) (line_seen s.told s.taken s.left s.faults s.waits c.fetch.new.source)
+    c.note_reading.ensures.noted c.note_reading.ensures.unchanged (sym c.is_ended.ensures ∙ c.if-is_ended.false) c.in_ok-outcome.ensures.done k

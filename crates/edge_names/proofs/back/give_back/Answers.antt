@@ -1,0 +1,24 @@
+use Rattle.std.specs.Prelude.{option_map}
+use Rattle.stage_bodies.specs.Seen.{body_at, line_seen, source_seen, sink_seen}
+use Rattle.edge_names.specs.Seen.{edges_seen}
+use Rattle.edge_names.proofs.Returns.{none_back, part_back_on}
+use Rattle.edge_names.proofs.back.give_back.Goals as goal
+
+pub returns-in-Ok-clause-in_part : goal.returns-in-Ok-clause-in_part
+returns-in-Ok-clause-in_part g c =
+    let e = g.E.Edges in
+    let s = g.E.Source.ByteSource in
+    let k = g.E.Sink.ByteSink in
+    let seen = edges_seen e.told e.named e.asked e.faults e.sources_back e.sinks_back (source_seen s.told s.taken s.left s.faults s.waits) (sink_seen k.told k.held k.faults) in
+    let control = option_map (line_seen s.told s.taken s.left s.faults s.waits) c.args.control in
+    part_back_on (Unit {0}) _ c.give_back_stages.result c.args.topology.now control (body_at g.B.Works.look c.args.bodies.now.items) (seen c.args.edges.now) (seen c.back_control.new.edges) (seen c.give_back_stages.new.edges)
+    c.in-Ok.ensures.back c.give_back_stages.ensures.in_part
+
+pub returns-in-Err-clause-in_part : goal.returns-in-Err-clause-in_part
+returns-in-Err-clause-in_part g c =
+    let e = g.E.Edges in
+    let s = g.E.Source.ByteSource in
+    let k = g.E.Sink.ByteSink in
+    let seen = edges_seen e.told e.named e.asked e.faults e.sources_back e.sinks_back (source_seen s.told s.taken s.left s.faults s.waits) (sink_seen k.told k.held k.faults) in
+    let control = option_map (line_seen s.told s.taken s.left s.faults s.waits) c.args.control in
+    none_back c.args.topology.now control (body_at g.B.Works.look c.args.bodies.now.items) (seen c.args.edges.now) (seen c.back_control.new.edges) c.in-Err.ensures.nothing

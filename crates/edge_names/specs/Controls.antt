@@ -1,0 +1,75 @@
+-- The control source, which is opened and given back by its name, before all that the stages name.
+use Rattle.std.specs.Prelude.{◌≡◌, ◌≤◌, ◌⊎◌, ℕ, zero, suc, List, [], ◌∷◌, ◌++◌, length, take, slice_get, IsTrue, Option, Some, None, option_map}
+use Rattle.pipe_types.specs.Counts.{Rose}
+use Rattle.pipe_types.specs.declared.topology.StageSpec.{StageSpec}
+use Rattle.pipe_types.specs.declared.topology.Topology.{Topology}
+use Rattle.pipe_edges.specs.declared.edges.EdgeKind.{EdgeKind}
+use Rattle.pipe_edges.specs.declared.edges.EdgeKind.TheVariants.{Source}
+use Rattle.stage_bodies.specs.Seen.{SourceSeen, SinkSeen, LineSeen, BodySeen}
+use Rattle.edge_names.specs.Seen.{EdgesSeen}
+use Rattle.edge_names.specs.Opened.{AreOpened, Asks, HasSource, IsOneFailed, calls_of, edge_call, edge_calls, one}
+use Rattle.edge_names.specs.Returned.{GivesBack, sources_of, sinks_of}
+
+-- ---- calls
+
+-- the call that opens the control source, where the topology names one
+abbrev pub control_call : Option (List ℕ) → Option (EdgeKind × List ℕ)
+control_call name = option_map (λ n. (Source, n)) name
+
+-- the calls of a run: the control source's, and then those of the stages
+abbrev pub run_calls : Topology → List (EdgeKind × List ℕ)
+run_calls topology = one (control_call topology.control) ++ edge_calls topology
+
+-- the control source was opened, and no line of it was read; where none is named, nothing was opened
+pub record IsControlOpened (name : Option (List ℕ)) (old new : EdgesSeen) (control : Option LineSeen) : Type 0 where
+  pub asks : Asks (one (control_call name)) old new
+  pub lines : HasSource old (control_call name) None control
+
+-- ---- what is given back
+
+-- the control source with its name
+abbrev pub named_control : Option (List ℕ) → Option LineSeen → List (List ℕ × SourceSeen)
+named_control (Some name) (Some lines) = (name, lines.source) ∷ []
+named_control _ _ = []
+
+-- the sources that the first n parts of a run opened, with their names: the control source is the first part, and the stages
+-- are those behind it
+abbrev pub first_sources : (n : ℕ) → Topology → Option LineSeen → (ℕ → Option BodySeen) → List (List ℕ × SourceSeen)
+first_sources zero topology control table = []
+first_sources (suc n) topology control table = named_control topology.control control ++ sources_of (take n topology.stages) table
+
+-- the sinks that the first n parts opened
+abbrev pub first_sinks : (n : ℕ) → Topology → (ℕ → Option BodySeen) → List (List ℕ × SinkSeen)
+first_sinks zero topology table = []
+first_sinks (suc n) topology table = sinks_of (take n topology.stages) table
+
+-- memory was wanting: what the first parts opened was given back
+pub record IsGivenInPart (topology : Topology) (control : Option LineSeen) (table : ℕ → Option BodySeen) (old new : EdgesSeen) : Type 0 where
+  pub parts : ℕ
+  pub some_left : parts ≤ length topology.stages
+  pub back : GivesBack (first_sources parts topology control table) (first_sinks parts topology table) old new
+
+-- ---- what is undone
+
+-- the call of a stage failed by this name, and what was opened before it was given back in order, the control source first
+pub record IsStageUndone (topology : Topology) (name : List ℕ) (start : ℕ → Option BodySeen) (old new : EdgesSeen) : Type 0 where
+  pub at : ℕ
+  pub kind : EdgeKind
+  pub spec : StageSpec
+  pub here : slice_get topology.stages at ≡ Some spec
+  pub call : edge_call spec ≡ Some (kind, name)
+  pub control : Option LineSeen
+  pub lines : HasSource old (control_call topology.control) None control
+  pub opened : ℕ → Option BodySeen
+  pub bodies : AreOpened topology at old start opened
+  pub same_telling : new.told ≡ old.told
+  pub asked : IsTrue old.told
+      → new.asked ≡ old.asked ++ (one (control_call topology.control) ++ (calls_of (take at topology.stages) ++ (kind, name) ∷ []))
+  pub fault : Rose old.faults new.faults
+  pub faults_stay : old.faults ≤ new.faults
+  pub sources : new.sources_back ≡ old.sources_back ++ (named_control topology.control control ++ sources_of topology.stages opened)
+  pub sinks : new.sinks_back ≡ old.sinks_back ++ sinks_of topology.stages opened
+
+-- the call of the control source failed by this name, and nothing was given back; or the call of a stage did
+abbrev pub IsUndone : Topology → (name : List ℕ) → (start : ℕ → Option BodySeen) → (old new : EdgesSeen) → Type 0
+IsUndone topology name start old new = IsOneFailed (control_call topology.control) name old new ⊎ IsStageUndone topology name start old new
