@@ -17,8 +17,9 @@ use Rattle.body_laws.specs.Ready.{There}
 use Rattle.edge_names.specs.Seen.{EdgesSeen}
 use Rattle.edge_names.specs.Named.{GivesSource, GivesSink}
 use Rattle.edge_names.specs.Opened.{GivesLines, HasSource, HasSink, IsOpened, AreOpened, call_at}
+use Rattle.edge_names.specs.Controls.{control_call, named_control, first_sources, first_sinks}
 use Rattle.edge_names.specs.Returned.{source_in, sink_in, sources_of, sinks_of}
-use Rattle.pipe_run.specs.Outside.{IsSourceRead, IsSinkWritten, IsSinkWrittenBy, AreUsed, IsOutside, IsUnopened}
+use Rattle.pipe_run.specs.Outside.{IsSourceRead, IsSinkWritten, IsSinkWrittenBy, AreUsed, IsControlUsed, HasControl, IsOutside, IsControlUnopened, IsStageUnopened, IsUnopened}
 use Rattle.pipe_top.specs.Cases.{Case, NoCommand, NoTopology as BadTopology, TooFew, NotBuilt, Checks, Runs}
 use Rattle.pipe_top.specs.Runs.{OutsideSeen, IsUntouched, HasUsed, IsGivenUp, HasNotBegun, HasRunOrNot, IsOutsideOf, FailsAt}
 use Rattle.pipe_top.specs.Flows.{IsEarly, Outcome, AskedBy, ComesBy}
@@ -102,6 +103,21 @@ source_read old new before p name source same x = record {
   first = x.first;
 }
 
+control_used : (topology : Topology) (old new : EdgesSeen) (before : History) (name : List ℕ) (source : SourceSeen) → SameNames old new → IsControlUsed topology new before name source → IsControlUsed topology old before name source
+control_used topology old new before name source same x = record {
+  opened = x.opened;
+  given = gives_source old new name x.opened same x.given;
+  same_telling = x.same_telling;
+  same_bytes = x.same_bytes;
+  reads = x.reads;
+}
+
+has_control : (topology : Topology) (old new : EdgesSeen) (before : History) (name : Option (List ℕ)) (control : Option LineSeen) → SameNames old new → HasControl topology new before name control → HasControl topology old before name control
+has_control topology old new before (Some name) (Some lines) same h = control_used topology old new before name lines.source same h
+has_control topology old new before None None same h = tt
+has_control topology old new before (Some name) None same h = absurd h
+has_control topology old new before None (Some lines) same h = absurd h
+
 sink_written : (topology : Topology) (old new : EdgesSeen) (before : History) (s : StageNo) (name more : List ℕ) (sink : SinkSeen) → SameNames old new
     → IsSinkWritten topology new before s name more sink → IsSinkWritten topology old before s name more sink
 sink_written topology old new before s name more sink same x = record {
@@ -144,29 +160,42 @@ with_edges old edges = record old { edges = edges }
 outside_as : (whole : Bool) (topology : Topology) (before : History) (call : EdgeKind × List ℕ) (old middle new : EdgesSeen) → Called old middle call
     → IsOutside whole topology before middle new → IsOutside whole topology before old new
 outside_as whole topology before call old middle new c x = record {
+  control = x.control;
+  obeyed = has_control topology old middle before topology.control x.control c.names x.obeyed;
   bodies = x.bodies;
   used = are_used whole topology old middle before x.bodies c.names x.used;
-  stages = x.stages;
+  parts = x.parts;
   all = x.all;
-  sources = x.sources ∙ ap (λ l. l ++ sources_of (take x.stages topology.stages) x.bodies) c.same_sources;
-  sinks = x.sinks ∙ ap (λ l. l ++ sinks_of (take x.stages topology.stages) x.bodies) c.same_sinks;
+  sources = x.sources ∙ ap (λ l. l ++ first_sources x.parts topology x.control x.bodies) c.same_sources;
+  sinks = x.sinks ∙ ap (λ l. l ++ first_sinks x.parts topology x.bodies) c.same_sinks;
 }
 
-unopened_as : (topology : Topology) (name : List ℕ) (call : EdgeKind × List ℕ) (old middle new : EdgesSeen) → Called old middle call
-    → IsUnopened topology name middle new → IsUnopened topology name old new
-unopened_as topology name call old middle new c x = record {
+stage_unopened_as : (topology : Topology) (name : List ℕ) (call : EdgeKind × List ℕ) (old middle new : EdgesSeen) → Called old middle call
+    → IsStageUnopened topology name middle new → IsStageUnopened topology name old new
+stage_unopened_as topology name call old middle new c x = record {
   at = x.at;
   kind = x.kind;
   spec = x.spec;
   here = x.here;
   call = x.call;
+  control = x.control;
+  unread = has_source old middle (control_call topology.control) None x.control c.names x.unread;
   start = x.start;
   handed = x.handed;
   bodies = x.bodies;
   opened = are_opened topology x.at old middle x.start x.bodies c.names x.opened;
-  sources = x.sources ∙ ap (λ l. l ++ sources_of topology.stages x.bodies) c.same_sources;
+  sources = x.sources ∙ ap (λ l. l ++ (named_control topology.control x.control ++ sources_of topology.stages x.bodies)) c.same_sources;
   sinks = x.sinks ∙ ap (λ l. l ++ sinks_of topology.stages x.bodies) c.same_sinks;
 }
+
+unopened_as : (topology : Topology) (name : List ℕ) (call : EdgeKind × List ℕ) (old middle new : EdgesSeen) → Called old middle call
+    → IsUnopened topology name middle new → IsUnopened topology name old new
+unopened_as topology name call old middle new c (inl x) = inl (record {
+  call = x.call;
+  sources = x.sources ∙ c.same_sources;
+  sinks = x.sinks ∙ c.same_sinks;
+})
+unopened_as topology name call old middle new c (inr x) = inr (stage_unopened_as topology name call old middle new c x)
 
 given_up_as : (topology : Topology) (call : EdgeKind × List ℕ) (old middle new : EdgesSeen) → Called old middle call → IsGivenUp topology middle new → IsGivenUp topology old new
 given_up_as topology call old middle new c (inl x) = inl (x.0 ∙ c.same_sources, x.1 ∙ c.same_sinks)

@@ -352,7 +352,7 @@ unbuilt_case None case is = is
 unbuilt_case (Some missing) case is = refl
 
 run_number : (boxes : Boxes) (workers : ℕ) (shows : Shows) (topology : Topology) → number (run_case boxes workers shows topology) ≡ 1
-run_number boxes workers shows topology = short_case (shortage_of topology boxes) _ (unbuilt_case (unbuilt_of workers topology) (Runs shows topology) refl)
+run_number boxes workers shows topology = short_case (shortage_of topology boxes) _ (unbuilt_case (unbuilt_of workers) (Runs shows topology) refl)
 
 checked_number : (read : Result Topology ConfigFault) → number (for_topology read Checks) ≡ 1
 checked_number (Ok topology) = refl

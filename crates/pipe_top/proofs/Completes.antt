@@ -1,10 +1,11 @@
 -- Where nothing failed, the run came to its end.
-use Rattle.std.proofs.Common.{◌≡◌, ◌≢◌, ℕ, ◌+◌, ◌<◌, ◌≤◌, List, [], ◌∷◌, ◌++◌, take, length, Bool, true, false, refl, sym, ap, ◌∙◌, subst, inl, inr, Option, Some, None, arith}
+use Rattle.std.proofs.Common.{◌≡◌, ◌≢◌, ℕ, suc, ◌+◌, ◌<◌, ◌≤◌, List, [], ◌∷◌, ◌++◌, take, length, Bool, true, false, refl, sym, ap, ◌∙◌, subst, inl, inr, Option, Some, None, arith}
 use Rattle.std.specs.Prelude.{◌⊎◌, ◌&&◌, ◌||◌, All, IsTrue, is_some, find, nat_le, if◌then◌else◌}
 use Rattle.std.specs.List.{list_any}
 use Rattle.std.proofs.lemmas.List.{take_all}
 use Rattle.std.proofs.lemmas.List.Elements.{All-nil, All-cons, All-head, All-tail}
 use Rattle.pipe_types.specs.Counts.{Rose}
+use Rattle.pipe_types.specs.Lines.{lines}
 use Rattle.pipe_types.specs.Numbers.{stage, post, same_stage}
 use Rattle.pipe_types.specs.Sound.{IsSound, producers, processors, by_demand, by_partition, is_size, is_producer_in}
 use Rattle.pipe_types.specs.Stages.{spec_of, spec_in}
@@ -22,9 +23,9 @@ use Rattle.pipe_model.specs.Outside.{fed, source_end}
 use Rattle.pipe_edges.specs.declared.edges.EdgeKind.{EdgeKind}
 use Rattle.pipe_edges.specs.declared.edges.EdgeKind.TheVariants.{Source}
 use Rattle.journal_texts.specs.Report.{places, is_fault, is_lost, is_failed, is_source_fault}
-use Rattle.run_claims.specs.Read.{quiets}
+use Rattle.run_claims.specs.Read.{HasNoControl, quiets}
 use Rattle.stage_job.specs.Chunks.{RoseBy}
-use Rattle.stage_bodies.specs.Seen.{SourceSeen, BodySeen}
+use Rattle.stage_bodies.specs.Seen.{SourceSeen, LineSeen, BodySeen}
 use Rattle.stage_bodies.specs.Posts.{place_at}
 use Rattle.stage_laws.proofs.Groups.{fields_of}
 use Rattle.body_laws.specs.Ready.{There}
@@ -32,11 +33,12 @@ use Rattle.body_laws.proofs.Posts.{some_role}
 use Rattle.pipe_laws.proofs.Tests.{and_left, and_right, clash, same_stage-true}
 use Rattle.edge_names.specs.Seen.{EdgesSeen}
 use Rattle.edge_names.specs.Opened.{call_by, call_in, edge_call}
+use Rattle.edge_names.specs.Controls.{named_control, first_sources}
 use Rattle.edge_names.specs.Returned.{named_source, source_in, sources_of, with_name}
-use Rattle.pipe_run.specs.Outside.{IsOutside, IsSourceRead, ReadsSource}
+use Rattle.pipe_run.specs.Outside.{HasControl, IsOutside, IsSourceRead, ReadsSource}
 use Rattle.pipe_run.specs.Whole.{HasCome}
 use Rattle.pipe_top.specs.Verdicts.{status_in}
-use Rattle.pipe_top.specs.Runs.{OutsideSeen, IsRun, IsEnded, HasUsed, IsOutsideOf, IsFaultless, AreFaultless, IsReadWhole, IsComplete, IsCompleteIn, is_limit_drain}
+use Rattle.pipe_top.specs.Runs.{OutsideSeen, IsRun, IsEnded, HasUsed, IsOutsideOf, IsFaultless, AreFaultless, IsReadWhole, IsComplete, IsCompleteIn, is_limit_drain, is_control_drain}
 use Rattle.pipe_top.specs.Cases.{Case, NoCommand, NoTopology as BadTopology, TooFew, NotBuilt, Checks, Runs}
 use Rattle.pipe_top.specs.Flows.{Outcome}
 use Rattle.pipe_top.specs.declared.verdict.Refusal.TheVariants.{Memory}
@@ -44,7 +46,7 @@ use Rattle.pipe_top.specs.declared.verdict.Texts.{Texts}
 use Rattle.pipe_top.specs.declared.verdict.Verdict.{Verdict}
 use Rattle.pipe_top.specs.declared.verdict.Verdict.TheVariants.{Refused, Done}
 use Rattle.pipe_top.proofs.Drains.{HasCause, limited, ended, controlled, rested, drain_shows}
-use Rattle.pipe_top.proofs.Ends.{EndsBadly, ends_limited, ended_as, faults_show, never_limited, producer_inner}
+use Rattle.pipe_top.proofs.Ends.{ControlEndsBadly, EndsBadly, ends_limited, ended_as, faults_show, never_limited, producer_inner}
 use Rattle.pipe_top.proofs.Longs.{not_long}
 use Rattle.pipe_top.proofs.Outcomes.{Fails, early, Reported, ran}
 use Rattle.pipe_top.proofs.Statuses.{gravest_small}
@@ -112,6 +114,40 @@ source_well_read topology before old new p spec name (Some source) outside is ca
     given : named_source (edge_call spec) (outside.bodies (place_at (post p 0))) ≡ (name, source) ∷ []
     given = ap (λ c. named_source c (outside.bodies (place_at (post p 0)))) call ∙ ap (with_name name) is
 
+-- all that a whole run gave back, the control source first
+given_back : (P : List ℕ × SourceSeen → Type 0) (topology : Topology) (before : History) (old new : EdgesSeen) → (outside : IsOutside true topology before old new)
+    → ((back : List (List ℕ × SourceSeen)) → new.sources_back ≡ old.sources_back ++ back → All P back)
+    → All P (named_control topology.control outside.control ++ sources_of topology.stages outside.bodies)
+given_back P topology before old new outside each =
+    let first : All P (first_sources (suc (length topology.stages)) topology outside.control outside.bodies) =
+    subst (λ n. All P (first_sources n topology outside.control outside.bodies)) (outside.all refl) (each (first_sources outside.parts topology outside.control outside.bodies) outside.sources)
+    in
+    subst (λ stages. All P (named_control topology.control outside.control ++ sources_of stages outside.bodies)) (take_all (length topology.stages) topology.stages (omega arith)) first
+
+-- the control source did not end with a fault or with a line that is too long
+abbrev IsControlFine : History → Type 0
+IsControlFine before = (end : SourceHow) → source_end before (stage 0) ≡ Some end → is_fault end ≡ false
+
+control_well_read : (topology : Topology) (before : History) (edges : EdgesSeen) (name : Option (List ℕ)) (control : Option LineSeen) → (name ≡ None → HasNoControl before)
+    → HasControl topology edges before name control → All (λ (given : List ℕ × SourceSeen). IsFaultless given.1) (named_control name control) → IsControlFine before
+control_well_read topology before edges (Some name) (Some now) none used each how.End is = refl
+control_well_read topology before edges (Some name) (Some now) none used each how.Limit is = refl
+control_well_read topology before edges (Some name) (Some now) none used each how.Fault is =
+    let fine : IsFaultless now.source = All-head (λ (given : List ℕ × SourceSeen). IsFaultless given.1) (name, now.source) [] each in
+    absurd (fine.no_fault (used.reads.fault is))
+control_well_read topology before edges (Some name) (Some now) none used each how.TooLong is =
+    let fine : IsFaultless now.source = All-head (λ (given : List ℕ × SourceSeen). IsFaultless given.1) (name, now.source) [] each in
+    absurd (not_long (now.source.taken ++ now.source.left) (lines (now.source.taken ++ now.source.left)) (used.reads.too_long fine.tells is).0 fine.short)
+control_well_read topology before edges None None none used each end is = let no_end = (none refl).no_end in cc
+control_well_read topology before edges (Some name) None none used each end is = absurd used
+control_well_read topology before edges None (Some now) none used each end is = absurd used
+
+pub control_fine : (topology : Topology) (before : History) (old new : EdgesSeen) → (topology.control ≡ None → HasNoControl before) → IsOutside true topology before old new → AreFaultless old new → IsControlFine before
+control_fine topology before old new none outside faultless =
+    control_well_read topology before old topology.control outside.control none outside.obeyed
+    (All-front (λ (given : List ℕ × SourceSeen). IsFaultless given.1) (named_control topology.control outside.control) (sources_of topology.stages outside.bodies)
+    (given_back (λ given. IsFaultless given.1) topology before old new outside faultless))
+
 pub well_read : (topology : Topology) (before : History) (old new : EdgesSeen) → IsSound topology → IsOutside true topology before old new → AreFaultless old new → AreWellRead topology before
 well_read topology before old new sound outside faultless p role =
     let found = some_role topology p is_producer_role role in
@@ -119,9 +155,8 @@ well_read topology before old new sound outside faultless p role =
   where
     back : All (λ (given : List ℕ × SourceSeen). IsFaultless given.1) (sources_of topology.stages outside.bodies)
     back =
-        let all : length topology.stages ≤ outside.stages = let n = outside.all refl in omega (arith, n) in
-        subst (λ stages. All (λ (given : List ℕ × SourceSeen). IsFaultless given.1) (sources_of stages outside.bodies)) (take_all outside.stages topology.stages all)
-        (faultless (sources_of (take outside.stages topology.stages) outside.bodies) outside.sources)
+        All-back (λ (given : List ℕ × SourceSeen). IsFaultless given.1) (named_control topology.control outside.control) (sources_of topology.stages outside.bodies)
+        (given_back (λ given. IsFaultless given.1) topology before old new outside faultless)
 
     by_edge : (spec : StageSpec) → spec_of topology p ≡ Some spec → spec.role ≡ Producer → (o : Option (List ℕ)) → spec.edge ≡ o → IsWellRead before p
     by_edge spec found producer None is =
@@ -150,11 +185,11 @@ end_is before p (Some how.Fault) is some unlimited w = clash (is_fault how.Fault
 end_is before p (Some how.TooLong) is some unlimited w = clash (is_fault how.TooLong) refl (fine_end before p how.TooLong is w)
 end_is before p (Some how.Limit) is some unlimited w = cc
 
-no_fault : (topology : Topology) (before : History) → IsSound topology → IsRun topology before → AreWellRead topology before → happened is_source_fault before ≡ false
-no_fault topology before sound run read = either (happened is_source_fault before) refl
+no_fault : (topology : Topology) (before : History) → IsSound topology → IsRun topology before → AreWellRead topology before → IsControlFine before → happened is_source_fault before ≡ false
+no_fault topology before sound run read fine = either (happened is_source_fault before) refl
   where
-    by_end : (is_some (source_end before (stage 0)) ≡ true) ⊎ EndsBadly topology before → ⊥
-    by_end (inl some) = clash (is_some (source_end before (stage 0))) some (ap is_some run.control.no_end)
+    by_end : ControlEndsBadly before ⊎ EndsBadly topology before → ⊥
+    by_end (inl b) = clash (is_fault b.ended) b.bad (fine b.ended b.end)
     by_end (inr b) = clash (is_fault b.ended) b.bad (fine_end before b.at b.ended b.end (read b.at b.role))
 
     either : (b : Bool) → happened is_source_fault before ≡ b → happened is_source_fault before ≡ false
@@ -170,24 +205,24 @@ never_rested before p w some = w.fine.no_wait (rose w.reads.quiet)
     rose (inr full) = inl (omega (arith, full))
 
 -- a run that was reported
-pub ended_whole : (topology : Topology) (before : History) (status : ℕ) → IsSound topology → IsRun topology before → IsEnded topology before status → AreWellRead topology before → IsComplete topology before status
-ended_whole topology before status sound run end read = record {
-  status_is = inl (rw end.by_journal (rw (no_fault topology before sound run read)
+pub ended_whole : (topology : Topology) (before : History) (status : ℕ) → IsSound topology → IsRun topology before → IsEnded topology before status → AreWellRead topology before → IsControlFine before → IsComplete topology before status
+ended_whole topology before status sound run end read fine = record {
+  status_is = inl (rw end.by_journal (rw (no_fault topology before sound run read fine)
       (gravest_small (happened is_halt before) (list_any is_lost (places topology before)) (list_any is_failed (places topology before)))));
   whole = λ other. by_end end.ended;
 }
   where
-    by_cause : HasCause topology before → IsReadWhole topology before ⊎ (IsTrue (happened is_limit_drain before) ⊎ IsTrue (happened is_halt before))
+    by_cause : HasCause topology before → IsReadWhole topology before ⊎ (IsTrue (happened is_limit_drain before) ⊎ (IsTrue (happened is_control_drain before) ⊎ IsTrue (happened is_halt before)))
     by_cause (limited h) = inr (inl h)
     by_cause (ended each) = inl (λ p role.
         end_is before p (source_end before p) refl (ended_as before p ∙ each p role)
         (never_limited topology before p run.claims.legal (producer_inner topology p sound role)) (read p role))
-    by_cause (controlled some) = absurd (let none = run.control.no_step in omega (arith, some, none))
+    by_cause (controlled h) = inr (inr (inl h))
     by_cause (rested r) = absurd (never_rested before r.at (read r.at r.role) r.some)
 
-    by_end : HasCome topology before → IsReadWhole topology before ⊎ (IsTrue (happened is_limit_drain before) ⊎ IsTrue (happened is_halt before))
+    by_end : HasCome topology before → IsReadWhole topology before ⊎ (IsTrue (happened is_limit_drain before) ⊎ (IsTrue (happened is_control_drain before) ⊎ IsTrue (happened is_halt before)))
     by_end (inl drained) = by_cause (drain_shows topology before run.claims.legal (and_left (happened is_drain before) _ drained))
-    by_end (inr halted) = inr (inr halted.0)
+    by_end (inr halted) = inr (inr (inr halted.0))
 
 -- ---- in the case of the call
 
@@ -231,7 +266,7 @@ complete_in (Runs shows wanted) fails topology before verdict status old new is 
     by_run : Reported shows wanted before verdict ⊎ (verdict ≡ Refused Memory) → IsComplete wanted before status
     by_run (inl v) =
         let whole : IsOutside true wanted before old.edges new.edges = all_used (verdict ≡ Refused Memory) wanted before old new used (done_is_no_refusal verdict v.texts v.status v.is) in
-        rw (is ∙ ap status_in v.is) (ended_whole wanted before v.status r.sound r.run v.report.ended (well_read wanted before old.edges new.edges r.sound whole fine))
+        rw (is ∙ ap status_in v.is) (ended_whole wanted before v.status r.sound r.run v.report.ended (well_read wanted before old.edges new.edges r.sound whole fine) (control_fine wanted before old.edges new.edges r.run.control whole fine))
     by_run (inr memory) = wanting wanted before status (is ∙ ap status_in memory)
 
 nine_complete : (case : Case) (before : History) (status : ℕ) → status ≡ 9 → IsCompleteIn before status case

@@ -6,22 +6,21 @@ use Rattle.std.proofs.lemmas.Bool.{leb-true}
 use Rattle.pipe_types.specs.declared.numbers.StageNo.{StageNo}
 use Rattle.pipe_types.specs.declared.topology.StageSpec.{StageSpec}
 use Rattle.pipe_types.specs.declared.topology.Topology.{Topology}
-use Rattle.pipe_types.specs.declared.message.Why.TheVariants as why
 use Rattle.pipe_types.specs.declared.step.DrainCause.{DrainCause}
 use Rattle.pipe_types.specs.declared.step.DrainCause.TheVariants.{Sources, Control, Limit, Idle}
 use Rattle.pipe_types.specs.declared.step.LateAnswer.TheVariants as late
 use Rattle.pipe_types.specs.declared.step.Step.{Step}
-use Rattle.pipe_types.specs.declared.step.Step.TheVariants.{Fetch, Quiet, Kill, Late, Tick, Drain, Refuse}
+use Rattle.pipe_types.specs.declared.step.Step.TheVariants.{Fetch, Quiet, Late, Tick, Drain}
 use Rattle.pipe_types.specs.Numbers.{same_stage}
 use Rattle.pipe_types.specs.Stages.{spec_in}
-use Rattle.pipe_model.specs.History.{History, controls, accepted, accepted_bytes}
+use Rattle.pipe_model.specs.History.{History, accepted, accepted_bytes}
 use Rattle.pipe_model.specs.Legal.{is_legal, allows, happened, is_drain, has_ended, ends_source, all_ended, drains_for, has_role, is_producer_role, quiet_row}
 use Rattle.run_claims.specs.Read.{quiets}
 use Rattle.pipe_laws.proofs.Allowed.{legal_before, legal_step, unowed}
 use Rattle.pipe_laws.proofs.Tests.{and_left, and_right, clash, same_stage-self, same_stage-true}
 use Rattle.body_laws.proofs.Posts.{some_role}
 use Rattle.body_laws.proofs.Steps.{quiet_facts}
-use Rattle.pipe_top.specs.Runs.{is_limit_drain}
+use Rattle.pipe_top.specs.Runs.{is_limit_drain, is_control_drain}
 
 -- the source of a producer had nothing ready
 pub record HasRested (topology : Topology) (before : History) : Type 0 where
@@ -37,7 +36,7 @@ AreEnded topology before = (p : StageNo) → has_role topology p is_producer_rol
 pub data HasCause (topology : Topology) (before : History) : Type 0 where
   limited : happened is_limit_drain before ≡ true → HasCause topology before
   ended : AreEnded topology before → HasCause topology before
-  controlled : 1 ≤ controls before → HasCause topology before
+  controlled : happened is_control_drain before ≡ true → HasCause topology before
   rested : HasRested topology before → HasCause topology before
 
 -- ---- a cause stays
@@ -55,17 +54,10 @@ quiets_stay (Quiet s) before p h = more_if (same_stage s p) (quiets before p) h
 quiets_stay (Late s slot i late.Quiet) before p h = more_if (same_stage s p) (quiets before p) h
 quiets_stay _ before p h = h
 
-controls_stay : (step : Step) (before : History) → 1 ≤ controls before → 1 ≤ controls (step ∷ before)
-controls_stay (Kill s why.Kill) before h = omega (arith, h)
-controls_stay (Kill s why.Stop) before h = omega (arith, h)
-controls_stay (Drain Control) before h = omega (arith, h)
-controls_stay (Refuse line) before h = omega (arith, h)
-controls_stay _ before h = h
-
 kept : (topology : Topology) (step : Step) (before : History) → HasCause topology before → HasCause topology (step ∷ before)
 kept topology step before (limited h) = limited (or_right (is_limit_drain step) (happened is_limit_drain before) h)
 kept topology step before (ended each) = ended (λ p role. or_right (ends_source p step) (has_ended before p) (each p role))
-kept topology step before (controlled h) = controlled (controls_stay step before h)
+kept topology step before (controlled h) = controlled (or_right (is_control_drain step) (happened is_control_drain before) h)
 kept topology step before (rested r) = rested (record { at = r.at; role = r.role; some = quiets_stay step before r.at r.some })
 
 -- ---- the first drain
@@ -117,7 +109,7 @@ begun topology before cause legal =
     by_cause : (cause : DrainCause) → is_legal topology before ≡ true → drains_for topology before cause ≡ true → HasCause topology (Drain cause ∷ before)
     by_cause Limit legal h = limited refl
     by_cause Sources legal h = ended (all_are_ended topology before h)
-    by_cause Control legal h = controlled (omega arith)
+    by_cause Control legal h = controlled refl
     by_cause Idle legal h =
         let least : 1 ≤ topology.idle_limit = leb-true 1 topology.idle_limit (and_left (nat_le 1 topology.idle_limit) _ h) in
         let row : topology.idle_limit ≤ quiet_row before = leb-true topology.idle_limit (quiet_row before) (and_right (nat_le 1 topology.idle_limit) _ h) in

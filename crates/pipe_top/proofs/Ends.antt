@@ -40,6 +40,12 @@ pub record EndsBadly (topology : Topology) (before : History) : Type 0 where
   pub end : source_end before at ≡ Some ended
   pub bad : is_fault ended ≡ true
 
+-- the control source ended so
+pub record ControlEndsBadly (before : History) : Type 0 where
+  pub ended : SourceHow
+  pub end : source_end before (stage 0) ≡ Some ended
+  pub bad : is_fault ended ≡ true
+
 -- a producer is not stage 0, which is the control source
 pub producer_inner : (topology : Topology) (s : StageNo) → IsSound topology → has_role topology s is_producer_role ≡ true → same_stage s (stage 0) ≡ false
 producer_inner topology s sound role = either (same_stage s (stage 0)) refl
@@ -80,19 +86,6 @@ ended_as (step ∷ before) s = by_step step (ended_as before s)
     by_step (Late t slot i (late.Source ended)) old = by_end (same_stage t s) (same_stage s t) ended (same_either_way t s) old
     by_step _ old = old
 
--- a source that has ended has ended still
-pub some_stays : (step : Step) (before : History) (s : StageNo) → is_some (source_end before s) ≡ true → is_some (source_end (step ∷ before) s) ≡ true
-some_stays step before s some = by_step step
-  where
-    by_end : (b : Bool) (ended : SourceHow) → is_some (if b then Some ended else source_end before s) ≡ true
-    by_end true ended = refl
-    by_end false ended = some
-
-    by_step : (step : Step) → is_some (source_end (step ∷ before) s) ≡ true
-    by_step (SourceEnd t ended) = by_end (same_stage t s) ended
-    by_step (Late t slot i (late.Source ended)) = by_end (same_stage t s) ended
-    by_step _ = some
-
 -- the source of a producer ends once
 pub end_stays : (topology : Topology) (before : History) (step : Step) (s : StageNo) (ended : SourceHow) → is_legal topology (step ∷ before) ≡ true → has_role topology s is_producer_role ≡ true → same_stage s (stage 0) ≡ false
     → source_end before s ≡ Some ended → source_end (step ∷ before) s ≡ Some ended
@@ -125,6 +118,41 @@ end_stays topology before step s ended legal role inner is = by_step step legal
             subst (λ x. is_out before (post x 0) ≡ true) st (subst (λ n. is_out before (post t n) ≡ true) first facts.out)
     by_step _ legal = is
 
+late_producer : (topology : Topology) (before : History) (t : StageNo) (ended : SourceHow) → late_fits topology before t (late.Source ended) ≡ true → has_role topology t is_producer_role ≡ true
+late_producer topology before t how.End fits = fits
+late_producer topology before t how.Fault fits = fits
+late_producer topology before t how.TooLong fits = fits
+late_producer topology before t how.Limit fits = cc
+
+-- the control source ends once
+control_open : (topology : Topology) (before : History) (t : StageNo) (ended : SourceHow) → same_stage t (stage 0) ≡ true → allows topology before (SourceEnd t ended) ≡ true → has_ended before t ≡ false
+control_open topology before t ended on allowed = by_stage (same_stage t (stage 0)) on (unowed topology before (SourceEnd t ended) (λ u. refl) (λ u. refl) allowed)
+  where
+    by_stage : (b : Bool) → b ≡ true → (if b then not (has_ended before t) && same_truth (is_limit ended) (controls before == 10000) else is_live topology before t && (has_role topology t is_producer_role && (is_current before t 0 && not (is_limit ended)))) ≡ true → has_ended before t ≡ false
+    by_stage true e k = not_true (has_ended before t) (and_left (not (has_ended before t)) _ k)
+    by_stage false e k = cc
+
+control_end_stays : (topology : Topology) (before : History) (step : Step) (ended : SourceHow) → IsSound topology → is_legal topology (step ∷ before) ≡ true → source_end before (stage 0) ≡ Some ended → source_end (step ∷ before) (stage 0) ≡ Some ended
+control_end_stays topology before step ended sound legal is = by_step step legal
+  where
+    over : has_ended before (stage 0) ≡ true
+    over = sym (ended_as before (stage 0)) ∙ ap is_some is
+
+    by_end : (b : Bool) (now : SourceHow) → (b ≡ true → has_ended before (stage 0) ≡ false) → (if b then Some now else source_end before (stage 0)) ≡ Some ended
+    by_end true now unended = clash (has_ended before (stage 0)) over (unended refl)
+    by_end false now unended = is
+
+    by_step : (step : Step) → is_legal topology (step ∷ before) ≡ true → source_end (step ∷ before) (stage 0) ≡ Some ended
+    by_step (SourceEnd t now) legal = by_end (same_stage t (stage 0)) now unended
+      where
+        unended : same_stage t (stage 0) ≡ true → has_ended before (stage 0) ≡ false
+        unended e = subst (λ x. has_ended before x ≡ false) (same_stage-true t (stage 0) e) (control_open topology before t now e (legal_step topology before (SourceEnd t now) legal))
+    by_step (Late t slot i (late.Source now)) legal =
+        let facts = late_facts topology before t slot i (late.Source now) (legal_step topology before (Late t slot i (late.Source now)) legal) in
+        by_end (same_stage t (stage 0)) now
+        (λ e. clash (same_stage t (stage 0)) e (producer_inner topology t sound (late_producer topology before t now facts.fits)))
+    by_step _ legal = is
+
 -- ---- no producer ends at a limit
 
 end_unlimited : (topology : Topology) (before : History) (t : StageNo) (ended : SourceHow) → same_stage t (stage 0) ≡ false → allows topology before (SourceEnd t ended) ≡ true → is_limit ended ≡ false
@@ -139,12 +167,6 @@ late_unlimited topology before t how.End fits = refl
 late_unlimited topology before t how.Fault fits = refl
 late_unlimited topology before t how.TooLong fits = refl
 late_unlimited topology before t how.Limit fits = cc
-
-late_producer : (topology : Topology) (before : History) (t : StageNo) (ended : SourceHow) → late_fits topology before t (late.Source ended) ≡ true → has_role topology t is_producer_role ≡ true
-late_producer topology before t how.End fits = fits
-late_producer topology before t how.Fault fits = fits
-late_producer topology before t how.TooLong fits = fits
-late_producer topology before t how.Limit fits = cc
 
 pub never_limited : (topology : Topology) (before : History) (s : StageNo) → is_legal topology before ≡ true → same_stage s (stage 0) ≡ false → ends_limited (source_end before s) ≡ false
 never_limited topology [] s legal inner = refl
@@ -167,7 +189,7 @@ never_limited topology (step ∷ before) s legal inner = by_step step legal (nev
 
 -- where a source ended with a fault or with a line that is too long, it was the control source or a producer's
 pub faults_show : (topology : Topology) (before : History) → IsSound topology → is_legal topology before ≡ true → happened is_source_fault before ≡ true
-    → (is_some (source_end before (stage 0)) ≡ true) ⊎ EndsBadly topology before
+    → ControlEndsBadly before ⊎ EndsBadly topology before
 faults_show topology [] sound legal h = cc
 faults_show topology (step ∷ before) sound legal h =
     by_fault (is_source_fault step) refl h (faults_show topology before sound (legal_before topology before step legal))
@@ -176,8 +198,8 @@ faults_show topology (step ∷ before) sound legal h =
     ended_here t ended = rw (same_stage-self t) refl
 
     by_stage : (t : StageNo) (now : SourceHow) (b : Bool) → same_stage t (stage 0) ≡ b → is_legal topology (SourceEnd t now ∷ before) ≡ true → is_fault now ≡ true
-        → (is_some (source_end (SourceEnd t now ∷ before) (stage 0)) ≡ true) ⊎ EndsBadly topology (SourceEnd t now ∷ before)
-    by_stage t now true e legal bad = inl (rw e refl)
+        → ControlEndsBadly (SourceEnd t now ∷ before) ⊎ EndsBadly topology (SourceEnd t now ∷ before)
+    by_stage t now true e legal bad = inl (record { ended = now; end = rw e refl; bad = bad })
     by_stage t now false e legal bad = inr (record {
       at = t;
       ended = now;
@@ -186,7 +208,7 @@ faults_show topology (step ∷ before) sound legal h =
       bad = bad;
     })
 
-    by_step : (step : Step) → is_legal topology (step ∷ before) ≡ true → is_source_fault step ≡ true → (is_some (source_end (step ∷ before) (stage 0)) ≡ true) ⊎ EndsBadly topology (step ∷ before)
+    by_step : (step : Step) → is_legal topology (step ∷ before) ≡ true → is_source_fault step ≡ true → ControlEndsBadly (step ∷ before) ⊎ EndsBadly topology (step ∷ before)
     by_step (SourceEnd t now) legal bad = by_stage t now (same_stage t (stage 0)) refl legal bad
     by_step (Late t slot i (late.Source now)) legal bad = inr (record {
       at = t;
@@ -197,8 +219,12 @@ faults_show topology (step ∷ before) sound legal h =
     })
     by_step _ legal bad = cc
 
-    kept : (is_some (source_end before (stage 0)) ≡ true) ⊎ EndsBadly topology before → (is_some (source_end (step ∷ before) (stage 0)) ≡ true) ⊎ EndsBadly topology (step ∷ before)
-    kept (inl some) = inl (some_stays step before (stage 0) some)
+    kept : ControlEndsBadly before ⊎ EndsBadly topology before → ControlEndsBadly (step ∷ before) ⊎ EndsBadly topology (step ∷ before)
+    kept (inl b) = inl (record {
+      ended = b.ended;
+      end = control_end_stays topology before step b.ended sound legal b.end;
+      bad = b.bad;
+    })
     kept (inr b) = inr (record {
       at = b.at;
       ended = b.ended;
@@ -208,7 +234,7 @@ faults_show topology (step ∷ before) sound legal h =
     })
 
     by_fault : (b : Bool) → is_source_fault step ≡ b → (b || happened is_source_fault before) ≡ true
-        → (happened is_source_fault before ≡ true → (is_some (source_end before (stage 0)) ≡ true) ⊎ EndsBadly topology before)
-        → (is_some (source_end (step ∷ before) (stage 0)) ≡ true) ⊎ EndsBadly topology (step ∷ before)
+        → (happened is_source_fault before ≡ true → ControlEndsBadly before ⊎ EndsBadly topology before)
+        → ControlEndsBadly (step ∷ before) ⊎ EndsBadly topology (step ∷ before)
     by_fault true e h old = by_step step legal e
     by_fault false e h old = kept (old h)

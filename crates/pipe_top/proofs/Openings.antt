@@ -12,7 +12,7 @@ use Rattle.core_state.specs.Stands.{Stands}
 use Rattle.run_claims.specs.Followed.{FollowsMoves}
 use Rattle.run_claims.specs.Read.{HasNoControl}
 use Rattle.run_claims.proofs.Claims.{keeps_claims}
-use Rattle.edge_names.specs.Opened.{edge_calls}
+use Rattle.edge_names.specs.Controls.{run_calls}
 use Rattle.edge_names.specs.Returned.{IsAskedInPart}
 use Rattle.topology_needs.specs.declared.stock.Shortage.{Shortage}
 use Rattle.topology_needs.specs.declared.unbuilt.Unbuilt.{Unbuilt as Missing}
@@ -76,7 +76,7 @@ all_asked (Refused (Stock shortage)) calls asked asked' is = is
 all_asked (Refused (Unbuilt missing)) calls asked asked' is = is
 
 -- a run that the core stands for
-run_by : (core : Core) → Stands core → FollowsMoves core.topology core.journal.steps → HasNoControl core.journal.steps → IsRun core.topology core.journal.steps
+run_by : (core : Core) → Stands core → FollowsMoves core.topology core.journal.steps → (core.topology.control ≡ None → HasNoControl core.journal.steps) → IsRun core.topology core.journal.steps
 run_by core x follows control = record {
   claims = keeps_claims core.topology core.journal.steps x.holds.sound x.holds.legal;
   moves = follows;
@@ -88,7 +88,7 @@ pub unrun : (topology : Topology) → IsSound topology → IsRun topology []
 unrun topology sound = record {
   claims = keeps_claims topology [] sound refl;
   moves = tt;
-  control = record {
+  control = λ none. record {
     no_step = refl;
     no_end = refl;
   };
@@ -98,9 +98,9 @@ unrun topology sound = record {
 pub ran : (old new : OutsideSeen) (shows : Shows) (wanted : Topology) (whole : Bool) (core : Core) (topology : Option Topology) (before : History) (verdict : Verdict)
     → core.topology ≡ wanted → Stands core → IsRunOf whole wanted core.journal.steps old.edges new.edges old.clock new.clock → AreBoxesLeft whole wanted core.journal.steps old.boxes new.boxes
     → topology ≡ Some core.topology → before ≡ core.journal.steps → IsJudgement verdict shows core.topology core.journal.steps → (whole ≡ false → verdict ≡ Refused Memory)
-    → ComesBy old new (Runs shows wanted) (edge_calls wanted) topology before verdict
+    → ComesBy old new (Runs shows wanted) (run_calls wanted) topology before verdict
 ran old new shows wanted whole core topology before verdict same stands r boxes own steps judged wanting =
-    let run : IsRun wanted core.journal.steps = rw same at (run_by core stands (rw same r.follows) r.control) in
+    let run : IsRun wanted core.journal.steps = rw same at (run_by core stands (rw same r.follows) (rw same r.control)) in
     rw (own ∙ ap Some same, steps) (record {
       outcome = inr (record {
         sound = rw same at stands.holds.sound;
@@ -115,7 +115,7 @@ ran old new shows wanted whole core topology before verdict same stands r boxes 
         time = r.time;
         boxes = boxes;
       };
-      asked_by = λ t. all_asked verdict (edge_calls wanted) old.edges.asked new.edges.asked (r.asks.asked t);
+      asked_by = λ t. all_asked verdict (run_calls wanted) old.edges.asked new.edges.asked (r.asks.asked t);
       same_telling = r.asks.same_telling;
     })
 
@@ -123,7 +123,7 @@ ran old new shows wanted whole core topology before verdict same stands r boxes 
 pub unopened : (old new : OutsideSeen) (shows : Shows) (wanted : Topology) (name : List ℕ) (topology : Option Topology) (before : History) (verdict : Verdict)
     → IsUnopened wanted name old.edges new.edges → IsAskedUntil wanted name old.edges new.edges → new.clock ≡ old.clock → AreSameBoxes old.boxes new.boxes
     → verdict ≡ Refused (Edge name) → (topology ≡ None) × (before ≡ [])
-    → ComesBy old new (Runs shows wanted) (edge_calls wanted) topology before verdict
+    → ComesBy old new (Runs shows wanted) (run_calls wanted) topology before verdict
 unopened old new shows wanted name topology before verdict u a clock boxes is none =
     rw (is, none.0) (record {
       outcome = inl (
@@ -148,9 +148,9 @@ unopened old new shows wanted name topology before verdict u a clock boxes is no
 
 -- memory was wanting before all was opened
 pub unopened_memory : (old new : OutsideSeen) (shows : Shows) (wanted : Topology) (topology : Option Topology) (before : History) (verdict : Verdict)
-    → IsAskedInPart (edge_calls wanted) old.edges new.edges → new.clock ≡ old.clock → AreSameBoxes old.boxes new.boxes
+    → IsAskedInPart (run_calls wanted) old.edges new.edges → new.clock ≡ old.clock → AreSameBoxes old.boxes new.boxes
     → verdict ≡ Refused Memory → (topology ≡ None) × (before ≡ [])
-    → ComesBy old new (Runs shows wanted) (edge_calls wanted) topology before verdict
+    → ComesBy old new (Runs shows wanted) (run_calls wanted) topology before verdict
 unopened_memory old new shows wanted topology before verdict a clock boxes is none =
     rw (is, none.0) (record {
       outcome = inl none.1;

@@ -24,10 +24,10 @@ none_short short missing e = (none_left short missing e).0
 none_missing : (short : Option Shortage) (missing : Option Missing) → refusal_in short missing ≡ None → missing ≡ None
 none_missing short missing e = (none_left short missing e).1
 
-pub case_is : (boxes : Boxes) (workers : ℕ) (shows : Shows) (topology : Topology) → refusal_in (shortage_of topology boxes) (unbuilt_of workers topology) ≡ None → run_case boxes workers shows topology ≡ Runs shows topology
+pub case_is : (boxes : Boxes) (workers : ℕ) (shows : Shows) (topology : Topology) → refusal_in (shortage_of topology boxes) (unbuilt_of workers) ≡ None → run_case boxes workers shows topology ≡ Runs shows topology
 case_is boxes workers shows topology e =
-    rw (none_short (shortage_of topology boxes) (unbuilt_of workers topology) e, none_missing (shortage_of topology boxes) (unbuilt_of workers topology) e) refl
+    rw (none_short (shortage_of topology boxes) (unbuilt_of workers) e, none_missing (shortage_of topology boxes) (unbuilt_of workers) e) refl
 
 -- there is a box for each post that needs one
-pub enough : (kinds : List Kind) (workers : ℕ) (topology : Topology) → refusal_in (shortage_of topology (boxes_in kinds)) (unbuilt_of workers topology) ≡ None → Suffices topology kinds
-enough kinds workers topology e = suffices topology kinds (none_short (shortage_of topology (boxes_in kinds)) (unbuilt_of workers topology) e)
+pub enough : (kinds : List Kind) (workers : ℕ) (topology : Topology) → refusal_in (shortage_of topology (boxes_in kinds)) (unbuilt_of workers) ≡ None → Suffices topology kinds
+enough kinds workers topology e = suffices topology kinds (none_short (shortage_of topology (boxes_in kinds)) (unbuilt_of workers) e)

@@ -7,7 +7,7 @@ use Rattle.config_table.specs.declared.fault.ConfigFault.{ConfigFault}
 use Rattle.pipe_config.specs.File.{topology_of_file}
 use Rattle.config_flow.specs.Flow.{flow_topology_of}
 use Rattle.program_words.specs.Words.{Command, Flow, Check, Run}
-use Rattle.edge_names.specs.Opened.{edge_calls}
+use Rattle.edge_names.specs.Controls.{run_calls}
 use Rattle.topology_needs.specs.declared.stock.Boxes.{Boxes}
 use Rattle.topology_needs.specs.declared.stock.Shortage.{Shortage}
 use Rattle.topology_needs.specs.declared.unbuilt.Unbuilt.{Unbuilt}
@@ -15,8 +15,8 @@ use Rattle.topology_needs.specs.Needs.{shortage_of}
 use Rattle.topology_needs.specs.Unbuilt.{unbuilt_of}
 use Rattle.pipe_top.specs.declared.verdict.Shows.{Shows}
 
--- the words are no command; the file is no topology; the stock has too few boxes of a kind; the topology is not built for;
--- it is only checked; or it runs, and shows these texts
+-- the words are no command; the file is no topology; the stock has too few boxes of a kind; so many workers are not built;
+-- the topology is only checked; or it runs, and shows these texts
 pub data Case : Type 0 where
   NoCommand : Case
   NoTopology : ConfigFault → Case
@@ -38,9 +38,9 @@ abbrev pub unless_unbuilt : Option Unbuilt → Case → Case
 unless_unbuilt None case = case
 unless_unbuilt (Some missing) case = NotBuilt missing
 
--- it runs where the stock has enough boxes of each kind and nothing in it is not built
+-- it runs where the stock has enough boxes of each kind and so many workers are built
 abbrev pub run_case : Boxes → (workers : ℕ) → Shows → Topology → Case
-run_case boxes workers shows topology = unless_short (shortage_of topology boxes) (unless_unbuilt (unbuilt_of workers topology) (Runs shows topology))
+run_case boxes workers shows topology = unless_short (shortage_of topology boxes) (unless_unbuilt (unbuilt_of workers) (Runs shows topology))
 
 -- only the report
 abbrev pub report_alone : Shows
@@ -70,9 +70,9 @@ abbrev pub file_calls : Option (List ℕ) → List (EdgeKind × List ℕ)
 file_calls None = []
 file_calls (Some name) = (File, name) ∷ []
 
--- the calls that open what a run reads and writes, in stage order
+-- the calls that open what a run reads and writes: the control source first, if one is named, and then in stage order
 abbrev pub opening_calls : Case → List (EdgeKind × List ℕ)
-opening_calls (Runs shows topology) = edge_calls topology
+opening_calls (Runs shows topology) = run_calls topology
 opening_calls _ = []
 
 -- the calls by name: first the topology file is read, where one is named, and then the sources and sinks of a run are opened

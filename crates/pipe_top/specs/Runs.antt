@@ -2,7 +2,7 @@
 use Rattle.std.specs.Prelude.{◌≡◌, ◌≢◌, ◌≤◌, ◌⊎◌, Bool, true, false, ℕ, List, [], ◌∷◌, ◌++◌, take, length, All, IsTrue, Option, Some, None, if◌then◌else◌, nat_le}
 use Rattle.pipe_types.specs.Counts.{Rose}
 use Rattle.pipe_types.specs.declared.numbers.StageNo.{StageNo}
-use Rattle.pipe_types.specs.declared.step.DrainCause.TheVariants.{Limit}
+use Rattle.pipe_types.specs.declared.step.DrainCause.TheVariants.{Control, Limit}
 use Rattle.pipe_types.specs.declared.step.SourceHow.TheVariants.{End}
 use Rattle.pipe_types.specs.declared.step.Step.{Step}
 use Rattle.pipe_types.specs.declared.step.Step.TheVariants.{Drain}
@@ -41,11 +41,11 @@ pub record OutsideSeen : Type 0 where
   pub boxes : List BoxSeen
 
 -- the journal is legal and keeps every claim, each step of the pipeline's own accord was the next move, and nothing comes from
--- a control source
+-- a control source where none is named
 pub record IsRun (topology : Topology) (before : History) : Type 0 where
   pub claims : KeepsClaims topology before
   pub moves : FollowsMoves topology before
-  pub control : HasNoControl before
+  pub control : topology.control ≡ None → HasNoControl before
 
 -- the journal of a run, or no topology and no step
 abbrev pub IsRunOrNone : Option Topology → History → Type 0
@@ -171,7 +171,7 @@ pub record IsFaultless (source : SourceSeen) : Type 0 where
   pub tells : IsTrue source.told
   pub short : HasShortLines (source.taken ++ source.left)
 
--- each source that was given back since is faultless
+-- each source that was given back since, the control source too, is faultless
 abbrev pub AreFaultless : (old new : EdgesSeen) → Type 0
 AreFaultless old new =
     (back : List (List ℕ × SourceSeen)) → new.sources_back ≡ old.sources_back ++ back → All (λ given. IsFaultless given.1) back
@@ -181,16 +181,22 @@ abbrev pub is_limit_drain : Step → Bool
 is_limit_drain (Drain Limit) = true
 is_limit_drain _ = false
 
--- every source was read to its end
+-- the step begins the drain since a control line asks for it
+abbrev pub is_control_drain : Step → Bool
+is_control_drain (Drain Control) = true
+is_control_drain _ = false
+
+-- every source but the control source was read to its end
 abbrev pub IsReadWhole : Topology → History → Type 0
 IsReadWhole topology before = (p : StageNo) → has_role topology p is_producer_role ≡ true → source_end before p ≡ Some End
 
--- the run came to its end, unless memory was wanting; then every source was read to its end, or a limit was reached, or the
--- run was halted
+-- the run came to its end, unless memory was wanting; then every source was read to its end, or a limit was reached, or a
+-- control line asked for the drain, or the run was halted
 pub record IsComplete (topology : Topology) (before : History) (status : ℕ) : Type 0 where
   pub status_is : (status ≤ 3) ⊎ (status ≡ 9)
   pub whole : status ≢ 9
-      → IsReadWhole topology before ⊎ (IsTrue (happened is_limit_drain before) ⊎ IsTrue (happened is_halt before))
+      → IsReadWhole topology before
+      ⊎ (IsTrue (happened is_limit_drain before) ⊎ (IsTrue (happened is_control_drain before) ⊎ IsTrue (happened is_halt before)))
 
 -- a run is complete
 abbrev pub IsCompleteIn : History → (status : ℕ) → Case → Type 0
@@ -265,8 +271,8 @@ pub record IsCall (old new : OutsideSeen) (out out' err err' : SinkSeen) (comman
   pub lost : status ≡ 8 → Lost (IsReportOf topology before case) (Rose out.faults out'.faults) (IsTrue err.told → err'.held ≡ err.held) (Rose err.faults err'.faults)
   -- what was opened was read, written and given back as the journal says; so with the clock and the boxes
   pub outside : IsOutsideOf (status ≡ 9) topology before case old new
-  -- where no call by name and no write failed, and each source tells its bytes, never failed or waited and has no line that is
-  -- too long, a run came to its end, unless memory was wanting
+  -- where no call by name and no write failed, and each source, the control source too, tells its bytes, never failed or waited
+  -- and has no line that is too long, a run came to its end, unless memory was wanting
   pub complete : ¬ Rose old.edges.faults new.edges.faults → ¬ Rose out.faults out'.faults → ¬ Rose err.faults err'.faults → AreFaultless old.edges new.edges → IsCompleteIn before status case
   -- the calls by name: the topology file is read, and then the sources and sinks of a run are opened
   pub asks : IsTrue old.edges.told → Asks (calls_of command case) old.edges.asked new.edges.asked

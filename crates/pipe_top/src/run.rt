@@ -5,7 +5,7 @@ ghost use Rattle.pipe_types.specs.Sound.{IsSound};
 ghost use Rattle.pipe_model.specs.Places.{ArePlaces};
 ghost use Rattle.core_state.specs.Stands.{Stands};
 ghost use Rattle.stage_rounds.specs.Clocks.{clock_seen};
-ghost use Rattle.edge_names.specs.Opened.{edge_calls};
+ghost use Rattle.edge_names.specs.Controls.{run_calls};
 ghost use Rattle.box_stock.specs.Homes.{Suffices};
 ghost use Rattle.box_stock.specs.Lends.{kinds_of};
 ghost use Rattle.topology_needs.specs.Needs.{boxes_in as boxes_by_kind, shortage_of};
@@ -90,12 +90,12 @@ pub(crate) fn run_or_refuse<
 /// Why the topology cannot run on so many workers with these boxes.
 fn refusal_of(topology: &Topology, workers: u16, boxes: &Boxes) -> Option<Refusal>
     requires sound { IsSound topology.now }
-    ensures refusal { result ≡ refusal_in (shortage_of topology.now boxes.now) (unbuilt_of workers topology.now) }
+    ensures refusal { result ≡ refusal_in (shortage_of topology.now boxes.now) (unbuilt_of workers) }
 {
     if let Some(shortage) = shortage(topology, boxes) {
         return Some(Refusal::Stock(shortage));
     }
-    let missing = first_unbuilt(topology, workers)?;
+    let missing = first_unbuilt(workers)?;
     Some(Refusal::Unbuilt(missing))
 }
 
@@ -114,7 +114,7 @@ fn run_built<R: Wait, E: Edges, C: Boxed, B: Carries<C> + Houses<E::Source, E::S
     ensures comes { ComesBy
         (record { edges = ⟦<E as SeenEdges>⟧.seen edges.old; clock = clock_seen K.latest K.readings clock.old; boxes = map C.seen stock.items })
         (record { edges = ⟦<E as SeenEdges>⟧.seen edges.new; clock = clock_seen K.latest K.readings clock.new; boxes = map C.seen result.stock.items })
-        (Runs shows topology) (edge_calls topology) result.topology result.journal.steps result.verdict }
+        (Runs shows topology) (run_calls topology) result.topology result.journal.steps result.verdict }
 {
     let Ended { run, stock } = run_topology::<R, E, C, B, K>(
         rt, alloc, topology, stock, edges, clock,

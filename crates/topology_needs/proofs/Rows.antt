@@ -1,6 +1,6 @@
--- What is known where no row of a table applies.
-use Rattle.std.proofs.Common.{◌≡◌, ℕ, ◌≤◌, Bool, true, false, cond, [], ◌∷◌, Option, Some, None, is_some, refl}
-use Rattle.std.specs.Prelude.{find, option_map}
+-- What is known where nothing is unbuilt, and where nothing is short.
+use Rattle.std.proofs.Common.{◌≡◌, ℕ, ◌≤◌, Bool, true, false, cond, [], ◌∷◌, Option, Some, None, refl}
+use Rattle.std.specs.Prelude.{find, nat_lt, option_map}
 use Rattle.std.proofs.lemmas.Bool.{ltb-false}
 use Rattle.pipe_types.specs.declared.topology.Topology.{Topology}
 use Rattle.pipe_types.specs.declared.topology.Kind.{Kind}
@@ -8,7 +8,7 @@ use Rattle.pipe_types.specs.declared.topology.Kind.TheVariants.{Steps, Lines, Ow
 use Rattle.topology_needs.specs.declared.stock.Boxes.{Boxes}
 use Rattle.topology_needs.specs.declared.unbuilt.Unbuilt.TheVariants as word
 use Rattle.topology_needs.specs.Needs.{need_of, boxes_of, is_short, need_and_have, shortage_of}
-use Rattle.topology_needs.specs.Unbuilt.{unbuilt_of, applies, has_workers, names_control}
+use Rattle.topology_needs.specs.Unbuilt.{unbuilt_of}
 
 passed_by : {A : Type 0} (b : Bool) (x : A) (o : Option A) → cond b (Some x) o ≡ None → (b ≡ false) × (o ≡ None)
 passed_by true x o h = cc
@@ -16,22 +16,8 @@ passed_by false x o h = (refl, h)
 
 -- ---- what is not built
 
-no_control : {A : Type 0} (o : Option A) → is_some o ≡ false → o ≡ None
-no_control None h = refl
-no_control (Some x) h = cc
-
-pub record NoneApplies (n : ℕ) (topology : Topology) : Type 0 where
-  pub workers : n ≤ 1
-  pub control : topology.control ≡ None
-
-pub none_applies : (n : ℕ) (topology : Topology) → unbuilt_of n topology ≡ None → NoneApplies n topology
-none_applies n topology h =
-    let first = passed_by (has_workers n) word.Workers (find (applies n topology) (word.Control ∷ [])) h in
-    let second = passed_by (names_control topology) word.Control None first.1 in
-    record {
-      workers = ltb-false 1 n first.0;
-      control = no_control topology.control second.0;
-    }
+pub one_worker : (n : ℕ) → unbuilt_of n ≡ None → n ≤ 1
+one_worker n h = ltb-false 1 n (passed_by (nat_lt 1 n) word.Workers None h).0
 
 -- ---- what is short
 

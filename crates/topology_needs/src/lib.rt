@@ -1,9 +1,9 @@
 //! What a topology needs before it can run.
 //!
 //! `posts` and `need` count the posts that have a callback, of a stage and of a kind, and `shortage` names the first kind
-//! of which a stock has too few boxes. `first_unbuilt` names the first form in the topology for which no pipeline is
-//! built yet; where there is none, the law `nothing_is_unbuilt` says that there is one worker at most and no control
-//! source. `subscriptions` counts the subscriptions with which the pipeline begins.
+//! of which a stock has too few boxes. `first_unbuilt` says what no pipeline is built for yet: more than one worker.
+//! Where there is nothing, the law `nothing_is_unbuilt` says that there is one worker at most. `subscriptions` counts the
+//! subscriptions with which the pipeline begins.
 #![tactic(auto)]
 
 mod feeding;

@@ -1,4 +1,4 @@
-//! The worked topologies, and each word of what is not built.
+//! The worked topologies, and what is not built.
 
 ghost use Rattle.std.specs.Prelude.{◌≡◌, ◌≢◌, IfOk};
 ghost use Rattle.pipe_types.specs.Sound.{IsSound};
@@ -242,50 +242,14 @@ fn what_topologies_need(rt: HostRuntime) -> Result<(), Fail> {
     Ok(())
 }
 
-/// The forms in their order, with their words.
-const ORDER: [(Unbuilt, &str); 2] = [(Unbuilt::Workers, "workers"), (Unbuilt::Control, "control")];
-
-/// A topology, not a sound one, of many forms that are built, and of each that is not from this place of the order on.
-fn forms_from(alloc: Global, place: usize) -> Result<Topology, AllocError> {
-    let mut p = source(alloc, 1, "p", 0)?;
-    p.push = true;
-    let q = source(alloc, 2, "q", 1)?;
-    let mut processor = router(alloc, 3, "processors.0", 0)?;
-    processor.rules = RuleList::from_vec(vec![in alloc; Rule::Crash(bytes(alloc, b"!")?)]?);
-    let mut copies = gatherer(alloc, 4, "b", 0)?;
-    copies.dispatch = Dispatch::Broadcast;
-    let other = gatherer(alloc, 5, "c", 1)?;
-    let supervisor = worker(alloc, 6, "supervisor", Role::Supervisor, 0, Kind::Steps)?;
-    let mut whole = topology(vec![in alloc; p, q, processor, copies, other, supervisor]?);
-    if place <= 1 {
-        whole.control = Some(text(alloc, "mem:c")?);
-    }
-    Ok(whole)
-}
-
 #[test]
-fn the_first_form_that_is_not_built(rt: HostRuntime) -> Result<(), Fail> {
-    let alloc = rt.alloc();
-    for (place, (unbuilt, word)) in ORDER.iter().enumerate() {
-        let topology = forms_from(alloc, place)?;
-        let workers = if place == 0 { 2 } else { 1 };
-        assert_eq!(rt; first_unbuilt(&topology, workers), Some(*unbuilt), "{word}");
-        assert!(rt; unbuilt.word() == *word, "{word}");
+fn more_than_one_worker_is_not_built(rt: HostRuntime) -> Result<(), Fail> {
+    for workers in [0, 1] {
+        assert_eq!(rt; first_unbuilt(workers), None, "{workers}");
     }
-    Ok(())
-}
-
-#[test]
-fn the_forms_that_are_built(rt: HostRuntime) -> Result<(), Fail> {
-    let alloc = rt.alloc();
-    assert_eq!(rt; first_unbuilt(&forms_from(alloc, 2)?, 1), None);
-    assert_eq!(rt; first_unbuilt(&one_stage(alloc, Kind::Own)?, 1), None);
-    assert_eq!(rt; first_unbuilt(&one_stage(alloc, Kind::Steps)?, 1), None);
-    assert_eq!(rt; first_unbuilt(&supervised(alloc)?, 1), None);
-    assert_eq!(rt; first_unbuilt(&hot_and_cold(alloc)?, 1), None);
-    assert_eq!(rt;
-        first_unbuilt(&hot_and_cold(alloc)?, 2),
-        Some(Unbuilt::Workers)
-    );
+    for workers in [2, 64] {
+        assert_eq!(rt; first_unbuilt(workers), Some(Unbuilt::Workers), "{workers}");
+    }
+    assert!(rt; Unbuilt::Workers.word() == "workers");
     Ok(())
 }

@@ -3,16 +3,11 @@
 ghost use Rattle.std.specs.Prelude.{◌≡◌};
 ghost use Rattle.topology_needs.specs.Unbuilt as spec;
 
-use pipe_types::topology::Topology;
-
-/// A form of topology, or a number of workers, for which no pipeline is built yet, in the order in which they are
-/// tried.
+/// What no pipeline is built for yet.
 #[derive(Clone, Copy, PartialEq, Eq, Debug)]
 pub enum Unbuilt {
     /// More than one worker.
     Workers,
-    /// A control source.
-    Control,
 }
 
 impl Unbuilt {
@@ -22,29 +17,18 @@ impl Unbuilt {
     {
         match self {
             Unbuilt::Workers => "workers",
-            Unbuilt::Control => "control",
-        }
-    }
-
-    /// Whether the topology on so many workers is of this form.
-    fn applies(self, topology: &Topology, workers: u16) -> bool
-        ensures { result ≡ spec.applies workers topology.now self }
-    {
-        match self {
-            Unbuilt::Workers => workers > 1,
-            Unbuilt::Control => topology.control.is_some(),
         }
     }
 }
 
-/// The first form, in the order of `Unbuilt`, that the topology on so many workers has. There is none exactly where
-/// the pipeline is built.
-pub fn first_unbuilt(topology: &Topology, workers: u16) -> Option<Unbuilt>
-    ensures { result ≡ spec.unbuilt_of workers topology.now }
+/// What no pipeline is built for, of a run on so many workers. There is nothing exactly where the pipeline is built, and
+/// every topology is.
+pub fn first_unbuilt(workers: u16) -> Option<Unbuilt>
+    ensures { result ≡ spec.unbuilt_of workers }
 {
-    let in_order = [Unbuilt::Workers, Unbuilt::Control];
-    in_order
-        .iter()
-        .copied()
-        .find(|unbuilt| unbuilt.applies(topology, workers))
+    if workers > 1 {
+        Some(Unbuilt::Workers)
+    } else {
+        None
+    }
 }

@@ -16,7 +16,7 @@ returns-in-Some g c =
     let r = c.refused in
     let why = rw (c.boxes_in.ensures, c.as_slice.ensures.value) at (sym c.refusal_of.ensures.refusal ∙ c.in-Some.is) in
     record {
-      comes = refused_topology _ _ c.args.shows c.args.topology (shortage_of c.args.topology (boxes_in (kinds_of g.C.Boxed.seen c.args.stock.items))) (unbuilt_of c.args.workers c.args.topology) c.in-Some.refusal r.result.topology r.result.journal.steps r.result.verdict why r.ensures.verdict r.ensures.no_run
+      comes = refused_topology _ _ c.args.shows c.args.topology (shortage_of c.args.topology (boxes_in (kinds_of g.C.Boxed.seen c.args.stock.items))) (unbuilt_of c.args.workers) c.in-Some.refusal r.result.topology r.result.journal.steps r.result.verdict why r.ensures.verdict r.ensures.no_run
           (record { sources = refl; sinks = refl; clock = refl; boxes = rw r.ensures.same_boxes refl }) refl refl;
     }
 
