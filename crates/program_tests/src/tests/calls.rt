@@ -1,8 +1,10 @@
 //! A call of the program over objects in memory, and what it came to.
 
-ghost use Rattle.std.specs.Prelude.{◌≡◌, IfOk};
+ghost use Rattle.std.specs.Prelude.{◌≡◌, ℕ, List, IfOk};
 ghost use Rattle.mem_edges.specs.MemSource.{IsUnread};
 ghost use Rattle.mem_edges.specs.MemSink.{IsUnwritten};
+ghost use Rattle.mem_edges.specs.MemEdges.{IsNew};
+ghost use Rattle.pipe_edges.specs.declared.edges.EdgeKind.{EdgeKind};
 
 use body_jobs::Body;
 use mem_edges::{
@@ -29,10 +31,10 @@ pub(super) const ONE_STAGE: &str =
 const STOCK: usize = 64;
 
 /// Room for every text that a call here writes.
-const ROOM: usize = 100_000;
+const ROOM: usize = 300_000;
 
-/// What a call is given. The words are parted by single spaces. The topology file stands under `t`, and lines under the
-/// name `source`.
+/// What a call is given. The words are parted by single spaces. The topology file stands under `t`, lines under the name
+/// `source`, further lines under `mem:b` where that is another name, and an empty sink each under `mem:s` and `mem:t`.
 #[derive(Clone, Copy)]
 pub(super) struct Given<'a> {
     pub(super) words: &'a str,
@@ -40,6 +42,10 @@ pub(super) struct Given<'a> {
     pub(super) source: &'a str,
     pub(super) lines: &'a str,
     pub(super) acts: &'a [SourceAct],
+    pub(super) more_lines: &'a str,
+    pub(super) more_acts: &'a [SourceAct],
+    pub(super) s_acts: &'a [SinkAct],
+    pub(super) t_acts: &'a [SinkAct],
     /// By how many milliseconds the clock goes on at each pause.
     pub(super) nap: u64,
     /// The numbers of the calls, from 1, that read or open something and fail.
@@ -51,7 +57,7 @@ pub(super) struct Given<'a> {
 }
 
 /// What a call came to: `ran` says whether the answer has a topology, `free` whether the source can be opened again, and
-/// `same_stock` whether the boxes came back in their order.
+/// `same_stock` whether the boxes came back in their order. `s` and `t` are what the sinks hold, if they were given back.
 #[derive(Drop)]
 pub(super) struct Came {
     pub(super) status: u8,
@@ -60,6 +66,8 @@ pub(super) struct Came {
     pub(super) ran: bool,
     pub(super) steps: u64,
     pub(super) accepted: usize,
+    pub(super) s: Option<String>,
+    pub(super) t: Option<String>,
     free: bool,
     same_stock: bool,
 }
@@ -73,6 +81,10 @@ pub(super) fn on<'a>(words: &'a str, file: &'a str, lines: &'a str) -> Given<'a>
         source: "mem:a",
         lines,
         acts: &[],
+        more_lines: "",
+        more_acts: &[],
+        s_acts: &[],
+        t_acts: &[],
         nap: 0,
         fails: &[],
         steps_boxes: STOCK,
@@ -82,7 +94,7 @@ pub(super) fn on<'a>(words: &'a str, file: &'a str, lines: &'a str) -> Given<'a>
     }
 }
 
-/// Calls the program, and wants this status and these outputs, and that all sources and sinks are closed again.
+/// Calls the program, and wants this status and these outputs, and that sources and sinks are closed again.
 pub(super) fn expect(
     rt: &(impl Abort + Wait),
     alloc: Global,
@@ -97,9 +109,21 @@ pub(super) fn expect(
     assert!(rt; said == err, "{words}: {file}: {said}");
     assert!(rt; told == out, "{words}: {file}: {told}");
     assert_eq!(rt; came.status, status, "{words}: {file}");
-    assert!(rt; came.free, "{words}: {file}");
-    assert!(rt; came.same_stock, "{words}: {file}");
+    assert!(rt; is_home(&came), "{words}: {file}");
     Ok(came)
+}
+
+/// Whether the source and the sinks were given back, and the boxes in their order.
+pub(super) fn is_home(came: &Came) -> bool {
+    came.free && came.same_stock && came.s.is_some() && came.t.is_some()
+}
+
+/// What a sink holds.
+pub(super) fn holding(sink: &Option<String>) -> &str {
+    match sink {
+        Some(text) => text.as_str(),
+        None => "not given back",
+    }
 }
 
 /// Calls the program.
@@ -133,6 +157,8 @@ pub(super) fn call<R: Wait>(rt: &R, alloc: Global, given: Given<'_>) -> Result<C
         ran: end.topology.is_some(),
         steps: end.journal.len(),
         accepted: accepted_in(&end.journal),
+        s: held_under(alloc, &edges, "mem:s")?,
+        t: held_under(alloc, &edges, "mem:t")?,
         free: edges.open_source(&source).is_ok(),
         same_stock: is_stock(&end.stock, given.steps_boxes, given.lines_boxes),
     })
@@ -192,12 +218,33 @@ fn words_of(alloc: Global, text: &str) -> Result<Vec<String>, AllocError> {
 }
 
 fn edges_of(alloc: Global, given: Given<'_>) -> Result<MemEdges, AllocError> {
+    let mut edges = edges_without_sources(alloc, given)?;
+    let source = source_of(alloc, given.lines, given.acts)?;
+    edges.add_source(text_of(alloc, given.source)?, source)?;
+    if given.source != "mem:b" {
+        let source = source_of(alloc, given.more_lines, given.more_acts)?;
+        edges.add_source(text_of(alloc, "mem:b")?, source)?;
+    }
+    Ok(edges)
+}
+
+fn edges_without_sources(alloc: Global, given: Given<'_>) -> Result<MemEdges, AllocError>
+    ensures { IfOk result (λ edges. (name : List ℕ) → IsNew edges EdgeKind.Source name) }
+{
     let fails = CallList::from_vec(Vec::from_slice(alloc, given.fails)?);
     let mut edges = MemEdges::new(alloc, fails);
     edges.add_file(text_of(alloc, "t")?, bytes_of(alloc, given.file)?)?;
-    let source = source_of(alloc, given.lines, given.acts)?;
-    edges.add_source(text_of(alloc, given.source)?, source)?;
+    edges.add_sink(text_of(alloc, "mem:s")?, sink_of(alloc, given.s_acts)?)?;
+    edges.add_sink(text_of(alloc, "mem:t")?, sink_of(alloc, given.t_acts)?)?;
     Ok(edges)
+}
+
+// What the sink under this name holds, if it is there and not open.
+fn held_under(alloc: Global, edges: &MemEdges, name: &str) -> Result<Option<String>, AllocError> {
+    match edges.sink(&text_of(alloc, name)?) {
+        Some(sink) => Ok(Some(String::from_str(alloc, shown(sink))?)),
+        None => Ok(None),
+    }
 }
 
 fn source_of(alloc: Global, lines: &str, acts: &[SourceAct]) -> Result<MemSource, AllocError>

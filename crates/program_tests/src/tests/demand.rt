@@ -1,6 +1,6 @@
 //! Several producers and processors: what is asked, and to whom each line goes.
 
-use super::calls::{Given, PRODUCER, expect, joined, on, report};
+use super::calls::{Given, PRODUCER, call, copies, expect, joined, on, report, shown};
 use mem_edges::SourceAct;
 use std::test::Fail;
 
@@ -79,5 +79,25 @@ fn two_processors_are_sent_what_they_asked(rt: HostRuntime) -> Result<(), Fail> 
         };
         expect(&rt, alloc, given, 0, out.as_str(), "")?;
     }
+    Ok(())
+}
+
+#[test]
+fn equal_lines_go_to_one_processor(rt: HostRuntime) -> Result<(), Fail> {
+    let alloc = rt.alloc();
+    let keys = "[processors]\nconcurrency = 2\npartition_by = 0\n";
+    let file = joined(alloc, PRODUCER, keys)?;
+    let lines = copies(alloc, "a\n", 30)?;
+    let report = report(alloc, (30, 30, 0), "")?;
+    let came = call(
+        &rt,
+        alloc,
+        on("run t --steps", file.as_str(), lines.as_str()),
+    )?;
+    let told = shown(&came.out);
+    assert_eq!(rt; came.status, 0, "{told}");
+    assert!(rt; told.ends_with(report.as_str()), "{told}");
+    assert!(rt; told.contains("\ntake 3 1 1 "), "{told}");
+    assert!(rt; !told.contains("\ntake 2 "), "{told}");
     Ok(())
 }

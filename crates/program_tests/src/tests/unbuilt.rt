@@ -1,6 +1,6 @@
-//! What is not built yet.
+//! What is not built yet: more than one worker.
 
-use super::calls::{Given, ONE_STAGE, expect, on};
+use super::calls::{Given, expect, on};
 use std::alloc::{AllocError, Global};
 use std::process::Abort;
 use std::sync::Wait;
@@ -11,25 +11,22 @@ const ONE: &str = "producer = [{name = 'p', source = 'mem:a'}]";
 const TWO: &str =
     "producer = [{name = 'p', source = 'mem:a'}, {name = 'q', source = 'mem:b', mode = 'push'}]";
 
-/// Topologies, as their producers and the rest, with their counts and with the word for which they do not run.
-static FORMS: [(&str, &str, &str, &str); 3] = [
+/// Topologies, as their producers and the rest, with their counts.
+static TOPOLOGIES: [(&str, &str, &str); 3] = [
     (
         ONE,
         "processors = {concurrency = 1}\npipeline = {control = 'mem:c'}",
         "2 subscriptions 1",
-        "control",
     ),
     (
         TWO,
         "supervisor = {steps = ['crash !']}\npipeline = {control = 'mem:c'}",
         "3 subscriptions 2",
-        "control",
     ),
     (
         TWO,
-        "processors = {steps = ['crash !', 'route 1 c x'], partition_by = 0}\nbatcher = [{name = 'b', dispatch = 'broadcast'}, {name = 'c'}]\npipeline = {control = 'mem:c'}",
+        "processors = {steps = ['crash !', 'route 1 c x'], partition_by = 0}\nbatcher = [{name = 'b', dispatch = 'broadcast'}, {name = 'c'}]",
         "8 subscriptions 10",
-        "control",
     ),
 ];
 
@@ -53,26 +50,16 @@ fn expect_unopened(
 }
 
 #[test]
-fn forms_that_are_not_built_are_named_and_checked(rt: HostRuntime) -> Result<(), Fail> {
+fn more_than_one_worker_is_not_built(rt: HostRuntime) -> Result<(), Fail> {
     let alloc = rt.alloc();
-    for &(producers, others, counts, word) in &FORMS {
+    for &(producers, others, counts) in &TOPOLOGIES {
         let file = format!(in alloc; "version = 1\n{producers}\n{others}\n")?;
         let file = file.as_str();
         let counts = format!(in alloc; "stages {counts}\n")?;
-        let line = format!(in alloc; "unbuilt {word}\n")?;
         expect_unopened(&rt, alloc, "check t", file, 0, counts.as_str(), "")?;
-        for words in ["run t", "run t --acks --steps --workers 1"] {
-            expect_unopened(&rt, alloc, words, file, 10, "", line.as_str())?;
+        for words in ["run t --workers 2", "run t --acks --steps --workers 16"] {
+            expect_unopened(&rt, alloc, words, file, 10, "", "unbuilt workers\n")?;
         }
-        expect_unopened(
-            &rt,
-            alloc,
-            "run t --workers 2",
-            file,
-            10,
-            "",
-            "unbuilt workers\n",
-        )?;
     }
     Ok(())
 }
