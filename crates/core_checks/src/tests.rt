@@ -65,8 +65,9 @@ static BATCHED: [(&str, &[&str], &str); 2] = [
 ];
 
 /// A processor that a control line kills: it is restarted with its next subscription, and at the limit all halts. The
-/// kill of a producer takes along a processor whose mode says so, and both are restarted.
-static KILLED: [(&str, &[&str], &str); 3] = [
+/// kill of a producer takes along a processor whose mode says so, and both are restarted. A supervisor that is killed loses
+/// the messages of its children, and is restarted behind their late answers.
+static KILLED: [(&str, &[&str], &str); 4] = [
     (
         "version = 1\n[[producer]]\nname = \"p\"\nsource = \"mem:a\"\n[processors]\nkind = \"own\"\nconcurrency = 1\n",
         &["xy", "!2", "w", ""],
@@ -81,6 +82,11 @@ static KILLED: [(&str, &[&str], &str); 3] = [
         "version = 1\n[[producer]]\nname = \"p\"\nsource = \"mem:a\"\n[processors]\nkind = \"own\"\nconcurrency = 1\ncancel = \"permanent\"\n",
         &["x", "!1", ""],
         "journal 1\nask 2 1 1 10\nfetch 1 10\naccept 1 78\ndispatch 1\nkill 1 kill\nrestart 1\nrestart 2\nask 2 1 2 10\nfetch 1 10\nsource 1 end\ndrain sources\nend 11\n",
+    ),
+    (
+        "version = 1\n[[producer]]\nname = \"p\"\nsource = \"mem:a\"\n[supervisor]\n",
+        &["xyz", "-", "!2", "w", ""],
+        "journal 1\nask 2 1 1 10\nfetch 1 10\naccept 1 78,79,7a\ndispatch 1\nchild 2 1 0\nchild 2 2 1\nchild 2 3 2\nfetch 1 7\nquiet 1\nkill 2 kill\nlate 2 0 1 none\nlate 2 1 1 none\nlate 2 2 1 none\nrestart 2\nask 2 1 2 10\ntick 1000\nfetch 1 10\naccept 1 77\ndispatch 1\nchild 2 4 0\nfetch 1 9\nsource 1 end\ndrain sources\nend 23\n",
     ),
 ];
 

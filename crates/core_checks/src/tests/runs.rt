@@ -26,6 +26,7 @@ use core_calls::sources::{quiet, source_end};
 use core_children::children::child_start;
 use core_closes::close;
 use core_kills::kills::{halt, kill};
+use core_lates::lates::late;
 use core_moves::drain::begin;
 use core_moves::moves::{Move, next_move};
 use core_restarts::restart;
@@ -38,8 +39,8 @@ use pipe_config::read_topology;
 use pipe_journal::StepView;
 use pipe_types::bytes::{Bytes, BytesList};
 use pipe_types::message::{Message, MessageList, Reply, ReplyList, Why};
-use pipe_types::numbers::StageNo;
-use pipe_types::step::{SourceHow, Step};
+use pipe_types::numbers::{Post, StageNo};
+use pipe_types::step::{LateAnswer, SourceHow, Step};
 use pipe_types::topology::{Kind, Role, Topology};
 use std::alloc::{AllocError, Global};
 use std::process::Abort;
@@ -49,6 +50,12 @@ const MOVES: u32 = 200;
 
 /// How far the clock goes on at a pause, in milliseconds.
 const NAP: u64 = 1000;
+
+/// How many slots a stage has.
+const SLOTS: u16 = 16;
+
+/// The stage of which answers may come late: the second.
+const KILLED: StageNo = StageNo(2);
 
 /// How many bytes a record may have.
 const MAX_BYTES: usize = 65_536;
@@ -171,7 +178,47 @@ fn go_on(rt: &impl Abort, alloc: Global, core: &mut Core, text: &str) -> Result<
             nap(core)?;
             Ok(true)
         }
-        Move::Halted | Move::Drained | Move::JobsOut => Ok(false),
+        Move::JobsOut => answer_late(core),
+        Move::Halted | Move::Drained => Ok(false),
+    }
+}
+
+/// Answers the first post of a killed stage's first incarnation that is out, and says whether there was one.
+fn answer_late(core: &mut Core) -> Result<bool, AllocError>
+    requires stands { Stands core.old }
+    ensures stands { Stands core.new }
+{
+    for slot in 0..SLOTS {
+        if late_once(
+            core,
+            Post {
+                stage: KILLED,
+                slot,
+            },
+        )? {
+            return Ok(true);
+        }
+    }
+    Ok(false)
+}
+
+/// Answers the post late, where one may, and says whether it did.
+fn late_once(core: &mut Core, post: Post) -> Result<bool, AllocError>
+    requires stands { Stands core.old }
+    ensures stands { Stands core.new }
+{
+    let step = Step::Late {
+        stage: post.stage,
+        slot: post.slot,
+        incarnation: 1,
+        answer: LateAnswer::Nothing,
+    };
+    if !allows(core, &step) {
+        return Ok(false);
+    }
+    match late(core, post, 1, LateAnswer::Nothing) {
+        Ok(()) => Ok(true),
+        Err((_, failed)) => Err(failed),
     }
 }
 

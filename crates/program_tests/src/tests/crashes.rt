@@ -1,6 +1,6 @@
 //! Callbacks that crash, and what is restarted.
 
-use super::calls::{Given, ONE_STAGE, PRODUCER, expect, joined, on};
+use super::calls::{Given, ONE_STAGE, PRODUCER, copies, expect, joined, on};
 use mem_edges::SourceAct;
 use std::test::Fail;
 
@@ -104,5 +104,38 @@ fn a_crash_loses_its_batch(rt: HostRuntime) -> Result<(), Fail> {
         accepted 4\nsuccessful 2\nfailed 0\nlost 2\nkilled b.0 2\nrestarts 1\nrefused 0\nend sources\n";
     let given = on("run t --acks", file.as_str(), "x\n!\ny\nz\n");
     expect(&rt, alloc, given, 2, out, "")?;
+    Ok(())
+}
+
+/// The restart mode of the children, and the report on 200 lines of which each seventh crashes.
+static MANY: [(&str, &str); 2] = [
+    (
+        "temporary",
+        "accepted 200\nsuccessful 172\nfailed 0\nlost 28\nkilled supervisor 28\nrestarts 0\nrefused 0\nend sources\n",
+    ),
+    (
+        "transient",
+        "accepted 200\nsuccessful 172\nfailed 0\nlost 28\nkilled supervisor 28\nrestarts 0\nrefused 0\nend sources\n",
+    ),
+];
+
+#[test]
+fn sixteen_slots_take_two_hundred_lines(rt: HostRuntime) -> Result<(), Fail> {
+    let alloc = rt.alloc();
+    let sevens = copies(alloc, "1\n2\n3\n4\n5\n6\n!7\n", 28)?;
+    let lines = joined(alloc, sevens.as_str(), "1\n2\n3\n4\n")?;
+    for &(mode, out) in &MANY {
+        let file = format!(in alloc;
+            "{PRODUCER}[supervisor]\nmax_demand = 16\nrestart = '{mode}'\nsteps = ['crash !']\n"
+        )?;
+        expect(
+            &rt,
+            alloc,
+            on("run t", file.as_str(), lines.as_str()),
+            2,
+            out,
+            "",
+        )?;
+    }
     Ok(())
 }
