@@ -61,7 +61,7 @@ silent_quietly topology step sound calm = record { unanswered = λ p here. unans
 
 -- ---- a post that goes out was at home
 
-put_was_home : (topology : Topology) (before : History) (step : Step) (p : Post) → allows topology before step ≡ true → puts_out step p ≡ true → is_out before p ≡ false
+pub put_was_home : (topology : Topology) (before : History) (step : Step) (p : Post) → allows topology before step ≡ true → puts_out step p ≡ true → is_out before p ≡ false
 put_was_home topology before (Fetch t n) p h e =
     let one = and_right (is_live topology before t) _ (unowed topology before (Fetch t n) (λ s. refl) (λ s. refl) h) in
     let two = and_right (has_role topology t is_producer_role) _ one in

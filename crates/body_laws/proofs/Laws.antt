@@ -115,7 +115,7 @@ at_end : (b c : Bool) → (not b && c) ≡ true → c ≡ true
 at_end true c h = cc
 at_end false c h = h
 
-answers_only : (p q : Post) (o : Came) → NamesSlot p o → answers (step_of p o) q ≡ true → q ≡ p
+pub answers_only : (p q : Post) (o : Came) → NamesSlot p o → answers (step_of p o) q ≡ true → q ≡ p
 answers_only p q (came.Records records) e h = first_of_stage p q e h
 answers_only p q came.NotYet e h = first_of_stage p q e h
 answers_only p q (came.Ended how) e h = first_of_stage p q e (at_end (same_stage p.stage (stage 0)) (same_post q (post p.stage 0)) h)

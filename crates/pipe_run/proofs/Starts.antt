@@ -15,8 +15,8 @@ use Rattle.body_laws.proofs.Rises.{rise_none}
 use Rattle.body_laws.proofs.Starts.{starts}
 use Rattle.control_lines.specs.Keeping.{IsFresh, KeepsControl}
 use Rattle.control_lines.proofs.Kept.{fresh_control}
-use Rattle.stage_rounds.specs.Clocks.{ClockSeen, KeepsClock}
-use Rattle.stage_rounds.specs.Going.{IsAtRest}
+use Rattle.stage_moves.specs.Clocks.{ClockSeen, KeepsClock}
+use Rattle.stage_moves.specs.Going.{IsAtRest}
 
 none_in : (stages : List StageSpec) → list_any (λ spec. has_post_out [] spec.no) stages ≡ false
 none_in [] = refl

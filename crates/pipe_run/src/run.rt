@@ -7,7 +7,7 @@ ghost use Rattle.stage_bodies.specs.Seen.{body_at, line_seen};
 ghost use Rattle.stage_bodies.specs.Jobs.{Both};
 ghost use Rattle.body_laws.specs.Ready.{IsFilled};
 ghost use Rattle.control_lines.specs.Keeping.{IsFresh};
-ghost use Rattle.stage_rounds.specs.Clocks.{clock_seen};
+ghost use Rattle.stage_moves.specs.Clocks.{clock_seen};
 ghost use Rattle.stage_rounds.specs.Rounds.{HasEnded};
 ghost use Rattle.edge_names.specs.Controls.{run_calls};
 ghost use Rattle.edge_names.specs.Returned.{IsAskedInPart, KeepsCallbacks};

@@ -4,14 +4,14 @@ ghost use Rattle.std.specs.Prelude.{◌≡◌, ◌≢◌, ◌⊎◌, ◌≤◌, 
 ghost use Rattle.pipe_types.specs.Counts.{Rose};
 ghost use Rattle.program_words.specs.Refusals.{memory_line};
 ghost use Rattle.program_words.specs.Words.{command_of, texts_of, Flow, Check, Run};
-ghost use Rattle.stage_rounds.specs.Clocks.{clock_seen};
+ghost use Rattle.stage_moves.specs.Clocks.{clock_seen};
 ghost use Rattle.box_stock.specs.Lends.{kinds_of};
 ghost use Rattle.topology_needs.specs.Needs.{boxes_in};
 ghost use Rattle.pipe_top.specs.Cases.{InCase};
 ghost use Rattle.pipe_top.specs.Verdicts.{AddsPrefix};
 ghost use Rattle.pipe_top.specs.Runs.{IsRunOrNone, IsCall, IsRefusalStatus, IsUnopenedStatus, IsOr};
 ghost use Rattle.pipe_top.specs.Flows.{Came};
-ghost use Rattle.stage_rounds.specs.Clocks.{ClockSeen};
+ghost use Rattle.stage_moves.specs.Clocks.{ClockSeen};
 ghost use Rattle.topology_needs.specs.declared.stock.Boxes.{Boxes};
 
 use crate::file::{checked, read_named};

@@ -4,7 +4,7 @@ ghost use Rattle.std.specs.Prelude.{◌≡◌, ◌≢◌, ◌⊎◌, ◌≤◌, 
 ghost use Rattle.pipe_types.specs.Sound.{IsSound};
 ghost use Rattle.pipe_model.specs.Places.{ArePlaces};
 ghost use Rattle.core_state.specs.Stands.{Stands};
-ghost use Rattle.stage_rounds.specs.Clocks.{clock_seen};
+ghost use Rattle.stage_moves.specs.Clocks.{clock_seen};
 ghost use Rattle.edge_names.specs.Controls.{run_calls};
 ghost use Rattle.box_stock.specs.Homes.{Suffices};
 ghost use Rattle.box_stock.specs.Lends.{kinds_of};

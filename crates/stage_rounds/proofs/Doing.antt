@@ -20,12 +20,13 @@ use Rattle.body_laws.proofs.Allowed.{answer_allowed}
 use Rattle.core_jobs.specs.Begun.{IsBegun}
 use Rattle.core_jobs.specs.Recorded.{with_answer}
 use Rattle.control_lines.proofs.Kept.{job_keeps}
-use Rattle.stage_rounds.specs.Going.{GoesOn, IsAtRest, Within, HasCallback}
-use Rattle.stage_rounds.proofs.Working.{Began, began}
+use Rattle.stage_moves.specs.Going.{GoesOn, Within, HasCallback}
+use Rattle.stage_rounds.specs.Rest.{IsAtRest}
+use Rattle.stage_moves.proofs.Working.{Began, began}
 use Rattle.stage_rounds.proofs.Answered.{Leaves, answered, stays_begun, taken_body, taken_keeps, taken_stood}
-use Rattle.stage_rounds.proofs.Controls.{job_count}
-use Rattle.stage_rounds.proofs.Results.{by_result, on_ok}
-use Rattle.stage_rounds.proofs.Callbacks.{done_stays, cut_stays, back_stays, back_there}
+use Rattle.stage_moves.proofs.Controls.{job_count}
+use Rattle.stage_moves.proofs.Results.{by_result, on_ok}
+use Rattle.stage_moves.proofs.Callbacks.{done_stays, cut_stays, back_stays, back_there}
 
 -- ---- the job and its body
 

@@ -1,14 +1,3 @@
-mod Moves
-mod Times
-mod Controls
-mod Own
-mod Ticking
-mod Results
-mod Resetting
-mod Goings
 mod Outs
-mod Working
 mod Answered
 mod Doing
-mod Turning
-mod Callbacks

@@ -41,9 +41,3 @@ none_out_after topology before p begin answer only none home was =
     any_none (λ (spec : StageSpec). has_post_out before spec.no) (λ (spec : StageSpec). has_post_out (answer ∷ begin ∷ before) spec.no) topology.stages
     (λ spec h. any_none (λ slot. is_out before (post spec.no slot)) (λ slot. is_out (answer ∷ begin ∷ before) (post spec.no slot)) slots
     (λ slot k. home_again p (post spec.no slot) begin answer before (only (post spec.no slot)) (none (post spec.no slot)) home k) h) was
-
-pub put_only : (p q : Post) (begin : Step) → puts_out begin p ≡ true → puts_out begin q ≡ true → q ≡ p
-put_only p q (Fetch s n) h k = same_post-true q (post s 0) k ∙ sym (same_post-true p (post s 0) h)
-put_only p q (Take s u k') h k = same_post-true q (post s 0) k ∙ sym (same_post-true p (post s 0) h)
-put_only p q (Child s m slot) h k = same_post-true q (post s slot) k ∙ sym (same_post-true p (post s slot) h)
-put_only p q step h k = cc

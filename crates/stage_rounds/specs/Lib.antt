@@ -1,4 +1,2 @@
-pub mod Going
-pub mod Resets
-pub mod Clocks
+pub mod Rest
 pub mod Rounds

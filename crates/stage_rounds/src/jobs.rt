@@ -5,7 +5,8 @@ ghost use Rattle.pipe_model.specs.Moves.{move as next_move_of, Job as JobMove};
 ghost use Rattle.work_laws.specs.Left.{work_left};
 ghost use Rattle.core_state.specs.Stands.{Stands};
 ghost use Rattle.stage_bodies.specs.Seen.{body_at};
-ghost use Rattle.stage_rounds.specs.Going.{IsAtRest, GoesOn, Within};
+ghost use Rattle.stage_moves.specs.Going.{GoesOn, Within};
+ghost use Rattle.stage_rounds.specs.Rest.{IsAtRest};
 
 use core_jobs::{begin_job, record_answer};
 use core_state::Core;

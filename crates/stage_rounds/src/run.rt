@@ -4,8 +4,9 @@ ghost use Rattle.std.specs.Prelude.{◌≡◌, ◌≤◌, OnOk, IfOk, Option, op
 ghost use Rattle.core_state.specs.Stands.{Stands};
 ghost use Rattle.stage_bodies.specs.Seen.{LineSeen, body_at, line_seen};
 ghost use Rattle.control_lines.specs.Keeping.{KeepsControl, KeepsControlOn};
-ghost use Rattle.stage_rounds.specs.Going.{IsAtRest, GoesOn};
-ghost use Rattle.stage_rounds.specs.Clocks.{ClockSeen, clock_seen, KeepsClock, KeepsClockOn};
+ghost use Rattle.stage_moves.specs.Going.{GoesOn};
+ghost use Rattle.stage_rounds.specs.Rest.{IsAtRest};
+ghost use Rattle.stage_moves.specs.Clocks.{ClockSeen, clock_seen, KeepsClock, KeepsClockOn};
 ghost use Rattle.stage_rounds.specs.Rounds.{HasEnded};
 
 use crate::round::{RoundEnd, round};

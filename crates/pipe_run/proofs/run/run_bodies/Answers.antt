@@ -4,7 +4,7 @@ use Rattle.pipe_types.specs.declared.topology.Topology.{Topology}
 use Rattle.pipe_model.specs.Legal.{is_legal}
 use Rattle.stage_bodies.specs.Seen.{body_at, line_seen, source_seen, sink_seen}
 use Rattle.body_laws.specs.Ready.{IsFilled}
-use Rattle.stage_rounds.specs.Clocks.{clock_seen}
+use Rattle.stage_moves.specs.Clocks.{clock_seen}
 use Rattle.edge_names.specs.Seen.{edges_seen}
 use Rattle.edge_names.specs.Controls.{IsUndone, control_call, run_calls}
 use Rattle.edge_names.specs.Opened.{AreHome, AreOpened, Asks, HasSource}

@@ -1,7 +1,7 @@
 use Rattle.std.proofs.Common.{◌++◌, ◌∙◌, subst}
 use Rattle.std.specs.Prelude.{option_map}
 use Rattle.stage_bodies.specs.Seen.{body_at, line_seen, source_seen, sink_seen}
-use Rattle.stage_rounds.specs.Clocks.{clock_seen}
+use Rattle.stage_moves.specs.Clocks.{clock_seen}
 use Rattle.edge_names.specs.Seen.{edges_seen}
 use Rattle.edge_names.specs.Controls.{IsGivenInPart, named_control}
 use Rattle.edge_names.specs.Returned.{GivesBack, sources_of, sinks_of}

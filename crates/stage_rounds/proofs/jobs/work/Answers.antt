@@ -4,8 +4,8 @@ use Rattle.move_laws.proofs.Laws.{move_law}
 use Rattle.move_laws.specs.NextMoves.{IsLegalMove}
 use Rattle.stage_bodies.specs.Seen.{body_at}
 use Rattle.stage_bodies.specs.Posts.{step_of}
-use Rattle.stage_rounds.specs.Going.{Within}
-use Rattle.stage_rounds.proofs.Goings.{within_none}
+use Rattle.stage_moves.specs.Going.{Within}
+use Rattle.stage_moves.proofs.Goings.{within_none}
 use Rattle.stage_rounds.proofs.Doing.{doing, is_there, fits, may_answer, cut, began_within, recorded_goes, recorded_rests, recorded_within, recorded_less}
 use Rattle.stage_rounds.proofs.jobs.work.Goals as goal
 

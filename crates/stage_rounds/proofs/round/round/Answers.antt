@@ -5,12 +5,13 @@ use Rattle.work_laws.specs.Left.{work_left}
 use Rattle.move_laws.proofs.Laws.{pause_law}
 use Rattle.stage_bodies.specs.Seen.{body_at, line_seen}
 use Rattle.control_lines.proofs.Kept.{jobless_keeps}
-use Rattle.stage_rounds.specs.Going.{GoesOn, IsAtRest, Within}
-use Rattle.stage_rounds.specs.Clocks.{clock_seen}
-use Rattle.stage_rounds.proofs.Controls.{none_read, no_more_lines, over_on, partly_on}
-use Rattle.stage_rounds.proofs.Goings.{goes_same, goes_then}
-use Rattle.stage_rounds.proofs.Times.{ahead_same, paused_then, in_vain}
-use Rattle.stage_rounds.proofs.Turning.{either_way, vain_way, worked_clock, paused_waits, job_leaves, pause_leaves, no_jobs_out, drained_at, halted_at}
+use Rattle.stage_moves.specs.Going.{GoesOn, Within}
+use Rattle.stage_rounds.specs.Rest.{IsAtRest}
+use Rattle.stage_moves.specs.Clocks.{clock_seen}
+use Rattle.stage_moves.proofs.Controls.{none_read, no_more_lines, over_on, partly_on}
+use Rattle.stage_moves.proofs.Goings.{goes_same, goes_then}
+use Rattle.stage_moves.proofs.Times.{ahead_same, paused_then, in_vain}
+use Rattle.stage_moves.proofs.Turning.{either_way, vain_way, worked_clock, paused_waits, job_leaves, pause_leaves, no_jobs_out, drained_at, halted_at}
 use Rattle.stage_rounds.proofs.round.round.Goals as goal
 
 pub returns-then-is_halted-clause-goes : goal.returns-then-is_halted-clause-goes
@@ -38,7 +39,9 @@ returns-in_err-stage-clause-control g c opened k =
     partly_on c.from_residual.result t b 0 opened l1 c.from_residual.ensures.0 (c.in_err-stage.ensures.control opened k)
 
 pub work-requires-clause-rest : goal.work-requires-clause-rest
-work-requires-clause-rest g c = subst (λ o. IsAtRest o c.advance.new.core.journal.steps (body_at g.B.Works.look c.advance.new.bodies.items)) (sym c.advance.ensures.topology) c.advance.ensures.rest
+work-requires-clause-rest g c =
+    let e = c.advance.ensures in
+    subst (λ o. IsAtRest o c.advance.new.core.journal.steps (body_at g.B.Works.look c.advance.new.bodies.items)) (sym e.topology) (record { none_out = e.same_out ∙ c.requires.rest.none_out; ready = e.ready })
 
 pub returns-in_err-work-in-Job-clause-goes : goal.returns-in_err-work-in-Job-clause-goes
 returns-in_err-work-in-Job-clause-goes g c =
@@ -186,7 +189,8 @@ returns-in_ok-pause-in-Pause-clause-rest g c =
     let here = body_at look c.advance.new.bodies.items in
     let c1 = clock_seen g.C.Clock.latest g.C.Clock.readings c.advance.new.clock in
     let c2 = clock_seen g.C.Clock.latest g.C.Clock.readings c.pause.new.clock in
-    (paused_waits t c.pause.new.core.topology b p c.pause.result c1 c2 c.requires.stands.holds.sound (c.pause.ensures.topology ∙ c.advance.ensures.topology) c.pause.ensures.stands.holds.legal c.pause.ensures.paused).rest here c.advance.ensures.rest
+    let w = paused_waits t c.pause.new.core.topology b p c.pause.result c1 c2 c.requires.stands.holds.sound (c.pause.ensures.topology ∙ c.advance.ensures.topology) c.pause.ensures.stands.holds.legal c.pause.ensures.paused in
+    record { none_out = w.same_out ∙ c.advance.ensures.same_out ∙ c.requires.rest.none_out; ready = w.ready here c.advance.ensures.ready }
 
 pub returns-in_ok-pause-in-Pause-clause-clock : goal.returns-in_ok-pause-in-Pause-clause-clock
 returns-in_ok-pause-in-Pause-clause-clock g c opened k =
@@ -265,4 +269,4 @@ pub unreachable-requires-in-JobsOut : goal.unreachable-requires-in-JobsOut
 unreachable-requires-in-JobsOut g c =
     let e = c.advance.ensures in
     let b = c.advance.new.core.journal.steps in
-    no_jobs_out c.advance.new.core.topology b e.stands.holds.legal e.stands.unowed (subst (λ o. jobs_out o b ≡ false) (sym e.topology) e.rest.none_out) (rw c.in-JobsOut.is at c.in_ok-stage.ensures.next)
+    no_jobs_out c.advance.new.core.topology b e.stands.holds.legal e.stands.unowed (subst (λ o. jobs_out o b ≡ false) (sym e.topology) (e.same_out ∙ c.requires.rest.none_out)) (rw c.in-JobsOut.is at c.in_ok-stage.ensures.next)

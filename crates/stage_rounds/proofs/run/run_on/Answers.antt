@@ -2,9 +2,10 @@ use Rattle.std.proofs.Common.{◌∙◌, subst}
 use Rattle.std.specs.Prelude.{option_map}
 use Rattle.stage_bodies.specs.Seen.{body_at, line_seen}
 use Rattle.control_lines.specs.Keeping.{KeepsControl, KeepsControlPartly}
-use Rattle.stage_rounds.specs.Going.{GoesOn, IsAtRest}
-use Rattle.stage_rounds.proofs.Controls.{partly_on}
-use Rattle.stage_rounds.proofs.Goings.{goes_then}
+use Rattle.stage_moves.specs.Going.{GoesOn}
+use Rattle.stage_rounds.specs.Rest.{IsAtRest}
+use Rattle.stage_moves.proofs.Controls.{partly_on}
+use Rattle.stage_moves.proofs.Goings.{goes_then}
 use Rattle.stage_rounds.proofs.run.run_on.Goals as goal
 
 pub returns-in_err-round-clause-control : goal.returns-in_err-round-clause-control

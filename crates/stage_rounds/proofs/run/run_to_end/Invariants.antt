@@ -3,9 +3,10 @@ use Rattle.core_state.specs.Stands.{Stands}
 use Rattle.std.specs.Prelude.{Option, option_map}
 use Rattle.stage_bodies.specs.Seen.{LineSeen, body_at, line_seen}
 use Rattle.control_lines.specs.Keeping.{KeepsControl}
-use Rattle.stage_rounds.specs.Going.{IsAtRest, GoesOn}
-use Rattle.stage_rounds.specs.Clocks.{ClockSeen, clock_seen, KeepsClock}
-use Rattle.stage_rounds.specs.Rounds.{rounds_left}
+use Rattle.stage_moves.specs.Going.{GoesOn}
+use Rattle.stage_rounds.specs.Rest.{IsAtRest}
+use Rattle.stage_moves.specs.Clocks.{ClockSeen, clock_seen, KeepsClock}
+use Rattle.stage_moves.specs.Pauses.{rounds_left}
 use Rattle.stage_rounds.proofs.run.run_to_end.Given as goal
 
 abbrev pub invariant-loop : goal.invariant-loop

@@ -1,0 +1,12 @@
+pub mod Moves
+pub mod Times
+pub mod Controls
+pub mod Own
+pub mod Ticking
+pub mod Results
+pub mod Callbacks
+pub mod Resetting
+pub mod Goings
+pub mod Working
+pub mod Answering
+pub mod Turning

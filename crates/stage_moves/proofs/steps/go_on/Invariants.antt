@@ -1,0 +1,18 @@
+use Rattle.std.proofs.Common.{◌≡◌}
+use Rattle.work_laws.specs.Left.{work_left}
+use Rattle.core_state.specs.Stands.{Stands}
+use Rattle.stage_bodies.specs.Seen.{body_at}
+use Rattle.stage_moves.specs.Going.{Advances}
+use Rattle.stage_moves.proofs.steps.go_on.Given as goal
+
+abbrev pub invariant-loop-step : goal.invariant-loop-step
+invariant-loop-step g l =
+    let look = g.B.Works.look in
+    record {
+      stands : Stands l.core;
+      topology : l.core.topology ≡ l.initial.core.topology;
+      advances : Advances l.initial.core.topology l.initial.core.journal.steps (body_at look l.initial.bodies.items) l.core.journal.steps (body_at look l.bodies.items);
+    }
+
+abbrev pub decreases-loop-step : goal.decreases-loop-step
+decreases-loop-step g l = work_left l.core.topology l.core.journal.steps

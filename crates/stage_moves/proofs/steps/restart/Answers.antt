@@ -1,0 +1,29 @@
+use Rattle.std.proofs.Common.{subst}
+use Rattle.move_laws.proofs.Laws.{move_law}
+use Rattle.move_laws.specs.NextMoves.{IsLegalMove}
+use Rattle.pipe_types.specs.declared.step.Step.TheVariants.{Restart}
+use Rattle.stage_bodies.specs.Seen.{body_at}
+use Rattle.stage_moves.proofs.Goings.{unmoved, restarted, made_less}
+use Rattle.stage_moves.proofs.steps.restart.Goals as goal
+
+pub own_step-requires-clause-legal : goal.own_step-requires-clause-legal
+own_step-requires-clause-legal g c =
+    let t = c.args.core.now.topology in
+    let h = c.args.core.now.journal.steps in
+    subst (IsLegalMove t h) c.requires.first (move_law t h c.requires.stands.holds.legal c.requires.stands.unowed)
+
+pub returns-in_err-own_step-clause-advances : goal.returns-in_err-own_step-clause-advances
+returns-in_err-own_step-clause-advances g c =
+    unmoved c.args.core.now.topology c.args.core.now.journal.steps c.own_step.new.core.journal.steps (body_at g.B.Works.look c.args.bodies.now.items) c.requires.ready c.in_err-own_step.ensures.unchanged
+
+pub returns-clause-advances : goal.returns-clause-advances
+returns-clause-advances g c =
+    let look = g.B.Works.look in
+    let e = c.in_ok-own_step.ensures in
+    restarted c.args.core.now.topology c.own_step.new.core.topology c.args.core.now.journal.steps c.own_step.new.core.journal.steps c.args.stage (body_at look c.args.bodies.now.items) (body_at look c.reset_bodies.new.bodies.items)
+    c.requires.stands.holds.sound c.requires.ready e.topology e.stands.holds.legal c.requires.first e.appended c.reset_bodies.ensures
+
+pub returns-clause-less : goal.returns-clause-less
+returns-clause-less g c =
+    let e = c.in_ok-own_step.ensures in
+    made_less c.args.core.now.topology c.own_step.new.core.topology c.args.core.now.journal.steps c.own_step.new.core.journal.steps (Restart c.args.stage) c.requires.stands.holds.sound e.topology e.stands.holds.legal c.requires.first e.appended

@@ -1,0 +1,4 @@
+pub mod Going
+pub mod Resets
+pub mod Clocks
+pub mod Pauses
