@@ -1,0 +1,7 @@
+pub mod Running
+pub mod Outs
+pub mod Batches
+pub mod Taken
+pub mod Works
+pub mod Lates
+pub mod Away
