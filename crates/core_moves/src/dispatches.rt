@@ -112,6 +112,9 @@ fn sends_by_part(core: &Core, spec: &StageSpec) -> bool
     requires kind { spec.now.dispatch ≡ Partition }
     ensures { result ≡ goes_some Partition (rooms_by core.now.topology core.now.journal.steps (view_of core.now.topology core.now.journal.steps) spec.now.no) (parts_of core.now.topology core.now.journal.steps spec.now.no) }
 {
+    if is_waiting_empty(core, spec.no) {
+        return false;
+    }
     is_any_wanted(core, spec)
 }
 
