@@ -105,14 +105,17 @@ fn has_every_open(core: &Core, spec: &StageSpec) -> bool
 }
 
 /// Whether a unit waits in the stage for whose partition a subscriber has open demand.
-fn sends_by_part(core: &Core, spec: &StageSpec) -> bool
+fn sends_by_part(core: &Core, producer: &StageSpec) -> bool
     requires stands { Stands core.now }
-    requires there { spec_of core.now.topology spec.now.no ≡ Some spec.now }
-    requires live { is_live core.now.topology core.now.journal.steps spec.now.no ≡ true }
-    requires kind { spec.now.dispatch ≡ Partition }
-    ensures { result ≡ goes_some Partition (rooms_by core.now.topology core.now.journal.steps (view_of core.now.topology core.now.journal.steps) spec.now.no) (parts_of core.now.topology core.now.journal.steps spec.now.no) }
+    requires there { spec_of core.now.topology producer.now.no ≡ Some producer.now }
+    requires live { is_live core.now.topology core.now.journal.steps producer.now.no ≡ true }
+    requires kind { producer.now.dispatch ≡ Partition }
+    ensures { result ≡ goes_some Partition (rooms_by core.now.topology core.now.journal.steps (view_of core.now.topology core.now.journal.steps) producer.now.no) (parts_of core.now.topology core.now.journal.steps producer.now.no) }
 {
-    is_any_wanted(core, spec)
+    if is_waiting_empty(core, producer.no) {
+        return false;
+    }
+    is_any_wanted(core, producer)
 }
 
 fn is_any_open(core: &Core, producer: &StageSpec) -> bool
