@@ -18,7 +18,8 @@ use Rattle.pipe_model.specs.Ledger.{due}
 use Rattle.pipe_model.specs.Legal.{needs_restart, happened, is_halt, is_drain, has_ended, is_producer_role}
 use Rattle.pipe_model.specs.Moves.{subs_into}
 use Rattle.stage_laws.proofs.Numbering.{numbered_topology}
-use Rattle.stage_subs.specs.Subs.{live_sub, live_sub_in}
+use Rattle.stage_subs.specs.Subs.{live_sub, live_sub_in, due_rows}
+use Rattle.stage_subs.proofs.Rows.{no_due}
 use Rattle.core_tables.specs.declared.rows.StageRow.{StageRow}
 use Rattle.core_laws.specs.Columns.{stage_row}
 use Rattle.core_state.specs.declared.state.Core.{Core}
@@ -59,6 +60,14 @@ unfed topology before c p none = ap (λ b. if b && is_due topology before (curre
 -- on a subscription that is not live none is due
 pub due_dead : (topology : Topology) (before : History) (u : SubNo) → is_live_sub topology before u ≡ false → is_due topology before u ≡ false
 due_dead topology before u dead = rw dead refl
+
+-- where the table has none due, none is
+pub none_due : (core : Core) → Holds core → nat_lt 0 (due_rows core.subs) ≡ false → (u : SubNo) → is_due core.topology core.journal.steps u ≡ false
+none_due core x none u = by (is_live_sub core.topology core.journal.steps u) refl
+  where
+    by : (b : Bool) → is_live_sub core.topology core.journal.steps u ≡ b → is_due core.topology core.journal.steps u ≡ false
+    by true live = ap (λ n. nat_lt 0 n) (sym (due_seen core core.topology core.journal.steps u x.fields live) ∙ no_due core.subs none u)
+    by false dead = due_dead core.topology core.journal.steps u dead
 
 -- what the table has of the pair
 pub live_is : (core : Core) (c p : StageNo) → Holds core → feeds core.topology p c ≡ true
@@ -130,6 +139,10 @@ into_next topology before c specs i p below is none =
     ∙ sym (at_drop_more (λ xs. find (is_due topology before) (subs_into topology before c xs)) specs i p below
     ∙ (ap (λ (q : StageSpec). find (is_due topology before) (subs_into topology before c (q ∷ drop (i + 1) specs))) (sym is)
     ∙ into_if (is_due topology before) (feeds topology p.no c) (current_sub topology before c p.no) (subs_into topology before c (drop (i + 1) specs))))
+
+pub find_nothing : {A : Type 0} (test : A → Bool) → ((x : A) → test x ≡ false) → (xs : List A) → find test xs ≡ None
+find_nothing test none [] = refl
+find_nothing test none (x ∷ xs) = ap (λ b. if b then Some x else find test xs) (none x) ∙ find_nothing test none xs
 
 find_first : {A : Type 0} (test : A → Bool) (xs ys : List A) (u : A) → find test xs ≡ Some u → find test (xs ++ ys) ≡ Some u
 find_first test [] ys u h = cc

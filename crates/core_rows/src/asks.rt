@@ -18,6 +18,9 @@ pub fn first_due(core: &Core) -> Option<SubNo>
     requires stands { Stands core.now }
     ensures { result ≡ find (is_due core.now.topology core.now.journal.steps) (all_subs core.now.topology core.now.journal.steps) }
 {
+    if !core.subs.has_due() {
+        return None;
+    }
     for spec in core.topology.stages.as_slice() {
         if let Some(sub) = first_due_of(core, spec) {
             return Some(sub);

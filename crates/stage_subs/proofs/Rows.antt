@@ -1,17 +1,19 @@
 -- The rows of a table after one was written.
-use Rattle.std.proofs.Common.{◌≡◌, ◌≢◌, ℕ, zero, suc, ◌+◌, ◌<◌, ◌≤◌, List, [], length, get_or, map, take, replicate, ◌++◌, cond, refl, ap, sym, ◌∙◌, ⊎_elim, arith, Option, Some, None, option_map}
-use Rattle.std.specs.Prelude.{true, false, nat_le, if◌then◌else◌}
+use Rattle.std.proofs.Common.{◌≡◌, ◌≢◌, ℕ, zero, suc, ◌+◌, ◌<◌, ◌≤◌, List, [], ◌∷◌, length, get_or, map, take, replicate, ◌++◌, cond, refl, ap, sym, ◌∙◌, ⊎_elim, arith, Option, Some, None, option_map}
+use Rattle.std.specs.Prelude.{Bool, true, false, ◌&&◌, ◌==◌, nat_le, nat_lt, count_by, if◌then◌else◌}
 use Rattle.std.proofs.Math.ListN.{set}
 use Rattle.std.proofs.Math.Seq.{take-nil}
 use Rattle.std.proofs.lemmas.Bool.{cases_eq, cases_lt, cases_Bool, cond-true, cond-false}
 use Rattle.std.proofs.lemmas.Bool.Decides.{nat_tests}
-use Rattle.std.proofs.lemmas.List.{map-set, length-map, get_or-set_same, get_or-set_other}
-use Rattle.std.proofs.lemmas.List.Sums.{sum_by-set}
+use Rattle.std.proofs.lemmas.List.{map-set, length-map, length-set, get_or-set_same, get_or-set_other, get_or_default}
+use Rattle.std.proofs.lemmas.List.Sums.{sum_by-set, sum_by-cons, count_by-le-length}
 use Rattle.pipe_types.specs.declared.numbers.StageNo.{StageNo}
+use Rattle.pipe_types.specs.declared.numbers.SubNo.{SubNo}
+use Rattle.stage_demand.specs.Demand.{due_of}
 use Rattle.stage_subs.specs.declared.SubRow.{SubRow}
 use Rattle.stage_subs.specs.declared.TheConstants.{LAST_STAGE}
 use Rattle.stage_subs.specs.Pairs.{PairRow}
-use Rattle.stage_subs.specs.Subs.{rows_of, seen_in, slot_of, row_at, live_in, live_rows, is_pair, IsPut}
+use Rattle.stage_subs.specs.Subs.{rows_of, seen_in, slot_of, row_at, live_in, live_rows, has_due_in, due_rows, due_in, due_on, is_pair, IsPut}
 
 -- two pairs with the same slot are the same pair
 apart_slots : (c p d q : StageNo) → p.0 ≤ 64 → q.0 ≤ 64 → is_pair c p d q ≡ false → slot_of d q ≢ slot_of c p
@@ -65,12 +67,41 @@ put_rows rows c p row within hp =
           ∙ row_put (rows_of rows) c p (seen_in row) (rw length-map within) hp d q;
     }
 
+seen_at : (rows : List (Option SubRow)) (i : ℕ) → option_map seen_in (get_or rows i None) ≡ get_or (rows_of rows) i None
+seen_at [] i = refl
+seen_at (row ∷ rows) zero = refl
+seen_at (row ∷ rows) (suc i) = seen_at rows i
+
 pub put_live : (rows : List (Option SubRow)) (c p : StageNo) (row : SubRow) → slot_of c p < length rows → p.0 ≤ 64
     → live_rows (rows_of (set rows (slot_of c p) (Some row))) + (if live_in (row_at (rows_of rows) c p) then 1 else 0) ≡ live_rows (rows_of rows) + (if row.live then 1 else 0)
 put_live rows c p row within hp =
     ap (λ (t : List (Option PairRow)). live_rows t + (if live_in (row_at (rows_of rows) c p) then 1 else 0)) (map-set (option_map seen_in) rows (slot_of c p) (Some row))
     ∙ (ap (λ (o : Option PairRow). live_rows (set (rows_of rows) (slot_of c p) (Some (seen_in row))) + (if live_in o then 1 else 0)) (row_within (rows_of rows) c p hp)
     ∙ sum_by-set (λ (o : Option PairRow). cond {A = ℕ} (live_in o) 1 0) (rows_of rows) (slot_of c p) (Some (seen_in row)) None (rw length-map within))
+
+-- of the row that stands there before and the one that is written, in which an ask is due counts
+pub put_due : (rows : List (Option SubRow)) (c p : StageNo) (old : Option SubRow) (row : SubRow) → slot_of c p < length rows → old ≡ get_or rows (slot_of c p) old
+    → due_rows (rows_of (set rows (slot_of c p) (Some row))) + (if has_due_in (option_map seen_in old) then 1 else 0) ≡ due_rows (rows_of rows) + (if has_due_in (Some (seen_in row)) then 1 else 0)
+put_due rows c p old row within is =
+    ap (λ (t : List (Option PairRow)). due_rows t + (if has_due_in (option_map seen_in old) then 1 else 0)) (map-set (option_map seen_in) rows (slot_of c p) (Some row))
+    ∙ (ap (λ (o : Option PairRow). due_rows (set (rows_of rows) (slot_of c p) (Some (seen_in row))) + (if has_due_in o then 1 else 0)) (ap (option_map seen_in) (is ∙ get_or_default rows (slot_of c p) old None within) ∙ seen_at rows (slot_of c p))
+    ∙ sum_by-set (λ (o : Option PairRow). cond {A = ℕ} (has_due_in o) 1 0) (rows_of rows) (slot_of c p) (Some (seen_in row)) None (rw length-map within))
+
+pub due_most : (rows : List (Option SubRow)) (i : ℕ) (row : SubRow) → length rows ≡ 4225 → due_rows (rows_of (set rows i (Some row))) ≤ 4225
+due_most rows i row sized =
+    let most : due_rows (rows_of (set rows i (Some row))) ≤ length (rows_of (set rows i (Some row))) = count_by-le-length has_due_in (rows_of (set rows i (Some row))) in
+    let long : length (rows_of (set rows i (Some row))) ≡ 4225 = length-map (set rows i (Some row)) (option_map seen_in) ∙ (length-set rows i (Some row) ∙ sized) in
+    omega (arith, most, long)
+
+pub one_less : (was is : Bool) (new old count : ℕ) → new + (if was then 1 else 0) ≡ old + (if is then 1 else 0) → old ≡ count → was ≡ true → is ≡ false → 1 ≤ count
+one_less true false new old count counts same w i = omega (arith, counts, same)
+one_less true true new old count counts same w i = cc
+one_less false is new old count counts same w i = cc
+
+pub one_more : (was is : Bool) (new old count : ℕ) → new + (if was then 1 else 0) ≡ old + (if is then 1 else 0) → old ≡ count → new ≤ 4225 → was ≡ false → is ≡ true → count < 4225
+one_more false true new old count counts same most w i = omega (arith, counts, same, most)
+one_more false false new old count counts same most w i = cc
+one_more true is new old count counts same most w i = cc
 
 -- a table with no subscription in it yet says nothing of any pair
 none_at : (n i : ℕ) → get_or (map (option_map seen_in) (replicate n None)) i None ≡ None
@@ -97,3 +128,45 @@ pub same_live : (n k : ℕ) (old new : List (Option SubRow)) → old ≡ [] → 
 same_live n k old new none is =
     ap (λ (l : List (Option SubRow)). live_rows (rows_of l)) (grown n k old new none is)
     ∙ (none_live k ∙ ap (λ (l : List (Option SubRow)). live_rows (rows_of l)) (sym none))
+
+none_due : (n : ℕ) → due_rows (rows_of (replicate n None)) ≡ 0
+none_due zero = refl
+none_due (suc n) = none_due n
+
+pub same_due : (n k : ℕ) (old new : List (Option SubRow)) → old ≡ [] → new ≡ take n old ++ replicate k None → due_rows (rows_of new) ≡ due_rows (rows_of old)
+same_due n k old new none is =
+    ap (λ (l : List (Option SubRow)). due_rows (rows_of l)) (grown n k old new none is)
+    ∙ (none_due k ∙ ap (λ (l : List (Option SubRow)). due_rows (rows_of l)) (sym none))
+
+-- where no row has an ask due, none is due on any subscription
+
+not_first : (b : Bool) (n : ℕ) → cond b 1 0 + n ≡ 0 → b ≡ false
+not_first false n h = refl
+not_first true n h = absurd (omega (arith, h))
+
+not_later : (b : Bool) (n : ℕ) → cond b 1 0 + n ≡ 0 → n ≡ 0
+not_later b n h = omega (arith, h)
+
+none_has : (rows : List (Option PairRow)) → count_by has_due_in rows ≡ 0 → (i : ℕ) → has_due_in (get_or rows i None) ≡ false
+none_has [] h i = refl
+none_has (row ∷ rows) h zero = not_first (has_due_in row) (count_by has_due_in rows) (sym (sum_by-cons (λ (o : Option PairRow). cond {A = ℕ} (has_due_in o) 1 0) row rows) ∙ h)
+none_has (row ∷ rows) h (suc i) = none_has rows (not_later (has_due_in row) (count_by has_due_in rows) (sym (sum_by-cons (λ (o : Option PairRow). cond {A = ℕ} (has_due_in o) 1 0) row rows) ∙ h)) i
+
+zero_if : (n : ℕ) → nat_lt 0 n ≡ false → n ≡ 0
+zero_if n h = grind (arith, nat_tests)
+
+due_zero : (live now : Bool) (n : ℕ) → (live && nat_lt 0 n) ≡ false → (if live && now then n else 0) ≡ 0
+due_zero true true n h = zero_if n h
+due_zero true false n h = refl
+due_zero false now n h = refl
+
+due_none : (row : Option PairRow) (g : ℕ) → has_due_in row ≡ false → due_in row g ≡ 0
+due_none None g h = refl
+due_none (Some row) g h = due_zero row.is_live (row.generation == g) (due_of row.counts) h
+
+pub no_due : (table : List (Option PairRow)) → nat_lt 0 (due_rows table) ≡ false → (u : SubNo) → due_on table u ≡ 0
+no_due table none u = due_none (row_at table u.consumer u.producer) u.generation (by (nat_le u.producer.0 LAST_STAGE))
+  where
+    by : (b : Bool) → has_due_in (if b then get_or table (slot_of u.consumer u.producer) None else None) ≡ false
+    by true = none_has table (zero_if (due_rows table) none) (slot_of u.consumer u.producer)
+    by false = refl

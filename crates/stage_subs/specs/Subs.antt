@@ -1,5 +1,5 @@
 -- The rows of the pairs in a table, and what a call makes of them.
-use Rattle.std.specs.Prelude.{◌≡◌, ℕ, zero, suc, ◌+◌, ◌*◌, ◌-◌, ◌<◌, Bool, true, false, ◌&&◌, ◌==◌, nat_le, if◌then◌else◌, List, length, map, count_by, slice_index_or, Option, Some, None, option_map}
+use Rattle.std.specs.Prelude.{◌≡◌, ℕ, zero, suc, ◌+◌, ◌*◌, ◌-◌, ◌<◌, Bool, true, false, ◌&&◌, ◌==◌, nat_le, nat_lt, if◌then◌else◌, List, length, map, count_by, slice_index_or, Option, Some, None, option_map}
 use Rattle.pipe_types.specs.declared.numbers.StageNo.{StageNo}
 use Rattle.pipe_types.specs.declared.numbers.SubNo.{SubNo}
 use Rattle.pipe_types.specs.Numbers.{stage, same_stage, subscription}
@@ -39,6 +39,15 @@ live_in (Some row) = row.is_live
 -- how many subscriptions are live
 abbrev pub live_rows : List (Option PairRow) → ℕ
 live_rows table = count_by live_in table
+
+-- an ask is due on the pair's last subscription, which is live
+abbrev pub has_due_in : Option PairRow → Bool
+has_due_in None = false
+has_due_in (Some row) = row.is_live && nat_lt 0 (due_of row.counts)
+
+-- on how many subscriptions an ask is due
+abbrev pub due_rows : List (Option PairRow) → ℕ
+due_rows table = count_by has_due_in table
 
 -- the subscription is its pair's last one, and live
 abbrev pub is_live_in : Option PairRow → (generation : ℕ) → Bool
@@ -118,7 +127,8 @@ pub record IsChanged (old new : List (Option PairRow)) (u : SubNo) (change : Pai
 
 -- What a table keeps
 
--- it has no row yet or one for each pair, and so many of its subscriptions are live
-pub record IsTable (rows : List (Option SubRow)) (live : ℕ) : Type 0 where
+-- it has no row yet or one for each pair, so many of its subscriptions are live, and on so many an ask is due
+pub record IsTable (rows : List (Option SubRow)) (live due : ℕ) : Type 0 where
   pub sized : 0 < length rows → length rows ≡ CONSUMERS * STRIDE
   pub counted : live_rows (rows_of rows) ≡ live
+  pub due_counted : due_rows (rows_of rows) ≡ due

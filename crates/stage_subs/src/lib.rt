@@ -11,7 +11,7 @@ ghost use Rattle.pipe_model.specs.Lives.{exits as mode_exits};
 ghost use Rattle.pipe_types.specs.declared.numbers.StageNo.{StageNo as Stage};
 ghost use Rattle.stage_demand.specs.Demand.{counts_of};
 ghost use Rattle.stage_demand.specs.declared.TheConstants.{MAX_DEMAND};
-ghost use Rattle.stage_subs.specs.Subs.{row_at, row_of, rows_of, seen_in, slot_of, generation_in, live_in, live_rows, is_live, live_sub, open_in, due_on, room_on, room_below as room_below_in, room_to as room_to_in, begun, closed, asked_more, sent_more, handled_more, IsPut, IsChanged};
+ghost use Rattle.stage_subs.specs.Subs.{row_at, row_of, rows_of, seen_in, slot_of, generation_in, live_in, live_rows, has_due_in, due_rows, is_live, live_sub, open_in, due_on, room_on, room_below as room_below_in, room_to as room_to_in, begun, closed, asked_more, sent_more, handled_more, IsPut, IsChanged};
 
 use pipe_types::message::Why;
 use pipe_types::numbers::{StageNo, SubNo};
@@ -63,6 +63,8 @@ impl From<AllocError> for SubsFault {
 pub struct Subs {
     rows: Vec<Option<SubRow>>,
     live: u32,
+    // On how many of the live ones an ask is due.
+    due: u32,
 }
 
 impl Model for Subs {
@@ -75,7 +77,7 @@ impl Model for Subs {
 
     ghost view = { λ s. rows_of s.rows.items };
 
-    ghost invariant = { λ s. IsTable s.rows.items s.live };
+    ghost invariant = { λ s. IsTable s.rows.items s.live s.due };
 }
 
 impl Subs {
@@ -86,6 +88,7 @@ impl Subs {
         Subs {
             rows: Vec::new(alloc),
             live: 0,
+            due: 0,
         }
     }
 
@@ -120,7 +123,7 @@ impl Subs {
             live: true,
             demand: Demand::new(min, max),
         };
-        put(&mut self.rows, consumer, producer, row);
+        put(&mut self.rows, &mut self.due, consumer, producer, row);
         self.live += 1;
         Ok(SubNo {
             consumer,
@@ -147,7 +150,7 @@ impl Subs {
                 live: true,
                 demand: nothing_asked,
             };
-            put(&mut self.rows, consumer, producer, row);
+            put(&mut self.rows, &mut self.due, consumer, producer, row);
             self.live += 1;
         }
     }
@@ -160,7 +163,13 @@ impl Subs {
     {
         if let Some(row) = find(&self.rows, sub.consumer, sub.producer) {
             let row = SubRow { live: false, ..row };
-            put(&mut self.rows, sub.consumer, sub.producer, row);
+            put(
+                &mut self.rows,
+                &mut self.due,
+                sub.consumer,
+                sub.producer,
+                row,
+            );
             self.live -= 1;
         }
     }
@@ -178,6 +187,7 @@ impl Subs {
             demand.asked(n);
             put(
                 &mut self.rows,
+                &mut self.due,
                 sub.consumer,
                 sub.producer,
                 SubRow { demand, ..row },
@@ -197,6 +207,7 @@ impl Subs {
             demand.arrived(k);
             put(
                 &mut self.rows,
+                &mut self.due,
                 sub.consumer,
                 sub.producer,
                 SubRow { demand, ..row },
@@ -217,6 +228,7 @@ impl Subs {
             demand.handled(k);
             put(
                 &mut self.rows,
+                &mut self.due,
                 sub.consumer,
                 sub.producer,
                 SubRow { demand, ..row },
@@ -229,6 +241,13 @@ impl Subs {
         ensures { result ≡ (generation_in (row_of self.now sub) == sub.generation) }
     {
         last_generation(find(&self.rows, sub.consumer, sub.producer)) == sub.generation
+    }
+
+    /// Whether an ask is due on any subscription.
+    pub fn has_due(&self) -> bool
+        ensures { result ≡ nat_lt 0 (due_rows self.now) }
+    {
+        self.due > 0
     }
 
     /// The size of the ask that is due, in units, or 0 where none is.
@@ -291,6 +310,7 @@ fn make_rows(rows: &mut Vec<Option<SubRow>>) -> Result<(), AllocError>
     ensures made { OnOk result (length rows.new.items ≡ CONSUMERS * STRIDE) }
     ensures rows { OnOk result ((c p : Stage) → row_at (rows_of rows.new.items) c p ≡ row_at (rows_of rows.old.items) c p) }
     ensures live { OnOk result (live_rows (rows_of rows.new.items) ≡ live_rows (rows_of rows.old.items)) }
+    ensures due { OnOk result (due_rows (rows_of rows.new.items) ≡ due_rows (rows_of rows.old.items)) }
     ensures refused { OnErr result (rows.new.items ≡ rows.old.items) }
 {
     if rows.is_empty() {
@@ -331,16 +351,50 @@ fn find(rows: &[Option<SubRow>], consumer: StageNo, producer: StageNo) -> Option
     if at < rows.len() { rows[at] } else { None }
 }
 
-/// Writes the pair's row.
-fn put(rows: &mut [Option<SubRow>], consumer: StageNo, producer: StageNo, row: SubRow)
+/// Whether an ask is due on the pair's last subscription: none where it is closed.
+fn is_due(row: Option<SubRow>) -> bool
+    ensures { result ≡ has_due_in (option_map seen_in row) }
+{
+    match row {
+        Some(row) => row.live && row.demand.due() > 0,
+        None => false,
+    }
+}
+
+/// On how many rows an ask is due, once one on which it was due or not has become one on which it is or not.
+fn recount(due: u32, was: bool, is: bool) -> u32
+    requires some { was ≡ true → is ≡ false → 1 ≤ due }
+    requires few { was ≡ false → is ≡ true → due < CONSUMERS * STRIDE }
+    ensures { result + (if was then 1 else 0) ≡ due + (if is then 1 else 0) }
+{
+    match (was, is) {
+        (true, false) => due - 1,
+        (false, true) => due + 1,
+        _ => due,
+    }
+}
+
+/// Writes the pair's row, and counts it where an ask is due on it.
+fn put(
+    rows: &mut [Option<SubRow>],
+    due: &mut u32,
+    consumer: StageNo,
+    producer: StageNo,
+    row: SubRow,
+)
+    requires sized { length rows.old ≡ CONSUMERS * STRIDE }
     requires within { slot_of consumer producer < length rows.old }
     requires producer_in_range { producer.0 ≤ LAST_STAGE }
+    requires counted { due_rows (rows_of rows.old) ≡ due.old }
+    ensures counted { due_rows (rows_of rows.new) ≡ due.new }
     ensures put { IsPut (rows_of rows.old) (rows_of rows.new) consumer producer (seen_in row) }
     ensures live { live_rows (rows_of rows.new) + (if live_in (row_at (rows_of rows.old) consumer producer) then 1 else 0)
         ≡ live_rows (rows_of rows.old) + (if row.live then 1 else 0) }
 {
     let at = consumer.0 as usize * STRIDE + producer.0 as usize;
+    let was = is_due(rows[at]);
     rows[at] = Some(row);
+    *due = recount(*due, was, is_due(Some(row)));
 }
 
 /// The open demand of the pair's last subscription: 0 where it is closed.

@@ -4,15 +4,20 @@ use Rattle.std.specs.List.{flat_map}
 use Rattle.std.proofs.lemmas.List.{drop_all}
 use Rattle.pipe_types.specs.declared.numbers.SubNo.{SubNo}
 use Rattle.pipe_types.specs.declared.topology.StageSpec.{StageSpec}
-use Rattle.pipe_model.specs.Moves.{subs_into}
+use Rattle.pipe_model.specs.Moves.{subs_into, all_subs}
 use Rattle.core_rows.specs.Rows.{is_due}
 use Rattle.core_rows.proofs.Finding.{stage_there}
-use Rattle.core_rows.proofs.Known.{flat_here, flat_next}
+use Rattle.core_rows.proofs.Known.{flat_here, flat_next, none_due, find_nothing}
 use Rattle.core_rows.proofs.asks.first_due.Goals as goal
 
 pub first_due_of-requires-clause-there : goal.first_due_of-requires-clause-there
 first_due_of-requires-clause-there c =
     stage_there c.args.core.now.topology c.as_slice-spec-items.result.now c.loop-spec.spec-index c.spec-item.result c.requires.stands.holds.sound c.as_slice-spec-items.ensures c.loop-spec-test.true c.spec-item.is
+
+pub returns-then-not-has_due : goal.returns-then-not-has_due
+returns-then-not-has_due c =
+    let core = c.args.core.now in
+    sym (find_nothing (is_due core.topology core.journal.steps) (none_due core c.requires.stands.holds (sym c.has_due.ensures ∙ c.if-not-has_due.true)) (all_subs core.topology core.journal.steps))
 
 pub returns-in-Some : goal.returns-in-Some
 returns-in-Some c =
