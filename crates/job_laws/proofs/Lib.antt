@@ -5,3 +5,4 @@ pub mod Taken
 pub mod Works
 pub mod Lates
 pub mod Away
+pub mod Others

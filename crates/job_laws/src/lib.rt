@@ -6,7 +6,8 @@
 //! Each function is a law: it does nothing, and its clause states the law. `proofs/` has the facts behind them.
 #![tactic(auto)]
 
-ghost use Rattle.std.specs.Prelude.{◌≡◌, ◌==◌, ◌++◌, ℕ, List, ◌∷◌, true, false, if◌then◌else◌, IsTrue, Option, Some, None};
+ghost use Rattle.std.specs.Prelude.{◌≡◌, ◌≢◌, ◌==◌, ◌++◌, ℕ, ◌∷◌, true, false, if◌then◌else◌, IsTrue, Option, Some, None};
+ghost use Rattle.pipe_types.specs.declared.numbers.Post.{Post};
 ghost use Rattle.pipe_types.specs.declared.step.Step.{Step};
 ghost use Rattle.pipe_types.specs.declared.topology.Topology.{Topology};
 ghost use Rattle.pipe_types.specs.Sound.{IsSound};
@@ -19,7 +20,7 @@ ghost use Rattle.stage_bodies.specs.Posts.{place_at, IsJobOf, step_of};
 ghost use Rattle.stage_bodies.specs.declared.job.Answer.{Answer};
 ghost use Rattle.stage_bodies.specs.declared.job.Job.{Job};
 ghost use Rattle.stage_bodies.specs.declared.job.Outcome.{Outcome as Came};
-ghost use Rattle.body_laws.specs.Keeps.{KeepsBody, Keeps};
+ghost use Rattle.body_laws.specs.Keeps.{is_silent, KeepsBody, Keeps};
 ghost use Rattle.body_laws.specs.Lates.{late_step};
 ghost use Rattle.body_laws.specs.Ready.{IsBodyAt, Ready};
 ghost use Rattle.job_laws.specs.Away.{IsAway, is_from_live, AreElsewhere, IsAnswerTo};
@@ -52,6 +53,20 @@ pub fn jobs_stay_away_through()
     ensures { (topology : Topology) (later before : History) (opened : Option BodySeen) (job : Job) (body : BodySeen) →
         IsSound topology → IsTrue (is_legal topology (later ++ before)) → AreElsewhere later job.post →
         IsAway topology before opened job body → IsAway topology (later ++ before) opened job body }
+{}
+
+/// The answer to a job answers no other post, live or late.
+pub fn answers_are_to_one_job()
+    ensures { (topology : Topology) (before : History) (opened : Option BodySeen) (job : Job) (answer : Answer) (old new : BodySeen) (other : Post) →
+        IsAway topology before opened job old → IsAnswerTo job answer → IsDone job.work answer.outcome old new → other ≢ job.post →
+        (answers (step_of answer.post answer.outcome) other ≡ false) × (answers (late_step answer.post answer.incarnation answer.outcome) other ≡ false) }
+{}
+
+/// A step that answers no post of the topology answers no job that is away.
+pub fn silent_steps_answer_no_job()
+    ensures { (topology : Topology) (before : History) (step : Step) (opened : Option BodySeen) (job : Job) (body : BodySeen) →
+        IsSound topology → IsTrue (is_legal topology before) → IsTrue (is_silent step) → IsAway topology before opened job body →
+        answers step job.post ≡ false }
 {}
 
 /// While a job is out its stage is not restarted: the incarnation that it left from is the present one.
