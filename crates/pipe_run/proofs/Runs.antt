@@ -10,7 +10,8 @@ use Rattle.body_laws.specs.Ready.{IsFilled}
 use Rattle.control_lines.specs.Keeping.{IsFresh, KeepsControl, KeepsControlOn, KeepsControlPartly}
 use Rattle.control_lines.proofs.Kept.{kept_partly}
 use Rattle.stage_moves.specs.Clocks.{ClockSeen, KeepsClock, KeepsClockOn, KeepsClockPartly}
-use Rattle.stage_moves.specs.Going.{GoesOn, IsAtRest}
+use Rattle.stage_moves.specs.Going.{GoesOn}
+use Rattle.stage_rounds.specs.Rest.{IsAtRest}
 use Rattle.stage_rounds.specs.Rounds.{HasEnded}
 use Rattle.stage_rounds.specs.declared.run.RunEnd.{RunEnd}
 use Rattle.stage_rounds.specs.declared.run.RunEnd.TheVariants.{Drained, Halted}

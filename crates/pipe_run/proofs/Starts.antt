@@ -16,7 +16,7 @@ use Rattle.body_laws.proofs.Starts.{starts}
 use Rattle.control_lines.specs.Keeping.{IsFresh, KeepsControl}
 use Rattle.control_lines.proofs.Kept.{fresh_control}
 use Rattle.stage_moves.specs.Clocks.{ClockSeen, KeepsClock}
-use Rattle.stage_moves.specs.Going.{IsAtRest}
+use Rattle.stage_rounds.specs.Rest.{IsAtRest}
 
 none_in : (stages : List StageSpec) → list_any (λ spec. has_post_out [] spec.no) stages ≡ false
 none_in [] = refl

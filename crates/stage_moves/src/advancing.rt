@@ -1,6 +1,6 @@
 //! What a pipeline does of its own accord before the next job.
 
-ghost use Rattle.std.specs.Prelude.{◌≡◌, ◌<◌, ◌≤◌, ◌+◌, ◌*◌, ℕ, false, OnOk, IfOk, Option, is_some, option_map};
+ghost use Rattle.std.specs.Prelude.{◌≡◌, ◌<◌, ◌≤◌, ◌+◌, ◌*◌, ℕ, false, length, OnOk, IfOk, Option, is_some, option_map};
 ghost use Rattle.pipe_types.specs.declared.step.Step.{Step as StepSeen};
 ghost use Rattle.pipe_model.specs.History.{controls};
 ghost use Rattle.pipe_model.specs.Legal.{happened, is_halt};
@@ -39,6 +39,7 @@ pub fn advance<B: Works, S: ByteSource, C: Clock>(
     ensures topology { core.new.topology ≡ core.old.topology }
     ensures goes { GoesOn core.old.topology core.old.journal.steps (body_at B.look bodies.old.items) core.new.journal.steps (body_at B.look bodies.new.items) }
     ensures ready { Ready core.old.topology core.new.journal.steps (body_at B.look bodies.new.items) }
+    ensures len { length bodies.new.items ≡ length bodies.old.items }
     ensures same_places { (at : ℕ) → is_some (body_at B.look bodies.new.items at) ≡ is_some (body_at B.look bodies.old.items at) }
     ensures same_out { jobs_out core.old.topology core.new.journal.steps ≡ jobs_out core.old.topology core.old.journal.steps }
     ensures silent { AddsSilently core.old.journal.steps core.new.journal.steps }

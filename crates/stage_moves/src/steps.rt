@@ -1,6 +1,6 @@
 //! The steps of the pipeline's own.
 
-ghost use Rattle.std.specs.Prelude.{◌<◌, ◌≡◌, OnOk, IfOk};
+ghost use Rattle.std.specs.Prelude.{◌<◌, ◌≡◌, length, OnOk, IfOk};
 ghost use Rattle.pipe_types.specs.declared.step.Step.{Step as StepSeen};
 ghost use Rattle.pipe_types.specs.declared.step.Step.TheVariants.{Restart};
 ghost use Rattle.pipe_model.specs.Moves.{move as next_move_of, StepMove};
@@ -29,6 +29,7 @@ pub(crate) fn go_on<B: Works>(
     requires ready { Ready core.old.topology core.old.journal.steps (body_at B.look bodies.old.items) }
     ensures stands { Stands core.new }
     ensures topology { core.new.topology ≡ core.old.topology }
+    ensures len { length bodies.new.items ≡ length bodies.old.items }
     ensures advances { Advances core.old.topology core.old.journal.steps (body_at B.look bodies.old.items) core.new.journal.steps (body_at B.look bodies.new.items) }
     ensures next { IfOk result (λ move. seen_as move ≡ next_move_of core.new.topology core.new.journal.steps) }
     ensures no_step { IfOk result (λ move. (step : StepSeen) → ¬ (seen_as move ≡ StepMove step)) }
@@ -56,6 +57,7 @@ fn make<B: Works>(
     requires first { next_move_of core.old.topology core.old.journal.steps ≡ StepMove step }
     ensures stands { Stands core.new }
     ensures topology { core.new.topology ≡ core.old.topology }
+    ensures len { length bodies.new.items ≡ length bodies.old.items }
     ensures advances { Advances core.old.topology core.old.journal.steps (body_at B.look bodies.old.items) core.new.journal.steps (body_at B.look bodies.new.items) }
     ensures less { OnOk result (work_left core.old.topology core.new.journal.steps < work_left core.old.topology core.old.journal.steps) }
 {
@@ -76,6 +78,7 @@ fn restart<B: Works>(
     requires first { next_move_of core.old.topology core.old.journal.steps ≡ StepMove (Restart stage) }
     ensures stands { Stands core.new }
     ensures topology { core.new.topology ≡ core.old.topology }
+    ensures len { length bodies.new.items ≡ length bodies.old.items }
     ensures advances { Advances core.old.topology core.old.journal.steps (body_at B.look bodies.old.items) core.new.journal.steps (body_at B.look bodies.new.items) }
     ensures less { OnOk result (work_left core.old.topology core.new.journal.steps < work_left core.old.topology core.old.journal.steps) }
 {

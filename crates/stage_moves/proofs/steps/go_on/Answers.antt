@@ -9,6 +9,7 @@ pub loop-step-init : goal.loop-step-init
 loop-step-init g c = record {
   stands = c.requires.stands;
   topology = refl;
+  len = refl;
   advances = advances_same c.args.core.now.topology c.args.core.now.journal.steps (body_at g.B.Works.look c.args.bodies.now.items) c.requires.ready;
 }
 
@@ -32,6 +33,7 @@ loop-step-preserved g c =
     record {
       stands = e.stands;
       topology = e.topology ∙ x.topology;
+      len = e.len ∙ x.len;
       advances = advances_then t a b d home here back x.advances (subst (λ o. Advances o b here d back) x.topology e.advances);
     }
 

@@ -1,4 +1,4 @@
-use Rattle.std.proofs.Common.{◌≡◌}
+use Rattle.std.proofs.Common.{◌≡◌, length}
 use Rattle.work_laws.specs.Left.{work_left}
 use Rattle.core_state.specs.Stands.{Stands}
 use Rattle.stage_bodies.specs.Seen.{body_at}
@@ -11,6 +11,7 @@ invariant-loop-step g l =
     record {
       stands : Stands l.core;
       topology : l.core.topology ≡ l.initial.core.topology;
+      len : length l.bodies.items ≡ length l.initial.bodies.items;
       advances : Advances l.initial.core.topology l.initial.core.journal.steps (body_at look l.initial.bodies.items) l.core.journal.steps (body_at look l.bodies.items);
     }
 

@@ -1,4 +1,4 @@
-use Rattle.std.proofs.Common.{◌≡◌, ◌<◌, ◌∷◌, subst}
+use Rattle.std.proofs.Common.{◌≡◌, ◌<◌, ◌∷◌, refl, subst}
 use Rattle.work_laws.specs.Left.{work_left}
 use Rattle.move_laws.proofs.Laws.{move_law}
 use Rattle.move_laws.specs.NextMoves.{IsLegalMove}
@@ -28,6 +28,7 @@ returns-in_default g c =
     record {
       stands = e.stands;
       topology = e.topology;
+      len = refl;
       advances = made t other h after c.args.step (body_at g.B.Works.look c.args.bodies.now.items) c.own_step.result c.requires.stands.holds.sound c.requires.ready e.topology e.stands.holds.legal c.requires.first
           c.in_default.not-Restart e.appended e.unchanged;
       less = on_ok (after ≡ c.args.step ∷ h) (work_left t after < work_left t h) c.own_step.result e.appended

@@ -21,7 +21,7 @@ returns-clause-advances g c =
     let look = g.B.Works.look in
     let e = c.in_ok-own_step.ensures in
     restarted c.args.core.now.topology c.own_step.new.core.topology c.args.core.now.journal.steps c.own_step.new.core.journal.steps c.args.stage (body_at look c.args.bodies.now.items) (body_at look c.reset_bodies.new.bodies.items)
-    c.requires.stands.holds.sound c.requires.ready e.topology e.stands.holds.legal c.requires.first e.appended c.reset_bodies.ensures
+    c.requires.stands.holds.sound c.requires.ready e.topology e.stands.holds.legal c.requires.first e.appended c.reset_bodies.ensures.reset
 
 pub returns-clause-less : goal.returns-clause-less
 returns-clause-less g c =
