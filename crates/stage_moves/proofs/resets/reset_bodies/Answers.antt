@@ -12,5 +12,5 @@ loop-slot-preserved g c =
     record {
       len = c.reset_at.ensures.len ∙ c.loop-slot.invariant.len;
       reset = more_reset (c.args.stage.0 * 16) c.loop-slot.slot c.place_of.result (body_at look c.args.bodies.now.items) (body_at look c.loop-slot.bodies.items) (body_at look c.reset_at.new.bodies.items)
-    c.place_of.ensures c.loop-slot.invariant.reset c.reset_at.ensures.reset;
+          c.place_of.ensures c.loop-slot.invariant.reset c.reset_at.ensures.reset;
     }
