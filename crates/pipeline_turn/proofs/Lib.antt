@@ -1,4 +1,4 @@
-mod Journals
+pub mod Journals
 mod Views
 mod Ruled
 mod Handing

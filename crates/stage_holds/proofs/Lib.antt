@@ -1,0 +1,4 @@
+pub mod Adding
+pub mod Coming
+pub mod Leaving
+pub mod Setting

@@ -1,0 +1,96 @@
+//! What comes home: the body to its place, and the answer into the journal.
+
+ghost use Rattle.std.specs.Prelude.{◌≡◌, ◌<◌, None, Some, ℕ, length, Option, IsTrue, IsErr, OnOk, OnErr};
+ghost use Rattle.pipe_model.specs.Legal.{allows};
+ghost use Rattle.core_state.specs.Stands.{Stands};
+ghost use Rattle.run_claims.specs.Followed.{FollowsMoves};
+ghost use Rattle.stage_bodies.specs.Seen.{BodySeen, body_at};
+ghost use Rattle.stage_bodies.specs.Posts.{place_at};
+ghost use Rattle.body_laws.specs.Keeps.{Keeps};
+ghost use Rattle.body_laws.specs.Lates.{late_of};
+ghost use Rattle.body_laws.specs.Ready.{Ready};
+ghost use Rattle.stage_holds.specs.Answers.{is_in_time, answer_step, with_answered};
+ghost use Rattle.stage_holds.specs.Homes.{IsBack};
+ghost use Rattle.stage_holds.specs.Holds.{AddsHold, AreHome, AddsAnswer};
+
+use crate::loads::Home;
+use core_jobs::record_answer;
+use core_lates::late;
+use core_state::Core;
+use pipe_types::step::LateAnswer;
+use stage_bodies::{Answer, Outcome, Works, place_of, put_back};
+use std::alloc::AllocError;
+
+/// Puts the body back to its place, and records the answer: live, or late where the stage was killed since. The error is want
+/// of memory, in the job or for the record: the body is at home, and no step was added.
+pub(crate) fn come_home<B: Works>(
+    core: &mut Core,
+    bodies: &mut Vec<Option<B>>,
+    home: Home<B>,
+) -> Result<(), AllocError>
+    requires stands { Stands core.old }
+    requires ready { Ready core.old.topology core.old.journal.steps (body_at B.look bodies.old.items) }
+    requires within { place_at home.post < length bodies.old.items }
+    requires back { (opened : Option BodySeen) × IsBack core.old.topology core.old.journal.steps opened home.post home.answer (B.look home.body) }
+    ensures stands { Stands core.new }
+    ensures topology { core.new.topology ≡ core.old.topology }
+    ensures len { length bodies.new.items ≡ length bodies.old.items }
+    ensures follows { FollowsMoves core.old.topology core.old.journal.steps → FollowsMoves core.old.topology core.new.journal.steps }
+    ensures ready { Ready core.old.topology core.new.journal.steps (body_at B.look bodies.new.items) }
+    ensures keeps { (opened : ℕ → Option BodySeen) → Keeps core.old.topology core.old.journal.steps opened (body_at B.look bodies.old.items)
+        → IsBack core.old.topology core.old.journal.steps (opened (place_at home.post)) home.post home.answer (B.look home.body)
+        → Keeps core.old.topology core.new.journal.steps opened (body_at B.look bodies.new.items) }
+    ensures adds { AddsHold (Some home.post) None core.old.journal.steps core.new.journal.steps }
+    ensures answer { AddsAnswer core.old.topology core.old.journal.steps core.new.journal.steps }
+    ensures cut_off { IsErr home.answer → IsErr result }
+    ensures homes { AreHome (Some home.post) None (body_at B.look bodies.old.items) (body_at B.look bodies.new.items) }
+{
+    let Home { post, answer, body } = home;
+    let at = place_of(post);
+    put_back(bodies, at, body);
+    record(core, answer?)
+}
+
+/// Appends the step of the answer, with the one that it owes.
+fn record(core: &mut Core, answer: Answer) -> Result<(), AllocError>
+    requires stands { Stands core.old }
+    requires legal { IsTrue (allows core.old.topology core.old.journal.steps (answer_step core.old.topology core.old.journal.steps answer)) }
+    ensures appended { OnOk result (core.new.journal.steps ≡ with_answered core.old.topology core.old.journal.steps answer) }
+    ensures unchanged { OnErr result (core.new.journal.steps ≡ core.old.journal.steps) }
+    ensures topology { core.new.topology ≡ core.old.topology }
+    ensures stands { Stands core.new }
+{
+    if is_in_time(core, &answer) {
+        return record_answer(core, answer);
+    }
+    let Answer {
+        post,
+        incarnation,
+        outcome,
+    } = answer;
+    match late(core, post, incarnation, late_of(outcome)) {
+        Ok(()) => Ok(()),
+        Err((_, failed)) => Err(failed),
+    }
+}
+
+/// Whether the incarnation that the job left from is live.
+fn is_in_time(core: &Core, answer: &Answer) -> bool
+    requires stands { Stands core.now }
+    ensures { result ≡ is_in_time core.now.topology core.now.journal.steps answer.now }
+{
+    core.is_live(answer.post.stage) && core.incarnation(answer.post.stage) == answer.incarnation
+}
+
+/// What is late of an answer: what a source gave, and what a sink got.
+fn late_of(outcome: Outcome) -> LateAnswer
+    ensures { result ≡ late_of outcome }
+{
+    match outcome {
+        Outcome::Records(records) => LateAnswer::Records(records),
+        Outcome::NotYet => LateAnswer::Quiet,
+        Outcome::Ended(how) => LateAnswer::Source(how),
+        Outcome::Wrote(bytes, end) => LateAnswer::Wrote(bytes, end),
+        Outcome::Replies(_) | Outcome::Reply(_) => LateAnswer::Nothing,
+    }
+}
