@@ -1,5 +1,5 @@
 -- What a seat may rely on about a job that it went away to do.
-use Rattle.std.specs.Prelude.{◌≡◌, ◌≢◌, ◌++◌, true, false, All, Option, Some, nat_lt, if◌then◌else◌, length}
+use Rattle.std.specs.Prelude.{◌≡◌, ◌≢◌, ◌++◌, ◌⊎◌, ◌↔◌, true, false, List, All, Contains, Option, Some, nat_lt, if◌then◌else◌, length}
 use Rattle.pipe_types.specs.declared.numbers.Post.{Post}
 use Rattle.pipe_model.specs.History.{History}
 use Rattle.pipe_model.specs.Posts.{answers, is_out}
@@ -17,6 +17,11 @@ IsUndone whole seen post = (is_out whole post ≡ true) × IsUnanswered whole se
 -- the post is out, and was put out since the value was taken, or was the seat's own before
 abbrev pub IsOwnJob : Option Post → History → History → Post → Type 0
 IsOwnJob own taken given post = (is_out given post ≡ true) × (own ≢ Some post → is_out taken post ≡ false)
+
+-- a post is away from the value that is given just where the seat goes away with it, or where it was away from the value
+-- that was taken and is not the seat's own
+abbrev pub AreAway : (own job : Option Post) → (taken given : List Post) → Type 0
+AreAway own job taken given = (post : Post) → Contains given post ↔ ((job ≡ Some post) ⊎ (Contains taken post × (own ≢ Some post)))
 
 -- the longer of two journals
 abbrev pub longer : History → History → History

@@ -14,13 +14,14 @@ pub record TurnView : Type 0 where
   pub parts : ℕ
 
 -- A seat of that turn. `origin` is the start of the value, `seen` the journal of the value that the seat had last,
--- `job` the post of the job that it went away to do, `holds` whether it has the value, and `misses` how often it
--- found it away
+-- `away` the posts that were away from the value as the seat took it last, `job` the post of the job that it went away
+-- to do, `holds` whether it has the value, and `misses` how often it found it away
 pub record SeatView (O : Type 0) : Type 0 where
   pub turn : TableId
   pub parts : ℕ
   pub origin : O
   pub seen : History
+  pub away : List Post
   pub job : Option Post
   pub holds : Bool
   pub misses : ℕ
@@ -41,7 +42,7 @@ pub record IsSameSeat {O : Type 0} (before after : SeatView O) : Type 0 where
   pub origin : after.origin ≡ before.origin
 
 abbrev pub seat_view : {O : Type 0} → TableId → View O → O → SeatView O
-seat_view turn v origin = record { turn = turn; parts = v.parts; origin = origin; seen = v.seen; job = v.job; holds = v.holds; misses = v.misses }
+seat_view turn v origin = record { turn = turn; parts = v.parts; origin = origin; seen = v.seen; away = v.away; job = v.job; holds = v.holds; misses = v.misses }
 
 -- the slot that a seat holds while it has the value: it is empty then
 abbrev pub carried : {V : Type 0} → Bool → List (ℕ × Option (Handed V))
@@ -54,5 +55,6 @@ pub record IsSound {V O : Type 0} (me : Me (Option (Handed V)) (View O)) : Type 
   pub settled : me.0.told ≡ []
   pub carries : me.1 ≡ carried me.0.holds
 
+-- a word for the place of the value and one for the count of news, and the slot where the value lies at home
 abbrev pub HasOneSlot : TableId → Type 0
-HasOneSlot id = (id.words ≡ 1) × (id.slots ≡ 1)
+HasOneSlot id = (id.words ≡ 2) × (id.slots ≡ 1)

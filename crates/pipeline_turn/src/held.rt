@@ -1,5 +1,6 @@
 //! What a turn hands about.
-ghost use Rattle.std.specs.Prelude.{◌≡◌};
+ghost use Rattle.std.specs.Prelude.{◌≡◌, List};
+ghost use Rattle.pipe_types.specs.declared.numbers.Post.{Post};
 ghost use Rattle.pipe_model.specs.History.{History};
 ghost use Rattle.pipe_model.specs.Posts.{is_out};
 
@@ -18,6 +19,9 @@ pub trait Held {
 
     /// The steps of its journal, newest first.
     ghost steps: { Self → History };
+
+    /// The posts whose bodies are away from the value.
+    ghost away: { Self → List Post };
 
     fn journal(&self) -> &Journal
         ensures { result.now.steps ≡ steps self.now };

@@ -1,6 +1,6 @@
 //! The rule of the table, and what each kind of step tells.
 ghost use Rattle.pipeline_turn.specs.Rule.{IsRuled, opening_view};
-ghost use Rattle.pipeline_turn.specs.Steps.{took, gave, settled, parting, parted, hearing, spent_view};
+ghost use Rattle.pipeline_turn.specs.Steps.{took, gave, settled, unchanged, parting, parted, hearing, spent_view};
 
 use crate::held::Held;
 use crate::view::{Handed, View};
@@ -21,7 +21,7 @@ pub struct OneHolder<V> {
 }
 
 impl<V: Held> TableRule<Option<Handed<V>>, View<V::Start>, Terms<V>> for OneHolder<V> {
-    ghost holds = { λ terms. IsRuled V.steps V.stems terms.parts };
+    ghost holds = { λ terms. IsRuled V.steps V.stems V.away terms.parts };
 
     ghost first = { λ terms. opening_view terms.parts (V.start terms.opening.value) };
 }
@@ -31,7 +31,7 @@ pub(crate) struct Take<V> {
 }
 
 impl<V: Held> Play<Option<Handed<V>>, View<V::Start>> for Take<V> {
-    ghost then = { took V.steps V.stems };
+    ghost then = { took V.steps V.stems V.away };
 }
 
 pub(crate) struct Give<V> {
@@ -40,6 +40,13 @@ pub(crate) struct Give<V> {
 
 impl<V: Held> Play<Option<Handed<V>>, View<V::Start>> for Give<V> {
     ghost then = { gave V.steps };
+}
+
+/// The step that counts news.
+pub(crate) struct Tell;
+
+impl<V, O> Play<Option<Handed<V>>, View<O>> for Tell {
+    ghost then = { unchanged };
 }
 
 /// The load by which a seat takes over what another one had seen.

@@ -13,6 +13,8 @@ pub struct View<O> {
     pub seen: LinkedList<Step>,
     /// What a seat that was joined in had seen, until `join` returns.
     pub told: LinkedList<Step>,
+    /// The posts that were away from the value as the seat took it last.
+    pub away: LinkedList<Post>,
     pub job: Option<Post>,
     /// Whether the seat holds the value, whose journal is then what it has seen.
     pub holds: bool,

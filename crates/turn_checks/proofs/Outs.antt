@@ -1,5 +1,5 @@
 -- The logbook: reading its journal from the oldest step on, and adding one step.
-use Rattle.std.proofs.Common.{◌≡◌, ◌≢◌, ℕ, ◌+◌, Bool, true, false, List, [], ◌∷◌, ◌++◌, length, take, reverse, refl, sym, ap, ◌∙◌, Some, append_assoc}
+use Rattle.std.proofs.Common.{◌≡◌, ◌≢◌, ℕ, ◌+◌, Bool, true, false, [], ◌∷◌, ◌++◌, length, take, reverse, refl, sym, ap, ◌∙◌, Some, append_assoc}
 use Rattle.std.specs.List.{slice_get}
 use Rattle.std.proofs.lemmas.List.{reverse-append, reverse-reverse}
 use Rattle.std.proofs.lemmas.List.Elements.{All-nil, All-cons}
@@ -7,7 +7,7 @@ use Rattle.std.proofs.lemmas.Bool.{eqb-true, and_parts}
 use Rattle.pipe_types.specs.declared.numbers.Post.{Post}
 use Rattle.pipe_types.specs.declared.numbers.StageNo.{StageNo}
 use Rattle.pipe_types.specs.declared.step.Step.{Step}
-use Rattle.pipe_types.specs.declared.step.Step.TheVariants.{Fetch, Quiet}
+use Rattle.pipe_types.specs.declared.step.Step.TheVariants.{Quiet}
 use Rattle.pipe_types.specs.Numbers.{post, same_post}
 use Rattle.pipe_model.specs.History.{History}
 use Rattle.pipe_model.specs.Begins.{BeginsWith}
@@ -45,3 +45,10 @@ unanswered_quiet seen own p s is n = unanswered_step (Quiet s) seen p (other_pos
 
 pub begins_through : (whole middle seen : History) → BeginsWith whole middle → BeginsWith middle seen → BeginsWith whole seen
 begins_through whole middle seen a b = record { later = a.later ++ b.later; is = a.is ∙ (ap (λ x. a.later ++ x) b.is ∙ sym (append_assoc a.later b.later seen)) }
+
+-- a journal with one step more
+pub begins_step : (step : Step) (whole seen middle : History) → whole ≡ step ∷ middle → middle ≡ seen → BeginsWith whole seen
+begins_step step whole seen middle one same = record { later = step ∷ []; is = one ∙ ap (λ (z : History). step ∷ z) same }
+
+pub unanswered_by : (step : Step) (whole seen middle : History) (p : Post) → whole ≡ step ∷ middle → middle ≡ seen → answers step p ≡ false → IsUnanswered whole seen p
+unanswered_by step whole seen middle p one same quiet = record { later = step ∷ []; is = one ∙ ap (λ (z : History). step ∷ z) same; silent = All-cons (λ s. answers s p ≡ false) step [] quiet (All-nil (λ s. answers s p ≡ false)) }

@@ -1,22 +1,24 @@
 //! As many workers as there are seats.
-ghost use Rattle.std.specs.Prelude.{◌≡◌, ◌<◌, ◌≤◌, ◌+◌, false, None, IfSome, IfNone, IfOk, IfErr};
+ghost use Rattle.std.specs.Prelude.{◌≡◌, ◌<◌, ◌≤◌, false, true, None, [], IfOk, IfErr};
 ghost use Rattle.std.specs.Thread.{IsSend, IsSync};
 ghost use Rattle.pipe_model.specs.Begins.{BeginsWith};
 ghost use Rattle.pipeline_turn.specs.Seats.{IsIdle, IsSameSeat};
+ghost use Rattle.turn_checks.specs.Tokens.{brought_post, entry_post};
 
-use crate::logbook::{Logbook, Logs};
-use pipe_types::numbers::{Post, StageNo};
+use crate::logbook::{Entry, Logbook, Logs};
+use crate::tokens::Job;
 use pipeline_turn::{Seat, Turn};
 use std::alloc::{AllocError, Global};
 use std::sync::Wait;
 use std::sync::atomic::{AtomicU64, Ordering};
 use std::thread::{Threads, join};
+use std::time::Duration;
 
-/// What came of one hold: the job that the seat went away with, and the length of the journal that it gave.
-#[derive(Clone, Copy)]
+/// What came of one hold: the entry, the length of the journal that was given, and the count of news then.
 struct Given {
-    job: Option<Post>,
+    entry: Entry,
     steps: u64,
+    news: u32,
 }
 
 /// Notes the time in the logbooks of two turns, where both are at home. The answer says whether they were.
@@ -46,37 +48,61 @@ pub fn tick_both(
     true
 }
 
-/// One hold. None where the value was away.
+/// The count of news before and after the seat has told of some. None where the value was away.
+pub fn tell_once<H: Logs>(turn: &Turn<H>, seat: &mut Seat<H>) -> Option<(u32, u32)>
+    requires of_this_turn { seat.old.turn ≡ turn.now.identity }
+    requires idle { IsIdle seat.old }
+    ensures same { IsSameSeat seat.old seat.new }
+    ensures idle { IsIdle seat.new }
+{
+    let value = turn.take(seat)?;
+    let before = turn.news(seat);
+    turn.tell(seat);
+    let after = turn.news(seat);
+    turn.give(seat, value, None);
+    Some((before, after))
+}
+
+/// Tells the others that a token is back, if one is.
+fn tell_of<H: Logs>(turn: &Turn<H>, seat: &mut Seat<H>, back: bool)
+    requires of_this_turn { seat.old.turn ≡ turn.now.identity }
+    requires holding { seat.old.holds ≡ true }
+    ensures { seat.new ≡ seat.old }
+{
+    if back {
+        turn.tell(seat);
+    }
+}
+
+/// One hold. The job comes back where the value was away.
 fn hold<H: Logs>(
     turn: &Turn<H>,
     seat: &mut Seat<H>,
-    brought: Option<Post>,
-    stage: StageNo,
-) -> Option<Given>
+    brought: Option<Job>,
+) -> Result<Given, Option<Job>>
     requires of_this_turn { seat.old.turn ≡ turn.now.identity }
     requires free { seat.old.holds ≡ false }
-    requires job { seat.old.job ≡ brought }
+    requires job { seat.old.job ≡ brought_post brought }
     ensures same { IsSameSeat seat.old seat.new }
     ensures free { seat.new.holds ≡ false }
-    ensures job { IfSome result (λ hold. seat.new.job ≡ hold.job) }
-    ensures kept { IfNone result (seat.new.job ≡ brought) }
+    ensures job { IfOk result (λ given. seat.new.job ≡ entry_post given.entry) }
+    ensures kept { IfErr result (λ kept. seat.new.job ≡ brought_post kept) }
 {
-    let mut value = turn.take(seat)?;
-    let job = value.log(brought, stage);
+    let Some(mut value) = turn.take(seat) else {
+        return Err(brought);
+    };
+    let back = brought.is_some();
+    let entry = value.log(brought);
     let steps = value.journal().len();
-    turn.give(seat, value, job);
-    Some(Given { job, steps })
+    let news = turn.news(seat);
+    tell_of(turn, seat, back);
+    turn.give(seat, value, entry.post());
+    Ok(Given { entry, steps, news })
 }
 
-/// Puts the stage's post out and answers it, `rounds` times. The answer is the length of the journal that the seat
-/// gave at its last hold.
-fn work<H: Logs, R: Wait>(
-    rt: &R,
-    turn: &Turn<H>,
-    seat: &mut Seat<H>,
-    stage: StageNo,
-    rounds: u32,
-) -> u64
+/// Takes a job along and brings it back, `rounds` times, and waits for news while no job can be had. The answer is the
+/// length of the journal that the seat gave at its last hold.
+fn work<H: Logs, R: Wait>(rt: &R, turn: &Turn<H>, seat: &mut Seat<H>, rounds: u32) -> u64
     requires of_this_turn { seat.old.turn ≡ turn.now.identity }
     requires idle { IsIdle seat.old }
     ensures same { IsSameSeat seat.old seat.new }
@@ -85,23 +111,31 @@ fn work<H: Logs, R: Wait>(
     let mut brought = None;
     let mut left = rounds;
     for _ in rt.forever() {
-        match hold(turn, seat, brought, stage) {
-            None => turn.rest(rt),
-            Some(Given { job, steps }) => {
+        match hold(turn, seat, brought) {
+            Err(job) => {
                 brought = job;
-                if job.is_none() {
+                turn.rest(rt);
+            }
+            Ok(Given { entry, steps, news }) => match entry {
+                Entry::Out(job) => brought = Some(job.run()),
+                Entry::Idle => {
+                    brought = None;
+                    turn.wait_for(rt, news, Duration::from_secs(1));
+                }
+                Entry::Done => {
+                    brought = None;
                     left = left.saturating_sub(1);
                     if left == 0 {
                         return steps;
                     }
                 }
-            }
+            },
         }
     }
     unreachable!()
 }
 
-/// The worker of one stage, whose number is one more than `place`, with the seat by value, as a thread takes it.
+/// One worker, with the seat by value, as a thread takes it.
 fn work_as<H: Logs, R: Wait>(
     rt: &R,
     turn: &Turn<H>,
@@ -115,15 +149,14 @@ fn work_as<H: Logs, R: Wait>(
     ensures same { IsSameSeat seat result }
     ensures idle { IsIdle result }
 {
-    let stage = StageNo(place.saturating_add(1));
-    let steps = work(rt, turn, &mut seat, stage, rounds);
+    let steps = work(rt, turn, &mut seat, rounds);
     if let Some(length) = lengths.get(usize::from(place)) {
         length.store(steps, Ordering::SeqCst);
     }
     seat
 }
 
-/// As many workers as `more` and one, each in a thread, for the stages from 1 on.
+/// As many workers as `more` and one, each in a thread.
 fn all<H: Logs + Send, R: Threads + Wait + Sync>(
     rt: &R,
     turn: &Turn<H>,
@@ -160,9 +193,9 @@ fn all<H: Logs + Send, R: Threads + Wait + Sync>(
     seat
 }
 
-/// Has `seats` workers put their stages' posts out and answer them, `rounds` times each, every worker in a thread and
-/// with a seat of its own. Each leaves at its place in `lengths` the length of the journal that it gave at its last
-/// hold. The value that comes back stems from what it was.
+/// Has `seats` workers take a job along and bring it back, `rounds` times each, every worker in a thread and with a seat of
+/// its own. Each leaves at its place in `lengths` the length of the journal that it gave at its last hold. The value that
+/// comes back stems from what it was, and no token is away from it.
 pub fn run<H: Logs + Send, R: Threads + Wait + Sync>(
     rt: &R,
     alloc: Global,
@@ -173,7 +206,9 @@ pub fn run<H: Logs + Send, R: Threads + Wait + Sync>(
 ) -> Result<H, (H, AllocError)>
     requires some { 1 ≤ seats }
     requires stems { H.stems (H.start value) value }
-    ensures ok { IfOk result (λ r. H.stems (H.start value) r) }
+    requires none_away { H.away value ≡ [] }
+    ensures stems { IfOk result (λ r. H.stems (H.start value) r) }
+    ensures none_away { IfOk result (λ r. H.away r ≡ []) }
     ensures err { IfErr result (λ e. e.0 ≡ value) }
 {
     let (turn, seat) = Turn::new(alloc, value, u32::from(seats))?;

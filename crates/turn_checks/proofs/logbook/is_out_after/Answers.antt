@@ -1,4 +1,4 @@
-use Rattle.std.proofs.Common.{◌∙◌, arith}
+use Rattle.std.proofs.Common.{arith}
 use Rattle.pipe_journal.specs.Views.{step_seen}
 use Rattle.turn_checks.proofs.Outs.{out_more, out_whole}
 use Rattle.turn_checks.proofs.logbook.is_out_after.Goals as goal

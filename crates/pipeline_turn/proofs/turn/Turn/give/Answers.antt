@@ -13,11 +13,11 @@ swap-requires g c = let h : Handed g.row.V.Denot = record { value = c.args.value
     let v = c.seat.inside.inner.me.0 in
     let holding = ap (λ z. z.holds) c.seat.view_is ∙ c.requires.holding in
     let empty = ap rest (c.seat.invariant.carries ∙ ap carried holding) in
-    let may = gives_seen g.V.Held.steps g.V.Held.stems _ v _ _ h c.seat.view_is c.requires.begins c.requires.others_unanswered c.requires.own_job in
-    let from = stems_seen g.V.Held.steps g.V.Held.stems _ v c.seat.inside.begun _ c.args.value c.seat.view_is c.requires.stems in (
+    let may = gives_seen g.V.Held.steps g.V.Held.stems g.V.Held.away _ v _ _ h c.seat.view_is c.requires.begins c.requires.others_unanswered c.requires.own_job c.requires.away in
+    let from = stems_seen g.V.Held.steps g.V.Held.stems g.V.Held.away _ v c.seat.inside.begun _ c.args.value c.seat.view_is c.requires.stems in (
       search rules,
       search rules,
-      gives_keep g.V.Held.steps g.V.Held.stems _ _ _ _ v h (step 0 0 0 0 none) (c.exchange-was.ensures.3 ∙ (λ k. (v, (0, Some h) ∷ empty k))) holding c.seat.invariant.part may from,
+      gives_keep g.V.Held.steps g.V.Held.stems g.V.Held.away _ _ _ _ v h (step 0 0 0 0 none) (c.exchange-was.ensures.3 ∙ (λ k. (v, (0, Some h) ∷ empty k))) holding c.seat.invariant.part may from,
     )
 
 pub invariant_of-seat-inside : goal.invariant_of-seat-inside

@@ -13,7 +13,7 @@ join_seat-requires g c = let other = c.into_inner.ensures in
       ap (λ z. z.turn) other.view ∙ (c.requires.of_this_turn.1 ∙ sym (ap (λ z. z.identity) c.self.view_is)),
       other.sound.carries ∙ ap carried free',
       search rules,
-      joins_keep g.V.Held.steps g.V.Held.stems _ _ _ _ _ free idle free' idle' c.seat.invariant.part other.sound.part,
+      joins_keep g.V.Held.steps g.V.Held.stems g.V.Held.away _ _ _ _ _ free idle free' idle' c.seat.invariant.part other.sound.part,
     )
 
 pub load-requires : goal.load-requires
@@ -21,5 +21,5 @@ load-requires g c = let e = ap (λ m. m.0) c.join_seat.ensures.2 in
     let free = ap (λ z. z.holds) c.seat.view_is ∙ c.requires.idle.0.0 in let idle = ap (λ z. z.job) c.seat.view_is ∙ c.requires.idle.0.1 in (
       search rules,
       search rules,
-      settles_keep g.V.Held.steps g.V.Held.stems _ _ _ _ (step 0 0 0 0 none) (ap (λ v. v.holds) e ∙ free) (ap (λ v. v.job) e ∙ idle),
+      settles_keep g.V.Held.steps g.V.Held.stems g.V.Held.away _ _ _ _ (step 0 0 0 0 none) (ap (λ v. v.holds) e ∙ free) (ap (λ v. v.job) e ∙ idle),
     )
