@@ -142,7 +142,8 @@ fn copy_legs(alloc: Global, legs: &[Leg]) -> Result<Vec<Leg>, AllocError>
     Ok(new)
 }
 
-fn copy_batch_place(alloc: Global, place: &BatchPlace) -> Result<BatchPlace, AllocError>
+/// A copy of where a batch stands.
+pub fn copy_batch_place(alloc: Global, place: &BatchPlace) -> Result<BatchPlace, AllocError>
     ensures { IfOk result (λ new. batch_place_of new ≡ batch_place_of place.now) }
 {
     match place {

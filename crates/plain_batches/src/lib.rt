@@ -6,5 +6,5 @@
 mod legs;
 mod settled;
 
-pub use legs::{LegChange, batch_killed, batch_on_legs, batch_sent};
+pub use legs::{LegChange, batch_killed, batch_on_legs, batch_sent, copy_batch_place};
 pub use settled::{by_batch, is_settled, place_in_batch};
