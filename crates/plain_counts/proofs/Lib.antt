@@ -1,0 +1,5 @@
+pub mod Lists
+pub mod Sums
+pub mod Fetches
+pub mod Folds
+pub mod Replies

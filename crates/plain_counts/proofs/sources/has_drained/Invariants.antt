@@ -1,0 +1,7 @@
+use Rattle.std.proofs.Common.{◌≡◌, take}
+use Rattle.pipe_model.specs.History.{history}
+use Rattle.pipe_model.specs.Legal.{happened, is_drain}
+use Rattle.plain_counts.proofs.sources.has_drained.Given as goal
+
+abbrev pub invariant-loop-step : goal.invariant-loop-step
+invariant-loop-step l = l.found ≡ happened is_drain (history (take l.step-index l.steps))

@@ -1,0 +1,5 @@
+pub mod Rows
+pub mod Replies
+pub mod Steps
+pub mod Changed
+pub mod Rooms

@@ -1,0 +1,10 @@
+use Rattle.std.proofs.Common.{ap, ◌∙◌}
+use Rattle.std.proofs.lemmas.Result.{IfOk-weaker}
+use Rattle.pipe_model.specs.History.{history}
+use Rattle.pipe_model.specs.Flow.{waiting_by}
+use Rattle.plain_places.proofs.queues.waiting_now.Goals as goal
+
+pub returns : goal.returns
+returns c =
+    let past = c.args.past.now in
+    IfOk-weaker c.waiting.result _ _ (λ got is. is ∙ ap (λ v. waiting_by past.topology.now (history past.steps.now) v c.args.stage) c.requires.view) c.waiting.ensures

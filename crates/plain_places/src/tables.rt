@@ -1,0 +1,79 @@
+//! The tables after one more step.
+
+ghost use Rattle.std.specs.Prelude.{◌≡◌, ◌++◌, ◌∷◌, [], IfOk};
+ghost use Rattle.pipe_types.specs.declared.topology.Topology.{Topology as Stages};
+ghost use Rattle.pipe_model.specs.History.{history};
+ghost use Rattle.plain_lives.specs.Lives.{LivesStand};
+ghost use Rattle.plain_queues.specs.Views.{view_in};
+ghost use Rattle.plain_places.specs.Standing.{TablesStand};
+ghost use Rattle.plain_places.specs.Moves.{sent_by};
+
+use crate::batches::batches_after;
+use crate::places::places_after;
+use pipe_types::room::Sent;
+use pipe_types::step::Step;
+use plain_lives::Past;
+use plain_queues::Tables;
+use plain_sends::sends_by;
+use std::alloc::{AllocError, Global};
+
+/// The tables of an empty history: nothing was accepted, closed or sent.
+pub fn no_tables(alloc: Global) -> Tables
+    ensures { (topology : Stages) → TablesStand topology [] result }
+{
+    Tables {
+        places: Vec::new(alloc),
+        batches: Vec::new(alloc),
+        sends: Vec::new(alloc),
+    }
+}
+
+fn with_sends(alloc: Global, old: &[Sent], new: &[Sent]) -> Result<Vec<Sent>, AllocError>
+    ensures { IfOk result (λ all. all.items ≡ old.now ++ new.now) }
+{
+    let mut all = Vec::from_slice(alloc, old)?;
+    for one in new {
+        all.push(*one)?;
+    }
+    Ok(all)
+}
+
+/// All that was sent, and behind it what the step sends.
+fn sends_after(
+    alloc: Global,
+    past: &Past<'_>,
+    tables: &Tables,
+    step: &Step,
+) -> Result<Vec<Sent>, AllocError>
+    requires { LivesStand past.now.topology.now (history past.now.steps.now) past.now.lives.now }
+    ensures { IfOk result (λ sends. sends.items ≡ tables.now.sends.items ++ sent_by past.now.topology.now (history past.now.steps.now) (view_in tables.now) step.now) }
+{
+    match step {
+        Step::Dispatch { stage } => {
+            let sent = sends_by(alloc, past, tables, *stage)?;
+            with_sends(alloc, tables.sends.as_slice(), sent.as_slice())
+        }
+        _ => Vec::from_slice(alloc, tables.sends.as_slice()),
+    }
+}
+
+/// The tables after one more step, where they stand for the steps before it.
+pub fn tables_after(
+    alloc: Global,
+    past: &Past<'_>,
+    tables: &Tables,
+    step: &Step,
+) -> Result<Tables, AllocError>
+    requires lives { LivesStand past.now.topology.now (history past.now.steps.now) past.now.lives.now }
+    requires tables { TablesStand past.now.topology.now (history past.now.steps.now) tables.now }
+    ensures { IfOk result (λ after. TablesStand past.now.topology.now (step.now ∷ history past.now.steps.now) after) }
+{
+    let batches = batches_after(alloc, past, tables, step)?;
+    let places = places_after(alloc, past, tables, batches.as_slice(), step)?;
+    let sends = sends_after(alloc, past, tables, step)?;
+    Ok(Tables {
+        places,
+        batches,
+        sends,
+    })
+}

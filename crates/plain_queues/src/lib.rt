@@ -1,0 +1,11 @@
+//! Places, batches and sends as plain tables, and the queues that can be read off them.
+//!
+//! `Tables` keeps where each message and each batch stands, and everything that was sent, in order. A contract sees it
+//! by `view_in`, as `pipe_model` sees a history: each function here says its definition there, of that view.
+#![tactic(auto)]
+
+mod queues;
+mod tables;
+
+pub use queues::{chunk, has_key, inbox, is_batcher_stage, open_batch, units_on, waiting};
+pub use tables::{BatchPlace, BatchRow, Leg, LegPlace, Tables, batch_row, place_of, sent_on};

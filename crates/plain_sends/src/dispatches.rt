@@ -1,0 +1,150 @@
+//! What a dispatch sends, and what it loses over a buffer's size.
+
+ghost use Rattle.std.specs.Prelude.{◌≡◌, ◌&&◌, ◌||◌, not, IfOk, Some, map, option_copied};
+ghost use Rattle.pipe_types.specs.Stages.{spec_of};
+ghost use Rattle.pipe_model.specs.History.{history};
+ghost use Rattle.pipe_model.specs.Lives.{is_live as is_live_in};
+ghost use Rattle.pipe_model.specs.Flow.{is_empty, kind_in, partition_in, sends_by as sends_by_in, subs_of, unsent as unsent_in, over_in, lost_over as lost_over_in};
+ghost use Rattle.plain_lives.specs.Lives.{LivesStand};
+ghost use Rattle.plain_queues.specs.Views.{view_in};
+
+use crate::demand::rooms;
+use crate::partitions::partition;
+use pipe_types::numbers::StageNo;
+use pipe_types::room::Sent;
+use pipe_types::topology::{Dispatch, Keep, StageSpec, Topology};
+use plain_dispatch::sends;
+use plain_lives::Past;
+use plain_queues::{Tables, waiting};
+use std::alloc::{AllocError, Global};
+
+fn kind_of(topology: &Topology, stage: StageNo) -> Dispatch
+    ensures { result ≡ kind_in (spec_of topology.now stage) }
+{
+    match topology.stages.find(stage) {
+        Some(spec) => spec.dispatch,
+        None => Dispatch::Demand,
+    }
+}
+
+/// These units, each with its partition.
+fn with_parts(
+    alloc: Global,
+    past: &Past<'_>,
+    tables: &Tables,
+    stage: StageNo,
+    units: &[u32],
+) -> Result<Vec<(u32, u32)>, AllocError>
+    ensures { IfOk result (λ all. all.items ≡ map (λ n. (n, partition_in (history past.now.steps.now) (view_in tables.now) (spec_of past.now.topology.now stage) n)) units.now) }
+{
+    let mut all = Vec::new(alloc);
+    for n in units {
+        let part = partition(past.steps, tables, past.topology.stages.find(stage), *n)?;
+        all.push((*n, part))?;
+    }
+    Ok(all)
+}
+
+/// What a dispatch of the stage sends, each unit by its number.
+pub fn sends_by(
+    alloc: Global,
+    past: &Past<'_>,
+    tables: &Tables,
+    stage: StageNo,
+) -> Result<Vec<Sent>, AllocError>
+    requires { LivesStand past.now.topology.now (history past.now.steps.now) past.now.lives.now }
+    ensures { IfOk result (λ sent. sent.items ≡ sends_by_in past.now.topology.now (history past.now.steps.now) (view_in tables.now) stage) }
+{
+    let rooms = rooms(alloc, past, tables, stage)?;
+    let waiting = waiting(alloc, past.topology, past.steps, tables, stage)?;
+    let units = with_parts(alloc, past, tables, stage, waiting.as_slice())?;
+    sends(
+        alloc,
+        kind_of(past.topology, stage),
+        rooms.as_slice(),
+        units.as_slice(),
+    )
+}
+
+fn is_unsent(sent: &[Sent], n: u32) -> bool
+    ensures { result ≡ is_empty (subs_of sent.now n) }
+{
+    for one in sent {
+        if one.unit == n {
+            return false;
+        }
+    }
+    true
+}
+
+/// The units that are not sent.
+fn unsent(alloc: Global, sent: &[Sent], units: &[u32]) -> Result<Vec<u32>, AllocError>
+    ensures { IfOk result (λ left. left.items ≡ unsent_in sent.now units.now) }
+{
+    let mut left = Vec::new(alloc);
+    for n in units {
+        if is_unsent(sent, *n) {
+            left.push(*n)?;
+        }
+    }
+    Ok(left)
+}
+
+/// What is over the size: the oldest where the last are kept, the newest where the first are.
+fn over_size<'a>(spec: &StageSpec, units: &'a [u32]) -> &'a [u32]
+    ensures { result.now ≡ over_in (Some spec.now) units.now }
+{
+    let Some(size) = spec.size else {
+        return &units[..0];
+    };
+    let size = size as usize;
+    if units.len() <= size {
+        return &units[..0];
+    }
+    match spec.keep {
+        Keep::Last => &units[..units.len() - size],
+        Keep::First => &units[size..],
+    }
+}
+
+fn over(alloc: Global, spec: Option<&StageSpec>, units: &[u32]) -> Result<Vec<u32>, AllocError>
+    ensures { IfOk result (λ lost. lost.items ≡ over_in (option_copied spec.entry) units.now) }
+{
+    match spec {
+        Some(spec) => Vec::from_slice(alloc, over_size(spec, units)),
+        None => Ok(Vec::new(alloc)),
+    }
+}
+
+/// The waiting units that a dispatch of the stage loses over its buffer's size.
+pub fn lost_over(
+    alloc: Global,
+    past: &Past<'_>,
+    tables: &Tables,
+    stage: StageNo,
+) -> Result<Vec<u32>, AllocError>
+    requires { LivesStand past.now.topology.now (history past.now.steps.now) past.now.lives.now }
+    ensures { IfOk result (λ lost. lost.items ≡ lost_over_in past.now.topology.now (history past.now.steps.now) (view_in tables.now) stage) }
+{
+    let sent = sends_by(alloc, past, tables, stage)?;
+    let waiting = waiting(alloc, past.topology, past.steps, tables, stage)?;
+    let left = unsent(alloc, sent.as_slice(), waiting.as_slice())?;
+    over(alloc, past.topology.stages.find(stage), left.as_slice())
+}
+
+/// Whether a dispatch of the stage sends something or loses what is over the size.
+pub fn may_dispatch(
+    alloc: Global,
+    past: &Past<'_>,
+    tables: &Tables,
+    stage: StageNo,
+) -> Result<bool, AllocError>
+    requires { LivesStand past.now.topology.now (history past.now.steps.now) past.now.lives.now }
+    ensures { IfOk result (λ may. may ≡ is_live_in past.now.topology.now (history past.now.steps.now) stage
+        && (not (is_empty (sends_by_in past.now.topology.now (history past.now.steps.now) (view_in tables.now) stage))
+        || not (is_empty (lost_over_in past.now.topology.now (history past.now.steps.now) (view_in tables.now) stage)))) }
+{
+    let sent = sends_by(alloc, past, tables, stage)?;
+    let lost = lost_over(alloc, past, tables, stage)?;
+    Ok(past.is_live(stage) && (!sent.is_empty() || !lost.is_empty()))
+}

@@ -1,0 +1,20 @@
+-- What tables show of a history.
+use Rattle.std.proofs.Common.{◌≡◌, ℕ, ap}
+use Rattle.pipe_types.specs.declared.numbers.StageNo.{StageNo}
+use Rattle.pipe_types.specs.declared.topology.Topology.{Topology}
+use Rattle.pipe_model.specs.History.{History}
+use Rattle.pipe_model.specs.Flow.{view_of, place, batch, sent_to, inbox, inbox_by, delivered_to}
+use Rattle.plain_queues.specs.declared.tables.Tables.{Tables}
+use Rattle.plain_queues.specs.Views.{place_at, batch_at, view_in}
+
+pub inbox_same : (topology : Topology) (before : History) (tables : Tables) → view_in tables ≡ view_of topology before → (c : StageNo) → inbox_by topology (view_in tables) c ≡ inbox topology before c
+inbox_same topology before tables same c = ap (λ view. inbox_by topology view c) same
+
+pub place_same : (topology : Topology) (before : History) (tables : Tables) → view_in tables ≡ view_of topology before → (n : ℕ) → place_at tables.places.items n ≡ place topology before n
+place_same topology before tables same n = ap (λ view. view.place n) same
+
+pub batch_same : (topology : Topology) (before : History) (tables : Tables) → view_in tables ≡ view_of topology before → (b : ℕ) → batch_at tables.batches.items b ≡ batch topology before b
+batch_same topology before tables same b = ap (λ view. view.batch b) same
+
+pub sent_to_same : (topology : Topology) (before : History) (tables : Tables) → view_in tables ≡ view_of topology before → (c : StageNo) → delivered_to tables.sends.items c ≡ sent_to topology before c
+sent_to_same topology before tables same c = ap (λ view. view.sent_to c) same
