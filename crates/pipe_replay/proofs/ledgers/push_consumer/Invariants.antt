@@ -1,0 +1,7 @@
+use Rattle.std.proofs.Common.{◌≡◌, ◌++◌, drop}
+use Rattle.plain_legal.specs.Machines.{topology_of, history_of}
+use Rattle.pipe_replay.specs.Rows.{rows_of_consumer}
+use Rattle.pipe_replay.proofs.ledgers.push_consumer.Given as goal
+
+abbrev pub invariant-loop-spec : goal.invariant-loop-spec
+invariant-loop-spec l = l.rows.items ++ rows_of_consumer (topology_of l.machine) (history_of l.machine) l.consumer (drop l.spec-index l.specs) ≡ l.fn.old.items ++ rows_of_consumer (topology_of l.machine) (history_of l.machine) l.consumer l.specs
