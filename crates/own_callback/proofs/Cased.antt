@@ -1,0 +1,132 @@
+-- The case of the call, and what was used in it.
+use Rattle.std.proofs.Common.{◌≡◌, ◌∙◌, ◌≤◌, ◌++◌, refl, sym, ap, subst, ℕ, List, [], ◌∷◌, codes, take, map, Bool, true, false, Option, Some, None, IfSome, Result, Ok, Err, arith}
+use Rattle.std.specs.Prelude.{IsTrue}
+use Rattle.pipe_types.specs.declared.numbers.StageNo.{StageNo}
+use Rattle.pipe_types.specs.declared.topology.Kind.{Kind}
+use Rattle.pipe_types.specs.declared.topology.Topology.{Topology}
+use Rattle.pipe_types.specs.Stages.{spec_of}
+use Rattle.pipe_model.specs.History.{History}
+use Rattle.pipe_model.specs.Outside.{fed}
+use Rattle.pipe_edges.specs.declared.edges.EdgeKind.{EdgeKind}
+use Rattle.pipe_edges.specs.declared.edges.EdgeKind.TheVariants.{File, Source}
+use Rattle.clap.specs.Faults.{walk_fault, defaults_fault}
+use Rattle.clap.specs.Walk.{walked}
+use Rattle.program_words.specs.Words.{Command, Run, command_of, taken_of, workers_of}
+use Rattle.config_table.specs.declared.fault.ConfigFault.{ConfigFault}
+use Rattle.topology_needs.specs.declared.stock.Boxes.{Boxes}
+use Rattle.topology_needs.specs.declared.stock.Shortage.{Shortage}
+use Rattle.topology_needs.specs.Needs.{boxes_in, shortage_of}
+use Rattle.stage_bodies.specs.Seen.{SinkSeen, BoxSeen}
+use Rattle.source_lines.specs.Cut.{AreFirstLines}
+use Rattle.body_laws.specs.Ready.{There}
+use Rattle.edge_names.specs.Seen.{EdgesSeen}
+use Rattle.edge_names.specs.Opened.{call_in}
+use Rattle.pipe_config.specs.File.{topology_of_file}
+use Rattle.pipe_run.specs.Boxes.{AreBoxesLeft}
+use Rattle.pipe_run.specs.Outside.{IsOutside, IsSourceRead}
+use Rattle.pipe_top.specs.Cases.{Case, Runs, InCase, IsNamedFile, case_of, file_name, for_topology, run_case, unless_short}
+use Rattle.pipe_top.specs.Runs.{OutsideSeen, IsCall, IsEndOf, IsOutsideOf}
+use Rattle.own_callback.specs.Came.{run_words, case_of_file}
+
+abbrev run_command : Command
+run_command = Run (codes "t") 1 true true
+
+run_words_run : command_of run_words ≡ Some run_command
+unfolding taken_of workers_of walk_fault walked defaults_fault
+run_words_run = refl
+
+-- the words, the bytes under the file's name and the one box make the case
+pub cased : {C : Type 0} (kind : C → Kind) (named : EdgeKind → List ℕ → List ℕ) (words : List (List ℕ)) (stock : List C) (callback : C) (file : List ℕ) (holds : Case → Type 0)
+    → words ≡ run_words → InCase true named (command_of words) (boxes_in (map kind stock)) holds → named File (codes "t") ≡ file → stock ≡ callback ∷ []
+    → holds (case_of_file (kind callback) file)
+cased {C = C} kind named words stock callback file holds e call f one =
+    let command : command_of words ≡ Some run_command = ap command_of e ∙ run_words_run in
+    let named_file = subst (λ (c : Option Command). IsNamedFile true named (file_name c) call.file) command call.is_file in
+    let bytes : call.file ≡ take 1048577 file = named_file refl ∙ ap (take 1048577) f in
+    let first = subst (λ (c : Option Command). holds (case_of c call.file (boxes_in (map kind stock)))) command call.it_holds in
+    let second = subst (λ (b : List ℕ). holds (case_of (Some run_command) b (boxes_in (map kind stock)))) bytes first in
+    subst (λ (s : List C). holds (case_of (Some run_command) (take 1048577 file) (boxes_in (map kind s)))) one second
+
+-- what is written to an output that holds nothing is all that it holds
+pub written_first : (held held' text : List ℕ) → held ≡ [] → held' ≡ held ++ text → held' ≡ text
+written_first held held' text e adds = adds ∙ ap (λ (h : List ℕ). h ++ text) e
+
+-- what a whole run left of its outside
+pub record IsUsedWhole (topology : Topology) (before : History) (old new : OutsideSeen) : Type 0 where
+  pub outside : IsOutside true topology before old.edges new.edges
+  pub boxes : AreBoxesLeft true topology before old.boxes new.boxes
+
+got : Topology → Option Topology → Topology
+got d (Some t) = t
+got d None = d
+
+abbrev shown_run : Topology → Case
+shown_run topology = Runs (record { steps = true; acks = true }) topology
+
+module _ (before : History) (status : ℕ) (old new : OutsideSeen) where
+  whole : (topology : Topology) (b : Bool) → (b ≡ false → status ≡ 9) → status ≤ 4 → IsOutside b topology before old.edges new.edges → AreBoxesLeft b topology before old.boxes new.boxes
+      → IsUsedWhole topology before old new
+  whole topology true wanting low outside boxes = record { outside = outside; boxes = boxes }
+  whole topology false wanting low outside boxes = let nine : status ≡ 9 = wanting refl in absurd (omega (arith, low, nine))
+
+  in_run : (wanted : Topology) (topology : Option Topology) → status ≤ 4 → IsEndOf topology before status (shown_run wanted)
+      → IsOutsideOf (status ≡ 9) topology before (shown_run wanted) old new → IfSome topology (λ t. IsUsedWhole t before old new)
+  unfolding got
+  in_run wanted None low end outside = tt
+  in_run wanted (Some t) low end outside =
+      subst (λ (z : Topology). IsUsedWhole z before old new) (ap (got wanted) (sym end.0)) (whole wanted outside.whole outside.wanting low outside.outside outside.boxes)
+
+  in_short : (short : Option Shortage) (wanted : Topology) (topology : Option Topology) → status ≤ 4
+      → IsEndOf topology before status (unless_short short (shown_run wanted)) → IsOutsideOf (status ≡ 9) topology before (unless_short short (shown_run wanted)) old new
+      → IfSome topology (λ t. IsUsedWhole t before old new)
+  in_short None wanted topology low end outside = in_run wanted topology low end outside
+  in_short (Some short) wanted topology low end outside = absurd end
+
+  in_file : (boxes : Boxes) (read : Result Topology ConfigFault) (topology : Option Topology) → status ≤ 4
+      → IsEndOf topology before status (for_topology read (run_case boxes 1 (record { steps = true; acks = true }))) → IsOutsideOf (status ≡ 9) topology before (for_topology read (run_case boxes 1 (record { steps = true; acks = true }))) old new
+      → IfSome topology (λ t. IsUsedWhole t before old new)
+  in_file boxes (Ok wanted) topology low end outside = in_short (shortage_of wanted boxes) wanted topology low end outside
+  in_file boxes (Err fault) topology low end outside = absurd end
+
+  -- under 0 to 4 a run was whole
+  used : (callback : Kind) (file : List ℕ) (topology : Option Topology) → status ≤ 4
+      → IsEndOf topology before status (case_of_file callback file) → IsOutsideOf (status ≡ 9) topology before (case_of_file callback file) old new
+      → IfSome topology (λ t. IsUsedWhole t before old new)
+  used callback file topology low end outside =
+      in_file (boxes_in (callback ∷ [])) (topology_of_file (take 1048577 file)) topology low end outside
+
+pub whole_run : {C : Type 0} (kind : C → Kind) (named : EdgeKind → List ℕ → List ℕ) (words : List (List ℕ)) (stock : List C) (callback : C) (file : List ℕ)
+    (old new : OutsideSeen) (out out' err err' : SinkSeen) (topology : Option Topology) (before : History) (status : ℕ)
+    → words ≡ run_words
+    → InCase true named (command_of words) (boxes_in (map kind stock)) (IsCall old new out out' err err' (command_of words) topology before status)
+    → named File (codes "t") ≡ file → stock ≡ callback ∷ [] → status ≤ 4 → IfSome topology (λ t. IsUsedWhole t before old new)
+whole_run kind named words stock callback file old new out out' err err' topology before status e call f one low =
+    let came = cased kind named words stock callback file (IsCall old new out out' err err' (command_of words) topology before status) e call f one in
+    used before status old new (kind callback) file topology low (came.ended low) came.outside
+
+there : {A : Type 0} (o : Option A) (P : A → Type 0) (Q : Type 0) → There o P → ((x : A) → P x → Q) → Q
+there (Some x) P Q t f = f x t
+there None P Q t f = absurd t
+
+-- it accepted the first of the lines that stand under the name of its source
+first_lines : (topology : Topology) (before : History) (old new : EdgesSeen) (name bytes : List ℕ) (p : StageNo) → IsOutside true topology before old new → IsTrue old.told → old.named Source name ≡ bytes
+    → call_in (spec_of topology p) ≡ Some (Source, name) → AreFirstLines bytes (fed before p)
+first_lines topology before old new name bytes p outside told stands call =
+    there _ (IsSourceRead old before p name) (AreFirstLines bytes (fed before p)) (outside.used.sources p name call) (λ source read.
+    let gave = read.given.given told in
+    let same : source.taken ++ source.left ≡ bytes = read.same_bytes gave.0 ∙ (gave.1 ∙ stands) in
+    subst (λ (b : List ℕ). AreFirstLines b (fed before p)) same (read.reads.in_order (read.same_telling ∙ gave.0)))
+
+-- what a whole run read, and how it left the one box
+pub accepted : (topology : Option Topology) (before : History) (old new : OutsideSeen) (name bytes : List ℕ)
+    → IfSome topology (λ t. IsUsedWhole t before old new) → IsTrue old.edges.told → old.edges.named Source name ≡ bytes
+    → IfSome topology (λ t. (p : StageNo) → call_in (spec_of t p) ≡ Some (Source, name) → AreFirstLines bytes (fed before p))
+accepted None before old new name bytes whole told stands = tt
+accepted (Some t) before old new name bytes whole told stands = λ p call. first_lines t before old.edges new.edges name bytes p whole.outside told stands call
+
+pub counted : {C : Type 0} (seen : C → BoxSeen) (topology : Option Topology) (before : History) (old new : OutsideSeen) (stock : List C) (callback : C)
+    → IfSome topology (λ t. IsUsedWhole t before old new) → old.boxes ≡ map seen stock → stock ≡ callback ∷ []
+    → IfSome topology (λ t. AreBoxesLeft true t before (seen callback ∷ []) new.boxes)
+counted seen None before old new stock callback whole boxes one = tt
+counted seen (Some t) before old new stock callback whole boxes one =
+    subst (λ (b : List BoxSeen). AreBoxesLeft true t before b new.boxes) (boxes ∙ ap (map seen) one) whole.boxes

@@ -1,0 +1,143 @@
+//! A call of the program with a callback of one's own.
+
+ghost use Rattle.std.specs.Prelude.{◌≡◌, ◌≢◌, ◌≤◌, ◌∷◌, [], true, codes, map, Some, IfOk, IfSome};
+ghost use Rattle.program_words.specs.Words.{texts_of};
+ghost use Rattle.pipe_types.specs.declared.numbers.StageNo.{StageNo};
+ghost use Rattle.pipe_types.specs.Stages.{spec_of};
+ghost use Rattle.pipe_model.specs.Outside.{fed};
+ghost use Rattle.pipe_edges.specs.declared.edges.EdgeKind.{EdgeKind};
+ghost use Rattle.mem_edges.specs.MemEdges.{named_in};
+ghost use Rattle.mem_edges.specs.MemSink.{held_by};
+ghost use Rattle.source_lines.specs.Cut.{AreFirstLines};
+ghost use Rattle.edge_names.specs.Opened.{call_in};
+ghost use Rattle.pipe_run.specs.Boxes.{AreBoxesLeft};
+ghost use Rattle.pipe_top.specs.Runs.{IsRunOrNone, IsEndOf, IsStatusOf, out_text};
+ghost use Rattle.own_callback.specs.Came.{run_words, case_of_file};
+
+use box_stock::{Boxed, Carries};
+use mem_edges::{CallList, MemClock, MemEdges, MemSink, MemSource, SinkScript, SourceScript};
+use pipe_journal::Journal;
+use pipe_top::run_program;
+use pipe_types::bytes::{Bytes, Text};
+use pipe_types::topology::Topology;
+use stage_bodies::Houses;
+use std::alloc::{AllocError, Global};
+use std::sync::Wait;
+
+/// Room for the texts that a call writes, in bytes.
+const ROOM: usize = 1_000_000;
+
+/// What a call came to: its status, the topology and the journal of its run, both outputs, and the callback.
+#[derive(Drop)]
+pub struct Came<C> {
+    pub status: u8,
+    pub topology: Option<Topology>,
+    pub journal: Journal,
+    pub out: MemSink,
+    pub err: MemSink,
+    pub stock: Vec<C>,
+}
+
+/// Runs the topology of a file with one callback in stock, over these lines under the name `mem:a`, and shows the journal and
+/// the acknowledgements. The error is want of memory before the run.
+pub fn run_with<R: Wait, C: Boxed, B: Carries<C> + Houses<MemSource, MemSink>>(
+    rt: &R,
+    alloc: Global,
+    file: &str,
+    lines: &str,
+    callback: C,
+) -> Result<Came<C>, AllocError>
+    // The journal is legal and keeps every claim, and each step of its own accord was the next move.
+    ensures run { IfOk result (λ came. IsRunOrNone came.topology came.journal.steps) }
+    // A call by name or a write that failed, and want of memory, are 5, 8 and 9; else the status is that of the case.
+    ensures status { IfOk result (λ came. came.status ≢ 5 → came.status ≢ 8 → came.status ≢ 9
+        → IsStatusOf came.status (case_of_file (C.seen callback).kind file.now)) }
+    // Under 0 to 4 the run came to its end, the status is the journal's, and the output has all three texts.
+    ensures ended { IfOk result (λ came. came.status ≤ 4
+        → IsEndOf came.topology came.journal.steps came.status (case_of_file (C.seen callback).kind file.now)) }
+    ensures output { IfOk result (λ came. came.status ≤ 4
+        → held_by came.out ≡ out_text came.journal.steps (case_of_file (C.seen callback).kind file.now)) }
+    // What a producer of these lines accepted are the first of them.
+    ensures lines { IfOk result (λ came. came.status ≤ 4 → IfSome came.topology (λ topology. (p : StageNo)
+        → call_in (spec_of topology p) ≡ Some (EdgeKind.Source, codes "mem:a") → AreFirstLines lines.now (fed came.journal.steps p))) }
+    // The callback counted each call, and each answer other than success, that the journal says of its post.
+    ensures counted { IfOk result (λ came. came.status ≤ 4 → IfSome came.topology (λ topology.
+        AreBoxesLeft true topology came.journal.steps (C.seen callback ∷ [])
+        (map C.seen came.stock.items))) }
+{
+    let words = words_of(alloc)?;
+    let mut edges = edges_of(alloc, file, lines)?;
+    let mut stock: Vec<C> = Vec::new(alloc);
+    stock.push(callback)?;
+    let mut out = output(alloc)?;
+    let mut err = output(alloc)?;
+    let clock = MemClock {
+        at: 0,
+        step: 0,
+        nap: 0,
+        latest: 0,
+        readings: 0,
+    };
+    let end = run_program::<R, MemEdges, C, B, MemClock>(
+        rt, alloc, &words, stock, &mut edges, clock, &mut out, &mut err,
+    );
+    Ok(Came {
+        status: end.status,
+        topology: end.topology,
+        journal: end.journal,
+        out,
+        err,
+        stock: end.stock,
+    })
+}
+
+/// The words `run t --steps --acks`.
+fn words_of(alloc: Global) -> Result<Vec<String>, AllocError>
+    ensures { IfOk result (λ words. texts_of words.items ≡ run_words) }
+{
+    let mut words = Vec::new(alloc);
+    words.push(String::from_str(alloc, "run")?)?;
+    words.push(String::from_str(alloc, "t")?)?;
+    words.push(String::from_str(alloc, "--steps")?)?;
+    words.push(String::from_str(alloc, "--acks")?)?;
+    Ok(words)
+}
+
+/// The file stands under the name `t`, the lines under `mem:a`.
+fn edges_of(alloc: Global, file: &str, lines: &str) -> Result<MemEdges, AllocError>
+    ensures file { IfOk result (λ edges. named_in edges EdgeKind.File (codes "t") ≡ file.now) }
+    ensures lines { IfOk result (λ edges. named_in edges EdgeKind.Source (codes "mem:a") ≡ lines.now) }
+{
+    let mut edges = MemEdges::new(alloc, CallList::from_vec(Vec::new(alloc)));
+    edges.add_file(text(alloc, "t")?, bytes(alloc, file)?)?;
+    let source = MemSource::new(
+        bytes(alloc, lines)?,
+        SourceScript::from_vec(Vec::new(alloc)),
+    );
+    edges.add_source(text(alloc, "mem:a")?, source)?;
+    Ok(edges)
+}
+
+/// An output that holds nothing.
+fn output(alloc: Global) -> Result<MemSink, AllocError>
+    ensures { IfOk result (λ sink. held_by sink ≡ []) }
+{
+    MemSink::new(
+        alloc,
+        Bytes::from_vec(Vec::new(alloc)),
+        ROOM,
+        SinkScript::from_vec(Vec::new(alloc)),
+    )
+}
+
+fn text(alloc: Global, text: &str) -> Result<Text, AllocError>
+    ensures { IfOk result (λ copy. copy ≡ text.now) }
+{
+    Ok(Text::from_string(String::from_str(alloc, text)?))
+}
+
+fn bytes(alloc: Global, text: &str) -> Result<Bytes, AllocError>
+    ensures { IfOk result (λ copy. copy ≡ text.now) }
+{
+    Ok(Bytes::from_vec(Vec::from_slice(alloc, text.as_bytes())?))
+}

@@ -1,0 +1,14 @@
+//! A callback of one's own, and a call of the program with it over objects in memory.
+//!
+//! `ThirdCrashes` passes each message and crashes at its third one. `run_with` hands a callback to `run_program`, with the
+//! words `run t --steps --acks`, a topology file and lines, and its contract says what comes of it. docs/USING.md shows both.
+#![tactic(auto)]
+
+mod call;
+mod third;
+
+pub use call::{Came, run_with};
+pub use third::ThirdCrashes;
+
+#[cfg(test)]
+mod tests;
