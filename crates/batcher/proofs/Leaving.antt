@@ -7,11 +7,12 @@ use Rattle.std.proofs.lemmas.Bool.Decides.{nat_tests}
 use Rattle.std.proofs.lemmas.List.{map-append, append-nil, length-append, append_assoc}
 use Rattle.std.proofs.lemmas.List.Elements.{All-append, All-take, All-drop, All-nil, All-cons}
 use Rattle.std.proofs.lemmas.Option.{get_or_from_slice_get, slice_get_within, slice_get-map}
-use Rattle.std.proofs.Math.Seq.{take-append_seam}
+use Rattle.std.specs.List.{flat_map}
+use Rattle.std.proofs.Math.Seq.{take-append_seam, drop-append_seam}
 use Rattle.indexmap.proofs.SetLemmas.{map-remove}
 use Rattle.indexmap.specs.Layout.{set_value_at}
 use Rattle.batcher.specs.declared.messages.Messages.{Messages}
-use Rattle.batcher.specs.Batches.{OpenBatch, numbers_in}
+use Rattle.batcher.specs.Batches.{OpenBatch, numbers_in, left_of}
 use Rattle.batcher.specs.Seen.{seen, batch_in, batch_of, AreMarked, IsKept, PopsNumber}
 use Rattle.batcher.proofs.Gathers.{Entries}
 use Rattle.batcher.proofs.Closing.{seen_at}
@@ -66,8 +67,8 @@ last_entry es front last e =
     (λ i. slice_get (e i) (at i)) ∙ get_last front last
 
 pub pops : (es : Entries) (at : ℕ) (m w : Messages) (n : ℕ) → 0 < length es → at ≡ length es - 1 → slice_get (values_of es) at ≡ Some m
-    → m.numbers.items ≡ w.numbers.items ++ n ∷ [] → w.opened ≡ m.opened → PopsNumber es (set_value_at es at w) n
-pops es at m w n some place value numbers opened =
+    → m.numbers.items ≡ w.numbers.items ++ n ∷ [] → w.opened ≡ m.opened → w.flush ≡ false → PopsNumber es (set_value_at es at w) n
+pops es at m w n some place value numbers opened flush =
     let last = last_at es at some place in
     let is : last.messages ≡ m = ap (λ o. unwrap_or o m) (sym last.value ∙ value) in
     record {
@@ -79,6 +80,7 @@ pops es at m w n some place value numbers opened =
       is = last.put w;
       numbers = ap (λ (m : Messages). m.numbers.items) is ∙ numbers;
       opened = opened ∙ ap (λ (m : Messages). m.opened) (sym is);
+      flush = flush;
     }
 
 -- each batch has a message
@@ -132,6 +134,36 @@ module _ (old new left : Entries) (n : ℕ) (popped : PopsNumber old new n)
           All-cons (λ b. from ≤ b.opened) (batch_of (popped.key, popped.after)) []
           (subst (λ t. from ≤ t) (sym popped.opened) (last_of_all (λ b. from ≤ b.opened) kept.marked.later)) (All-nil (λ b. from ≤ b.opened))
       last_later false = All-nil (λ b. from ≤ b.opened)
+
+  -- and what is left of the last batch
+  pub dumped_last : drop (length (seen old) - 1) (seen left) ≡ flat_map left_of (drop (length (seen old) - 1) (seen old))
+  dumped_last =
+      (λ i. drop (front_len i) (left_is i))
+      ∙ (drop-append_seam (seen popped.front) remains
+      ∙ (last_is (nat_lt 0 (length popped.after.numbers.items)) refl
+      ∙ sym ((λ i. flat_map left_of (drop (front_len i) (old_is i))) ∙ ap (flat_map left_of) (drop-append_seam (seen popped.front) (batch_of (popped.key, popped.before) ∷ [])))))
+    where
+      front_len : length (seen old) - 1 ≡ length (seen popped.front)
+      front_len = let both = ap length old_is in omega (arith, both, length-append (seen popped.front) (batch_of (popped.key, popped.before) ∷ []))
+
+      count : length popped.before.numbers.items ≡ length popped.after.numbers.items + 1
+      count = ap length popped.numbers ∙ length-append popped.after.numbers.items (n ∷ [])
+
+      others : take (length popped.before.numbers.items - 1) popped.before.numbers.items ≡ popped.after.numbers.items
+      others =
+          let place : length popped.before.numbers.items - 1 ≡ length popped.after.numbers.items = omega (arith, count) in
+          (λ i. take (place i) (popped.numbers i)) ∙ take-append_seam popped.after.numbers.items (n ∷ [])
+
+      -- the last batch, where it has that many messages
+      last_is : (b : Bool) → nat_lt 0 (length popped.after.numbers.items) ≡ b → cond b (batch_of (popped.key, popped.after) ∷ []) [] ≡ left_of (batch_of (popped.key, popped.before)) ++ []
+      last_is true e =
+          let more : nat_lt 1 (length popped.before.numbers.items) ≡ true = grind (arith, nat_tests, count) in
+          sym
+          ((λ i. cond (more i) (record { key = popped.key.items; numbers = others i; flush = false; opened = popped.before.opened } ∷ []) [] ++ [])
+          ∙ (λ i. record { key = popped.key.items; numbers = popped.after.numbers.items; flush = sym popped.flush i; opened = sym popped.opened i } ∷ []))
+      last_is false e =
+          let none : nat_lt 1 (length popped.before.numbers.items) ≡ false = grind (arith, nat_tests, count) in
+          sym (λ i. cond (none i) (record { key = popped.key.items; numbers = others i; flush = false; opened = popped.before.opened } ∷ []) [] ++ [])
 
 -- the batch of an entry
 pub closed_at : (es : Entries) (at : ℕ) (entry : Vec ℕ Global × Messages) → slice_get es at ≡ Some entry → Some (batch_of entry) ≡ slice_get (seen es) at

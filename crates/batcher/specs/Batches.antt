@@ -1,5 +1,5 @@
 -- Open batches, what may join them, and which may close.
-use Rattle.std.specs.Prelude.{◌≡◌, ℕ, ◌+◌, Bool, false, if◌then◌else◌, ◌==◌, ◌&&◌, ◌||◌, not, nat_lt, nat_le, List, [], ◌∷◌, ◌++◌, length, bytes_eq, Option, Some, None, slice_get, slice_index_or}
+use Rattle.std.specs.Prelude.{◌≡◌, ℕ, ◌+◌, ◌-◌, Bool, false, if◌then◌else◌, ◌==◌, ◌&&◌, ◌||◌, not, nat_lt, nat_le, List, [], ◌∷◌, ◌++◌, length, take, bytes_eq, Option, Some, None, slice_get, slice_index_or}
 use Rattle.std.specs.List.{flat_map}
 use Rattle.pipe_types.specs.declared.message.Trigger.{Trigger}
 use Rattle.pipe_types.specs.declared.message.Trigger.TheVariants.{Size, Flush, Timeout}
@@ -61,3 +61,10 @@ pub record IsClosable (held : Batches) (now : ℕ) (dry : Bool) (closable : Clos
 -- the numbers of all messages in these batches
 abbrev pub numbers_in : List OpenBatch → List ℕ
 numbers_in batches = flat_map (λ batch. batch.numbers) batches
+
+-- what is left of a batch whose last message is given out: a batch of the others, with no flush mode, or no batch
+abbrev pub left_of : OpenBatch → List OpenBatch
+left_of batch =
+    if nat_lt 1 (length batch.numbers)
+    then record { key = batch.key; numbers = take (length batch.numbers - 1) batch.numbers; flush = false; opened = batch.opened } ∷ []
+    else []

@@ -40,3 +40,4 @@ pub record PopsNumber (old new : List (Vec ℕ Global × Messages)) (number : �
   pub is : new ≡ front ++ (key, after) ∷ []
   pub numbers : before.numbers.items ≡ after.numbers.items ++ number ∷ []
   pub opened : after.opened ≡ before.opened
+  pub flush : after.flush ≡ false

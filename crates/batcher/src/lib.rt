@@ -5,8 +5,9 @@
 //! first open batch for which a trigger holds. Only `gather` takes memory, and after want of it nothing has changed.
 #![tactic(auto)]
 
-ghost use Rattle.std.specs.Prelude.{◌≡◌, ◌+◌, ◌-◌, ◌<◌, ◌↔◌, nat_le, ◌++◌, [], take, remove, length, slice_get, option_map, All, IsTrue, IsNone, IfSome, IfNone, OnOk, OnErr, option_to_list};
-ghost use Rattle.batcher.specs.Batches.{fits as key_fits, gathered, trigger_of, first_of, numbers_in, IsClosable};
+ghost use Rattle.std.specs.Prelude.{◌≡◌, ◌+◌, ◌-◌, ◌<◌, ◌↔◌, nat_le, ◌++◌, [], take, drop, remove, length, slice_get, option_map, All, IsTrue, IsNone, IfSome, IfNone, OnOk, OnErr, option_to_list};
+ghost use Rattle.std.specs.List.{flat_map};
+ghost use Rattle.batcher.specs.Batches.{fits as key_fits, gathered, trigger_of, first_of, left_of, numbers_in, IsClosable};
 ghost use Rattle.batcher.specs.Seen.{batch_in};
 
 mod messages;
@@ -127,10 +128,12 @@ impl Batcher {
         None
     }
 
-    /// The open batch that begins with this message, with the trigger that holds. In time for the open batches.
+    /// The first open batch that begins with this message and for which a trigger holds, with that trigger. In time for the
+    /// open batches.
     pub fn closable_at(&self, first: MsgNo, now: u64, dry: bool) -> Option<Closable>
         ensures closable { IfSome result (IsClosable self.now now dry) }
         ensures first { IfSome result (λ c. c.first ≡ first) }
+        ensures earliest { IfSome result (λ c. All (λ batch. first_of batch ≡ first.0 → trigger_of self.now now dry batch ≡ None) (take c.at self.now.batches)) }
         ensures none { IsNone result ↔ All (λ batch. first_of batch ≡ first.0 → trigger_of self.now now dry batch ≡ None) self.now.batches }
     {
         for at in 0..self.batches.len() {
@@ -163,12 +166,14 @@ impl Batcher {
         }
     }
 
-    /// Gives out the held messages one by one, the last of the last batch first.
+    /// Gives out the held messages one by one, the last of the last batch first. What is left of that batch has no flush
+    /// mode; where nothing is left, it is gone.
     pub fn dump(&mut self) -> Option<MsgNo>
         ensures numbers { numbers_in self.old.batches ≡ numbers_in self.new.batches ++ option_to_list (option_map (λ no. no.0) result) }
         ensures none { IsNone result ↔ (self.old.batches ≡ []) }
         ensures limits { self.new ≡ record self.old { batches = self.new.batches } }
         ensures others { take (length self.old.batches - 1) self.new.batches ≡ take (length self.old.batches - 1) self.old.batches }
+        ensures last { drop (length self.old.batches - 1) self.new.batches ≡ flat_map left_of (drop (length self.old.batches - 1) self.old.batches) }
     {
         if self.batches.is_empty() {
             return None;

@@ -1,3 +1,4 @@
 pub mod Lists
 pub mod Tallies
 pub mod Reports
+pub mod FoundSteps

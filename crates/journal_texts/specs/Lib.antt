@@ -2,4 +2,5 @@ pub mod Words
 pub mod Steps
 pub mod Report
 pub mod Acks
-pub mod Runs
+pub mod Failures
+pub mod Findings

@@ -4,6 +4,7 @@
 //! records but for the order of reasons. Only want of memory makes it fail.
 #![tactic(auto)]
 
+mod failures;
 mod items;
 pub mod lines;
 mod places;

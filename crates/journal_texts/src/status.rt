@@ -1,16 +1,14 @@
 //! The status of a run.
 
-ghost use Rattle.std.specs.Prelude.{◌≡◌};
+ghost use Rattle.std.specs.Prelude.{◌≡◌, ◌||◌};
 ghost use Rattle.std.specs.List.{list_any};
-ghost use Rattle.pipe_model.specs.Legal.{happened};
+ghost use Rattle.pipe_model.specs.Legal.{happened, is_halt as is_halt_step};
 ghost use Rattle.pipe_journal.specs.Views.{step_seen};
-ghost use Rattle.pipe_model.specs.Places.{ArePlaces};
-ghost use Rattle.journal_texts.specs.Report.{is_fault as is_fault_how, is_source_fault as is_source_fault_step, is_lost as is_lost_place, is_failed as is_failed_place, gravest_of, status_of};
+ghost use Rattle.journal_texts.specs.Report.{places as places_of, is_fault as is_fault_how, is_source_fault as is_source_fault_step, is_lost as is_lost_place, is_failed as is_failed_place, gravest_of, status_of};
 
-use crate::steps::is_halted;
+use crate::steps::halts_by;
 use pipe_journal::{AnswerView, Journal, StepView};
 use pipe_types::message::{Outcome, Place};
-use pipe_types::state::{PlaceList, PlaceRow};
 use pipe_types::step::SourceHow;
 use pipe_types::topology::Topology;
 
@@ -33,16 +31,26 @@ fn is_source_fault(step: StepView<'_>) -> bool
     }
 }
 
-/// Whether a source ended with a fault or with a line that is too long.
-fn has_source_fault(journal: &Journal) -> bool
-    ensures { result ≡ happened is_source_fault_step journal.now.steps }
+/// Whether a source failed up to the step, given whether one failed before it.
+fn fails_by(failed: bool, step: StepView<'_>) -> bool
+    ensures { result ≡ (failed || is_source_fault_step (step_seen step.entry)) }
 {
+    failed || is_source_fault(step)
+}
+
+/// Whether a source ended with a fault or with a line that is too long, and whether the run was halted.
+fn bad_ends(journal: &Journal) -> (bool, bool)
+    ensures source_fault { result.0 ≡ happened is_source_fault_step journal.now.steps }
+    ensures halted { result.1 ≡ happened is_halt_step journal.now.steps }
+{
+    let mut source_fault = false;
+    let mut halted = false;
     for at in 0..journal.len() {
-        if is_source_fault(journal.view(at)) {
-            return true;
-        }
+        let step = journal.view(at);
+        source_fault = fails_by(source_fault, step);
+        halted = halts_by(halted, step);
     }
-    false
+    (source_fault, halted)
 }
 
 fn is_lost(place: &Place) -> bool
@@ -57,16 +65,16 @@ fn is_failed(place: &Place) -> bool
     matches!(place, Place::Acked(Outcome::Failed(_)))
 }
 
-fn any_lost(rows: &[PlaceRow]) -> bool
-    ensures { result ≡ list_any (λ row. is_lost_place row.place) rows.now }
+fn any_lost(places: &[Place]) -> bool
+    ensures { result ≡ list_any is_lost_place places.now }
 {
-    rows.iter().any(|row| is_lost(&row.place))
+    places.iter().any(|place| is_lost(place))
 }
 
-fn any_failed(rows: &[PlaceRow]) -> bool
-    ensures { result ≡ list_any (λ row. is_failed_place row.place) rows.now }
+fn any_failed(places: &[Place]) -> bool
+    ensures { result ≡ list_any is_failed_place places.now }
 {
-    rows.iter().any(|row| is_failed(&row.place))
+    places.iter().any(|place| is_failed(place))
 }
 
 /// The status of the four findings, the gravest first.
@@ -86,15 +94,14 @@ fn gravest(source_fault: bool, halted: bool, lost: bool, failed: bool) -> u8
 }
 
 /// The status of a run that ended: 4 where a source ended with a fault or with too long a line, else 3 where the run was
-/// halted, else 2 where a message was lost, else 1 where one failed, else 0. `places` are the places of the journal.
-pub fn status(_topology: &Topology, journal: &Journal, places: &PlaceList) -> u8
-    requires { ArePlaces _topology.now journal.now.steps places.now }
+/// halted, else 2 where a message was lost, else 1 where one failed, else 0. `places` are the places of the accepted
+/// messages, in order of their numbers.
+pub fn status(_topology: &Topology, journal: &Journal, places: &[Place]) -> u8
+    requires { places.now ≡ places_of _topology.now journal.now.steps }
     ensures { result ≡ status_of _topology.now journal.now.steps }
 {
-    let rows = places.as_slice();
-    let source_fault = has_source_fault(journal);
-    let halted = is_halted(journal);
-    let lost = any_lost(rows);
-    let failed = any_failed(rows);
+    let (source_fault, halted) = bad_ends(journal);
+    let lost = any_lost(places);
+    let failed = any_failed(places);
     gravest(source_fault, halted, lost, failed)
 }

@@ -83,7 +83,7 @@ module _ (before : History) (status : ℕ) (old new : OutsideSeen) where
   in_short (Some short) wanted topology low end outside = absurd end
 
   in_file : (boxes : Boxes) (read : Result Topology ConfigFault) (topology : Option Topology) → status ≤ 4
-      → IsEndOf topology before status (for_topology read (run_case boxes 1 (record { steps = true; acks = true }))) → IsOutsideOf (status ≡ 9) topology before (for_topology read (run_case boxes 1 (record { steps = true; acks = true }))) old new
+      → IsEndOf topology before status (for_topology read (run_case boxes (record { steps = true; acks = true }))) → IsOutsideOf (status ≡ 9) topology before (for_topology read (run_case boxes (record { steps = true; acks = true }))) old new
       → IfSome topology (λ t. IsUsedWhole t before old new)
   in_file boxes (Ok wanted) topology low end outside = in_short (shortage_of wanted boxes) wanted topology low end outside
   in_file boxes (Err fault) topology low end outside = absurd end

@@ -13,4 +13,4 @@ run_words = codes "run" ∷ codes "t" ∷ codes "--steps" ∷ codes "--acks" ∷
 -- and the acknowledgements are shown
 abbrev pub case_of_file : (callback : Kind) → (file : List ℕ) → Case
 case_of_file callback file =
-    for_topology (topology_of_file (take 1048577 file)) (run_case (boxes_in (callback ∷ [])) 1 (record { steps = true; acks = true }))
+    for_topology (topology_of_file (take 1048577 file)) (run_case (boxes_in (callback ∷ [])) (record { steps = true; acks = true }))

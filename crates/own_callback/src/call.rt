@@ -23,6 +23,7 @@ use pipe_types::topology::Topology;
 use stage_bodies::Houses;
 use std::alloc::{AllocError, Global};
 use std::sync::Wait;
+use std::thread::Threads;
 
 /// Room for the texts that a call writes, in bytes.
 const ROOM: usize = 1_000_000;
@@ -40,13 +41,11 @@ pub struct Came<C> {
 
 /// Runs the topology of a file with one callback in stock, over these lines under the name `mem:a`, and shows the journal and
 /// the acknowledgements. The error is want of memory before the run.
-pub fn run_with<R: Wait, C: Boxed, B: Carries<C> + Houses<MemSource, MemSink>>(
-    rt: &R,
-    alloc: Global,
-    file: &str,
-    lines: &str,
-    callback: C,
-) -> Result<Came<C>, AllocError>
+pub fn run_with<
+    R: Threads + Wait + Sync,
+    C: Boxed,
+    B: Carries<C> + Houses<MemSource, MemSink> + Send,
+>(rt: &R, alloc: Global, file: &str, lines: &str, callback: C) -> Result<Came<C>, AllocError>
     // The journal is legal and keeps every claim, and each step of its own accord was the next move.
     ensures run { IfOk result (λ came. IsRunOrNone came.topology came.journal.steps) }
     // A call by name or a write that failed, and want of memory, are 5, 8 and 9; else the status is that of the case.

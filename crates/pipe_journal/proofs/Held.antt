@@ -1,97 +1,48 @@
--- What the store keeps, whatever is added to it.
-use Rattle.std.proofs.Common.{◌≡◌, ℕ, zero, suc, ◌+◌, ◌<◌, ◌≤◌, length, arith, ◌∷◌, ◌++◌, [], List, map, reverse, Option, Some, None, refl, sym, ap, ◌∙◌, subst}
-use Rattle.std.specs.Prelude.{IsTrue, IsSome, slice_get, slice_index_or}
-use Rattle.std.specs.Bool.{⊤}
+-- What the entries stand for, whatever is added to their store.
+use Rattle.std.proofs.Common.{◌≡◌, ℕ, zero, suc, ◌<◌, length, arith, ◌∷◌, ◌++◌, [], List, map, reverse, Some, refl, ap, ◌∙◌, subst}
+use Rattle.std.specs.Prelude.{slice_get}
 use Rattle.std.proofs.lemmas.List.{map_push, reverse-append, reverse-reverse, length-map, length-reverse}
 use Rattle.std.proofs.lemmas.Option.{slice_get-map}
 use Rattle.std.specs.Option.{option_map}
-use Rattle.slab.specs.Slab.{Slab as Store, get, ContainsKey}
 use Rattle.pipe_types.specs.declared.step.Step.{Step}
 use Rattle.pipe_types.specs.declared.step.LateAnswer.{LateAnswer}
 use Rattle.pipe_types.specs.declared.message.BatchEnd.{BatchEnd}
-use Rattle.pipe_journal.specs.declared.entry.Kept.{Kept}
-use Rattle.pipe_journal.specs.declared.entry.EndEntry.{EndEntry}
-use Rattle.pipe_journal.specs.declared.entry.AnswerEntry.{AnswerEntry}
+use Rattle.pipe_types.specs.declared.message.Reply.{Reply}
+use Rattle.pipe_journal.specs.declared.store.Store.{Store}
 use Rattle.pipe_journal.specs.declared.entry.Entry.{Entry}
 use Rattle.pipe_model.specs.History.{History}
 use Rattle.pipe_journal.specs.Readers.{step_at}
-use Rattle.pipe_journal.specs.Entries.{records_in, replies_in, reply_in, outcomes_in, are_records, are_replies, is_reply, are_outcomes, end_of, answer_of, step_of, steps_of, IsEndHeld, IsAnswerHeld, IsHeld, AreHeld, Keeps}
+use Rattle.pipe_journal.specs.Entries.{step_of, steps_of, IsHeld, AreHeld, Stays, Keeps}
 
--- a key with a list of some kind has a list
+still_within : {X : Type 0} (old new : List X) (key : ℕ) → Stays old new → key < length old → key < length new
+still_within old new key stays is = let e = stays.longer in omega arith
 
-some_records : (slot : Option Kept) → IsTrue (are_records slot) → IsSome slot
-some_records (Some kept) is = refl
-some_records None is = is
-
-some_replies : (slot : Option Kept) → IsTrue (are_replies slot) → IsSome slot
-some_replies (Some kept) is = refl
-some_replies None is = is
-
-some_reply : (slot : Option Kept) → IsTrue (is_reply slot) → IsSome slot
-some_reply (Some kept) is = refl
-some_reply None is = is
-
-some_outcomes : (slot : Option Kept) → IsTrue (are_outcomes slot) → IsSome slot
-some_outcomes (Some kept) is = refl
-some_outcomes None is = is
-
-module _ (old new : Store Kept) (keeps : Keeps old new) where
+module _ (old new : Store) (keeps : Keeps old new) where
   -- an entry whose list is held has the same list
 
-  same_records : (key : ℕ) → IsTrue (are_records (get old key)) → get new key ≡ get old key
-  same_records key is = keeps key (some_records (get old key) is)
-
-  same_replies : (key : ℕ) → IsTrue (are_replies (get old key)) → get new key ≡ get old key
-  same_replies key is = keeps key (some_replies (get old key) is)
-
-  same_reply : (key : ℕ) → IsTrue (is_reply (get old key)) → get new key ≡ get old key
-  same_reply key is = keeps key (some_reply (get old key) is)
-
-  same_outcomes : (key : ℕ) → IsTrue (are_outcomes (get old key)) → get new key ≡ get old key
-  same_outcomes key is = keeps key (some_outcomes (get old key) is)
-
-  same_end : (end : EndEntry) → IsEndHeld old end → end_of new end ≡ end_of old end
-  same_end (EndEntry.Outcomes key) is = ap (λ slot. BatchEnd.Outcomes (outcomes_in slot)) (same_outcomes key is)
-  same_end EndEntry.Crashed is = refl
-
-  held_end : (end : EndEntry) → IsEndHeld old end → IsEndHeld new end
-  held_end (EndEntry.Outcomes key) is = subst (λ slot. IsTrue (are_outcomes slot)) (sym (same_outcomes key is)) is
-  held_end EndEntry.Crashed is = tt
-
-  same_answer : (answer : AnswerEntry) → IsAnswerHeld old answer → answer_of new answer ≡ answer_of old answer
-  same_answer (AnswerEntry.Records key) is = ap (λ slot. LateAnswer.Records (records_in slot)) (same_records key is)
-  same_answer (AnswerEntry.Wrote bytes end) is = ap (λ e. LateAnswer.Wrote bytes e) (same_end end is)
-  same_answer AnswerEntry.Quiet is = refl
-  same_answer (AnswerEntry.Source how) is = refl
-  same_answer AnswerEntry.Nothing is = refl
-
-  held_answer : (answer : AnswerEntry) → IsAnswerHeld old answer → IsAnswerHeld new answer
-  held_answer (AnswerEntry.Records key) is = subst (λ slot. IsTrue (are_records slot)) (sym (same_records key is)) is
-  held_answer (AnswerEntry.Wrote bytes end) is = held_end end is
-  held_answer AnswerEntry.Quiet is = tt
-  held_answer (AnswerEntry.Source how) is = tt
-  held_answer AnswerEntry.Nothing is = tt
-
   same_step : (entry : Entry) → IsHeld old entry → step_of new entry ≡ step_of old entry
-  same_step (Entry.Accept s key) is = ap (λ slot. Step.Accept s (records_in slot)) (same_records key is)
-  same_step (Entry.Done s key) is = ap (λ slot. Step.Done s (replies_in slot)) (same_replies key is)
-  same_step (Entry.Wrote s bytes end) is = ap (λ e. Step.Wrote s bytes e) (same_end end is)
-  same_step (Entry.ChildEnd s slot key) is = ap (λ kept. Step.ChildEnd s slot (reply_in kept)) (same_reply key is)
-  same_step (Entry.Late s slot incarnation answer) is = ap (λ a. Step.Late s slot incarnation a) (same_answer answer is)
+  same_step (Entry.Accept s key) is = ap (λ records. Step.Accept s records) (keeps.records.same key [] is)
+  same_step (Entry.Done s key) is = ap (λ replies. Step.Done s replies) (keeps.replies.same key [] is)
+  same_step (Entry.Wrote s bytes key) is = ap (λ outcomes. Step.Wrote s bytes (BatchEnd.Outcomes outcomes)) (keeps.outcomes.same key [] is)
+  same_step (Entry.ChildEnd s slot key) is = ap (λ reply. Step.ChildEnd s slot reply) (keeps.children.same key Reply.Crashed is)
+  same_step (Entry.Late s slot incarnation key) is = ap (λ late. Step.Late s slot incarnation late) (keeps.lates.same key LateAnswer.Nothing is)
   same_step _ is = refl
 
   held_step : (entry : Entry) → IsHeld old entry → IsHeld new entry
-  held_step (Entry.Accept s key) is = subst (λ slot. IsTrue (are_records slot)) (sym (same_records key is)) is
-  held_step (Entry.Done s key) is = subst (λ slot. IsTrue (are_replies slot)) (sym (same_replies key is)) is
-  held_step (Entry.Wrote s bytes end) is = held_end end is
-  held_step (Entry.ChildEnd s slot key) is = subst (λ kept. IsTrue (is_reply kept)) (sym (same_reply key is)) is
-  held_step (Entry.Late s slot incarnation answer) is = held_answer answer is
+  held_step (Entry.Accept s key) is = still_within old.records.items new.records.items key keeps.records is
+  held_step (Entry.Done s key) is = still_within old.replies.items new.replies.items key keeps.replies is
+  held_step (Entry.Wrote s bytes key) is = still_within old.outcomes.items new.outcomes.items key keeps.outcomes is
+  held_step (Entry.ChildEnd s slot key) is = still_within old.children.items new.children.items key keeps.children is
+  held_step (Entry.Late s slot incarnation key) is = still_within old.lates.items new.lates.items key keeps.lates is
   held_step _ is = tt
 
   same_steps : (entries : List Entry) → AreHeld old entries → map (step_of new) entries ≡ map (step_of old) entries
   same_steps [] are = refl
   same_steps (entry ∷ entries) are = ap (λ step. step ∷ map (step_of new) entries) (same_step entry are.0)
       ∙ ap (λ steps. step_of old entry ∷ steps) (same_steps entries are.1)
+
+  pub same_history : (entries : List Entry) → AreHeld old entries → steps_of new entries ≡ steps_of old entries
+  same_history entries are = ap reverse (same_steps entries are)
 
   pub still_held : (entries : List Entry) → AreHeld old entries → AreHeld new entries
   still_held [] are = tt
@@ -111,25 +62,21 @@ module _ (old new : Store Kept) (keeps : Keeps old new) where
       ∙ ap (λ steps. step ∷ reverse steps) (same_steps entries are)
 
 -- the entry at a place is held
-pub held_at : (store : Store Kept) (entries : List Entry) (i : ℕ) (entry : Entry) → AreHeld store entries
+pub held_at : (store : Store) (entries : List Entry) (i : ℕ) (entry : Entry) → AreHeld store entries
     → slice_get entries i ≡ Some entry → IsHeld store entry
 held_at store [] i entry are is = let no_step : ⊥ = cc in absurd no_step
 held_at store (first ∷ entries) zero entry are is = let same : first ≡ entry = cc in subst (λ (e : Entry). IsHeld store e) same are.0
 held_at store (first ∷ entries) (suc i) entry are is = held_at store entries i entry are.1 is
 
 -- the step at a place is that of the entry there
-pub step_there : (store : Store Kept) (entries : List Entry) (i : ℕ) (entry : Entry) → slice_get entries i ≡ Some entry
+pub step_there : (store : Store) (entries : List Entry) (i : ℕ) (entry : Entry) → slice_get entries i ≡ Some entry
     → step_at (steps_of store entries) i ≡ Some (step_of store entry)
 step_there store entries i entry is =
     ap (λ steps. slice_get steps i) (reverse-reverse (map (step_of store) entries))
     ∙ slice_get-map (step_of store) entries i ∙ ap (option_map (step_of store)) is
 
--- other capacity, the same lists
-pub keeps_with_room : (old new : Store Kept) → new.slots ≡ old.slots → Keeps old new
-keeps_with_room old new same key is = ap (λ slots. slice_index_or slots key None) same
-
 -- a place of the history is a place of the entries
-pub within : (store : Store Kept) (entries : List Entry) (steps : History) (i : ℕ) → steps ≡ steps_of store entries
+pub within : (store : Store) (entries : List Entry) (steps : History) (i : ℕ) → steps ≡ steps_of store entries
     → i < length steps → i < length entries
 within store entries steps i are inside =
     let e = ap length are ∙ length-reverse (map (step_of store) entries) ∙ length-map entries (step_of store) in

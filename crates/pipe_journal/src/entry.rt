@@ -1,40 +1,12 @@
-//! What a journal keeps of a step: its kind and its numbers, and the keys of its lists in the store.
+//! What a journal keeps of a step: its kind and its numbers, and the key of its list in the store.
 
-ghost use Rattle.std.specs.Prelude.{◌≡◌, Some};
-ghost use Rattle.slab.specs.Slab.{get, HasRoomFor};
-ghost use Rattle.pipe_journal.specs.Entries.{Adds, IsEndHeld, IsAnswerHeld, IsHeld, end_of, answer_of, step_of};
+ghost use Rattle.std.specs.Prelude.{◌≡◌, ◌≤◌, ◌+◌};
+ghost use Rattle.pipe_journal.specs.Entries.{Keeps, spare_of, IsHeld, step_of};
 
-use pipe_types::bytes::BytesList;
-use pipe_types::message::{BatchEnd, OutcomeList, Reply, ReplyList, Trigger, Why};
+use crate::store::Store;
+use pipe_types::message::{BatchEnd, Trigger, Why};
 use pipe_types::numbers::{MsgNo, StageNo, SubNo};
-use pipe_types::step::{DrainCause, LateAnswer, SourceHow, Step};
-use slab::Slab;
-
-/// What the store keeps: the records, replies or outcomes of one step, or the one reply of a child.
-#[derive(Drop)]
-pub(crate) enum Kept {
-    Records(BytesList),
-    Replies(ReplyList),
-    Reply(Reply),
-    Outcomes(OutcomeList),
-}
-
-/// How a batch ended, with the key of its outcomes.
-#[derive(Clone, Copy)]
-pub(crate) enum EndEntry {
-    Outcomes(usize),
-    Crashed,
-}
-
-/// A late answer, with the key of its list.
-#[derive(Clone, Copy)]
-pub(crate) enum AnswerEntry {
-    Records(usize),
-    Quiet,
-    Source(SourceHow),
-    Wrote(u64, EndEntry),
-    Nothing,
-}
+use pipe_types::step::{DrainCause, SourceHow, Step};
 
 /// A step, with the key of its list.
 #[derive(Clone, Copy)]
@@ -82,7 +54,12 @@ pub(crate) enum Entry {
     Wrote {
         stage: StageNo,
         bytes: u64,
-        end: EndEntry,
+        outcomes: usize,
+    },
+    // The end of a batch whose handler crashed.
+    WroteNone {
+        stage: StageNo,
+        bytes: u64,
     },
     Child {
         stage: StageNo,
@@ -102,7 +79,7 @@ pub(crate) enum Entry {
         stage: StageNo,
         slot: u16,
         incarnation: u32,
-        answer: AnswerEntry,
+        answer: usize,
     },
     Restart {
         stage: StageNo,
@@ -119,54 +96,19 @@ pub(crate) enum Entry {
     },
 }
 
-/// Moves the list into the store, and answers its key.
-fn keep(store: &mut Slab<Kept>, list: Kept) -> usize
-    requires room { HasRoomFor store.old 1 }
-    ensures kept { get store.new result ≡ Some list }
-    ensures adds { Adds store.old store.new }
-{
-    store.insert_reserved(list)
-}
-
-fn pack_end(store: &mut Slab<Kept>, end: BatchEnd) -> EndEntry
-    requires room { HasRoomFor store.old 1 }
-    ensures end { end_of store.new result ≡ end }
-    ensures held { IsEndHeld store.new result }
-    ensures adds { Adds store.old store.new }
-{
-    match end {
-        BatchEnd::Outcomes(outcomes) => EndEntry::Outcomes(keep(store, Kept::Outcomes(outcomes))),
-        BatchEnd::Crashed => EndEntry::Crashed,
-    }
-}
-
-fn pack_answer(store: &mut Slab<Kept>, answer: LateAnswer) -> AnswerEntry
-    requires room { HasRoomFor store.old 1 }
-    ensures answer { answer_of store.new result ≡ answer }
-    ensures held { IsAnswerHeld store.new result }
-    ensures adds { Adds store.old store.new }
-{
-    match answer {
-        LateAnswer::Records(records) => AnswerEntry::Records(keep(store, Kept::Records(records))),
-        LateAnswer::Quiet => AnswerEntry::Quiet,
-        LateAnswer::Source(how) => AnswerEntry::Source(how),
-        LateAnswer::Wrote(bytes, end) => AnswerEntry::Wrote(bytes, pack_end(store, end)),
-        LateAnswer::Nothing => AnswerEntry::Nothing,
-    }
-}
-
 /// The entry of a step, whose list moves into the store.
-pub(crate) fn pack(store: &mut Slab<Kept>, step: Step) -> Entry
-    requires room { HasRoomFor store.old 1 }
+pub(crate) fn pack(store: &mut Store, step: Step) -> Entry
+    requires room { 1 ≤ spare_of store.old }
     ensures step { step_of store.new result ≡ step }
     ensures held { IsHeld store.new result }
-    ensures adds { Adds store.old store.new }
+    ensures keeps { Keeps store.old store.new }
+    ensures spare { spare_of store.old ≤ spare_of store.new + 1 }
 {
     match step {
         Step::Ask { sub, n } => Entry::Ask { sub, n },
         Step::Fetch { stage, n } => Entry::Fetch { stage, n },
         Step::Accept { stage, records } => {
-            let records = keep(store, Kept::Records(records));
+            let records = store.keep_records(records);
             Entry::Accept { stage, records }
         }
         Step::Quiet { stage } => Entry::Quiet { stage },
@@ -174,7 +116,7 @@ pub(crate) fn pack(store: &mut Slab<Kept>, step: Step) -> Entry
         Step::Dispatch { stage } => Entry::Dispatch { stage },
         Step::Take { stage, sub, k } => Entry::Take { stage, sub, k },
         Step::Done { stage, replies } => {
-            let replies = keep(store, Kept::Replies(replies));
+            let replies = store.keep_replies(replies);
             Entry::Done { stage, replies }
         }
         Step::Gather { stage, no } => Entry::Gather { stage, no },
@@ -187,13 +129,26 @@ pub(crate) fn pack(store: &mut Slab<Kept>, step: Step) -> Entry
             first,
             trigger,
         },
-        Step::Wrote { stage, bytes, end } => {
-            let end = pack_end(store, end);
-            Entry::Wrote { stage, bytes, end }
+        Step::Wrote {
+            stage,
+            bytes,
+            end: BatchEnd::Outcomes(outcomes),
+        } => {
+            let outcomes = store.keep_outcomes(outcomes);
+            Entry::Wrote {
+                stage,
+                bytes,
+                outcomes,
+            }
         }
+        Step::Wrote {
+            stage,
+            bytes,
+            end: BatchEnd::Crashed,
+        } => Entry::WroteNone { stage, bytes },
         Step::Child { stage, no, slot } => Entry::Child { stage, no, slot },
         Step::ChildEnd { stage, slot, reply } => {
-            let reply = keep(store, Kept::Reply(reply));
+            let reply = store.keep_reply(reply);
             Entry::ChildEnd { stage, slot, reply }
         }
         Step::Kill { stage, why } => Entry::Kill { stage, why },
@@ -203,7 +158,7 @@ pub(crate) fn pack(store: &mut Slab<Kept>, step: Step) -> Entry
             incarnation,
             answer,
         } => {
-            let answer = pack_answer(store, answer);
+            let answer = store.keep_late(answer);
             Entry::Late {
                 stage,
                 slot,

@@ -4,12 +4,12 @@ ghost use Rattle.std.specs.Prelude.{◌≡◌, ◌+◌, ◌<◌, ◌≤◌, ◌=
 ghost use Rattle.pipe_journal.specs.Readers.{step_at, payload_at, reply_at};
 ghost use Rattle.pipe_journal.specs.Views.{step_seen};
 
-use crate::entry::{Entry, Kept, pack};
+use crate::entry::{Entry, pack};
+use crate::store::Store;
 use crate::view::{StepView, view_entry};
 use pipe_types::bytes::Bytes;
 use pipe_types::message::Reply;
 use pipe_types::step::Step;
-use slab::Slab;
 use std::alloc::{AllocError, Global};
 use std::marker::Model;
 
@@ -17,25 +17,24 @@ use std::marker::Model;
 #[derive(Drop)]
 pub struct Journal {
     entries: Vec<Entry>,
-    // The records, replies and outcomes of the entries, none of which is ever taken out.
-    store: Slab<Kept>,
+    // The lists of the entries.
+    store: Store,
     alloc: Global,
 }
 
 impl Model for Journal {
     ghost use Rattle.std.specs.Prelude.{◌-◌, min, vec_len, vec_capacity};
-    ghost use Rattle.slab.specs.Slab.{slab_len};
     ghost use Rattle.pipe_journal.specs.Recorded.{Recorded};
-    ghost use Rattle.pipe_journal.specs.Entries.{IsSound, steps_of};
+    ghost use Rattle.pipe_journal.specs.Entries.{AreHeld, spare_of, steps_of};
 
     ghost Value = { Recorded };
 
     ghost view = { λ j. record {
       steps = steps_of j.store j.entries.items;
-      spare = min (vec_capacity j.entries - vec_len j.entries) (j.store.capacity - slab_len j.store);
+      spare = min (vec_capacity j.entries - vec_len j.entries) (spare_of j.store);
     } };
 
-    ghost invariant = { λ j. IsSound j.store j.entries.items };
+    ghost invariant = { λ j. AreHeld j.store j.entries.items };
 }
 
 impl Journal {
@@ -45,7 +44,13 @@ impl Journal {
     {
         Journal {
             entries: Vec::new(alloc),
-            store: Slab::new(alloc),
+            store: Store {
+                records: Vec::new(alloc),
+                replies: Vec::new(alloc),
+                children: Vec::new(alloc),
+                outcomes: Vec::new(alloc),
+                lates: Vec::new(alloc),
+            },
             alloc,
         }
     }

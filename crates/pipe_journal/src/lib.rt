@@ -4,14 +4,16 @@
 //! the number of further steps that take no memory. So a push adds one step in front of the history, and where it
 //! fails the step comes back and the history is as it was.
 //!
-//! An entry is a fixed record of a step's kind and numbers. Its records, replies or outcomes are moved into a store
-//! beside the entries and stay there, so that each byte of a run stands once: a reader lends them, as a `StepView` or
-//! as one record or reply by the place of its step and its place there, and takes no memory. Only `get` copies.
+//! An entry is a fixed record of a step's kind and numbers. Its records, replies, outcomes or late answer are moved into
+//! a table of their kind beside the entries and stay there, so that each byte of a run stands once: a reader lends them,
+//! as a `StepView` or as one record or reply by the place of its step and its place there, and takes no memory. Only
+//! `get` copies.
 #![tactic(auto)]
 
 mod copies;
 mod entry;
 pub mod journal;
+mod store;
 pub mod view;
 
 pub use journal::Journal;

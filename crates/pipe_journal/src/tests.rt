@@ -250,71 +250,65 @@ fn records_and_replies_are_lent_by_their_places(rt: HostRuntime) -> Result<(), A
     Ok(())
 }
 
-/// The number of a tick, and 0 of another step.
-fn tick(step: &Step) -> u64 {
-    match step {
-        Step::Tick { now } => *now,
-        _ => 0,
-    }
-}
+/// The kinds of a step that keep a list, each in another table, and one that keeps none.
+static KEPT: [u64; 6] = [2, 7, 10, 12, 20, 16];
 
-#[test]
-fn room_for_three_takes_three(rt: HostRuntime) -> Result<(), AllocError> {
-    let alloc = rt.alloc();
-    let mut journal = Journal::new(alloc);
-    let first = records(alloc, &[b"first"])?;
-    let second = records(alloc, &[b"second"])?;
-    let stage = StageNo(1);
+fn kept(journal: &mut Journal, first: Step, second: Step, third: Step) -> Result<(), AllocError> {
     journal.reserve(3)?;
-    journal.push_spare(Step::Accept {
-        stage,
-        records: first,
-    });
-    journal.push_spare(Step::Tick { now: 5 });
-    journal.push_spare(Step::Accept {
-        stage,
-        records: second,
-    });
-    assert_eq!(rt; journal.len(), 3);
-    assert_eq!(rt; journal.get(1)?.map_or(0, |step| tick(&step)), 5);
-    assert!(rt;
-        journal
-            .payload_at(2, 0)
-            .is_some_and(|record| record.as_slice() == b"second".as_slice())
-    );
+    journal.push_spare(first);
+    journal.push_spare(second);
+    journal.push_spare(third);
     Ok(())
 }
 
-/// Whether it is the step that a push of `want` in place of a record got back.
-fn brings(step: &Step, want: &[u8]) -> bool {
-    match step {
-        Step::Accept { records, .. } => match records.as_slice() {
-            [record] => record.as_slice() == want,
-            _ => false,
-        },
-        _ => false,
+#[test]
+fn room_for_three_takes_three_of_any_kind(rt: HostRuntime) -> Result<(), AllocError> {
+    let alloc = rt.alloc();
+    let mut journal = Journal::new(alloc);
+    for kind in &KEPT {
+        let first = step(alloc, *kind)?;
+        let second = step(alloc, *kind)?;
+        let third = step(alloc, *kind)?;
+        kept(&mut journal, first, second, third)?;
     }
+    assert_eq!(rt; journal.len(), 18);
+    for at in 0..18 {
+        let step = step(alloc, KEPT[at as usize / 3])?;
+        let want = format!(in alloc; "{step:?}")?;
+        let got = told(alloc, &journal, at)?;
+        assert_eq!(rt; got.as_str(), want.as_str(), "at {at}");
+    }
+    Ok(())
 }
 
-/// Pushes an Accept of one record. Where memory is wanting, the step must come back and the journal must be as before,
-/// and it is pushed again.
+/// Pushes the step. Where memory is wanting, it must come back and the journal must be as before, and it is pushed again.
 fn push_checked(
     rt: &impl Abort,
     alloc: Global,
     journal: &mut Journal,
-    text: &[u8],
+    step: Step,
 ) -> Result<(), AllocError> {
     let before = journal.len();
-    let step = Step::Accept {
-        stage: StageNo(1),
-        records: records(alloc, &[text])?,
-    };
+    let want = format!(in alloc; "{step:?}")?;
     if let Err((step, _)) = journal.push(step) {
-        assert!(rt; brings(&step, text));
+        let back = format!(in alloc; "{step:?}")?;
+        assert_eq!(rt; back.as_str(), want.as_str());
         assert_eq!(rt; journal.len(), before);
         assert!(rt; journal.push(step).is_ok());
     }
     assert_eq!(rt; journal.len(), before + 1);
+    let got = told(alloc, journal, before)?;
+    assert_eq!(rt; got.as_str(), want.as_str());
+    Ok(())
+}
+
+/// So many steps of each kind that each table grows twice.
+fn push_each(rt: &impl Abort, alloc: Global, journal: &mut Journal) -> Result<(), AllocError> {
+    for _ in 0..5 {
+        for kind in &KEPT {
+            push_checked(rt, alloc, journal, step(alloc, *kind)?)?;
+        }
+    }
     Ok(())
 }
 
@@ -322,20 +316,13 @@ fn push_checked(
 #[test]
 fn a_push_without_memory_gives_the_step_back(rt: HostRuntime) {
     let mut journal = Journal::new(rt.alloc());
-    for text in ["one", "two", "three", "four", "five"] {
-        if push_checked(&rt, rt.alloc(), &mut journal, text.as_bytes()).is_err() {
-            return;
-        }
+    if push_each(&rt, rt.alloc(), &mut journal).is_err() {
+        return;
     }
-    assert_eq!(rt; journal.len(), 5);
+    assert_eq!(rt; journal.len(), 30);
     assert!(rt;
         journal
-            .payload_at(0, 0)
-            .is_some_and(|record| record.as_slice() == b"one".as_slice())
-    );
-    assert!(rt;
-        journal
-            .payload_at(4, 0)
-            .is_some_and(|record| record.as_slice() == b"five".as_slice())
+            .payload_at(24, 2)
+            .is_some_and(|record| record.as_slice() == b"yz".as_slice())
     );
 }

@@ -1,18 +1,17 @@
 //! A step as its journal lends it.
 
-ghost use Rattle.std.specs.Prelude.{◌≡◌, IsTrue, IfOk};
-ghost use Rattle.slab.specs.Slab.{get};
-ghost use Rattle.pipe_journal.specs.Entries.{are_records, are_replies, is_reply, are_outcomes, records_in, replies_in, reply_in, outcomes_in, IsEndHeld, IsAnswerHeld, IsHeld, end_of, answer_of, step_of};
+ghost use Rattle.std.specs.Prelude.{◌≡◌, IfOk};
+ghost use Rattle.pipe_journal.specs.Entries.{IsHeld, step_of};
 ghost use Rattle.pipe_journal.specs.Views.{end_seen, answer_seen, step_seen};
 ghost use Rattle.pipe_journal.specs.Readers.{records_of, replies_of};
 
 use crate::copies::{copy_outcomes, copy_records, copy_replies, copy_reply};
-use crate::entry::{AnswerEntry, EndEntry, Entry, Kept};
+use crate::entry::Entry;
+use crate::store::Store;
 use pipe_types::bytes::Bytes;
 use pipe_types::message::{BatchEnd, Outcome, Reply, Trigger, Why};
 use pipe_types::numbers::{MsgNo, StageNo, SubNo};
 use pipe_types::step::{DrainCause, LateAnswer, SourceHow, Step};
-use slab::Slab;
 use std::alloc::{AllocError, Global};
 use std::slice;
 
@@ -334,71 +333,8 @@ impl<'a> StepView<'a> {
     }
 }
 
-fn records_under(store: &Slab<Kept>, key: usize) -> &[Bytes]
-    requires { IsTrue (are_records (get store.now key)) }
-    ensures { result.now ≡ records_in (get store.now key) }
-{
-    match store.get(key) {
-        Some(Kept::Records(records)) => records.as_slice(),
-        _ => unreachable!(),
-    }
-}
-
-fn replies_under(store: &Slab<Kept>, key: usize) -> &[Reply]
-    requires { IsTrue (are_replies (get store.now key)) }
-    ensures { result.now ≡ replies_in (get store.now key) }
-{
-    match store.get(key) {
-        Some(Kept::Replies(replies)) => replies.as_slice(),
-        _ => unreachable!(),
-    }
-}
-
-fn reply_under(store: &Slab<Kept>, key: usize) -> &Reply
-    requires { IsTrue (is_reply (get store.now key)) }
-    ensures { result.now ≡ reply_in (get store.now key) }
-{
-    match store.get(key) {
-        Some(Kept::Reply(reply)) => reply,
-        _ => unreachable!(),
-    }
-}
-
-fn outcomes_under(store: &Slab<Kept>, key: usize) -> &[Outcome]
-    requires { IsTrue (are_outcomes (get store.now key)) }
-    ensures { result.now ≡ outcomes_in (get store.now key) }
-{
-    match store.get(key) {
-        Some(Kept::Outcomes(outcomes)) => outcomes.as_slice(),
-        _ => unreachable!(),
-    }
-}
-
-fn view_end(store: &Slab<Kept>, end: EndEntry) -> EndView<'_>
-    requires { IsEndHeld store.now end }
-    ensures { end_seen result ≡ end_of store.now end }
-{
-    match end {
-        EndEntry::Outcomes(key) => EndView::Outcomes(outcomes_under(store, key)),
-        EndEntry::Crashed => EndView::Crashed,
-    }
-}
-
-fn view_answer(store: &Slab<Kept>, answer: AnswerEntry) -> AnswerView<'_>
-    requires { IsAnswerHeld store.now answer }
-    ensures { answer_seen result ≡ answer_of store.now answer }
-{
-    match answer {
-        AnswerEntry::Records(key) => AnswerView::Records(records_under(store, key)),
-        AnswerEntry::Quiet => AnswerView::Quiet,
-        AnswerEntry::Source(how) => AnswerView::Source(how),
-        AnswerEntry::Wrote(bytes, end) => AnswerView::Wrote(bytes, view_end(store, end)),
-        AnswerEntry::Nothing => AnswerView::Nothing,
-    }
-}
-
 /// The step of an entry, its list lent by the store.
-pub(crate) fn view_entry(store: &Slab<Kept>, entry: Entry) -> StepView<'_>
+pub(crate) fn view_entry(store: &Store, entry: Entry) -> StepView<'_>
     requires { IsHeld store.now entry }
     ensures { step_seen result ≡ step_of store.now entry }
 {
@@ -407,7 +343,7 @@ pub(crate) fn view_entry(store: &Slab<Kept>, entry: Entry) -> StepView<'_>
         Entry::Fetch { stage, n } => StepView::Fetch { stage, n },
         Entry::Accept { stage, records } => StepView::Accept {
             stage,
-            records: records_under(store, records),
+            records: store.records(records),
         },
         Entry::Quiet { stage } => StepView::Quiet { stage },
         Entry::SourceEnd { stage, how } => StepView::SourceEnd { stage, how },
@@ -415,7 +351,7 @@ pub(crate) fn view_entry(store: &Slab<Kept>, entry: Entry) -> StepView<'_>
         Entry::Take { stage, sub, k } => StepView::Take { stage, sub, k },
         Entry::Done { stage, replies } => StepView::Done {
             stage,
-            replies: replies_under(store, replies),
+            replies: store.replies(replies),
         },
         Entry::Gather { stage, no } => StepView::Gather { stage, no },
         Entry::Close {
@@ -427,16 +363,25 @@ pub(crate) fn view_entry(store: &Slab<Kept>, entry: Entry) -> StepView<'_>
             first,
             trigger,
         },
-        Entry::Wrote { stage, bytes, end } => StepView::Wrote {
+        Entry::Wrote {
             stage,
             bytes,
-            end: view_end(store, end),
+            outcomes,
+        } => StepView::Wrote {
+            stage,
+            bytes,
+            end: EndView::Outcomes(store.outcomes(outcomes)),
+        },
+        Entry::WroteNone { stage, bytes } => StepView::Wrote {
+            stage,
+            bytes,
+            end: EndView::Crashed,
         },
         Entry::Child { stage, no, slot } => StepView::Child { stage, no, slot },
         Entry::ChildEnd { stage, slot, reply } => StepView::ChildEnd {
             stage,
             slot,
-            reply: reply_under(store, reply),
+            reply: store.reply(reply),
         },
         Entry::Kill { stage, why } => StepView::Kill { stage, why },
         Entry::Late {
@@ -448,7 +393,7 @@ pub(crate) fn view_entry(store: &Slab<Kept>, entry: Entry) -> StepView<'_>
             stage,
             slot,
             incarnation,
-            answer: view_answer(store, answer),
+            answer: AnswerView::of(store.late(answer)),
         },
         Entry::Restart { stage } => StepView::Restart { stage },
         Entry::Tick { now } => StepView::Tick { now },

@@ -1,6 +1,6 @@
 -- What the bodies hold of what their stages opened by name.
-use Rattle.std.proofs.Common.{◌≡◌, ◌≢◌, ℕ, ◌<◌, ◌≤◌, ◌++◌, List, [], length, Bool, true, false, arith, refl, ap, sym, ◌∙◌, subst, inl, inr, Option, Some, None}
-use Rattle.std.specs.Prelude.{IsTrue, IsSome, ◌⊎◌, ◌==◌, option_map}
+use Rattle.std.proofs.Common.{◌≡◌, ℕ, List, [], length, Bool, true, false, arith, refl, ap, sym, ◌∙◌, subst, inl, inr, Option, Some, None}
+use Rattle.std.specs.Prelude.{IsTrue, IsSome, ◌⊎◌, option_map}
 use Rattle.std.proofs.lemmas.Bool.{ne_eqb}
 use Rattle.pipe_types.specs.Numbers.{stage, post, same_stage}
 use Rattle.pipe_types.specs.Sound.{IsSound}
@@ -15,15 +15,14 @@ use Rattle.pipe_model.specs.History.{History}
 use Rattle.pipe_model.specs.Legal.{is_legal, has_role, is_producer_role, is_batch_processor_role}
 use Rattle.pipe_model.specs.Moves.{jobs_out}
 use Rattle.pipe_model.specs.Posts.{is_out}
-use Rattle.pipe_laws.proofs.Tests.{clash}
 use Rattle.stage_laws.proofs.Numbering.{numbered_topology}
 use Rattle.move_laws.proofs.Still.{slot_none}
 use Rattle.pipe_edges.specs.declared.edges.EdgeKind.{EdgeKind}
 use Rattle.pipe_edges.specs.declared.edges.EdgeKind.TheVariants.{Source, Sink}
-use Rattle.stage_bodies.specs.Seen.{SourceSeen, SinkSeen, LineSeen, BodySeen}
+use Rattle.stage_bodies.specs.Seen.{SinkSeen, LineSeen, BodySeen}
 use Rattle.stage_bodies.specs.Jobs.{Both}
 use Rattle.stage_bodies.specs.Posts.{place_at}
-use Rattle.body_laws.specs.Keeps.{Keeps, KeepsPost, KeepsPartly, KeepsSource, KeepsSink, has_slot, has_post}
+use Rattle.body_laws.specs.Keeps.{Keeps, KeepsPost, KeepsSource, KeepsSink, has_slot}
 use Rattle.body_laws.specs.Ready.{There}
 use Rattle.body_laws.proofs.Posts.{first_post, producer_post}
 use Rattle.edge_names.specs.Seen.{EdgesSeen}

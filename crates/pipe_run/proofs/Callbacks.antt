@@ -1,6 +1,6 @@
 -- What the bodies hold of the callbacks that they had.
 use Rattle.std.proofs.Common.{◌≡◌, ℕ, Bool, true, false, refl, ap, sym, ◌∙◌, subst, inl, inr, Option, Some, None}
-use Rattle.std.specs.Prelude.{IsTrue, IsSome, ◌⊎◌}
+use Rattle.std.specs.Prelude.{IsTrue, IsSome}
 use Rattle.pipe_types.specs.Sound.{IsSound}
 use Rattle.pipe_types.specs.Stages.{spec_of}
 use Rattle.pipe_types.specs.declared.numbers.Post.{Post}
@@ -53,25 +53,25 @@ kept_by false topology before p old new k = k.kept
 
 -- the callback of a post, in a body that kept what the journal says
 callback_kept : (whole : Bool) (topology : Topology) (before : History) (p : Post) (out : Bool) (box : BoxSeen) (o n : Option BodySeen) → (IsTrue whole → out ≡ false) → callback_in o ≡ Some box
-    → (There o (λ b. IsSome b.callback) → There n (λ b. IsSome b.callback)) → KeepsPost topology before p out o n → There (callback_in n) (KeepsCallbackBy whole topology before p box)
+    → (IsSome o → IsSome n) → KeepsPost topology before p out o n → There (callback_in n) (KeepsCallbackBy whole topology before p box)
 callback_kept whole topology before p false box (Some b) (Some c) home is stays k =
     there_map (KeepsCallback topology before p box) (KeepsCallbackBy whole topology before p box) c.callback (λ new h. kept_by whole topology before p box new h)
     (both_at (KeepsCallback topology before p) b.callback c.callback box is k.callback)
 callback_kept true topology before p true box (Some b) (Some c) home is stays k = let x : true ≡ false = home refl in cc
 callback_kept false topology before p true box (Some b) (Some c) home is stays (inl none) = cc
 callback_kept false topology before p true box (Some b) (Some c) home is stays (inr k) = both_at KeepsBox b.callback c.callback box is k.callback
-callback_kept whole topology before p out box (Some b) None home is stays k = absurd (stays (subst (λ (x : Option BoxSeen). IsSome x) (sym is) refl))
+callback_kept whole topology before p out box (Some b) None home is stays k = let x : false ≡ true = stays refl in cc
 callback_kept whole topology before p out box None n home is stays k = cc
 
 pub leaves : (whole : Bool) (topology : Topology) (before : History) (table opened bodies final : ℕ → Option BodySeen) → IsSound topology → KeepsCallbacks table opened → Keeps topology before opened bodies
-    → (IsTrue whole → jobs_out topology before ≡ false) → ((at : ℕ) → There (opened at) (λ b. IsSome b.callback) → There (bodies at) (λ b. IsSome b.callback)) → KeepsCallbacks bodies final → LeavesCallbacks whole topology before table final
-leaves whole topology before table opened bodies final sound first keeps none_out remain last p box here is =
+    → (IsTrue whole → jobs_out topology before ≡ false) → ((at : ℕ) → IsSome (opened at) → IsSome (bodies at)) → KeepsCallbacks bodies final → LeavesCallbacks whole topology before table final
+leaves whole topology before table opened bodies final sound first keeps none_out stay last p box here is =
     let at = place_at p in
     let spec = post_spec topology p here in
     let home = λ (w : IsTrue whole). slot_none topology before p.stage spec.0 p.slot (none_out w) spec.1 (few_slots topology p sound here) in
     let then : callback_in (opened at) ≡ Some box = same_callback (table at) (opened at) (first at) ∙ is in
     subst (λ o. There o (KeepsCallbackBy whole topology before p box)) (sym (same_callback (bodies at) (final at) (last at)))
-    (callback_kept whole topology before p (is_out before p) box (opened at) (bodies at) home then (remain at) (keeps p here))
+    (callback_kept whole topology before p (is_out before p) box (opened at) (bodies at) home then (stay at) (keeps p here))
 
 -- ---- no callback is gone
 

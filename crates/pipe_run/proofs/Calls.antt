@@ -1,5 +1,5 @@
 -- The calls that a run makes by name, and those that it gives up after.
-use Rattle.std.proofs.Common.{◌≡◌, ℕ, suc, ◌+◌, ◌≤◌, ◌∷◌, ◌++◌, List, [], take, drop, length, Bool, arith, refl, ap, sym, ◌∙◌, subst, inl, inr}
+use Rattle.std.proofs.Common.{◌≡◌, ℕ, suc, ◌+◌, ◌∷◌, ◌++◌, List, [], take, drop, length, Bool, arith, ap, sym, ◌∙◌, subst, inl, inr}
 use Rattle.std.specs.Prelude.{IsTrue, Option, Some, None, option_map}
 use Rattle.std.proofs.lemmas.List.{append_assoc}
 use Rattle.pipe_types.specs.declared.topology.Topology.{Topology}
@@ -8,7 +8,7 @@ use Rattle.pipe_edges.specs.declared.edges.EdgeKind.{EdgeKind}
 use Rattle.stage_bodies.specs.Seen.{SourceSeen, SinkSeen, LineSeen, BodySeen}
 use Rattle.edge_names.specs.Seen.{EdgesSeen}
 use Rattle.edge_names.specs.Controls.{IsStageUndone, IsUndone, control_call, first_sources, first_sinks}
-use Rattle.edge_names.specs.Opened.{Asks, IsOneFailed, calls_of, edge_call, edge_calls, one}
+use Rattle.edge_names.specs.Opened.{Asks, IsOneFailed, calls_of, edge_calls, one}
 use Rattle.edge_names.specs.Returned.{GivesBack}
 use Rattle.edge_names.proofs.Undoes.{calls_parts}
 use Rattle.box_stock.specs.Lends.{AreHandedOut}

@@ -5,6 +5,5 @@ mod Bodies
 mod Callbacks
 mod Stocks
 mod Calls
-mod Starts
 mod Runs
 mod Wholes

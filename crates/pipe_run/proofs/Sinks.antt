@@ -1,5 +1,5 @@
 -- From what a body's sink has got, to what the journal says of the sink that was opened.
-use Rattle.std.proofs.Common.{ℕ, List, ◌≡◌, subst}
+use Rattle.std.proofs.Common.{ℕ, List, subst}
 use Rattle.pipe_types.specs.declared.numbers.StageNo.{StageNo}
 use Rattle.pipe_types.specs.declared.topology.Topology.{Topology}
 use Rattle.pipe_model.specs.History.{History}

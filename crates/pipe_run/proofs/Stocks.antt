@@ -1,6 +1,6 @@
 -- What becomes of the boxes of a stock that were handed out and taken back.
 use Rattle.std.proofs.Common.{◌≡◌, ℕ, ◌<◌, ◌≤◌, Bool, true, false, List, [], ◌∷◌, length, take, map, arith, refl, ap, sym, ◌∙◌, subst, inl, inr, Option, Some, None}
-use Rattle.std.specs.Prelude.{IsTrue, ◌⊎◌, slice_get, option_map}
+use Rattle.std.specs.Prelude.{slice_get}
 use Rattle.std.proofs.lemmas.Bool.{cases_lt}
 use Rattle.std.proofs.lemmas.List.{length-map}
 use Rattle.std.proofs.lemmas.Option.{slice_get-map, slice_get_past}
@@ -16,11 +16,11 @@ use Rattle.stage_job.specs.Chunks.{RoseBy}
 use Rattle.stage_bodies.specs.Seen.{BoxSeen, BodySeen}
 use Rattle.stage_bodies.specs.Jobs.{Both, KeepsBox}
 use Rattle.stage_bodies.specs.Posts.{place_at}
-use Rattle.body_laws.specs.Keeps.{KeepsCallback, has_post}
+use Rattle.body_laws.specs.Keeps.{has_post}
 use Rattle.body_laws.specs.Ready.{There}
 use Rattle.edge_names.specs.Returned.{KeepsCallbacks}
 use Rattle.box_stock.specs.Homes.{post_for}
-use Rattle.box_stock.specs.Lends.{IsArmedFor, IsArmedWith, IsFreshBox, IsHandedOut, IsLent, IsSameBox, back_for, box_at, callback_in, kinds_of, slip_at}
+use Rattle.box_stock.specs.Lends.{IsArmedWith, IsFreshBox, IsHandedOut, IsSameBox, back_for, box_at, callback_in, kinds_of, slip_at}
 use Rattle.box_stock.specs.declared.handing.Slip.{Slip}
 use Rattle.box_stock.specs.declared.handing.Slip.TheVariants.{Lent, Kept}
 use Rattle.box_stock.proofs.Located.{home_found, post_of}

@@ -52,7 +52,7 @@ run_of whole topology before table opened final fresh old mid new clock clock' s
 pub run_leaves : (whole : Bool) (topology : Topology) (before : History) (table opened final : ℕ → Option BodySeen) (fresh : Option LineSeen) (mid new : EdgesSeen) (clock clock' : ClockSeen) → IsSound topology → KeepsCallbacks table opened
     → WentOn whole topology before opened final fresh mid new clock clock' → LeavesCallbacks whole topology before table final
 run_leaves whole topology before table opened final fresh mid new clock clock' sound first went =
-    leaves whole topology before table opened went.bodies final sound first went.keeps went.none_out went.remain went.kept
+    leaves whole topology before table opened went.bodies final sound first went.keeps went.none_out went.stay went.kept
 
 -- ---- whether or not there was a run
 

@@ -8,7 +8,6 @@ use Rattle.stage_bodies.specs.Seen.{LineSeen, BodySeen}
 use Rattle.body_laws.specs.Keeps.{Keeps}
 use Rattle.control_lines.specs.Keeping.{KeepsControlPartly}
 use Rattle.stage_moves.specs.Clocks.{ClockSeen}
-use Rattle.stage_moves.specs.Going.{HasCallback}
 use Rattle.edge_names.specs.Seen.{EdgesSeen}
 use Rattle.edge_names.specs.Returned.{GivesBack, KeepsCallbacks}
 use Rattle.edge_names.specs.Controls.{first_sources, first_sinks}
@@ -25,7 +24,6 @@ pub record WentOn (whole : Bool) (topology : Topology) (before : History) (opene
   pub bodies : ℕ → Option BodySeen
   pub keeps : Keeps topology before opened bodies
   pub none_out : IsTrue whole → jobs_out topology before ≡ false
-  pub remain : (at : ℕ) → HasCallback (opened at) → HasCallback (bodies at)
   pub stay : (at : ℕ) → IsSome (opened at) → IsSome (bodies at)
   pub parts : ℕ
   pub all : IsTrue whole → parts ≡ suc (length topology.stages)

@@ -11,7 +11,7 @@ use Rattle.run_claims.specs.Read.{HasNoControl}
 use Rattle.stage_moves.specs.Clocks.{ClockSeen, KeepsClock, KeepsClockPartly}
 use Rattle.edge_names.specs.Seen.{EdgesSeen}
 use Rattle.edge_names.specs.Controls.{run_calls}
-use Rattle.pipe_run.specs.Outside.{AreAsked, IsOutside, IsUnopened}
+use Rattle.pipe_run.specs.Outside.{AreAsked, IsOutside}
 use Rattle.pipe_run.specs.declared.run.NoRun.{NoRun}
 use Rattle.pipe_run.specs.declared.run.NoRun.TheVariants.{Unopened, OutOfMemory}
 

@@ -25,9 +25,12 @@ use pipe_edges::{ByteSource, Clock, Edges, LineSource};
 use pipe_types::bytes::Text;
 use pipe_types::topology::Topology;
 use stage_bodies::Houses;
-use stage_rounds::{RunEnd, run_here};
+use stage_pipes::{Pipe, PipeParts};
+use stage_rounds::RunEnd;
+use stage_workers::run_workers;
 use std::alloc::{AllocError, Global};
 use std::sync::Wait;
+use std::thread::Threads;
 
 /// A run, and how it ended. The error is want of memory; the journal then holds what was appended so far.
 #[derive(Drop)]
@@ -44,119 +47,187 @@ pub enum NoRun {
     OutOfMemory,
 }
 
-/// What became of a call: the run, if there was one, and the boxes in their order.
+/// What became of a call: the run, if there was one, the clock, and the boxes in their order.
 #[derive(Drop)]
-pub struct Ended<C> {
+pub struct Ended<C, K> {
     pub run: Result<Run, NoRun>,
+    pub clock: K,
     pub stock: Vec<C>,
 }
 
-/// Runs the topology with boxes of the stock, which come back in their order. Nothing is opened before the memory for the run
-/// was found. Where the topology has no idle limit, it may wait for its sources for ever.
+/// What became of the bodies and of the clock, with the run, if there was one.
+struct Left<B, K> {
+    run: Result<Run, NoRun>,
+    bodies: Vec<Option<B>>,
+    clock: K,
+}
+
+/// A run, with what is given back of its bodies and its clock.
+struct Went<B, K> {
+    run: Run,
+    bodies: Vec<Option<B>>,
+    clock: K,
+}
+
+/// Runs the topology on so many workers, on one at least, with boxes of the stock, which come back in their order. Nothing is
+/// opened before the memory for the run was found. Where the topology has no idle limit, it may wait for its sources for ever.
 pub fn run_topology<
-    R: Wait,
+    R: Threads + Wait + Sync,
     E: Edges,
     C: Boxed,
-    B: Carries<C> + Houses<E::Source, E::Sink>,
-    K: Clock,
+    B: Carries<C> + Houses<E::Source, E::Sink> + Send,
+    K: Clock + Send,
 >(
     rt: &R,
     alloc: Global,
     topology: Topology,
+    workers: u16,
     stock: Vec<C>,
     edges: &mut E,
-    clock: &mut K,
-) -> Ended<C>
+    clock: K,
+) -> Ended<C, K>
     requires sound { IsSound topology }
     requires suffices { Suffices topology (kinds_of C.seen stock.items) }
     ensures topology { IfOk result.run (λ run. run.core.topology ≡ topology) }
     ensures stands { IfOk result.run (λ run. Stands run.core) }
     ensures ran { IfOk result.run (λ run. IsRunOf (is_ok run.end) topology run.core.journal.steps (⟦<E as SeenEdges>⟧.seen edges.old) (⟦<E as SeenEdges>⟧.seen edges.new)
-        (clock_seen K.latest K.readings clock.old) (clock_seen K.latest K.readings clock.new)) }
+        (clock_seen K.latest K.readings clock) (clock_seen K.latest K.readings result.clock)) }
     ensures ended { IfOk result.run (λ run. IfOk run.end (HasEnded topology run.core.journal.steps)) }
     ensures boxes { IfOk result.run (λ run. AreBoxesLeft (is_ok run.end) topology run.core.journal.steps (map C.seen stock.items) (map C.seen result.stock.items)) }
     ensures unopened { IfErr result.run (λ e. IfUnopened e (λ name. IsUnopened topology name (⟦<E as SeenEdges>⟧.seen edges.old) (⟦<E as SeenEdges>⟧.seen edges.new))) }
     ensures failed { IfErr result.run (λ e. IfUnopened e (λ name. IsAskedUntil topology name (⟦<E as SeenEdges>⟧.seen edges.old) (⟦<E as SeenEdges>⟧.seen edges.new))) }
     ensures wanting { IfErr result.run (λ e. IfWanting e (IsAskedInPart (run_calls topology) (⟦<E as SeenEdges>⟧.seen edges.old) (⟦<E as SeenEdges>⟧.seen edges.new))) }
     ensures same_boxes { OnErr result.run (AreSameBoxes (map C.seen stock.items) (map C.seen result.stock.items)) }
-    ensures same_clock { OnErr result.run (clock.new ≡ clock.old) }
+    ensures same_clock { OnErr result.run (result.clock ≡ clock) }
 {
     match hand_out::<C, B>(alloc, &topology, stock) {
         Ok((bodies, lent)) => {
+            let left = run_bodies(rt, alloc, topology, workers, bodies, edges, clock);
+            let Left { run, bodies, clock } = left;
             let mut bodies = bodies;
-            let run = run_bodies(rt, alloc, topology, &mut bodies, edges, clock);
             let stock = take_back(&mut bodies, lent);
-            Ended { run, stock }
+            Ended { run, clock, stock }
         }
         Err((stock, _)) => Ended {
             run: Err(NoRun::OutOfMemory),
+            clock,
             stock,
         },
     }
 }
 
 /// Opens what the topology names into the bodies, runs, and gives it back.
-fn run_bodies<R: Wait, E: Edges, C: Boxed, B: Carries<C> + Houses<E::Source, E::Sink>, K: Clock>(
+fn run_bodies<
+    R: Threads + Wait + Sync,
+    E: Edges,
+    C: Boxed,
+    B: Carries<C> + Houses<E::Source, E::Sink> + Send,
+    K: Clock + Send,
+>(
     rt: &R,
     alloc: Global,
     topology: Topology,
-    bodies: &mut Vec<Option<B>>,
+    workers: u16,
+    bodies: Vec<Option<B>>,
     edges: &mut E,
-    clock: &mut K,
-) -> Result<Run, NoRun>
+    clock: K,
+) -> Left<B, K>
     requires sound { IsSound topology }
-    requires handed { AreHandedOut topology (body_at B.look bodies.old.items) }
-    ensures topology { IfOk result (λ run. run.core.topology ≡ topology) }
-    ensures stands { IfOk result (λ run. Stands run.core) }
-    ensures ran { IfOk result (λ run. IsRunOf (is_ok run.end) topology run.core.journal.steps (⟦<E as SeenEdges>⟧.seen edges.old) (⟦<E as SeenEdges>⟧.seen edges.new)
-        (clock_seen K.latest K.readings clock.old) (clock_seen K.latest K.readings clock.new)) }
-    ensures ended { IfOk result (λ run. IfOk run.end (HasEnded topology run.core.journal.steps)) }
-    ensures boxes { IfOk result (λ run. LeavesCallbacks (is_ok run.end) topology run.core.journal.steps (body_at B.look bodies.old.items) (body_at B.look bodies.new.items)) }
-    ensures unopened { IfErr result (λ e. IfUnopened e (λ name. IsUnopened topology name (⟦<E as SeenEdges>⟧.seen edges.old) (⟦<E as SeenEdges>⟧.seen edges.new))) }
-    ensures failed { IfErr result (λ e. IfUnopened e (λ name. IsAskedUntil topology name (⟦<E as SeenEdges>⟧.seen edges.old) (⟦<E as SeenEdges>⟧.seen edges.new))) }
-    ensures wanting { IfErr result (λ e. IfWanting e (IsAskedInPart (run_calls topology) (⟦<E as SeenEdges>⟧.seen edges.old) (⟦<E as SeenEdges>⟧.seen edges.new))) }
-    ensures same_callbacks { OnErr result (KeepsCallbacks (body_at B.look bodies.old.items) (body_at B.look bodies.new.items)) }
-    ensures same_clock { OnErr result (clock.new ≡ clock.old) }
+    requires handed { AreHandedOut topology (body_at B.look bodies.items) }
+    ensures topology { IfOk result.run (λ run. run.core.topology ≡ topology) }
+    ensures stands { IfOk result.run (λ run. Stands run.core) }
+    ensures ran { IfOk result.run (λ run. IsRunOf (is_ok run.end) topology run.core.journal.steps (⟦<E as SeenEdges>⟧.seen edges.old) (⟦<E as SeenEdges>⟧.seen edges.new)
+        (clock_seen K.latest K.readings clock) (clock_seen K.latest K.readings result.clock)) }
+    ensures ended { IfOk result.run (λ run. IfOk run.end (HasEnded topology run.core.journal.steps)) }
+    ensures boxes { IfOk result.run (λ run. LeavesCallbacks (is_ok run.end) topology run.core.journal.steps (body_at B.look bodies.items) (body_at B.look result.bodies.items)) }
+    ensures unopened { IfErr result.run (λ e. IfUnopened e (λ name. IsUnopened topology name (⟦<E as SeenEdges>⟧.seen edges.old) (⟦<E as SeenEdges>⟧.seen edges.new))) }
+    ensures failed { IfErr result.run (λ e. IfUnopened e (λ name. IsAskedUntil topology name (⟦<E as SeenEdges>⟧.seen edges.old) (⟦<E as SeenEdges>⟧.seen edges.new))) }
+    ensures wanting { IfErr result.run (λ e. IfWanting e (IsAskedInPart (run_calls topology) (⟦<E as SeenEdges>⟧.seen edges.old) (⟦<E as SeenEdges>⟧.seen edges.new))) }
+    ensures same_callbacks { OnErr result.run (KeepsCallbacks (body_at B.look bodies.items) (body_at B.look result.bodies.items)) }
+    ensures same_clock { OnErr result.run (result.clock ≡ clock) }
 {
+    let mut bodies = bodies;
     let Ok(core) = Core::new(alloc, topology) else {
-        return Err(NoRun::OutOfMemory);
+        return Left {
+            run: Err(NoRun::OutOfMemory),
+            bodies,
+            clock,
+        };
     };
-    match open_or_give_back(alloc, core.topology(), bodies, edges) {
-        Ok(control) => Ok(run_opened(rt, alloc, core, control, bodies, edges, clock)),
-        Err(Unopened::Failed(name)) => Err(NoRun::Unopened(name)),
-        Err(Unopened::OutOfMemory) => Err(NoRun::OutOfMemory),
+    match open_or_give_back(alloc, core.topology(), &mut bodies, edges) {
+        Ok(control) => {
+            let Went { run, bodies, clock } = run_opened(
+                rt, alloc, workers, core, control, bodies, edges, clock,
+            );
+            Left {
+                run: Ok(run),
+                bodies,
+                clock,
+            }
+        }
+        Err(Unopened::Failed(name)) => Left {
+            run: Err(NoRun::Unopened(name)),
+            bodies,
+            clock,
+        },
+        Err(Unopened::OutOfMemory) => Left {
+            run: Err(NoRun::OutOfMemory),
+            bodies,
+            clock,
+        },
     }
 }
 
 /// Runs with what was opened, and gives it back.
-fn run_opened<R: Wait, E: Edges, B: Houses<E::Source, E::Sink>, K: Clock>(
+fn run_opened<
+    R: Threads + Wait + Sync,
+    E: Edges,
+    B: Houses<E::Source, E::Sink> + Send,
+    K: Clock + Send,
+>(
     rt: &R,
     alloc: Global,
+    workers: u16,
     core: Core,
     control: Option<LineSource<E::Source>>,
-    bodies: &mut Vec<Option<B>>,
+    bodies: Vec<Option<B>>,
     edges: &mut E,
-    clock: &mut K,
-) -> Run
+    clock: K,
+) -> Went<B, K>
     requires stands { Stands core }
     requires empty { core.journal.steps ≡ [] }
-    requires filled { IsFilled core.topology (body_at B.look bodies.old.items) }
+    requires filled { IsFilled core.topology (body_at B.look bodies.items) }
     requires fresh { IfSome (option_map (line_seen E.Source.told E.Source.taken E.Source.left E.Source.faults E.Source.waits) control) IsFresh }
-    ensures topology { result.core.topology ≡ core.topology }
-    ensures stands { Stands result.core }
-    ensures ended { IfOk result.end (HasEnded core.topology result.core.journal.steps) }
-    ensures went { WentOn (is_ok result.end) core.topology result.core.journal.steps (body_at B.look bodies.old.items) (body_at B.look bodies.new.items)
+    ensures topology { result.run.core.topology ≡ core.topology }
+    ensures stands { Stands result.run.core }
+    ensures ended { IfOk result.run.end (HasEnded core.topology result.run.core.journal.steps) }
+    ensures went { WentOn (is_ok result.run.end) core.topology result.run.core.journal.steps (body_at B.look bodies.items) (body_at B.look result.bodies.items)
         (option_map (line_seen E.Source.told E.Source.taken E.Source.left E.Source.faults E.Source.waits) control)
-        (⟦<E as SeenEdges>⟧.seen edges.old) (⟦<E as SeenEdges>⟧.seen edges.new) (clock_seen K.latest K.readings clock.old) (clock_seen K.latest K.readings clock.new) }
+        (⟦<E as SeenEdges>⟧.seen edges.old) (⟦<E as SeenEdges>⟧.seen edges.new) (clock_seen K.latest K.readings clock) (clock_seen K.latest K.readings result.clock) }
 {
-    let mut core = core;
-    let mut control = control;
-    let end = run_here(rt, alloc, &mut core, bodies, &mut control, clock);
-    match give_back(core.topology(), control, bodies, edges) {
-        Ok(()) => Run { core, end },
-        Err(error) => Run {
-            core,
-            end: Err(error),
+    let pipe = Pipe::new(core, bodies, control, clock);
+    let (pipe, end) = run_workers(rt, alloc, workers.max(1), pipe);
+    let parts = pipe.into_parts();
+    let PipeParts {
+        core,
+        bodies,
+        control,
+        clock,
+    } = parts;
+    let mut bodies = bodies;
+    match give_back(core.topology(), control, &mut bodies, edges) {
+        Ok(()) => Went {
+            run: Run { core, end },
+            bodies,
+            clock,
+        },
+        Err(error) => Went {
+            run: Run {
+                core,
+                end: Err(error),
+            },
+            bodies,
+            clock,
         },
     }
 }

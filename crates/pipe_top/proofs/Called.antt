@@ -1,12 +1,11 @@
 -- What a call comes to after a call by name that gave nothing back.
-use Rattle.std.proofs.Common.{◌≡◌, ℕ, suc, ◌≤◌, ◌<◌, List, [], ◌∷◌, ◌++◌, take, Bool, true, false, Option, Some, None, refl, sym, ◌∙◌, ap, inl, inr, arith}
+use Rattle.std.proofs.Common.{◌≡◌, ℕ, suc, ◌≤◌, List, [], ◌∷◌, ◌++◌, take, Bool, true, false, Option, Some, None, ◌∙◌, ap, inl, inr, arith}
 use Rattle.std.specs.Prelude.{◌⊎◌, IsTrue}
 use Rattle.std.proofs.lemmas.List.{append_assoc}
 use Rattle.pipe_types.specs.Counts.{Rose}
 use Rattle.pipe_types.specs.declared.numbers.StageNo.{StageNo}
 use Rattle.pipe_types.specs.declared.topology.Topology.{Topology}
 use Rattle.pipe_types.specs.Numbers.{post}
-use Rattle.pipe_types.specs.Stages.{spec_of}
 use Rattle.pipe_model.specs.History.{History}
 use Rattle.pipe_edges.specs.declared.edges.EdgeKind.{EdgeKind}
 use Rattle.pipe_edges.specs.declared.edges.EdgeKind.TheVariants.{File, Source, Sink}
@@ -16,15 +15,14 @@ use Rattle.stage_bodies.specs.Posts.{place_at}
 use Rattle.body_laws.specs.Ready.{There}
 use Rattle.edge_names.specs.Seen.{EdgesSeen}
 use Rattle.edge_names.specs.Named.{GivesSource, GivesSink}
-use Rattle.edge_names.specs.Opened.{GivesLines, HasSource, HasSink, IsOpened, AreOpened, call_at}
+use Rattle.edge_names.specs.Opened.{HasSource, HasSink, IsOpened, AreOpened, call_at}
 use Rattle.edge_names.specs.Controls.{control_call, named_control, first_sources, first_sinks}
 use Rattle.edge_names.specs.Returned.{source_in, sink_in, sources_of, sinks_of}
-use Rattle.pipe_run.specs.Outside.{IsSourceRead, IsSinkWritten, IsSinkWrittenBy, AreUsed, IsControlUsed, HasControl, IsOutside, IsControlUnopened, IsStageUnopened, IsUnopened}
-use Rattle.pipe_top.specs.Cases.{Case, NoCommand, NoTopology as BadTopology, TooFew, NotBuilt, Checks, Runs}
-use Rattle.pipe_top.specs.Runs.{OutsideSeen, IsUntouched, HasUsed, IsGivenUp, HasNotBegun, HasRunOrNot, IsOutsideOf, FailsAt}
+use Rattle.pipe_run.specs.Outside.{IsSourceRead, IsSinkWritten, IsSinkWrittenBy, AreUsed, IsControlUsed, HasControl, IsOutside, IsStageUnopened, IsUnopened}
+use Rattle.pipe_top.specs.Cases.{Case, NoCommand, NoTopology as BadTopology, TooFew, Checks, Runs}
+use Rattle.pipe_top.specs.Runs.{OutsideSeen, IsUntouched, IsGivenUp, HasRunOrNot, IsOutsideOf, FailsAt}
 use Rattle.pipe_top.specs.Flows.{IsEarly, Outcome, AskedBy, ComesBy}
-use Rattle.pipe_top.specs.declared.verdict.Refusal.{Refusal}
-use Rattle.pipe_top.specs.declared.verdict.Refusal.TheVariants.{Usage, Topology as NoTopology, Stock, Unbuilt, Edge, Memory}
+use Rattle.pipe_top.specs.declared.verdict.Refusal.TheVariants.{Usage, Topology as NoTopology, Stock, Edge, Memory}
 use Rattle.pipe_top.specs.declared.verdict.Verdict.{Verdict}
 use Rattle.pipe_top.specs.declared.verdict.Verdict.TheVariants.{Refused, Done}
 
@@ -234,7 +232,6 @@ outside_of_as : (memory : Type 0) (case : Case) (topology : Option Topology) (be
 outside_of_as memory NoCommand topology before call old middle new c x = untouched_as call old middle new c x
 outside_of_as memory (BadTopology fault) topology before call old middle new c x = untouched_as call old middle new c x
 outside_of_as memory (TooFew shortage) topology before call old middle new c x = untouched_as call old middle new c x
-outside_of_as memory (NotBuilt missing) topology before call old middle new c x = untouched_as call old middle new c x
 outside_of_as memory (Checks wanted) topology before call old middle new c x = untouched_as call old middle new c x
 outside_of_as memory (Runs shows wanted) topology before call old middle new c x = run_or_not_as memory wanted topology before call old middle new c x
 
@@ -247,7 +244,6 @@ early_as fails fails' None before (Refused (Edge name)) so e = (e.0, so name e.1
 early_as fails fails' None before (Refused Usage) so e = absurd e
 early_as fails fails' None before (Refused (NoTopology fault)) so e = absurd e
 early_as fails fails' None before (Refused (Stock shortage)) so e = absurd e
-early_as fails fails' None before (Refused (Unbuilt missing)) so e = absurd e
 early_as fails fails' None before (Done texts status) so e = absurd e
 early_as fails fails' (Some t) before verdict so e = absurd e
 
@@ -283,7 +279,6 @@ asked_as (Done texts status) call calls asked middle asked' first a = a ∙ ap (
 asked_as (Refused Usage) call calls asked middle asked' first a = a ∙ ap (λ x. x ++ calls) first ∙ append_assoc asked (call ∷ []) calls
 asked_as (Refused (NoTopology fault)) call calls asked middle asked' first a = a ∙ ap (λ x. x ++ calls) first ∙ append_assoc asked (call ∷ []) calls
 asked_as (Refused (Stock shortage)) call calls asked middle asked' first a = a ∙ ap (λ x. x ++ calls) first ∙ append_assoc asked (call ∷ []) calls
-asked_as (Refused (Unbuilt missing)) call calls asked middle asked' first a = a ∙ ap (λ x. x ++ calls) first ∙ append_assoc asked (call ∷ []) calls
 
 -- ---- the whole
 

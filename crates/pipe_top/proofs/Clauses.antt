@@ -11,22 +11,20 @@ use Rattle.program_words.specs.Refusals.{memory_line}
 use Rattle.program_words.specs.Words.{Command, Flow, Check, Run}
 use Rattle.topology_needs.specs.declared.stock.Boxes.{Boxes}
 use Rattle.topology_needs.specs.declared.stock.Shortage.{Shortage}
-use Rattle.topology_needs.specs.declared.unbuilt.Unbuilt.{Unbuilt as Missing}
 use Rattle.topology_needs.specs.Needs.{shortage_of}
-use Rattle.topology_needs.specs.Unbuilt.{unbuilt_of}
 use Rattle.config_table.specs.declared.fault.ConfigFault.{ConfigFault}
 use Rattle.config_flow.specs.Flow.{flow_topology_of}
 use Rattle.pipe_config.specs.File.{topology_of_file}
-use Rattle.pipe_top.specs.Cases.{Case, NoCommand, NoTopology as BadTopology, TooFew, NotBuilt, Checks, Runs, case_of, run_case, unless_short, unless_unbuilt, for_topology, report_alone}
+use Rattle.pipe_top.specs.Cases.{Case, NoCommand, NoTopology as BadTopology, TooFew, Checks, Runs, case_of, run_case, unless_short, for_topology, report_alone}
 use Rattle.pipe_top.specs.Verdicts.{Adds, AddsPrefix, out_text_of, err_text_of, status_in, FaultBy, QuietBy}
 use Rattle.pipe_top.specs.Runs.{OutsideSeen, IsRunOrNone, IsEndOf, IsOwnTopology, IsStatusOf, IsReportOf, Lost, IsUntouched, HasUsed, HasNotBegun, HasRunOrNot, IsGivenUp, IsOutsideOf, IsRefusalStatus, IsUnopenedStatus, IsOr, Asks, FailsAt, NamesFault, IsEdgeLine, BeginsLine, out_text, case_line, error_text}
 use Rattle.pipe_top.specs.Flows.{Outcome, IsEarly, AskedBy}
 use Rattle.pipe_top.specs.declared.verdict.Refusal.{Refusal}
-use Rattle.pipe_top.specs.declared.verdict.Refusal.TheVariants.{Usage, Topology as NoTopology, Stock, Unbuilt, Edge, Memory}
+use Rattle.pipe_top.specs.declared.verdict.Refusal.TheVariants.{Usage, Topology as NoTopology, Stock, Edge, Memory}
 use Rattle.pipe_top.specs.declared.verdict.Shows.{Shows}
 use Rattle.pipe_top.specs.declared.verdict.Verdict.{Verdict}
 use Rattle.pipe_top.specs.declared.verdict.Verdict.TheVariants.{Refused, Done}
-use Rattle.pipe_top.proofs.Outcomes.{Fails, Early, early, Reported, ran, settled, is_small, not_small, not_both, few_of}
+use Rattle.pipe_top.proofs.Outcomes.{Fails, early, Reported, ran, settled, is_small, not_small, not_both, few_of}
 
 -- ---- the statuses of verdicts
 
@@ -45,20 +43,19 @@ early_big : (s : ℕ) → (s ≡ 9) ⊎ (s ≡ 5) → s ≤ 4 → ⊥
 early_big s (inl is) few = omega (arith, is, few)
 early_big s (inr is) few = omega (arith, is, few)
 
-pub known : (case : Case) (fails : List ℕ → Type 0) (topology : Option Topology) (before : History) (verdict : Verdict) → Outcome case fails topology before verdict → status_in verdict ≤ 10
+pub known : (case : Case) (fails : List ℕ → Type 0) (topology : Option Topology) (before : History) (verdict : Verdict) → Outcome case fails topology before verdict → status_in verdict ≤ 9
 known case fails topology before verdict (inl e) = by_early (status_in verdict) (early_at fails topology before verdict e)
   where
-    by_early : (s : ℕ) → (s ≡ 9) ⊎ (s ≡ 5) → s ≤ 10
+    by_early : (s : ℕ) → (s ≡ 9) ⊎ (s ≡ 5) → s ≤ 9
     by_early s (inl is) = omega (arith, is)
     by_early s (inr is) = omega (arith, is)
 known NoCommand fails topology before verdict (inr r) = rw r.refused (omega arith)
 known (BadTopology fault) fails topology before verdict (inr r) = rw r.refused (omega arith)
 known (TooFew shortage) fails topology before verdict (inr r) = rw r.refused (omega arith)
-known (NotBuilt missing) fails topology before verdict (inr r) = rw r.refused (omega arith)
 known (Checks wanted) fails topology before verdict (inr r) = rw r.counted (omega arith)
 known (Runs shows wanted) fails topology before verdict (inr r) = by_run (ran verdict shows wanted before r.comes_to)
   where
-    by_run : Reported shows wanted before verdict ⊎ (verdict ≡ Refused Memory) → status_in verdict ≤ 10
+    by_run : Reported shows wanted before verdict ⊎ (verdict ≡ Refused Memory) → status_in verdict ≤ 9
     by_run (inl v) = omega (arith, few_of v)
     by_run (inr is) = rw is (omega arith)
 
@@ -68,7 +65,6 @@ never_eight case fails topology before verdict (inl e) = λ at. nine_or_five (st
 never_eight NoCommand fails topology before verdict (inr r) = rw r.refused (λ x. cc)
 never_eight (BadTopology fault) fails topology before verdict (inr r) = rw r.refused (λ x. cc)
 never_eight (TooFew shortage) fails topology before verdict (inr r) = rw r.refused (λ x. cc)
-never_eight (NotBuilt missing) fails topology before verdict (inr r) = rw r.refused (λ x. cc)
 never_eight (Checks wanted) fails topology before verdict (inr r) = rw r.counted (λ x. cc)
 never_eight (Runs shows wanted) fails topology before verdict (inr r) = by_run (ran verdict shows wanted before r.comes_to)
   where
@@ -83,7 +79,6 @@ own case fails topology before verdict (inl e) = rw (early fails topology before
 own NoCommand fails topology before verdict (inr r) = rw r.no_topology r.no_step
 own (BadTopology fault) fails topology before verdict (inr r) = rw r.no_topology r.no_step
 own (TooFew shortage) fails topology before verdict (inr r) = rw r.no_topology r.no_step
-own (NotBuilt missing) fails topology before verdict (inr r) = rw r.no_topology r.no_step
 own (Checks wanted) fails topology before verdict (inr r) = rw r.own (refl, r.no_step)
 own (Runs shows wanted) fails topology before verdict (inr r) = rw r.own refl
 
@@ -92,7 +87,6 @@ run case fails topology before verdict (inl e) = rw (early fails topology before
 run NoCommand fails topology before verdict (inr r) = rw r.no_topology r.no_step
 run (BadTopology fault) fails topology before verdict (inr r) = rw r.no_topology r.no_step
 run (TooFew shortage) fails topology before verdict (inr r) = rw r.no_topology r.no_step
-run (NotBuilt missing) fails topology before verdict (inr r) = rw r.no_topology r.no_step
 run (Checks wanted) fails topology before verdict (inr r) = rw r.own r.run
 run (Runs shows wanted) fails topology before verdict (inr r) = rw r.own r.run
 
@@ -102,7 +96,6 @@ ended_in case fails topology before verdict (inl e) few = absurd (early_big (sta
 ended_in NoCommand fails topology before verdict (inr r) few = absurd (not_small 7 (status_in verdict) (ap status_in r.refused) (omega arith) few)
 ended_in (BadTopology fault) fails topology before verdict (inr r) few = absurd (not_small 6 (status_in verdict) (ap status_in r.refused) (omega arith) few)
 ended_in (TooFew shortage) fails topology before verdict (inr r) few = absurd (not_small 6 (status_in verdict) (ap status_in r.refused) (omega arith) few)
-ended_in (NotBuilt missing) fails topology before verdict (inr r) few = absurd (not_small 10 (status_in verdict) (ap status_in r.refused) (omega arith) few)
 ended_in (Checks wanted) fails topology before verdict (inr r) few = (ap status_in r.counted, r.own, r.no_step)
 ended_in (Runs shows wanted) fails topology before verdict (inr r) few = by_run (ran verdict shows wanted before r.comes_to)
   where
@@ -124,7 +117,6 @@ small_text before case fails topology verdict (inl e) few = absurd (early_big (s
 small_text before NoCommand fails topology verdict (inr r) few = absurd (not_small 7 (status_in verdict) (ap status_in r.refused) (omega arith) few)
 small_text before (BadTopology fault) fails topology verdict (inr r) few = absurd (not_small 6 (status_in verdict) (ap status_in r.refused) (omega arith) few)
 small_text before (TooFew shortage) fails topology verdict (inr r) few = absurd (not_small 6 (status_in verdict) (ap status_in r.refused) (omega arith) few)
-small_text before (NotBuilt missing) fails topology verdict (inr r) few = absurd (not_small 10 (status_in verdict) (ap status_in r.refused) (omega arith) few)
 small_text before (Checks wanted) fails topology verdict (inr r) few = rw r.counted r.counts
 small_text before (Runs shows wanted) fails topology verdict (inr r) few = by_run (ran verdict shows wanted before r.comes_to)
   where
@@ -156,7 +148,6 @@ begun case fails topology before verdict held held' (inl e) b = begun_early fail
 begun NoCommand fails topology before verdict held held' (inr r) b = begun_refusal held held' [] verdict Usage r.refused b
 begun (BadTopology fault) fails topology before verdict held held' (inr r) b = begun_refusal held held' [] verdict (NoTopology fault) r.refused b
 begun (TooFew shortage) fails topology before verdict held held' (inr r) b = begun_refusal held held' [] verdict (Stock shortage) r.refused b
-begun (NotBuilt missing) fails topology before verdict held held' (inr r) b = begun_refusal held held' [] verdict (Unbuilt missing) r.refused b
 begun (Checks wanted) fails topology before verdict held held' (inr r) b =
     let counted : AddsPrefix held held' (out_text_of (Done r.texts 0)) = rw r.counted at b in
     rw r.counts at counted
@@ -179,7 +170,6 @@ texts_small case fails topology before verdict (inl e) = by_early (early fails t
 texts_small NoCommand fails topology before verdict (inr r) = inr (ap out_text_of r.refused)
 texts_small (BadTopology fault) fails topology before verdict (inr r) = inr (ap out_text_of r.refused)
 texts_small (TooFew shortage) fails topology before verdict (inr r) = inr (ap out_text_of r.refused)
-texts_small (NotBuilt missing) fails topology before verdict (inr r) = inr (ap out_text_of r.refused)
 texts_small (Checks wanted) fails topology before verdict (inr r) = inl (rw r.counted (omega arith))
 texts_small (Runs shows wanted) fails topology before verdict (inr r) = by_run (ran verdict shows wanted before r.comes_to)
   where
@@ -191,8 +181,7 @@ texts_small (Runs shows wanted) fails topology before verdict (inr r) = by_run (
 refusal_is : (s : ℕ) → IsRefusalStatus s → (4 < s) × (s ≢ 8) × (s ≢ 9)
 refusal_is s (inl a) = (omega (arith, a), (λ at. omega (arith, a, at)), (λ at. omega (arith, a, at)))
 refusal_is s (inr (inl a)) = (omega (arith, a), (λ at. omega (arith, a, at)), (λ at. omega (arith, a, at)))
-refusal_is s (inr (inr (inl a))) = (omega (arith, a), (λ at. omega (arith, a, at)), (λ at. omega (arith, a, at)))
-refusal_is s (inr (inr (inr a))) = (omega (arith, a), (λ at. omega (arith, a, at)), (λ at. omega (arith, a, at)))
+refusal_is s (inr (inr a)) = (omega (arith, a), (λ at. omega (arith, a, at)), (λ at. omega (arith, a, at)))
 
 -- under a refusal nothing is written to the output
 pub unwritten_out : (case : Case) (fails : List ℕ → Type 0) (topology : Option Topology) (before : History) (verdict : Verdict) (status : ℕ) (held held' : List ℕ) → Outcome case fails topology before verdict
@@ -218,7 +207,6 @@ status_is case fails topology before verdict (inl e) a b = absurd (by_early (ear
 status_is NoCommand fails topology before verdict (inr r) a b = ap status_in r.refused
 status_is (BadTopology fault) fails topology before verdict (inr r) a b = ap status_in r.refused
 status_is (TooFew shortage) fails topology before verdict (inr r) a b = ap status_in r.refused
-status_is (NotBuilt missing) fails topology before verdict (inr r) a b = ap status_in r.refused
 status_is (Checks wanted) fails topology before verdict (inr r) a b = ap status_in r.counted
 status_is (Runs shows wanted) fails topology before verdict (inr r) a b = by_run (ran verdict shows wanted before r.comes_to)
   where
@@ -236,7 +224,6 @@ line_is case fails topology before verdict (inl e) a b = absurd (by_early (early
 line_is NoCommand fails topology before verdict (inr r) a b = rw r.refused refl
 line_is (BadTopology fault) fails topology before verdict (inr r) a b = rw r.refused refl
 line_is (TooFew shortage) fails topology before verdict (inr r) a b = rw r.refused refl
-line_is (NotBuilt missing) fails topology before verdict (inr r) a b = rw r.refused refl
 line_is (Checks wanted) fails topology before verdict (inr r) a b = rw r.counted refl
 line_is (Runs shows wanted) fails topology before verdict (inr r) a b = by_run (ran verdict shows wanted before r.comes_to)
   where
@@ -284,7 +271,6 @@ one_line case told calls asked asked' fault topology before verdict (inl e) = by
 one_line NoCommand told calls asked asked' fault topology before verdict (inr r) = inr (inl (ap err_text_of r.refused))
 one_line (BadTopology f) told calls asked asked' fault topology before verdict (inr r) = inr (inl (ap err_text_of r.refused))
 one_line (TooFew shortage) told calls asked asked' fault topology before verdict (inr r) = inr (inl (ap err_text_of r.refused))
-one_line (NotBuilt missing) told calls asked asked' fault topology before verdict (inr r) = inr (inl (ap err_text_of r.refused))
 one_line (Checks wanted) told calls asked asked' fault topology before verdict (inr r) = inl (ap err_text_of r.counted)
 one_line (Runs shows wanted) told calls asked asked' fault topology before verdict (inr r) = by_run (ran verdict shows wanted before r.comes_to)
   where
@@ -318,7 +304,6 @@ named_fault case told calls asked asked' fault err_told topology before verdict 
 named_fault NoCommand told calls asked asked' fault err_told topology before verdict held held' (inr r) five adds = absurd (not_both 7 5 (status_in verdict) (ap status_in r.refused) five (λ x. cc))
 named_fault (BadTopology f) told calls asked asked' fault err_told topology before verdict held held' (inr r) five adds = absurd (not_both 6 5 (status_in verdict) (ap status_in r.refused) five (λ x. cc))
 named_fault (TooFew shortage) told calls asked asked' fault err_told topology before verdict held held' (inr r) five adds = absurd (not_both 6 5 (status_in verdict) (ap status_in r.refused) five (λ x. cc))
-named_fault (NotBuilt missing) told calls asked asked' fault err_told topology before verdict held held' (inr r) five adds = absurd (not_both 10 5 (status_in verdict) (ap status_in r.refused) five (λ x. cc))
 named_fault (Checks wanted) told calls asked asked' fault err_told topology before verdict held held' (inr r) five adds = absurd (not_both 0 5 (status_in verdict) (ap status_in r.counted) five (λ x. cc))
 named_fault (Runs shows wanted) told calls asked asked' fault err_told topology before verdict held held' (inr r) five adds = absurd (by_run (ran verdict shows wanted before r.comes_to))
   where
@@ -339,7 +324,6 @@ abbrev number : Case → ℕ
 number NoCommand = 0
 number (BadTopology fault) = 1
 number (TooFew shortage) = 1
-number (NotBuilt missing) = 1
 number (Checks wanted) = 1
 number (Runs shows wanted) = 1
 
@@ -347,31 +331,26 @@ short_case : (short : Option Shortage) (case : Case) → number case ≡ 1 → n
 short_case None case is = is
 short_case (Some shortage) case is = refl
 
-unbuilt_case : (missing : Option Missing) (case : Case) → number case ≡ 1 → number (unless_unbuilt missing case) ≡ 1
-unbuilt_case None case is = is
-unbuilt_case (Some missing) case is = refl
-
-run_number : (boxes : Boxes) (workers : ℕ) (shows : Shows) (topology : Topology) → number (run_case boxes workers shows topology) ≡ 1
-run_number boxes workers shows topology = short_case (shortage_of topology boxes) _ (unbuilt_case (unbuilt_of workers) (Runs shows topology) refl)
+run_number : (boxes : Boxes) (shows : Shows) (topology : Topology) → number (run_case boxes shows topology) ≡ 1
+run_number boxes shows topology = short_case (shortage_of topology boxes) (Runs shows topology) refl
 
 checked_number : (read : Result Topology ConfigFault) → number (for_topology read Checks) ≡ 1
 checked_number (Ok topology) = refl
 checked_number (Err fault) = refl
 
-loaded_number : (read : Result Topology ConfigFault) (boxes : Boxes) (workers : ℕ) (shows : Shows) → number (for_topology read (run_case boxes workers shows)) ≡ 1
-loaded_number (Ok topology) boxes workers shows = run_number boxes workers shows topology
-loaded_number (Err fault) boxes workers shows = refl
+loaded_number : (read : Result Topology ConfigFault) (boxes : Boxes) (shows : Shows) → number (for_topology read (run_case boxes shows)) ≡ 1
+loaded_number (Ok topology) boxes shows = run_number boxes shows topology
+loaded_number (Err fault) boxes shows = refl
 
 some_number : (command : Command) (file : List ℕ) (boxes : Boxes) → number (case_of (Some command) file boxes) ≡ 1
-some_number (Flow source prefix) file boxes = run_number boxes 1 report_alone (flow_topology_of source prefix)
+some_number (Flow source prefix) file boxes = run_number boxes report_alone (flow_topology_of source prefix)
 some_number (Check path) file boxes = checked_number (topology_of_file file)
-some_number (Run path workers acks steps) file boxes = loaded_number (topology_of_file file) boxes workers (record { steps = steps; acks = acks })
+some_number (Run path workers acks steps) file boxes = loaded_number (topology_of_file file) boxes (record { steps = steps; acks = acks })
 
 of_seven : (case : Case) → IsStatusOf 7 case → number case ≡ 0
 of_seven NoCommand is = refl
 of_seven (BadTopology fault) is = absurd (omega (arith, is))
 of_seven (TooFew shortage) is = absurd (omega (arith, is))
-of_seven (NotBuilt missing) is = absurd (omega (arith, is))
 of_seven (Checks wanted) is = absurd (omega (arith, is))
 of_seven (Runs shows wanted) few = absurd (omega (arith, few))
 
@@ -399,8 +378,7 @@ no_command_by told asked asked' fault topology before verdict status (inl e) (in
 
 unopened_is : (s : ℕ) → IsUnopenedStatus s → (4 < s) × (s ≢ 5) × (s ≢ 9)
 unopened_is s (inl a) = (omega (arith, a), (λ at. omega (arith, a, at)), (λ at. omega (arith, a, at)))
-unopened_is s (inr (inl a)) = (omega (arith, a), (λ at. omega (arith, a, at)), (λ at. omega (arith, a, at)))
-unopened_is s (inr (inr a)) = (omega (arith, a), (λ at. omega (arith, a, at)), (λ at. omega (arith, a, at)))
+unopened_is s (inr a) = (omega (arith, a), (λ at. omega (arith, a, at)), (λ at. omega (arith, a, at)))
 
 -- a run has no status of a refusal
 run_refused : {shows : Shows} {wanted : Topology} {before : History} (verdict : Verdict) → Reported shows wanted before verdict ⊎ (verdict ≡ Refused Memory) → IsRefusalStatus (status_in verdict) → ⊥
@@ -413,7 +391,6 @@ none_ran case fails topology before verdict (inl e) u = ((early fails topology b
 none_ran NoCommand fails topology before verdict (inr r) u = (r.no_topology, r.no_step)
 none_ran (BadTopology fault) fails topology before verdict (inr r) u = (r.no_topology, r.no_step)
 none_ran (TooFew shortage) fails topology before verdict (inr r) u = (r.no_topology, r.no_step)
-none_ran (NotBuilt missing) fails topology before verdict (inr r) u = (r.no_topology, r.no_step)
 none_ran (Checks wanted) fails topology before verdict (inr r) u =
     let counted : status_in verdict ≡ 0 = ap status_in r.counted in
     absurd (omega (arith, counted, (refusal_is (status_in verdict) u).0))
@@ -432,7 +409,6 @@ pub not_opened : (case : Case) (fails : List ℕ → Type 0) (memory : Type 0) (
 not_opened NoCommand fails memory topology before verdict old new o u out = out
 not_opened (BadTopology fault) fails memory topology before verdict old new o u out = out
 not_opened (TooFew shortage) fails memory topology before verdict old new o u out = out
-not_opened (NotBuilt missing) fails memory topology before verdict old new o u out = out
 not_opened (Checks wanted) fails memory topology before verdict old new o u out = out
 not_opened (Runs shows wanted) fails memory topology before verdict old new o u out = absurd (run_opened shows wanted fails topology before verdict o u)
 
@@ -463,7 +439,6 @@ pub outside_as : (memory wanting : Type 0) → (memory → wanting) → (topolog
 outside_as memory wanting so topology before NoCommand old new out = out
 outside_as memory wanting so topology before (BadTopology fault) old new out = out
 outside_as memory wanting so topology before (TooFew shortage) old new out = out
-outside_as memory wanting so topology before (NotBuilt missing) old new out = out
 outside_as memory wanting so topology before (Checks wanted) old new out = out
 outside_as memory wanting so topology before (Runs shows wanted) old new out = run_or_not_as memory wanting so wanted topology before old new out
 
@@ -482,7 +457,6 @@ lost_by case fails topology before verdict out_fault quiet err_fault (inl e) fau
 lost_by NoCommand fails topology before verdict out_fault quiet err_fault (inr r) fault q = refusal_lost verdict Usage _ out_fault quiet err_fault r.refused fault
 lost_by (BadTopology f) fails topology before verdict out_fault quiet err_fault (inr r) fault q = refusal_lost verdict (NoTopology f) _ out_fault quiet err_fault r.refused fault
 lost_by (TooFew shortage) fails topology before verdict out_fault quiet err_fault (inr r) fault q = refusal_lost verdict (Stock shortage) _ out_fault quiet err_fault r.refused fault
-lost_by (NotBuilt missing) fails topology before verdict out_fault quiet err_fault (inr r) fault q = refusal_lost verdict (Unbuilt missing) _ out_fault quiet err_fault r.refused fault
 lost_by (Checks wanted) fails topology before verdict out_fault quiet err_fault (inr r) fault q =
     inl (record { status = 0; end_of = (refl, r.own, r.no_step) }, rw r.counted at fault, rw r.counted at q)
 lost_by (Runs shows wanted) fails topology before verdict out_fault quiet err_fault (inr r) fault q = by_run (ran verdict shows wanted before r.comes_to)
@@ -515,7 +489,6 @@ asks case told calls asked asked' fault topology before (Refused Memory) o t a =
 asks case told calls asked asked' fault topology before (Refused Usage) o t a = all_asked calls asked asked' a
 asks case told calls asked asked' fault topology before (Refused (NoTopology f)) o t a = all_asked calls asked asked' a
 asks case told calls asked asked' fault topology before (Refused (Stock s)) o t a = all_asked calls asked asked' a
-asks case told calls asked asked' fault topology before (Refused (Unbuilt m)) o t a = all_asked calls asked asked' a
 asks case told calls asked asked' fault topology before (Refused (Edge name)) o t a =
     let f = named_fault case told calls asked asked' fault Bool.false topology before (Refused (Edge name)) [] [] o refl (λ never. cc) in
     up_to calls asked asked' f.fails.front f.fails.rest (f.fails.kind, f.name) f.fails.parts (f.fails.is_last t)
@@ -526,5 +499,4 @@ asks_all (Refused Memory) calls asked asked' a b is = absurd (b refl)
 asks_all (Refused Usage) calls asked asked' a b is = is
 asks_all (Refused (NoTopology f)) calls asked asked' a b is = is
 asks_all (Refused (Stock s)) calls asked asked' a b is = is
-asks_all (Refused (Unbuilt m)) calls asked asked' a b is = is
 asks_all (Refused (Edge name)) calls asked asked' a b is = absurd (a refl)

@@ -1,5 +1,5 @@
 -- Where nothing failed, the run came to its end.
-use Rattle.std.proofs.Common.{◌≡◌, ◌≢◌, ℕ, suc, ◌+◌, ◌<◌, ◌≤◌, List, [], ◌∷◌, ◌++◌, take, length, Bool, true, false, refl, sym, ap, ◌∙◌, subst, inl, inr, Option, Some, None, arith}
+use Rattle.std.proofs.Common.{◌≡◌, ◌≢◌, ℕ, suc, ◌≤◌, List, [], ◌∷◌, ◌++◌, length, Bool, true, false, refl, ap, ◌∙◌, subst, inl, inr, Option, Some, None, arith}
 use Rattle.std.specs.Prelude.{◌⊎◌, ◌&&◌, ◌||◌, All, IsTrue, is_some, find, nat_le, if◌then◌else◌}
 use Rattle.std.specs.List.{list_any}
 use Rattle.std.proofs.lemmas.List.{take_all}
@@ -7,7 +7,7 @@ use Rattle.std.proofs.lemmas.List.Elements.{All-nil, All-cons, All-head, All-tai
 use Rattle.pipe_types.specs.Counts.{Rose}
 use Rattle.pipe_types.specs.Lines.{lines}
 use Rattle.pipe_types.specs.Numbers.{stage, post, same_stage}
-use Rattle.pipe_types.specs.Sound.{IsSound, producers, processors, by_demand, by_partition, is_size, is_producer_in}
+use Rattle.pipe_types.specs.Sound.{IsSound, processors, by_demand, by_partition, is_size, is_producer_in}
 use Rattle.pipe_types.specs.Stages.{spec_of, spec_in}
 use Rattle.pipe_types.specs.declared.numbers.StageNo.{StageNo}
 use Rattle.pipe_types.specs.declared.step.SourceHow.{SourceHow}
@@ -17,10 +17,8 @@ use Rattle.pipe_types.specs.declared.topology.Role.TheVariants.{Producer, Proces
 use Rattle.pipe_types.specs.declared.topology.StageSpec.{StageSpec}
 use Rattle.pipe_types.specs.declared.topology.Topology.{Topology}
 use Rattle.pipe_model.specs.History.{History}
-use Rattle.pipe_model.specs.Legal.{happened, is_drain, is_halt, has_ended, has_role, is_producer_role}
-use Rattle.pipe_model.specs.Moves.{is_drained}
+use Rattle.pipe_model.specs.Legal.{happened, is_drain, is_halt, has_role, is_producer_role}
 use Rattle.pipe_model.specs.Outside.{fed, source_end}
-use Rattle.pipe_edges.specs.declared.edges.EdgeKind.{EdgeKind}
 use Rattle.pipe_edges.specs.declared.edges.EdgeKind.TheVariants.{Source}
 use Rattle.journal_texts.specs.Report.{places, is_fault, is_lost, is_failed, is_source_fault}
 use Rattle.run_claims.specs.Read.{HasNoControl, quiets}
@@ -39,7 +37,7 @@ use Rattle.pipe_run.specs.Outside.{HasControl, IsOutside, IsSourceRead, ReadsSou
 use Rattle.pipe_run.specs.Whole.{HasCome}
 use Rattle.pipe_top.specs.Verdicts.{status_in}
 use Rattle.pipe_top.specs.Runs.{OutsideSeen, IsRun, IsEnded, HasUsed, IsOutsideOf, IsFaultless, AreFaultless, IsReadWhole, IsComplete, IsCompleteIn, is_limit_drain, is_control_drain}
-use Rattle.pipe_top.specs.Cases.{Case, NoCommand, NoTopology as BadTopology, TooFew, NotBuilt, Checks, Runs}
+use Rattle.pipe_top.specs.Cases.{Case, NoCommand, NoTopology as BadTopology, TooFew, Checks, Runs}
 use Rattle.pipe_top.specs.Flows.{Outcome}
 use Rattle.pipe_top.specs.declared.verdict.Refusal.TheVariants.{Memory}
 use Rattle.pipe_top.specs.declared.verdict.Texts.{Texts}
@@ -253,7 +251,6 @@ complete_in : (case : Case) (fails : List ℕ → Type 0) (topology : Option Top
 complete_in NoCommand fails topology before verdict status old new is calm fine o out = tt
 complete_in (BadTopology fault) fails topology before verdict status old new is calm fine o out = tt
 complete_in (TooFew shortage) fails topology before verdict status old new is calm fine o out = tt
-complete_in (NotBuilt missing) fails topology before verdict status old new is calm fine o out = tt
 complete_in (Checks wanted) fails topology before verdict status old new is calm fine o out = tt
 complete_in (Runs shows wanted) fails topology before verdict status old new is calm fine (inl e) out =
     memory_or wanted fails before verdict status is (early fails topology before verdict e).why calm
@@ -273,7 +270,6 @@ nine_complete : (case : Case) (before : History) (status : ℕ) → status ≡ 9
 nine_complete NoCommand before status is = tt
 nine_complete (BadTopology fault) before status is = tt
 nine_complete (TooFew shortage) before status is = tt
-nine_complete (NotBuilt missing) before status is = tt
 nine_complete (Checks wanted) before status is = tt
 nine_complete (Runs shows wanted) before status is = wanting wanted before status is
 

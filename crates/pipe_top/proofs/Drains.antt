@@ -1,6 +1,6 @@
 -- Why the drain of a legal journal began.
-use Rattle.std.proofs.Common.{◌≡◌, ℕ, ◌+◌, ◌≤◌, List, [], ◌∷◌, Bool, true, false, refl, sym, ap, ◌∙◌, arith, Option, Some, None}
-use Rattle.std.specs.Prelude.{◌&&◌, ◌||◌, not, nat_le, if◌then◌else◌, find}
+use Rattle.std.proofs.Common.{◌≡◌, ℕ, ◌+◌, ◌≤◌, List, [], ◌∷◌, Bool, true, false, refl, sym, ap, ◌∙◌, arith, Some}
+use Rattle.std.specs.Prelude.{◌||◌, not, nat_le, if◌then◌else◌, find}
 use Rattle.std.specs.List.{list_all}
 use Rattle.std.proofs.lemmas.Bool.{leb-true}
 use Rattle.pipe_types.specs.declared.numbers.StageNo.{StageNo}
@@ -13,11 +13,11 @@ use Rattle.pipe_types.specs.declared.step.Step.{Step}
 use Rattle.pipe_types.specs.declared.step.Step.TheVariants.{Fetch, Quiet, Late, Tick, Drain}
 use Rattle.pipe_types.specs.Numbers.{same_stage}
 use Rattle.pipe_types.specs.Stages.{spec_in}
-use Rattle.pipe_model.specs.History.{History, accepted, accepted_bytes}
-use Rattle.pipe_model.specs.Legal.{is_legal, allows, happened, is_drain, has_ended, ends_source, all_ended, drains_for, has_role, is_producer_role, quiet_row}
+use Rattle.pipe_model.specs.History.{History}
+use Rattle.pipe_model.specs.Legal.{is_legal, happened, is_drain, has_ended, ends_source, all_ended, drains_for, has_role, is_producer_role, quiet_row}
 use Rattle.run_claims.specs.Read.{quiets}
 use Rattle.pipe_laws.proofs.Allowed.{legal_before, legal_step, unowed}
-use Rattle.pipe_laws.proofs.Tests.{and_left, and_right, clash, same_stage-self, same_stage-true}
+use Rattle.pipe_laws.proofs.Tests.{and_left, and_right, same_stage-self, same_stage-true}
 use Rattle.body_laws.proofs.Posts.{some_role}
 use Rattle.body_laws.proofs.Steps.{quiet_facts}
 use Rattle.pipe_top.specs.Runs.{is_limit_drain, is_control_drain}

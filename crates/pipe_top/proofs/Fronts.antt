@@ -5,7 +5,7 @@ use Rattle.std.proofs.Math.Seq.{take-nil}
 use Rattle.program_words.specs.Refusals.{memory_line}
 use Rattle.pipe_top.specs.Verdicts.{Adds, AddsPrefix, refusal_text, refusal_status}
 use Rattle.pipe_top.specs.declared.verdict.Refusal.{Refusal}
-use Rattle.pipe_top.specs.declared.verdict.Refusal.TheVariants.{Usage, Topology, Stock, Unbuilt, Edge, Memory}
+use Rattle.pipe_top.specs.declared.verdict.Refusal.TheVariants.{Usage, Topology, Stock, Edge, Memory}
 
 -- a front of the first text is a front of both
 front_of : (count : ℕ) (first second : List ℕ) → (n : ℕ) × (take count first ≡ take n (first ++ second))
@@ -47,5 +47,4 @@ memory_front Memory held held' nine begun = begun
 memory_front Usage held held' nine begun = absurd (omega (arith, nine))
 memory_front (Topology fault) held held' nine begun = absurd (omega (arith, nine))
 memory_front (Stock shortage) held held' nine begun = absurd (omega (arith, nine))
-memory_front (Unbuilt missing) held held' nine begun = absurd (omega (arith, nine))
 memory_front (Edge name) held held' nine begun = absurd (omega (arith, nine))

@@ -10,5 +10,6 @@ pub mod Outcomes
 pub mod Promises
 pub mod Reading
 pub mod Runnables
+pub mod Standing
 pub mod Statuses
 pub mod Unused

@@ -1,11 +1,10 @@
 -- What comes of a topology that is to run: it is refused, what it names is not opened, or it runs.
-use Rattle.std.proofs.Common.{◌≡◌, ℕ, List, [], ◌∷◌, ◌++◌, length, Bool, false, Option, Some, None, refl, sym, ◌∙◌, ap, inl, inr, arith}
+use Rattle.std.proofs.Common.{◌≡◌, ℕ, List, [], ◌++◌, length, Bool, false, Option, Some, None, refl, sym, ◌∙◌, ap, inl, inr, arith}
 use Rattle.std.specs.Prelude.{unwrap_or}
 use Rattle.std.proofs.lemmas.List.{append-nil, take_all}
 use Rattle.pipe_types.specs.Sound.{IsSound}
 use Rattle.pipe_types.specs.declared.topology.Topology.{Topology}
 use Rattle.pipe_model.specs.History.{History}
-use Rattle.pipe_model.specs.Legal.{is_legal}
 use Rattle.pipe_edges.specs.declared.edges.EdgeKind.{EdgeKind}
 use Rattle.core_state.specs.declared.state.Core.{Core}
 use Rattle.core_state.specs.Stands.{Stands}
@@ -15,15 +14,14 @@ use Rattle.run_claims.proofs.Claims.{keeps_claims}
 use Rattle.edge_names.specs.Controls.{run_calls}
 use Rattle.edge_names.specs.Returned.{IsAskedInPart}
 use Rattle.topology_needs.specs.declared.stock.Shortage.{Shortage}
-use Rattle.topology_needs.specs.declared.unbuilt.Unbuilt.{Unbuilt as Missing}
 use Rattle.pipe_run.specs.Boxes.{AreBoxesLeft, AreSameBoxes}
 use Rattle.pipe_run.specs.Outside.{IsUnopened}
 use Rattle.pipe_run.specs.Whole.{IsRunOf, IsAskedUntil}
-use Rattle.pipe_top.specs.Cases.{Runs, unless_short, unless_unbuilt, opening_calls}
+use Rattle.pipe_top.specs.Cases.{Runs, unless_short, opening_calls}
 use Rattle.pipe_top.specs.Runs.{OutsideSeen, IsUntouched, IsRun}
 use Rattle.pipe_top.specs.Flows.{AskedBy, ComesBy, IsJudgement, refusal_in}
 use Rattle.pipe_top.specs.declared.verdict.Refusal.{Refusal}
-use Rattle.pipe_top.specs.declared.verdict.Refusal.TheVariants.{Usage, Topology as NoTopology, Stock, Unbuilt, Edge, Memory}
+use Rattle.pipe_top.specs.declared.verdict.Refusal.TheVariants.{Usage, Topology as NoTopology, Stock, Edge, Memory}
 use Rattle.pipe_top.specs.declared.verdict.Shows.{Shows}
 use Rattle.pipe_top.specs.declared.verdict.Verdict.{Verdict}
 use Rattle.pipe_top.specs.declared.verdict.Verdict.TheVariants.{Refused, Done}
@@ -31,10 +29,10 @@ use Rattle.pipe_top.specs.declared.verdict.Verdict.TheVariants.{Refused, Done}
 -- ---- refusals of a topology
 
 -- the edges are as they were
-pub refused_topology : (old new : OutsideSeen) (shows : Shows) (wanted : Topology) (short : Option Shortage) (missing : Option Missing) (refusal : Refusal) (topology : Option Topology) (before : History) (verdict : Verdict)
-    → refusal_in short missing ≡ Some refusal → verdict ≡ Refused refusal → (topology ≡ None) × (before ≡ []) → IsUntouched old new → new.edges.asked ≡ old.edges.asked → new.edges.told ≡ old.edges.told
-    → ComesBy old new (unless_short short (unless_unbuilt missing (Runs shows wanted))) (opening_calls (unless_short short (unless_unbuilt missing (Runs shows wanted)))) topology before verdict
-refused_topology old new shows wanted (Some s) missing refusal topology before verdict e is none untouched asked telling =
+pub refused_topology : (old new : OutsideSeen) (shows : Shows) (wanted : Topology) (short : Option Shortage) (refusal : Refusal) (topology : Option Topology) (before : History) (verdict : Verdict)
+    → refusal_in short ≡ Some refusal → verdict ≡ Refused refusal → (topology ≡ None) × (before ≡ []) → IsUntouched old new → new.edges.asked ≡ old.edges.asked → new.edges.told ≡ old.edges.told
+    → ComesBy old new (unless_short short (Runs shows wanted)) (opening_calls (unless_short short (Runs shows wanted))) topology before verdict
+refused_topology old new shows wanted (Some s) refusal topology before verdict e is none untouched asked telling =
     let stock : verdict ≡ Refused (Stock s) = is ∙ ap (λ o. Refused (unwrap_or o (Stock s))) (sym e) in
     record {
       outcome = inr (record {
@@ -46,19 +44,7 @@ refused_topology old new shows wanted (Some s) missing refusal topology before v
       asked_by = λ t. rw stock (asked ∙ sym (append-nil old.edges.asked));
       same_telling = telling;
     }
-refused_topology old new shows wanted None (Some m) refusal topology before verdict e is none untouched asked telling =
-    let unbuilt : verdict ≡ Refused (Unbuilt m) = is ∙ ap (λ o. Refused (unwrap_or o (Unbuilt m))) (sym e) in
-    record {
-      outcome = inr (record {
-        refused = unbuilt;
-        no_topology = none.0;
-        no_step = none.1;
-      });
-      outside = untouched;
-      asked_by = λ t. rw unbuilt (asked ∙ sym (append-nil old.edges.asked));
-      same_telling = telling;
-    }
-refused_topology old new shows wanted None None refusal topology before verdict e is none untouched asked telling = cc
+refused_topology old new shows wanted None refusal topology before verdict e is none untouched asked telling = cc
 
 -- ---- runs
 
@@ -73,7 +59,6 @@ all_asked (Done texts status) calls asked asked' is = is
 all_asked (Refused Usage) calls asked asked' is = is
 all_asked (Refused (NoTopology fault)) calls asked asked' is = is
 all_asked (Refused (Stock shortage)) calls asked asked' is = is
-all_asked (Refused (Unbuilt missing)) calls asked asked' is = is
 
 -- a run that the core stands for
 run_by : (core : Core) → Stands core → FollowsMoves core.topology core.journal.steps → (core.topology.control ≡ None → HasNoControl core.journal.steps) → IsRun core.topology core.journal.steps

@@ -6,7 +6,7 @@ use Rattle.pipe_model.specs.History.{History}
 use Rattle.pipe_top.specs.Flows.{IsReport, IsJudgement, IsEarly}
 use Rattle.pipe_top.specs.Runs.{IsRefusalStatus, IsUnopenedStatus}
 use Rattle.pipe_top.specs.Verdicts.{status_in}
-use Rattle.pipe_top.specs.declared.verdict.Refusal.TheVariants.{Usage, Topology as NoTopology, Stock, Unbuilt, Edge, Memory}
+use Rattle.pipe_top.specs.declared.verdict.Refusal.TheVariants.{Usage, Topology as NoTopology, Stock, Edge, Memory}
 use Rattle.pipe_top.specs.declared.verdict.Shows.{Shows}
 use Rattle.pipe_top.specs.declared.verdict.Texts.{Texts}
 use Rattle.pipe_top.specs.declared.verdict.Verdict.{Verdict}
@@ -35,7 +35,6 @@ early fails None before (Refused (Edge name)) e = record {
 early fails None before (Refused Usage) e = absurd e
 early fails None before (Refused (NoTopology fault)) e = absurd e
 early fails None before (Refused (Stock shortage)) e = absurd e
-early fails None before (Refused (Unbuilt missing)) e = absurd e
 early fails None before (Done texts status) e = absurd e
 early fails (Some t) before verdict e = absurd e
 
@@ -58,7 +57,6 @@ ran (Refused Memory) shows topology before v = inr refl
 ran (Refused Usage) shows topology before v = absurd v
 ran (Refused (NoTopology fault)) shows topology before v = absurd v
 ran (Refused (Stock shortage)) shows topology before v = absurd v
-ran (Refused (Unbuilt missing)) shows topology before v = absurd v
 ran (Refused (Edge name)) shows topology before v = absurd v
 
 -- ---- statuses
@@ -86,7 +84,7 @@ not_small n status is more few = omega (arith, is, more, few)
 pub not_both : (a b n : ℕ) → n ≡ a → n ≡ b → a ≢ b → ⊥
 not_both a b n p q apart = apart (omega (arith, p, q))
 
-pub within : (status wanted : ℕ) → (status ≡ wanted) ⊎ ((status ≡ 8) ⊎ (status ≡ 9)) → wanted ≤ 10 → status ≤ 10
+pub within : (status wanted : ℕ) → (status ≡ wanted) ⊎ ((status ≡ 8) ⊎ (status ≡ 9)) → wanted ≤ 9 → status ≤ 9
 within status wanted (inl is) few = omega (arith, is, few)
 within status wanted (inr (inl is)) few = omega (arith, is)
 within status wanted (inr (inr is)) few = omega (arith, is)
@@ -95,11 +93,9 @@ within status wanted (inr (inr is)) few = omega (arith, is)
 pub refusal_as : (status wanted : ℕ) → (status ≡ wanted) ⊎ ((status ≡ 8) ⊎ (status ≡ 9)) → IsRefusalStatus status → IsRefusalStatus wanted
 refusal_as status wanted is (inl five) = inl (is_status status wanted 5 is five (λ x. cc) (λ x. cc))
 refusal_as status wanted is (inr (inl six)) = inr (inl (is_status status wanted 6 is six (λ x. cc) (λ x. cc)))
-refusal_as status wanted is (inr (inr (inl seven))) = inr (inr (inl (is_status status wanted 7 is seven (λ x. cc) (λ x. cc))))
-refusal_as status wanted is (inr (inr (inr ten))) = inr (inr (inr (is_status status wanted 10 is ten (λ x. cc) (λ x. cc))))
+refusal_as status wanted is (inr (inr seven)) = inr (inr (is_status status wanted 7 is seven (λ x. cc) (λ x. cc)))
 
 -- .. and one where nothing was opened
 pub unopened_as : (status wanted : ℕ) → (status ≡ wanted) ⊎ ((status ≡ 8) ⊎ (status ≡ 9)) → IsUnopenedStatus status → IsUnopenedStatus wanted
 unopened_as status wanted is (inl six) = inl (is_status status wanted 6 is six (λ x. cc) (λ x. cc))
-unopened_as status wanted is (inr (inl seven)) = inr (inl (is_status status wanted 7 is seven (λ x. cc) (λ x. cc)))
-unopened_as status wanted is (inr (inr ten)) = inr (inr (is_status status wanted 10 is ten (λ x. cc) (λ x. cc)))
+unopened_as status wanted is (inr seven) = inr (is_status status wanted 7 is seven (λ x. cc) (λ x. cc))

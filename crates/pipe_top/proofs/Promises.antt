@@ -1,5 +1,5 @@
 -- What a call came to, as the clauses of the top call say it.
-use Rattle.std.proofs.Common.{◌≡◌, ◌≢◌, ℕ, ◌≤◌, List, [], Bool, Option, None, ◌∙◌, arith}
+use Rattle.std.proofs.Common.{◌≡◌, ◌≢◌, ℕ, ◌≤◌, List, [], Option, None, ◌∙◌, arith}
 use Rattle.std.specs.Prelude.{◌⊎◌, IsTrue}
 use Rattle.pipe_types.specs.Counts.{Rose}
 use Rattle.pipe_types.specs.declared.topology.Topology.{Topology}
@@ -76,9 +76,9 @@ pub run_in : {old new : OutsideSeen} {command : Option Command} {boxes : Boxes} 
 run_in {old} {new} {command} {boxes} {topology} {before} {verdict} c =
     run (case_of command c.file boxes) (Failing (calls_of command (case_of command c.file boxes)) old new) topology before verdict c.comes.outcome
 
--- the status is at most 10
+-- the status is at most 9
 pub known_in : {old new : OutsideSeen} {command : Option Command} {boxes : Boxes} {topology : Option Topology} {before : History} {verdict : Verdict} (status : ℕ)
-    → Came old new command boxes topology before verdict → (status ≡ status_in verdict) ⊎ ((status ≡ 8) ⊎ (status ≡ 9)) → status ≤ 10
+    → Came old new command boxes topology before verdict → (status ≡ status_in verdict) ⊎ ((status ≡ 8) ⊎ (status ≡ 9)) → status ≤ 9
 known_in {old} {new} {command} {boxes} {topology} {before} {verdict} status c is =
     within status (status_in verdict) is (known (case_of command c.file boxes) (Failing (calls_of command (case_of command c.file boxes)) old new) topology before verdict c.comes.outcome)
 

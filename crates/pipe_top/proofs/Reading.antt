@@ -17,9 +17,9 @@ use Rattle.edge_names.specs.Seen.{EdgesSeen}
 use Rattle.topology_needs.specs.declared.stock.Boxes.{Boxes}
 use Rattle.pipe_top.specs.Cases.{Case, Checks, case_of, run_case, for_topology, report_alone, opening_calls, calls_of, file_name, IsNamedFile}
 use Rattle.pipe_top.specs.Runs.{OutsideSeen, IsUntouched, Asks}
-use Rattle.pipe_top.specs.Flows.{IsCheckedOrNot, AskedBy, ComesBy, Came, ReadsFile, ReadsTopology, AskedFile}
+use Rattle.pipe_top.specs.Flows.{IsCheckedOrNot, ComesBy, Came, ReadsFile, ReadsTopology, AskedFile}
 use Rattle.pipe_top.specs.declared.verdict.Refusal.{Refusal}
-use Rattle.pipe_top.specs.declared.verdict.Refusal.TheVariants.{Usage, Topology as NoTopology, Stock, Unbuilt, Edge, Memory}
+use Rattle.pipe_top.specs.declared.verdict.Refusal.TheVariants.{Usage, Topology as NoTopology, Stock, Edge, Memory}
 use Rattle.pipe_top.specs.declared.verdict.Verdict.{Verdict}
 use Rattle.pipe_top.specs.declared.verdict.Verdict.TheVariants.{Refused}
 use Rattle.pipe_top.proofs.Unused.{asks_none, outside_of_none, wanting}
@@ -88,7 +88,6 @@ unread old new go name (NoTopology fault) topology before verdict is none same r
     })
 unread old new go name Usage topology before verdict is none same r = absurd r.reads
 unread old new go name (Stock shortage) topology before verdict is none same r = absurd r.reads
-unread old new go name (Unbuilt missing) topology before verdict is none same r = absurd r.reads
 
 -- ---- the file was read
 
@@ -127,7 +126,7 @@ checked_only old new wanted topology before verdict (inr r) same asked telling =
 -- `flow` reads no file
 pub came_by_flow : (old new : OutsideSeen) (boxes : Boxes) (source prefix : List ℕ) (wanted : Topology) (topology : Option Topology) (before : History) (verdict : Verdict)
     → wanted ≡ flow_topology_of source prefix
-    → ComesBy old new (run_case boxes 1 report_alone wanted) (opening_calls (run_case boxes 1 report_alone wanted)) topology before verdict
+    → ComesBy old new (run_case boxes report_alone wanted) (opening_calls (run_case boxes report_alone wanted)) topology before verdict
     → Came old new (Some (Flow source prefix)) boxes topology before verdict
 came_by_flow old new boxes source prefix wanted topology before verdict is x = record {
   file = [];
@@ -199,13 +198,13 @@ check_unread old new boxes name refusal topology before verdict r is none clock 
 
 pub run_came : (old : OutsideSeen) (middle : EdgesSeen) (new : OutsideSeen) (boxes : Boxes) (name : List ℕ) (workers : ℕ) (acks steps : Bool) (wanted : Topology) (topology : Option Topology) (before : History) (verdict : Verdict)
     → ReadsFile old.edges middle name topology_of_file (Ok wanted)
-    → ComesBy (record old { edges = middle }) new (run_case boxes workers (record { steps = steps; acks = acks }) wanted)
-    (opening_calls (run_case boxes workers (record { steps = steps; acks = acks }) wanted)) topology before verdict
+    → ComesBy (record old { edges = middle }) new (run_case boxes (record { steps = steps; acks = acks }) wanted)
+    (opening_calls (run_case boxes (record { steps = steps; acks = acks }) wanted)) topology before verdict
     → Came old new (Some (Run name workers acks steps)) boxes topology before verdict
 run_came old middle new boxes name workers acks steps wanted topology before verdict r x = record {
   file = r.file;
   is_file = r.is_file;
-  comes = loaded old middle new (run_case boxes workers (record { steps = steps; acks = acks })) name wanted topology before verdict r x;
+  comes = loaded old middle new (run_case boxes (record { steps = steps; acks = acks })) name wanted topology before verdict r x;
 }
 
 pub run_unread : (old new : OutsideSeen) (boxes : Boxes) (name : List ℕ) (workers : ℕ) (acks steps : Bool) (refusal : Refusal) (topology : Option Topology) (before : History) (verdict : Verdict)
@@ -215,7 +214,7 @@ pub run_unread : (old new : OutsideSeen) (boxes : Boxes) (name : List ℕ) (work
 run_unread old new boxes name workers acks steps refusal topology before verdict r is none clock same = record {
   file = r.file;
   is_file = r.is_file;
-  comes = unread old new (run_case boxes workers (record { steps = steps; acks = acks })) name refusal topology before verdict is none
+  comes = unread old new (run_case boxes (record { steps = steps; acks = acks })) name refusal topology before verdict is none
       (untouched old new name (Err refusal) r clock same) r;
 }
 
@@ -228,7 +227,6 @@ reads_as expected name fault (Err Memory) r = tt
 reads_as expected name fault (Err (Edge other)) r = absurd r.1
 reads_as expected name fault (Err Usage) r = absurd r
 reads_as expected name fault (Err (Stock shortage)) r = absurd r
-reads_as expected name fault (Err (Unbuilt missing)) r = absurd r
 
 asked_file : (result : Result Topology Refusal) (call : EdgeKind × List ℕ) (asked asked' : List (EdgeKind × List ℕ)) → asked' ≡ asked ++ call ∷ [] → AskedFile result call asked asked'
 asked_file (Ok t) call asked asked' is = is
@@ -237,7 +235,6 @@ asked_file (Err (NoTopology f)) call asked asked' is = is
 asked_file (Err (Edge other)) call asked asked' is = is
 asked_file (Err Usage) call asked asked' is = is
 asked_file (Err (Stock shortage)) call asked asked' is = is
-asked_file (Err (Unbuilt missing)) call asked asked' is = is
 
 -- what a call that reads leaves of the edges
 pub record LeavesEdges (old new : EdgesSeen) : Type 0 where

@@ -1,5 +1,5 @@
 -- Which statuses a run has.
-use Rattle.std.proofs.Common.{◌≡◌, ◌≤◌, ℕ, Bool, true, false, ◌∙◌, arith}
+use Rattle.std.proofs.Common.{◌≤◌, ℕ, Bool, true, false, arith}
 use Rattle.std.specs.List.{list_any}
 use Rattle.pipe_types.specs.declared.topology.Topology.{Topology}
 use Rattle.pipe_model.specs.History.{History}

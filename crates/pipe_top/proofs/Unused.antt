@@ -1,6 +1,6 @@
 -- What a call comes to that uses nothing of its outside.
-use Rattle.std.proofs.Common.{◌≡◌, ℕ, List, [], ◌++◌, Option, Some, None, refl, sym, ◌∙◌, ap, inl, inr, arith}
-use Rattle.std.specs.Prelude.{◌≤◌, IsTrue, length, slice_get}
+use Rattle.std.proofs.Common.{◌≡◌, ℕ, List, [], Option, Some, None, refl, sym, inl, inr, arith}
+use Rattle.std.specs.Prelude.{IsTrue, slice_get}
 use Rattle.std.proofs.lemmas.List.{append-nil}
 use Rattle.pipe_types.specs.declared.topology.Topology.{Topology}
 use Rattle.pipe_model.specs.History.{History}
@@ -9,7 +9,7 @@ use Rattle.stage_bodies.specs.Seen.{BoxSeen}
 use Rattle.stage_bodies.specs.Jobs.{Both}
 use Rattle.box_stock.specs.Lends.{IsSameBox}
 use Rattle.pipe_run.specs.Boxes.{AreSameBoxes}
-use Rattle.pipe_top.specs.Cases.{Case, NoCommand, NoTopology, TooFew, NotBuilt, Checks, Runs}
+use Rattle.pipe_top.specs.Cases.{Case, NoCommand, NoTopology, TooFew, Checks, Runs}
 use Rattle.pipe_top.specs.Runs.{OutsideSeen, IsUntouched, IsOutsideOf, Asks}
 use Rattle.pipe_top.specs.Flows.{ComesBy}
 use Rattle.pipe_top.specs.declared.verdict.Refusal.TheVariants.{Memory}
@@ -32,7 +32,6 @@ pub outside_of_none : (memory : Type 0) (before : History) (case : Case) (old ne
 outside_of_none memory before NoCommand old new u = u
 outside_of_none memory before (NoTopology fault) old new u = u
 outside_of_none memory before (TooFew shortage) old new u = u
-outside_of_none memory before (NotBuilt missing) old new u = u
 outside_of_none memory before (Checks wanted) old new u = u
 outside_of_none memory before (Runs shows wanted) old new u = record {
   edges = inr (inl (u.sources, u.sinks));

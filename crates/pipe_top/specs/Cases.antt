@@ -10,18 +10,15 @@ use Rattle.program_words.specs.Words.{Command, Flow, Check, Run}
 use Rattle.edge_names.specs.Controls.{run_calls}
 use Rattle.topology_needs.specs.declared.stock.Boxes.{Boxes}
 use Rattle.topology_needs.specs.declared.stock.Shortage.{Shortage}
-use Rattle.topology_needs.specs.declared.unbuilt.Unbuilt.{Unbuilt}
 use Rattle.topology_needs.specs.Needs.{shortage_of}
-use Rattle.topology_needs.specs.Unbuilt.{unbuilt_of}
 use Rattle.pipe_top.specs.declared.verdict.Shows.{Shows}
 
--- the words are no command; the file is no topology; the stock has too few boxes of a kind; so many workers are not built;
--- the topology is only checked; or it runs, and shows these texts
+-- the words are no command; the file is no topology; the stock has too few boxes of a kind; the topology is only checked; or it
+-- runs, and shows these texts
 pub data Case : Type 0 where
   NoCommand : Case
   NoTopology : ConfigFault → Case
   TooFew : Shortage → Case
-  NotBuilt : Unbuilt → Case
   Checks : Topology → Case
   Runs : Shows → Topology → Case
 
@@ -34,13 +31,9 @@ abbrev pub unless_short : Option Shortage → Case → Case
 unless_short None case = case
 unless_short (Some shortage) case = TooFew shortage
 
-abbrev pub unless_unbuilt : Option Unbuilt → Case → Case
-unless_unbuilt None case = case
-unless_unbuilt (Some missing) case = NotBuilt missing
-
--- it runs where the stock has enough boxes of each kind and so many workers are built
-abbrev pub run_case : Boxes → (workers : ℕ) → Shows → Topology → Case
-run_case boxes workers shows topology = unless_short (shortage_of topology boxes) (unless_unbuilt (unbuilt_of workers) (Runs shows topology))
+-- it runs where the stock has enough boxes of each kind
+abbrev pub run_case : Boxes → Shows → Topology → Case
+run_case boxes shows topology = unless_short (shortage_of topology boxes) (Runs shows topology)
 
 -- only the report
 abbrev pub report_alone : Shows
@@ -49,9 +42,9 @@ report_alone = record { steps = false; acks = false }
 -- `flow` has a topology of its own; `check` and `run` have that of the file
 abbrev pub case_of : Option Command → (file : List ℕ) → Boxes → Case
 case_of None file boxes = NoCommand
-case_of (Some (Flow source prefix)) file boxes = run_case boxes 1 report_alone (flow_topology_of source prefix)
+case_of (Some (Flow source prefix)) file boxes = run_case boxes report_alone (flow_topology_of source prefix)
 case_of (Some (Check path)) file boxes = for_topology (topology_of_file file) Checks
-case_of (Some (Run path workers acks steps)) file boxes = for_topology (topology_of_file file) (run_case boxes workers (record { steps = steps; acks = acks }))
+case_of (Some (Run path workers acks steps)) file boxes = for_topology (topology_of_file file) (run_case boxes (record { steps = steps; acks = acks }))
 
 -- ---- names
 

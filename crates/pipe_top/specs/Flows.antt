@@ -1,5 +1,5 @@
 -- What the parts of a call come to.
-use Rattle.std.specs.Prelude.{◌≡◌, ◌≤◌, ◌⊎◌, Bool, true, false, ℕ, List, [], ◌∷◌, ◌++◌, length, IsTrue, Option, Some, None, Result, Ok, Err}
+use Rattle.std.specs.Prelude.{◌≡◌, ◌≤◌, ◌⊎◌, ℕ, List, [], ◌∷◌, ◌++◌, length, IsTrue, Option, Some, None, Result, Ok, Err}
 use Rattle.pipe_types.specs.Counts.{Rose}
 use Rattle.pipe_types.specs.Sound.{IsSound}
 use Rattle.pipe_types.specs.declared.topology.Topology.{Topology}
@@ -13,12 +13,11 @@ use Rattle.edge_names.specs.Seen.{EdgesSeen}
 use Rattle.topology_needs.specs.Needs.{subscriptions_of}
 use Rattle.topology_needs.specs.declared.stock.Boxes.{Boxes}
 use Rattle.topology_needs.specs.declared.stock.Shortage.{Shortage}
-use Rattle.topology_needs.specs.declared.unbuilt.Unbuilt.{Unbuilt as Missing}
-use Rattle.pipe_top.specs.Cases.{Case, NoCommand, NoTopology as BadTopology, TooFew, NotBuilt, Checks, Runs, case_of, calls_of, file_name, IsNamedFile}
+use Rattle.pipe_top.specs.Cases.{Case, NoCommand, NoTopology as BadTopology, TooFew, Checks, Runs, case_of, calls_of, file_name, IsNamedFile}
 use Rattle.pipe_top.specs.Verdicts.{whole_text}
 use Rattle.pipe_top.specs.Runs.{OutsideSeen, IsEnded, IsRun, IsOutsideOf, Asks, FailsAt, run_text}
 use Rattle.pipe_top.specs.declared.verdict.Refusal.{Refusal}
-use Rattle.pipe_top.specs.declared.verdict.Refusal.TheVariants.{Usage, Topology as NoTopology, Stock, Unbuilt, Edge, Memory}
+use Rattle.pipe_top.specs.declared.verdict.Refusal.TheVariants.{Usage, Topology as NoTopology, Stock, Edge, Memory}
 use Rattle.pipe_top.specs.declared.verdict.Shows.{Shows}
 use Rattle.pipe_top.specs.declared.verdict.Texts.{Texts}
 use Rattle.pipe_top.specs.declared.verdict.Verdict.{Verdict}
@@ -72,7 +71,6 @@ abbrev pub ComesTo : Case → Option Topology → History → Verdict → Type 0
 ComesTo NoCommand topology before verdict = IsRefusedBy Usage topology before verdict
 ComesTo (BadTopology fault) topology before verdict = IsRefusedBy (NoTopology fault) topology before verdict
 ComesTo (TooFew shortage) topology before verdict = IsRefusedBy (Stock shortage) topology before verdict
-ComesTo (NotBuilt missing) topology before verdict = IsRefusedBy (Unbuilt missing) topology before verdict
 ComesTo (Checks wanted) topology before verdict = IsChecked wanted topology before verdict
 ComesTo (Runs shows wanted) topology before verdict = IsRunOn shows wanted topology before verdict
 
@@ -81,10 +79,9 @@ abbrev pub Outcome : Case → (fails : List ℕ → Type 0) → Option Topology 
 Outcome case fails topology before verdict = IsEarly fails topology before verdict ⊎ ComesTo case topology before verdict
 
 -- the refusal of a topology that does not run
-abbrev pub refusal_in : Option Shortage → Option Missing → Option Refusal
-refusal_in (Some shortage) missing = Some (Stock shortage)
-refusal_in None (Some missing) = Some (Unbuilt missing)
-refusal_in None None = None
+abbrev pub refusal_in : Option Shortage → Option Refusal
+refusal_in (Some shortage) = Some (Stock shortage)
+refusal_in None = None
 
 -- which calls were made: some of them where memory was wanting; else all, but for one that failed
 abbrev pub AskedBy : Verdict → (calls asked asked' : List (EdgeKind × List ℕ)) → Type 0

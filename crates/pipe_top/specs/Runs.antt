@@ -7,7 +7,6 @@ use Rattle.pipe_types.specs.declared.step.SourceHow.TheVariants.{End}
 use Rattle.pipe_types.specs.declared.step.Step.{Step}
 use Rattle.pipe_types.specs.declared.step.Step.TheVariants.{Drain}
 use Rattle.pipe_types.specs.declared.topology.Topology.{Topology}
-use Rattle.pipe_types.specs.Stages.{spec_of}
 use Rattle.pipe_model.specs.History.{History}
 use Rattle.pipe_model.specs.Legal.{happened, is_halt, has_role, is_producer_role}
 use Rattle.pipe_model.specs.Outside.{source_end}
@@ -16,10 +15,9 @@ use Rattle.config_table.specs.Fault.{number_of}
 use Rattle.journal_texts.specs.Steps.{journal_text}
 use Rattle.journal_texts.specs.Report.{report_text, status_of}
 use Rattle.journal_texts.specs.Acks.{ack_text}
-use Rattle.program_words.specs.Refusals.{usage_line, topology_line, unbuilt_line, stock_line, edge_line, memory_line, counts_line}
+use Rattle.program_words.specs.Refusals.{usage_line, topology_line, stock_line, edge_line, memory_line, counts_line}
 use Rattle.program_words.specs.Words.{Command}
 use Rattle.topology_needs.specs.Needs.{subscriptions_of}
-use Rattle.topology_needs.specs.Unbuilt.{word_of}
 use Rattle.source_lines.specs.Cut.{HasShortLines}
 use Rattle.run_claims.specs.Kept.{KeepsClaims}
 use Rattle.run_claims.specs.Followed.{FollowsMoves}
@@ -30,7 +28,7 @@ use Rattle.edge_names.specs.Seen.{EdgesSeen}
 use Rattle.pipe_run.specs.Boxes.{AreBoxesLeft, AreSameBoxes}
 use Rattle.pipe_run.specs.Outside.{IsOutside, IsUnopened}
 use Rattle.pipe_run.specs.Whole.{HasCome, IsTimeOf}
-use Rattle.pipe_top.specs.Cases.{calls_of, Case, NoCommand, NoTopology, TooFew, NotBuilt, Checks, Runs}
+use Rattle.pipe_top.specs.Cases.{calls_of, Case, NoCommand, NoTopology, TooFew, Checks, Runs}
 use Rattle.pipe_top.specs.Verdicts.{Adds, AddsPrefix, path_of}
 use Rattle.pipe_top.specs.declared.verdict.Shows.{Shows}
 
@@ -90,7 +88,6 @@ abbrev pub case_line : Case → List ℕ
 case_line NoCommand = usage_line
 case_line (NoTopology fault) = topology_line (number_of fault) (path_of fault)
 case_line (TooFew shortage) = stock_line shortage.kind shortage.need shortage.have
-case_line (NotBuilt missing) = unbuilt_line (word_of missing)
 case_line (Checks topology) = []
 case_line (Runs shows topology) = []
 
@@ -105,10 +102,10 @@ abbrev pub IsEndStatus : ℕ → Type 0
 IsEndStatus status = status ≤ 4
 
 abbrev pub IsRefusalStatus : ℕ → Type 0
-IsRefusalStatus status = (status ≡ 5) ⊎ ((status ≡ 6) ⊎ ((status ≡ 7) ⊎ (status ≡ 10)))
+IsRefusalStatus status = (status ≡ 5) ⊎ ((status ≡ 6) ⊎ (status ≡ 7))
 
 abbrev pub IsUnopenedStatus : ℕ → Type 0
-IsUnopenedStatus status = (status ≡ 6) ⊎ ((status ≡ 7) ⊎ (status ≡ 10))
+IsUnopenedStatus status = (status ≡ 6) ⊎ (status ≡ 7)
 
 -- this status, unless a write failed or memory was wanting
 abbrev pub IsOr : (wanted status : ℕ) → Type 0
@@ -119,7 +116,6 @@ abbrev pub IsStatusOf : (status : ℕ) → Case → Type 0
 IsStatusOf status NoCommand = status ≡ 7
 IsStatusOf status (NoTopology fault) = status ≡ 6
 IsStatusOf status (TooFew shortage) = status ≡ 6
-IsStatusOf status (NotBuilt missing) = status ≡ 10
 IsStatusOf status (Checks topology) = status ≡ 0
 IsStatusOf status (Runs shows topology) = IsEndStatus status
 

@@ -3,10 +3,9 @@ use Rattle.std.specs.Prelude.{◌≡◌, ℕ, List, [], ◌++◌, take, Option, 
 use Rattle.config_table.specs.declared.fault.ConfigFault.{ConfigFault}
 use Rattle.config_table.specs.declared.fault.ConfigFault.TheVariants.{NotToml, Version, UnknownKey, Missing, WrongType, OutOfRange, DuplicateName, UnknownBatcher, NoStage, TooManyStages, BadDispatch, Unreachable, OutOfMemory}
 use Rattle.config_table.specs.Fault.{number_of}
-use Rattle.program_words.specs.Refusals.{usage_line, topology_line, unbuilt_line, stock_line, edge_line, memory_line}
-use Rattle.topology_needs.specs.Unbuilt.{word_of}
+use Rattle.program_words.specs.Refusals.{usage_line, topology_line, stock_line, edge_line, memory_line}
 use Rattle.pipe_top.specs.declared.verdict.Refusal.{Refusal}
-use Rattle.pipe_top.specs.declared.verdict.Refusal.TheVariants.{Usage, Topology as NoTopology, Stock, Unbuilt, Edge, Memory}
+use Rattle.pipe_top.specs.declared.verdict.Refusal.TheVariants.{Usage, Topology as NoTopology, Stock, Edge, Memory}
 use Rattle.pipe_top.specs.declared.verdict.Texts.{Texts}
 use Rattle.pipe_top.specs.declared.verdict.Verdict.{Verdict}
 use Rattle.pipe_top.specs.declared.verdict.Verdict.TheVariants.{Refused, Done}
@@ -40,7 +39,6 @@ abbrev pub refusal_text : Refusal → List ℕ
 refusal_text Usage = usage_line
 refusal_text (NoTopology fault) = topology_line (number_of fault) (path_of fault)
 refusal_text (Stock shortage) = stock_line shortage.kind shortage.need shortage.have
-refusal_text (Unbuilt missing) = unbuilt_line (word_of missing)
 refusal_text (Edge name) = edge_line name
 refusal_text Memory = memory_line
 
@@ -48,7 +46,6 @@ abbrev pub refusal_status : Refusal → ℕ
 refusal_status Usage = 7
 refusal_status (NoTopology fault) = 6
 refusal_status (Stock shortage) = 6
-refusal_status (Unbuilt missing) = 10
 refusal_status (Edge name) = 5
 refusal_status Memory = 9
 

@@ -54,9 +54,10 @@ fn topology_in(alloc: Global, bytes: &Bytes) -> Result<Topology, Refusal>
 }
 
 /// The counts of a topology that is only checked.
-pub(crate) fn checked<C>(alloc: Global, topology: Topology, stock: Vec<C>) -> Ran<C>
+pub(crate) fn checked<C, K>(alloc: Global, topology: Topology, stock: Vec<C>, clock: K) -> Ran<C, K>
     requires sound { IsSound topology }
     ensures same_boxes { result.stock.items ≡ stock.items }
+    ensures same_clock { result.clock ≡ clock }
     ensures checked { IsCheckedOrNot topology result.topology result.journal.steps result.verdict }
 {
     let stages = topology.stages.as_slice().len();
@@ -73,7 +74,8 @@ pub(crate) fn checked<C>(alloc: Global, topology: Topology, stock: Vec<C>) -> Ra
             topology: Some(topology),
             journal: Journal::new(alloc),
             stock,
+            clock,
         },
-        Err(_) => refused(alloc, Refusal::Memory, stock),
+        Err(_) => refused(alloc, Refusal::Memory, stock, clock),
     }
 }

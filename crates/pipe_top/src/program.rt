@@ -11,7 +11,6 @@ ghost use Rattle.pipe_top.specs.Cases.{InCase};
 ghost use Rattle.pipe_top.specs.Verdicts.{AddsPrefix};
 ghost use Rattle.pipe_top.specs.Runs.{IsRunOrNone, IsCall, IsRefusalStatus, IsUnopenedStatus, IsOr};
 ghost use Rattle.pipe_top.specs.Flows.{Came};
-ghost use Rattle.stage_moves.specs.Clocks.{ClockSeen};
 ghost use Rattle.topology_needs.specs.declared.stock.Boxes.{Boxes};
 
 use crate::file::{checked, read_named};
@@ -27,6 +26,7 @@ use program_words::{Command, FlowWords, RunWords, read_words};
 use stage_bodies::Houses;
 use std::alloc::Global;
 use std::sync::Wait;
+use std::thread::Threads;
 
 /// What a call came to: its status, the topology and the journal of its run, and the clock and the boxes that it was
 /// given, these in their order.
@@ -42,10 +42,10 @@ pub struct RunEnd<C, K> {
 /// Runs the command that the words are. What its topology file, if it names one, and the stock come to is its case. Where the
 /// topology has no idle limit, a run may wait for its sources for ever.
 pub fn run_program<
-    R: Wait,
+    R: Threads + Wait + Sync,
     E: Edges,
     C: Boxed,
-    B: Carries<C> + Houses<E::Source, E::Sink>,
+    B: Carries<C> + Houses<E::Source, E::Sink> + Send,
     K: Clock + Send + Drop,
 >(
     rt: &R,
@@ -57,7 +57,7 @@ pub fn run_program<
     out: &mut E::Out,
     err: &mut E::Out,
 ) -> RunEnd<C, K>
-    ensures known { result.status ≤ 10 }
+    ensures known { result.status ≤ 9 }
     // The journal is legal and keeps every claim, and each step of its own accord was the next move.
     ensures run { IsRunOrNone result.topology result.journal.steps }
     // What the call comes to in the case of its words, of the bytes of their topology file, and of the stock.
@@ -72,19 +72,19 @@ pub fn run_program<
     ensures no_command { command_of (texts_of words.now.items) ≡ None → IsOr 7 result.status }
     ensures output_fault { result.status ≡ 8 → Rose (E.Out.faults out.old) (E.Out.faults out.new) ⊎ Rose (E.Out.faults err.old) (E.Out.faults err.new) }
     ensures memory { result.status ≡ 9 → IsTrue (E.Out.told err.old) → AddsPrefix (E.Out.held err.old) (E.Out.held err.new) memory_line }
-    // Under 5, 6, 7 and 10 there is no run, and nothing was written to the output; but for 5 nothing was opened.
+    // Under 5, 6 and 7 there is no run, and nothing was written to the output; but for 5 nothing was opened.
     ensures no_run { IsRefusalStatus result.status → (result.topology ≡ None) × (result.journal.steps ≡ []) }
     ensures not_opened { IsUnopenedStatus result.status → ((⟦<E as SeenEdges>⟧.seen edges.new).sources_back ≡ (⟦<E as SeenEdges>⟧.seen edges.old).sources_back)
         × ((⟦<E as SeenEdges>⟧.seen edges.new).sinks_back ≡ (⟦<E as SeenEdges>⟧.seen edges.old).sinks_back) }
     ensures no_output { IsRefusalStatus result.status → IsTrue (E.Out.told out.old) → E.Out.held out.new ≡ E.Out.held out.old }
 {
-    let mut clock = clock;
     let Ran {
         verdict,
         topology,
         journal,
         stock,
-    } = run_words::<R, E, C, B, K>(rt, alloc, words, stock, edges, &mut clock);
+        clock,
+    } = run_words::<R, E, C, B, K>(rt, alloc, words, stock, edges, clock);
     let status = write_verdict(alloc, &verdict, out, err);
     RunEnd {
         status,
@@ -96,48 +96,46 @@ pub fn run_program<
 }
 
 /// Runs the command that the words are, and answers what it came to.
-fn run_words<R: Wait, E: Edges, C: Boxed, B: Carries<C> + Houses<E::Source, E::Sink>, K: Clock>(
-    rt: &R,
-    alloc: Global,
-    words: &Vec<String>,
-    stock: Vec<C>,
-    edges: &mut E,
-    clock: &mut K,
-) -> Ran<C>
+fn run_words<
+    R: Threads + Wait + Sync,
+    E: Edges,
+    C: Boxed,
+    B: Carries<C> + Houses<E::Source, E::Sink> + Send,
+    K: Clock + Send + Drop,
+>(rt: &R, alloc: Global, words: &Vec<String>, stock: Vec<C>, edges: &mut E, clock: K) -> Ran<C, K>
     ensures came { Came
-        (record { edges = ⟦<E as SeenEdges>⟧.seen edges.old; clock = clock_seen K.latest K.readings clock.old; boxes = map C.seen stock.items })
-        (record { edges = ⟦<E as SeenEdges>⟧.seen edges.new; clock = clock_seen K.latest K.readings clock.new; boxes = map C.seen result.stock.items })
+        (record { edges = ⟦<E as SeenEdges>⟧.seen edges.old; clock = clock_seen K.latest K.readings clock; boxes = map C.seen stock.items })
+        (record { edges = ⟦<E as SeenEdges>⟧.seen edges.new; clock = clock_seen K.latest K.readings result.clock; boxes = map C.seen result.stock.items })
         (command_of (texts_of words.now.items)) (boxes_in (kinds_of C.seen stock.items)) result.topology result.journal.steps result.verdict }
 {
     match read_words(alloc, words.as_slice()) {
         Ok(Some(Command::Flow(words))) => run_flow::<R, E, C, B, K>(
             rt, alloc, words, stock, edges, clock,
         ),
-        Ok(Some(Command::Check(path))) => check_file(alloc, path, stock, edges),
+        Ok(Some(Command::Check(path))) => check_file(alloc, path, stock, edges, clock),
         Ok(Some(Command::Run(words))) => run_file::<R, E, C, B, K>(
             rt, alloc, words, stock, edges, clock,
         ),
-        Ok(None) => refused(alloc, Refusal::Usage, stock),
-        Err(_) => refused(alloc, Refusal::Memory, stock),
+        Ok(None) => refused(alloc, Refusal::Usage, stock, clock),
+        Err(_) => refused(alloc, Refusal::Memory, stock, clock),
     }
 }
 
 /// Runs the topology of `flow`, and writes the report alone.
-fn run_flow<R: Wait, E: Edges, C: Boxed, B: Carries<C> + Houses<E::Source, E::Sink>, K: Clock>(
-    rt: &R,
-    alloc: Global,
-    words: FlowWords<'_>,
-    stock: Vec<C>,
-    edges: &mut E,
-    clock: &mut K,
-) -> Ran<C>
+fn run_flow<
+    R: Threads + Wait + Sync,
+    E: Edges,
+    C: Boxed,
+    B: Carries<C> + Houses<E::Source, E::Sink> + Send,
+    K: Clock + Send + Drop,
+>(rt: &R, alloc: Global, words: FlowWords<'_>, stock: Vec<C>, edges: &mut E, clock: K) -> Ran<C, K>
     ensures came { Came
-        (record { edges = ⟦<E as SeenEdges>⟧.seen edges.old; clock = clock_seen K.latest K.readings clock.old; boxes = map C.seen stock.items })
-        (record { edges = ⟦<E as SeenEdges>⟧.seen edges.new; clock = clock_seen K.latest K.readings clock.new; boxes = map C.seen result.stock.items })
+        (record { edges = ⟦<E as SeenEdges>⟧.seen edges.old; clock = clock_seen K.latest K.readings clock; boxes = map C.seen stock.items })
+        (record { edges = ⟦<E as SeenEdges>⟧.seen edges.new; clock = clock_seen K.latest K.readings result.clock; boxes = map C.seen result.stock.items })
         (Some (Flow words.entry.source.now words.entry.prefix.now)) (boxes_in (kinds_of C.seen stock.items)) result.topology result.journal.steps result.verdict }
 {
     let Ok(topology) = flow_topology(alloc, words.source, words.prefix) else {
-        return refused(alloc, Refusal::Memory, stock);
+        return refused(alloc, Refusal::Memory, stock, clock);
     };
     let shows = Shows {
         steps: false,
@@ -147,30 +145,35 @@ fn run_flow<R: Wait, E: Edges, C: Boxed, B: Carries<C> + Houses<E::Source, E::Si
 }
 
 /// Reads the topology file of `check`, and counts.
-fn check_file<E: Edges, C: Boxed>(alloc: Global, path: &str, stock: Vec<C>, edges: &mut E) -> Ran<C>
-    ensures came { (boxes : Boxes) (clock : ClockSeen) → Came
-        (record { edges = ⟦<E as SeenEdges>⟧.seen edges.old; clock = clock; boxes = map C.seen stock.items })
-        (record { edges = ⟦<E as SeenEdges>⟧.seen edges.new; clock = clock; boxes = map C.seen result.stock.items })
+fn check_file<E: Edges, C: Boxed, K: Clock>(
+    alloc: Global,
+    path: &str,
+    stock: Vec<C>,
+    edges: &mut E,
+    clock: K,
+) -> Ran<C, K>
+    ensures came { (boxes : Boxes) → Came
+        (record { edges = ⟦<E as SeenEdges>⟧.seen edges.old; clock = clock_seen K.latest K.readings clock; boxes = map C.seen stock.items })
+        (record { edges = ⟦<E as SeenEdges>⟧.seen edges.new; clock = clock_seen K.latest K.readings result.clock; boxes = map C.seen result.stock.items })
         (Some (Check path.now)) boxes result.topology result.journal.steps result.verdict }
 {
     match read_named(alloc, path, edges) {
-        Ok(topology) => checked(alloc, topology, stock),
-        Err(refusal) => refused(alloc, refusal, stock),
+        Ok(topology) => checked(alloc, topology, stock, clock),
+        Err(refusal) => refused(alloc, refusal, stock, clock),
     }
 }
 
 /// Reads the topology file of `run`, and runs its topology.
-fn run_file<R: Wait, E: Edges, C: Boxed, B: Carries<C> + Houses<E::Source, E::Sink>, K: Clock>(
-    rt: &R,
-    alloc: Global,
-    words: RunWords<'_>,
-    stock: Vec<C>,
-    edges: &mut E,
-    clock: &mut K,
-) -> Ran<C>
+fn run_file<
+    R: Threads + Wait + Sync,
+    E: Edges,
+    C: Boxed,
+    B: Carries<C> + Houses<E::Source, E::Sink> + Send,
+    K: Clock + Send + Drop,
+>(rt: &R, alloc: Global, words: RunWords<'_>, stock: Vec<C>, edges: &mut E, clock: K) -> Ran<C, K>
     ensures came { Came
-        (record { edges = ⟦<E as SeenEdges>⟧.seen edges.old; clock = clock_seen K.latest K.readings clock.old; boxes = map C.seen stock.items })
-        (record { edges = ⟦<E as SeenEdges>⟧.seen edges.new; clock = clock_seen K.latest K.readings clock.new; boxes = map C.seen result.stock.items })
+        (record { edges = ⟦<E as SeenEdges>⟧.seen edges.old; clock = clock_seen K.latest K.readings clock; boxes = map C.seen stock.items })
+        (record { edges = ⟦<E as SeenEdges>⟧.seen edges.new; clock = clock_seen K.latest K.readings result.clock; boxes = map C.seen result.stock.items })
         (Some (Run words.entry.topology.now words.entry.workers words.entry.acks words.entry.steps)) (boxes_in (kinds_of C.seen stock.items)) result.topology result.journal.steps result.verdict }
 {
     let shows = Shows {
@@ -188,6 +191,6 @@ fn run_file<R: Wait, E: Edges, C: Boxed, B: Carries<C> + Houses<E::Source, E::Si
             edges,
             clock,
         ),
-        Err(refusal) => refused(alloc, refusal, stock),
+        Err(refusal) => refused(alloc, refusal, stock, clock),
     }
 }

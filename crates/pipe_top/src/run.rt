@@ -2,14 +2,14 @@
 
 ghost use Rattle.std.specs.Prelude.{◌≡◌, ◌≢◌, ◌⊎◌, ◌≤◌, ◌++◌, [], true, false, Some, None, IfOk, is_ok, map};
 ghost use Rattle.pipe_types.specs.Sound.{IsSound};
-ghost use Rattle.pipe_model.specs.Places.{ArePlaces};
 ghost use Rattle.core_state.specs.Stands.{Stands};
 ghost use Rattle.stage_moves.specs.Clocks.{clock_seen};
 ghost use Rattle.edge_names.specs.Controls.{run_calls};
 ghost use Rattle.box_stock.specs.Homes.{Suffices};
 ghost use Rattle.box_stock.specs.Lends.{kinds_of};
 ghost use Rattle.topology_needs.specs.Needs.{boxes_in as boxes_by_kind, shortage_of};
-ghost use Rattle.topology_needs.specs.Unbuilt.{unbuilt_of};
+ghost use Rattle.journal_texts.specs.Acks.{ack_text as text_of_acks};
+ghost use Rattle.journal_texts.specs.Report.{places as places_in, report_text as text_of_report};
 ghost use Rattle.pipe_run.specs.Whole.{HasCome};
 ghost use Rattle.pipe_top.specs.Cases.{Runs, run_case, opening_calls};
 ghost use Rattle.pipe_top.specs.Verdicts.{whole_text};
@@ -27,43 +27,48 @@ use journal_texts::status::status;
 use pipe_edges::{Clock, Edges};
 use pipe_journal::Journal;
 use pipe_run::{Ended, NoRun, Run, run_topology};
-use pipe_types::state::PlaceList;
+use pipe_types::bytes::Bytes;
+use pipe_types::message::Place;
 use pipe_types::topology::Topology;
 use stage_bodies::Houses;
 use std::alloc::{AllocError, Global};
 use std::sync::Wait;
-use topology_needs::{Boxes, first_unbuilt, shortage};
+use std::thread::Threads;
+use topology_needs::{Boxes, shortage};
 
-/// What a call came to, with the topology and the journal of its run, if there was one, and the boxes in their order.
+/// What a call came to, with the topology and the journal of its run, if there was one, the boxes in their order, and the clock.
 #[derive(Drop)]
-pub(crate) struct Ran<C> {
+pub(crate) struct Ran<C, K> {
     pub(crate) verdict: Verdict,
     pub(crate) topology: Option<Topology>,
     pub(crate) journal: Journal,
     pub(crate) stock: Vec<C>,
+    pub(crate) clock: K,
 }
 
 /// No run, for this reason.
-pub(crate) fn refused<C>(alloc: Global, refusal: Refusal, stock: Vec<C>) -> Ran<C>
+pub(crate) fn refused<C, K>(alloc: Global, refusal: Refusal, stock: Vec<C>, clock: K) -> Ran<C, K>
     ensures verdict { result.verdict ≡ Verdict.Refused refusal }
     ensures no_run { (result.topology ≡ None) × (result.journal.steps ≡ []) }
     ensures same_boxes { result.stock.items ≡ stock.items }
+    ensures same_clock { result.clock ≡ clock }
 {
     Ran {
         verdict: Verdict::Refused(refusal),
         topology: None,
         journal: Journal::new(alloc),
         stock,
+        clock,
     }
 }
 
 /// Runs the topology on so many workers with callbacks of the stock, if it can run.
 pub(crate) fn run_or_refuse<
-    R: Wait,
+    R: Threads + Wait + Sync,
     E: Edges,
     C: Boxed,
-    B: Carries<C> + Houses<E::Source, E::Sink>,
-    K: Clock,
+    B: Carries<C> + Houses<E::Source, E::Sink> + Send,
+    K: Clock + Send + Drop,
 >(
     rt: &R,
     alloc: Global,
@@ -72,62 +77,68 @@ pub(crate) fn run_or_refuse<
     shows: Shows,
     stock: Vec<C>,
     edges: &mut E,
-    clock: &mut K,
-) -> Ran<C>
+    clock: K,
+) -> Ran<C, K>
     requires sound { IsSound topology }
     ensures comes { ComesBy
-        (record { edges = ⟦<E as SeenEdges>⟧.seen edges.old; clock = clock_seen K.latest K.readings clock.old; boxes = map C.seen stock.items })
-        (record { edges = ⟦<E as SeenEdges>⟧.seen edges.new; clock = clock_seen K.latest K.readings clock.new; boxes = map C.seen result.stock.items })
-        (run_case (boxes_by_kind (kinds_of C.seen stock.items)) workers shows topology)
-        (opening_calls (run_case (boxes_by_kind (kinds_of C.seen stock.items)) workers shows topology)) result.topology result.journal.steps result.verdict }
+        (record { edges = ⟦<E as SeenEdges>⟧.seen edges.old; clock = clock_seen K.latest K.readings clock; boxes = map C.seen stock.items })
+        (record { edges = ⟦<E as SeenEdges>⟧.seen edges.new; clock = clock_seen K.latest K.readings result.clock; boxes = map C.seen result.stock.items })
+        (run_case (boxes_by_kind (kinds_of C.seen stock.items)) shows topology)
+        (opening_calls (run_case (boxes_by_kind (kinds_of C.seen stock.items)) shows topology)) result.topology result.journal.steps result.verdict }
 {
-    match refusal_of(&topology, workers, &boxes_in(stock.as_slice())) {
-        Some(refusal) => refused(alloc, refusal, stock),
-        None => run_built::<R, E, C, B, K>(rt, alloc, topology, shows, stock, edges, clock),
+    match refusal_of(&topology, &boxes_in(stock.as_slice())) {
+        Some(refusal) => refused(alloc, refusal, stock, clock),
+        None => run_supplied::<R, E, C, B, K>(
+            rt, alloc, topology, workers, shows, stock, edges, clock,
+        ),
     }
 }
 
-/// Why the topology cannot run on so many workers with these boxes.
-fn refusal_of(topology: &Topology, workers: u16, boxes: &Boxes) -> Option<Refusal>
+/// Why the topology cannot run with these boxes.
+fn refusal_of(topology: &Topology, boxes: &Boxes) -> Option<Refusal>
     requires sound { IsSound topology.now }
-    ensures refusal { result ≡ refusal_in (shortage_of topology.now boxes.now) (unbuilt_of workers) }
+    ensures refusal { result ≡ refusal_in (shortage_of topology.now boxes.now) }
 {
-    if let Some(shortage) = shortage(topology, boxes) {
-        return Some(Refusal::Stock(shortage));
-    }
-    let missing = first_unbuilt(workers)?;
-    Some(Refusal::Unbuilt(missing))
+    let shortage = shortage(topology, boxes)?;
+    Some(Refusal::Stock(shortage))
 }
 
-/// Runs a topology that can run.
-fn run_built<R: Wait, E: Edges, C: Boxed, B: Carries<C> + Houses<E::Source, E::Sink>, K: Clock>(
+/// Runs a topology for which the stock has enough boxes.
+fn run_supplied<
+    R: Threads + Wait + Sync,
+    E: Edges,
+    C: Boxed,
+    B: Carries<C> + Houses<E::Source, E::Sink> + Send,
+    K: Clock + Send + Drop,
+>(
     rt: &R,
     alloc: Global,
     topology: Topology,
+    workers: u16,
     shows: Shows,
     stock: Vec<C>,
     edges: &mut E,
-    clock: &mut K,
-) -> Ran<C>
+    clock: K,
+) -> Ran<C, K>
     requires sound { IsSound topology }
     requires suffices { Suffices topology (kinds_of C.seen stock.items) }
     ensures comes { ComesBy
-        (record { edges = ⟦<E as SeenEdges>⟧.seen edges.old; clock = clock_seen K.latest K.readings clock.old; boxes = map C.seen stock.items })
-        (record { edges = ⟦<E as SeenEdges>⟧.seen edges.new; clock = clock_seen K.latest K.readings clock.new; boxes = map C.seen result.stock.items })
+        (record { edges = ⟦<E as SeenEdges>⟧.seen edges.old; clock = clock_seen K.latest K.readings clock; boxes = map C.seen stock.items })
+        (record { edges = ⟦<E as SeenEdges>⟧.seen edges.new; clock = clock_seen K.latest K.readings result.clock; boxes = map C.seen result.stock.items })
         (Runs shows topology) (run_calls topology) result.topology result.journal.steps result.verdict }
 {
-    let Ended { run, stock } = run_topology::<R, E, C, B, K>(
-        rt, alloc, topology, stock, edges, clock,
+    let Ended { run, stock, clock } = run_topology::<R, E, C, B, K>(
+        rt, alloc, topology, workers, stock, edges, clock,
     );
     match run {
-        Ok(run) => conclude(alloc, run, shows, stock),
-        Err(NoRun::Unopened(name)) => refused(alloc, Refusal::Edge(name), stock),
-        Err(NoRun::OutOfMemory) => refused(alloc, Refusal::Memory, stock),
+        Ok(run) => conclude(alloc, run, shows, stock, clock),
+        Err(NoRun::Unopened(name)) => refused(alloc, Refusal::Edge(name), stock, clock),
+        Err(NoRun::OutOfMemory) => refused(alloc, Refusal::Memory, stock, clock),
     }
 }
 
 /// What the run comes to.
-fn conclude<C>(alloc: Global, run: Run, shows: Shows, stock: Vec<C>) -> Ran<C>
+fn conclude<C, K>(alloc: Global, run: Run, shows: Shows, stock: Vec<C>, clock: K) -> Ran<C, K>
     requires stands { Stands run.core }
     requires come { is_ok run.end ≡ true → HasCome run.core.topology run.core.journal.steps }
     ensures topology { result.topology ≡ Some run.core.topology }
@@ -135,6 +146,7 @@ fn conclude<C>(alloc: Global, run: Run, shows: Shows, stock: Vec<C>) -> Ran<C>
     ensures verdict { IsJudgement result.verdict shows run.core.topology run.core.journal.steps }
     ensures wanting { is_ok run.end ≡ false → result.verdict ≡ Verdict.Refused Refusal.Memory }
     ensures same_boxes { result.stock.items ≡ stock.items }
+    ensures same_clock { result.clock ≡ clock }
 {
     let Run { core, end } = run;
     let verdict = match end {
@@ -147,6 +159,7 @@ fn conclude<C>(alloc: Global, run: Run, shows: Shows, stock: Vec<C>) -> Ran<C>
         topology: Some(topology),
         journal,
         stock,
+        clock,
     }
 }
 
@@ -156,49 +169,55 @@ fn judge(alloc: Global, core: &Core, shows: Shows) -> Verdict
     requires come { HasCome core.now.topology core.now.journal.steps }
     ensures { IsJudgement result shows core.now.topology core.now.journal.steps }
 {
-    match core.places() {
-        Ok(places) => report(alloc, core, shows, &places),
-        Err(_) => Verdict::Refused(Refusal::Memory),
-    }
-}
-
-fn report(alloc: Global, core: &Core, shows: Shows, places: &PlaceList) -> Verdict
-    requires stands { Stands core.now }
-    requires come { HasCome core.now.topology core.now.journal.steps }
-    requires places { ArePlaces core.now.topology core.now.journal.steps places.now }
-    ensures { IsJudgement result shows core.now.topology core.now.journal.steps }
-{
-    match texts_of(alloc, core.topology(), core.journal(), shows, places) {
+    match texts_of(alloc, core, shows) {
         Ok(texts) => {
-            let status = status(core.topology(), core.journal(), places);
+            let status = status(core.topology(), core.journal(), places_of(core));
             Verdict::Done { texts, status }
         }
         Err(_) => Verdict::Refused(Refusal::Memory),
     }
 }
 
+/// The places of the accepted messages, in order of their numbers.
+fn places_of(core: &Core) -> &[Place]
+    requires stands { Stands core.now }
+    ensures { result.now ≡ places_in core.now.topology core.now.journal.steps }
+{
+    core.places.as_slice()
+}
+
 /// The texts of a run: those that are shown, and the report.
-fn texts_of(
-    alloc: Global,
-    topology: &Topology,
-    journal: &Journal,
-    shows: Shows,
-    places: &PlaceList,
-) -> Result<Texts, AllocError>
-    requires sound { IsSound topology.now }
-    requires places { ArePlaces topology.now journal.now.steps places.now }
-    ensures { IfOk result (λ texts. whole_text texts ≡ run_text shows topology.now journal.now.steps) }
+fn texts_of(alloc: Global, core: &Core, shows: Shows) -> Result<Texts, AllocError>
+    requires stands { Stands core.now }
+    ensures { IfOk result (λ texts. whole_text texts ≡ run_text shows core.now.topology core.now.journal.steps) }
 {
     let steps = if shows.steps {
-        Some(journal_text(alloc, journal)?)
+        Some(journal_text(alloc, core.journal())?)
     } else {
         None
     };
     let acks = if shows.acks {
-        Some(ack_text(alloc, topology, journal, places)?)
+        Some(acks_of(alloc, core)?)
     } else {
         None
     };
-    let last = report_text(alloc, topology, journal, places)?;
+    let last = report_of(alloc, core)?;
     Ok(Texts { steps, acks, last })
+}
+
+/// The acknowledgements of a run.
+fn acks_of(alloc: Global, core: &Core) -> Result<Bytes, AllocError>
+    requires stands { Stands core.now }
+    ensures { IfOk result (λ text. text ≡ text_of_acks core.now.topology core.now.journal.steps) }
+{
+    let places = core.places()?;
+    ack_text(alloc, core.topology(), core.journal(), &places)
+}
+
+/// The report of a run.
+fn report_of(alloc: Global, core: &Core) -> Result<Bytes, AllocError>
+    requires stands { Stands core.now }
+    ensures { IfOk result (λ text. text ≡ text_of_report core.now.topology core.now.journal.steps) }
+{
+    report_text(alloc, core.topology(), core.journal(), places_of(core))
 }

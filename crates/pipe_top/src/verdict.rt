@@ -8,9 +8,9 @@ ghost use Rattle.program_words.specs.Refusals.{memory_line as memory_text};
 use pipe_config::{ConfigFault, fault_number};
 use pipe_edges::{ByteSink, PutEnd, put_all};
 use pipe_types::bytes::{Bytes, Text};
-use program_words::{edge_line, memory_line, stock_line, topology_line, unbuilt_line, usage_line};
+use program_words::{edge_line, memory_line, stock_line, topology_line, usage_line};
 use std::alloc::{AllocError, Global};
-use topology_needs::{Shortage, Unbuilt};
+use topology_needs::Shortage;
 
 /// Which texts stand before the report.
 #[derive(Clone, Copy, Drop, Debug)]
@@ -30,8 +30,6 @@ pub(crate) enum Refusal {
     Topology(ConfigFault),
     /// The stock has too few callbacks of a kind.
     Stock(Shortage),
-    /// The topology has something that is not built yet.
-    Unbuilt(Unbuilt),
     /// Nothing of this name was read or opened.
     Edge(Text),
     Memory,
@@ -141,7 +139,6 @@ fn status_of(refusal: &Refusal) -> u8
 {
     match refusal {
         Refusal::Usage => 7,
-        Refusal::Unbuilt(_) => 10,
         Refusal::Topology(_) | Refusal::Stock(_) => 6,
         Refusal::Edge(_) => 5,
         Refusal::Memory => 9,
@@ -157,7 +154,6 @@ fn refusal_line(alloc: Global, refusal: &Refusal) -> Result<Bytes, AllocError>
         Refusal::Stock(shortage) => {
             stock_line(alloc, shortage.kind, shortage.need, shortage.have)
         }
-        Refusal::Unbuilt(missing) => unbuilt_line(alloc, missing.word()),
         Refusal::Edge(name) => edge_line(alloc, name.as_str()),
         Refusal::Memory => memory_line(alloc),
     }

@@ -9,7 +9,8 @@ use stage_callback::{Callback, LinesBox, StepsBox};
 use std::alloc::AllocError;
 use std::process::ExitCode;
 use std::sync::Wait;
-use std::{env, io};
+use std::thread::Threads;
+use std::{env, io, mem};
 
 /// A callback in its box.
 type Handler = Box<dyn Callback + Send>;
@@ -35,8 +36,8 @@ fn words_of(rt: &HostRuntime) -> Result<Vec<String>, AllocError> {
     }
 }
 
-// A run may wait for its sources, which takes a handle of its own.
-fn run<R: Wait>(rt: &HostRuntime, waits: &R) -> Result<u8, AllocError> {
+// A run may wait for its sources and start threads, which takes a handle of its own.
+fn run<R: Threads + Wait + Sync>(rt: &HostRuntime, waits: &R) -> Result<u8, AllocError> {
     let alloc = rt.alloc();
     let words = words_of(rt)?;
     let mut stock: Vec<Handler> = Vec::new(alloc);
@@ -57,7 +58,10 @@ fn run<R: Wait>(rt: &HostRuntime, waits: &R) -> Result<u8, AllocError> {
     >(
         waits, alloc, &words, stock, &mut edges, clock, &mut out, &mut err,
     );
-    Ok(end.status)
+    let status = end.status;
+    // the system takes the memory of the run back at once, faster than each list is let go by itself
+    mem::forget(end);
+    Ok(status)
 }
 
 fn main(rt: HostRuntime) -> ExitCode {

@@ -26,7 +26,9 @@ pub trait Held {
     fn journal(&self) -> &Journal
         ensures { result.now.steps ≡ steps self.now };
 
-    /// Whether the last step that put the post out is followed by none that answers it.
+    /// Whether the last step that put the post out is followed by none that answers it. The value stems from a start, as each
+    /// value in a turn does.
     fn is_out(&self, post: Post) -> bool
+        requires stems { (origin : Self.Start) × stems origin self.now }
         ensures { result ≡ is_out (steps self.now) post };
 }

@@ -13,6 +13,5 @@ mod push;
 mod rules;
 mod sinks;
 mod texts;
-mod unbuilt;
 mod waits;
 mod words;

@@ -16,10 +16,6 @@ memory_line = codes "memory" ++ lf
 abbrev pub edge_line : (name : List ℕ) → List ℕ
 edge_line name = codes "edge " ++ name ++ lf
 
--- unbuilt WORD
-abbrev pub unbuilt_line : (word : List ℕ) → List ℕ
-unbuilt_line word = codes "unbuilt " ++ word ++ lf
-
 abbrev pub kind_word : Kind → List ℕ
 kind_word Steps = codes "steps"
 kind_word Lines = codes "lines"

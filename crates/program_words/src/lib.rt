@@ -9,7 +9,5 @@ pub mod refusals;
 mod tests;
 pub mod words;
 
-pub use refusals::{
-    counts_line, edge_line, memory_line, stock_line, topology_line, unbuilt_line, usage_line,
-};
+pub use refusals::{counts_line, edge_line, memory_line, stock_line, topology_line, usage_line};
 pub use words::{Command, FlowWords, RunWords, read_words};

@@ -24,13 +24,6 @@ pub fn memory_line(alloc: Global) -> Result<Bytes, AllocError>
     line_of(alloc, "memory\n")
 }
 
-/// What is not built yet.
-pub fn unbuilt_line(alloc: Global, word: &str) -> Result<Bytes, AllocError>
-    ensures { IfOk result (λ line. line ≡ text.unbuilt_line word.now) }
-{
-    bytes_of(format!(in alloc; "unbuilt {word}\n")?)
-}
-
 /// The name with which a call on the outside failed.
 pub fn edge_line(alloc: Global, name: &str) -> Result<Bytes, AllocError>
     ensures { IfOk result (λ line. line ≡ text.edge_line name.now) }

@@ -1,8 +1,7 @@
 //! Command lines with the command that they are, and the lines that the program writes.
 
 use crate::{
-    Command, counts_line, edge_line, memory_line, read_words, stock_line, topology_line,
-    unbuilt_line, usage_line,
+    Command, counts_line, edge_line, memory_line, read_words, stock_line, topology_line, usage_line,
 };
 use pipe_types::topology::Kind;
 use std::alloc::{AllocError, Global};
@@ -217,7 +216,6 @@ fn lines_are_written(rt: HostRuntime) -> Result<(), Fail> {
             "stock own need 1 have 0\n",
         ),
         (edge_line(alloc, "mem:a")?, "edge mem:a\n"),
-        (unbuilt_line(alloc, "wait")?, "unbuilt wait\n"),
         (memory_line(alloc)?, "memory\n"),
         (
             usage_line(alloc)?,

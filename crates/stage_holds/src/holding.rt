@@ -1,7 +1,8 @@
 //! One hold.
 
-ghost use Rattle.std.specs.Prelude.{◌≡◌, ◌≤◌, ◌<◌, ◌+◌, true, false, ℕ, length, Ok, None, IfSome, IfOk, IsTrue, IsErr, Option, option_map};
+ghost use Rattle.std.specs.Prelude.{◌≡◌, ◌≤◌, ◌<◌, ◌+◌, true, false, ℕ, length, Ok, None, IfSome, IfOk, IsTrue, IsErr, OnOk, Option, option_map};
 ghost use Rattle.pipe_model.specs.History.{controls};
+ghost use Rattle.pipe_model.specs.Begins.{BeginsWith};
 ghost use Rattle.pipe_model.specs.Legal.{happened, is_halt};
 ghost use Rattle.pipe_model.specs.Moves.{is_drained, jobs_out};
 ghost use Rattle.core_state.specs.Stands.{Stands};
@@ -14,6 +15,7 @@ ghost use Rattle.body_laws.specs.Ready.{Ready};
 ghost use Rattle.control_lines.specs.Keeping.{KeepsControl, KeepsControlOn};
 ghost use Rattle.job_laws.specs.Away.{IsAway};
 ghost use Rattle.stage_moves.specs.Clocks.{ClockSeen, clock_seen, KeepsClock, KeepsClockOn};
+ghost use Rattle.stage_holds.specs.Answers.{with_answered};
 ghost use Rattle.stage_holds.specs.Homes.{IsBack};
 ghost use Rattle.stage_holds.specs.Holds.{AddsHold, AreHome};
 ghost use Rattle.stage_holds.specs.Nexts.{IfJob, job_in, job_of, post_of};
@@ -72,6 +74,7 @@ pub fn hold<B: Works, S: ByteSource, C: Clock>(
         → IfSome brought (λ home. IsBack core.old.topology core.old.journal.steps (opened (place_at home.post)) home.post home.answer (B.look home.body))
         → IfOk result (λ next. IfJob next (λ load. IsAway core.old.topology core.new.journal.steps (opened (place_at load.job.post)) load.job (B.look load.body))) }
     ensures fits { IfOk result (λ next. IfJob next (λ load. Fits load.job.work (B.look load.body))) }
+    ensures recorded { OnOk result (IfSome brought (λ home. IfOk home.answer (λ answer. BeginsWith core.new.journal.steps (with_answered core.old.topology core.old.journal.steps answer)))) }
     ensures cut_off { IfSome brought (λ home. IsErr home.answer → IsErr result) }
     ensures adds { AddsHold (post_of brought) (job_of result) core.old.journal.steps core.new.journal.steps }
     ensures homes { AreHome (post_of brought) (job_of result) (body_at B.look bodies.old.items) (body_at B.look bodies.new.items) }

@@ -1,6 +1,6 @@
 //! What comes home: the body to its place, and the answer into the journal.
 
-ghost use Rattle.std.specs.Prelude.{◌≡◌, ◌<◌, None, Some, ℕ, length, Option, IsTrue, IsErr, OnOk, OnErr};
+ghost use Rattle.std.specs.Prelude.{◌≡◌, ◌<◌, None, Some, ℕ, length, Option, IfOk, IsTrue, IsErr, OnOk, OnErr};
 ghost use Rattle.pipe_model.specs.Legal.{allows};
 ghost use Rattle.core_state.specs.Stands.{Stands};
 ghost use Rattle.run_claims.specs.Followed.{FollowsMoves};
@@ -42,6 +42,7 @@ pub(crate) fn come_home<B: Works>(
         → Keeps core.old.topology core.new.journal.steps opened (body_at B.look bodies.new.items) }
     ensures adds { AddsHold (Some home.post) None core.old.journal.steps core.new.journal.steps }
     ensures answer { AddsAnswer core.old.topology core.old.journal.steps core.new.journal.steps }
+    ensures recorded { OnOk result (IfOk home.answer (λ answer. core.new.journal.steps ≡ with_answered core.old.topology core.old.journal.steps answer)) }
     ensures cut_off { IsErr home.answer → IsErr result }
     ensures homes { AreHome (Some home.post) None (body_at B.look bodies.old.items) (body_at B.look bodies.new.items) }
 {

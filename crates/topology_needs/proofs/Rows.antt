@@ -1,25 +1,16 @@
--- What is known where nothing is unbuilt, and where nothing is short.
+-- What is known where nothing is short.
 use Rattle.std.proofs.Common.{◌≡◌, ℕ, ◌≤◌, Bool, true, false, cond, [], ◌∷◌, Option, Some, None, refl}
-use Rattle.std.specs.Prelude.{find, nat_lt, option_map}
+use Rattle.std.specs.Prelude.{find, option_map}
 use Rattle.std.proofs.lemmas.Bool.{ltb-false}
 use Rattle.pipe_types.specs.declared.topology.Topology.{Topology}
 use Rattle.pipe_types.specs.declared.topology.Kind.{Kind}
 use Rattle.pipe_types.specs.declared.topology.Kind.TheVariants.{Steps, Lines, Own}
 use Rattle.topology_needs.specs.declared.stock.Boxes.{Boxes}
-use Rattle.topology_needs.specs.declared.unbuilt.Unbuilt.TheVariants as word
 use Rattle.topology_needs.specs.Needs.{need_of, boxes_of, is_short, need_and_have, shortage_of}
-use Rattle.topology_needs.specs.Unbuilt.{unbuilt_of}
 
 passed_by : {A : Type 0} (b : Bool) (x : A) (o : Option A) → cond b (Some x) o ≡ None → (b ≡ false) × (o ≡ None)
 passed_by true x o h = cc
 passed_by false x o h = (refl, h)
-
--- ---- what is not built
-
-pub one_worker : (n : ℕ) → unbuilt_of n ≡ None → n ≤ 1
-one_worker n h = ltb-false 1 n (passed_by (nat_lt 1 n) word.Workers None h).0
-
--- ---- what is short
 
 none_short : {A B : Type 0} (f : A → B) (o : Option A) → option_map f o ≡ None → o ≡ None
 none_short f None h = refl

@@ -1,18 +1,11 @@
-//! Laws of what is built and of what is enough, without code.
+//! Laws of what is enough, without code.
 
 ghost use Rattle.std.specs.Prelude.{◌≡◌, ◌≤◌, None};
 ghost use Rattle.config_flow.specs.Flow.{flow_topology_of};
 ghost use Rattle.topology_needs.specs.Needs.{need_of, boxes_of, shortage_of};
-ghost use Rattle.topology_needs.specs.Unbuilt.{unbuilt_of};
 
 use crate::stock::Boxes;
 use pipe_types::topology::{Kind, Topology};
-
-/// Where nothing is unbuilt there is at most one worker.
-pub fn nothing_is_unbuilt(workers: u16)
-    requires { unbuilt_of workers ≡ None }
-    ensures { workers ≤ 1 }
-{}
 
 /// Where no kind is short there are at least as many boxes of each as posts that need one.
 pub fn nothing_is_short(topology: &Topology, boxes: &Boxes, kind: Kind)
@@ -20,9 +13,8 @@ pub fn nothing_is_short(topology: &Topology, boxes: &Boxes, kind: Kind)
     ensures { need_of topology.now kind ≤ boxes_of boxes.now kind }
 {}
 
-/// The topology of `flow` is built on its one worker. It needs one box, of the kind of steps.
-pub fn flow_is_built(source: &str, prefix: &str)
-    ensures built { unbuilt_of 1 ≡ None }
+/// The topology of `flow` needs one box, of the kind of steps.
+pub fn flow_needs_one_box(source: &str, prefix: &str)
     ensures steps { need_of (flow_topology_of source.now prefix.now) Kind.Steps ≡ 1 }
     ensures lines { need_of (flow_topology_of source.now prefix.now) Kind.Lines ≡ 0 }
     ensures own { need_of (flow_topology_of source.now prefix.now) Kind.Own ≡ 0 }

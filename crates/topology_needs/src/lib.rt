@@ -1,9 +1,7 @@
 //! What a topology needs before it can run.
 //!
 //! `posts` and `need` count the posts that have a callback, of a stage and of a kind, and `shortage` names the first kind
-//! of which a stock has too few boxes. `first_unbuilt` says what no pipeline is built for yet: more than one worker.
-//! Where there is nothing, the law `nothing_is_unbuilt` says that there is one worker at most. `subscriptions` counts the
-//! subscriptions with which the pipeline begins.
+//! of which a stock has too few boxes. `subscriptions` counts the subscriptions with which the pipeline begins.
 #![tactic(auto)]
 
 mod feeding;
@@ -12,9 +10,7 @@ mod needs;
 mod stock;
 #[cfg(test)]
 mod tests;
-mod unbuilt;
 
 pub use feeding::subscriptions;
 pub use needs::{need, posts, shortage};
 pub use stock::{Boxes, Shortage};
-pub use unbuilt::{Unbuilt, first_unbuilt};

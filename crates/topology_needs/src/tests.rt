@@ -4,7 +4,7 @@ ghost use Rattle.std.specs.Prelude.{◌≡◌, ◌≢◌, IfOk};
 ghost use Rattle.pipe_types.specs.Sound.{IsSound};
 ghost use Rattle.topology_needs.specs.Samples as sample;
 
-use crate::{Boxes, Shortage, Unbuilt, first_unbuilt, need, shortage, subscriptions};
+use crate::{Boxes, Shortage, need, shortage, subscriptions};
 use pipe_types::bytes::{Bytes, Text};
 use pipe_types::numbers::StageNo;
 use pipe_types::topology::{
@@ -239,17 +239,5 @@ fn what_topologies_need(rt: HostRuntime) -> Result<(), Fail> {
             have: 1
         })
     );
-    Ok(())
-}
-
-#[test]
-fn more_than_one_worker_is_not_built(rt: HostRuntime) -> Result<(), Fail> {
-    for workers in [0, 1] {
-        assert_eq!(rt; first_unbuilt(workers), None, "{workers}");
-    }
-    for workers in [2, 64] {
-        assert_eq!(rt; first_unbuilt(workers), Some(Unbuilt::Workers), "{workers}");
-    }
-    assert!(rt; Unbuilt::Workers.word() == "workers");
     Ok(())
 }

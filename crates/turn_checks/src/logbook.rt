@@ -177,7 +177,7 @@ impl Logbook {
             return Entry::Idle;
         };
         let post = Post { stage, slot: 0 };
-        if self.is_out(post) || self.journal.reserve(1).is_err() {
+        if is_out_after(&self.journal, post) || self.journal.reserve(1).is_err() {
             return Entry::Done;
         }
         match take_token(&mut self.tokens, stage) {

@@ -19,6 +19,7 @@ use stage_callback::{Callback, LinesBox, StepsBox};
 use std::alloc::{AllocError, Global};
 use std::process::Abort;
 use std::sync::Wait;
+use std::thread::Threads;
 
 /// The beginning of a topology file, with one producer.
 pub(super) const PRODUCER: &str = "version = 1\n[[producer]]\nname = \"p\"\nsource = \"mem:a\"\n";
@@ -96,7 +97,7 @@ pub(super) fn on<'a>(words: &'a str, file: &'a str, lines: &'a str) -> Given<'a>
 
 /// Calls the program, and wants this status and these outputs, and that sources and sinks are closed again.
 pub(super) fn expect(
-    rt: &(impl Abort + Wait),
+    rt: &(impl Abort + Threads + Wait + Sync),
     alloc: Global,
     given: Given<'_>,
     status: u8,
@@ -127,7 +128,11 @@ pub(super) fn holding(sink: &Option<String>) -> &str {
 }
 
 /// Calls the program.
-pub(super) fn call<R: Wait>(rt: &R, alloc: Global, given: Given<'_>) -> Result<Came, AllocError> {
+pub(super) fn call<R: Threads + Wait + Sync>(
+    rt: &R,
+    alloc: Global,
+    given: Given<'_>,
+) -> Result<Came, AllocError> {
     let mut edges = edges_of(alloc, given)?;
     let source = text_of(alloc, given.source)?;
     let words = words_of(alloc, given.words)?;

@@ -6,6 +6,7 @@ use std::alloc::{AllocError, Global};
 use std::process::Abort;
 use std::sync::Wait;
 use std::test::Fail;
+use std::thread::Threads;
 
 const TOPOLOGIES: u32 = 200;
 
@@ -224,7 +225,7 @@ fn expect_lines(rt: &impl Abort, case: &Case, came: &Came, told: Told<'_>) {
 
 /// Runs the case, and adds to what was seen.
 fn run_case(
-    rt: &(impl Abort + Wait),
+    rt: &(impl Abort + Threads + Wait + Sync),
     alloc: Global,
     case: &Case,
     seen: &mut Seen,

@@ -6,6 +6,7 @@ use std::alloc::{AllocError, Global};
 use std::process::Abort;
 use std::sync::Wait;
 use std::test::Fail;
+use std::thread::Threads;
 
 /// A topology of one producer, one processor and one batcher `b`, with the rest of the processor's keys and of the
 /// batcher's.
@@ -17,7 +18,7 @@ fn one_batcher(alloc: Global, processor: &str, batcher: &str) -> Result<String, 
 
 /// Runs, and wants this status, this output, and these texts in the sinks.
 fn expect_written(
-    rt: &(impl Abort + Wait),
+    rt: &(impl Abort + Threads + Wait + Sync),
     alloc: Global,
     given: Given<'_>,
     status: u8,

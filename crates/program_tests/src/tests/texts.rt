@@ -267,11 +267,11 @@ static LOST: [(&str, &[SinkAct], &[SinkAct], &str, &str); 6] = [
     ),
     ("run", &[], &[SinkAct::Take(5), SinkAct::Fail], "", "usage"),
     (
-        "run t --workers 2",
+        "run u --workers 2",
         &[],
         &[SinkAct::Take(5), SinkAct::Fail],
         "",
-        "unbui",
+        "edge ",
     ),
 ];
 

@@ -9,4 +9,4 @@ unwrap-requires c =
 
 pub returns : goal.returns
 returns c =
-    pops c.args.batches.now.entries _ c.index_mut-messages.result.now _ c.unwrap.result c.requires.some (omega (arith, c.len-last.ensures.len)) c.index_mut-messages.ensures.value (search rules) refl
+    pops c.args.batches.now.entries _ c.index_mut-messages.result.now _ c.unwrap.result c.requires.some (omega (arith, c.len-last.ensures.len)) c.index_mut-messages.ensures.value (search rules) refl refl

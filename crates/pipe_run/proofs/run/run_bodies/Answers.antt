@@ -1,13 +1,13 @@
-use Rattle.std.proofs.Common.{◌≡◌, ◌∙◌, ap, length, is_ok, subst, true}
-use Rattle.std.specs.Prelude.{None, option_map}
+use Rattle.std.proofs.Common.{◌≡◌, ◌∙◌, length, is_ok, subst, true}
+use Rattle.std.specs.Prelude.{None, IfOk, option_map}
 use Rattle.pipe_types.specs.declared.topology.Topology.{Topology}
 use Rattle.pipe_model.specs.Legal.{is_legal}
 use Rattle.stage_bodies.specs.Seen.{body_at, line_seen, source_seen, sink_seen}
-use Rattle.body_laws.specs.Ready.{IsFilled}
 use Rattle.stage_moves.specs.Clocks.{clock_seen}
+use Rattle.stage_rounds.specs.Rounds.{HasEnded}
 use Rattle.edge_names.specs.Seen.{edges_seen}
 use Rattle.edge_names.specs.Controls.{IsUndone, control_call, run_calls}
-use Rattle.edge_names.specs.Opened.{AreHome, AreOpened, Asks, HasSource}
+use Rattle.edge_names.specs.Opened.{AreOpened, Asks, HasSource}
 use Rattle.box_stock.proofs.Filled.{filled, homes}
 use Rattle.pipe_run.specs.Steps.{WentOn}
 use Rattle.pipe_run.proofs.Calls.{asked_until, unopened}
@@ -18,24 +18,24 @@ use Rattle.pipe_run.proofs.run.run_bodies.Goals as goal
 pub open_or_give_back-requires-clause-home : goal.open_or_give_back-requires-clause-home
 open_or_give_back-requires-clause-home g c κs within =
     let same = c.topology.ensures ∙ c.in-Ok.ensures.topology in
-    let table = body_at g.B.Works.look c.args.bodies.now.items in
+    let table = body_at g.B.Works.look c.args.bodies.items in
     rw same (homes c.args.topology table c.requires.handed)
 
-pub run_opened-requires-clause-filled : goal.run_opened-requires-clause-filled
-run_opened-requires-clause-filled g c κs within =
+pub run_opened-run-requires-clause-filled : goal.run_opened-run-requires-clause-filled
+run_opened-run-requires-clause-filled g c κs within =
     let e = g.E.Edges in
     let s = g.E.Source.ByteSource in
     let k = g.E.Sink.ByteSink in
     let seen = edges_seen e.told e.named e.asked e.faults e.sources_back e.sinks_back (source_seen s.told s.taken s.left s.faults s.waits) (sink_seen k.told k.held k.faults) in
     let same = c.topology.ensures ∙ c.in-Ok.ensures.topology in
     let topology = c.args.topology in
-    let table = body_at g.B.Works.look c.args.bodies.now.items in
+    let table = body_at g.B.Works.look c.args.bodies.items in
     let opened = body_at g.B.Works.look c.open_or_give_back.new.bodies.items in
     let opens = subst (λ (t : Topology). AreOpened t (length t.stages) (seen c.args.edges.now) table opened) same c.in-Ok-open_or_give_back.ensures.opened in
     rw c.in-Ok.ensures.topology (filled topology (seen c.args.edges.now) table opened c.requires.sound c.requires.handed opens)
 
-pub run_opened-requires-clause-fresh : goal.run_opened-requires-clause-fresh
-run_opened-requires-clause-fresh g c κs within =
+pub run_opened-run-requires-clause-fresh : goal.run_opened-run-requires-clause-fresh
+run_opened-run-requires-clause-fresh g c κs within =
     let e = g.E.Edges in
     let s = g.E.Source.ByteSource in
     let k = g.E.Sink.ByteSink in
@@ -54,19 +54,24 @@ returns-in-Ok-open_or_give_back-clause-ran g c =
     let own = c.in-Ok.ensures.topology in
     let same = c.topology.ensures ∙ own in
     let topology = c.args.topology in
-    let run = c.run_opened.result in
-    let table = body_at g.B.Works.look c.args.bodies.now.items in
+    let run = c.run_opened-run.result.run in
+    let table = body_at g.B.Works.look c.args.bodies.items in
     let opened = body_at g.B.Works.look c.open_or_give_back.new.bodies.items in
-    let final = body_at g.B.Works.look c.run_opened.new.bodies.items in
+    let final = body_at g.B.Works.look c.run_opened-run.result.bodies.items in
     let old = seen c.args.edges.now in
     let mid = seen c.open_or_give_back.new.edges in
-    let new = seen c.run_opened.new.edges in
+    let new = seen c.run_opened-run.new.edges in
     let opens = subst (λ (t : Topology). AreOpened t (length t.stages) old table opened) same c.in-Ok-open_or_give_back.ensures.opened in
     let asks = subst (λ (t : Topology). Asks (run_calls t) old mid) same c.in-Ok-open_or_give_back.ensures.asks in
     let lines = subst (λ (t : Topology). HasSource old (control_call t.control) None fresh) same c.in-Ok-open_or_give_back.ensures.control in
-    let legal = subst (λ (t : Topology). is_legal t run.core.journal.steps ≡ true) (c.run_opened.ensures.topology ∙ own) c.run_opened.ensures.stands.holds.legal in
-    let went = subst (λ (t : Topology). WentOn (is_ok run.end) t run.core.journal.steps opened final fresh mid new (time c.args.clock.now) (time c.run_opened.new.clock)) own c.run_opened.ensures.went in
-    run_of (is_ok run.end) topology run.core.journal.steps table opened final fresh old mid new (time c.args.clock.now) (time c.run_opened.new.clock) c.requires.sound legal c.requires.handed opens lines asks went
+    let legal = subst (λ (t : Topology). is_legal t run.core.journal.steps ≡ true) (c.run_opened-run.ensures.topology ∙ own) c.run_opened-run.ensures.stands.holds.legal in
+    let went = subst (λ (t : Topology). WentOn (is_ok run.end) t run.core.journal.steps opened final fresh mid new (time c.args.clock) (time c.run_opened-run.result.clock)) own c.run_opened-run.ensures.went in
+    run_of (is_ok run.end) topology run.core.journal.steps table opened final fresh old mid new (time c.args.clock) (time c.run_opened-run.result.clock) c.requires.sound legal c.requires.handed opens lines asks went
+
+pub returns-in-Ok-open_or_give_back-clause-ended : goal.returns-in-Ok-open_or_give_back-clause-ended
+returns-in-Ok-open_or_give_back-clause-ended g c =
+    let run = c.run_opened-run.result.run in
+    subst (λ (t : Topology). IfOk run.end (HasEnded t run.core.journal.steps)) c.in-Ok.ensures.topology c.run_opened-run.ensures.ended
 
 pub returns-in-Ok-open_or_give_back-clause-boxes : goal.returns-in-Ok-open_or_give_back-clause-boxes
 returns-in-Ok-open_or_give_back-clause-boxes g c =
@@ -78,14 +83,14 @@ returns-in-Ok-open_or_give_back-clause-boxes g c =
     let time = clock_seen g.K.Clock.latest g.K.Clock.readings in
     let own = c.in-Ok.ensures.topology in
     let topology = c.args.topology in
-    let run = c.run_opened.result in
-    let table = body_at g.B.Works.look c.args.bodies.now.items in
+    let run = c.run_opened-run.result.run in
+    let table = body_at g.B.Works.look c.args.bodies.items in
     let opened = body_at g.B.Works.look c.open_or_give_back.new.bodies.items in
-    let final = body_at g.B.Works.look c.run_opened.new.bodies.items in
+    let final = body_at g.B.Works.look c.run_opened-run.result.bodies.items in
     let mid = seen c.open_or_give_back.new.edges in
-    let new = seen c.run_opened.new.edges in
-    let went = subst (λ (t : Topology). WentOn (is_ok run.end) t run.core.journal.steps opened final fresh mid new (time c.args.clock.now) (time c.run_opened.new.clock)) own c.run_opened.ensures.went in
-    run_leaves (is_ok run.end) topology run.core.journal.steps table opened final fresh mid new (time c.args.clock.now) (time c.run_opened.new.clock) c.requires.sound c.in-Ok-open_or_give_back.ensures.callbacks went
+    let new = seen c.run_opened-run.new.edges in
+    let went = subst (λ (t : Topology). WentOn (is_ok run.end) t run.core.journal.steps opened final fresh mid new (time c.args.clock) (time c.run_opened-run.result.clock)) own c.run_opened-run.ensures.went in
+    run_leaves (is_ok run.end) topology run.core.journal.steps table opened final fresh mid new (time c.args.clock) (time c.run_opened-run.result.clock) c.requires.sound c.in-Ok-open_or_give_back.ensures.callbacks went
 
 pub returns-in-Err-Failed-clause-failed : goal.returns-in-Err-Failed-clause-failed
 returns-in-Err-Failed-clause-failed g c =
@@ -94,7 +99,7 @@ returns-in-Err-Failed-clause-failed g c =
     let k = g.E.Sink.ByteSink in
     let seen = edges_seen e.told e.named e.asked e.faults e.sources_back e.sinks_back (source_seen s.told s.taken s.left s.faults s.waits) (sink_seen k.told k.held k.faults) in
     let same = c.topology.ensures ∙ c.in-Ok.ensures.topology in
-    let table = body_at g.B.Works.look c.args.bodies.now.items in
+    let table = body_at g.B.Works.look c.args.bodies.items in
     let old = seen c.args.edges.now in
     let new = seen c.open_or_give_back.new.edges in
     let undone = rw c.in-Err-Failed.field-0-is at c.in-Err-Failed.ensures.undone in
@@ -108,7 +113,7 @@ returns-in-Err-Failed-clause-unopened g c =
     let k = g.E.Sink.ByteSink in
     let seen = edges_seen e.told e.named e.asked e.faults e.sources_back e.sinks_back (source_seen s.told s.taken s.left s.faults s.waits) (sink_seen k.told k.held k.faults) in
     let same = c.topology.ensures ∙ c.in-Ok.ensures.topology in
-    let table = body_at g.B.Works.look c.args.bodies.now.items in
+    let table = body_at g.B.Works.look c.args.bodies.items in
     let old = seen c.args.edges.now in
     let new = seen c.open_or_give_back.new.edges in
     let undone = rw c.in-Err-Failed.field-0-is at c.in-Err-Failed.ensures.undone in

@@ -1,5 +1,5 @@
 use Rattle.std.proofs.Common.{refl}
-use Rattle.pipe_top.proofs.Reading.{LeavesEdges, file_read, file_failed, file_wanting, file_unasked}
+use Rattle.pipe_top.proofs.Reading.{file_read, file_failed, file_wanting, file_unasked}
 use Rattle.pipe_top.proofs.file.read_named.Goals as goal
 
 pub returns-in_default : goal.returns-in_default

@@ -6,14 +6,14 @@ pub returns-in-Ok : goal.returns-in-Ok
 returns-in-Ok g c =
     let r = c.checked in
     record {
-      came = λ boxes clock. check_came _ _ _ boxes c.args.path.now c.in-Ok.topology r.result.topology r.result.journal.steps r.result.verdict c.in-Ok.ensures r.ensures.checked
-          refl refl (rw r.ensures.same_boxes refl);
+      came = λ boxes. check_came _ _ _ boxes c.args.path.now c.in-Ok.topology r.result.topology r.result.journal.steps r.result.verdict c.in-Ok.ensures r.ensures.checked
+          refl (rw r.ensures.same_clock refl) (rw r.ensures.same_boxes refl);
     }
 
 pub returns-in-Err : goal.returns-in-Err
 returns-in-Err g c =
     let r = c.refused in
     record {
-      came = λ boxes clock. check_unread _ _ boxes c.args.path.now c.in-Err.refusal r.result.topology r.result.journal.steps r.result.verdict c.in-Err.ensures r.ensures.verdict r.ensures.no_run
-          refl (rw r.ensures.same_boxes refl);
+      came = λ boxes. check_unread _ _ boxes c.args.path.now c.in-Err.refusal r.result.topology r.result.journal.steps r.result.verdict c.in-Err.ensures r.ensures.verdict r.ensures.no_run
+          (rw r.ensures.same_clock refl) (rw r.ensures.same_boxes refl);
     }

@@ -16,5 +16,5 @@ returns-in-Err g c =
     let w = c.args.words in
     record {
       came = run_unread _ _ _ w.topology.now w.workers w.acks w.steps c.in-Err.refusal r.result.topology r.result.journal.steps r.result.verdict c.in-Err.ensures r.ensures.verdict r.ensures.no_run
-          refl (rw r.ensures.same_boxes refl);
+          (rw r.ensures.same_clock refl) (rw r.ensures.same_boxes refl);
     }

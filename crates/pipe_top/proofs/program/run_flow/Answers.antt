@@ -1,5 +1,5 @@
 use Rattle.std.proofs.Common.{refl}
-use Rattle.pipe_top.proofs.Reading.{came_by_flow, came_to_nothing}
+use Rattle.pipe_top.proofs.Reading.{came_to_nothing}
 use Rattle.pipe_top.proofs.program.run_flow.Goals as goal
 
 pub returns-in_default : goal.returns-in_default
@@ -7,5 +7,5 @@ returns-in_default g c =
     let r = c.refused in
     record {
       came = came_to_nothing _ _ _ _ r.result.topology r.result.journal.steps r.result.verdict r.ensures.verdict r.ensures.no_run
-          (record { sources = refl; sinks = refl; clock = refl; boxes = rw r.ensures.same_boxes refl }) refl refl;
+          (record { sources = refl; sinks = refl; clock = rw r.ensures.same_clock refl; boxes = rw r.ensures.same_boxes refl }) refl refl;
     }

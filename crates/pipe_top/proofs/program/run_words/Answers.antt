@@ -7,5 +7,5 @@ returns-in-Err g c =
     let r = c.refused-in-Err in
     record {
       came = came_to_nothing _ _ _ _ r.result.topology r.result.journal.steps r.result.verdict r.ensures.verdict r.ensures.no_run
-          (record { sources = refl; sinks = refl; clock = refl; boxes = rw r.ensures.same_boxes refl }) refl refl;
+          (record { sources = refl; sinks = refl; clock = rw r.ensures.same_clock refl; boxes = rw r.ensures.same_boxes refl }) refl refl;
     }

@@ -1,28 +1,27 @@
 use Rattle.std.proofs.Common.{◌∙◌, sym, refl}
 use Rattle.topology_needs.specs.Needs.{boxes_in, shortage_of}
-use Rattle.topology_needs.specs.Unbuilt.{unbuilt_of}
 use Rattle.box_stock.specs.Lends.{kinds_of}
 use Rattle.pipe_top.proofs.Openings.{refused_topology}
 use Rattle.pipe_top.proofs.Runnables.{case_is, enough}
 use Rattle.pipe_top.proofs.run.run_or_refuse.Goals as goal
 
-pub run_built-requires-clause-suffices : goal.run_built-requires-clause-suffices
-run_built-requires-clause-suffices g c =
+pub run_supplied-requires-clause-suffices : goal.run_supplied-requires-clause-suffices
+run_supplied-requires-clause-suffices g c =
     let none = rw (c.boxes_in.ensures, c.as_slice.ensures.value) at (sym c.refusal_of.ensures.refusal ∙ c.in-None.is) in
-    λ κs lives. enough (kinds_of g.C.Boxed.seen c.args.stock.items) c.args.workers c.args.topology none
+    λ κs lives. enough (kinds_of g.C.Boxed.seen c.args.stock.items) c.args.topology none
 
 pub returns-in-Some : goal.returns-in-Some
 returns-in-Some g c =
     let r = c.refused in
     let why = rw (c.boxes_in.ensures, c.as_slice.ensures.value) at (sym c.refusal_of.ensures.refusal ∙ c.in-Some.is) in
     record {
-      comes = refused_topology _ _ c.args.shows c.args.topology (shortage_of c.args.topology (boxes_in (kinds_of g.C.Boxed.seen c.args.stock.items))) (unbuilt_of c.args.workers) c.in-Some.refusal r.result.topology r.result.journal.steps r.result.verdict why r.ensures.verdict r.ensures.no_run
-          (record { sources = refl; sinks = refl; clock = refl; boxes = rw r.ensures.same_boxes refl }) refl refl;
+      comes = refused_topology _ _ c.args.shows c.args.topology (shortage_of c.args.topology (boxes_in (kinds_of g.C.Boxed.seen c.args.stock.items))) c.in-Some.refusal r.result.topology r.result.journal.steps r.result.verdict why r.ensures.verdict r.ensures.no_run
+          (record { sources = refl; sinks = refl; clock = rw r.ensures.same_clock refl; boxes = rw r.ensures.same_boxes refl }) refl refl;
     }
 
 pub returns-in-None : goal.returns-in-None
 returns-in-None g c =
     let none = rw (c.boxes_in.ensures, c.as_slice.ensures.value) at (sym c.refusal_of.ensures.refusal ∙ c.in-None.is) in
     record {
-      comes = rw (case_is (boxes_in (kinds_of g.C.Boxed.seen c.args.stock.items)) c.args.workers c.args.shows c.args.topology none) c.run_built.ensures.comes;
+      comes = rw (case_is (boxes_in (kinds_of g.C.Boxed.seen c.args.stock.items)) c.args.shows c.args.topology none) c.run_supplied.ensures.comes;
     }

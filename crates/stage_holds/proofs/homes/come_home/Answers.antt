@@ -1,6 +1,8 @@
-use Rattle.std.proofs.Common.{◌<◌, length, sym, subst}
+use Rattle.std.proofs.Common.{◌≡◌, ◌<◌, length, sym, subst}
+use Rattle.std.specs.Prelude.{IfOk, OnOk}
 use Rattle.stage_bodies.specs.Seen.{body_at}
 use Rattle.stage_bodies.specs.Posts.{place_at}
+use Rattle.stage_holds.specs.Answers.{with_answered}
 use Rattle.stage_holds.specs.Homes.{IsBack}
 use Rattle.stage_holds.proofs.Coming.{table_of, unrecorded, comes_home, may_record}
 use Rattle.stage_holds.proofs.Leaving.{comes_home_again}
@@ -195,3 +197,10 @@ returns-clause-homes g c =
     let body = look c.args.home.body in
     let table = table_of p c.place_of-at.result body home back c.place_of-at.ensures c.put_back.ensures.others in
     comes_home_again p body home back table
+
+pub returns-clause-recorded : goal.returns-clause-recorded
+returns-clause-recorded g c =
+    let t = c.args.core.now.topology in
+    let h = c.args.core.now.journal.steps in
+    let after = c.record.new.core.journal.steps in
+    subst (λ x. OnOk c.record.result (IfOk x (λ answer. after ≡ with_answered t h answer))) (sym c.in_ok-answer.was) c.record.ensures.appended

@@ -1,0 +1,35 @@
+use Rattle.std.proofs.Common.{is_ok, refl}
+use Rattle.pipe_top.proofs.Openings.{ran, unopened, unopened_memory}
+use Rattle.pipe_top.proofs.run.run_supplied.Goals as goal
+
+pub returns-in-Ok : goal.returns-in-Ok
+returns-in-Ok g c =
+    let r = c.run_topology-run.ensures in
+    let q = c.conclude in
+    let is = c.in-Ok.is in
+    record {
+      comes = ran _ _ c.args.shows c.args.topology (is_ok c.in-Ok.run'.end) c.in-Ok.run'.core q.result.topology q.result.journal.steps q.result.verdict
+          (rw is at r.topology) (rw is at r.stands) (rw q.ensures.same_clock (rw is at r.ran)) (rw q.ensures.same_boxes (rw is at r.boxes)) q.ensures.topology q.ensures.journal q.ensures.verdict q.ensures.wanting;
+    }
+
+pub returns-in-Err-Unopened : goal.returns-in-Err-Unopened
+returns-in-Err-Unopened g c =
+    let r = c.run_topology-run.ensures in
+    let q = c.refused in
+    let is = c.in-Err-Unopened.is in
+    let why = c.in-Err-Unopened.field-0-is in
+    record {
+      comes = unopened _ _ c.args.shows c.args.topology c.in-Err-Unopened.name q.result.topology q.result.journal.steps q.result.verdict
+          (rw (is, why) at r.unopened) (rw (is, why) at r.failed) (rw q.ensures.same_clock (rw (rw is at r.same_clock) refl)) (rw q.ensures.same_boxes (rw is at r.same_boxes)) (rw why at q.ensures.verdict) q.ensures.no_run;
+    }
+
+pub returns-in-Err-OutOfMemory : goal.returns-in-Err-OutOfMemory
+returns-in-Err-OutOfMemory g c =
+    let r = c.run_topology-run.ensures in
+    let q = c.refused-in-Err-OutOfMemory in
+    let is = c.in-Err-OutOfMemory.is in
+    let why = c.in-Err-OutOfMemory.field-0-is in
+    record {
+      comes = unopened_memory _ _ c.args.shows c.args.topology q.result.topology q.result.journal.steps q.result.verdict
+          (rw (is, why) at r.wanting) (rw q.ensures.same_clock (rw (rw is at r.same_clock) refl)) (rw q.ensures.same_boxes (rw is at r.same_boxes)) q.ensures.verdict q.ensures.no_run;
+    }

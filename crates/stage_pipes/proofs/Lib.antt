@@ -1,0 +1,5 @@
+pub mod Gone
+pub mod Backs
+pub mod Homing
+pub mod Going
+pub mod Starts

@@ -1,0 +1,32 @@
+-- What a worker does after it tried to take the value.
+use Rattle.std.specs.Prelude.{ℕ, Bool, true, false, Option, Some, None, IfSome, option_map}
+use Rattle.pipe_types.specs.declared.numbers.Post.{Post}
+use Rattle.stage_pipes.specs.declared.shift.Round.{Round}
+use Rattle.stage_pipes.specs.declared.shift.Round.TheVariants as round
+use Rattle.stage_workers.specs.declared.worker.After.{After}
+use Rattle.stage_workers.specs.declared.worker.After.TheVariants.{Missed, Job, Sleeps, Again, Ends}
+
+-- the post of the job that it has then
+abbrev pub post_after : {L H : Type 0} → (L → Post) → (H → Post) → After L H → Option Post
+post_after load_post home_post (Missed brought) = option_map home_post brought
+post_after load_post home_post (Job load) = Some (load_post load)
+post_after load_post home_post _ = None
+
+-- what it brings still, or the job that it does, is so
+abbrev pub Comes : {L H : Type 0} → (L → Type 0) → (H → Type 0) → After L H → Type 0
+Comes IsLoad IsHome (Missed brought) = IfSome brought IsHome
+Comes IsLoad IsHome (Job load) = IsLoad load
+Comes IsLoad IsHome _ = Unit {0}
+
+-- and after a round
+abbrev pub after_round : {L H : Type 0} → Round L → (news : ℕ) → After L H
+after_round (round.Job load) news = Job load
+after_round round.Waits news = Sleeps news
+after_round round.Again news = Again
+after_round round.Ended news = Ends
+
+-- there may be something to do for another worker: another job, or to end
+abbrev pub is_news : {L : Type 0} → Round L → Bool
+is_news (round.Job load) = true
+is_news round.Ended = true
+is_news _ = false
