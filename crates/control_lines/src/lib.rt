@@ -22,8 +22,6 @@ ghost use Rattle.control_lines.specs.Rest.{LeavesAtRest};
 
 mod orders;
 mod reading;
-#[cfg(test)]
-mod tests;
 
 pub use orders::obey_line;
 pub use reading::read_control;

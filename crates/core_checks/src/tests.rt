@@ -1,5 +1,6 @@
 //! Runs by tables: a topology file, what its fetches bring, and the journal.
 
+mod control;
 mod runs;
 
 use runs::{Run, journal_of};

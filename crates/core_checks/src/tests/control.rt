@@ -4,7 +4,7 @@ ghost use Rattle.std.specs.Prelude.{IfOk};
 ghost use Rattle.pipe_types.specs.Sound.{IsSound};
 ghost use Rattle.core_state.specs.Stands.{Stands};
 
-use crate::read_control;
+use control_lines::read_control;
 use core_rows::jobs::is_halted;
 use core_state::Core;
 use journal_texts::lines::journal_text;
