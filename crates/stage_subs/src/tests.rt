@@ -91,3 +91,52 @@ fn a_closed_subscription_is_renewed(rt: HostRuntime) {
     assert_eq!(rt; closed_and_renewed(&mut subs), Some(sub));
     assert_eq!(rt; (subs.due(sub), subs.room_of(sub)), (10, 0));
 }
+
+/// What is due, the open demand, and whether an ask is due on any subscription.
+type Counts = (u32, u32, bool);
+
+fn counts_of(subs: &Subs, sub: SubNo) -> Counts {
+    (subs.due(sub), subs.room_of(sub), subs.has_due())
+}
+
+// The counts of the pair's subscription before it asks, after its ask, once five units were sent, once four and once all of
+// these are handled.
+fn counts_of_first(subs: &mut Subs) -> Option<[Counts; 5]>
+    requires { subs.old ≡ [] }
+{
+    match subs.add(StageNo(2), StageNo(1), 5, 10) {
+        Ok(sub) => {
+            let begun = counts_of(subs, sub);
+            let due = subs.due(sub);
+            subs.ask(sub, due);
+            let asked = counts_of(subs, sub);
+            subs.sent(sub, 5);
+            let sent = counts_of(subs, sub);
+            subs.handled(sub, 4);
+            let some = counts_of(subs, sub);
+            subs.handled(sub, 1);
+            Some([begun, asked, sent, some, counts_of(subs, sub)])
+        }
+        Err(_) => None,
+    }
+}
+
+#[test]
+fn an_ask_is_due_once_enough_is_handled(rt: HostRuntime) {
+    let mut subs = Subs::new(rt.alloc());
+    let wanted = [
+        (10, 0, true),
+        (0, 10, false),
+        (0, 5, false),
+        (0, 5, false),
+        (5, 5, true),
+    ];
+    assert_eq!(rt; counts_of_first(&mut subs), Some(wanted));
+    assert_eq!(rt; (subs.room_below(StageNo(1)), subs.room_below(StageNo(2))), (5, 0));
+    let [first, second] = [1, 2].map(|generation| SubNo {
+        consumer: StageNo(2),
+        producer: StageNo(1),
+        generation,
+    });
+    assert_eq!(rt; (subs.is_last(first), subs.is_last(second)), (true, false));
+}
