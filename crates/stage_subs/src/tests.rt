@@ -132,7 +132,10 @@ fn an_ask_is_due_once_enough_is_handled(rt: HostRuntime) {
         (5, 5, true),
     ];
     assert_eq!(rt; counts_of_first(&mut subs), Some(wanted));
-    assert_eq!(rt; (subs.room_below(StageNo(1)), subs.room_below(StageNo(2))), (5, 0));
+    assert_eq!(rt;
+        (subs.room_below(StageNo(1)), subs.room_below(StageNo(2))),
+        (5, 0)
+    );
     let [first, second] = [1, 2].map(|generation| SubNo {
         consumer: StageNo(2),
         producer: StageNo(1),
