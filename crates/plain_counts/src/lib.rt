@@ -6,11 +6,13 @@
 //! thousand million steps, is answered as want of memory.
 #![tactic(auto)]
 
+mod children;
 mod contents;
 mod counts;
 mod posts;
 mod sources;
 
+pub use children::{crashes, runs_again};
 pub use contents::{Seen, arrivals, content, gathers, has_crash, producer_of, unit_no};
 pub use counts::{
     accepted, accepted_bytes, asked, closed, controls, incarnation, now, plus, same_sub,

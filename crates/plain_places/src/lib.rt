@@ -8,12 +8,10 @@ mod batches;
 mod moves;
 mod places;
 mod queues;
-mod reruns;
 mod tables;
 
 pub use queues::{
     chunk_now, deliveries_now, inbox_now, lost_over_now, may_dispatch_now, open_batch_now,
     open_demand_now, place_now, room_now, waiting_now,
 };
-pub use reruns::{crashes, runs_again};
 pub use tables::{no_tables, tables_after};

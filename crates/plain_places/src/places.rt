@@ -13,12 +13,11 @@ ghost use Rattle.plain_places.specs.Changes.{move_of, change_of, PlacesAfter, Ba
 
 use crate::batches::{closing, next_units};
 use crate::moves::{Move, moved};
-use crate::reruns::{crashes, runs_again};
 use pipe_types::message::{Loss, Place, Reply};
 use pipe_types::numbers::StageNo;
 use pipe_types::step::{LateAnswer, Step};
 use pipe_types::topology::Topology;
-use plain_counts::{closed, has_crash, in_slot, incarnation, plus, unit_no};
+use plain_counts::{closed, crashes, has_crash, in_slot, incarnation, plus, runs_again, unit_no};
 use plain_lives::Past;
 use plain_queues::{BatchRow, Tables, chunk};
 use plain_sends::{lost_over, sends_by};

@@ -1,15 +1,12 @@
 //! How often children crashed.
 
-ghost use Rattle.std.specs.Prelude.{◌≡◌, IfOk, option_copied};
+ghost use Rattle.std.specs.Prelude.{◌≡◌, IfOk};
 ghost use Rattle.pipe_model.specs.History.{history};
-ghost use Rattle.pipe_model.specs.Posts.{crashed_as as crashed_as_in, crashes_after as crashes_then, crashes as crashes_in};
-ghost use Rattle.pipe_model.specs.Flow.{runs_again as runs_again_in};
 ghost use Rattle.pipe_model.specs.Ledger.{crashed_reply, crashes_of as crashes_of_in};
 
 use pipe_types::message::Reply;
 use pipe_types::step::Step;
-use pipe_types::topology::{ChildMode, StageSpec};
-use plain_counts::{in_slot, plus};
+use plain_counts::crashes;
 use std::alloc::AllocError;
 
 /// Whether the reply is a crash.
@@ -22,38 +19,6 @@ pub(crate) fn is_crash(reply: &Reply) -> bool
     }
 }
 
-/// One more, where the ended child ran this message and crashed.
-fn crashed_as(ended: Option<u32>, reply: &Reply, n: u32, old: u64) -> Result<u64, AllocError>
-    ensures { IfOk result (λ count. count ≡ crashed_as_in ended reply.now n old) }
-{
-    match (ended, reply) {
-        (Some(m), Reply::Crashed) if m == n => plus(old, 1),
-        _ => Ok(old),
-    }
-}
-
-fn crashes_after(before: &[Step], step: &Step, n: u32, old: u64) -> Result<u64, AllocError>
-    ensures { IfOk result (λ count. count ≡ crashes_then (history before.now) step.now n old) }
-{
-    match step {
-        Step::ChildEnd { stage, slot, reply } => {
-            crashed_as(in_slot(before, *stage, *slot), reply, n, old)
-        }
-        _ => Ok(old),
-    }
-}
-
-/// How many children of message `n` crashed.
-pub fn crashes(steps: &[Step], n: u32) -> Result<u64, AllocError>
-    ensures { IfOk result (λ count. count ≡ crashes_in (history steps.now) n) }
-{
-    let mut count = 0;
-    for i in 0..steps.len() {
-        count = crashes_after(&steps[..i], &steps[i], n, count)?;
-    }
-    Ok(count)
-}
-
 /// How many children of a message crashed, and 0 for none.
 pub(crate) fn crashes_of(steps: &[Step], n: Option<u32>) -> Result<u64, AllocError>
     ensures { IfOk result (λ count. count ≡ crashes_of_in (history steps.now) n) }
@@ -61,18 +26,5 @@ pub(crate) fn crashes_of(steps: &[Step], n: Option<u32>) -> Result<u64, AllocErr
     match n {
         Some(n) => crashes(steps, n),
         None => Ok(0),
-    }
-}
-
-/// Whether a message of the supervisor that crashed this often before runs again after one more crash.
-pub fn runs_again(spec: Option<&StageSpec>, crashes: u64) -> bool
-    ensures { result ≡ runs_again_in (option_copied spec.entry) crashes }
-{
-    match spec {
-        Some(spec) => match spec.child {
-            ChildMode::Temporary => false,
-            ChildMode::Transient => crashes < 3,
-        },
-        None => false,
     }
 }

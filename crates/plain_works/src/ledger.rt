@@ -11,14 +11,14 @@ ghost use Rattle.plain_lives.specs.Lives.{LivesStand};
 ghost use Rattle.plain_queues.specs.Views.{view_in};
 ghost use Rattle.plain_works.specs.Works.{is_on as is_on_in, handled_by, handling_of, of_take as of_take_in, of_inbox as of_inbox_in, subs_for as subs_for_in, step_handles, with_handled as with_handled_in, WorksStand};
 
-use crate::children::{crashes_of, is_crash, runs_again};
+use crate::children::{crashes_of, is_crash};
 use crate::works::{HandledRow, Works};
 use pipe_types::message::{BatchEnd, Place, Reply};
 use pipe_types::numbers::{StageNo, SubNo};
 use pipe_types::room::Sent;
 use pipe_types::step::Step;
 use pipe_types::topology::Topology;
-use plain_counts::{asked, has_crash, in_slot, last_take, plus, same_sub};
+use plain_counts::{asked, has_crash, in_slot, last_take, plus, runs_again, same_sub};
 use plain_lives::Past;
 use plain_queues::{Tables, place_of};
 use std::alloc::{AllocError, Global};

@@ -13,7 +13,6 @@ mod takes;
 mod works;
 
 pub use after::{no_works, works_after};
-pub use children::{crashes, runs_again};
 pub use counts::count;
 pub use ledger::{due, handled};
 pub use messages::{batch_of, child_of, chunk_of};

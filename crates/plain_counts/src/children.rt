@@ -1,17 +1,18 @@
-//! How often children of a message crashed.
+//! How often children crashed.
 
 ghost use Rattle.std.specs.Prelude.{◌≡◌, IfOk, option_copied};
-ghost use Rattle.pipe_types.specs.Children.{runs_again as mode_runs_again};
 ghost use Rattle.pipe_model.specs.History.{history};
 ghost use Rattle.pipe_model.specs.Posts.{crashed_as as crashed_as_in, crashes_after as crashes_then, crashes as crashes_in};
 ghost use Rattle.pipe_model.specs.Flow.{runs_again as runs_again_in};
 
+use crate::counts::plus;
+use crate::posts::in_slot;
 use pipe_types::message::Reply;
 use pipe_types::step::Step;
 use pipe_types::topology::{ChildMode, StageSpec};
-use plain_counts::{in_slot, plus};
 use std::alloc::AllocError;
 
+/// One more, where the ended child ran this message and crashed.
 fn crashed_as(ended: Option<u32>, reply: &Reply, n: u32, old: u64) -> Result<u64, AllocError>
     ensures { IfOk result (λ count. count ≡ crashed_as_in ended reply.now n old) }
 {
@@ -32,7 +33,7 @@ fn crashes_after(before: &[Step], step: &Step, n: u32, old: u64) -> Result<u64, 
     }
 }
 
-/// How many children of the message crashed.
+/// How many children of message `n` crashed.
 pub fn crashes(steps: &[Step], n: u32) -> Result<u64, AllocError>
     ensures { IfOk result (λ count. count ≡ crashes_in (history steps.now) n) }
 {
@@ -43,21 +44,15 @@ pub fn crashes(steps: &[Step], n: u32) -> Result<u64, AllocError>
     Ok(count)
 }
 
-fn mode_again(mode: ChildMode, crashes: u64) -> bool
-    ensures { result ≡ mode_runs_again mode crashes }
-{
-    match mode {
-        ChildMode::Temporary => false,
-        ChildMode::Transient => crashes < 3,
-    }
-}
-
 /// Whether a message of the supervisor that crashed this often before runs again after one more crash.
 pub fn runs_again(spec: Option<&StageSpec>, crashes: u64) -> bool
     ensures { result ≡ runs_again_in (option_copied spec.entry) crashes }
 {
     match spec {
-        Some(spec) => mode_again(spec.child, crashes),
+        Some(spec) => match spec.child {
+            ChildMode::Temporary => false,
+            ChildMode::Transient => crashes < 3,
+        },
         None => false,
     }
 }
