@@ -59,6 +59,18 @@ all_back topology control bodies old new h =
 pub ran_as : (r : Result RunEnd AllocError) (o opened p final : PipeSeen) → o ≡ opened → p ≡ final → HasRun r o p → HasRun r opened final
 ran_as r o opened p final first last ran = subst (λ (z : PipeSeen × PipeSeen). HasRun r z.0 z.1) (λ i. (first i, last i)) ran
 
+-- nothing that is said of a run depends on what its pipe says of the end
+pub with_parts : (r : Result RunEnd AllocError) (opened left : PipeSeen) (end : Option (Result RunEnd AllocError)) → HasRun r opened (record left { end = end }) → HasRun r opened left
+with_parts r opened left end h = record {
+  topology = h.topology;
+  follows = h.follows;
+  keeps = h.keeps;
+  stay = h.stay;
+  clock = h.clock;
+  control = h.control;
+  ended = h.ended;
+}
+
 pub went : (r : Result RunEnd AllocError) (opened p : PipeSeen) (final : ℕ → Option BodySeen) (old new : EdgesSeen) → HasRun r opened p
     → GivesBack (named_control opened.topology.control p.control ++ sources_of opened.topology.stages p.home) (sinks_of opened.topology.stages p.home) old new → KeepsCallbacks p.home final
     → WentOn (is_ok r) opened.topology p.steps opened.home final opened.control old new opened.clock p.clock

@@ -18,6 +18,7 @@ ghost use Rattle.pipe_run.specs.Outside.{IsUnopened};
 ghost use Rattle.pipe_run.specs.Steps.{WentOn};
 ghost use Rattle.pipe_run.specs.Whole.{IsRunOf, IsAskedUntil, HasCome, IfUnopened, IfWanting};
 
+use crate::parts::run_parts;
 use box_stock::{Boxed, Carries, Lent, hand_out, take_back};
 use core_state::Core;
 use edge_names::{SeenEdges, Unopened, give_back, open_or_give_back};
@@ -25,9 +26,8 @@ use pipe_edges::{ByteSource, Clock, Edges, LineSource};
 use pipe_types::bytes::Text;
 use pipe_types::topology::Topology;
 use stage_bodies::Houses;
-use stage_pipes::{Pipe, PipeParts};
+use stage_pipes::PipeParts;
 use stage_rounds::RunEnd;
-use stage_workers::run_workers;
 use std::alloc::{AllocError, Global};
 use std::sync::Wait;
 use std::thread::Threads;
@@ -205,15 +205,19 @@ fn run_opened<
         (option_map (line_seen E.Source.told E.Source.taken E.Source.left E.Source.faults E.Source.waits) control)
         (⟦<E as SeenEdges>⟧.seen edges.old) (⟦<E as SeenEdges>⟧.seen edges.new) (clock_seen K.latest K.readings clock) (clock_seen K.latest K.readings result.clock) }
 {
-    let pipe = Pipe::new(core, bodies, control, clock);
-    let (pipe, end) = run_workers(rt, alloc, workers.max(1), pipe);
-    let parts = pipe.into_parts();
+    let opened = PipeParts {
+        core,
+        bodies,
+        control,
+        clock,
+    };
+    let (left, end) = run_parts(rt, alloc, workers, opened);
     let PipeParts {
         core,
         bodies,
         control,
         clock,
-    } = parts;
+    } = left;
     let mut bodies = bodies;
     match give_back(core.topology(), control, &mut bodies, edges) {
         Ok(()) => Went {
