@@ -9,9 +9,7 @@ use Rattle.pipe_model.specs.History.{History}
 use Rattle.pipe_model.specs.Outside.{fed}
 use Rattle.pipe_edges.specs.declared.edges.EdgeKind.{EdgeKind}
 use Rattle.pipe_edges.specs.declared.edges.EdgeKind.TheVariants.{File, Source}
-use Rattle.clap.specs.Faults.{walk_fault, defaults_fault}
-use Rattle.clap.specs.Walk.{walked}
-use Rattle.program_words.specs.Words.{Command, Run, command_of, taken_of, workers_of}
+use Rattle.program_words.specs.Words.{Command, command_of}
 use Rattle.config_table.specs.declared.fault.ConfigFault.{ConfigFault}
 use Rattle.topology_needs.specs.declared.stock.Boxes.{Boxes}
 use Rattle.topology_needs.specs.declared.stock.Shortage.{Shortage}
@@ -27,25 +25,18 @@ use Rattle.pipe_run.specs.Outside.{IsOutside, IsSourceRead}
 use Rattle.pipe_top.specs.Cases.{Case, Runs, InCase, IsNamedFile, case_of, file_name, for_topology, run_case, unless_short}
 use Rattle.pipe_top.specs.Runs.{OutsideSeen, IsCall, IsEndOf, IsOutsideOf}
 use Rattle.own_callback.specs.Came.{run_words, case_of_file}
+use Rattle.own_callback.proofs.Commanded.{run_command, run_words_run}
 
-abbrev run_command : Command
-run_command = Run (codes "t") 1 true true
-
-run_words_run : command_of run_words ≡ Some run_command
-unfolding taken_of workers_of walk_fault walked defaults_fault
-run_words_run = refl
-
--- the words, the bytes under the file's name and the one box make the case
-pub cased : {C : Type 0} (kind : C → Kind) (named : EdgeKind → List ℕ → List ℕ) (words : List (List ℕ)) (stock : List C) (callback : C) (file : List ℕ) (holds : Case → Type 0)
-    → words ≡ run_words → InCase true named (command_of words) (boxes_in (map kind stock)) holds → named File (codes "t") ≡ file → stock ≡ callback ∷ []
-    → holds (case_of_file (kind callback) file)
-cased {C = C} kind named words stock callback file holds e call f one =
-    let command : command_of words ≡ Some run_command = ap command_of e ∙ run_words_run in
+-- the words, the bytes under the file's name and the boxes make the case
+pub cased : {C : Type 0} (kind : C → Kind) (named : EdgeKind → List ℕ → List ℕ) (words : List (List ℕ)) (workers : ℕ) (stock : List C) (file : List ℕ) (holds : Case → Type 0)
+    → words ≡ run_words workers → 1 ≤ workers → workers ≤ 16 → InCase true named (command_of words) (boxes_in (map kind stock)) holds → named File (codes "t") ≡ file
+    → holds (case_of_file (map kind stock) file)
+cased {C = C} kind named words workers stock file holds e least most call f =
+    let command : command_of words ≡ Some (run_command workers) = ap command_of e ∙ run_words_run workers least most in
     let named_file = subst (λ (c : Option Command). IsNamedFile true named (file_name c) call.file) command call.is_file in
     let bytes : call.file ≡ take 1048577 file = named_file refl ∙ ap (take 1048577) f in
     let first = subst (λ (c : Option Command). holds (case_of c call.file (boxes_in (map kind stock)))) command call.it_holds in
-    let second = subst (λ (b : List ℕ). holds (case_of (Some run_command) b (boxes_in (map kind stock)))) bytes first in
-    subst (λ (s : List C). holds (case_of (Some run_command) (take 1048577 file) (boxes_in (map kind s)))) one second
+    subst (λ (b : List ℕ). holds (case_of (Some (run_command workers)) b (boxes_in (map kind stock)))) bytes first
 
 -- what is written to an output that holds nothing is all that it holds
 pub written_first : (held held' text : List ℕ) → held ≡ [] → held' ≡ held ++ text → held' ≡ text
@@ -89,20 +80,20 @@ module _ (before : History) (status : ℕ) (old new : OutsideSeen) where
   in_file boxes (Err fault) topology low end outside = absurd end
 
   -- under 0 to 4 a run was whole
-  used : (callback : Kind) (file : List ℕ) (topology : Option Topology) → status ≤ 4
-      → IsEndOf topology before status (case_of_file callback file) → IsOutsideOf (status ≡ 9) topology before (case_of_file callback file) old new
+  used : (kinds : List Kind) (file : List ℕ) (topology : Option Topology) → status ≤ 4
+      → IsEndOf topology before status (case_of_file kinds file) → IsOutsideOf (status ≡ 9) topology before (case_of_file kinds file) old new
       → IfSome topology (λ t. IsUsedWhole t before old new)
-  used callback file topology low end outside =
-      in_file (boxes_in (callback ∷ [])) (topology_of_file (take 1048577 file)) topology low end outside
+  used kinds file topology low end outside =
+      in_file (boxes_in kinds) (topology_of_file (take 1048577 file)) topology low end outside
 
-pub whole_run : {C : Type 0} (kind : C → Kind) (named : EdgeKind → List ℕ → List ℕ) (words : List (List ℕ)) (stock : List C) (callback : C) (file : List ℕ)
+pub whole_run : {C : Type 0} (kind : C → Kind) (named : EdgeKind → List ℕ → List ℕ) (words : List (List ℕ)) (workers : ℕ) (stock : List C) (file : List ℕ)
     (old new : OutsideSeen) (out out' err err' : SinkSeen) (topology : Option Topology) (before : History) (status : ℕ)
-    → words ≡ run_words
+    → words ≡ run_words workers → 1 ≤ workers → workers ≤ 16
     → InCase true named (command_of words) (boxes_in (map kind stock)) (IsCall old new out out' err err' (command_of words) topology before status)
-    → named File (codes "t") ≡ file → stock ≡ callback ∷ [] → status ≤ 4 → IfSome topology (λ t. IsUsedWhole t before old new)
-whole_run kind named words stock callback file old new out out' err err' topology before status e call f one low =
-    let came = cased kind named words stock callback file (IsCall old new out out' err err' (command_of words) topology before status) e call f one in
-    used before status old new (kind callback) file topology low (came.ended low) came.outside
+    → named File (codes "t") ≡ file → status ≤ 4 → IfSome topology (λ t. IsUsedWhole t before old new)
+whole_run kind named words workers stock file old new out out' err err' topology before status e least most call f low =
+    let came = cased kind named words workers stock file (IsCall old new out out' err err' (command_of words) topology before status) e least most call f in
+    used before status old new (map kind stock) file topology low (came.ended low) came.outside
 
 there : {A : Type 0} (o : Option A) (P : A → Type 0) (Q : Type 0) → There o P → ((x : A) → P x → Q) → Q
 there (Some x) P Q t f = f x t
@@ -124,9 +115,9 @@ pub accepted : (topology : Option Topology) (before : History) (old new : Outsid
 accepted None before old new name bytes whole told stands = tt
 accepted (Some t) before old new name bytes whole told stands = λ p call. first_lines t before old.edges new.edges name bytes p whole.outside told stands call
 
-pub counted : {C : Type 0} (seen : C → BoxSeen) (topology : Option Topology) (before : History) (old new : OutsideSeen) (stock : List C) (callback : C)
-    → IfSome topology (λ t. IsUsedWhole t before old new) → old.boxes ≡ map seen stock → stock ≡ callback ∷ []
-    → IfSome topology (λ t. AreBoxesLeft true t before (seen callback ∷ []) new.boxes)
-counted seen None before old new stock callback whole boxes one = tt
-counted seen (Some t) before old new stock callback whole boxes one =
-    subst (λ (b : List BoxSeen). AreBoxesLeft true t before b new.boxes) (boxes ∙ ap (map seen) one) whole.boxes
+pub counted : {C : Type 0} (seen : C → BoxSeen) (topology : Option Topology) (before : History) (old new : OutsideSeen) (stock : List C)
+    → IfSome topology (λ t. IsUsedWhole t before old new) → old.boxes ≡ map seen stock
+    → IfSome topology (λ t. AreBoxesLeft true t before (map seen stock) new.boxes)
+counted seen None before old new stock whole boxes = tt
+counted seen (Some t) before old new stock whole boxes =
+    subst (λ (b : List BoxSeen). AreBoxesLeft true t before b new.boxes) boxes whole.boxes

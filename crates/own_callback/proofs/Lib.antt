@@ -1,1 +1,2 @@
 pub mod Cased
+pub mod Commanded

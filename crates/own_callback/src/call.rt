@@ -1,6 +1,6 @@
 //! A call of the program with a callback of one's own.
 
-ghost use Rattle.std.specs.Prelude.{◌≡◌, ◌≢◌, ◌≤◌, ◌∷◌, [], true, codes, map, Some, IfOk, IfSome};
+ghost use Rattle.std.specs.Prelude.{◌≡◌, ◌≢◌, ◌≤◌, [], true, codes, map, Some, IfOk, IfSome};
 ghost use Rattle.program_words.specs.Words.{texts_of};
 ghost use Rattle.pipe_types.specs.declared.numbers.StageNo.{StageNo};
 ghost use Rattle.pipe_types.specs.Stages.{spec_of};
@@ -10,6 +10,7 @@ ghost use Rattle.mem_edges.specs.MemEdges.{named_in};
 ghost use Rattle.mem_edges.specs.MemSink.{held_by};
 ghost use Rattle.source_lines.specs.Cut.{AreFirstLines};
 ghost use Rattle.edge_names.specs.Opened.{call_in};
+ghost use Rattle.box_stock.specs.Lends.{kinds_of};
 ghost use Rattle.pipe_run.specs.Boxes.{AreBoxesLeft};
 ghost use Rattle.pipe_top.specs.Runs.{IsRunOrNone, IsEndOf, IsStatusOf, out_text};
 ghost use Rattle.own_callback.specs.Came.{run_words, case_of_file};
@@ -28,7 +29,7 @@ use std::thread::Threads;
 /// Room for the texts that a call writes, in bytes.
 const ROOM: usize = 1_000_000;
 
-/// What a call came to: its status, the topology and the journal of its run, both outputs, and the callback.
+/// What a call came to: its status, the topology and the journal of its run, both outputs, and the callbacks.
 #[derive(Drop)]
 pub struct Came<C> {
     pub status: u8,
@@ -39,35 +40,42 @@ pub struct Came<C> {
     pub stock: Vec<C>,
 }
 
-/// Runs the topology of a file with one callback in stock, over these lines under the name `mem:a`, and shows the journal and
-/// the acknowledgements. The error is want of memory before the run.
+/// Runs the topology of a file on so many workers, from 1 to 16, with these callbacks in stock, over these lines under the name
+/// `mem:a`, and shows the journal and the acknowledgements. The error is want of memory before the run.
 pub fn run_with<
     R: Threads + Wait + Sync,
     C: Boxed,
     B: Carries<C> + Houses<MemSource, MemSink> + Send,
->(rt: &R, alloc: Global, file: &str, lines: &str, callback: C) -> Result<Came<C>, AllocError>
+>(
+    rt: &R,
+    alloc: Global,
+    workers: u16,
+    file: &str,
+    lines: &str,
+    stock: Vec<C>,
+) -> Result<Came<C>, AllocError>
+    requires least { 1 ≤ workers }
+    requires most { workers ≤ 16 }
     // The journal is legal and keeps every claim, and each step of its own accord was the next move.
     ensures run { IfOk result (λ came. IsRunOrNone came.topology came.journal.steps) }
     // A call by name or a write that failed, and want of memory, are 5, 8 and 9; else the status is that of the case.
     ensures status { IfOk result (λ came. came.status ≢ 5 → came.status ≢ 8 → came.status ≢ 9
-        → IsStatusOf came.status (case_of_file (C.seen callback).kind file.now)) }
+        → IsStatusOf came.status (case_of_file (kinds_of C.seen stock.items) file.now)) }
     // Under 0 to 4 the run came to its end, the status is the journal's, and the output has all three texts.
     ensures ended { IfOk result (λ came. came.status ≤ 4
-        → IsEndOf came.topology came.journal.steps came.status (case_of_file (C.seen callback).kind file.now)) }
+        → IsEndOf came.topology came.journal.steps came.status (case_of_file (kinds_of C.seen stock.items) file.now)) }
     ensures output { IfOk result (λ came. came.status ≤ 4
-        → held_by came.out ≡ out_text came.journal.steps (case_of_file (C.seen callback).kind file.now)) }
+        → held_by came.out ≡ out_text came.journal.steps (case_of_file (kinds_of C.seen stock.items) file.now)) }
     // What a producer of these lines accepted are the first of them.
     ensures lines { IfOk result (λ came. came.status ≤ 4 → IfSome came.topology (λ topology. (p : StageNo)
         → call_in (spec_of topology p) ≡ Some (EdgeKind.Source, codes "mem:a") → AreFirstLines lines.now (fed came.journal.steps p))) }
-    // The callback counted each call, and each answer other than success, that the journal says of its post.
+    // The callbacks, in their order, counted each call, and each answer other than success, that the journal says of their posts.
     ensures counted { IfOk result (λ came. came.status ≤ 4 → IfSome came.topology (λ topology.
-        AreBoxesLeft true topology came.journal.steps (C.seen callback ∷ [])
+        AreBoxesLeft true topology came.journal.steps (map C.seen stock.items)
         (map C.seen came.stock.items))) }
 {
-    let words = words_of(alloc)?;
+    let words = words_of(alloc, workers)?;
     let mut edges = edges_of(alloc, file, lines)?;
-    let mut stock: Vec<C> = Vec::new(alloc);
-    stock.push(callback)?;
     let mut out = output(alloc)?;
     let mut err = output(alloc)?;
     let clock = MemClock {
@@ -90,13 +98,15 @@ pub fn run_with<
     })
 }
 
-/// The words `run t --steps --acks`.
-fn words_of(alloc: Global) -> Result<Vec<String>, AllocError>
-    ensures { IfOk result (λ words. texts_of words.items ≡ run_words) }
+/// The words `run t --workers N --steps --acks`.
+fn words_of(alloc: Global, workers: u16) -> Result<Vec<String>, AllocError>
+    ensures { IfOk result (λ words. texts_of words.items ≡ run_words workers) }
 {
     let mut words = Vec::new(alloc);
     words.push(String::from_str(alloc, "run")?)?;
     words.push(String::from_str(alloc, "t")?)?;
+    words.push(String::from_str(alloc, "--workers")?)?;
+    words.push(format!(in alloc; "{workers}")?)?;
     words.push(String::from_str(alloc, "--steps")?)?;
     words.push(String::from_str(alloc, "--acks")?)?;
     Ok(words)

@@ -1,7 +1,8 @@
 //! A callback of one's own, and a call of the program with it over objects in memory.
 //!
-//! `ThirdCrashes` passes each message and crashes at its third one. `run_with` hands a callback to `run_program`, with the
-//! words `run t --steps --acks`, a topology file and lines, and its contract says what comes of it. docs/USING.md shows both.
+//! `ThirdCrashes` passes each message and crashes at its third one. `run_with` hands callbacks to `run_program`, with the
+//! words `run t --workers N --steps --acks`, a topology file and lines, and its contract says what comes of it. docs/USING.md
+//! shows both.
 #![tactic(auto)]
 
 mod call;

@@ -24,8 +24,9 @@ fn a_crash_at_the_third_message_loses_what_the_stage_held(rt: HostRuntime) -> Re
         fetch 1 8\nsource 1 end\ndrain sources\nend 17\n\
         ack p ok 11,12 failed -\n\
         accepted 12\nsuccessful 2\nfailed 0\nlost 10\nkilled processors.0 10\nrestarts 1\nrefused 0\nend sources\n";
-    let callback: Box<dyn Callback + Send> = Box::new(alloc, ThirdCrashes::new(alloc))?;
-    let came = run_with::<_, _, Body<MemSource, MemSink>>(&rt, alloc, FILE, lines, callback)?;
+    let mut stock: Vec<Box<dyn Callback + Send>> = Vec::new(alloc);
+    stock.push(Box::new(alloc, ThirdCrashes::new(alloc))?)?;
+    let came = run_with::<_, _, Body<MemSource, MemSink>>(&rt, alloc, 1, FILE, lines, stock)?;
     let out = str::from_utf8(came.out.held().as_slice()).unwrap_or("no text");
     assert!(rt; out == wanted, "{out}");
     assert!(rt; came.err.held().is_empty());

@@ -70,6 +70,30 @@ fn a_host_is_a_name_or_an_address(rt: HostRuntime) -> Result<(), Fail> {
     Ok(())
 }
 
+// Accepts one connection, sends the bytes over it, and closes. Whether it did.
+fn accept_and_send(listener: TcpListener, bytes: &[u8]) -> bool {
+    match listener.accept() {
+        Ok((mut stream, _)) => stream.write_all(bytes).is_ok(),
+        Err(_) => false,
+    }
+}
+
+#[test]
+fn a_source_opens_before_a_second_thread_accepts_and_sends(rt: HostRuntime) -> Result<(), Fail> {
+    let alloc = rt.alloc();
+    let mut edges = RealEdges::new(&rt);
+    let listener = TcpListener::bind(&rt, "127.0.0.1:0")?;
+    let port = port_of(&listener)?;
+    let name = format!(in alloc; "connect:127.0.0.1:{port}")?;
+    // The system makes the connection before anyone accepts it, and no byte of it is there yet.
+    let source = open_source(alloc, &mut edges, name.as_str())?;
+    let peer = thread::spawn(&rt, move || accept_and_send(listener, b"one\ntwo\n"))?;
+    let mut lines = lines_of(alloc, source)?;
+    assert_eq!(rt; story(alloc, &mut lines)?.as_str(), "one|two|end");
+    assert!(rt; peer.join(&rt));
+    Ok(())
+}
+
 #[test]
 fn a_reset_is_a_fault_and_no_end(rt: HostRuntime) -> Result<(), Fail> {
     let alloc = rt.alloc();

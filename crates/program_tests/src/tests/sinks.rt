@@ -285,3 +285,75 @@ fn two_logs_go_by_their_method(rt: HostRuntime) -> Result<(), Fail> {
     assert_eq!(rt; count_of(holding(&came.t), "POST "), Some(10_000));
     Ok(())
 }
+
+/// The number of a request that begins with these words and ends with that answer.
+fn number_in(line: &str, front: &str, back: &str) -> Option<usize> {
+    let rest = line.strip_prefix(front)?;
+    let digits = rest.strip_suffix(back)?;
+    digits.parse::<usize>().ok()
+}
+
+/// How often each number up to `last` stands in the lines, if each line is such a request.
+fn times_of(
+    alloc: Global,
+    text: &str,
+    front: &str,
+    back: &str,
+    last: usize,
+) -> Result<Option<Vec<u32>>, AllocError> {
+    let mut times: Vec<u32> = Vec::new(alloc);
+    times.resize(last.saturating_add(1), 0)?;
+    for line in text.lines() {
+        let Some(number) = number_in(line, front, back) else {
+            return Ok(None);
+        };
+        let Some(count) = times.get_mut(number) else {
+            return Ok(None);
+        };
+        *count = count.saturating_add(1);
+    }
+    Ok(Some(times))
+}
+
+/// Whether each number up to `last` of this parity stands there twice, and no other.
+fn stand_twice(times: &Option<Vec<u32>>, odd: bool) -> bool {
+    let Some(times) = times else {
+        return false;
+    };
+    for (number, count) in times.iter().enumerate() {
+        let wanted = if number > 0 && (number % 2 == 1) == odd {
+            2
+        } else {
+            0
+        };
+        if *count != wanted {
+            return false;
+        }
+    }
+    true
+}
+
+/// Both logs have the same lines, so each request stands twice in the sink of its method, whatever the order.
+#[test]
+fn more_workers_bring_two_logs_to_the_same_counts(rt: HostRuntime) -> Result<(), Fail> {
+    let alloc = rt.alloc();
+    let lines = requests(alloc, 10_000)?;
+    let out =
+        "accepted 20000\nsuccessful 20000\nfailed 0\nlost 0\nrestarts 0\nrefused 0\nend sources\n";
+    for words in [
+        "run t --workers 2",
+        "run t --workers 4",
+        "run t --workers 16",
+    ] {
+        let given = Given {
+            more_lines: lines.as_str(),
+            ..on(words, TWO_LOGS, lines.as_str())
+        };
+        let came = expect(&rt, alloc, given, 0, out, "")?;
+        let gets = times_of(alloc, holding(&came.s), "GET /p/", " 200", 10_000)?;
+        let posts = times_of(alloc, holding(&came.t), "POST /p/", " 201", 10_000)?;
+        assert!(rt; stand_twice(&gets, false), "{words}");
+        assert!(rt; stand_twice(&posts, true), "{words}");
+    }
+    Ok(())
+}
