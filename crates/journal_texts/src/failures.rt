@@ -40,8 +40,8 @@ fn count_one<'a>(reasons: &mut BTreeMap<&'a [u8], u64>, reason: &'a [u8]) -> Res
     requires room { count_in reasons.old reason.now + 1 < 2 ^ 64 }
     ensures { OnOk result (counted reasons.new ≡ with_reason reason.now (counted reasons.old)) }
 {
-    let next = count_of(reasons, reason) + 1;
-    reasons.insert(reason, next)?;
+    let before = count_of(reasons, reason);
+    reasons.insert(reason, before + 1)?;
     Ok(())
 }
 
