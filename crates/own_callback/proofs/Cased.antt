@@ -1,5 +1,5 @@
 -- The case of the call, and what was used in it.
-use Rattle.std.proofs.Common.{◌≡◌, ◌∙◌, ◌≤◌, ◌++◌, refl, sym, ap, subst, ℕ, List, [], ◌∷◌, codes, take, map, Bool, true, false, Option, Some, None, IfSome, Result, Ok, Err, arith}
+use Rattle.std.proofs.Common.{◌≡◌, ◌∙◌, ◌≤◌, ◌++◌, refl, sym, ap, subst, ℕ, List, [], codes, take, Bool, true, false, Option, Some, None, IfSome, Result, Ok, Err, arith}
 use Rattle.std.specs.Prelude.{IsTrue}
 use Rattle.pipe_types.specs.declared.numbers.StageNo.{StageNo}
 use Rattle.pipe_types.specs.declared.topology.Kind.{Kind}
@@ -27,16 +27,16 @@ use Rattle.pipe_top.specs.Runs.{OutsideSeen, IsCall, IsEndOf, IsOutsideOf}
 use Rattle.own_callback.specs.Came.{run_words, case_of_file}
 use Rattle.own_callback.proofs.Commanded.{run_command, run_words_run}
 
--- the words, the bytes under the file's name and the boxes make the case
-pub cased : {C : Type 0} (kind : C → Kind) (named : EdgeKind → List ℕ → List ℕ) (words : List (List ℕ)) (workers : ℕ) (stock : List C) (file : List ℕ) (holds : Case → Type 0)
-    → words ≡ run_words workers → 1 ≤ workers → workers ≤ 16 → InCase true named (command_of words) (boxes_in (map kind stock)) holds → named File (codes "t") ≡ file
-    → holds (case_of_file (map kind stock) file)
-cased {C = C} kind named words workers stock file holds e least most call f =
+-- the words, the bytes under the file's name and the kinds of the boxes make the case
+pub cased : (named : EdgeKind → List ℕ → List ℕ) (words : List (List ℕ)) (workers : ℕ) (kinds : List Kind) (file : List ℕ) (holds : Case → Type 0)
+    → words ≡ run_words workers → 1 ≤ workers → workers ≤ 16 → InCase true named (command_of words) (boxes_in kinds) holds → named File (codes "t") ≡ file
+    → holds (case_of_file kinds file)
+cased named words workers kinds file holds e least most call f =
     let command : command_of words ≡ Some (run_command workers) = ap command_of e ∙ run_words_run workers least most in
     let named_file = subst (λ (c : Option Command). IsNamedFile true named (file_name c) call.file) command call.is_file in
     let bytes : call.file ≡ take 1048577 file = named_file refl ∙ ap (take 1048577) f in
-    let first = subst (λ (c : Option Command). holds (case_of c call.file (boxes_in (map kind stock)))) command call.it_holds in
-    subst (λ (b : List ℕ). holds (case_of (Some (run_command workers)) b (boxes_in (map kind stock)))) bytes first
+    let first = subst (λ (c : Option Command). holds (case_of c call.file (boxes_in kinds))) command call.it_holds in
+    subst (λ (b : List ℕ). holds (case_of (Some (run_command workers)) b (boxes_in kinds))) bytes first
 
 -- what is written to an output that holds nothing is all that it holds
 pub written_first : (held held' text : List ℕ) → held ≡ [] → held' ≡ held ++ text → held' ≡ text
@@ -86,14 +86,14 @@ module _ (before : History) (status : ℕ) (old new : OutsideSeen) where
   used kinds file topology low end outside =
       in_file (boxes_in kinds) (topology_of_file (take 1048577 file)) topology low end outside
 
-pub whole_run : {C : Type 0} (kind : C → Kind) (named : EdgeKind → List ℕ → List ℕ) (words : List (List ℕ)) (workers : ℕ) (stock : List C) (file : List ℕ)
+pub whole_run : (named : EdgeKind → List ℕ → List ℕ) (words : List (List ℕ)) (workers : ℕ) (kinds : List Kind) (file : List ℕ)
     (old new : OutsideSeen) (out out' err err' : SinkSeen) (topology : Option Topology) (before : History) (status : ℕ)
     → words ≡ run_words workers → 1 ≤ workers → workers ≤ 16
-    → InCase true named (command_of words) (boxes_in (map kind stock)) (IsCall old new out out' err err' (command_of words) topology before status)
+    → InCase true named (command_of words) (boxes_in kinds) (IsCall old new out out' err err' (command_of words) topology before status)
     → named File (codes "t") ≡ file → status ≤ 4 → IfSome topology (λ t. IsUsedWhole t before old new)
-whole_run kind named words workers stock file old new out out' err err' topology before status e least most call f low =
-    let came = cased kind named words workers stock file (IsCall old new out out' err err' (command_of words) topology before status) e least most call f in
-    used before status old new (map kind stock) file topology low (came.ended low) came.outside
+whole_run named words workers kinds file old new out out' err err' topology before status e least most call f low =
+    let came = cased named words workers kinds file (IsCall old new out out' err err' (command_of words) topology before status) e least most call f in
+    used before status old new kinds file topology low (came.ended low) came.outside
 
 there : {A : Type 0} (o : Option A) (P : A → Type 0) (Q : Type 0) → There o P → ((x : A) → P x → Q) → Q
 there (Some x) P Q t f = f x t
@@ -115,9 +115,9 @@ pub accepted : (topology : Option Topology) (before : History) (old new : Outsid
 accepted None before old new name bytes whole told stands = tt
 accepted (Some t) before old new name bytes whole told stands = λ p call. first_lines t before old.edges new.edges name bytes p whole.outside told stands call
 
-pub counted : {C : Type 0} (seen : C → BoxSeen) (topology : Option Topology) (before : History) (old new : OutsideSeen) (stock : List C)
-    → IfSome topology (λ t. IsUsedWhole t before old new) → old.boxes ≡ map seen stock
-    → IfSome topology (λ t. AreBoxesLeft true t before (map seen stock) new.boxes)
-counted seen None before old new stock whole boxes = tt
-counted seen (Some t) before old new stock whole boxes =
-    subst (λ (b : List BoxSeen). AreBoxesLeft true t before b new.boxes) boxes whole.boxes
+pub counted : (topology : Option Topology) (before : History) (old new : OutsideSeen) (boxes : List BoxSeen)
+    → IfSome topology (λ t. IsUsedWhole t before old new) → old.boxes ≡ boxes
+    → IfSome topology (λ t. AreBoxesLeft true t before boxes new.boxes)
+counted None before old new boxes whole same = tt
+counted (Some t) before old new boxes whole same =
+    subst (λ (b : List BoxSeen). AreBoxesLeft true t before b new.boxes) same whole.boxes

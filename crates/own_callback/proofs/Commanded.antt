@@ -1,5 +1,5 @@
 -- The command that the words of a call are.
-use Rattle.std.proofs.Common.{◌≡◌, ◌≤◌, ◌<◌, ◌⊎◌, inl, inr, ℕ, zero, suc, refl, sym, subst, codes, true, Option, Some, arith}
+use Rattle.std.proofs.Common.{◌≡◌, ◌≤◌, ◌<◌, ◌⊎◌, inl, inr, ℕ, zero, suc, refl, subst, codes, true, Some, arith}
 use Rattle.std.proofs.lemmas.Bool.{cases_lt}
 use Rattle.clap.specs.Faults.{walk_fault, defaults_fault}
 use Rattle.clap.specs.Walk.{walked}
