@@ -8,7 +8,7 @@ ghost use Rattle.move_laws.specs.NextMoves.{MayBegin};
 ghost use Rattle.core_state.specs.Stands.{Stands};
 ghost use Rattle.core_children.specs.Starts.{may_start_child};
 ghost use Rattle.stage_bodies.specs.Posts.{IsJobOf};
-ghost use Rattle.core_jobs.specs.Begun.{IsBegun, work_on};
+ghost use Rattle.core_jobs.specs.Begun.{IsBegun, GivesBatch, work_on};
 
 use core_accepts::fetches::fetch;
 use core_children::child_start;
@@ -20,12 +20,14 @@ use stage_bodies::{Job, Work};
 use std::alloc::AllocError;
 
 /// Appends the begin of the stage's job that comes next, and gives the job out: a producer fetches, a processor or a batch
-/// processor takes what stands first in its inbox, and a supervisor starts a child.
+/// processor takes what stands first in its inbox, and a supervisor starts a child. A batch is given out with its number, its
+/// key and why it was closed.
 pub fn begin_job(core: &mut Core, stage: StageNo) -> Result<Job, AllocError>
     requires stands { Stands core.old }
     requires begins { MayBegin core.old.topology core.old.journal.steps stage }
     ensures begun { IfOk result (λ job. IsBegun core.old.topology core.old.journal.steps stage core.new.journal.steps job) }
     ensures job { IfOk result (λ job. IsJobOf core.new.topology core.new.journal.steps job) }
+    ensures batch { IfOk result (λ job. GivesBatch core.new.topology core.new.journal.steps stage job.work) }
     ensures unchanged { OnErr result (core.new.journal.steps ≡ core.old.journal.steps) }
     ensures topology { core.new.topology ≡ core.old.topology }
     ensures stands { Stands core.new }
@@ -65,6 +67,7 @@ fn begin_fetch(core: &mut Core, stage: StageNo) -> Result<Job, AllocError>
     requires legal { IsTrue (allows core.old.topology core.old.journal.steps (Fetch stage (bound core.old.topology core.old.journal.steps stage))) }
     ensures begun { IfOk result (λ job. IsBegun core.old.topology core.old.journal.steps stage core.new.journal.steps job) }
     ensures job { IfOk result (λ job. IsJobOf core.new.topology core.new.journal.steps job) }
+    ensures batch { IfOk result (λ job. GivesBatch core.new.topology core.new.journal.steps stage job.work) }
     ensures unchanged { OnErr result (core.new.journal.steps ≡ core.old.journal.steps) }
     ensures topology { core.new.topology ≡ core.old.topology }
     ensures stands { Stands core.new }
@@ -84,6 +87,7 @@ fn begin_take(core: &mut Core, stage: StageNo) -> Result<Job, AllocError>
     requires legal { IsTrue (may_take_next core.old.topology core.old.journal.steps stage) }
     ensures begun { IfOk result (λ job. IsBegun core.old.topology core.old.journal.steps stage core.new.journal.steps job) }
     ensures job { IfOk result (λ job. IsJobOf core.new.topology core.new.journal.steps job) }
+    ensures batch { IfOk result (λ job. GivesBatch core.new.topology core.new.journal.steps stage job.work) }
     ensures unchanged { OnErr result (core.new.journal.steps ≡ core.old.journal.steps) }
     ensures topology { core.new.topology ≡ core.old.topology }
     ensures stands { Stands core.new }
@@ -113,6 +117,7 @@ fn begin_child(core: &mut Core, stage: StageNo) -> Result<Job, AllocError>
     requires legal { IsTrue (may_start_child core.old.topology core.old.journal.steps stage) }
     ensures begun { IfOk result (λ job. IsBegun core.old.topology core.old.journal.steps stage core.new.journal.steps job) }
     ensures job { IfOk result (λ job. IsJobOf core.new.topology core.new.journal.steps job) }
+    ensures batch { IfOk result (λ job. GivesBatch core.new.topology core.new.journal.steps stage job.work) }
     ensures unchanged { OnErr result (core.new.journal.steps ≡ core.old.journal.steps) }
     ensures topology { core.new.topology ≡ core.old.topology }
     ensures stands { Stands core.new }
