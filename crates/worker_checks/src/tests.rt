@@ -1,5 +1,7 @@
 //! Runs on one worker and on more, worked out by hand.
 
+ghost use Rattle.std.specs.Prelude.{◌≤◌};
+
 use crate::Meets;
 use body_jobs::Body;
 use mem_edges::{MemSink, MemSource};
