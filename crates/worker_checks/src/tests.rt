@@ -1,5 +1,7 @@
 //! Runs on one worker and on more, worked out by hand.
 
+ghost use Rattle.std.specs.Prelude.{◌≤◌};
+
 use crate::Meets;
 use body_jobs::Body;
 use mem_edges::{MemSink, MemSource};
@@ -37,6 +39,17 @@ fn shown<C>(came: &Came<C>) -> &str {
     str::from_utf8(came.out.held().as_slice()).unwrap_or("no text")
 }
 
+/// Whether each message up to `last` has a line of its own that acknowledges it as successful.
+fn are_acknowledged(alloc: Global, out: &str, last: u32) -> Result<bool, AllocError> {
+    for message in 1..=last {
+        let line = format!(in alloc; "\nack p ok {message} failed -\n")?;
+        if !out.contains(line.as_str()) {
+            return Ok(false);
+        }
+    }
+    Ok(true)
+}
+
 /// Runs twelve lines on so many workers, and wants that each call met another one.
 fn expect_met(
     rt: &(impl Abort + Threads + Wait + Sync),
@@ -59,13 +72,8 @@ fn expect_met(
     let report =
         "accepted 12\nsuccessful 12\nfailed 0\nlost 0\nrestarts 0\nrefused 0\nend sources\n";
     assert!(rt; out.ends_with(report), "{workers} workers: {out}");
-    for message in 1..=12 {
-        let acknowledged = format!(in alloc; "\nack p ok {message} failed -\n")?;
-        assert!(rt;
-            out.contains(acknowledged.as_str()),
-            "{workers} workers: {out}"
-        );
-    }
+    let acknowledged = are_acknowledged(alloc, out, 12)?;
+    assert!(rt; acknowledged, "{workers} workers: {out}");
     assert!(rt; came.err.held().is_empty(), "{workers} workers");
     assert_eq!(rt; came.status, 0, "{workers} workers");
     assert_eq!(rt; came.stock.len(), 2, "{workers} workers");
