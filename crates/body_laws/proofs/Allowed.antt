@@ -217,7 +217,7 @@ batch_row topology before p batch bytes end old new live current is fit done =
     let holds = batch_for topology before p.stage f.spec f.spec.role old f.role f.holds in
     let handled = end_is_handled topology before p.stage f.spec batch.messages bytes end old new old.callback new.callback (writers_alone topology p.stage is.0) live holds.1 holds.0 done.0 in
     both (is_live topology before p.stage) _ live (both (has_role topology p.stage is_batch_processor_role) _ is.0 (both (is_current before p.stage 0) _ (current_first before p is.2 current)
-    (subst (λ o. is_batch_handled o (count topology before p.stage) (batch_of topology before p.stage) bytes end ≡ true) (sym f.is) (subst (λ ms. is_end_by f.spec.kind (is_some f.spec.edge) f.spec (count topology before p.stage) ms bytes end ≡ true) is.1 handled))))
+    (subst (λ o. is_batch_handled o (count topology before p.stage) (batch_of topology before p.stage) bytes end ≡ true) (sym f.is) (subst (λ ms. is_end_by f.spec.kind (is_some f.spec.edge) f.spec (count topology before p.stage) ms bytes end ≡ true) is.1.messages handled))))
 
 -- ---- any job
 

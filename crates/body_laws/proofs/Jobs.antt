@@ -282,8 +282,8 @@ answered_body topology before p (work.Batch batch) (came.Wrote bytes end) a old 
     let f = batch_armed topology before p old is.0 fit in
     record {
       source = subst (λ x. Both (KeepsSource (Wrote p.stage bytes end ∷ before) p.stage []) a.source x) (sym done.1) (both_map (λ x y h. source_as before (Wrote p.stage bytes end ∷ before) p.stage x y refl refl refl refl h) a.source old.source k.source);
-      sink = batch_sink topology before p.stage f.spec batch.messages bytes end old new a.sink old.callback new.callback f.is (writers_alone topology p.stage is.0) live is.1 f.box done.0 k.sink;
-      callback = batch_callback topology before p f.spec batch.messages bytes end old new a.callback old.callback new.callback is.2 f.is is.1 live f.box done.0 k.callback;
+      sink = batch_sink topology before p.stage f.spec batch.messages bytes end old new a.sink old.callback new.callback f.is (writers_alone topology p.stage is.0) live is.1.messages f.box done.0 k.sink;
+      callback = batch_callback topology before p f.spec batch.messages bytes end old new a.callback old.callback new.callback is.2 f.is is.1.messages live f.box done.0 k.callback;
     }
 answered_body topology before p (work.Batch batch) o a old new live is fit done k = absurd done
 answered_body topology before p (work.Child message) (came.Reply reply) a old new live is fit done k = child_body topology before p message reply a old new is.0 done k
@@ -339,7 +339,7 @@ answered_fit topology before p (work.Batch batch) (came.Wrote bytes end) old new
     fit_at topology (Wrote p.stage bytes end ∷ before) p f.spec new f.is
     (for_batch topology (Wrote p.stage bytes end ∷ before) p.stage f.spec f.spec.role new f.role (
       armed_after topology before (Wrote p.stage bytes end ∷ before) p.stage f.spec old.callback new.callback
-          (λ b c d armed. record { spec = d.0.kept.spec ∙ armed.spec; kind = d.0.kept.kind ∙ armed.kind; count = counts_wrote topology before p.stage f.spec bytes end (is_some old.sink) batch.messages b c f.is is.1 live armed d.0 })
+          (λ b c d armed. record { spec = d.0.kept.spec ∙ armed.spec; kind = d.0.kept.kind ∙ armed.kind; count = counts_wrote topology before p.stage f.spec bytes end (is_some old.sink) batch.messages b c f.is is.1.messages live armed d.0 })
           done.0 holds.0,
       sink_same batch.messages bytes end old new old.callback new.callback (there_some (IsArmed topology before p.stage f.spec) old.callback holds.0) done.0 ∙ holds.1,
     ))

@@ -130,7 +130,7 @@ late_body topology before p (work.Batch batch) i (came.Wrote bytes end) a old ne
     let f = batch_armed topology before p old is.0 fit in
     record {
       source = subst (λ x. Both (KeepsSource (late_step p i (came.Wrote bytes end) ∷ before) p.stage []) a.source x) (sym done.1) (both_map (λ x y h. source_as before (late_step p i (came.Wrote bytes end) ∷ before) p.stage x y refl refl refl refl h) a.source old.source k.source);
-      sink = sink_late topology before p i f.spec batch.messages bytes end old new a.sink old.callback new.callback f.is (writers_alone topology p.stage is.0) (subst (λ n. is_out before (post p.stage n) ≡ true) is.2 out) is.1 f.box done.0 k.sink;
+      sink = sink_late topology before p i f.spec batch.messages bytes end old new a.sink old.callback new.callback f.is (writers_alone topology p.stage is.0) (subst (λ n. is_out before (post p.stage n) ≡ true) is.2 out) is.1.messages f.box done.0 k.sink;
       callback = both_then (λ x y z h g. callback_late topology before p i (late.Wrote bytes end) x y z (uncounted topology before p (work.Batch batch) i (late.Wrote bytes end) z is legal) h g.0.kept) a.callback old.callback new.callback k.callback done.0;
     }
 late_body topology before p (work.Batch batch) i o a old new legal out is fit done k = absurd done

@@ -31,6 +31,7 @@ use Rattle.pipe_model.specs.Flow.{place, batch, waiting, view_of, closing, is_ga
 use Rattle.pipe_model.specs.Legal.{allows, is_legal, owed, is_batcher_role, has_role, trigger_of, same_trigger, is_dry, batch_size_in, batch_timeout_in, gathered_at, ends_in_flush}
 use Rattle.pipe_model.specs.Lives.{is_live as is_live_stage}
 use Rattle.pipe_model.specs.Standing.{gathered_in, of_key}
+use Rattle.pipe_model.specs.Taken.{closed_as}
 use Rattle.pipe_laws.proofs.Tests.{clash, and_left, and_right, same_stage-true}
 use Rattle.pipe_laws.proofs.Lists.{Each, each_always, each_weaker, each_filter, all_among, each_among}
 use Rattle.pipe_laws.proofs.Allowed.{unowed}
@@ -52,7 +53,7 @@ use Rattle.core_tables.specs.declared.rows.Totals.{Totals}
 use Rattle.core_tables.specs.declared.rows.BatchRow.{BatchRow}
 use Rattle.core_tables.specs.Tables.{queue_at}
 use Rattle.core_tables.proofs.Tables.{same_or_other}
-use Rattle.core_laws.specs.Columns.{closed_as, closed_numbers, sent_on, ends_in_progress, open_of, open_batches, keys_of, part_of, part_by, is_by_partition, waiting_parts}
+use Rattle.core_laws.specs.Columns.{closed_numbers, sent_on, ends_in_progress, open_of, open_batches, keys_of, part_of, part_by, is_by_partition, waiting_parts}
 use Rattle.core_laws.proofs.Lawful.{legal_after}
 use Rattle.core_laws.proofs.Past.{known_within, live_known}
 use Rattle.core_state.specs.declared.state.Core.{Core}

@@ -30,6 +30,7 @@ use Rattle.message_ack.specs.Ends.{ends_of, end_of}
 use Rattle.message_ack.specs.declared.legs.LegEnd.TheVariants.{Answered as AnsweredEnd}
 use Rattle.pipe_model.specs.Legal.{is_legal, allows, owed, has_role, is_producer_role, is_supervisor_role, is_batch_processor_role}
 use Rattle.pipe_model.specs.Standing.{works, leg_works, leg_works_in, works_at, is_at_work, has_entry}
+use Rattle.pipe_model.specs.Taken.{closed_as}
 use Rattle.pipe_laws.proofs.Tests.{clash, and_left, and_right, same_stage-true, same_stage-self, same_sub-true, same_sub-self}
 use Rattle.pipe_laws.proofs.Lists.{Each, each_weaker, each_both, each_map, weigh}
 use Rattle.pipe_laws.proofs.Allowed.{legal_before, legal_step, WroteFacts, wrote_facts, fetch_role, child_facts}
@@ -51,7 +52,7 @@ use Rattle.queue_laws.proofs.Singles.{none_of}
 use Rattle.queue_laws.proofs.Sounds.{fits}
 use Rattle.stage_laws.proofs.Bounds.{few_numbers}
 use Rattle.stage_laws.proofs.Numbering.{numbered_topology}
-use Rattle.core_laws.specs.Columns.{closed_as, closed_numbers, sent_on, ends_in_progress}
+use Rattle.core_laws.specs.Columns.{closed_numbers, sent_on, ends_in_progress}
 use Rattle.core_laws.proofs.Lawful.{legal_after}
 use Rattle.core_laws.proofs.Parts.{closed_is}
 use Rattle.core_laws.proofs.Past.{known_within, live_known}

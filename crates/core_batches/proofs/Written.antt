@@ -27,6 +27,7 @@ use Rattle.pipe_model.specs.Legal.{allows, gathered_at, ends_in_flush}
 use Rattle.pipe_model.specs.Moves.{is_final}
 use Rattle.pipe_model.specs.Standing.{gathered_in, of_key}
 use Rattle.pipe_model.specs.Work.{taken_units}
+use Rattle.pipe_model.specs.Taken.{closed_as}
 use Rattle.pipe_laws.proofs.Tests.{same_sub-self}
 use Rattle.pipe_laws.proofs.Lists.{each_always, each_weaker, each_among}
 use Rattle.pipe_laws.proofs.Accepted.{placed_accepted}
@@ -50,7 +51,7 @@ use Rattle.core_tables.specs.declared.rows.StageRow.{StageRow}
 use Rattle.core_tables.specs.declared.rows.BatchRow.{BatchRow}
 use Rattle.core_tables.specs.Rows.{post_at, home}
 use Rattle.core_tables.proofs.Tables.{same_or_other}
-use Rattle.core_laws.specs.Columns.{open_of, keys_of, open_batches, part_of, post_row, stage_row, mark, ends_in_progress, closed_as, closed_numbers, sent_on}
+use Rattle.core_laws.specs.Columns.{open_of, keys_of, open_batches, part_of, post_row, stage_row, mark, ends_in_progress, closed_numbers, sent_on}
 use Rattle.core_laws.proofs.Marks.{mark_is, open_unsettled}
 use Rattle.core_laws.proofs.Lawful.{each_all}
 use Rattle.core_calls.proofs.Ending.{post_home}

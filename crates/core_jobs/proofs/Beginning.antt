@@ -41,7 +41,7 @@ use Rattle.stage_bodies.specs.declared.job.Job.{Job}
 use Rattle.stage_bodies.specs.declared.job.Work.{Work}
 use Rattle.stage_bodies.specs.declared.job.Work.TheVariants as work
 use Rattle.stage_bodies.specs.Posts.{IsWorkOf, IsOutNow, IsJobOf}
-use Rattle.core_jobs.specs.Begun.{IsBegun, GivesBatch, fetched, taken, started, work_on}
+use Rattle.core_jobs.specs.Begun.{IsBegun, fetched, taken, started, work_on}
 
 -- ---- roles
 
@@ -212,7 +212,7 @@ work_fetch topology before s n h =
 work_take : (topology : Topology) (before : History) (s : StageNo) (u : SubNo) (k : ℕ) (c : Chunk) → allows topology before (Take s u k) ≡ true → IsChunk topology (Take s u k ∷ before) s c → IsWorkOf topology (Take s u k ∷ before) (post s 0) (work_on c)
 work_take topology before s u k (chunk.Messages messages) h is =
     (processes topology s (take_facts topology before s u k h).role is.0, is.1, refl)
-work_take topology before s u k (chunk.Batch batch) h is = (is.0, is.1.messages, refl)
+work_take topology before s u k (chunk.Batch batch) h is = (is.0, is.1, refl)
 
 child_is : (before : History) (s : StageNo) (slot n : ℕ) → in_slot before s slot ≡ Some n → child_of before s slot ≡ messages_of before (n ∷ [])
 child_is before s slot n e = rw e refl
@@ -262,14 +262,6 @@ take_job topology before s u k from c w e on h is = record {
   incarnation = e;
   work = subst (λ (x : Work). IsWorkOf topology (Take s u k ∷ before) (post s 0) x) (sym on) (work_take topology before s u k c h is);
 }
-
--- and the batch that it gives out is the one that was taken
-pub gives_taken : (topology : Topology) (before : History) (s : StageNo) (c : Chunk) (w : Work) → w ≡ work_on c → IsChunk topology before s c → GivesBatch topology before s w
-gives_taken topology before s c w on is = subst (λ (x : Work). GivesBatch topology before s x) (sym on) (given c is)
-  where
-    given : (c : Chunk) → IsChunk topology before s c → GivesBatch topology before s (work_on c)
-    given (chunk.Messages messages) is = tt
-    given (chunk.Batch batch) is = is.1
 
 -- the last step of a legal journal was allowed
 pub last_allowed : (topology other : Topology) (before after : History) (step : Step) → other ≡ topology → after ≡ step ∷ before → is_legal other after ≡ true → allows topology before step ≡ true

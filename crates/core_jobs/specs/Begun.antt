@@ -14,7 +14,6 @@ use Rattle.stage_bodies.specs.declared.job.Work.{Work}
 use Rattle.stage_bodies.specs.declared.job.Work.TheVariants as work
 use Rattle.core_takes.specs.declared.takes.Chunk.{Chunk}
 use Rattle.core_takes.specs.declared.takes.Chunk.TheVariants as chunk
-use Rattle.core_takes.specs.Takes.{IsTaken}
 
 -- the journal went on by just the step that begins this job of the stage: the fetch of as many records as it may bring, the
 -- take of what stands first in its inbox, or the child of a slot
@@ -27,8 +26,3 @@ pub data IsBegun (topology : Topology) (before : History) (s : StageNo) (after :
 abbrev pub work_on : Chunk → Work
 work_on (chunk.Messages messages) = work.Chunk messages
 work_on (chunk.Batch batch) = work.Batch batch
-
--- a batch that is given out is the one that the stage took: its number, its key, why it was closed, and its messages
-abbrev pub GivesBatch : Topology → History → StageNo → Work → Type 0
-GivesBatch topology before s (work.Batch batch) = IsTaken topology before s batch
-GivesBatch topology before s _ = Unit {0}

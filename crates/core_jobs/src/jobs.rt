@@ -8,7 +8,7 @@ ghost use Rattle.move_laws.specs.NextMoves.{MayBegin};
 ghost use Rattle.core_state.specs.Stands.{Stands};
 ghost use Rattle.core_children.specs.Starts.{may_start_child};
 ghost use Rattle.stage_bodies.specs.Posts.{IsJobOf};
-ghost use Rattle.core_jobs.specs.Begun.{IsBegun, GivesBatch, work_on};
+ghost use Rattle.core_jobs.specs.Begun.{IsBegun, work_on};
 
 use core_accepts::fetches::fetch;
 use core_children::child_start;
@@ -27,7 +27,6 @@ pub fn begin_job(core: &mut Core, stage: StageNo) -> Result<Job, AllocError>
     requires begins { MayBegin core.old.topology core.old.journal.steps stage }
     ensures begun { IfOk result (λ job. IsBegun core.old.topology core.old.journal.steps stage core.new.journal.steps job) }
     ensures job { IfOk result (λ job. IsJobOf core.new.topology core.new.journal.steps job) }
-    ensures batch { IfOk result (λ job. GivesBatch core.new.topology core.new.journal.steps stage job.work) }
     ensures unchanged { OnErr result (core.new.journal.steps ≡ core.old.journal.steps) }
     ensures topology { core.new.topology ≡ core.old.topology }
     ensures stands { Stands core.new }
@@ -67,7 +66,6 @@ fn begin_fetch(core: &mut Core, stage: StageNo) -> Result<Job, AllocError>
     requires legal { IsTrue (allows core.old.topology core.old.journal.steps (Fetch stage (bound core.old.topology core.old.journal.steps stage))) }
     ensures begun { IfOk result (λ job. IsBegun core.old.topology core.old.journal.steps stage core.new.journal.steps job) }
     ensures job { IfOk result (λ job. IsJobOf core.new.topology core.new.journal.steps job) }
-    ensures batch { IfOk result (λ job. GivesBatch core.new.topology core.new.journal.steps stage job.work) }
     ensures unchanged { OnErr result (core.new.journal.steps ≡ core.old.journal.steps) }
     ensures topology { core.new.topology ≡ core.old.topology }
     ensures stands { Stands core.new }
@@ -87,7 +85,6 @@ fn begin_take(core: &mut Core, stage: StageNo) -> Result<Job, AllocError>
     requires legal { IsTrue (may_take_next core.old.topology core.old.journal.steps stage) }
     ensures begun { IfOk result (λ job. IsBegun core.old.topology core.old.journal.steps stage core.new.journal.steps job) }
     ensures job { IfOk result (λ job. IsJobOf core.new.topology core.new.journal.steps job) }
-    ensures batch { IfOk result (λ job. GivesBatch core.new.topology core.new.journal.steps stage job.work) }
     ensures unchanged { OnErr result (core.new.journal.steps ≡ core.old.journal.steps) }
     ensures topology { core.new.topology ≡ core.old.topology }
     ensures stands { Stands core.new }
@@ -117,7 +114,6 @@ fn begin_child(core: &mut Core, stage: StageNo) -> Result<Job, AllocError>
     requires legal { IsTrue (may_start_child core.old.topology core.old.journal.steps stage) }
     ensures begun { IfOk result (λ job. IsBegun core.old.topology core.old.journal.steps stage core.new.journal.steps job) }
     ensures job { IfOk result (λ job. IsJobOf core.new.topology core.new.journal.steps job) }
-    ensures batch { IfOk result (λ job. GivesBatch core.new.topology core.new.journal.steps stage job.work) }
     ensures unchanged { OnErr result (core.new.journal.steps ≡ core.old.journal.steps) }
     ensures topology { core.new.topology ≡ core.old.topology }
     ensures stands { Stands core.new }

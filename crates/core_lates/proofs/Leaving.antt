@@ -18,6 +18,7 @@ use Rattle.pipe_model.specs.Legal.{is_legal, gathered_at, restart_times}
 use Rattle.pipe_model.specs.Moves.{is_final}
 use Rattle.pipe_model.specs.Places.{settled_at}
 use Rattle.pipe_model.specs.Standing.{gathered_in}
+use Rattle.pipe_model.specs.Taken.{closed_as}
 use Rattle.pipe_laws.proofs.Accepted.{placed_accepted}
 use Rattle.pipe_laws.proofs.Lists.{each_weaker, each_filter, each_always}
 use Rattle.queue_laws.proofs.Sounds.{fits}
@@ -30,7 +31,7 @@ use Rattle.core_tables.specs.declared.rows.PostRow.{PostRow}
 use Rattle.core_tables.specs.declared.rows.ContentRow.{ContentRow}
 use Rattle.core_tables.specs.declared.rows.Totals.{Totals}
 use Rattle.core_tables.specs.Rows.{post_at, home}
-use Rattle.core_laws.specs.Columns.{running, stage_row, post_row, came, part_of, waiting_parts, open_batches, child_row, mark, content_row, closed_as, closed_numbers, sent_on, ends_in_progress}
+use Rattle.core_laws.specs.Columns.{running, stage_row, post_row, came, part_of, waiting_parts, open_batches, child_row, mark, content_row, closed_numbers, sent_on, ends_in_progress}
 use Rattle.core_laws.proofs.Accepting.{closed_low}
 use Rattle.core_laws.proofs.Alike.{SameContent, SamePart, part_same, mapped_same, opens_same}
 use Rattle.core_laws.proofs.Marks.{mark_is, open_unsettled}

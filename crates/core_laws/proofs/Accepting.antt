@@ -24,13 +24,14 @@ use Rattle.pipe_model.specs.Moves.{is_final}
 use Rattle.pipe_model.specs.Legal.{is_legal, allows, are_records, is_producer_role, has_role, is_current, fetch_out}
 use Rattle.pipe_laws.proofs.Allowed.{legal_before, legal_step, unowed, late_facts}
 use Rattle.pipe_model.specs.Standing.{gathered_in}
+use Rattle.pipe_model.specs.Taken.{closed_as}
 use Rattle.pipe_laws.proofs.Accepted.{placed_accepted}
 use Rattle.pipe_laws.proofs.Lists.{each_weaker, each_filter, each_always}
 use Rattle.pipe_laws.proofs.Tests.{and_left, and_right}
 use Rattle.queue_laws.proofs.Sounds.{fits}
 use Rattle.stage_laws.proofs.Bounds.{waiting_within}
 use Rattle.core_laws.proofs.Marks.{mark_is, open_unsettled}
-use Rattle.core_laws.specs.Columns.{mark, part_of, part_by, is_by_partition, waiting_parts, closed_as, closed_numbers, open_batches}
+use Rattle.core_laws.specs.Columns.{mark, part_of, part_by, is_by_partition, waiting_parts, closed_numbers, open_batches}
 use Rattle.core_laws.specs.Enrolled.{record_part, queued}
 use Rattle.core_laws.proofs.Alike.{SameContent, SamePart, part_same, mapped_same, opens_same}
 

@@ -12,9 +12,10 @@ use Rattle.pipe_model.specs.Content.{content, key_in, batcher_in, payload_in, fl
 use Rattle.pipe_model.specs.Flow.{first_in}
 use Rattle.pipe_model.specs.Legal.{gathered_at, ends_in_flush, last_in}
 use Rattle.pipe_model.specs.Standing.{of_key}
+use Rattle.pipe_model.specs.Taken.{closed_as}
 use Rattle.pipe_laws.proofs.Lists.{Each, each_weaker}
 use Rattle.queue_laws.proofs.Apart.{each_kept}
-use Rattle.core_laws.specs.Columns.{open_of, keys_of, open_batches, part_of, part_by, is_by_partition, closed_as, closed_numbers}
+use Rattle.core_laws.specs.Columns.{open_of, keys_of, open_batches, part_of, part_by, is_by_partition, closed_numbers}
 
 -- message n has the content that it had
 abbrev pub SameContent : (old new : History) → ℕ → Type 0

@@ -24,12 +24,13 @@ use Rattle.pipe_model.specs.Content.{content, key_in}
 use Rattle.pipe_model.specs.History.{History, closed, asked, incarnation}
 use Rattle.pipe_model.specs.Lives.{is_live, current_sub, live_subs_from, kill_set}
 use Rattle.pipe_model.specs.Flow.{batch, sent, view_of, waiting, numbers_in, first_in, among, closing, new_batch, next_units, change_place, deliveries, subs_of, partition_in, rooms_by, index_in, kind_in}
+use Rattle.pipe_model.specs.Taken.{closed_as}
 use Rattle.pipe_laws.proofs.Levels.{rank, rank_of, rank_in, feeds_down}
 use Rattle.pipe_laws.proofs.Lists.{Each, each_weaker, each_map}
 use Rattle.pipe_laws.proofs.Sounds.{sound_ascends}
 use Rattle.pipe_laws.proofs.Tests.{and_left, and_right}
 use Rattle.queue_laws.proofs.Sounds.{found_self}
-use Rattle.core_laws.specs.Columns.{closed_as, closed_numbers, part_of, part_by, is_by_partition}
+use Rattle.core_laws.specs.Columns.{closed_numbers, part_of, part_by, is_by_partition}
 use Rattle.core_laws.proofs.Lawful.{each_all}
 
 -- The messages of a closed batch

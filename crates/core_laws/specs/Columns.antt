@@ -9,21 +9,20 @@ use Rattle.pipe_types.specs.declared.topology.Role.{Role}
 use Rattle.pipe_types.specs.declared.topology.Role.TheVariants.{Producer, Batcher}
 use Rattle.pipe_types.specs.declared.topology.Dispatch.{Dispatch as DispatchKind}
 use Rattle.pipe_types.specs.declared.topology.Dispatch.TheVariants.{Partition}
-use Rattle.pipe_types.specs.declared.message.Trigger.{Trigger}
 use Rattle.pipe_types.specs.declared.message.Reply.{Reply}
 use Rattle.pipe_types.specs.declared.message.Reply.TheVariants.{Pass}
 use Rattle.pipe_types.specs.declared.step.Step.{Step}
-use Rattle.pipe_types.specs.declared.step.Step.TheVariants.{Fetch, Accept, Dispatch, Done, Close, Wrote, Child, ChildEnd, Kill, Late, Halt}
+use Rattle.pipe_types.specs.declared.step.Step.TheVariants.{Fetch, Accept, Dispatch, Done, Wrote, Child, ChildEnd, Kill, Late, Halt}
 use Rattle.pipe_types.specs.declared.step.LateAnswer.TheVariants.{Records}
 use Rattle.pipe_types.specs.Numbers.{stage, same_stage, subscription, post}
 use Rattle.pipe_types.specs.Stages.{spec_of}
 use Rattle.pipe_types.specs.Handlers.{field}
 use Rattle.pipe_types.specs.Dispatchers.{partition_of}
-use Rattle.pipe_model.specs.History.{History, incarnation, accepted, closed}
+use Rattle.pipe_model.specs.History.{History, incarnation, accepted}
 use Rattle.pipe_model.specs.Posts.{is_out, out_from, in_slot, last_take, crashes}
 use Rattle.pipe_model.specs.Lives.{death, kill_set, reason_in}
 use Rattle.pipe_model.specs.Content.{has_crash, is_among_next, content, key_in, batcher_in, payload_in}
-use Rattle.pipe_model.specs.Flow.{place, waiting, inbox, view_of, closing, first_in, runs_again, chunk_by, is_batcher, subs_of, deliveries}
+use Rattle.pipe_model.specs.Flow.{place, waiting, inbox, view_of, first_in, runs_again, chunk_by, is_batcher, subs_of, deliveries}
 use Rattle.pipe_model.specs.Batches.{Batch, BatchPlace, Sent, is_settled}
 use Rattle.message_ack.specs.Ends.{Ends, ends_of}
 use Rattle.batcher.specs.Batches.{OpenBatch}
@@ -31,6 +30,7 @@ use Rattle.pipe_model.specs.Ledger.{crashed_reply}
 use Rattle.pipe_model.specs.Legal.{has_ended, rests, runs_number, gathered_at, ends_in_flush}
 use Rattle.pipe_model.specs.Moves.{is_final}
 use Rattle.pipe_model.specs.Work.{taken_units}
+use Rattle.pipe_model.specs.Taken.{Closed, closed_as}
 use Rattle.consumer_sup.specs.declared.Child.{Child as ChildRow}
 use Rattle.core_tables.specs.declared.rows.StageRow.{StageRow}
 use Rattle.core_tables.specs.declared.rows.PostRow.{PostRow}
@@ -118,23 +118,7 @@ mark topology (step ∷ before) n = mark_after topology before step n (mark topo
 
 -- Batches
 
--- a closed batch: its messages, and why it was closed
-pub record Closed : Type 0 where
-  pub numbers : List ℕ
-  pub trigger : Trigger
-
-abbrev pub closed_after : Topology → History → Step → ℕ → Option Closed → Option Closed
-closed_after topology before (Close s first trigger) b old =
-    if b == closed before + 1
-    then Some (record { numbers = closing before (view_of topology before) s first.0; trigger = trigger })
-    else old
-closed_after topology before _ b old = old
-
--- batch b as it was closed
-abbrev pub closed_as : Topology → History → ℕ → Option Closed
-closed_as topology [] b = None
-closed_as topology (step ∷ before) b = closed_after topology before step b (closed_as topology before b)
-
+-- the messages of a closed batch
 abbrev pub closed_numbers : Option Closed → List ℕ
 closed_numbers None = []
 closed_numbers (Some c) = c.numbers

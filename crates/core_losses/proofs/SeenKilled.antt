@@ -23,6 +23,7 @@ use Rattle.pipe_model.specs.Content.{content, key_in, gathers, arrivals}
 use Rattle.pipe_model.specs.Batches.{Batch, BatchPlace, AtBatcher, Sent, Dropped, Leg, LegPlace, new_legs, leg_taken, leg_answered, batch_on_legs, batch_sent, batch_killed, dropped_in}
 use Rattle.pipe_model.specs.Flow.{place, batch, waiting, among, view_of, subs_of, deliveries, closing, next_units, new_batch, change_place, numbers_in, is_batcher, is_gathered_in, batch_waits_in, waits_in, at_batcher}
 use Rattle.pipe_model.specs.Legal.{is_legal, is_batcher_role}
+use Rattle.pipe_model.specs.Taken.{closed_as}
 use Rattle.pipe_laws.proofs.Tests.{clash, same_stage-true}
 use Rattle.pipe_laws.proofs.Lists.{Each, each_weaker, each_filter, each_always, each_among}
 use Rattle.pipe_laws.proofs.Accepted.{placed_accepted}
@@ -45,7 +46,7 @@ use Rattle.stage_laws.proofs.Settling.{in_numbers}
 use Rattle.core_tables.specs.declared.rows.BatchRow.{BatchRow}
 use Rattle.core_tables.specs.Tables.{queue_at}
 use Rattle.core_batches.proofs.Writing.{IsOnSubs, PlaceOn, legs_are_on}
-use Rattle.core_laws.specs.Columns.{closed_as, closed_numbers, sent_on, part_of}
+use Rattle.core_laws.specs.Columns.{closed_numbers, sent_on, part_of}
 use Rattle.core_laws.proofs.Lawful.{each_all}
 use Rattle.core_laws.proofs.Parts.{closed_is}
 use Rattle.core_state.specs.declared.state.Core.{Core}

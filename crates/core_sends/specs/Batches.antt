@@ -3,7 +3,7 @@ use Rattle.std.specs.Prelude.{ℕ, ◌-◌, Bool, not, List, [], ◌∷◌, leng
 use Rattle.pipe_types.specs.declared.numbers.SubNo.{SubNo}
 use Rattle.message_ack.specs.Ends.{Ends, sent_in, with_leg}
 use Rattle.core_tables.specs.declared.rows.BatchRow.{BatchRow}
-use Rattle.core_laws.specs.Columns.{Closed}
+use Rattle.pipe_model.specs.Taken.{Closed}
 use Rattle.core_state.specs.Stands.{closed_seen}
 
 -- a batch in a row, as it was closed

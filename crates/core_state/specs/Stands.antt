@@ -9,6 +9,7 @@ use Rattle.pipe_model.specs.History.{History, now, accepted, accepted_bytes, clo
 use Rattle.pipe_model.specs.Content.{producer_of}
 use Rattle.pipe_model.specs.Flow.{place, batch, inbox}
 use Rattle.pipe_model.specs.Legal.{is_legal, owed, happened, is_halt, is_drain, quiet_row, restart_times, is_supervisor_role, has_role}
+use Rattle.pipe_model.specs.Taken.{Closed, closed_as}
 use Rattle.stage_subs.specs.Subs.{row_at}
 use Rattle.stage_subs.specs.Ledger.{ledger_row}
 use Rattle.restart_core.specs.Restarts.{Remembers}
@@ -20,7 +21,7 @@ use Rattle.core_tables.specs.declared.rows.Totals.{Totals}
 use Rattle.core_tables.specs.declared.rows.BatchRow.{BatchRow}
 use Rattle.core_tables.specs.Tables.{queue_at, list_at}
 use Rattle.core_tables.specs.Rows.{post_at}
-use Rattle.core_laws.specs.Columns.{running, stage_row, post_row, came, waiting_parts, open_batches, child_row, mark, content_row, Closed, closed_as, sent_on, ends_in_progress}
+use Rattle.core_laws.specs.Columns.{running, stage_row, post_row, came, waiting_parts, open_batches, child_row, mark, content_row, sent_on, ends_in_progress}
 use Rattle.core_state.specs.declared.state.Core.{Core}
 use Rattle.pipe_model.specs.Standing.{gathered_in}
 

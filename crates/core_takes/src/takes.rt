@@ -7,10 +7,11 @@ ghost use Rattle.pipe_model.specs.Jobs.{take_step, may_take_next, with_step};
 ghost use Rattle.pipe_model.specs.Flow.{inbox, units_on, batch as batch_as};
 ghost use Rattle.pipe_model.specs.Legal.{has_role, is_batch_processor_role, is_processor_role, first_unit};
 ghost use Rattle.pipe_model.specs.Work.{chunk_of};
+ghost use Rattle.pipe_model.specs.Taken.{first_key, IsBatch, IsTaken};
 ghost use Rattle.core_tables.specs.Tables.{queue_at, list_at, room_at};
 ghost use Rattle.core_state.specs.Stands.{Stands, Holds};
 ghost use Rattle.core_laws.specs.Columns.{sub_first};
-ghost use Rattle.core_takes.specs.Takes.{most_of, first_key, IsBatch, IsTaken, IsChunk};
+ghost use Rattle.core_takes.specs.Takes.{most_of, IsChunk};
 
 use crate::batch_takes::start_batch;
 use crate::contents::{copies_of, copy_bytes};

@@ -94,7 +94,7 @@ batch_fits topology before p batch bytes end old new out is fit done =
     let holds = batch_for topology before p.stage f.spec f.spec.role old f.role f.holds in
     let ended = end_fits topology before p.stage f.spec batch.messages bytes end old new old.callback new.callback (writers_alone topology p.stage is.0) (subst (λ n. is_out before (post p.stage n) ≡ true) is.2 out) holds.1 holds.0 done.0 in
     both (has_role topology p.stage is_batch_processor_role) _ is.0
-    (subst (λ o. is_batch_handled o (count topology before p.stage) (batch_of topology before p.stage) bytes end ≡ true) (sym f.is) (subst (λ ms. is_end_by f.spec.kind (is_some f.spec.edge) f.spec (count topology before p.stage) ms bytes end ≡ true) is.1 ended))
+    (subst (λ o. is_batch_handled o (count topology before p.stage) (batch_of topology before p.stage) bytes end ≡ true) (sym f.is) (subst (λ ms. is_end_by f.spec.kind (is_some f.spec.edge) f.spec (count topology before p.stage) ms bytes end ≡ true) is.1.messages ended))
 
 -- ---- any job
 

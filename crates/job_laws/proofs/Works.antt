@@ -1,21 +1,25 @@
 -- The work of a job that is out stays what the journal says of its post.
-use Rattle.std.proofs.Common.{◌≡◌, ℕ, ◌≤◌, List, [], ◌∷◌, Bool, true, false, refl, ap, sym, ◌∙◌, subst, Some, None, Option, arith}
-use Rattle.std.specs.Prelude.{◌&&◌, if◌then◌else◌, is_some}
+use Rattle.std.proofs.Common.{◌≡◌, ℕ, ◌+◌, ◌≤◌, List, [], ◌∷◌, Bool, true, false, refl, ap, sym, ◌∙◌, subst, Some, None, Option, arith}
+use Rattle.std.specs.Prelude.{◌&&◌, if◌then◌else◌, is_some, option_map}
+use Rattle.std.proofs.lemmas.Bool.{ne_eqb}
 use Rattle.pipe_types.specs.declared.numbers.Post.{Post}
 use Rattle.pipe_types.specs.declared.numbers.StageNo.{StageNo}
+use Rattle.pipe_types.specs.declared.message.Batch.{Batch as BatchOut}
 use Rattle.pipe_types.specs.declared.step.Step.{Step}
-use Rattle.pipe_types.specs.declared.step.Step.TheVariants.{Fetch}
+use Rattle.pipe_types.specs.declared.step.Step.TheVariants.{Fetch, Close}
 use Rattle.pipe_types.specs.declared.topology.Topology.{Topology}
 use Rattle.pipe_types.specs.Numbers.{post, same_stage}
 use Rattle.pipe_types.specs.Sound.{IsSound}
-use Rattle.pipe_model.specs.History.{History}
+use Rattle.pipe_model.specs.History.{History, closed}
 use Rattle.pipe_model.specs.Posts.{puts_out, answers, is_out, in_slot}
 use Rattle.pipe_model.specs.Batches.{Batch}
 use Rattle.pipe_model.specs.Content.{content}
-use Rattle.pipe_model.specs.Flow.{place, batch, numbers_in, first_in}
+use Rattle.pipe_model.specs.Flow.{place, batch, numbers_in, first_in, view_of, closing}
 use Rattle.pipe_model.specs.Legal.{is_legal, fetch_out, has_role, is_processor_role, is_supervisor_role, is_batch_processor_role}
 use Rattle.pipe_model.specs.Work.{taken_units, messages_of, chunk_of, batch_of, child_of}
+use Rattle.pipe_model.specs.Taken.{Closed, closed_as, IsTaken}
 use Rattle.pipe_laws.proofs.Lists.{Each, each_weaker}
+use Rattle.pipe_laws.proofs.Settled.{batch_closed}
 use Rattle.pipe_laws.proofs.Allowed.{legal_before}
 use Rattle.queue_laws.proofs.OneLeg.{numbers_kept}
 use Rattle.stage_laws.proofs.Bounds.{batch_least}
@@ -77,6 +81,33 @@ batch_same topology before step s sound h role none =
     (each_weaker (IsPast topology before) (λ n. content (step ∷ before) n ≡ content before n) (λ n far. past_content topology before step n sound h far) (numbers_in (batch topology before (first_in (taken_units topology before s))))
     (batch_past topology before (first_in (taken_units topology before s)) (legal_before topology before step h)))
 
+-- the first of the units that were taken was closed, and is 0 where nothing was taken
+first_closed : (topology : Topology) (before : History) (taken : List ℕ) → Each (λ b. is_some (batch topology before b) ≡ true) taken → first_in taken ≤ closed before
+first_closed topology before [] there = omega arith
+first_closed topology before (b ∷ taken) there = batch_closed topology before b there.0
+
+-- a number is given to one batch
+closed_same : (topology : Topology) (before : History) (step : Step) (b : ℕ) → b ≤ closed before → closed_as topology (step ∷ before) b ≡ closed_as topology before b
+closed_same topology before (Close t first trigger) b low =
+    ap (λ x. if x then Some (record { numbers = closing before (view_of topology before) t first.0; trigger = trigger }) else closed_as topology before b)
+    (ne_eqb b (closed before + 1) (λ e. omega (arith, low, e)))
+closed_same topology before step b low = refl
+
+-- the batch that was taken keeps its number, its key, why it was closed, and its messages
+taken_stays : (topology : Topology) (before : History) (step : Step) (s : StageNo) (out : BatchOut) → IsSound topology → is_legal topology (step ∷ before) ≡ true → has_role topology s is_batch_processor_role ≡ true → puts_out step (post s 0) ≡ false → IsTaken topology before s out
+    → IsTaken topology (step ∷ before) s out
+taken_stays topology before step s out sound h role none is =
+    let same : taken_units topology (step ∷ before) s ≡ taken_units topology before s = taken_same topology before step s none in
+    let low : first_in (taken_units topology before s) ≤ closed before = first_closed topology before (taken_units topology before s) (batches_there topology before s sound (legal_before topology before step h) role) in
+    let trigger : option_map (λ c. c.trigger) (closed_as topology (step ∷ before) (first_in (taken_units topology (step ∷ before) s))) ≡ Some out.trigger =
+    ap (λ (taken : List ℕ). option_map (λ c. c.trigger) (closed_as topology (step ∷ before) (first_in taken))) same
+    ∙ (ap (λ (o : Option Closed). option_map (λ c. c.trigger) o) (closed_same topology before step (first_in (taken_units topology before s)) low) ∙ is.batch.trigger) in
+    let messages : out.messages ≡ batch_of topology (step ∷ before) s = is.messages ∙ sym (batch_same topology before step s sound h role none) in
+    record {
+      batch = record { no = is.batch.no ∙ sym (ap first_in same); key = is.batch.key; trigger = trigger; messages = messages };
+      messages = messages;
+    }
+
 -- ---- children
 
 child_same : (topology : Topology) (before : History) (step : Step) (s : StageNo) (slot : ℕ) → IsSound topology → is_legal topology (step ∷ before) ≡ true → has_role topology s is_supervisor_role ≡ true → is_out before (post s slot) ≡ true → puts_out step (post s slot) ≡ false
@@ -117,5 +148,5 @@ work_stays topology before step p w sound h out unanswered is = by_work w is
     by_work (work.Fetch most) is =
         (is.0, is.1 ∙ sym (fetch_same before step p.stage (first_none is.3) (stays_out before step (post p.stage 0) (first_unanswered is.3) (first_out is.3)) (first_out is.3)), is.2, is.3)
     by_work (work.Chunk messages) is = (is.0, is.1 ∙ sym (chunk_same topology before step p.stage sound h is.0 (first_out is.2) (first_none is.2) (first_unanswered is.2)), is.2)
-    by_work (work.Batch batch) is = (is.0, is.1 ∙ sym (batch_same topology before step p.stage sound h is.0 (first_none is.2)), is.2)
+    by_work (work.Batch batch) is = (is.0, taken_stays topology before step p.stage batch sound h is.0 (first_none is.2) is.1, is.2)
     by_work (work.Child message) is = (is.0, is.1 ∙ sym (child_same topology before step p.stage p.slot sound h is.0 out none))

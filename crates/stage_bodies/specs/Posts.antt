@@ -9,7 +9,8 @@ use Rattle.pipe_types.specs.declared.topology.Topology.{Topology}
 use Rattle.pipe_model.specs.History.{History, incarnation}
 use Rattle.pipe_model.specs.Lives.{is_live}
 use Rattle.pipe_model.specs.Content.{has_crash}
-use Rattle.pipe_model.specs.Work.{chunk_of, batch_of, child_of}
+use Rattle.pipe_model.specs.Work.{chunk_of, child_of}
+use Rattle.pipe_model.specs.Taken.{IsTaken}
 use Rattle.pipe_model.specs.Legal.{happened, is_halt, is_current, fetch_out, has_role, is_producer_role, is_processor_role, is_supervisor_role, is_batch_processor_role}
 use Rattle.stage_bodies.specs.declared.job.Job.{Job}
 use Rattle.stage_bodies.specs.declared.job.Work.{Work}
@@ -28,7 +29,7 @@ IsWorkOf topology before p (work.Fetch most) =
 IsWorkOf topology before p (work.Chunk messages) =
     (has_role topology p.stage is_processor_role ≡ true) × (messages ≡ chunk_of topology before p.stage) × (p.slot ≡ 0)
 IsWorkOf topology before p (work.Batch batch) =
-    (has_role topology p.stage is_batch_processor_role ≡ true) × (batch.messages ≡ batch_of topology before p.stage) × (p.slot ≡ 0)
+    (has_role topology p.stage is_batch_processor_role ≡ true) × IsTaken topology before p.stage batch × (p.slot ≡ 0)
 IsWorkOf topology before p (work.Child message) =
     (has_role topology p.stage is_supervisor_role ≡ true) × (message ∷ [] ≡ child_of before p.stage p.slot)
 

@@ -6,7 +6,7 @@ use Rattle.pipe_model.specs.History.{History}
 use Rattle.pipe_model.specs.Jobs.{with_step}
 use Rattle.core_takes.specs.Takes.{IsChunk}
 use Rattle.core_jobs.specs.Begun.{taken}
-use Rattle.core_jobs.proofs.Beginning.{as_job, take_job, takes_first, gives_taken}
+use Rattle.core_jobs.proofs.Beginning.{as_job, take_job, takes_first}
 use Rattle.core_jobs.proofs.jobs.begin_take.Goals as goal
 
 pub returns-clause-begun : goal.returns-clause-begun
@@ -26,8 +26,3 @@ returns-clause-job c =
     as_job core.topology after.topology (Take s t.sub t.size ∷ core.journal.steps) after.journal.steps _ c.in_ok-chunk.ensures.topology appended
     (take_job core.topology core.journal.steps s t.sub t.size c.incarnation-incarnation.result chunk c.work_of.result c.incarnation-incarnation.ensures c.work_of.ensures t.legal
     (subst (λ (h : History). IsChunk core.topology h s chunk) appended (subst (λ (k : Topology). IsChunk k after.journal.steps s chunk) c.in_ok-chunk.ensures.topology c.in_ok-chunk.ensures.chunk)))
-
-pub returns-clause-batch : goal.returns-clause-batch
-returns-clause-batch c =
-    let after = c.take.new.core in
-    gives_taken after.topology after.journal.steps c.args.stage c.in_ok-chunk.chunk c.work_of.result c.work_of.ensures c.in_ok-chunk.ensures.chunk
