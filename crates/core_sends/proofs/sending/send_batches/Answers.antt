@@ -76,11 +76,6 @@ deliver_all-requires-clause-within c =
 pub deliver_all-requires-clause-room : goal.deliver_all-requires-clause-room
 deliver_all-requires-clause-room c =
     let core = c.args.core.now in
-    let t = core.topology in
-    let before = core.journal.steps in
-    let s = c.args.stage in
-    let x = c.requires.stands.holds in
-    let known = dispatching core s x c.requires.legal in
     let is : c.deref-3.result.now ≡ map (named (numbers_in c.index.result.now.items)) c.args.sent.items = c.deref-3.ensures.value ∙ c.name_units.ensures in
     let count : length c.args.sent.items ≡ length c.deref-3.result.now = sym (ap length is ∙ length-map c.args.sent.items (named (numbers_in c.index.result.now.items))) in
     subst (All (HasRoom (length c.deref-3.result.now) core.inboxes.items)) (sym is)

@@ -89,7 +89,6 @@ returns-in-Err-clause-in_part g c =
     let k = g.E.Sink.ByteSink in
     let seen = edges_seen e.told e.named e.asked e.faults e.sources_back e.sinks_back (source_seen s.told s.taken s.left s.faults s.waits) (sink_seen k.told k.held k.faults) in
     let topology = c.args.topology.now in
-    let start = body_at g.B.Works.look c.args.bodies.now.items in
     let old = seen c.args.edges.now in
     let mid = seen c.open_control.new.edges in
     part_first_by c.in-Err.unopened topology old mid c.in-Err.ensures.cut_off

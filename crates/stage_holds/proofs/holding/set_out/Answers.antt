@@ -30,9 +30,6 @@ returns-in_err-pause-in-Pause-clause-adds g c =
     let t = c.args.core.now.topology in
     let a = c.args.core.now.journal.steps in
     let b = c.advance.new.core.journal.steps in
-    let look = g.B.Works.look in
-    let home = body_at look c.args.bodies.now.items in
-    let here = body_at look c.advance.new.bodies.items in
     let e = c.advance.ensures in
     let p = c.pause.new.core.journal.steps in
     let c1 = clock_seen g.C.Clock.latest g.C.Clock.readings c.advance.new.clock in
@@ -43,9 +40,6 @@ returns-in_err-pause-in-Pause-clause-adds g c =
 
 pub returns-in_err-pause-in-Pause-clause-homes : goal.returns-in_err-pause-in-Pause-clause-homes
 returns-in_err-pause-in-Pause-clause-homes g c =
-    let t = c.args.core.now.topology in
-    let a = c.args.core.now.journal.steps in
-    let b = c.advance.new.core.journal.steps in
     let look = g.B.Works.look in
     let home = body_at look c.args.bodies.now.items in
     let here = body_at look c.advance.new.bodies.items in
@@ -57,9 +51,6 @@ returns-in_ok-pause-in-Pause-clause-adds g c =
     let t = c.args.core.now.topology in
     let a = c.args.core.now.journal.steps in
     let b = c.advance.new.core.journal.steps in
-    let look = g.B.Works.look in
-    let home = body_at look c.args.bodies.now.items in
-    let here = body_at look c.advance.new.bodies.items in
     let e = c.advance.ensures in
     let p = c.pause.new.core.journal.steps in
     let c1 = clock_seen g.C.Clock.latest g.C.Clock.readings c.advance.new.clock in
@@ -70,9 +61,6 @@ returns-in_ok-pause-in-Pause-clause-adds g c =
 
 pub returns-in_ok-pause-in-Pause-clause-homes : goal.returns-in_ok-pause-in-Pause-clause-homes
 returns-in_ok-pause-in-Pause-clause-homes g c =
-    let t = c.args.core.now.topology in
-    let a = c.args.core.now.journal.steps in
-    let b = c.advance.new.core.journal.steps in
     let look = g.B.Works.look in
     let home = body_at look c.args.bodies.now.items in
     let here = body_at look c.advance.new.bodies.items in
@@ -81,29 +69,17 @@ returns-in_ok-pause-in-Pause-clause-homes g c =
 
 pub returns-in_err-pause-in-Pause-clause-clock : goal.returns-in_err-pause-in-Pause-clause-clock
 returns-in_err-pause-in-Pause-clause-clock g c opened k =
-    let t = c.args.core.now.topology in
-    let a = c.args.core.now.journal.steps in
     let b = c.advance.new.core.journal.steps in
-    let look = g.B.Works.look in
-    let home = body_at look c.args.bodies.now.items in
-    let here = body_at look c.advance.new.bodies.items in
-    let e = c.advance.ensures in
     let p = c.pause.new.core.journal.steps in
     let c1 = clock_seen g.C.Clock.latest g.C.Clock.readings c.advance.new.clock in
     let c2 = clock_seen g.C.Clock.latest g.C.Clock.readings c.pause.new.clock in
-    let q = c.pause.ensures in
-    let v = paused_waits t c.pause.new.core.topology b p c.pause.result c1 c2 c.requires.stands.holds.sound (q.topology ∙ e.topology) q.stands.holds.legal q.paused in
     vain_way c.from_residual-in_err-pause-in-Pause.result p opened c2 c.from_residual-in_err-pause-in-Pause.ensures.0
     (in_vain b p opened c1 c2 (ahead_same b opened c1 (c.in_ok-stage.ensures.clock opened k)) c.in_err-pause-in-Pause.ensures.paused)
 
 pub returns-in_err-pause-in-Pause-clause-control : goal.returns-in_err-pause-in-Pause-clause-control
 returns-in_err-pause-in-Pause-clause-control g c opened k =
     let t = c.args.core.now.topology in
-    let a = c.args.core.now.journal.steps in
     let b = c.advance.new.core.journal.steps in
-    let look = g.B.Works.look in
-    let home = body_at look c.args.bodies.now.items in
-    let here = body_at look c.advance.new.bodies.items in
     let e = c.advance.ensures in
     let p = c.pause.new.core.journal.steps in
     let c1 = clock_seen g.C.Clock.latest g.C.Clock.readings c.advance.new.clock in
@@ -117,10 +93,8 @@ returns-in_err-pause-in-Pause-clause-control g c opened k =
 pub returns-in_ok-pause-in-Pause-clause-ready : goal.returns-in_ok-pause-in-Pause-clause-ready
 returns-in_ok-pause-in-Pause-clause-ready g c =
     let t = c.args.core.now.topology in
-    let a = c.args.core.now.journal.steps in
     let b = c.advance.new.core.journal.steps in
     let look = g.B.Works.look in
-    let home = body_at look c.args.bodies.now.items in
     let here = body_at look c.advance.new.bodies.items in
     let e = c.advance.ensures in
     let p = c.pause.new.core.journal.steps in
@@ -133,10 +107,8 @@ returns-in_ok-pause-in-Pause-clause-ready g c =
 pub returns-in_ok-pause-in-Pause-clause-keeps : goal.returns-in_ok-pause-in-Pause-clause-keeps
 returns-in_ok-pause-in-Pause-clause-keeps g c opened k =
     let t = c.args.core.now.topology in
-    let a = c.args.core.now.journal.steps in
     let b = c.advance.new.core.journal.steps in
     let look = g.B.Works.look in
-    let home = body_at look c.args.bodies.now.items in
     let here = body_at look c.advance.new.bodies.items in
     let e = c.advance.ensures in
     let p = c.pause.new.core.journal.steps in
@@ -148,28 +120,16 @@ returns-in_ok-pause-in-Pause-clause-keeps g c opened k =
 
 pub returns-in_ok-pause-in-Pause-clause-clock : goal.returns-in_ok-pause-in-Pause-clause-clock
 returns-in_ok-pause-in-Pause-clause-clock g c opened k =
-    let t = c.args.core.now.topology in
-    let a = c.args.core.now.journal.steps in
     let b = c.advance.new.core.journal.steps in
-    let look = g.B.Works.look in
-    let home = body_at look c.args.bodies.now.items in
-    let here = body_at look c.advance.new.bodies.items in
-    let e = c.advance.ensures in
     let p = c.pause.new.core.journal.steps in
     let c1 = clock_seen g.C.Clock.latest g.C.Clock.readings c.advance.new.clock in
     let c2 = clock_seen g.C.Clock.latest g.C.Clock.readings c.pause.new.clock in
-    let q = c.pause.ensures in
-    let v = paused_waits t c.pause.new.core.topology b p c.pause.result c1 c2 c.requires.stands.holds.sound (q.topology ∙ e.topology) q.stands.holds.legal q.paused in
     paused_then b p opened c1 c2 (ahead_same b opened c1 (c.in_ok-stage.ensures.clock opened k)) c.in_ok-pause-in-Pause.ensures.paused
 
 pub returns-in_ok-pause-in-Pause-clause-control : goal.returns-in_ok-pause-in-Pause-clause-control
 returns-in_ok-pause-in-Pause-clause-control g c opened k =
     let t = c.args.core.now.topology in
-    let a = c.args.core.now.journal.steps in
     let b = c.advance.new.core.journal.steps in
-    let look = g.B.Works.look in
-    let home = body_at look c.args.bodies.now.items in
-    let here = body_at look c.advance.new.bodies.items in
     let e = c.advance.ensures in
     let p = c.pause.new.core.journal.steps in
     let c1 = clock_seen g.C.Clock.latest g.C.Clock.readings c.advance.new.clock in
@@ -182,9 +142,6 @@ returns-in_ok-pause-in-Pause-clause-control g c opened k =
 
 pub returns-in-JobsOut-clause-homes : goal.returns-in-JobsOut-clause-homes
 returns-in-JobsOut-clause-homes g c =
-    let t = c.args.core.now.topology in
-    let a = c.args.core.now.journal.steps in
-    let b = c.advance.new.core.journal.steps in
     let look = g.B.Works.look in
     let home = body_at look c.args.bodies.now.items in
     let here = body_at look c.advance.new.bodies.items in
@@ -193,34 +150,20 @@ returns-in-JobsOut-clause-homes g c =
 
 pub returns-in-JobsOut-clause-clock : goal.returns-in-JobsOut-clause-clock
 returns-in-JobsOut-clause-clock g c opened k =
-    let t = c.args.core.now.topology in
-    let a = c.args.core.now.journal.steps in
     let b = c.advance.new.core.journal.steps in
-    let look = g.B.Works.look in
-    let home = body_at look c.args.bodies.now.items in
-    let here = body_at look c.advance.new.bodies.items in
-    let e = c.advance.ensures in
     let c1 = clock_seen g.C.Clock.latest g.C.Clock.readings c.advance.new.clock in
     ahead_same b opened c1 (c.in_ok-stage.ensures.clock opened k)
 
 pub returns-in-JobsOut-clause-control : goal.returns-in-JobsOut-clause-control
 returns-in-JobsOut-clause-control g c opened k =
     let t = c.args.core.now.topology in
-    let a = c.args.core.now.journal.steps in
     let b = c.advance.new.core.journal.steps in
-    let look = g.B.Works.look in
-    let home = body_at look c.args.bodies.now.items in
-    let here = body_at look c.advance.new.bodies.items in
-    let e = c.advance.ensures in
     let s = g.S.ByteSource in
     let l1 = option_map (line_seen s.told s.taken s.left s.faults s.waits) c.advance.new.control in
     jobless_keeps t b opened l1 (c.in_ok-stage.ensures.control opened k)
 
 pub returns-in-Drained-clause-homes : goal.returns-in-Drained-clause-homes
 returns-in-Drained-clause-homes g c =
-    let t = c.args.core.now.topology in
-    let a = c.args.core.now.journal.steps in
-    let b = c.advance.new.core.journal.steps in
     let look = g.B.Works.look in
     let home = body_at look c.args.bodies.now.items in
     let here = body_at look c.advance.new.bodies.items in
@@ -229,34 +172,20 @@ returns-in-Drained-clause-homes g c =
 
 pub returns-in-Drained-clause-clock : goal.returns-in-Drained-clause-clock
 returns-in-Drained-clause-clock g c opened k =
-    let t = c.args.core.now.topology in
-    let a = c.args.core.now.journal.steps in
     let b = c.advance.new.core.journal.steps in
-    let look = g.B.Works.look in
-    let home = body_at look c.args.bodies.now.items in
-    let here = body_at look c.advance.new.bodies.items in
-    let e = c.advance.ensures in
     let c1 = clock_seen g.C.Clock.latest g.C.Clock.readings c.advance.new.clock in
     ahead_same b opened c1 (c.in_ok-stage.ensures.clock opened k)
 
 pub returns-in-Drained-clause-control : goal.returns-in-Drained-clause-control
 returns-in-Drained-clause-control g c opened k =
     let t = c.args.core.now.topology in
-    let a = c.args.core.now.journal.steps in
     let b = c.advance.new.core.journal.steps in
-    let look = g.B.Works.look in
-    let home = body_at look c.args.bodies.now.items in
-    let here = body_at look c.advance.new.bodies.items in
-    let e = c.advance.ensures in
     let s = g.S.ByteSource in
     let l1 = option_map (line_seen s.told s.taken s.left s.faults s.waits) c.advance.new.control in
     jobless_keeps t b opened l1 (c.in_ok-stage.ensures.control opened k)
 
 pub returns-in-Halted-clause-homes : goal.returns-in-Halted-clause-homes
 returns-in-Halted-clause-homes g c =
-    let t = c.args.core.now.topology in
-    let a = c.args.core.now.journal.steps in
-    let b = c.advance.new.core.journal.steps in
     let look = g.B.Works.look in
     let home = body_at look c.args.bodies.now.items in
     let here = body_at look c.advance.new.bodies.items in
@@ -265,25 +194,14 @@ returns-in-Halted-clause-homes g c =
 
 pub returns-in-Halted-clause-clock : goal.returns-in-Halted-clause-clock
 returns-in-Halted-clause-clock g c opened k =
-    let t = c.args.core.now.topology in
-    let a = c.args.core.now.journal.steps in
     let b = c.advance.new.core.journal.steps in
-    let look = g.B.Works.look in
-    let home = body_at look c.args.bodies.now.items in
-    let here = body_at look c.advance.new.bodies.items in
-    let e = c.advance.ensures in
     let c1 = clock_seen g.C.Clock.latest g.C.Clock.readings c.advance.new.clock in
     ahead_same b opened c1 (c.in_ok-stage.ensures.clock opened k)
 
 pub returns-in-Halted-clause-control : goal.returns-in-Halted-clause-control
 returns-in-Halted-clause-control g c opened k =
     let t = c.args.core.now.topology in
-    let a = c.args.core.now.journal.steps in
     let b = c.advance.new.core.journal.steps in
-    let look = g.B.Works.look in
-    let home = body_at look c.args.bodies.now.items in
-    let here = body_at look c.advance.new.bodies.items in
-    let e = c.advance.ensures in
     let s = g.S.ByteSource in
     let l1 = option_map (line_seen s.told s.taken s.left s.faults s.waits) c.advance.new.control in
     jobless_keeps t b opened l1 (c.in_ok-stage.ensures.control opened k)
@@ -298,30 +216,21 @@ returns-in-Halted-clause-halted g c is =
 
 pub returns-in-Ok-clause-keeps : goal.returns-in-Ok-clause-keeps
 returns-in-Ok-clause-keeps g c opened k =
-    let t = c.args.core.now.topology in
-    let a = c.args.core.now.journal.steps in
     let b = c.advance.new.core.journal.steps in
     let look = g.B.Works.look in
-    let home = body_at look c.args.bodies.now.items in
     let here = body_at look c.advance.new.bodies.items in
     let e = c.advance.ensures in
     let d = c.leave.new.core.journal.steps in
     let back = body_at look c.leave.new.bodies.items in
     let q = c.leave.ensures in
-    let w = subst (λ o. Within o 1 b d) e.topology q.within in
     subst (λ o. Keeps o b opened here → Keeps o d opened back) e.topology (q.keeps opened) (e.goes.keeps opened k)
 
 pub returns-in-Ok-clause-clock : goal.returns-in-Ok-clause-clock
 returns-in-Ok-clause-clock g c opened k =
     let t = c.args.core.now.topology in
-    let a = c.args.core.now.journal.steps in
     let b = c.advance.new.core.journal.steps in
-    let look = g.B.Works.look in
-    let home = body_at look c.args.bodies.now.items in
-    let here = body_at look c.advance.new.bodies.items in
     let e = c.advance.ensures in
     let d = c.leave.new.core.journal.steps in
-    let back = body_at look c.leave.new.bodies.items in
     let q = c.leave.ensures in
     let w = subst (λ o. Within o 1 b d) e.topology q.within in
     let c1 = clock_seen g.C.Clock.latest g.C.Clock.readings c.advance.new.clock in
@@ -329,15 +238,9 @@ returns-in-Ok-clause-clock g c opened k =
 
 pub returns-in-Ok-clause-control : goal.returns-in-Ok-clause-control
 returns-in-Ok-clause-control g c opened k =
-    let t = c.args.core.now.topology in
-    let a = c.args.core.now.journal.steps in
     let b = c.advance.new.core.journal.steps in
-    let look = g.B.Works.look in
-    let home = body_at look c.args.bodies.now.items in
-    let here = body_at look c.advance.new.bodies.items in
     let e = c.advance.ensures in
     let d = c.leave.new.core.journal.steps in
-    let back = body_at look c.leave.new.bodies.items in
     let q = c.leave.ensures in
     let w = subst (λ o. Within o 1 b d) e.topology q.within in
     let s = g.S.ByteSource in
@@ -346,30 +249,21 @@ returns-in-Ok-clause-control g c opened k =
 
 pub returns-in-Err-clause-keeps : goal.returns-in-Err-clause-keeps
 returns-in-Err-clause-keeps g c opened k =
-    let t = c.args.core.now.topology in
-    let a = c.args.core.now.journal.steps in
     let b = c.advance.new.core.journal.steps in
     let look = g.B.Works.look in
-    let home = body_at look c.args.bodies.now.items in
     let here = body_at look c.advance.new.bodies.items in
     let e = c.advance.ensures in
     let d = c.leave.new.core.journal.steps in
     let back = body_at look c.leave.new.bodies.items in
     let q = c.leave.ensures in
-    let w = subst (λ o. Within o 1 b d) e.topology q.within in
     subst (λ o. Keeps o b opened here → Keeps o d opened back) e.topology (q.keeps opened) (e.goes.keeps opened k)
 
 pub returns-in-Err-clause-clock : goal.returns-in-Err-clause-clock
 returns-in-Err-clause-clock g c opened k =
     let t = c.args.core.now.topology in
-    let a = c.args.core.now.journal.steps in
     let b = c.advance.new.core.journal.steps in
-    let look = g.B.Works.look in
-    let home = body_at look c.args.bodies.now.items in
-    let here = body_at look c.advance.new.bodies.items in
     let e = c.advance.ensures in
     let d = c.leave.new.core.journal.steps in
-    let back = body_at look c.leave.new.bodies.items in
     let q = c.leave.ensures in
     let w = subst (λ o. Within o 1 b d) e.topology q.within in
     let c1 = clock_seen g.C.Clock.latest g.C.Clock.readings c.advance.new.clock in
@@ -378,14 +272,9 @@ returns-in-Err-clause-clock g c opened k =
 pub returns-in-Err-clause-control : goal.returns-in-Err-clause-control
 returns-in-Err-clause-control g c opened k =
     let t = c.args.core.now.topology in
-    let a = c.args.core.now.journal.steps in
     let b = c.advance.new.core.journal.steps in
-    let look = g.B.Works.look in
-    let home = body_at look c.args.bodies.now.items in
-    let here = body_at look c.advance.new.bodies.items in
     let e = c.advance.ensures in
     let d = c.leave.new.core.journal.steps in
-    let back = body_at look c.leave.new.bodies.items in
     let q = c.leave.ensures in
     let w = subst (λ o. Within o 1 b d) e.topology q.within in
     let s = g.S.ByteSource in
@@ -394,75 +283,44 @@ returns-in-Err-clause-control g c opened k =
 
 pub returns-in-Ok-clause-ready : goal.returns-in-Ok-clause-ready
 returns-in-Ok-clause-ready g c =
-    let t = c.args.core.now.topology in
-    let a = c.args.core.now.journal.steps in
-    let b = c.advance.new.core.journal.steps in
     let look = g.B.Works.look in
-    let home = body_at look c.args.bodies.now.items in
-    let here = body_at look c.advance.new.bodies.items in
     let e = c.advance.ensures in
     let d = c.leave.new.core.journal.steps in
     let back = body_at look c.leave.new.bodies.items in
     let q = c.leave.ensures in
-    let w = subst (λ o. Within o 1 b d) e.topology q.within in
     subst (λ o. Ready o d back) e.topology q.ready
 
 pub returns-in-Ok-clause-load : goal.returns-in-Ok-clause-load
 returns-in-Ok-clause-load g c opened k =
-    let t = c.args.core.now.topology in
-    let a = c.args.core.now.journal.steps in
     let b = c.advance.new.core.journal.steps in
     let look = g.B.Works.look in
-    let home = body_at look c.args.bodies.now.items in
     let here = body_at look c.advance.new.bodies.items in
     let e = c.advance.ensures in
     let d = c.leave.new.core.journal.steps in
-    let back = body_at look c.leave.new.bodies.items in
-    let q = c.leave.ensures in
-    let w = subst (λ o. Within o 1 b d) e.topology q.within in
     subst (λ o. Keeps o b opened here → IsAway o d (opened (place_at c.in-Ok.load.job.post)) c.in-Ok.load.job (look c.in-Ok.load.body)) e.topology (c.in-Ok.ensures.load opened) (e.goes.keeps opened k)
 
 pub returns-in-Ok-clause-adds : goal.returns-in-Ok-clause-adds
 returns-in-Ok-clause-adds g c =
-    let t = c.args.core.now.topology in
     let a = c.args.core.now.journal.steps in
     let b = c.advance.new.core.journal.steps in
-    let look = g.B.Works.look in
-    let home = body_at look c.args.bodies.now.items in
-    let here = body_at look c.advance.new.bodies.items in
     let e = c.advance.ensures in
     let d = c.leave.new.core.journal.steps in
-    let back = body_at look c.leave.new.bodies.items in
-    let q = c.leave.ensures in
-    let w = subst (λ o. Within o 1 b d) e.topology q.within in
     holds_then None (Some c.in-Ok.load.job.post) a b d (silently_hold a b e.silent) c.in-Ok.ensures.adds
 
 pub returns-in-Ok-clause-homes : goal.returns-in-Ok-clause-homes
 returns-in-Ok-clause-homes g c =
-    let t = c.args.core.now.topology in
-    let a = c.args.core.now.journal.steps in
-    let b = c.advance.new.core.journal.steps in
     let look = g.B.Works.look in
     let home = body_at look c.args.bodies.now.items in
     let here = body_at look c.advance.new.bodies.items in
     let e = c.advance.ensures in
-    let d = c.leave.new.core.journal.steps in
     let back = body_at look c.leave.new.bodies.items in
-    let q = c.leave.ensures in
-    let w = subst (λ o. Within o 1 b d) e.topology q.within in
     homes_then None (Some c.in-Ok.load.job.post) home here back (same_homes home here e.same_places) c.in-Ok.ensures.homes
 
 pub returns-in-Err-clause-homes : goal.returns-in-Err-clause-homes
 returns-in-Err-clause-homes g c =
-    let t = c.args.core.now.topology in
-    let a = c.args.core.now.journal.steps in
-    let b = c.advance.new.core.journal.steps in
     let look = g.B.Works.look in
     let home = body_at look c.args.bodies.now.items in
     let here = body_at look c.advance.new.bodies.items in
     let e = c.advance.ensures in
-    let d = c.leave.new.core.journal.steps in
     let back = body_at look c.leave.new.bodies.items in
-    let q = c.leave.ensures in
-    let w = subst (λ o. Within o 1 b d) e.topology q.within in
     homes_then None None home here back (same_homes home here e.same_places) c.in-Err.ensures.same_homes

@@ -20,7 +20,6 @@ record-requires-clause-legal g c =
     let back = body_at look c.put_back.new.bodies.items in
     let p = c.args.home.post in
     let body = look c.args.home.body in
-    let table = table_of p c.place_of-at.result body home back c.place_of-at.ensures c.put_back.ensures.others in
     let back_is = subst (λ x. IsBack t h c.requires.back.0 p x body) c.in_ok-answer.was c.requires.back.1 in
     may_record t h p c.in_ok-answer.field-0 body c.requires.back.0 c.requires.stands.holds.sound c.requires.stands.holds.legal c.requires.stands.unowed back_is
 
@@ -91,8 +90,6 @@ returns-in_err-answer-clause-keeps g c opened k b =
 
 pub returns-in_err-answer-clause-homes : goal.returns-in_err-answer-clause-homes
 returns-in_err-answer-clause-homes g c =
-    let t = c.args.core.now.topology in
-    let h = c.args.core.now.journal.steps in
     let look = g.B.Works.look in
     let home = body_at look c.args.bodies.now.items in
     let back = body_at look c.put_back.new.bodies.items in
@@ -188,8 +185,6 @@ returns-clause-keeps g c opened k b =
 
 pub returns-clause-homes : goal.returns-clause-homes
 returns-clause-homes g c =
-    let t = c.args.core.now.topology in
-    let h = c.args.core.now.journal.steps in
     let look = g.B.Works.look in
     let home = body_at look c.args.bodies.now.items in
     let back = body_at look c.put_back.new.bodies.items in

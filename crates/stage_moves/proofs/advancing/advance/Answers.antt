@@ -128,7 +128,6 @@ returns-in_err-read_control-clause-control g c opened k =
     let m = c.read_clock.new.core.journal.steps in
     let n = c.read_control.new.core.journal.steps in
     let e1 = c.read_clock.ensures in
-    let e2 = c.read_control.ensures in
     let c0 = clock_seen g.C.Clock.latest g.C.Clock.readings c.args.clock.now in
     let c1 = clock_seen g.C.Clock.latest g.C.Clock.readings c.read_clock.new.clock in
     let w = read_waits t c.read_clock.new.core.topology a m c.read_clock.result c0 c1 c.requires.stands.holds.sound e1.topology e1.stands.holds.legal e1.read in

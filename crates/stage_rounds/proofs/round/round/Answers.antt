@@ -92,7 +92,6 @@ returns-in_ok-work-in-Job-clause-clock g c opened k =
 
 pub returns-in_ok-work-in-Job-clause-control : goal.returns-in_ok-work-in-Job-clause-control
 returns-in_ok-work-in-Job-clause-control g c opened k =
-    let t = c.args.core.now.topology in
     let b = c.advance.new.core.journal.steps in
     let d = c.work.new.core.journal.steps in
     let s = g.S.ByteSource in
