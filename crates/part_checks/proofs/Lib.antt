@@ -1,0 +1,3 @@
+pub mod Fewer
+pub mod Pairs
+pub mod Sound
