@@ -61,8 +61,7 @@ impl Callback for Watcher {
 
     fn message(&mut self, message: Message) -> Result<Reply, AllocError> {
         if message.payload.as_slice().starts_with(b"!") {
-            self.said
-                .push(Said::Message(Reply::Failed(self.watched)))?;
+            self.said.push(Said::Message(Reply::Failed(self.watched)))?;
             self.calls = self.calls.saturating_add(1);
             self.bad = self.bad.saturating_add(1);
             return Ok(Reply::Failed(self.watched));

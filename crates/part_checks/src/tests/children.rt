@@ -5,6 +5,14 @@ use pipe_types::numbers::MsgNo;
 use pipe_types::topology::ChildMode;
 use std::test::Fail;
 
+/// Whose run it is: that of a child, or of a slot that is not there.
+#[derive(Clone, Copy)]
+enum Whose {
+    First,
+    Second,
+    Nobody,
+}
+
 /// Whose run it is, whether it crashes, and what becomes of the child.
 static RUNS: [(Whose, bool, Option<ChildEnd>); 8] = [
     (Whose::First, true, Some(ChildEnd::Again)),
@@ -19,14 +27,6 @@ static RUNS: [(Whose, bool, Option<ChildEnd>); 8] = [
 
 /// Of a temporary child, whether its run crashes, and what becomes of it.
 static TEMPORARY: [(bool, ChildEnd); 2] = [(true, ChildEnd::Lost), (false, ChildEnd::Settled)];
-
-/// Whose run it is: that of a child, or of a slot that is not there.
-#[derive(Clone, Copy)]
-enum Whose {
-    First,
-    Second,
-    Nobody,
-}
 
 /// Ends a run, where the slot has a child.
 fn end_run(children: &mut Children, slot: u16, crashed: bool) -> Option<ChildEnd> {
