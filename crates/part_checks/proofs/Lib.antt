@@ -1,3 +1,2 @@
-pub mod Fewer
 pub mod Pairs
 pub mod Sound

@@ -1,7 +1,5 @@
 //! A job of each kind, on sources and sinks in memory.
 
-ghost use Rattle.std.specs.Prelude.{◌≡◌, IfOk};
-
 use super::messages::{bytes_of, message_of, messages_of};
 use body_jobs::Body;
 use mem_edges::{MemSink, MemSource, SinkScript, SourceScript};
@@ -9,17 +7,35 @@ use pipe_edges::{ByteSource, LineSource};
 use pipe_types::bytes::Bytes;
 use pipe_types::message::{Batch, BatchEnd, Outcome as End, Reply, Trigger};
 use pipe_types::numbers::{BatchNo, MsgNo, Post, StageNo};
-use pipe_types::topology::{Kind, Rule, RuleList, StageSpec};
+use pipe_types::topology::{Kind, Rule, RuleList};
 use stage_bodies::{Answer, Houses, Job, Outcome, Work, Works};
 use stage_callback::{Callback, LinesBox, StepsBox, may_arm, unarmed};
 use std::alloc::{AllocError, Global};
 use std::test::Fail;
+
+/// A body over the outside in memory.
+type MemBody = Body<MemSource, MemSink>;
 
 fn post() -> Post {
     Post {
         stage: StageNo(2),
         slot: 3,
     }
+}
+
+/// The lines of a source with these bytes.
+fn lines_of(alloc: Global, bytes: &[u8]) -> Result<LineSource<MemSource>, AllocError> {
+    let script = SourceScript::from_vec(Vec::new(alloc));
+    match LineSource::new(alloc, MemSource::new(bytes_of(alloc, bytes)?, script)) {
+        Ok(lines) => Ok(lines),
+        Err((_, failed)) => Err(failed),
+    }
+}
+
+/// A sink that holds these bytes and has room for so many more.
+fn sink_of(alloc: Global, held: &[u8], room: usize) -> Result<MemSink, AllocError> {
+    let script = SinkScript::from_vec(Vec::new(alloc));
+    MemSink::new(alloc, bytes_of(alloc, held)?, room, script)
 }
 
 fn are_two(records: &[Bytes]) -> bool {
@@ -31,16 +47,9 @@ fn are_two(records: &[Bytes]) -> bool {
 #[test]
 fn a_fetch_reads_the_first_lines(rt: HostRuntime) -> Result<(), Fail> {
     let alloc = rt.alloc();
-    let source = MemSource::new(
-        bytes_of(alloc, b"a\nbb\nc")?,
-        SourceScript::from_vec(Vec::new(alloc)),
-    );
-    let Ok(lines) = LineSource::new(alloc, source) else {
-        return Err("no memory".into());
-    };
-    let mut body: Body<MemSource, MemSink> = Body {
+    let mut body: MemBody = Body {
         callback: None,
-        source: Some(lines),
+        source: Some(lines_of(alloc, b"a\nbb\nc")?),
         sink: None,
     };
     let job = Job {
@@ -63,13 +72,50 @@ fn a_fetch_reads_the_first_lines(rt: HostRuntime) -> Result<(), Fail> {
     Ok(())
 }
 
-/// A spec that fails each second message.
-fn spec_of(alloc: Global) -> Result<StageSpec, AllocError>
-    ensures { IfOk result (λ spec. spec.kind ≡ Kind.Steps) }
-{
+/// A callback that fails each second message.
+fn each_second(alloc: Global) -> Result<Box<dyn Callback + Send>, AllocError> {
     let mut spec = unarmed(alloc, Kind::Steps);
     spec.rules = RuleList::from_vec(vec![in alloc; Rule::FailEvery(2)]?);
-    Ok(spec)
+    let mut callback: Box<dyn Callback + Send> = Box::new(alloc, StepsBox::new(alloc))?;
+    if may_arm(&spec) {
+        callback.arm(&spec)?;
+    }
+    Ok(callback)
+}
+
+/// Runs a chunk of three messages on a body with this callback.
+fn run_three(
+    alloc: Global,
+    callback: Box<dyn Callback + Send>,
+) -> Result<(MemBody, Outcome), AllocError> {
+    let mut body: MemBody = Body {
+        callback: Some(callback),
+        source: None,
+        sink: None,
+    };
+    let chunk = Job {
+        post: post(),
+        incarnation: 1,
+        work: Work::Chunk(messages_of(alloc, &["a", "b", "c"])?),
+    };
+    let answer = body.run_job(alloc, chunk)?;
+    Ok((body, answer.outcome))
+}
+
+/// Runs a child's message, the fourth, on a body with this callback.
+fn run_child(alloc: Global, callback: Box<dyn Callback + Send>) -> Result<Outcome, AllocError> {
+    let mut body: MemBody = Body {
+        callback: Some(callback),
+        source: None,
+        sink: None,
+    };
+    let child = Job {
+        post: post(),
+        incarnation: 1,
+        work: Work::Child(message_of(alloc, 4, b"d")?),
+    };
+    let answer = body.run_job(alloc, child)?;
+    Ok(answer.outcome)
 }
 
 fn is_passed(reply: &Reply, no: u32) -> bool {
@@ -80,7 +126,12 @@ fn is_failed(reply: &Reply, reason: &[u8]) -> bool {
     matches!(reply, Reply::Failed(why) if why.as_bytes() == reason)
 }
 
-fn are_three(replies: &[Reply]) -> bool {
+/// Whether these are the replies to three messages, of which the second fails.
+fn are_three(outcome: &Outcome) -> bool {
+    let Outcome::Replies(replies) = outcome else {
+        return false;
+    };
+    let replies = replies.as_slice();
     replies.len() == 3
         && is_passed(&replies[0], 1)
         && is_failed(&replies[1], b"every")
@@ -90,91 +141,46 @@ fn are_three(replies: &[Reply]) -> bool {
 #[test]
 fn a_child_begins_from_zero(rt: HostRuntime) -> Result<(), Fail> {
     let alloc = rt.alloc();
-    let mut callback: Box<dyn Callback + Send> = Box::new(alloc, StepsBox::new(alloc))?;
-    let spec = spec_of(alloc)?;
-    assert!(rt; may_arm(&spec));
-    callback.arm(&spec)?;
-    let mut body: Body<MemSource, MemSink> = Body {
-        callback: Some(callback),
-        source: None,
-        sink: None,
-    };
-    let chunk = Job {
-        post: post(),
-        incarnation: 1,
-        work: Work::Chunk(messages_of(alloc, &["a", "b", "c"])?),
-    };
-    let Outcome::Replies(replies) = body.run_job(alloc, chunk)?.outcome else {
-        return Err("replies".into());
-    };
-    assert!(rt; are_three(replies.as_slice()));
-
+    let (mut body, outcome) = run_three(alloc, each_second(alloc)?)?;
+    assert!(rt; are_three(&outcome));
     let callback = body.take_box().ok_or("a callback")?;
-    let mut body: Body<MemSource, MemSink> = Body {
-        callback: Some(callback),
-        source: None,
-        sink: None,
-    };
-    let child = Job {
-        post: post(),
-        incarnation: 1,
-        work: Work::Child(message_of(alloc, 4, b"d")?),
-    };
-    let Outcome::Reply(reply) = body.run_job(alloc, child)?.outcome else {
-        return Err("a reply".into());
-    };
-    assert!(rt; is_passed(&reply, 4));
+    let outcome = run_child(alloc, callback)?;
+    assert!(rt; matches!(outcome, Outcome::Reply(reply) if is_passed(&reply, 4)));
     Ok(())
 }
 
 #[test]
 fn a_reset_begins_from_zero(rt: HostRuntime) -> Result<(), Fail> {
     let alloc = rt.alloc();
-    let mut callback: Box<dyn Callback + Send> = Box::new(alloc, StepsBox::new(alloc))?;
-    let spec = spec_of(alloc)?;
-    assert!(rt; may_arm(&spec));
-    callback.arm(&spec)?;
-    let mut next = Some(callback);
+    let mut next = Some(each_second(alloc)?);
     for _ in 0..2 {
-        let mut body: Body<MemSource, MemSink> = Body {
-            callback: Some(next.take().ok_or("a callback")?),
-            source: None,
-            sink: None,
-        };
-        let chunk = Job {
-            post: post(),
-            incarnation: 1,
-            work: Work::Chunk(messages_of(alloc, &["a", "b", "c"])?),
-        };
-        let Outcome::Replies(replies) = body.run_job(alloc, chunk)?.outcome else {
-            return Err("replies".into());
-        };
-        assert!(rt; are_three(replies.as_slice()));
+        let callback = next.take().ok_or("a callback")?;
+        let (mut body, outcome) = run_three(alloc, callback)?;
+        assert!(rt; are_three(&outcome));
         body.reset();
         next = body.take_box();
     }
     Ok(())
 }
 
-#[test]
-fn a_short_write_fails_every_message(rt: HostRuntime) -> Result<(), Fail> {
-    let alloc = rt.alloc();
+/// Runs a batch of two messages that writes lines to this sink.
+fn write_two(alloc: Global, sink: MemSink) -> Result<Option<(MemBody, Outcome)>, AllocError> {
     let mut callback: Box<dyn Callback + Send> = Box::new(alloc, LinesBox::new(alloc))?;
     let spec = unarmed(alloc, Kind::Lines);
-    assert!(rt; may_arm(&spec));
+    if !may_arm(&spec) {
+        return Ok(None);
+    }
     callback.arm(&spec)?;
     if callback.kind() != Kind::Lines {
-        return Err("lines".into());
+        return Ok(None);
     }
-    let script = SinkScript::from_vec(Vec::new(alloc));
-    let sink = MemSink::new(alloc, Bytes::from_vec(Vec::new(alloc)), 7, script)?;
     let batch = Batch {
         no: BatchNo(1),
         key: Bytes::from_vec(Vec::new(alloc)),
         trigger: Trigger::Size,
         messages: messages_of(alloc, &["hello", "y"])?,
     };
-    let mut body: Body<MemSource, MemSink> = Body {
+    let mut body: MemBody = Body {
         callback: Some(callback),
         source: None,
         sink: Some(sink),
@@ -184,8 +190,15 @@ fn a_short_write_fails_every_message(rt: HostRuntime) -> Result<(), Fail> {
         incarnation: 1,
         work: Work::Batch(batch),
     };
-    let Outcome::Wrote(bytes, BatchEnd::Outcomes(outcomes)) = body.run_job(alloc, job)?.outcome
-    else {
+    let answer = body.run_job(alloc, job)?;
+    Ok(Some((body, answer.outcome)))
+}
+
+#[test]
+fn a_short_write_fails_every_message(rt: HostRuntime) -> Result<(), Fail> {
+    let alloc = rt.alloc();
+    let (mut body, outcome) = write_two(alloc, sink_of(alloc, b"", 7)?)?.ok_or("lines")?;
+    let Outcome::Wrote(bytes, BatchEnd::Outcomes(outcomes)) = outcome else {
         return Err("a write".into());
     };
     assert_eq!(rt; bytes, 7);
@@ -202,18 +215,10 @@ fn a_short_write_fails_every_message(rt: HostRuntime) -> Result<(), Fail> {
 #[test]
 fn a_body_is_filled_and_emptied(rt: HostRuntime) -> Result<(), Fail> {
     let alloc = rt.alloc();
-    let source = MemSource::new(
-        bytes_of(alloc, b"a")?,
-        SourceScript::from_vec(Vec::new(alloc)),
-    );
-    let Ok(lines) = LineSource::new(alloc, source) else {
-        return Err("no memory".into());
-    };
-    let script = SinkScript::from_vec(Vec::new(alloc));
     let callback: Box<dyn Callback + Send> = Box::new(alloc, LinesBox::new(alloc))?;
-    let mut body: Body<MemSource, MemSink> = Body::empty();
-    body.put_source(lines);
-    body.put_sink(MemSink::new(alloc, bytes_of(alloc, b"x")?, 9, script)?);
+    let mut body: MemBody = Body::empty();
+    body.put_source(lines_of(alloc, b"a")?);
+    body.put_sink(sink_of(alloc, b"x", 9)?);
     body.put_box(callback);
     assert!(rt; body.take_source().is_some());
     assert!(rt;
