@@ -145,7 +145,7 @@ fn a_child_begins_from_zero(rt: HostRuntime) -> Result<(), Fail> {
     assert!(rt; are_three(&outcome));
     let callback = body.take_box().ok_or("a callback")?;
     let outcome = run_child(alloc, callback)?;
-    assert!(rt; matches!(outcome, Outcome::Reply(reply) if is_passed(&reply, 4)));
+    assert!(rt; matches!(&outcome, Outcome::Reply(reply) if is_passed(reply, 4)));
     Ok(())
 }
 
