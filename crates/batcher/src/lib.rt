@@ -224,6 +224,3 @@ fn has_passed(since: u64, timeout: u64, now: u64) -> bool
 {
     since <= now && timeout <= now - since
 }
-
-#[cfg(test)]
-mod tests;

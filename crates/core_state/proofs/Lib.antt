@@ -4,4 +4,3 @@ pub mod Rows
 pub mod FirstPairs
 pub mod NewQueues
 pub mod NewFields
-mod SoundSamples

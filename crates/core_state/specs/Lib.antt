@@ -2,4 +2,3 @@ pub mod Stands
 pub mod Readings
 pub mod Begun
 pub mod AreNew
-pub mod Samples

@@ -12,6 +12,3 @@ mod subscribing;
 mod tables;
 
 pub use state::Core;
-
-#[cfg(test)]
-mod tests;

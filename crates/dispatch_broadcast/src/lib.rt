@@ -66,6 +66,3 @@ fn send_to_each(sent: &mut Vec<Sent>, unit: u32, room: &[Room]) -> Result<(), Al
     }
     Ok(())
 }
-
-#[cfg(test)]
-mod tests;

@@ -115,6 +115,3 @@ fn send_run(sent: &mut Vec<Sent>, first: u32, count: u32, sub: SubNo) -> Result<
     }
     Ok(())
 }
-
-#[cfg(test)]
-mod tests;

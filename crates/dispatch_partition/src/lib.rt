@@ -61,6 +61,3 @@ pub fn partition_of(key: &[u8], n: u32) -> u32
     }
     hash % n
 }
-
-#[cfg(test)]
-mod tests;

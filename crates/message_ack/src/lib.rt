@@ -6,8 +6,6 @@
 #![tactic(auto)]
 
 mod legs;
-#[cfg(test)]
-mod tests;
 mod verdicts;
 
 pub use legs::{LegEnd, Legs, Settled};

@@ -12,7 +12,5 @@ mod places;
 mod replay;
 mod settled;
 mod state;
-#[cfg(test)]
-mod tests;
 
 pub use replay::replay_plain;

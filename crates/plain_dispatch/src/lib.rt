@@ -13,9 +13,6 @@ use pipe_types::room::{Room, Sent};
 use pipe_types::topology::Dispatch;
 use std::alloc::{AllocError, Global};
 
-#[cfg(test)]
-mod tests;
-
 /// Whether `a` comes before `b`: by consumer, then producer, then generation.
 fn sub_before(a: SubNo, b: SubNo) -> bool
     ensures { result ≡ sub_before_in a b }

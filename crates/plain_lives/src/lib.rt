@@ -8,8 +8,6 @@ mod deaths;
 mod kills;
 mod lives;
 mod past;
-#[cfg(test)]
-mod tests;
 
 pub use deaths::{Death, Lives, Renewal, generation, is_live, reason};
 pub use kills::killed_by;

@@ -72,27 +72,3 @@ impl Restarts {
         self.times.push_front_reserved(now);
     }
 }
-
-#[cfg(test)]
-mod tests {
-    use super::*;
-    use std::test::Fail;
-
-    #[test]
-    fn counts_the_restarts_in_the_window(rt: HostRuntime) -> Result<(), Fail> {
-        let mut restarts = Restarts::new(rt.alloc(), 3, 5000)?;
-        assert!(rt; restarts.may(0));
-        restarts.made(0);
-        restarts.made(1000);
-        assert!(rt; restarts.may(1000));
-        restarts.made(2000);
-        for (now, may) in [(2000, false), (5000, false), (5001, true), (u64::MAX, true)] {
-            assert_eq!(rt; restarts.may(now), may, "at {now}");
-        }
-        restarts.made(5001);
-        assert!(rt; !restarts.may(6000));
-        assert!(rt; restarts.may(6001));
-        assert!(rt; !Restarts::new(rt.alloc(), 0, 5000)?.may(0));
-        Ok(())
-    }
-}

@@ -2,7 +2,6 @@ pub mod Arrivals
 pub mod Changes
 pub mod Empty
 pub mod Ends
-pub mod Fewer
 pub mod Methods
 pub mod Ordering
 pub mod Popping

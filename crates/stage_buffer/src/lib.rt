@@ -407,6 +407,3 @@ fn number<T>(arrived: Option<&Arrived<T>>) -> Option<u64>
         None => None,
     }
 }
-
-#[cfg(test)]
-mod tests;

@@ -1,3 +1,2 @@
 pub mod Ledger
-pub mod Places
 pub mod Rows

@@ -417,6 +417,3 @@ fn room_to(rows: &[Option<SubRow>], producer: StageNo, consumers: u16) -> u64
     }
     room
 }
-
-#[cfg(test)]
-mod tests;

@@ -1,0 +1,146 @@
+//! A user's own callback, called through its box.
+
+ghost use Rattle.std.specs.Prelude.{◌≡◌, ◌≢◌, ◌++◌, ◌∷◌, [], true, false, IfOk, OnOk, IsTrue};
+ghost use Rattle.pipe_types.specs.Handlers.{eval, counted};
+ghost use Rattle.pipe_types.specs.declared.topology.Kind.TheVariants.{Own};
+ghost use Rattle.stage_callback.specs.Callbacks.{is_passed};
+ghost use Rattle.pipe_types.specs.Counts.{Rose};
+
+use super::messages::message_of;
+use pipe_types::message::{Batch, Message, Reply};
+use pipe_types::numbers::MsgNo;
+use pipe_types::reason::Reason;
+use pipe_types::topology::{Kind, StageSpec};
+use stage_callback::{
+    BatchReply, Callback, FailedReply, Prepared, Said, copy_message, copy_spec, unarmed,
+};
+use std::alloc::{AllocError, Global};
+use std::test::Fail;
+
+/// Fails each message that begins with `!`, for the reason `watched`, and tells its answers.
+#[derive(Drop)]
+struct Watcher {
+    alloc: Global,
+    spec: StageSpec,
+    watched: Reason,
+    calls: u64,
+    bad: u64,
+    said: Vec<Said>,
+}
+
+impl Callback for Watcher {
+    ghost kind = { λ _. Own };
+
+    ghost spec = { λ w. w.spec };
+
+    ghost count = { λ _. 0 };
+
+    ghost calls = { λ w. w.calls };
+
+    ghost bad = { λ w. w.bad };
+
+    ghost told = { λ _. true };
+
+    ghost said = { λ w. w.said.items };
+
+    fn kind(&self) -> Kind {
+        Kind::Own
+    }
+
+    fn arm(&mut self, stage: &StageSpec) -> Result<(), AllocError> {
+        self.spec = copy_spec(self.alloc, stage)?;
+        Ok(())
+    }
+
+    fn reset(&mut self) {}
+
+    fn prepare(&mut self, _messages: &[Message]) -> Result<Prepared, AllocError> {
+        self.said.push(Said::Prepared(Prepared::Ready))?;
+        Ok(Prepared::Ready)
+    }
+
+    fn message(&mut self, message: Message) -> Result<Reply, AllocError> {
+        if message.payload.as_slice().starts_with(b"!") {
+            self.said.push(Said::Message(Reply::Failed(self.watched)))?;
+            self.calls = self.calls.saturating_add(1);
+            self.bad = self.bad.saturating_add(1);
+            return Ok(Reply::Failed(self.watched));
+        }
+        let copied = copy_message(self.alloc, &message)?;
+        self.said.push(Said::Message(Reply::Pass(copied)))?;
+        self.calls = self.calls.saturating_add(1);
+        Ok(Reply::Pass(message))
+    }
+
+    fn batch(&mut self, _batch: &Batch) -> Result<BatchReply, AllocError> {
+        self.said.push(Said::Batch(BatchReply::Crashed))?;
+        self.calls = self.calls.saturating_add(1);
+        self.bad = self.bad.saturating_add(1);
+        Ok(BatchReply::Crashed)
+    }
+
+    fn failed(&mut self, _no: MsgNo, _reason: &Reason) -> Result<FailedReply, AllocError> {
+        self.said.push(Said::Failed(FailedReply::Keep))?;
+        Ok(FailedReply::Keep)
+    }
+}
+
+/// Calls `message` through the box, and says what it answered and what that did to the box.
+pub(super) fn ask(
+    callback: &mut Box<dyn Callback + Send>,
+    message: Message,
+) -> Result<Reply, AllocError>
+    ensures same { (kind callback.new ≡ kind callback.old) × (spec callback.new ≡ spec callback.old) }
+    ensures built_in { kind callback.old ≢ Kind.Own → IfOk result (λ reply.
+        (reply ≡ eval (spec callback.old) (count callback.old) message)
+        × (count callback.new ≡ counted (count callback.old) 1)) }
+    ensures calls { kind callback.old ≡ Kind.Own → OnOk result (Rose (calls callback.old) (calls callback.new)) }
+    ensures bad { kind callback.old ≡ Kind.Own → IfOk result (λ reply.
+        is_passed reply ≡ false → Rose (bad callback.old) (bad callback.new)) }
+    ensures told { IsTrue (told callback.old) → IfOk result (λ reply.
+        said callback.new ≡ said callback.old ++ Said.Message reply ∷ []) }
+{
+    callback.message(message)
+}
+
+fn watcher(alloc: Global, watched: Reason) -> Watcher {
+    Watcher {
+        alloc,
+        spec: unarmed(alloc, Kind::Own),
+        watched,
+        calls: 0,
+        bad: 0,
+        said: Vec::new(alloc),
+    }
+}
+
+#[test]
+fn an_own_callback_counts_through_its_box(rt: HostRuntime) -> Result<(), Fail> {
+    let alloc = rt.alloc();
+    let why = Reason::new(b"watched").ok_or("reason")?;
+    let mut callback: Box<dyn Callback + Send> = Box::new(alloc, watcher(alloc, why))?;
+    callback.arm(&unarmed(alloc, Kind::Own))?;
+    assert_eq!(rt; callback.kind(), Kind::Own);
+    assert_eq!(rt; callback.prepare(&[])?, Prepared::Ready);
+    let passed = ask(&mut callback, message_of(alloc, 7, b"a")?)?;
+    assert!(rt; matches!(&passed, Reply::Pass(m) if m.no == MsgNo(7)));
+    let failed = ask(&mut callback, message_of(alloc, 7, b"!b")?)?;
+    assert!(rt; matches!(&failed, Reply::Failed(reason) if *reason == why));
+    assert_eq!(rt; callback.failed(MsgNo(7), &why)?, FailedReply::Keep);
+    callback.reset();
+    Ok(())
+}
+
+#[test]
+fn an_own_callback_counts_its_answers(rt: HostRuntime) -> Result<(), Fail> {
+    let alloc = rt.alloc();
+    let why = Reason::new(b"watched").ok_or("reason")?;
+    let mut watcher = watcher(alloc, why);
+    watcher.message(message_of(alloc, 7, b"a")?)?;
+    watcher.message(message_of(alloc, 7, b"!b")?)?;
+    watcher.message(message_of(alloc, 7, b"c")?)?;
+    assert_eq!(rt; watcher.calls, 3);
+    assert_eq!(rt; watcher.bad, 1);
+    assert_eq!(rt; watcher.said.len(), 3);
+    Ok(())
+}

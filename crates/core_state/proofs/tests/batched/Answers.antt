@@ -1,7 +1,0 @@
-use Rattle.core_state.proofs.SoundSamples.{batched_is_sound}
-use Rattle.core_state.proofs.tests.batched.Goals as goal
-
-pub returns : goal.returns
-returns c =
-    rw (c.topology.ensures, c.in_ok-vec.ensures.items, c.in_ok-producer.ensures, c.in_ok-processor.ensures, c.in_ok-batcher.ensures, c.in_ok-sink.ensures)
-    batched_is_sound

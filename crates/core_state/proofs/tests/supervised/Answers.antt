@@ -1,5 +1,0 @@
-use Rattle.core_state.proofs.SoundSamples.{supervised_is_sound}
-use Rattle.core_state.proofs.tests.supervised.Goals as goal
-
-pub returns : goal.returns
-returns c = rw (c.topology.ensures, c.in_ok-vec.ensures.items, c.in_ok-producer.ensures, c.in_ok-consumer.ensures) supervised_is_sound
