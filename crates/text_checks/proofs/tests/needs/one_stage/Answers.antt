@@ -1,5 +1,5 @@
-use Rattle.topology_needs.proofs.SoundSamples.{one_stage_is_sound}
-use Rattle.topology_needs.proofs.tests.one_stage.Goals as goal
+use Rattle.text_checks.proofs.SoundSamples.{one_stage_is_sound}
+use Rattle.text_checks.proofs.tests.needs.one_stage.Goals as goal
 
 pub returns : goal.returns
 returns c =

@@ -2,10 +2,10 @@
 
 ghost use Rattle.std.specs.Prelude.{◌≡◌, ◌≢◌, IfOk};
 ghost use Rattle.pipe_types.specs.Sound.{IsSound};
-ghost use Rattle.topology_needs.specs.Samples as sample;
+ghost use Rattle.text_checks.specs.Samples as sample;
 
-use crate::{Boxes, Shortage, need, shortage, subscriptions};
-use pipe_types::bytes::{Bytes, Text};
+use super::bytes;
+use pipe_types::bytes::Text;
 use pipe_types::numbers::StageNo;
 use pipe_types::topology::{
     CancelMode, ChildMode, Dispatch, Keep, Kind, Role, Rule, RuleList, StageList, StageSpec,
@@ -13,17 +13,12 @@ use pipe_types::topology::{
 };
 use std::alloc::{AllocError, Global};
 use std::test::Fail;
+use topology_needs::{Boxes, Shortage, need, shortage, subscriptions};
 
 fn text(alloc: Global, text: &str) -> Result<Text, AllocError>
     ensures { IfOk result (λ copy. copy ≡ text.now) }
 {
     Ok(Text::from_string(String::from_str(alloc, text)?))
-}
-
-fn bytes(alloc: Global, bytes: &[u8]) -> Result<Bytes, AllocError>
-    ensures { IfOk result (λ copy. copy ≡ bytes.now) }
-{
-    Ok(Bytes::from_vec(Vec::from_slice(alloc, bytes)?))
 }
 
 /// A stage that uses no field of its role.

@@ -1,5 +1,5 @@
-use Rattle.topology_needs.proofs.SoundSamples.{hot_and_cold_is_sound}
-use Rattle.topology_needs.proofs.tests.hot_and_cold.Goals as goal
+use Rattle.text_checks.proofs.SoundSamples.{hot_and_cold_is_sound}
+use Rattle.text_checks.proofs.tests.needs.hot_and_cold.Goals as goal
 
 pub returns : goal.returns
 returns c =

@@ -6,7 +6,7 @@ use Rattle.pipe_types.specs.declared.topology.Role.TheVariants.{Processor}
 use Rattle.pipe_types.specs.declared.topology.Kind.{Kind}
 use Rattle.pipe_types.specs.declared.topology.Kind.TheVariants.{Steps, Lines, Own}
 use Rattle.pipe_types.specs.Sound.{IsSound}
-use Rattle.topology_needs.specs.Samples.{source, worker, router, gatherer, member, topology_of}
+use Rattle.text_checks.specs.Samples.{source, worker, router, gatherer, member, topology_of}
 
 abbrev pub one_stage : Kind → List StageSpec
 one_stage kind = source 1 (codes "p") 0 ∷ worker 2 (codes "processors.0") Processor 0 kind ∷ []
