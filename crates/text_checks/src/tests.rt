@@ -7,17 +7,13 @@ mod lines;
 mod needs;
 mod words;
 
-ghost use Rattle.std.specs.Prelude.{◌≡◌, IfOk};
-
 use pipe_types::bytes::{Bytes, BytesList};
 use pipe_types::message::{BatchEnd, Message, Outcome, OutcomeList, Reply};
 use pipe_types::numbers::{MsgNo, StageNo, SubNo};
 use pipe_types::reason::Reason;
 use std::alloc::{AllocError, Global};
 
-fn bytes(alloc: Global, bytes: &[u8]) -> Result<Bytes, AllocError>
-    ensures { IfOk result (λ copy. copy ≡ bytes.now) }
-{
+fn bytes(alloc: Global, bytes: &[u8]) -> Result<Bytes, AllocError> {
     Ok(Bytes::from_vec(Vec::from_slice(alloc, bytes)?))
 }
 
