@@ -4,7 +4,5 @@
 
 pub mod flow;
 pub mod laws;
-#[cfg(test)]
-mod tests;
 
 pub use flow::flow_topology;

@@ -17,6 +17,3 @@ pub use edges::{GivenBack, RealEdges};
 pub use names::{Address, SinkName, SourceName};
 pub use output::{RealOut, Writer};
 pub use source::{Reader, RealSource, read_end};
-
-#[cfg(test)]
-mod tests;

@@ -11,6 +11,4 @@ mod places;
 pub mod report;
 pub mod status;
 mod steps;
-#[cfg(test)]
-mod tests;
 mod words;

@@ -16,6 +16,3 @@ pub use clock::MemClock;
 pub use edges::{CallList, MemEdges};
 pub use sink::{MemSink, SinkAct, SinkScript};
 pub use source::{MemSource, SourceAct, SourceScript};
-
-#[cfg(test)]
-mod tests;

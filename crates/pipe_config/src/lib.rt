@@ -3,8 +3,6 @@
 #![tactic(auto)]
 
 pub mod read;
-#[cfg(test)]
-mod tests;
 
 pub use config_table::fault::{ConfigFault, fault_number};
 pub use read::read_topology;

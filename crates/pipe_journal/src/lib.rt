@@ -18,6 +18,3 @@ pub mod view;
 
 pub use journal::Journal;
 pub use view::{AnswerView, EndView, StepView};
-
-#[cfg(test)]
-mod tests;

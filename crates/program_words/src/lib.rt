@@ -5,8 +5,6 @@
 #![tactic(auto)]
 
 pub mod refusals;
-#[cfg(test)]
-mod tests;
 pub mod words;
 
 pub use refusals::{counts_line, edge_line, memory_line, stock_line, topology_line, usage_line};

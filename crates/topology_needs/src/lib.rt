@@ -8,8 +8,6 @@ mod feeding;
 pub mod laws;
 mod needs;
 mod stock;
-#[cfg(test)]
-mod tests;
 
 pub use feeding::subscriptions;
 pub use needs::{need, posts, shortage};

@@ -1,131 +1,78 @@
 //! The happy path of every public call, with sources and sinks that play all acts.
 
-ghost use Rattle.std.specs.Prelude.{◌<◌};
-
-use crate::{
+use super::{bytes_of, lines_of, story, text};
+use mem_edges::{
     CallList, MemClock, MemEdges, MemSink, MemSource, SinkAct, SinkScript, SourceAct, SourceScript,
 };
 use pipe_edges::{
     ByteSink, ByteSource, Clock, EdgeEnd, Edges, Fetched, LineSource, PutEnd, ReadEnd, WriteEnd,
     put_all,
 };
-use pipe_types::bytes::{Bytes, Text};
 use std::alloc::{AllocError, Global};
 use std::test::Fail;
-
-fn bytes_of(alloc: Global, bytes: &[u8]) -> Result<Bytes, AllocError> {
-    Ok(Bytes::from_vec(Vec::from_slice(alloc, bytes)?))
-}
 
 fn source_of(alloc: Global, bytes: &[u8], acts: &[SourceAct]) -> Result<MemSource, AllocError> {
     let script = SourceScript::from_vec(Vec::from_slice(alloc, acts)?);
     Ok(MemSource::new(bytes_of(alloc, bytes)?, script))
 }
 
-fn lines_of(alloc: Global, source: MemSource) -> Result<LineSource<MemSource>, AllocError> {
-    match LineSource::new(alloc, source) {
-        Ok(lines) => Ok(lines),
-        Err((_, e)) => Err(e),
-    }
-}
-
-// Fetches until an end, writes each record with its length, and the answers between them, and says it all as text.
-fn story(alloc: Global, source: MemSource, max: u32) -> Result<String, AllocError>
-    requires { 0 < max }
-{
-    let mut lines = lines_of(alloc, source)?;
-    let mut text = String::new(alloc);
-    for _ in 0..1000 {
-        match lines.fetch(max)? {
-            Fetched::Records(records) => {
-                for record in records.as_slice() {
-                    tell(&mut text, record.as_slice())?;
-                }
-            }
-            Fetched::NotYet => text.push_str("?")?,
-            Fetched::End => {
-                text.push_str("end")?;
-                break;
-            }
-            Fetched::Fault => {
-                text.push_str("fault")?;
-                break;
-            }
-            Fetched::TooLong => {
-                text.push_str("long")?;
-                break;
-            }
-        }
-    }
-    Ok(text)
-}
-
-// A short record as it stands with a CR as 'r', a long one by its length.
-fn tell(text: &mut String, record: &[u8]) -> Result<(), AllocError> {
-    if record.len() > 9 {
-        text.push_str("long")?;
-    } else {
-        for byte in record {
-            let shown = match *byte {
-                b'\r' => 'r',
-                b'a'..=b'z' => *byte as char,
-                _ => '.',
-            };
-            text.push(shown)?;
-        }
-    }
-    text.push_str("|")
-}
+/// The bytes of a source, the acts of its script, and its story.
+static STORIES: [(&[u8], &[SourceAct], &str); 8] = [
+    (b"", &[], "end"),
+    (b"a\nbc\n", &[], "a|bc|end"),
+    (b"a\nbc", &[], "a|bc|end"),
+    (b"\n\nx\r\n", &[], "||xr|end"),
+    (b"a\nbc\n\nde", &[SourceAct::Give(1); 12], "a|bc||de|end"),
+    (
+        b"a\nbc\n",
+        &[
+            SourceAct::Wait,
+            SourceAct::Give(2),
+            SourceAct::Wait,
+            SourceAct::Give(1),
+        ],
+        "?a|?bc|end",
+    ),
+    (
+        b"a\nbc\nde\n",
+        &[SourceAct::Give(5), SourceAct::Fail],
+        "a|bc|fault",
+    ),
+    (b"a\nb\nc\nd\ne\n", &[], "a|b|c|d|e|end"),
+];
 
 #[test]
 fn lines_come_in_order_whatever_the_script(rt: HostRuntime) -> Result<(), Fail> {
     let alloc = rt.alloc();
-    let byte = [SourceAct::Give(1); 12];
-    let waits = [
-        SourceAct::Wait,
-        SourceAct::Give(2),
-        SourceAct::Wait,
-        SourceAct::Give(1),
-    ];
-    let fails = [SourceAct::Give(5), SourceAct::Fail];
     for max in 1..5 {
-        for (input, acts, want) in [
-            (b"".as_slice(), [].as_slice(), "end"),
-            (b"a\nbc\n".as_slice(), [].as_slice(), "a|bc|end"),
-            (b"a\nbc".as_slice(), [].as_slice(), "a|bc|end"),
-            (b"\n\nx\r\n".as_slice(), [].as_slice(), "||xr|end"),
-            (b"a\nbc\n\nde".as_slice(), byte.as_slice(), "a|bc||de|end"),
-            (b"a\nbc\n".as_slice(), waits.as_slice(), "?a|?bc|end"),
-            (b"a\nbc\nde\n".as_slice(), fails.as_slice(), "a|bc|fault"),
-            (
-                b"a\nb\nc\nd\ne\n".as_slice(),
-                [].as_slice(),
-                "a|b|c|d|e|end",
-            ),
-        ] {
-            let got = story(alloc, source_of(alloc, input, acts)?, max)?;
+        for &(bytes, acts, want) in &STORIES {
+            let mut lines = lines_of(alloc, source_of(alloc, bytes, acts)?)?;
+            let got = story(alloc, &mut lines, max)?;
             assert_eq!(rt; got.as_str(), want, "at most {max}");
         }
     }
     Ok(())
 }
 
+/// The length of a line that follows an empty one, what comes after it, and the story of all.
+static LONGEST: [(usize, &[u8], &str); 4] = [
+    (65_536, b"\nb", "|long|b|end"),
+    (65_536, b"", "|long|end"),
+    (65_537, b"\nb", "|long"),
+    (65_537, b"", "|long"),
+];
+
 #[test]
 fn the_longest_line_is_a_record_and_one_byte_more_is_too_long(rt: HostRuntime) -> Result<(), Fail> {
     let alloc = rt.alloc();
-    for (length, tail, want) in [
-        (65536, b"\nb".as_slice(), "long|b|end"),
-        (65536, b"".as_slice(), "long|end"),
-        (65537, b"\nb".as_slice(), "long"),
-        (65537, b"".as_slice(), "long"),
-    ] {
+    for &(length, tail, want) in &LONGEST {
         let mut bytes = Vec::new(alloc);
         bytes.push(b'\n')?;
-        bytes.resize(length + 1, b'a')?;
+        bytes.resize(length.saturating_add(1), b'a')?;
         bytes.extend_from_slice(tail)?;
-        let got = story(alloc, source_of(alloc, bytes.as_slice(), &[])?, 2)?;
-        let first = format!(in alloc; "|{want}")?;
-        assert_eq!(rt; got.as_str(), first.as_str(), "{length}");
+        let mut lines = lines_of(alloc, source_of(alloc, bytes.as_slice(), &[])?)?;
+        let got = story(alloc, &mut lines, 2)?;
+        assert_eq!(rt; got.as_str(), want, "{length}");
     }
     Ok(())
 }
@@ -214,38 +161,33 @@ fn each_read_is_offered_a_piece_and_each_write_the_rest(rt: HostRuntime) -> Resu
     Ok(())
 }
 
+/// The acts of a sink's script, its room, what comes of a put, and what the sink holds then.
+static PUTS: [(&[SinkAct], usize, PutEnd, &[u8]); 5] = [
+    (&[], 99, PutEnd::All, b"> hello"),
+    (
+        &[SinkAct::Take(2), SinkAct::Take(1)],
+        99,
+        PutEnd::All,
+        b"> hello",
+    ),
+    (
+        &[SinkAct::Take(2), SinkAct::Fail],
+        99,
+        PutEnd::Failed(2),
+        b"> he",
+    ),
+    (&[SinkAct::Take(9)], 3, PutEnd::Failed(3), b"> hel"),
+    (&[], 0, PutEnd::Failed(0), b"> "),
+];
+
 #[test]
 fn a_put_goes_on_until_a_fault(rt: HostRuntime) -> Result<(), Fail> {
     let alloc = rt.alloc();
-    for (acts, room, want, held) in [
-        ([].as_slice(), 99, PutEnd::All, b"> hello".as_slice()),
-        (
-            [SinkAct::Take(2), SinkAct::Take(1)].as_slice(),
-            99,
-            PutEnd::All,
-            b"> hello".as_slice(),
-        ),
-        (
-            [SinkAct::Take(2), SinkAct::Fail].as_slice(),
-            99,
-            PutEnd::Failed(2),
-            b"> he".as_slice(),
-        ),
-        (
-            [SinkAct::Take(9)].as_slice(),
-            3,
-            PutEnd::Failed(3),
-            b"> hel".as_slice(),
-        ),
-        ([].as_slice(), 0, PutEnd::Failed(0), b"> ".as_slice()),
-    ] {
+    for &(acts, room, want, held) in &PUTS {
         let script = SinkScript::from_vec(Vec::from_slice(alloc, acts)?);
         let mut sink = MemSink::new(alloc, bytes_of(alloc, b"> ")?, room, script)?;
-        assert_eq!(rt;
-            put_all(&mut sink, &bytes_of(alloc, b"hello")?),
-            want,
-            "{want:?}"
-        );
+        let put = put_all(&mut sink, &bytes_of(alloc, b"hello")?);
+        assert_eq!(rt; put, want);
         assert_eq!(rt; sink.held().as_slice(), held, "{want:?}");
     }
     Ok(())
@@ -266,10 +208,6 @@ fn a_clock_goes_on_by_steps_and_naps(rt: HostRuntime) {
     assert_eq!(rt; clock.now(), u64::MAX - 1);
     assert_eq!(rt; clock.now(), u64::MAX);
     assert_eq!(rt; (clock.latest, clock.readings), (u64::MAX, 4));
-}
-
-fn text(alloc: Global, name: &str) -> Result<Text, AllocError> {
-    Ok(Text::from_string(String::from_str(alloc, name)?))
 }
 
 // A source `s`, a sink `k` and a file `f`.
@@ -315,6 +253,9 @@ fn calls_by_name_fail_by_their_number_and_where_nothing_is_free(
     Ok(())
 }
 
+/// What a sink holds after each write.
+static HELD: [&[u8]; 2] = [b"> hi", b"> hihi"];
+
 #[test]
 fn what_is_given_back_opens_again(rt: HostRuntime) -> Result<(), Fail> {
     let alloc = rt.alloc();
@@ -329,7 +270,7 @@ fn what_is_given_back_opens_again(rt: HostRuntime) -> Result<(), Fail> {
         assert_eq!(rt; source.read(&mut piece), ReadEnd::Got(1));
         edges.back_source(&s, source)?;
     }
-    for held in [b"> hi".as_slice(), b"> hihi".as_slice()] {
+    for held in &HELD {
         let Ok(mut sink) = edges.open_sink(&k) else {
             return Err("no sink".into());
         };
@@ -339,7 +280,7 @@ fn what_is_given_back_opens_again(rt: HostRuntime) -> Result<(), Fail> {
         let Some(back) = edges.sink(&k) else {
             return Err("not back".into());
         };
-        assert_eq!(rt; back.held().as_slice(), held);
+        assert_eq!(rt; back.held().as_slice(), *held);
     }
     Ok(())
 }

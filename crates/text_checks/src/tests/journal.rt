@@ -1,11 +1,9 @@
 //! A journal that is written and read.
 
-use crate::Journal;
-use pipe_types::bytes::{Bytes, BytesList};
-use pipe_types::message::{
-    BatchEnd, Message, Outcome, OutcomeList, Reply, ReplyList, Trigger, Why,
-};
-use pipe_types::numbers::{MsgNo, StageNo, SubNo};
+use super::{outcomes, passed, records, sub};
+use pipe_journal::Journal;
+use pipe_types::message::{BatchEnd, Reply, ReplyList, Trigger, Why};
+use pipe_types::numbers::{MsgNo, StageNo};
 use pipe_types::reason::Reason;
 use pipe_types::step::{DrainCause, LateAnswer, SourceHow, Step};
 use std::alloc::{AllocError, Global};
@@ -13,29 +11,6 @@ use std::process::Abort;
 
 /// How many steps there are of all kinds, with each kind of late answer and of a batch's end.
 const KINDS: u64 = 25;
-
-fn bytes(alloc: Global, text: &[u8]) -> Result<Bytes, AllocError> {
-    Ok(Bytes::from_vec(Vec::from_slice(alloc, text)?))
-}
-
-fn records(alloc: Global, texts: &[&[u8]]) -> Result<BytesList, AllocError> {
-    let mut records = Vec::new(alloc);
-    for text in texts {
-        records.push(bytes(alloc, text)?)?;
-    }
-    Ok(BytesList::from_vec(records))
-}
-
-fn passed(alloc: Global, payload: &[u8]) -> Result<Reply, AllocError> {
-    Ok(Reply::Pass(Message {
-        no: MsgNo(3),
-        producer: StageNo(1),
-        payload: bytes(alloc, payload)?,
-        batcher: 1,
-        key: bytes(alloc, b"key")?,
-        flush: true,
-    }))
-}
 
 fn failed() -> Reply {
     match Reason::new(b"require") {
@@ -46,27 +21,10 @@ fn failed() -> Reply {
 
 fn replies(alloc: Global) -> Result<ReplyList, AllocError> {
     let mut replies = Vec::new(alloc);
-    replies.push(passed(alloc, b"abc")?)?;
+    replies.push(passed(alloc, b"abc", 1, b"key", true)?)?;
     replies.push(failed())?;
     replies.push(Reply::Crashed)?;
     Ok(ReplyList::from_vec(replies))
-}
-
-fn outcomes(alloc: Global) -> Result<BatchEnd, AllocError> {
-    let mut outcomes = Vec::new(alloc);
-    outcomes.push(Outcome::Successful)?;
-    if let Some(why) = Reason::new(b"sink") {
-        outcomes.push(Outcome::Failed(why))?;
-    }
-    Ok(BatchEnd::Outcomes(OutcomeList::from_vec(outcomes)))
-}
-
-fn sub() -> SubNo {
-    SubNo {
-        consumer: StageNo(2),
-        producer: StageNo(1),
-        generation: 4,
-    }
 }
 
 /// The answers of a killed incarnation, by number.
@@ -85,7 +43,7 @@ fn plain(kind: u64) -> Step {
     let stage = StageNo(2);
     let no = MsgNo(5);
     match kind {
-        0 => Step::Ask { sub: sub(), n: 10 },
+        0 => Step::Ask { sub: sub(4), n: 10 },
         1 => Step::Fetch { stage, n: 9 },
         3 => Step::Quiet { stage },
         4 => Step::SourceEnd {
@@ -95,7 +53,7 @@ fn plain(kind: u64) -> Step {
         5 => Step::Dispatch { stage },
         6 => Step::Take {
             stage,
-            sub: sub(),
+            sub: sub(4),
             k: 7,
         },
         8 => Step::Gather { stage, no },
@@ -107,7 +65,7 @@ fn plain(kind: u64) -> Step {
         11 => Step::Child { stage, no, slot: 6 },
         13 => Step::Kill {
             stage,
-            why: Why::Cancelled(sub()),
+            why: Why::Cancelled(sub(4)),
         },
         15 => Step::Restart { stage },
         16 => Step::Tick { now: 11 },
@@ -140,7 +98,7 @@ fn step(alloc: Global, kind: u64) -> Result<Step, AllocError> {
         12 => Step::ChildEnd {
             stage,
             slot,
-            reply: passed(alloc, b"child")?,
+            reply: passed(alloc, b"child", 1, b"key", true)?,
         },
         14 => Step::Wrote {
             stage,

@@ -1,9 +1,10 @@
 //! Command lines with the command that they are, and the lines that the program writes.
 
-use crate::{
+use pipe_types::bytes::Bytes;
+use pipe_types::topology::Kind;
+use program_words::{
     Command, counts_line, edge_line, memory_line, read_words, stock_line, topology_line, usage_line,
 };
-use pipe_types::topology::Kind;
 use std::alloc::{AllocError, Global};
 use std::test::Fail;
 
@@ -201,28 +202,37 @@ fn words_are_commands_or_not(rt: HostRuntime) -> Result<(), Fail> {
     Ok(())
 }
 
+/// The lines that the program writes, by the numbers of the calls that write them.
+static LINES: [(u8, &str); 7] = [
+    (0, "topology 6 processors.concurrency\n"),
+    (1, "topology 9 -\n"),
+    (2, "stages 2 subscriptions 1\n"),
+    (3, "stock own need 1 have 0\n"),
+    (4, "edge mem:a\n"),
+    (5, "memory\n"),
+    (
+        6,
+        "usage: flow SOURCE PREFIX; check TOPOLOGY; run TOPOLOGY [--workers N] [--acks] [--steps]\n",
+    ),
+];
+
+fn line(alloc: Global, call: u8) -> Result<Bytes, AllocError> {
+    match call {
+        0 => topology_line(alloc, 6, Some("processors.concurrency")),
+        1 => topology_line(alloc, 9, None),
+        2 => counts_line(alloc, 2, 1),
+        3 => stock_line(alloc, Kind::Own, 1, 0),
+        4 => edge_line(alloc, "mem:a"),
+        5 => memory_line(alloc),
+        _ => usage_line(alloc),
+    }
+}
+
 #[test]
 fn lines_are_written(rt: HostRuntime) -> Result<(), Fail> {
     let alloc = rt.alloc();
-    let lines = [
-        (
-            topology_line(alloc, 6, Some("processors.concurrency"))?,
-            "topology 6 processors.concurrency\n",
-        ),
-        (topology_line(alloc, 9, None)?, "topology 9 -\n"),
-        (counts_line(alloc, 2, 1)?, "stages 2 subscriptions 1\n"),
-        (
-            stock_line(alloc, Kind::Own, 1, 0)?,
-            "stock own need 1 have 0\n",
-        ),
-        (edge_line(alloc, "mem:a")?, "edge mem:a\n"),
-        (memory_line(alloc)?, "memory\n"),
-        (
-            usage_line(alloc)?,
-            "usage: flow SOURCE PREFIX; check TOPOLOGY; run TOPOLOGY [--workers N] [--acks] [--steps]\n",
-        ),
-    ];
-    for (line, want) in &lines {
+    for (call, want) in &LINES {
+        let line = line(alloc, *call)?;
         assert!(rt; line.as_slice() == want.as_bytes(), "{want}");
     }
     Ok(())

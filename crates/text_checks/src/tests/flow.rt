@@ -1,4 +1,6 @@
-use crate::flow_topology;
+//! The topology of a command line.
+
+use config_flow::flow_topology;
 use pipe_types::topology::{Role, Rule, StageSpec};
 use std::process::Abort;
 

@@ -1,8 +1,8 @@
 //! Connections over loopback. The system picks each port.
 
-use super::{lines_of, open_sink, open_source, story, text};
-use crate::{RealEdges, RealSource};
-use pipe_edges::{EdgeEnd, Edges, PutEnd, put_all};
+use super::{expect_none, lines_of, open_sink, open_source, story};
+use file_socket_sinks::{RealEdges, RealSource};
+use pipe_edges::{PutEnd, put_all};
 use pipe_types::bytes::Bytes;
 use std::io::Write;
 use std::net::{TcpListener, TcpStream};
@@ -44,20 +44,23 @@ fn a_listener_reads_what_one_peer_sends(rt: HostRuntime) -> Result<(), Fail> {
     let mut lines = lines_of(alloc, open_source(alloc, &mut edges, name.as_str())?)?;
     // The one connection is there, so the port is closed again.
     assert!(rt; TcpStream::connect(&rt, ("127.0.0.1", port)).is_err());
-    assert_eq!(rt; story(alloc, &mut lines)?.as_str(), "one|two||half|end");
+    assert_eq!(rt; story(alloc, &mut lines, 2)?.as_str(), "one|two||half|end");
     assert!(rt; peer.join(&rt));
     Ok(())
 }
+
+/// Where a listener is bound, and the host in the name of a source that connects to it.
+static HOSTS: [(&str, &str); 3] = [
+    ("127.0.0.1:0", "127.0.0.1"),
+    ("127.0.0.1:0", "localhost"),
+    ("[::1]:0", "[::1]"),
+];
 
 #[test]
 fn a_host_is_a_name_or_an_address(rt: HostRuntime) -> Result<(), Fail> {
     let alloc = rt.alloc();
     let mut edges = RealEdges::new(&rt);
-    for (own, host) in [
-        ("127.0.0.1:0", "127.0.0.1"),
-        ("127.0.0.1:0", "localhost"),
-        ("[::1]:0", "[::1]"),
-    ] {
+    for &(own, host) in &HOSTS {
         let listener = TcpListener::bind(&rt, own)?;
         let port = port_of(&listener)?;
         let name = format!(in alloc; "connect:{host}:{port}")?;
@@ -65,7 +68,7 @@ fn a_host_is_a_name_or_an_address(rt: HostRuntime) -> Result<(), Fail> {
         let (mut peer, _) = listener.accept()?;
         peer.write_all(b"a\nb")?;
         drop(peer);
-        assert_eq!(rt; story(alloc, &mut lines)?.as_str(), "a|b|end");
+        assert_eq!(rt; story(alloc, &mut lines, 2)?.as_str(), "a|b|end");
     }
     Ok(())
 }
@@ -89,7 +92,7 @@ fn a_source_opens_before_a_second_thread_accepts_and_sends(rt: HostRuntime) -> R
     let source = open_source(alloc, &mut edges, name.as_str())?;
     let peer = thread::spawn(&rt, move || accept_and_send(listener, b"one\ntwo\n"))?;
     let mut lines = lines_of(alloc, source)?;
-    assert_eq!(rt; story(alloc, &mut lines)?.as_str(), "one|two|end");
+    assert_eq!(rt; story(alloc, &mut lines, 2)?.as_str(), "one|two|end");
     assert!(rt; peer.join(&rt));
     Ok(())
 }
@@ -107,7 +110,7 @@ fn a_reset_is_a_fault_and_no_end(rt: HostRuntime) -> Result<(), Fail> {
     assert!(rt; far.peek(&mut piece)? > 0);
     // A peer that closes with bytes unread resets the connection.
     drop(far);
-    assert_eq!(rt; story(alloc, &mut lines)?.as_str(), "one|fault");
+    assert_eq!(rt; story(alloc, &mut lines, 2)?.as_str(), "one|fault");
     Ok(())
 }
 
@@ -133,26 +136,26 @@ fn a_sink_whose_peer_hangs_up_fails(rt: HostRuntime) -> Result<(), Fail> {
     Ok(())
 }
 
+static UNANSWERED: [&str; 8] = [
+    "connect:no..host:80",
+    "connect:127.0.0.1:65536",
+    "connect:127.0.0.1",
+    "connect:::1:80",
+    "listen:no..host:0",
+    "listen:203.0.113.1:0",
+    "listen:127.0.0.1:65536",
+    "listen:127.0.0.1:x",
+];
+
 #[test]
 fn what_no_one_answers_fails(rt: HostRuntime) -> Result<(), Fail> {
     let alloc = rt.alloc();
     let mut edges = RealEdges::new(&rt);
     let port = free_port(&rt)?;
     let refused = format!(in alloc; "connect:127.0.0.1:{port}")?;
-    for name in [
-        refused.as_str(),
-        "connect:no..host:80",
-        "connect:127.0.0.1:65536",
-        "connect:127.0.0.1",
-        "connect:::1:80",
-        "listen:no..host:0",
-        "listen:203.0.113.1:0",
-        "listen:127.0.0.1:65536",
-        "listen:127.0.0.1:x",
-    ] {
-        let name = text(alloc, name)?;
-        assert!(rt; matches!(edges.open_source(&name), Err(EdgeEnd::Failed)));
-        assert!(rt; matches!(edges.open_sink(&name), Err(EdgeEnd::Failed)));
+    expect_none(&rt, alloc, &mut edges, refused.as_str())?;
+    for name in &UNANSWERED {
+        expect_none(&rt, alloc, &mut edges, name)?;
     }
     Ok(())
 }

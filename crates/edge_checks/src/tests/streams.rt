@@ -1,7 +1,7 @@
 //! Sources and sinks that are set not to wait, and a file of many pieces.
 
 use super::{lines_of, open_sink, open_source};
-use crate::{RealEdges, RealOut, RealSource};
+use file_socket_sinks::{RealEdges, RealOut, RealSource};
 use pipe_edges::{ByteSink, ByteSource, Fetched, PutEnd, ReadEnd, WriteEnd, put_all};
 use pipe_types::bytes::Bytes;
 use std::alloc::{AllocError, Global};
