@@ -45,6 +45,7 @@ use Rattle.stage_laws.proofs.Settling.{in_numbers}
 use Rattle.core_tables.specs.declared.rows.BatchRow.{BatchRow}
 use Rattle.core_tables.specs.Tables.{queue_at}
 use Rattle.core_batches.proofs.Writing.{IsOnSubs, PlaceOn, legs_are_on}
+use Rattle.core_batches.proofs.Settling.{pairs_apart}
 use Rattle.core_laws.specs.Columns.{closed_as, closed_numbers, sent_on, part_of}
 use Rattle.core_laws.proofs.Lawful.{each_all}
 use Rattle.core_laws.proofs.Parts.{closed_is}
@@ -55,7 +56,6 @@ use Rattle.core_losses.specs.Losses.{incarnation_at, loss_in}
 use Rattle.core_losses.specs.Legs.{leg_due, leg_loss, AreDue}
 use Rattle.core_losses.specs.Batches.{or_loss, first_loss, drop_in, drop_due, drop_of, SeenRow, AreSeen}
 use Rattle.core_losses.proofs.Dues.{Killing, legs_due, legs_few, by_both}
-use Rattle.core_losses.proofs.Settling.{pairs_apart}
 
 -- A dropped batch was sent on no subscription
 
