@@ -147,7 +147,7 @@ ran_or_stood topology before step s p q (ends x y final) e = not_final y final e
     not_final (InBatch b) f e = cc
 
 -- a slot's message that runs after a step ran before it
-ran_before : (topology : Topology) (before : History) (step : Step) (s : StageNo) (slot n : ℕ) → is_legal topology before ≡ true → in_slot before s slot ≡ Some n → place topology (step ∷ before) n ≡ Some (Running s) → place topology before n ≡ Some (Running s)
+pub ran_before : (topology : Topology) (before : History) (step : Step) (s : StageNo) (slot n : ℕ) → is_legal topology before ≡ true → in_slot before s slot ≡ Some n → place topology (step ∷ before) n ≡ Some (Running s) → place topology before n ≡ Some (Running s)
 ran_before topology before step s slot n h e now = either (ran_or_stood topology before step s _ _ (move_by topology before step n) now)
   where
     either : (place topology before n ≡ Some (Running s)) ⊎ (level topology (place topology before n) ≡ 4 * rank topology s) → place topology before n ≡ Some (Running s)
@@ -194,7 +194,7 @@ and_false : (a b : Bool) → a ≡ false → (a && b) ≡ false
 and_false a b e = ap (λ x. x && b) e
 
 -- another child's end leaves the message
-ended_other : (topology : Topology) (before : History) (t s : StageNo) (k n : ℕ) (reply : Reply) → place topology before n ≡ Some (Running s) → (is_number (in_slot before t k) n ≡ true → ⊥) → place topology (ChildEnd t k reply ∷ before) n ≡ Some (Running s)
+pub ended_other : (topology : Topology) (before : History) (t s : StageNo) (k n : ℕ) (reply : Reply) → place topology before n ≡ Some (Running s) → (is_number (in_slot before t k) n ≡ true → ⊥) → place topology (ChildEnd t k reply ∷ before) n ≡ Some (Running s)
 ended_other topology before t s k n reply running other = rw (running, false_from_ne_true (is_number (in_slot before t k) n) other) (by_stage (same_stage t s) _)
   where
     by_stage : (b : Bool) (p : Place) → Some (if b && false then p else Running s) ≡ Some (Running s)
