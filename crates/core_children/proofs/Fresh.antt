@@ -35,7 +35,7 @@ use Rattle.pipe_model.specs.Legal.{is_legal, allows, has_role, is_supervisor_rol
 use Rattle.queue_laws.specs.Queues.{without_number}
 use Rattle.queue_laws.proofs.Sounds.{fits}
 use Rattle.queue_laws.proofs.Laws.{waiting_law, inbox_law, gathered_law}
-use Rattle.stage_laws.proofs.Supervised.{runs_started, runs_started_else}
+use Rattle.stage_laws.proofs.Supervised.{runs_started, runs_started_else, child_takes}
 use Rattle.consumer_sup.specs.Children.{Slots}
 use Rattle.core_tables.specs.declared.rows.PostRow.{PostRow}
 use Rattle.core_tables.specs.Rows.{post_at}
@@ -50,7 +50,7 @@ use Rattle.core_laws.proofs.Past.{out_post}
 use Rattle.core_state.specs.declared.state.Core.{Core}
 use Rattle.core_state.specs.Stands.{Holds, child_at}
 use Rattle.core_takes.specs.Takes.{out_of}
-use Rattle.core_children.proofs.Starting.{Started, child_takes}
+use Rattle.core_children.proofs.Starting.{Started}
 
 -- ---- a message in the supervisor's inbox has no crash
 

@@ -68,7 +68,7 @@ supervisor_gathers Batcher h k = let x : false ≡ true = h in cc
 supervisor_gathers BatchProcessor h k = let x : false ≡ true = h in cc
 
 -- a message stands in the supervisor's inbox by its place
-inbox_places : (topology : Topology) (before : History) (s : StageNo) → has_role topology s is_supervisor_role ≡ true → Each (λ d. place topology before d.1 ≡ Some (Inbox d.0)) (inbox topology before s)
+pub inbox_places : (topology : Topology) (before : History) (s : StageNo) → has_role topology s is_supervisor_role ≡ true → Each (λ d. place topology before d.1 ≡ Some (Inbox d.0)) (inbox topology before s)
 inbox_places topology before s role =
     each_weaker (λ d. EntryFits topology before s d × (in_inbox topology before d ≡ true)) (λ d. place topology before d.1 ≡ Some (Inbox d.0)) here (inbox topology before s)
     (each_filter (EntryFits topology before s) (in_inbox topology before) (sent_to topology before s) (entries_fit topology before s))
@@ -80,7 +80,7 @@ inbox_places topology before s role =
         (subst (λ b. (if b then leg_waits_in d.0 (batch topology before d.1) else in_inbox_by d.0 (place topology before d.1)) ≡ true) plain p.1)
 
 -- the supervisor's child takes the first unit, or none
-child_takes : (topology : Topology) (before : History) (s : StageNo) (m : MsgNo) (slot : ℕ) → Fits topology → is_legal topology (Child s m slot ∷ before) ≡ true
+pub child_takes : (topology : Topology) (before : History) (s : StageNo) (m : MsgNo) (slot : ℕ) → Fits topology → is_legal topology (Child s m slot ∷ before) ≡ true
     → without_number m.0 (inbox topology before s) ≡ (if runs_number topology before s (in_slot before s slot) then inbox topology before s else drop 1 (inbox topology before s))
 child_takes topology before s m slot fit h = either (runs_number topology before s (in_slot before s slot)) refl
   where
