@@ -29,7 +29,7 @@ use Rattle.pipe_types.specs.declared.message.Place.TheVariants.{InBatch}
 use Rattle.message_ack.specs.Ends.{ends_of, end_of}
 use Rattle.message_ack.specs.declared.legs.LegEnd.TheVariants.{Answered as AnsweredEnd}
 use Rattle.pipe_model.specs.Legal.{is_legal, allows, owed, has_role, is_producer_role, is_supervisor_role, is_batch_processor_role}
-use Rattle.pipe_model.specs.Standing.{works, leg_works, leg_works_in, works_at, is_at_work, has_entry}
+use Rattle.pipe_model.specs.Standing.{works, leg_works, leg_works_in, works_at, is_at_work}
 use Rattle.pipe_laws.proofs.Tests.{clash, and_left, and_right, same_stage-true, same_stage-self, same_sub-true, same_sub-self}
 use Rattle.pipe_laws.proofs.Lists.{Each, each_weaker, each_both, each_map, weigh}
 use Rattle.pipe_laws.proofs.Allowed.{legal_before, legal_step, WroteFacts, wrote_facts, fetch_role, child_facts}
@@ -49,6 +49,7 @@ use Rattle.queue_laws.proofs.OneLeg.{leg_to, BatchOnce, legs_once}
 use Rattle.queue_laws.proofs.Roles.{rank_batcher}
 use Rattle.queue_laws.proofs.Singles.{none_of}
 use Rattle.queue_laws.proofs.Sounds.{fits}
+use Rattle.queue_laws.proofs.Writes.{of_entry}
 use Rattle.stage_laws.proofs.Bounds.{few_numbers}
 use Rattle.stage_laws.proofs.Numbering.{numbered_topology}
 use Rattle.core_laws.specs.Columns.{closed_as, closed_numbers, sent_on, ends_in_progress}
@@ -341,18 +342,6 @@ single (x ∷ []) n few h = by (x == n) refl h
     by true e h = ap (λ k. k ∷ []) (eqb-true x n e)
     by false e h = let wrong : false ≡ true = h in cc
 single (x ∷ y ∷ xs) n few h = absurd (omega arith)
-
-of_entry : (P : SubNo × ℕ → Type 0) (u : SubNo) (n : ℕ) (xs : List (SubNo × ℕ)) → Each P xs → has_entry u n xs ≡ true → P (u, n)
-of_entry P u n [] each h = cc
-of_entry P u n (d ∷ xs) each h = either (same_sub d.0 u) refl (d.1 == n) refl h (of_entry P u n xs each.1)
-  where
-    either : (a : Bool) → same_sub d.0 u ≡ a → (b : Bool) → (d.1 == n) ≡ b → ((a && b) || has_entry u n xs) ≡ true → (has_entry u n xs ≡ true → P (u, n)) → P (u, n)
-    either true ea true eb k rest =
-        let sub : d.0 ≡ u = same_sub-true d.0 u ea in
-        let no : d.1 ≡ n = eqb-true d.1 n eb in
-        subst (λ (x : SubNo × ℕ). P x) (λ i. (sub i, no i)) each.0
-    either true ea false eb k rest = rest k
-    either false ea b eb k rest = rest k
 
 fed_known : (x y : Option StageSpec) → option_feeds x y ≡ true → is_some y ≡ true
 fed_known (Some x) (Some y) h = refl
