@@ -191,7 +191,7 @@ apart_around (x ∷ xs) d ys a = ((behind xs a.0, (apart_around xs d ys a.1).0),
     behind [] e = e.0
     behind (z ∷ zs) e = behind zs e.1
 
-among_fails : (test : ℕ → Bool) (xs : List ℕ) (m : ℕ) → test m ≡ false → among (filter test xs) m ≡ false
+pub among_fails : (test : ℕ → Bool) (xs : List ℕ) (m : ℕ) → test m ≡ false → among (filter test xs) m ≡ false
 among_fails test [] m e = refl
 among_fails test (x ∷ xs) m e = either (test x) refl (among_fails test xs m e)
   where
