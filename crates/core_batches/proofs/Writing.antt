@@ -201,7 +201,7 @@ killed_on subs set i (Sent legs) h = subs_kept (λ u. leg_lost (reason_in set u.
 killed_on subs set i (Dropped l) h = tt
 
 -- a stage sends only batches that wait in it
-sent_waits : (topology : Topology) (before : History) (s : StageNo) (b : ℕ) → is_batcher (spec_of topology s) ≡ true → batch_waits_in s (batch topology before b) ≡ false → subs_of (deliveries topology before s) b ≡ []
+pub sent_waits : (topology : Topology) (before : History) (s : StageNo) (b : ℕ) → is_batcher (spec_of topology s) ≡ true → batch_waits_in s (batch topology before b) ≡ false → subs_of (deliveries topology before s) b ≡ []
 sent_waits topology before s b batcher none =
     none_of (deliveries topology before s) b
     (each_weaker (λ (d : SentUnit). IsOn topology before s d.sub × (is_waiting topology before s d.unit ≡ true)) (λ (d : SentUnit). (d.unit == b) ≡ false)
@@ -291,7 +291,7 @@ legs_are_on topology (step ∷ before) b h = legs_are_on topology before b (lega
 
 -- The numbers of a batch
 
-numbers_once : (topology : Topology) (before : History) (b : ℕ) → is_legal topology before ≡ true → Apart itself (closed_numbers (closed_as topology before b))
+pub numbers_once : (topology : Topology) (before : History) (b : ℕ) → is_legal topology before ≡ true → Apart itself (closed_numbers (closed_as topology before b))
 numbers_once topology [] b h = tt
 numbers_once topology (Close s first trigger ∷ before) b h = by (b == closed before + 1) (numbers_once topology before b (legal_before topology before (Close s first trigger) h))
   where
