@@ -28,11 +28,11 @@ use Rattle.pipe_laws.proofs.Allowed.{legal_before}
 use Rattle.pipe_laws.proofs.Progress.{in_batch_going}
 use Rattle.pipe_laws.proofs.Settled.{batch_closed}
 use Rattle.pipe_laws.proofs.Sounds.{sound_ascends}
+use Rattle.pipe_laws.proofs.Idle.{spec_batcher}
 use Rattle.queue_laws.proofs.Apart.{Apart}
 use Rattle.queue_laws.proofs.Batched.{BatchListed, batch_listed, BatchHolds, batch_holds}
 use Rattle.queue_laws.proofs.Distinct.{itself}
 use Rattle.queue_laws.proofs.Laws.{batch_stands_law, holds_law}
-use Rattle.queue_laws.proofs.Roles.{spec_batcher}
 use Rattle.queue_laws.proofs.Sounds.{found_self}
 use Rattle.stage_laws.proofs.Bounds.{batch_least}
 use Rattle.stage_laws.proofs.Settling.{in_numbers}

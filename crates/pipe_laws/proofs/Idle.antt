@@ -80,7 +80,7 @@ batcher_feeds Batcher Processor b h k = cc
 batcher_feeds Batcher Supervisor b h k = cc
 batcher_feeds Batcher Batcher b h k = cc
 
-spec_batcher : (spec : StageSpec) → is_batcher (Some spec) ≡ is_batcher_role spec.role
+pub spec_batcher : (spec : StageSpec) → is_batcher (Some spec) ≡ is_batcher_role spec.role
 spec_batcher spec = by_role spec.role refl
   where
     by_role : (role : Role) → spec.role ≡ role → is_batcher (Some spec) ≡ is_batcher_role role
