@@ -21,7 +21,6 @@ use Rattle.pipe_model.specs.Ledger.{handled, taken_on}
 use Rattle.pipe_model.specs.Content.{has_crash}
 use Rattle.pipe_model.specs.Flow.{place, sent, sent_to, inbox, runs_in, among, has_batchers_in, done, answered, reply_to}
 use Rattle.pipe_model.specs.Moves.{is_final}
-use Rattle.pipe_model.specs.Places.{settled_at}
 use Rattle.pipe_model.specs.Legal.{is_legal, first_sub}
 use Rattle.pipe_model.specs.Standing.{in_inbox}
 use Rattle.pipe_laws.proofs.Tests.{clash, same_stage-self, same_sub-true, same_sub-self}
@@ -29,14 +28,13 @@ use Rattle.pipe_laws.proofs.Lists.{Each}
 use Rattle.pipe_laws.proofs.Allowed.{legal_before, legal_step, take_facts}
 use Rattle.pipe_laws.proofs.Entries.{EntryFits, entries_fit}
 use Rattle.pipe_laws.proofs.Handled.{handled_within}
-use Rattle.pipe_laws.proofs.Settled.{stays_settled}
 use Rattle.queue_laws.proofs.Apart.{each_kept}
 use Rattle.stage_subs.specs.Pairs.{PairRow}
 use Rattle.stage_subs.specs.Subs.{handled_more}
 use Rattle.stage_subs.specs.Ledger.{ledger_row}
 use Rattle.core_tables.specs.declared.rows.ContentRow.{ContentRow}
 use Rattle.core_laws.specs.Columns.{mark, mark_by, running, at_item, item_of}
-use Rattle.core_laws.proofs.Marks.{mark_is}
+use Rattle.core_laws.proofs.Marks.{mark_is, open_unsettled}
 use Rattle.core_takes.specs.Replies.{marked, ends, noted, counted_on}
 
 -- Places in the journal
@@ -67,15 +65,6 @@ notes_answered entry replies n old safe =
     by (Some j) = let sum : 0 + j ≡ j = omega arith in ap (λ i. Some (record { entry = entry; item = i })) sum
 
 -- Marks
-
-open_unsettled : (topology : Topology) (before : History) (n : ℕ) → is_final (place topology before n) ≡ false → settled_at topology before n ≡ 0
-open_unsettled topology [] n e = refl
-open_unsettled topology (step ∷ before) n e = cases (is_final (place topology before n)) refl
-  where
-    cases : (b : Bool) → is_final (place topology before n) ≡ b
-        → (if b then settled_at topology before n else (if is_final (place topology (step ∷ before) n) then length before else 0)) ≡ 0
-    cases true final = let wrong : false ≡ true = sym e ∙ (ap is_final (stays_settled topology (step ∷ []) before n final) ∙ final) in cc
-    cases false open_yet = ap (λ t. if t then length before else 0) e
 
 -- the mark by the reply to the message
 abbrev marked_by : (b : Bool) (at : ℕ) → Option Reply → Option ℕ → Option ℕ
