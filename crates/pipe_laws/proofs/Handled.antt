@@ -103,7 +103,7 @@ delivered_count (d ∷ units) u = either (same_stage u.consumer d.sub.consumer) 
     either false true e rest = omega arith
     either false false e rest = rest
 
-new_legs_idle : (u : SubNo) (subs : List SubNo) → leg_works u (new_legs subs) ≡ false
+pub new_legs_idle : (u : SubNo) (subs : List SubNo) → leg_works u (new_legs subs) ≡ false
 new_legs_idle u [] = refl
 new_legs_idle u (v ∷ subs) = by_bool (same_sub u v) (new_legs_idle u subs)
   where
