@@ -120,7 +120,7 @@ record Untouched (step : Step) (s : StageNo) : Type 0 where
 and_false : (a b : Bool) → a ≡ false → (a && b) ≡ false
 and_false a b e = ap (λ x. x && b) e
 
-not_source : (topology : Topology) (before : History) (t : StageNo) (how : SourceHow) → may_end topology before t how ≡ true → same_stage t (stage 0) ≡ false → has_role topology t is_producer_role ≡ true
+pub not_source : (topology : Topology) (before : History) (t : StageNo) (how : SourceHow) → may_end topology before t how ≡ true → same_stage t (stage 0) ≡ false → has_role topology t is_producer_role ≡ true
 not_source topology before t how h e = by_test (same_stage t (stage 0)) _ _ _ e h
   where
     by_test : (b x y z : Bool) → b ≡ false → (if b then x else (y && (has_role topology t is_producer_role && z))) ≡ true → has_role topology t is_producer_role ≡ true
