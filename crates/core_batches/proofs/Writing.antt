@@ -40,7 +40,7 @@ use Rattle.pipe_laws.proofs.Levels.{rank, feeds_down}
 use Rattle.pipe_laws.proofs.Busy.{Busy, busy, work_weight, two_roles}
 use Rattle.queue_laws.proofs.Apart.{Apart, apart_kept, apart_mapped}
 use Rattle.queue_laws.proofs.AtWork.{last_one, calm_batch}
-use Rattle.queue_laws.proofs.BatchWork.{WorksTaken, batch_work, writer_rank}
+use Rattle.queue_laws.proofs.BatchWork.{WorksTaken, batch_work, writer_rank, writes_produces}
 use Rattle.queue_laws.proofs.Batched.{BatchHolds, batch_holds, BatchListed, PlaceListed, LegListed, batch_listed}
 use Rattle.queue_laws.proofs.Counts.{TookBy, took}
 use Rattle.queue_laws.proofs.Distinct.{itself}
@@ -70,13 +70,6 @@ some_weight {A = A} P f (x ∷ xs) h e = by (f x) refl (λ more. some_weight P f
     by zero e0 rest = rest (omega (arith, e, e0))
     by (suc n) e0 rest = (x, h.0, omega (arith, e0))
 
-writer_produces : (role : Role) → is_batch_processor_role role ≡ true → is_producer_role role ≡ true → ⊥
-writer_produces Producer h k = let x : false ≡ true = h in cc
-writer_produces Processor h k = let x : false ≡ true = h in cc
-writer_produces Supervisor h k = let x : false ≡ true = h in cc
-writer_produces Batcher h k = let x : false ≡ true = h in cc
-writer_produces BatchProcessor h k = let x : false ≡ true = k in cc
-
 writer_supervises : (role : Role) → is_batch_processor_role role ≡ true → is_supervisor_role role ≡ true → ⊥
 writer_supervises Producer h k = let x : false ≡ true = h in cc
 writer_supervises Processor h k = let x : false ≡ true = h in cc
@@ -98,7 +91,7 @@ took_some topology (Fetch t n ∷ before) s h role out =
   where
     by : (b : Bool) → same_stage s t ≡ b → ((b && true) || is_out before (post s 0)) ≡ true → (is_out before (post s 0) ≡ true → is_some (last_take before s) ≡ true) → is_some (last_take before s) ≡ true
     by true e out rest =
-        absurd (two_roles topology s is_batch_processor_role is_producer_role writer_produces role
+        absurd (two_roles topology s is_batch_processor_role is_producer_role writes_produces role
         (subst (λ x. has_role topology x is_producer_role ≡ true) (sym (same_stage-true s t e)) (fetch_role topology before t n (legal_step topology before (Fetch t n) h))))
     by false e out rest = rest out
 took_some topology (Child t m k ∷ before) s h role out =
