@@ -31,7 +31,7 @@ use Rattle.pipe_laws.proofs.Kept.{runs_here}
 use Rattle.pipe_laws.proofs.Slots.{first_stands, supervisor_writes, number_is}
 use Rattle.queue_laws.proofs.Roles.{some_spec}
 use Rattle.queue_laws.proofs.Sounds.{sound_fields}
-use Rattle.stage_laws.proofs.Records.{accepted_within}
+use Rattle.stage_laws.proofs.Records.{accepted_within, runs_produces}
 use Rattle.count_laws.specs.Counts.{moves_one, movers, sends_one, senders, takes, begun, answered, child_starts}
 use Rattle.count_laws.proofs.Steps.{movers_within, answered_out, answers_within}
 use Rattle.count_laws.proofs.Sends.{senders_few}
@@ -294,13 +294,6 @@ ends_answer (step ∷ before) p = omega (arith, ends_answer before p, less (is_c
     less false true = omega arith
     less false false = omega arith
 
-supervisor_fetches : (role : Role) → is_supervisor_role role ≡ true → is_producer_role role ≡ true → ⊥
-supervisor_fetches Supervisor h k = let x : false ≡ true = k in cc
-supervisor_fetches Producer h k = let x : false ≡ true = h in cc
-supervisor_fetches Processor h k = let x : false ≡ true = h in cc
-supervisor_fetches Batcher h k = let x : false ≡ true = h in cc
-supervisor_fetches BatchProcessor h k = let x : false ≡ true = h in cc
-
 supervisor_takes : (role : Role) → is_supervisor_role role ≡ true → takes_role role ≡ true → ⊥
 supervisor_takes Supervisor h k = let x : false ≡ true = k in cc
 supervisor_takes Producer h k = let x : false ≡ true = h in cc
@@ -321,7 +314,7 @@ begun_children topology (step ∷ before) s slot h role = omega (arith, begun_ch
         either true e = absurd (two_roles topology t is_supervisor_role other f (subst (λ x. has_role topology x is_supervisor_role ≡ true) (same_stage-true s t e) role) k)
 
     less : (step : Step) → allows topology before step ≡ true → as_number (puts_out step (post s slot)) ≤ as_number (is_child step)
-    less (Fetch t n) l = apart t (slot == 0) is_producer_role supervisor_fetches (fetch_role topology before t n l)
+    less (Fetch t n) l = apart t (slot == 0) is_producer_role runs_produces (fetch_role topology before t n l)
     less (Take t u k) l = apart t (slot == 0) takes_role supervisor_takes (take_facts topology before t u k l).role
     less (Child t m k) l = either (same_stage s t && slot == k)
       where
