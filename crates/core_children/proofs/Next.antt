@@ -33,6 +33,7 @@ use Rattle.pipe_model.specs.Legal.{is_legal, owed, passes, is_late, happened, is
 use Rattle.pipe_model.specs.Moves.{next_in_slot}
 use Rattle.stage_laws.proofs.FewSlots.{slot_case, none_any}
 use Rattle.stage_laws.proofs.Numbering.{numbered_topology}
+use Rattle.stage_laws.proofs.Records.{runs_produces}
 use Rattle.consumer_sup.specs.Children.{Slots, child_in, alive}
 use Rattle.consumer_sup.specs.declared.Child.{Child as ChildRow}
 use Rattle.core_tables.specs.Rows.{post_at}
@@ -58,13 +59,6 @@ supervisor_takes Processor h k = let x : false ≡ true = h in cc
 supervisor_takes Batcher h k = let x : false ≡ true = h in cc
 supervisor_takes BatchProcessor h k = let x : false ≡ true = h in cc
 
-supervisor_produces : (role : Role) → is_supervisor_role role ≡ true → is_producer_role role ≡ true → ⊥
-supervisor_produces Supervisor h k = let x : false ≡ true = k in cc
-supervisor_produces Producer h k = let x : false ≡ true = h in cc
-supervisor_produces Processor h k = let x : false ≡ true = h in cc
-supervisor_produces Batcher h k = let x : false ≡ true = h in cc
-supervisor_produces BatchProcessor h k = let x : false ≡ true = h in cc
-
 flip : (a b : ℕ) → (a == b) ≡ (b == a)
 flip a b = grind (arith, nat_tests)
 
@@ -86,7 +80,7 @@ out_slot topology (Fetch t n ∷ before) s k h role out =
   where
     either : (b : Bool) → (same_stage s t && k == 0) ≡ b → (is_out before (post s k) ≡ true → (n : ℕ) × (in_slot before s k ≡ Some n)) → (n : ℕ) × (in_slot before s k ≡ Some n)
     either true e rest =
-        absurd (two_roles topology s is_supervisor_role is_producer_role supervisor_produces role
+        absurd (two_roles topology s is_supervisor_role is_producer_role runs_produces role
         (subst (λ x. has_role topology x is_producer_role ≡ true) (sym (same_stage-true s t (and_left (same_stage s t) _ e))) (fetch_role topology before t n (legal_step topology before (Fetch t n) h))))
     either false e rest = rest (and_right (not false) _ (later (same_stage s t && k == 0) _ e out))
 out_slot topology (Take t u n ∷ before) s k h role out =
