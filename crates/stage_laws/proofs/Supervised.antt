@@ -53,7 +53,7 @@ pub record Split (topology : Topology) (before : History) (s : StageNo) : Type 0
   pub gone : List (SubNo × ℕ)
   pub is : sent_to topology before s ≡ gone ++ inbox topology before s
 
-supervisor_takes : (role : Role) → is_supervisor_role role ≡ true → takes_role role ≡ true → ⊥
+pub supervisor_takes : (role : Role) → is_supervisor_role role ≡ true → takes_role role ≡ true → ⊥
 supervisor_takes Supervisor h k = let x : false ≡ true = k in cc
 supervisor_takes Producer h k = let x : false ≡ true = h in cc
 supervisor_takes Processor h k = let x : false ≡ true = h in cc

@@ -32,6 +32,7 @@ use Rattle.pipe_laws.proofs.Slots.{first_stands, supervisor_writes, number_is}
 use Rattle.queue_laws.proofs.Roles.{some_spec}
 use Rattle.queue_laws.proofs.Sounds.{sound_fields}
 use Rattle.stage_laws.proofs.Records.{accepted_within, runs_produces}
+use Rattle.stage_laws.proofs.Supervised.{supervisor_takes}
 use Rattle.count_laws.specs.Counts.{moves_one, movers, sends_one, senders, takes, begun, answered, child_starts}
 use Rattle.count_laws.proofs.Steps.{movers_within, answered_out, answers_within}
 use Rattle.count_laws.proofs.Sends.{senders_few}
@@ -293,13 +294,6 @@ ends_answer (step ∷ before) p = omega (arith, ends_answer before p, less (is_c
     less true b = omega arith
     less false true = omega arith
     less false false = omega arith
-
-supervisor_takes : (role : Role) → is_supervisor_role role ≡ true → takes_role role ≡ true → ⊥
-supervisor_takes Supervisor h k = let x : false ≡ true = k in cc
-supervisor_takes Producer h k = let x : false ≡ true = h in cc
-supervisor_takes Processor h k = let x : false ≡ true = h in cc
-supervisor_takes Batcher h k = let x : false ≡ true = h in cc
-supervisor_takes BatchProcessor h k = let x : false ≡ true = h in cc
 
 -- what a supervisor begins are children
 begun_children : (topology : Topology) (before : History) (s : StageNo) (slot : ℕ) → is_legal topology before ≡ true → has_role topology s is_supervisor_role ≡ true → begun before (post s slot) ≤ how_many is_child before
