@@ -10,8 +10,6 @@ use Rattle.pipe_types.specs.declared.numbers.StageNo.{StageNo}
 use Rattle.pipe_types.specs.declared.numbers.MsgNo.{MsgNo}
 use Rattle.pipe_types.specs.declared.topology.Topology.{Topology}
 use Rattle.pipe_types.specs.declared.topology.StageSpec.{StageSpec}
-use Rattle.pipe_types.specs.declared.topology.Role.{Role}
-use Rattle.pipe_types.specs.declared.topology.Role.TheVariants.{Producer, Processor, Supervisor, Batcher, BatchProcessor}
 use Rattle.pipe_types.specs.declared.message.Place.TheVariants.{Running}
 use Rattle.pipe_types.specs.declared.step.Step.{Step}
 use Rattle.pipe_types.specs.declared.step.Step.TheVariants.{Fetch, Take, Child, Restart}
@@ -34,6 +32,7 @@ use Rattle.pipe_model.specs.Moves.{next_in_slot}
 use Rattle.stage_laws.proofs.FewSlots.{slot_case, none_any}
 use Rattle.stage_laws.proofs.Numbering.{numbered_topology}
 use Rattle.stage_laws.proofs.Records.{runs_produces}
+use Rattle.stage_laws.proofs.Supervised.{supervisor_takes}
 use Rattle.consumer_sup.specs.Children.{Slots, child_in, alive}
 use Rattle.consumer_sup.specs.declared.Child.{Child as ChildRow}
 use Rattle.core_tables.specs.Rows.{post_at}
@@ -51,13 +50,6 @@ use Rattle.core_children.specs.Starts.{may_start_child, again_in}
 use Rattle.core_children.proofs.Fresh.{idle_slot}
 
 -- ---- a post that is out
-
-supervisor_takes : (role : Role) → is_supervisor_role role ≡ true → takes_role role ≡ true → ⊥
-supervisor_takes Supervisor h k = let x : false ≡ true = k in cc
-supervisor_takes Producer h k = let x : false ≡ true = h in cc
-supervisor_takes Processor h k = let x : false ≡ true = h in cc
-supervisor_takes Batcher h k = let x : false ≡ true = h in cc
-supervisor_takes BatchProcessor h k = let x : false ≡ true = h in cc
 
 flip : (a b : ℕ) → (a == b) ≡ (b == a)
 flip a b = grind (arith, nat_tests)
