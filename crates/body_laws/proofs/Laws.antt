@@ -57,7 +57,7 @@ pub back_ready : (topology : Topology) (before : History) (p : Post) (body : Bod
     → ((s : ℕ) → after s ≡ (if place_at p == s then Some body else now s)) → Ready topology before now → Ready topology before after
 back_ready topology before p body now after sound out moved ready = ready_back topology before p body now after sound out.slot (out_now topology before p out) moved ready
 
-both_part : (topology : Topology) (before : History) (p : Post) (x : Option BodySeen) (old new : BodySeen) → ((a : BodySeen) → KeepsBody topology before p a old → KeepsPartly topology before p a new) → Both (KeepsBody topology before p) x (Some old) → Both (KeepsPartly topology before p) x (Some new)
+pub both_part : (topology : Topology) (before : History) (p : Post) (x : Option BodySeen) (old new : BodySeen) → ((a : BodySeen) → KeepsBody topology before p a old → KeepsPartly topology before p a new) → Both (KeepsBody topology before p) x (Some old) → Both (KeepsPartly topology before p) x (Some new)
 both_part topology before p (Some a) old new f k = f a k
 both_part topology before p None old new f k = absurd k
 
