@@ -262,7 +262,7 @@ filtered_weight test on g (x ∷ xs) = either (test x) (on x) refl (filtered_wei
     either false true e rest = omega (arith, rest)
     either false false e rest = omega (arith, rest)
 
-chunk_within : (spec : Option StageSpec) (n : ℕ) → chunk_size spec n ≤ n
+pub chunk_within : (spec : Option StageSpec) (n : ℕ) → chunk_size spec n ≤ n
 chunk_within None n = omega arith
 chunk_within (Some spec) n = omega arith
 
