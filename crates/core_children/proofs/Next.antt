@@ -29,6 +29,7 @@ use Rattle.pipe_model.specs.Content.{content}
 use Rattle.pipe_model.specs.Flow.{place, inbox, runs_in, is_number}
 use Rattle.pipe_model.specs.Legal.{is_legal, owed, passes, is_late, happened, is_halt, allows, may_start, is_current, needs_restart, no_post_out, has_role, is_supervisor_role, is_producer_role, takes_role, first_unit, runs_number, max_of}
 use Rattle.pipe_model.specs.Moves.{next_in_slot}
+use Rattle.queue_laws.proofs.Late.{puts_no_restart}
 use Rattle.stage_laws.proofs.FewSlots.{slot_case, none_any}
 use Rattle.stage_laws.proofs.Numbering.{numbered_topology}
 use Rattle.stage_laws.proofs.Records.{runs_produces}
@@ -85,10 +86,6 @@ out_slot topology (Take t u n ∷ before) s k h role out =
     either false e rest = rest (and_right (not false) _ (later (same_stage s t && k == 0) _ e out))
 out_slot topology (step ∷ before) s k h role out =
     out_slot topology before s k (legal_before topology before step h) role (and_right (not (answers step (post s k))) _ out)
-
-puts_no_restart : (step : Step) (s : StageNo) (slot : ℕ) → puts_out step (post s slot) ≡ true → restarts step s ≡ false
-puts_no_restart (Restart t) s slot out = cc
-puts_no_restart _ s slot out = refl
 
 restart_free : (topology : Topology) (before : History) (step : Step) (s : StageNo) (k : ℕ) → k < 16 → allows topology before step ≡ true → restarts step s ≡ true → is_out before (post s k) ≡ true → ⊥
 restart_free topology before (Restart t) s k low h same out =
