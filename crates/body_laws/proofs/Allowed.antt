@@ -64,7 +64,7 @@ current_first before p e h = subst (λ n. is_current before p.stage n ≡ true) 
 
 -- ---- fetches
 
-pub all_short : (records : List (List ℕ)) → AllByRecursion (λ r. length r ≤ max_bytes) records → list_all (λ r. nat_le (length r) max_bytes) records ≡ true
+all_short : (records : List (List ℕ)) → AllByRecursion (λ r. length r ≤ max_bytes) records → list_all (λ r. nat_le (length r) max_bytes) records ≡ true
 all_short [] short = refl
 all_short (r ∷ records) short =
     let here : length r ≤ 65536 = short.0 in

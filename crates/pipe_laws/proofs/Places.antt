@@ -56,7 +56,7 @@ live_subs_on topology before s = either (is_live topology before s) (live_subs_o
     either false rest = tt
 
 -- What a dispatch sends goes on subscriptions of rooms, and is some of the units
-pub on_each_rooms : (P : SubNo → Type 0) (Q : ℕ → Type 0) (unit : ℕ) (rooms : List Room) → Q unit → Each (λ r. P r.sub) rooms → Each (λ d. P d.sub × Q d.unit) (on_each unit rooms)
+on_each_rooms : (P : SubNo → Type 0) (Q : ℕ → Type 0) (unit : ℕ) (rooms : List Room) → Q unit → Each (λ r. P r.sub) rooms → Each (λ d. P d.sub × Q d.unit) (on_each unit rooms)
 on_each_rooms P Q unit [] q h = tt
 on_each_rooms P Q unit (r ∷ rooms) q h = ((h.0, q), on_each_rooms P Q unit rooms q h.1)
 

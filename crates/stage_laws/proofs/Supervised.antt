@@ -68,7 +68,7 @@ supervisor_gathers Batcher h k = let x : false ≡ true = h in cc
 supervisor_gathers BatchProcessor h k = let x : false ≡ true = h in cc
 
 -- a message stands in the supervisor's inbox by its place
-pub inbox_places : (topology : Topology) (before : History) (s : StageNo) → has_role topology s is_supervisor_role ≡ true → Each (λ d. place topology before d.1 ≡ Some (Inbox d.0)) (inbox topology before s)
+inbox_places : (topology : Topology) (before : History) (s : StageNo) → has_role topology s is_supervisor_role ≡ true → Each (λ d. place topology before d.1 ≡ Some (Inbox d.0)) (inbox topology before s)
 inbox_places topology before s role =
     each_weaker (λ d. EntryFits topology before s d × (in_inbox topology before d ≡ true)) (λ d. place topology before d.1 ≡ Some (Inbox d.0)) here (inbox topology before s)
     (each_filter (EntryFits topology before s) (in_inbox topology before) (sent_to topology before s) (entries_fit topology before s))
