@@ -35,7 +35,7 @@ quiet_few (Fetch s n ∷ before) = let rest = quiet_few before in omega arith
 quiet_few (Tick t ∷ before) = let rest = quiet_few before in omega arith
 quiet_few (_ ∷ before) = omega arith
 
-flip : (a b : ℕ) → (a == b) ≡ (b == a)
+pub flip : (a b : ℕ) → (a == b) ≡ (b == a)
 flip a b = grind (arith, nat_tests)
 
 -- one stage's row was changed
