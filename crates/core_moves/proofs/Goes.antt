@@ -13,9 +13,8 @@ use Rattle.pipe_types.specs.Numbers.{sub_before}
 use Rattle.pipe_model.specs.Flow.{is_empty}
 use Rattle.pipe_laws.proofs.Tests.{clash, both, and_left, and_right}
 use Rattle.pipe_laws.proofs.Lists.{Each, each_weaker}
-use Rattle.queue_laws.proofs.Served.{served_chain, Has}
-use Rattle.stage_laws.proofs.Firsts.{not_itself}
-use Rattle.move_laws.proofs.Demands.{none_ahead, has_kept}
+use Rattle.queue_laws.proofs.Served.{Has}
+use Rattle.move_laws.proofs.Demands.{none_ahead, has_kept, First, first_room}
 use Rattle.core_moves.specs.Sends.{has_left, takes_part, goes_some}
 
 -- Lists
@@ -62,25 +61,6 @@ each_empty n [] = refl
 each_empty n (r ∷ rooms) = refl
 
 -- By demand
-
-record First (rooms : List Room) : Type 0 where
-  room : Room
-  has : Has room rooms
-  first : Each (λ v. is_served_before v room ≡ false) rooms
-
-first_room : (r : Room) (rooms : List Room) → First (r ∷ rooms)
-first_room r [] = record { room = r; has = inl refl; first = (not_itself r, tt) }
-first_room r (q ∷ rooms) = by_rest (first_room q rooms)
-  where
-    by_rest : First (q ∷ rooms) → First (r ∷ q ∷ rooms)
-    by_rest rest = either (is_served_before r rest.room) refl
-      where
-        none : is_served_before r rest.room ≡ true → (v : Room) → is_served_before v rest.room ≡ false → is_served_before v r ≡ false
-        none e v h = false_from_ne_true (is_served_before v r) (λ k. clash (is_served_before v rest.room) (served_chain v r rest.room k e) h)
-
-        either : (b : Bool) → is_served_before r rest.room ≡ b → First (r ∷ q ∷ rooms)
-        either false e = record { room = rest.room; has = inr rest.has; first = (e, rest.first) }
-        either true e = record { room = r; has = inl refl; first = (not_itself r, each_weaker (λ v. is_served_before v rest.room ≡ false) (λ v. is_served_before v r ≡ false) (none e) (q ∷ rooms) rest.first) }
 
 -- a room that is served no later than an open one is open
 no_less : (v u : Room) → is_served_before v u ≡ false → has_left v ≡ true → 1 ≤ u.left
