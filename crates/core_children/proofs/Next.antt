@@ -18,7 +18,7 @@ use Rattle.pipe_types.specs.Stages.{spec_of}
 use Rattle.pipe_types.specs.Sound.{IsSound}
 use Rattle.pipe_laws.proofs.Tests.{clash, and_left, and_right, both, same_stage-true, same_stage-self}
 use Rattle.pipe_laws.proofs.Busy.{same_incarnation, two_roles}
-use Rattle.pipe_laws.proofs.Slots.{slot_runs, number_is, first_stands, supervisor_writes}
+use Rattle.pipe_laws.proofs.Slots.{slot_runs, number_is, first_stands, supervisor_writes, supervisor_produces}
 use Rattle.pipe_laws.proofs.Accepted.{placed_accepted, accepted_content}
 use Rattle.pipe_laws.proofs.Kept.{runs_here}
 use Rattle.pipe_laws.proofs.Allowed.{legal_before, legal_step, unowed, child_facts, take_facts, fetch_role}
@@ -32,7 +32,6 @@ use Rattle.pipe_model.specs.Moves.{next_in_slot}
 use Rattle.queue_laws.proofs.Late.{puts_no_restart}
 use Rattle.stage_laws.proofs.FewSlots.{slot_case, none_any}
 use Rattle.stage_laws.proofs.Numbering.{numbered_topology}
-use Rattle.stage_laws.proofs.Records.{runs_produces}
 use Rattle.stage_laws.proofs.Supervised.{supervisor_takes}
 use Rattle.consumer_sup.specs.Children.{Slots, child_in, alive}
 use Rattle.consumer_sup.specs.declared.Child.{Child as ChildRow}
@@ -73,7 +72,7 @@ out_slot topology (Fetch t n ∷ before) s k h role out =
   where
     either : (b : Bool) → (same_stage s t && k == 0) ≡ b → (is_out before (post s k) ≡ true → (n : ℕ) × (in_slot before s k ≡ Some n)) → (n : ℕ) × (in_slot before s k ≡ Some n)
     either true e rest =
-        absurd (two_roles topology s is_supervisor_role is_producer_role runs_produces role
+        absurd (two_roles topology s is_supervisor_role is_producer_role supervisor_produces role
         (subst (λ x. has_role topology x is_producer_role ≡ true) (sym (same_stage-true s t (and_left (same_stage s t) _ e))) (fetch_role topology before t n (legal_step topology before (Fetch t n) h))))
     either false e rest = rest (and_right (not false) _ (later (same_stage s t && k == 0) _ e out))
 out_slot topology (Take t u n ∷ before) s k h role out =

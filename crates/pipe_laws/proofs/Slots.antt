@@ -38,7 +38,7 @@ supervisor_writes Supervisor h k = let x : false ≡ true = k in cc
 supervisor_writes Batcher h k = let x : false ≡ true = k in cc
 supervisor_writes BatchProcessor h k = let x : false ≡ true = h in cc
 
-supervisor_produces : (role : Role) → is_supervisor_role role ≡ true → is_producer_role role ≡ true → ⊥
+pub supervisor_produces : (role : Role) → is_supervisor_role role ≡ true → is_producer_role role ≡ true → ⊥
 supervisor_produces Producer h k = let x : false ≡ true = h in cc
 supervisor_produces Processor h k = let x : false ≡ true = k in cc
 supervisor_produces Supervisor h k = let x : false ≡ true = k in cc

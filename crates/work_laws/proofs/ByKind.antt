@@ -28,10 +28,10 @@ use Rattle.pipe_laws.proofs.Accepted.{placed_accepted}
 use Rattle.pipe_laws.proofs.Allowed.{legal_before, legal_step, take_facts, done_facts, wrote_facts, ChildFacts, child_facts, child_end_facts, fetch_role}
 use Rattle.pipe_laws.proofs.Busy.{two_roles}
 use Rattle.pipe_laws.proofs.Kept.{runs_here}
-use Rattle.pipe_laws.proofs.Slots.{first_stands, supervisor_writes, number_is}
+use Rattle.pipe_laws.proofs.Slots.{first_stands, supervisor_writes, number_is, supervisor_produces}
 use Rattle.queue_laws.proofs.Roles.{some_spec}
 use Rattle.queue_laws.proofs.Sounds.{sound_fields}
-use Rattle.stage_laws.proofs.Records.{accepted_within, runs_produces}
+use Rattle.stage_laws.proofs.Records.{accepted_within}
 use Rattle.stage_laws.proofs.Supervised.{supervisor_takes}
 use Rattle.count_laws.specs.Counts.{moves_one, movers, sends_one, senders, takes, begun, answered, child_starts}
 use Rattle.count_laws.proofs.Steps.{movers_within, answered_out, answers_within}
@@ -308,7 +308,7 @@ begun_children topology (step ∷ before) s slot h role = omega (arith, begun_ch
         either true e = absurd (two_roles topology t is_supervisor_role other f (subst (λ x. has_role topology x is_supervisor_role ≡ true) (same_stage-true s t e) role) k)
 
     less : (step : Step) → allows topology before step ≡ true → as_number (puts_out step (post s slot)) ≤ as_number (is_child step)
-    less (Fetch t n) l = apart t (slot == 0) is_producer_role runs_produces (fetch_role topology before t n l)
+    less (Fetch t n) l = apart t (slot == 0) is_producer_role supervisor_produces (fetch_role topology before t n l)
     less (Take t u k) l = apart t (slot == 0) takes_role supervisor_takes (take_facts topology before t u k l).role
     less (Child t m k) l = either (same_stage s t && slot == k)
       where
