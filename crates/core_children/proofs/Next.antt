@@ -18,7 +18,7 @@ use Rattle.pipe_types.specs.Stages.{spec_of}
 use Rattle.pipe_types.specs.Sound.{IsSound}
 use Rattle.pipe_laws.proofs.Tests.{clash, and_left, and_right, both, same_stage-true, same_stage-self}
 use Rattle.pipe_laws.proofs.Busy.{same_incarnation, two_roles}
-use Rattle.pipe_laws.proofs.Slots.{slot_runs, number_is, first_stands, supervisor_writes, supervisor_produces}
+use Rattle.pipe_laws.proofs.Slots.{slot_runs, number_is, first_stands, supervisor_writes, supervisor_produces, supervisor_takes}
 use Rattle.pipe_laws.proofs.Accepted.{placed_accepted, accepted_content}
 use Rattle.pipe_laws.proofs.Kept.{runs_here}
 use Rattle.pipe_laws.proofs.Allowed.{legal_before, legal_step, unowed, child_facts, take_facts, fetch_role}
@@ -32,7 +32,6 @@ use Rattle.pipe_model.specs.Moves.{next_in_slot}
 use Rattle.queue_laws.proofs.Late.{puts_no_restart}
 use Rattle.stage_laws.proofs.FewSlots.{slot_case, none_any}
 use Rattle.stage_laws.proofs.Numbering.{numbered_topology}
-use Rattle.stage_laws.proofs.Supervised.{supervisor_takes}
 use Rattle.consumer_sup.specs.Children.{Slots, child_in, alive}
 use Rattle.consumer_sup.specs.declared.Child.{Child as ChildRow}
 use Rattle.core_tables.specs.Rows.{post_at}

@@ -45,7 +45,7 @@ supervisor_produces Supervisor h k = let x : false ≡ true = k in cc
 supervisor_produces Batcher h k = let x : false ≡ true = k in cc
 supervisor_produces BatchProcessor h k = let x : false ≡ true = k in cc
 
-supervisor_takes : (role : Role) → is_supervisor_role role ≡ true → takes_role role ≡ true → ⊥
+pub supervisor_takes : (role : Role) → is_supervisor_role role ≡ true → takes_role role ≡ true → ⊥
 supervisor_takes Producer h k = let x : false ≡ true = k in cc
 supervisor_takes Processor h k = let x : false ≡ true = h in cc
 supervisor_takes Supervisor h k = let x : false ≡ true = k in cc

@@ -32,7 +32,7 @@ use Rattle.pipe_laws.proofs.Entries.{EntryFits, entries_fit}
 use Rattle.pipe_laws.proofs.Busy.{inbox_here, two_roles}
 use Rattle.pipe_laws.proofs.Idle.{fed_by_messages}
 use Rattle.pipe_laws.proofs.Kept.{runs_here}
-use Rattle.pipe_laws.proofs.Slots.{supervisor_writes, first_stands, number_is}
+use Rattle.pipe_laws.proofs.Slots.{supervisor_writes, first_stands, number_is, supervisor_takes}
 use Rattle.pipe_laws.proofs.Allowed.{legal_before, legal_step, take_facts, gather_facts, ChildFacts, child_facts}
 use Rattle.queue_laws.specs.Queues.{unless_killed, without_number, inbox_after}
 use Rattle.queue_laws.proofs.Filters.{filter_alike, filter_both, filter_all}
@@ -52,13 +52,6 @@ numbers topology before s = map (λ d. d.1) (sent_to topology before s)
 pub record Split (topology : Topology) (before : History) (s : StageNo) : Type 0 where
   pub gone : List (SubNo × ℕ)
   pub is : sent_to topology before s ≡ gone ++ inbox topology before s
-
-pub supervisor_takes : (role : Role) → is_supervisor_role role ≡ true → takes_role role ≡ true → ⊥
-supervisor_takes Supervisor h k = let x : false ≡ true = k in cc
-supervisor_takes Producer h k = let x : false ≡ true = h in cc
-supervisor_takes Processor h k = let x : false ≡ true = h in cc
-supervisor_takes Batcher h k = let x : false ≡ true = h in cc
-supervisor_takes BatchProcessor h k = let x : false ≡ true = h in cc
 
 supervisor_gathers : (role : Role) → is_supervisor_role role ≡ true → is_batcher_role role ≡ true → ⊥
 supervisor_gathers Supervisor h k = let x : false ≡ true = k in cc

@@ -28,11 +28,10 @@ use Rattle.pipe_laws.proofs.Accepted.{placed_accepted}
 use Rattle.pipe_laws.proofs.Allowed.{legal_before, legal_step, take_facts, done_facts, wrote_facts, ChildFacts, child_facts, child_end_facts, fetch_role}
 use Rattle.pipe_laws.proofs.Busy.{two_roles}
 use Rattle.pipe_laws.proofs.Kept.{runs_here}
-use Rattle.pipe_laws.proofs.Slots.{first_stands, supervisor_writes, number_is, supervisor_produces}
+use Rattle.pipe_laws.proofs.Slots.{first_stands, supervisor_writes, number_is, supervisor_produces, supervisor_takes}
 use Rattle.queue_laws.proofs.Roles.{some_spec}
 use Rattle.queue_laws.proofs.Sounds.{sound_fields}
 use Rattle.stage_laws.proofs.Records.{accepted_within}
-use Rattle.stage_laws.proofs.Supervised.{supervisor_takes}
 use Rattle.count_laws.specs.Counts.{moves_one, movers, sends_one, senders, takes, begun, answered, child_starts}
 use Rattle.count_laws.proofs.Steps.{movers_within, answered_out, answers_within}
 use Rattle.count_laws.proofs.Sends.{senders_few}
