@@ -30,7 +30,7 @@ use Rattle.move_laws.specs.NextMoves.{MayBegin, fetches, takes, starts}
 use Rattle.pipe_laws.proofs.Tests.{and_left, and_right, both, clash, same_stage-self, same_sub-true}
 use Rattle.pipe_laws.proofs.Allowed.{unowed, legal_step, take_facts, child_facts, fetch_role}
 use Rattle.pipe_laws.proofs.Busy.{two_roles}
-use Rattle.pipe_laws.proofs.Slots.{number_is}
+use Rattle.pipe_laws.proofs.Slots.{number_is, supervisor_takes}
 use Rattle.core_laws.proofs.Past.{slot_low}
 use Rattle.core_rows.proofs.Finding.{slot_out}
 use Rattle.core_takes.specs.declared.takes.Chunk.{Chunk}
@@ -58,13 +58,6 @@ producer_supervises Processor h k = let x : false ≡ true = h in cc
 producer_supervises Supervisor h k = let x : false ≡ true = h in cc
 producer_supervises Batcher h k = let x : false ≡ true = h in cc
 producer_supervises BatchProcessor h k = let x : false ≡ true = h in cc
-
-supervisor_takes : (role : Role) → is_supervisor_role role ≡ true → takes_role role ≡ true → ⊥
-supervisor_takes Producer h k = let x : false ≡ true = h in cc
-supervisor_takes Processor h k = let x : false ≡ true = h in cc
-supervisor_takes Supervisor h k = let x : false ≡ true = k in cc
-supervisor_takes Batcher h k = let x : false ≡ true = h in cc
-supervisor_takes BatchProcessor h k = let x : false ≡ true = h in cc
 
 takes_messages : (role : Role) → takes_role role ≡ true → is_batch_processor_role role ≡ false → is_processor_role role ≡ true
 takes_messages Producer h k = h
