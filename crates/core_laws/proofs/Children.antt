@@ -5,8 +5,6 @@ use Rattle.std.proofs.lemmas.Bool.{eqb-true, eq-eqb, false_from_ne_true}
 use Rattle.pipe_types.specs.declared.numbers.StageNo.{StageNo}
 use Rattle.pipe_types.specs.declared.topology.Topology.{Topology}
 use Rattle.pipe_types.specs.declared.topology.StageSpec.{StageSpec}
-use Rattle.pipe_types.specs.declared.topology.Role.{Role}
-use Rattle.pipe_types.specs.declared.topology.Role.TheVariants.{Producer, Processor, Supervisor, Batcher, BatchProcessor}
 use Rattle.pipe_types.specs.declared.message.Why.{Why}
 use Rattle.pipe_types.specs.declared.message.Why.TheVariants.{Crash}
 use Rattle.pipe_types.specs.declared.message.Loss.TheVariants.{Killed}
@@ -29,7 +27,7 @@ use Rattle.pipe_laws.proofs.Tests.{clash, both, and_left, and_right, same_stage-
 use Rattle.pipe_laws.proofs.Allowed.{legal_before, legal_step, child_facts, child_end_facts, done_facts}
 use Rattle.pipe_laws.proofs.Kept.{runs_here}
 use Rattle.pipe_laws.proofs.Busy.{two_roles}
-use Rattle.pipe_laws.proofs.Slots.{one_slot, slot_runs, number_is, ran_before, ended_other}
+use Rattle.pipe_laws.proofs.Slots.{one_slot, slot_runs, number_is, ran_before, ended_other, supervisor_processes}
 use Rattle.stage_laws.proofs.Supervised.{child_runs}
 use Rattle.core_laws.specs.Columns.{child_row, child_left}
 use Rattle.core_laws.specs.Slots.{child_if, child_of, child_in_slot}
@@ -78,13 +76,6 @@ slot_role topology (Child t m k ∷ before) s slot n h e =
         ∙ (child_facts topology before t m k (legal_step topology before (Child t m k) h)).role
     either false other e rest = rest e
 slot_role topology (step ∷ before) s slot n h e = slot_role topology before s slot n (legal_before topology before step h) e
-
-supervisor_processes : (role : Role) → is_supervisor_role role ≡ true → is_processor_role role ≡ true → ⊥
-supervisor_processes Supervisor h k = let x : false ≡ true = k in cc
-supervisor_processes Producer h k = let x : false ≡ true = h in cc
-supervisor_processes Processor h k = let x : false ≡ true = h in cc
-supervisor_processes Batcher h k = let x : false ≡ true = h in cc
-supervisor_processes BatchProcessor h k = let x : false ≡ true = h in cc
 
 -- ---- kills
 

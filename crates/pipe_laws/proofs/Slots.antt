@@ -52,7 +52,7 @@ supervisor_takes Supervisor h k = let x : false ≡ true = k in cc
 supervisor_takes Batcher h k = let x : false ≡ true = k in cc
 supervisor_takes BatchProcessor h k = let x : false ≡ true = h in cc
 
-supervisor_processes : (role : Role) → is_supervisor_role role ≡ true → is_processor_role role ≡ true → ⊥
+pub supervisor_processes : (role : Role) → is_supervisor_role role ≡ true → is_processor_role role ≡ true → ⊥
 supervisor_processes Producer h k = let x : false ≡ true = k in cc
 supervisor_processes Processor h k = let x : false ≡ true = h in cc
 supervisor_processes Supervisor h k = let x : false ≡ true = k in cc
