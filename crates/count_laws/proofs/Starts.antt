@@ -29,18 +29,11 @@ use Rattle.pipe_laws.proofs.Levels.{rank, level, level_grows}
 use Rattle.pipe_laws.proofs.Busy.{two_roles, same_incarnation}
 use Rattle.pipe_laws.proofs.Kept.{runs_here}
 use Rattle.pipe_laws.proofs.Held.{held, stands_live}
-use Rattle.pipe_laws.proofs.Slots.{first_stands, supervisor_writes, number_is, slot_reached, one_slot, supervisor_produces}
+use Rattle.pipe_laws.proofs.Slots.{first_stands, supervisor_writes, number_is, slot_reached, one_slot, supervisor_produces, supervisor_processes}
 use Rattle.pipe_laws.proofs.Allowed.{legal_before, legal_step, unowed, accept_role, done_facts, wrote_facts, ChildFacts, child_facts, LateFacts, late_facts, restart_dead}
 use Rattle.count_laws.specs.Counts.{child_starts}
 
 -- Roles
-
-apart_processor : (role : Role) → is_supervisor_role role ≡ true → is_processor_role role ≡ true → ⊥
-apart_processor Supervisor h k = let x : false ≡ true = k in cc
-apart_processor Producer h k = let x : false ≡ true = h in cc
-apart_processor Processor h k = let x : false ≡ true = h in cc
-apart_processor Batcher h k = let x : false ≡ true = h in cc
-apart_processor BatchProcessor h k = let x : false ≡ true = h in cc
 
 -- a supervisor stands in the second rank
 second : (topology : Topology) (s : StageNo) → has_role topology s is_supervisor_role ≡ true → rank topology s ≡ 1
@@ -170,7 +163,7 @@ ended topology before step s slot n h a now here own current = by_step step (leg
         by_stage true f row = cc
         by_stage false f row =
             absurd (cross t _ is_producer_role supervisor_produces (and_right (not (same_stage t (stage 0))) _ e) (and_left (has_role topology t is_producer_role) _ (and_right (is_live topology before t) _ row)))
-    by_step (Done t replies) l e now = absurd (cross t _ is_processor_role apart_processor e (done_facts topology before t replies l).role)
+    by_step (Done t replies) l e now = absurd (cross t _ is_processor_role supervisor_processes e (done_facts topology before t replies l).role)
     by_step (Wrote t bytes end) l e now = absurd (cross t _ is_batch_processor_role supervisor_writes e (wrote_facts topology before t bytes end l).role)
     by_step _ l e now = let x : false ≡ true = e in cc
 
