@@ -114,7 +114,7 @@ was_live topology before step s quiet live =
 
 -- Roles
 
-takes_producer : (role : Role) → takes_role role ≡ true → is_producer_role role ≡ true → ⊥
+pub takes_producer : (role : Role) → takes_role role ≡ true → is_producer_role role ≡ true → ⊥
 takes_producer Producer h k = let x : false ≡ true = h in cc
 takes_producer Processor h k = let x : false ≡ true = k in cc
 takes_producer Supervisor h k = let x : false ≡ true = k in cc
