@@ -121,7 +121,7 @@ takes_producer Supervisor h k = let x : false ≡ true = k in cc
 takes_producer Batcher h k = let x : false ≡ true = k in cc
 takes_producer BatchProcessor h k = let x : false ≡ true = k in cc
 
-takes_supervisor : (role : Role) → takes_role role ≡ true → is_supervisor_role role ≡ true → ⊥
+pub takes_supervisor : (role : Role) → takes_role role ≡ true → is_supervisor_role role ≡ true → ⊥
 takes_supervisor Producer h k = let x : false ≡ true = h in cc
 takes_supervisor Processor h k = let x : false ≡ true = k in cc
 takes_supervisor Supervisor h k = let x : false ≡ true = h in cc
