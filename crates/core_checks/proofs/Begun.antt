@@ -26,7 +26,7 @@ use Rattle.move_laws.specs.NextMoves.{MayBegin, fetches, takes, starts}
 use Rattle.move_laws.proofs.Legality.{may_allow}
 use Rattle.pipe_laws.proofs.Tests.{and_left, and_right, both, clash, same_stage-self, same_sub-true}
 use Rattle.pipe_laws.proofs.Allowed.{take_facts, child_facts, gather_facts, fetch_role}
-use Rattle.pipe_laws.proofs.Idle.{roles_apart}
+use Rattle.pipe_laws.proofs.Idle.{roles_apart, processor_producer}
 use Rattle.core_checks.specs.Posts.{IsOut}
 
 -- where no step is owed, an allowed step may come by its own row
@@ -81,13 +81,6 @@ producer_supervises Supervisor h k = let x : false ≡ true = h in cc
 producer_supervises Batcher h k = let x : false ≡ true = h in cc
 producer_supervises BatchProcessor h k = let x : false ≡ true = h in cc
 
-processor_brings : (role : Role) → is_processor_role role ≡ true → is_producer_role role ≡ true → ⊥
-processor_brings Producer h k = let x : false ≡ true = h in cc
-processor_brings Processor h k = let x : false ≡ true = k in cc
-processor_brings Supervisor h k = let x : false ≡ true = h in cc
-processor_brings Batcher h k = let x : false ≡ true = h in cc
-processor_brings BatchProcessor h k = let x : false ≡ true = h in cc
-
 processor_supervises : (role : Role) → is_processor_role role ≡ true → is_supervisor_role role ≡ true → ⊥
 processor_supervises Producer h k = let x : false ≡ true = h in cc
 processor_supervises Processor h k = let x : false ≡ true = k in cc
@@ -113,7 +106,7 @@ next_take topology before s o (d ∷ units) u k first size h =
 
 -- what a processor may begin is its take
 pub begins_take : (topology : Topology) (before : History) (s : StageNo) → has_role topology s is_processor_role ≡ true → MayBegin topology before s → may_take_next topology before s ≡ true
-begins_take topology before s role (fetches h) = absurd (one_role topology s is_processor_role is_producer_role processor_brings role (fetch_role topology before s (bound topology before s) h))
+begins_take topology before s role (fetches h) = absurd (one_role topology s is_processor_role is_producer_role processor_producer role (fetch_role topology before s (bound topology before s) h))
 begins_take topology before s role (takes u k h) =
     let f = take_facts topology before s u k h in
     next_take topology before s (spec_of topology s) (inbox topology before s) u k f.first f.size h

@@ -47,7 +47,7 @@ pub roles_apart : (topology : Topology) (s t : StageNo) (one other : Role → Bo
 roles_apart topology s t one other apart h k =
     false_from_ne_true (same_stage s t) (λ same. two_roles topology s one other apart h (subst (λ x. has_role topology x other ≡ true) (sym (same_stage-true s t same)) k))
 
-processor_producer : (role : Role) → is_processor_role role ≡ true → is_producer_role role ≡ true → ⊥
+pub processor_producer : (role : Role) → is_processor_role role ≡ true → is_producer_role role ≡ true → ⊥
 processor_producer Producer h k = let x : false ≡ true = h in cc
 processor_producer Processor h k = let x : false ≡ true = k in cc
 processor_producer Supervisor h k = let x : false ≡ true = k in cc
