@@ -26,7 +26,7 @@ use Rattle.move_laws.specs.NextMoves.{MayBegin, fetches, takes, starts}
 use Rattle.move_laws.proofs.Legality.{may_allow}
 use Rattle.pipe_laws.proofs.Tests.{and_left, and_right, both, clash, same_stage-self, same_sub-true}
 use Rattle.pipe_laws.proofs.Allowed.{take_facts, child_facts, gather_facts, fetch_role}
-use Rattle.pipe_laws.proofs.Idle.{roles_apart, processor_producer}
+use Rattle.pipe_laws.proofs.Idle.{roles_apart, processor_producer, processor_supervisor}
 use Rattle.core_checks.specs.Posts.{IsOut}
 
 -- where no step is owed, an allowed step may come by its own row
@@ -81,13 +81,6 @@ producer_supervises Supervisor h k = let x : false ≡ true = h in cc
 producer_supervises Batcher h k = let x : false ≡ true = h in cc
 producer_supervises BatchProcessor h k = let x : false ≡ true = h in cc
 
-processor_supervises : (role : Role) → is_processor_role role ≡ true → is_supervisor_role role ≡ true → ⊥
-processor_supervises Producer h k = let x : false ≡ true = h in cc
-processor_supervises Processor h k = let x : false ≡ true = k in cc
-processor_supervises Supervisor h k = let x : false ≡ true = h in cc
-processor_supervises Batcher h k = let x : false ≡ true = h in cc
-processor_supervises BatchProcessor h k = let x : false ≡ true = h in cc
-
 -- Jobs
 
 -- what a producer may begin is its fetch
@@ -111,7 +104,7 @@ begins_take topology before s role (takes u k h) =
     let f = take_facts topology before s u k h in
     next_take topology before s (spec_of topology s) (inbox topology before s) u k f.first f.size h
 begins_take topology before s role (starts slot h) =
-    absurd (one_role topology s is_processor_role is_supervisor_role processor_supervises role (child_facts topology before s (message_no (next_in_slot topology before s slot)) slot h).role)
+    absurd (one_role topology s is_processor_role is_supervisor_role processor_supervisor role (child_facts topology before s (message_no (next_in_slot topology before s slot)) slot h).role)
 
 -- Jobs that are out
 

@@ -54,7 +54,7 @@ processor_producer Supervisor h k = let x : false ≡ true = k in cc
 processor_producer Batcher h k = let x : false ≡ true = k in cc
 processor_producer BatchProcessor h k = let x : false ≡ true = k in cc
 
-processor_supervisor : (role : Role) → is_processor_role role ≡ true → is_supervisor_role role ≡ true → ⊥
+pub processor_supervisor : (role : Role) → is_processor_role role ≡ true → is_supervisor_role role ≡ true → ⊥
 processor_supervisor Producer h k = let x : false ≡ true = h in cc
 processor_supervisor Processor h k = let x : false ≡ true = k in cc
 processor_supervisor Supervisor h k = let x : false ≡ true = h in cc
