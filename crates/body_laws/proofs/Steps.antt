@@ -23,6 +23,7 @@ use Rattle.pipe_model.specs.Legal.{is_legal, allows, late_fits, has_ended, same_
 use Rattle.pipe_laws.proofs.Tests.{clash, and_left, and_right, both, same_stage-true, same_stage-self, same_stage-flip}
 use Rattle.pipe_laws.proofs.Allowed.{legal_before, legal_step, unowed, take_facts, child_facts, done_facts, wrote_facts, late_facts}
 use Rattle.pipe_laws.proofs.Busy.{was_live, two_roles}
+use Rattle.pipe_laws.proofs.Idle.{processor_supervisor}
 use Rattle.run_claims.specs.Read.{quiets}
 use Rattle.body_laws.specs.Counts.{brought, short_writes, calls_of, bad_of}
 use Rattle.body_laws.specs.Keeps.{has_post}
@@ -168,13 +169,6 @@ producer_child Supervisor h k = let x : false ≡ true = h in cc
 producer_child Batcher h k = let x : false ≡ true = k in cc
 producer_child BatchProcessor h k = let x : false ≡ true = k in cc
 
-processor_child : (role : Role) → is_processor_role role ≡ true → is_supervisor_role role ≡ true → ⊥
-processor_child Producer h k = let x : false ≡ true = k in cc
-processor_child Processor h k = let x : false ≡ true = k in cc
-processor_child Supervisor h k = let x : false ≡ true = h in cc
-processor_child Batcher h k = let x : false ≡ true = k in cc
-processor_child BatchProcessor h k = let x : false ≡ true = k in cc
-
 writer_child : (role : Role) → is_batch_processor_role role ≡ true → is_supervisor_role role ≡ true → ⊥
 writer_child Producer h k = let x : false ≡ true = k in cc
 writer_child Processor h k = let x : false ≡ true = k in cc
@@ -193,7 +187,7 @@ pub producers_alone : (topology : Topology) (s : StageNo) → has_role topology 
 producers_alone topology s h = no_supervisor topology s is_producer_role producer_child h
 
 pub processors_alone : (topology : Topology) (s : StageNo) → has_role topology s is_processor_role ≡ true → has_role topology s is_supervisor_role ≡ false
-processors_alone topology s h = no_supervisor topology s is_processor_role processor_child h
+processors_alone topology s h = no_supervisor topology s is_processor_role processor_supervisor h
 
 pub writers_alone : (topology : Topology) (s : StageNo) → has_role topology s is_batch_processor_role ≡ true → has_role topology s is_supervisor_role ≡ false
 writers_alone topology s h = no_supervisor topology s is_batch_processor_role writer_child h
