@@ -24,6 +24,7 @@ use Rattle.pipe_laws.proofs.Tests.{clash, and_left, and_right, both, same_stage-
 use Rattle.pipe_laws.proofs.Allowed.{legal_before, legal_step, unowed, take_facts, child_facts, done_facts, wrote_facts, late_facts}
 use Rattle.pipe_laws.proofs.Busy.{was_live, two_roles}
 use Rattle.pipe_laws.proofs.Idle.{processor_supervisor}
+use Rattle.queue_laws.proofs.Late.{producer_starts}
 use Rattle.run_claims.specs.Read.{quiets}
 use Rattle.body_laws.specs.Counts.{brought, short_writes, calls_of, bad_of}
 use Rattle.body_laws.specs.Keeps.{has_post}
@@ -162,13 +163,6 @@ stays_untold topology before step p h e a = record {
 
 -- ---- a step that answers another post tells nothing of this one
 
-producer_child : (role : Role) → is_producer_role role ≡ true → is_supervisor_role role ≡ true → ⊥
-producer_child Producer h k = let x : false ≡ true = k in cc
-producer_child Processor h k = let x : false ≡ true = k in cc
-producer_child Supervisor h k = let x : false ≡ true = h in cc
-producer_child Batcher h k = let x : false ≡ true = k in cc
-producer_child BatchProcessor h k = let x : false ≡ true = k in cc
-
 writer_child : (role : Role) → is_batch_processor_role role ≡ true → is_supervisor_role role ≡ true → ⊥
 writer_child Producer h k = let x : false ≡ true = k in cc
 writer_child Processor h k = let x : false ≡ true = k in cc
@@ -184,7 +178,7 @@ no_supervisor topology s one apart h = either (has_role topology s is_supervisor
     either false e = e
 
 pub producers_alone : (topology : Topology) (s : StageNo) → has_role topology s is_producer_role ≡ true → has_role topology s is_supervisor_role ≡ false
-producers_alone topology s h = no_supervisor topology s is_producer_role producer_child h
+producers_alone topology s h = no_supervisor topology s is_producer_role producer_starts h
 
 pub processors_alone : (topology : Topology) (s : StageNo) → has_role topology s is_processor_role ≡ true → has_role topology s is_supervisor_role ≡ false
 processors_alone topology s h = no_supervisor topology s is_processor_role processor_supervisor h
