@@ -158,7 +158,7 @@ held_dispatch topology before s u =
 
 -- A gathering
 
-batcher_writes : (role : Role) → is_batcher_role role ≡ true → is_batch_processor_role role ≡ true → ⊥
+pub batcher_writes : (role : Role) → is_batcher_role role ≡ true → is_batch_processor_role role ≡ true → ⊥
 batcher_writes Producer h k = let x : false ≡ true = h in cc
 batcher_writes Processor h k = let x : false ≡ true = k in cc
 batcher_writes Supervisor h k = let x : false ≡ true = k in cc
