@@ -25,7 +25,7 @@ use Rattle.pipe_model.specs.Moves.{next_in_slot}
 use Rattle.move_laws.specs.NextMoves.{MayBegin, fetches, takes, starts}
 use Rattle.move_laws.proofs.Legality.{may_allow}
 use Rattle.pipe_laws.proofs.Tests.{and_left, and_right, both, clash, same_stage-self, same_sub-true}
-use Rattle.pipe_laws.proofs.Allowed.{take_facts, child_facts, gather_facts, fetch_role}
+use Rattle.pipe_laws.proofs.Allowed.{take_facts, child_facts, gather_facts, fetch_role, not_halted}
 use Rattle.pipe_laws.proofs.Idle.{roles_apart, processor_producer, processor_supervisor}
 use Rattle.core_checks.specs.Posts.{IsOut}
 
@@ -34,17 +34,6 @@ come : (topology : Topology) (before : History) (step : Step) → owed topology 
 come topology before step free h =
     and_right (not (happened is_halt before) || is_late step) (may_come topology before step)
     (subst (λ (o : Option (Step → Bool)). ((not (happened is_halt before) || is_late step) && passes o step (may_come topology before step)) ≡ true) free h)
-
--- where a step that is not late is allowed, the pipeline has not halted
-pub not_halted : (topology : Topology) (before : History) (step : Step) → is_late step ≡ false → allows topology before step ≡ true → happened is_halt before ≡ false
-not_halted topology before step e h =
-    either (happened is_halt before) (is_late step) e
-    (and_left (not (happened is_halt before) || is_late step) (passes (owed topology before) step (may_come topology before step)) h)
-  where
-    either : (a b : Bool) → b ≡ false → (not a || b) ≡ true → a ≡ false
-    either true true e k = e
-    either true false e k = sym k
-    either false b e k = refl
 
 -- an ask that is allowed is of the size that is due
 pub ask_due : (topology : Topology) (before : History) (u : SubNo) (n : ℕ) → owed topology before ≡ None → allows topology before (Ask u n) ≡ true → allows topology before (Ask u (due topology before u)) ≡ true

@@ -24,11 +24,11 @@ use Rattle.pipe_model.specs.Content.{content}
 use Rattle.pipe_model.specs.Flow.{inbox, units_on}
 use Rattle.pipe_model.specs.Jobs.{take_first, allows_some, may_take_next, take_step}
 use Rattle.pipe_model.specs.Work.{child_of, messages_of}
-use Rattle.pipe_model.specs.Legal.{allows, is_legal, passes, owed, may_come, happened, is_halt, is_drain, is_late, has_role, is_producer_role, is_processor_role, is_supervisor_role, is_batch_processor_role, takes_role, bound, first_sub, first_unit, chunk_size, fetch_out, has_ended, rests, runs_number}
+use Rattle.pipe_model.specs.Legal.{allows, is_legal, happened, is_drain, has_role, is_producer_role, is_processor_role, is_supervisor_role, is_batch_processor_role, takes_role, bound, first_sub, first_unit, chunk_size, fetch_out, has_ended, rests, runs_number}
 use Rattle.pipe_model.specs.Moves.{next_in_slot}
 use Rattle.move_laws.specs.NextMoves.{MayBegin, fetches, takes, starts}
 use Rattle.pipe_laws.proofs.Tests.{and_left, and_right, both, clash, same_stage-self, same_sub-true}
-use Rattle.pipe_laws.proofs.Allowed.{unowed, legal_step, take_facts, child_facts, fetch_role}
+use Rattle.pipe_laws.proofs.Allowed.{unowed, legal_step, take_facts, child_facts, fetch_role, not_halted}
 use Rattle.pipe_laws.proofs.Busy.{two_roles}
 use Rattle.pipe_laws.proofs.Slots.{number_is, supervisor_takes}
 use Rattle.core_laws.proofs.Past.{slot_low}
@@ -139,17 +139,6 @@ begins_child topology before s sound legal role (starts slot h) =
     any_drop test slot slots (slot_out test slot (start_low topology before s (message_no (next_in_slot topology before s slot)) slot sound legal h) h)
 
 -- ---- the post that is out
-
--- where a step that is not late is allowed, the pipeline has not halted
-pub not_halted : (topology : Topology) (before : History) (step : Step) → is_late step ≡ false → allows topology before step ≡ true → happened is_halt before ≡ false
-not_halted topology before step e h =
-    either (happened is_halt before) (is_late step) e
-    (and_left (not (happened is_halt before) || is_late step) (passes (owed topology before) step (may_come topology before step)) h)
-  where
-    either : (a b : Bool) → b ≡ false → (not a || b) ≡ true → a ≡ false
-    either true true e k = e
-    either true false e k = sym k
-    either false b e k = refl
 
 now_out : (b x : Bool) (i j : ℕ) → b ≡ true → ((b || x) && ((if b then i else j) == i)) ≡ true
 now_out true x i j e = eq-eqb i i refl
