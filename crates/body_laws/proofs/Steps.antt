@@ -22,9 +22,8 @@ use Rattle.pipe_model.specs.Work.{count}
 use Rattle.pipe_model.specs.Legal.{is_legal, allows, late_fits, has_ended, same_truth, is_limit, has_role, is_producer_role, is_processor_role, is_batch_processor_role, is_supervisor_role, is_current}
 use Rattle.pipe_laws.proofs.Tests.{clash, and_left, and_right, both, same_stage-true, same_stage-self, same_stage-flip}
 use Rattle.pipe_laws.proofs.Allowed.{legal_before, legal_step, unowed, take_facts, child_facts, done_facts, wrote_facts, late_facts}
-use Rattle.pipe_laws.proofs.Busy.{was_live, two_roles}
+use Rattle.pipe_laws.proofs.Busy.{was_live, two_roles, producer_supervises}
 use Rattle.pipe_laws.proofs.Idle.{processor_supervisor}
-use Rattle.queue_laws.proofs.Late.{producer_starts}
 use Rattle.run_claims.specs.Read.{quiets}
 use Rattle.body_laws.specs.Counts.{brought, short_writes, calls_of, bad_of}
 use Rattle.body_laws.specs.Keeps.{has_post}
@@ -178,7 +177,7 @@ no_supervisor topology s one apart h = either (has_role topology s is_supervisor
     either false e = e
 
 pub producers_alone : (topology : Topology) (s : StageNo) → has_role topology s is_producer_role ≡ true → has_role topology s is_supervisor_role ≡ false
-producers_alone topology s h = no_supervisor topology s is_producer_role producer_starts h
+producers_alone topology s h = no_supervisor topology s is_producer_role producer_supervises h
 
 pub processors_alone : (topology : Topology) (s : StageNo) → has_role topology s is_processor_role ≡ true → has_role topology s is_supervisor_role ≡ false
 processors_alone topology s h = no_supervisor topology s is_processor_role processor_supervisor h

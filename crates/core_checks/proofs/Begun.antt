@@ -8,7 +8,6 @@ use Rattle.pipe_types.specs.declared.numbers.MsgNo.{MsgNo}
 use Rattle.pipe_types.specs.declared.topology.Topology.{Topology}
 use Rattle.pipe_types.specs.declared.topology.StageSpec.{StageSpec}
 use Rattle.pipe_types.specs.declared.topology.Role.{Role}
-use Rattle.pipe_types.specs.declared.topology.Role.TheVariants.{Producer, Processor, Supervisor, Batcher, BatchProcessor}
 use Rattle.pipe_types.specs.declared.step.SourceHow.TheVariants.{End}
 use Rattle.pipe_types.specs.declared.step.Step.{Step}
 use Rattle.pipe_types.specs.declared.step.Step.TheVariants.{Ask, Fetch, Accept, Quiet, SourceEnd, Take, Gather, Tick}
@@ -27,6 +26,7 @@ use Rattle.move_laws.proofs.Legality.{may_allow}
 use Rattle.pipe_laws.proofs.Tests.{and_left, and_right, both, clash, same_stage-self, same_sub-true}
 use Rattle.pipe_laws.proofs.Allowed.{take_facts, child_facts, gather_facts, fetch_role, not_halted}
 use Rattle.pipe_laws.proofs.Idle.{roles_apart, processor_producer, processor_supervisor}
+use Rattle.pipe_laws.proofs.Busy.{producer_takes, producer_supervises}
 use Rattle.core_checks.specs.Posts.{IsOut}
 
 -- where no step is owed, an allowed step may come by its own row
@@ -55,20 +55,6 @@ gather_first topology before s m h =
 -- a stage has one role
 pub one_role : (topology : Topology) (s : StageNo) (one other : Role → Bool) → ((role : Role) → one role ≡ true → other role ≡ true → ⊥) → has_role topology s one ≡ true → has_role topology s other ≡ true → ⊥
 one_role topology s one other apart h k = clash (same_stage s s) (same_stage-self s) (roles_apart topology s s one other apart h k)
-
-producer_takes : (role : Role) → is_producer_role role ≡ true → takes_role role ≡ true → ⊥
-producer_takes Producer h k = let x : false ≡ true = k in cc
-producer_takes Processor h k = let x : false ≡ true = h in cc
-producer_takes Supervisor h k = let x : false ≡ true = h in cc
-producer_takes Batcher h k = let x : false ≡ true = h in cc
-producer_takes BatchProcessor h k = let x : false ≡ true = h in cc
-
-pub producer_supervises : (role : Role) → is_producer_role role ≡ true → is_supervisor_role role ≡ true → ⊥
-producer_supervises Producer h k = let x : false ≡ true = k in cc
-producer_supervises Processor h k = let x : false ≡ true = h in cc
-producer_supervises Supervisor h k = let x : false ≡ true = h in cc
-producer_supervises Batcher h k = let x : false ≡ true = h in cc
-producer_supervises BatchProcessor h k = let x : false ≡ true = h in cc
 
 -- Jobs
 

@@ -16,10 +16,11 @@ use Rattle.move_laws.specs.NextMoves.{MayBegin, fetches, takes, starts}
 use Rattle.pipe_laws.proofs.Tests.{both, same_stage-self}
 use Rattle.pipe_laws.proofs.Allowed.{take_facts, fetch_role}
 use Rattle.pipe_laws.proofs.Slots.{supervisor_takes}
+use Rattle.pipe_laws.proofs.Busy.{producer_supervises}
 use Rattle.core_laws.proofs.Past.{slot_low}
 use Rattle.core_rows.proofs.Finding.{slot_out}
 use Rattle.core_children.specs.Starts.{may_start_child}
-use Rattle.core_checks.proofs.Begun.{one_role, producer_supervises}
+use Rattle.core_checks.proofs.Begun.{one_role}
 
 or_right : (a b : Bool) → b ≡ true → (a || b) ≡ true
 or_right true b h = refl

@@ -29,7 +29,7 @@ use Rattle.pipe_model.specs.Moves.{next_in_slot}
 use Rattle.move_laws.specs.NextMoves.{MayBegin, fetches, takes, starts}
 use Rattle.pipe_laws.proofs.Tests.{and_left, and_right, both, clash, same_stage-self, same_sub-true}
 use Rattle.pipe_laws.proofs.Allowed.{unowed, legal_step, take_facts, child_facts, fetch_role, not_halted}
-use Rattle.pipe_laws.proofs.Busy.{two_roles}
+use Rattle.pipe_laws.proofs.Busy.{two_roles, producer_takes, producer_supervises}
 use Rattle.pipe_laws.proofs.Slots.{number_is, supervisor_takes}
 use Rattle.core_laws.proofs.Past.{slot_low}
 use Rattle.core_rows.proofs.Finding.{slot_out}
@@ -44,20 +44,6 @@ use Rattle.stage_bodies.specs.Posts.{IsWorkOf, IsOutNow, IsJobOf}
 use Rattle.core_jobs.specs.Begun.{IsBegun, GivesBatch, fetched, taken, started, work_on}
 
 -- ---- roles
-
-producer_takes : (role : Role) → is_producer_role role ≡ true → takes_role role ≡ true → ⊥
-producer_takes Producer h k = let x : false ≡ true = k in cc
-producer_takes Processor h k = let x : false ≡ true = h in cc
-producer_takes Supervisor h k = let x : false ≡ true = h in cc
-producer_takes Batcher h k = let x : false ≡ true = h in cc
-producer_takes BatchProcessor h k = let x : false ≡ true = h in cc
-
-producer_supervises : (role : Role) → is_producer_role role ≡ true → is_supervisor_role role ≡ true → ⊥
-producer_supervises Producer h k = let x : false ≡ true = k in cc
-producer_supervises Processor h k = let x : false ≡ true = h in cc
-producer_supervises Supervisor h k = let x : false ≡ true = h in cc
-producer_supervises Batcher h k = let x : false ≡ true = h in cc
-producer_supervises BatchProcessor h k = let x : false ≡ true = h in cc
 
 takes_messages : (role : Role) → takes_role role ≡ true → is_batch_processor_role role ≡ false → is_processor_role role ≡ true
 takes_messages Producer h k = h

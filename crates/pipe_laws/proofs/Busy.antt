@@ -128,6 +128,20 @@ takes_supervisor Supervisor h k = let x : false ≡ true = h in cc
 takes_supervisor Batcher h k = let x : false ≡ true = k in cc
 takes_supervisor BatchProcessor h k = let x : false ≡ true = k in cc
 
+pub producer_takes : (role : Role) → is_producer_role role ≡ true → takes_role role ≡ true → ⊥
+producer_takes Producer h k = let x : false ≡ true = k in cc
+producer_takes Processor h k = let x : false ≡ true = h in cc
+producer_takes Supervisor h k = let x : false ≡ true = h in cc
+producer_takes Batcher h k = let x : false ≡ true = h in cc
+producer_takes BatchProcessor h k = let x : false ≡ true = h in cc
+
+pub producer_supervises : (role : Role) → is_producer_role role ≡ true → is_supervisor_role role ≡ true → ⊥
+producer_supervises Producer h k = let x : false ≡ true = k in cc
+producer_supervises Processor h k = let x : false ≡ true = h in cc
+producer_supervises Supervisor h k = let x : false ≡ true = h in cc
+producer_supervises Batcher h k = let x : false ≡ true = h in cc
+producer_supervises BatchProcessor h k = let x : false ≡ true = h in cc
+
 -- a stage has one role
 pub two_roles : (topology : Topology) (s : StageNo) (one other : Role → Bool) → ((role : Role) → one role ≡ true → other role ≡ true → ⊥) → has_role topology s one ≡ true → has_role topology s other ≡ true → ⊥
 two_roles topology s one other apart h k = by_spec (spec_of topology s) refl
