@@ -1,7 +1,7 @@
 -- What a step leaves as it was at a post that it does not answer.
 use Rattle.std.proofs.Common.{◌≡◌, ℕ, ◌≤◌, List, ◌∷◌, Bool, true, false, refl, ap, sym, ◌∙◌, subst, arith}
 use Rattle.std.specs.Prelude.{not, ◌&&◌, ◌||◌, ◌==◌, if◌then◌else◌}
-use Rattle.std.proofs.lemmas.Bool.{eqb-true, eq-eqb}
+use Rattle.std.proofs.lemmas.Bool.{eqb-true, eq-eqb, or_left, or_right}
 use Rattle.pipe_types.specs.declared.numbers.StageNo.{StageNo}
 use Rattle.pipe_types.specs.declared.numbers.Post.{Post}
 use Rattle.pipe_types.specs.declared.step.SourceHow.{SourceHow}
@@ -122,16 +122,8 @@ put_live topology before (Child t m k) s slot h e =
     ap (is_live topology before) (ap (λ (p : Post). p.stage) (same_post-true (post s slot) (post t k) e)) ∙ (child_facts topology before t m k h).live
 put_live topology before step s slot h e = cc
 
-live_is_present : (a b : Bool) → a ≡ true → (a || b) ≡ true
-live_is_present true b h = refl
-live_is_present false b h = cc
-
-pub out_is_present : (a b : Bool) → b ≡ true → (a || b) ≡ true
-out_is_present true b h = refl
-out_is_present false b h = h
-
 pub is_present : (topology : Topology) (before : History) (s : StageNo) → is_live topology before s ≡ true → (is_live topology before s || is_out before (post s 0)) ≡ true
-is_present topology before s h = live_is_present (is_live topology before s) (is_out before (post s 0)) h
+is_present topology before s h = or_left (is_live topology before s) (is_out before (post s 0)) h
 
 -- a stage that is live or out was so before a step that does not restart it
 present_stays : (topology : Topology) (before : History) (step : Step) (s : StageNo) → allows topology before step ≡ true → restarts step s ≡ false
@@ -140,7 +132,7 @@ present_stays topology before step s h r now = by_live (is_live topology (step �
   where
     by_put : (b : Bool) → puts_out step (post s 0) ≡ b → (b || (not (answers step (post s 0)) && is_out before (post s 0))) ≡ true → (is_live topology before s || is_out before (post s 0)) ≡ true
     by_put true e now = is_present topology before s (put_live topology before step s 0 h e)
-    by_put false e now = out_is_present (is_live topology before s) (is_out before (post s 0)) (and_right (not (answers step (post s 0))) _ now)
+    by_put false e now = or_right (is_live topology before s) (is_out before (post s 0)) (and_right (not (answers step (post s 0))) _ now)
 
     by_live : (b : Bool) → is_live topology (step ∷ before) s ≡ b → (b || is_out (step ∷ before) (post s 0)) ≡ true → (is_live topology before s || is_out before (post s 0)) ≡ true
     by_live true e now = is_present topology before s (was_live topology before step s r e)

@@ -2,7 +2,7 @@
 use Rattle.std.proofs.Common.{◌≡◌, ◌≤◌, ◌<◌, ℕ, zero, suc, List, [], ◌∷◌, length, drop, Bool, true, false, refl, ap, sym, ◌∙◌, subst, Some, None, Option, arith}
 use Rattle.std.specs.Prelude.{if◌then◌else◌, not, ◌==◌, ◌&&◌, ◌||◌, nat_lt, nat_le}
 use Rattle.std.specs.List.{list_any}
-use Rattle.std.proofs.lemmas.Bool.{eq-eqb, leb-true}
+use Rattle.std.proofs.lemmas.Bool.{eq-eqb, leb-true, or_right}
 use Rattle.pipe_types.specs.declared.numbers.StageNo.{StageNo}
 use Rattle.pipe_types.specs.declared.numbers.SubNo.{SubNo}
 use Rattle.pipe_types.specs.declared.numbers.MsgNo.{MsgNo}
@@ -89,10 +89,6 @@ begins_take topology before s p v (takes u k h) =
     next_take topology before s (spec_of topology s) (inbox topology before s) u k f.first f.size h
 begins_take topology before s p v (starts slot h) =
     clash (has_role topology s is_supervisor_role) (child_facts topology before s (message_no (next_in_slot topology before s slot)) slot h).role v
-
-or_right : (a b : Bool) → b ≡ true → (a || b) ≡ true
-or_right true b h = refl
-or_right false b h = h
 
 any_drop : (test : ℕ → Bool) (k : ℕ) (xs : List ℕ) → list_any test (drop k xs) ≡ true → list_any test xs ≡ true
 any_drop test zero xs h = h
