@@ -47,7 +47,7 @@ use Rattle.core_tables.proofs.Tables.{same_or_other}
 use Rattle.core_laws.specs.Columns.{running, post_row, part_of, open_batches, child_row, child_left, came, mark}
 use Rattle.core_laws.specs.Slots.{child_if, child_of}
 use Rattle.core_laws.proofs.Children.{child_is}
-use Rattle.core_laws.proofs.Came.{came_is, came_entry}
+use Rattle.core_laws.proofs.Came.{came_is, came_entry, flip}
 use Rattle.core_laws.proofs.Lawful.{legal_after}
 use Rattle.core_laws.proofs.Marks.{mark_is, open_unsettled}
 use Rattle.core_laws.proofs.Past.{known_within, live_known, out_post}
@@ -136,9 +136,6 @@ post_home posts s t slot k row low high at =
     by false = refl
 
 -- ---- the chunk
-
-flip : (a b : ℕ) → (a == b) ≡ (b == a)
-flip a b = grind (arith, nat_tests)
 
 runs_on : (topology : Topology) (before : History) (s t : StageNo) (slot : ℕ) (reply : Reply) (n : ℕ) (again : Bool) → IsSound topology → Ends topology before s slot reply n again
     → (if s.0 == t.0 && not again then filter (λ m. not (n == m)) (running topology before t) else running topology before t) ≡ running topology (ChildEnd s slot reply ∷ before) t

@@ -40,6 +40,7 @@ use Rattle.core_laws.specs.Slots.{child_if, child_of}
 use Rattle.core_laws.proofs.Children.{child_is}
 use Rattle.core_laws.proofs.Past.{known_within, live_known, out_post, supervisor_max}
 use Rattle.core_laws.proofs.Lawful.{legal_after}
+use Rattle.core_laws.proofs.Came.{flip}
 use Rattle.core_state.specs.declared.state.Core.{Core}
 use Rattle.core_state.specs.Readings.{out_in}
 use Rattle.core_state.specs.Stands.{Holds, Stands, child_at, child_of as child_from}
@@ -49,9 +50,6 @@ use Rattle.core_children.specs.Starts.{may_start_child, again_in}
 use Rattle.core_children.proofs.Fresh.{idle_slot}
 
 -- ---- a post that is out
-
-flip : (a b : ℕ) → (a == b) ≡ (b == a)
-flip a b = grind (arith, nat_tests)
 
 later : (p q : Bool) → p ≡ false → (p || q) ≡ true → q ≡ true
 later false q e h = h

@@ -100,7 +100,7 @@ came_sent topology (step ∷ before) s slot n h own = came_sent topology before 
 
 -- ---- and on no other
 
-flip : (a b : ℕ) → (a == b) ≡ (b == a)
+pub flip : (a b : ℕ) → (a == b) ≡ (b == a)
 flip a b = grind (arith, nat_tests)
 
 sub_flip : (u v : SubNo) → same_sub u v ≡ same_sub v u
