@@ -45,6 +45,7 @@ use Rattle.core_laws.proofs.Lawful.{legal_after}
 use Rattle.core_laws.proofs.Past.{known_within, live_known, out_post}
 use Rattle.core_state.specs.declared.state.Core.{Core}
 use Rattle.core_state.specs.Stands.{Fields, Holds, child_at}
+use Rattle.core_state.proofs.Homes.{post_same}
 use Rattle.core_takes.specs.Takes.{out_of}
 
 -- what the passes of a child's start leave
@@ -68,10 +69,6 @@ pub record Started (core : Core) (topology : Topology) (before : History) (s : S
       → slice_get children.items t.0 ≡ Some held → (held.mode ≡ spec.child) × (length held.slots ≡ spec.max)
   pub placed : (i : ℕ) → slice_get places.items i ≡ place topology (Child s m slot ∷ before) (suc i)
   pub placed-len : length places.items ≡ length core.places.items
-
--- which row of the posts it is
-post_same : (s t slot k : ℕ) → k < 16 → slot < 16 → (post_at s slot == post_at t k) ≡ (t == s && k == slot)
-post_same s t slot k low high = grind (arith, nat_tests)
 
 pub started_fields : (core : Core) (topology : Topology) (before : History) (s : StageNo) (m : MsgNo) (slot : ℕ) (j : Recorded)
     (posts : Vec PostRow Global) (came_on : Vec SubNo Global) (inboxes : Vec (VecDeque (SubNo × ℕ) Global) Global) (chunks : Vec (Vec ℕ Global) Global) (children : Vec Slots Global) (places : Vec Place Global)

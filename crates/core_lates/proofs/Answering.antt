@@ -30,8 +30,9 @@ use Rattle.core_calls.proofs.Ending.{row_changed}
 use Rattle.core_state.specs.declared.state.Core.{Core}
 use Rattle.core_state.specs.Stands.{Fields, Holds, Stands}
 use Rattle.core_state.proofs.Steps.{holds_after, unowed_after}
+use Rattle.core_state.proofs.Homes.{post_home}
 use Rattle.core_lates.specs.Lates.{is_plain}
-use Rattle.core_lates.proofs.Leaving.{Leaves, Stays, left_fields, stays_changed, post_home}
+use Rattle.core_lates.proofs.Leaving.{Leaves, Stays, left_fields, stays_changed}
 
 -- a late answer's post has a row
 pub record IsLate (topology : Topology) (before : History) (s : StageNo) (slot i : ℕ) (answer : LateAnswer) : Type 0 where
