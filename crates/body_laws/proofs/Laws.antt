@@ -111,7 +111,7 @@ names_slot topology before p (work.Child message) o old new is done = absurd don
 first_of_stage : (p q : Post) → p.slot ≡ 0 → same_post q (post p.stage 0) ≡ true → q ≡ p
 first_of_stage p q e h = same_post-true q (post p.stage 0) h ∙ ap (post p.stage) (sym e)
 
-at_end : (b c : Bool) → (not b && c) ≡ true → c ≡ true
+pub at_end : (b c : Bool) → (not b && c) ≡ true → c ≡ true
 at_end true c h = cc
 at_end false c h = h
 

@@ -1,6 +1,6 @@
 -- Steps that answer another job, or none.
-use Rattle.std.proofs.Common.{◌≡◌, Bool, true, false, ap, sym, ◌∙◌, subst, Option}
-use Rattle.std.specs.Prelude.{not, ◌≢◌, ◌&&◌}
+use Rattle.std.proofs.Common.{◌≡◌, true, false, ap, sym, ◌∙◌, subst, Option}
+use Rattle.std.specs.Prelude.{◌≢◌}
 use Rattle.std.proofs.lemmas.Bool.{false_from_ne_true}
 use Rattle.pipe_types.specs.declared.numbers.Post.{Post}
 use Rattle.pipe_types.specs.declared.step.Step.{Step}
@@ -21,20 +21,16 @@ use Rattle.body_laws.specs.Keeps.{is_silent}
 use Rattle.body_laws.specs.Lates.{late_step}
 use Rattle.body_laws.proofs.Posts.{out_has_post, same_post-true}
 use Rattle.body_laws.proofs.Jobs.{silent_quietly}
-use Rattle.body_laws.proofs.Laws.{NamesSlot, names_slot}
+use Rattle.body_laws.proofs.Laws.{NamesSlot, names_slot, at_end}
 use Rattle.job_laws.specs.Away.{IsAway, IsAnswerTo}
 
 first_is : (p q : Post) → p.slot ≡ 0 → same_post q (post p.stage 0) ≡ true → q ≡ p
 first_is p q first h = same_post-true q (post p.stage 0) h ∙ ap (post p.stage) (sym first)
 
-second : (b c : Bool) → (not b && c) ≡ true → c ≡ true
-second true c h = cc
-second false c h = h
-
 answered_is : (p q : Post) (o : Came) → NamesSlot p o → answers (step_of p o) q ≡ true → q ≡ p
 answered_is p q (came.Records records) first h = first_is p q first h
 answered_is p q came.NotYet first h = first_is p q first h
-answered_is p q (came.Ended how) first h = first_is p q first (second (same_stage p.stage (stage 0)) (same_post q (post p.stage 0)) h)
+answered_is p q (came.Ended how) first h = first_is p q first (at_end (same_stage p.stage (stage 0)) (same_post q (post p.stage 0)) h)
 answered_is p q (came.Replies replies) first h = first_is p q first h
 answered_is p q (came.Wrote bytes end) first h = first_is p q first h
 answered_is p q (came.Reply reply) first h = same_post-true q p h
