@@ -18,6 +18,7 @@ use Rattle.pipe_model.specs.Places.{settled_at}
 use Rattle.pipe_model.specs.Acknowledgements.{settled_by, numbers_upto, is_acked, is_producer}
 use Rattle.pipe_laws.proofs.Settled.{stays_settled}
 use Rattle.pipe_laws.proofs.Accepted.{placed_accepted, among_next}
+use Rattle.pipe_laws.proofs.Acknowledged.{same_producer}
 
 -- Numbers
 
@@ -40,12 +41,6 @@ accepted_grows before _ = omega arith
 
 not_next : (from count n : ℕ) → n ≤ from → is_among_next from count n ≡ false
 not_next from count n low = false_from_ne_true (is_among_next from count n) (λ h. absurd (let t = among_next from count n h in omega (arith, t.0)))
-
--- an accepted message keeps its producer
-same_producer : (before : History) (step : Step) (n : ℕ) → n ≤ accepted before → producer_of (step ∷ before) n ≡ producer_of before n
-same_producer before (Accept s records) n low = rw (not_next (accepted before) (length records) n low) refl
-same_producer before (Late s slot i (Records records)) n low = rw (not_next (accepted before) (length records) n low) refl
-same_producer before _ n low = refl
 
 -- One step
 

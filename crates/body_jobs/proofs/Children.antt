@@ -1,10 +1,9 @@
 -- A child's message, from a count of 0.
-use Rattle.std.proofs.Common.{◌≡◌, ◌≤◌, ◌<◌, ◌⊎◌, ℕ, Bool, true, false, ◌&&◌, List, ◌∙◌, arith, inl, inr, IsTrue}
-use Rattle.std.proofs.lemmas.Bool.{cases_lt}
-use Rattle.pipe_types.specs.Counts.{Rose}
+use Rattle.std.proofs.Common.{◌≡◌, ◌≤◌, ℕ, Bool, true, false, ◌&&◌, List, ◌∙◌, arith, inl, inr, IsTrue}
 use Rattle.pipe_types.specs.declared.message.Message.{Message}
 use Rattle.pipe_types.specs.declared.message.Reply.{Reply}
 use Rattle.stage_job.specs.Chunks.{RoseBy}
+use Rattle.stage_job.proofs.CallCounts.{rose_before}
 use Rattle.stage_bodies.specs.Seen.{BoxSeen}
 use Rattle.stage_bodies.specs.Jobs.{KeepsBox, Replies, reset}
 
@@ -24,19 +23,6 @@ kept_on first then = record {
   no_calls = λ not_own. then.no_calls (rw first.kind not_own) ∙ first.no_calls not_own;
   no_bad = λ not_own. then.no_bad (rw first.kind not_own) ∙ first.no_bad not_own;
 }
-
--- a count that rose has risen after it did not fall
-pub rose_after : (before middle now : ℕ) → before ≤ middle → middle ≤ now → Rose before middle → Rose before now
-rose_after before middle now low high (inl above) = inl (omega arith)
-rose_after before middle now low high (inr full) = by_order (cases_lt middle now)
-  where
-    by_order : (middle < now) ⊎ (now ≤ middle) → Rose before now
-    by_order (inl above) = inl (omega arith)
-    by_order (inr same) = inr (omega arith)
-
-pub rose_before : (before middle now : ℕ) → before ≤ middle → Rose middle now → Rose before now
-rose_before before middle now low (inl above) = inl (omega arith)
-rose_before before middle now low (inr full) = inr full
 
 rose_by_before : (times before middle now : ℕ) → before ≤ middle → RoseBy times middle now → RoseBy times before now
 rose_by_before times before middle now low (inl above) = inl (omega arith)

@@ -1,8 +1,8 @@
 -- The end of a batch after its text went to a sink.
-use Rattle.std.proofs.Common.{◌≡◌, ◌≢◌, ◌<◌, ℕ, Bool, true, false, ◌&&◌, ◌||◌, ◌==◌, nat_lt, List, [], ◌∷◌, map, length, refl, sym, ap, ◌∙◌, arith, cond, inl, inr}
+use Rattle.std.proofs.Common.{◌≡◌, ◌≢◌, ◌<◌, ℕ, Bool, true, false, ◌&&◌, ◌==◌, nat_lt, List, [], ◌∷◌, map, length, refl, sym, ap, ◌∙◌, arith, cond, inl, inr}
 use Rattle.std.specs.List.{list_all, list_any}
 use Rattle.std.specs.Str.{bytes_eq}
-use Rattle.std.proofs.lemmas.Bool.{and_parts, and_from, eq-eqb}
+use Rattle.std.proofs.lemmas.Bool.{and_parts, and_from, eq-eqb, or_right, or_left}
 use Rattle.std.proofs.lemmas.Bool.Decides.{nat_tests}
 use Rattle.std.proofs.lemmas.Slice.Eq.{bytes_eq-Decides}
 use Rattle.pipe_types.specs.Handlers.{batch_answer_by, batch_end, batch_text, end_by, text_by as text_of_reply, is_own_outcome, is_own_reason, is_successful, lines_where, is_own_end}
@@ -33,14 +33,6 @@ same_as (Failed why ∷ os) = and_from (bytes_eq why why) (same_outcomes os os) 
 same_end_as : (e : BatchEnd) → same_end e e ≡ true
 same_end_as (Outcomes os) = same_as os
 same_end_as Crashed = refl
-
-or_right : (a b : Bool) → b ≡ true → (a || b) ≡ true
-or_right true b is = refl
-or_right false b is = is
-
-or_left : (a b : Bool) → a ≡ true → (a || b) ≡ true
-or_left true b is = refl
-or_left false b is = cc
 
 is_less : (n m : ℕ) → n < m → nat_lt n m ≡ true
 is_less n m below = grind (arith, nat_tests)

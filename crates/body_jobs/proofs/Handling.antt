@@ -20,11 +20,12 @@ use Rattle.stage_callback.specs.declared.answers.Said.{Said}
 use Rattle.stage_callback.specs.declared.answers.Said.TheVariants as said
 use Rattle.stage_job.specs.Chunks.{never_crashes}
 use Rattle.stage_job.proofs.CalmRules.{rules_calm}
+use Rattle.stage_job.proofs.CallCounts.{rose_after}
 use Rattle.stage_bodies.specs.Seen.{BoxSeen}
 use Rattle.stage_bodies.specs.Told.{outcomes_by, raised_with}
 use Rattle.stage_bodies.specs.Jobs.{is_bad_end}
 use Rattle.body_jobs.specs.Batches.{Asks, Settles, Handles}
-use Rattle.body_jobs.proofs.Children.{kept_on, rose_after}
+use Rattle.body_jobs.proofs.Children.{kept_on}
 
 -- Rules without a crash
 

@@ -71,7 +71,7 @@ all_short (r ∷ records) short =
     let one : nat_le (length r) max_bytes ≡ true = grind (arith, nat_tests) in
     rw one (all_short records short.1)
 
-records_fit : (records : List (List ℕ)) (most : ℕ) → 1 ≤ length records → length records ≤ most → All (λ r. length r ≤ max_bytes) records → are_records records most ≡ true
+pub records_fit : (records : List (List ℕ)) (most : ℕ) → 1 ≤ length records → length records ≤ most → All (λ r. length r ≤ max_bytes) records → are_records records most ≡ true
 records_fit records most some few short =
     let one : nat_le 1 (length records) ≡ true = grind (arith, nat_tests) in
     let within : nat_le (length records) most ≡ true = grind (arith, nat_tests) in

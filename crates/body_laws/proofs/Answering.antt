@@ -46,7 +46,7 @@ use Rattle.body_laws.proofs.Rises.{rise_stays, rise_more, rise_one, rise_if, cou
 -- ---- sources
 
 -- the waits of a source never fall
-waits_stay : (opened : SourceSeen) (earlier records : List (List ℕ)) (b c : LineSeen) → AreReadFrom opened b earlier → ReadsOn records b c → b.source.waits ≤ c.source.waits
+pub waits_stay : (opened : SourceSeen) (earlier records : List (List ℕ)) (b c : LineSeen) → AreReadFrom opened b earlier → ReadsOn records b c → b.source.waits ≤ c.source.waits
 waits_stay opened earlier records b c read on =
     (on (record opened { waits = b.source.waits }) earlier (record {
       same_telling = read.same_telling;

@@ -27,13 +27,14 @@ use Rattle.pipe_types.specs.Numbers.{same_stage}
 use Rattle.pipe_types.specs.Stages.{spec_of}
 use Rattle.pipe_types.specs.Sound.{IsSound, batchers, is_batcher, is_next, may_follow, may_go_on, may_begin, is_ordered, is_rule, are_rules, asks_up_to, is_lines, is_reason, by_demand, by_partition, no_batcher, no_dispatcher, no_buffer, no_edge, no_batching}
 use Rattle.pipe_model.specs.History.{History, accepted}
-use Rattle.pipe_model.specs.Content.{content, newer, changed_by, fresh, record_as, passed_as, has_crash, new_message}
+use Rattle.pipe_model.specs.Content.{content, changed_by, fresh, record_as, passed_as, has_crash, new_message}
 use Rattle.pipe_model.specs.Work.{same_message, same_reply, same_replies, are_replies_by, are_handled, messages_of, chunk_of, count, taken_units}
 use Rattle.pipe_model.specs.Lives.{is_live}
 use Rattle.pipe_model.specs.Legal.{is_legal, allows, has_role, are_records, fetch_out, is_current, is_producer_role, is_processor_role, is_supervisor_role}
 use Rattle.pipe_laws.proofs.Tests.{clash, and_left, and_right, both}
 use Rattle.pipe_laws.proofs.Levels.{rank_of}
 use Rattle.pipe_laws.proofs.Allowed.{legal_before, legal_step, unowed, done_facts, late_facts}
+use Rattle.pipe_laws.proofs.Contents.{newer_cases}
 use Rattle.stage_laws.proofs.Groups.{fields_of}
 use Rattle.stage_callback.specs.Callbacks.{is_countable, routes_below, can_arm, is_message_for}
 use Rattle.stage_callback.proofs.Shapes.{eval_shape}
@@ -268,10 +269,6 @@ handled_fit spec Steps count messages replies armed fit h = same_all spec.batche
 handled_fit spec Lines count messages replies armed fit h = same_all spec.batchers replies (chunk_replies spec count messages) h (chunk_fits spec count messages armed fit)
 
 -- ---- contents
-
-newer_cases : (x y : Option Message) (m : Message) → newer x y ≡ Some m → (x ≡ Some m) ⊎ (y ≡ Some m)
-newer_cases (Some k) y m e = inl e
-newer_cases None y m e = inr e
 
 short_at : (records : List (List ℕ)) (i : ℕ) (bytes : List ℕ) → list_all (λ r. nat_le (length r) max_bytes) records ≡ true → slice_get records i ≡ Some bytes → nat_le (length bytes) max_bytes ≡ true
 short_at [] i bytes h e = cc

@@ -1,7 +1,7 @@
 -- The late answer of a killed incarnation, and its body.
 use Rattle.std.proofs.Common.{◌≡◌, ℕ, ◌<◌, List, [], ◌∷◌, Bool, true, false, refl, ap, sym, ◌∙◌, subst, Some, None, Option, arith}
 use Rattle.std.specs.Prelude.{not, ◌&&◌, ◌||◌, ◌==◌, if◌then◌else◌, IsSome}
-use Rattle.std.proofs.lemmas.Bool.{eq-eqb}
+use Rattle.std.proofs.lemmas.Bool.{eq-eqb, or_right}
 use Rattle.pipe_types.specs.declared.numbers.StageNo.{StageNo}
 use Rattle.pipe_types.specs.declared.numbers.Post.{Post}
 use Rattle.pipe_types.specs.declared.message.Message.{Message}
@@ -35,7 +35,7 @@ use Rattle.body_laws.specs.Lates.{late_of, late_step}
 use Rattle.body_laws.specs.Ready.{There, IsArmed, IsBodyAt, Ready}
 use Rattle.body_laws.proofs.Posts.{same_post-true, same_post-self, out_has_post, few_slots}
 use Rattle.body_laws.proofs.Rises.{rise_stays}
-use Rattle.body_laws.proofs.Steps.{writers_alone, out_is_present}
+use Rattle.body_laws.proofs.Steps.{writers_alone}
 use Rattle.body_laws.proofs.Staying.{both_map, both_then, keeps_answered, ready_answered}
 use Rattle.body_laws.proofs.Answering.{source_accepts, source_rests, source_ends, sink_wrote, text_is_taken, box_then, box_reset}
 use Rattle.body_laws.proofs.Jobs.{no_fetch, fit_of, fit_at, source_for, for_source, chunk_for, for_chunk, child_for, for_child, batch_for, for_batch, source_there, batch_armed, source_as, sink_as, some_after, sink_same, there_some, armed_after}
@@ -113,7 +113,7 @@ sink_late : (topology : Topology) (before : History) (p : Post) (i : ℕ) (spec 
     → Both (KeepsSink topology (late_step p i (came.Wrote bytes end) ∷ before) p.stage []) a new.sink
 sink_late topology before p i spec messages bytes end old new a (Some b) (Some c) e calm out is armed done k =
     both_then (λ x y z h w. sink_wrote topology before (late_step p i (came.Wrote bytes end) ∷ before) p.stage bytes (text_by b.kind b messages end) end x y z (rw (same_stage-self p.stage) refl) (rw (same_stage-self p.stage) refl)
-    (text_is_taken topology before p.stage end spec messages b e calm (out_is_present (is_live topology before p.stage) (is_out before (post p.stage 0)) out) is armed) h w) a old.sink new.sink k done.1
+    (text_is_taken topology before p.stage end spec messages b e calm (or_right (is_live topology before p.stage) (is_out before (post p.stage 0)) out) is armed) h w) a old.sink new.sink k done.1
 sink_late topology before p i spec messages bytes end old new a (Some b) None e calm out is armed done k = absurd done
 sink_late topology before p i spec messages bytes end old new a None y e calm out is armed done k = absurd armed
 

@@ -57,7 +57,7 @@ pub back_ready : (topology : Topology) (before : History) (p : Post) (body : Bod
     → ((s : ℕ) → after s ≡ (if place_at p == s then Some body else now s)) → Ready topology before now → Ready topology before after
 back_ready topology before p body now after sound out moved ready = ready_back topology before p body now after sound out.slot (out_now topology before p out) moved ready
 
-both_part : (topology : Topology) (before : History) (p : Post) (x : Option BodySeen) (old new : BodySeen) → ((a : BodySeen) → KeepsBody topology before p a old → KeepsPartly topology before p a new) → Both (KeepsBody topology before p) x (Some old) → Both (KeepsPartly topology before p) x (Some new)
+pub both_part : (topology : Topology) (before : History) (p : Post) (x : Option BodySeen) (old new : BodySeen) → ((a : BodySeen) → KeepsBody topology before p a old → KeepsPartly topology before p a new) → Both (KeepsBody topology before p) x (Some old) → Both (KeepsPartly topology before p) x (Some new)
 both_part topology before p (Some a) old new f k = f a k
 both_part topology before p None old new f k = absurd k
 
@@ -111,7 +111,7 @@ names_slot topology before p (work.Child message) o old new is done = absurd don
 first_of_stage : (p q : Post) → p.slot ≡ 0 → same_post q (post p.stage 0) ≡ true → q ≡ p
 first_of_stage p q e h = same_post-true q (post p.stage 0) h ∙ ap (post p.stage) (sym e)
 
-at_end : (b c : Bool) → (not b && c) ≡ true → c ≡ true
+pub at_end : (b c : Bool) → (not b && c) ≡ true → c ≡ true
 at_end true c h = cc
 at_end false c h = h
 

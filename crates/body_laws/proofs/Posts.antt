@@ -1,9 +1,8 @@
 -- Posts that are out, and the places of posts.
 use Rattle.std.proofs.Common.{◌≡◌, ℕ, ◌+◌, ◌*◌, ◌<◌, ◌≤◌, [], ◌∷◌, Bool, true, false, refl, ap, sym, ◌∙◌, subst, Some, None, Option, arith}
-use Rattle.std.specs.Prelude.{not, ◌&&◌, ◌||◌, nat_lt, nat_le, ◌==◌, if◌then◌else◌}
+use Rattle.std.specs.Prelude.{not, ◌&&◌, ◌||◌, ◌==◌, if◌then◌else◌}
 use Rattle.std.proofs.lemmas.Bool.{eqb-true, eq-eqb, ltb-true, lt-ltb}
 use Rattle.pipe_types.specs.declared.numbers.StageNo.{StageNo}
-use Rattle.pipe_types.specs.declared.numbers.MsgNo.{MsgNo}
 use Rattle.pipe_types.specs.declared.numbers.Post.{Post}
 use Rattle.pipe_types.specs.declared.step.Step.{Step}
 use Rattle.pipe_types.specs.declared.step.Step.TheVariants.{Fetch, Take, Child}
@@ -16,11 +15,10 @@ use Rattle.pipe_types.specs.Stages.{spec_of}
 use Rattle.pipe_types.specs.Sound.{IsSound}
 use Rattle.pipe_model.specs.History.{History}
 use Rattle.pipe_model.specs.Posts.{puts_out, answers, is_out, in_slot}
-use Rattle.pipe_model.specs.Lives.{is_live}
-use Rattle.pipe_model.specs.Flow.{inbox, is_number}
-use Rattle.pipe_model.specs.Legal.{is_legal, allows, has_role, is_supervisor_role, is_producer_role, takes_role, runs_number, max_of, first_unit}
+use Rattle.pipe_model.specs.Legal.{is_legal, allows, has_role, is_supervisor_role, is_producer_role, takes_role, runs_number, max_of}
 use Rattle.pipe_laws.proofs.Tests.{clash, and_left, and_right, same_stage-true, same_stage-self}
-use Rattle.pipe_laws.proofs.Allowed.{legal_before, legal_step, unowed, take_facts, fetch_role, child_facts}
+use Rattle.pipe_laws.proofs.Allowed.{legal_before, legal_step, take_facts, fetch_role, child_facts}
+use Rattle.queue_laws.proofs.Children.{new_below}
 use Rattle.stage_laws.proofs.FewSlots.{children}
 use Rattle.stage_laws.proofs.Numbering.{numbered_topology}
 use Rattle.stage_bodies.specs.Posts.{place_at}
@@ -105,19 +103,6 @@ child_post topology s slot h low =
     by_role Processor max is low = let x : false ≡ true = is in cc
     by_role Batcher max is low = let x : false ≡ true = is in cc
     by_role BatchProcessor max is low = let x : false ≡ true = is in cc
-
--- a slot that starts a new message is one of the stage's
-new_below : (topology : Topology) (before : History) (s : StageNo) (m : MsgNo) (slot : ℕ) → allows topology before (Child s m slot) ≡ true → runs_number topology before s (in_slot before s slot) ≡ false → slot < max_of (spec_of topology s)
-new_below topology before s m slot h none =
-    let all = unowed topology before (Child s m slot) (λ t. refl) (λ t. refl) h in
-    let one = and_right (is_live topology before s) _ all in
-    let two = and_right (has_role topology s is_supervisor_role) _ one in
-    let three = and_right (not (is_out before (post s slot))) _ two in
-    by_test (runs_number topology before s (in_slot before s slot)) none three
-  where
-    by_test : (b : Bool) → b ≡ false → (if b then is_number (in_slot before s slot) m.0 else nat_le 1 m.0 && (nat_lt slot (max_of (spec_of topology s)) && m.0 == first_unit (inbox topology before s))) ≡ true → slot < max_of (spec_of topology s)
-    by_test true e k = cc
-    by_test false e k = ltb-true slot (max_of (spec_of topology s)) (and_left (nat_lt slot (max_of (spec_of topology s))) _ (and_right (nat_le 1 m.0) _ k))
 
 -- a slot in which a message was started is one of the stage's
 slot_below : (topology : Topology) (before : History) (s : StageNo) (slot n : ℕ) → is_legal topology before ≡ true → in_slot before s slot ≡ Some n → slot < max_of (spec_of topology s)

@@ -1,7 +1,7 @@
 -- What a step leaves as it was at a post that it does not answer.
 use Rattle.std.proofs.Common.{◌≡◌, ℕ, ◌≤◌, List, ◌∷◌, Bool, true, false, refl, ap, sym, ◌∙◌, subst, arith}
 use Rattle.std.specs.Prelude.{not, ◌&&◌, ◌||◌, ◌==◌, if◌then◌else◌}
-use Rattle.std.proofs.lemmas.Bool.{eqb-true, eq-eqb}
+use Rattle.std.proofs.lemmas.Bool.{eqb-true, eq-eqb, or_left, or_right}
 use Rattle.pipe_types.specs.declared.numbers.StageNo.{StageNo}
 use Rattle.pipe_types.specs.declared.numbers.Post.{Post}
 use Rattle.pipe_types.specs.declared.step.SourceHow.{SourceHow}
@@ -22,7 +22,8 @@ use Rattle.pipe_model.specs.Work.{count}
 use Rattle.pipe_model.specs.Legal.{is_legal, allows, late_fits, has_ended, same_truth, is_limit, has_role, is_producer_role, is_processor_role, is_batch_processor_role, is_supervisor_role, is_current}
 use Rattle.pipe_laws.proofs.Tests.{clash, and_left, and_right, both, same_stage-true, same_stage-self, same_stage-flip}
 use Rattle.pipe_laws.proofs.Allowed.{legal_before, legal_step, unowed, take_facts, child_facts, done_facts, wrote_facts, late_facts}
-use Rattle.pipe_laws.proofs.Busy.{was_live, two_roles}
+use Rattle.pipe_laws.proofs.Busy.{was_live, two_roles, producer_supervises}
+use Rattle.pipe_laws.proofs.Idle.{processor_supervisor}
 use Rattle.run_claims.specs.Read.{quiets}
 use Rattle.body_laws.specs.Counts.{brought, short_writes, calls_of, bad_of}
 use Rattle.body_laws.specs.Keeps.{has_post}
@@ -121,16 +122,8 @@ put_live topology before (Child t m k) s slot h e =
     ap (is_live topology before) (ap (λ (p : Post). p.stage) (same_post-true (post s slot) (post t k) e)) ∙ (child_facts topology before t m k h).live
 put_live topology before step s slot h e = cc
 
-live_is_present : (a b : Bool) → a ≡ true → (a || b) ≡ true
-live_is_present true b h = refl
-live_is_present false b h = cc
-
-pub out_is_present : (a b : Bool) → b ≡ true → (a || b) ≡ true
-out_is_present true b h = refl
-out_is_present false b h = h
-
 pub is_present : (topology : Topology) (before : History) (s : StageNo) → is_live topology before s ≡ true → (is_live topology before s || is_out before (post s 0)) ≡ true
-is_present topology before s h = live_is_present (is_live topology before s) (is_out before (post s 0)) h
+is_present topology before s h = or_left (is_live topology before s) (is_out before (post s 0)) h
 
 -- a stage that is live or out was so before a step that does not restart it
 present_stays : (topology : Topology) (before : History) (step : Step) (s : StageNo) → allows topology before step ≡ true → restarts step s ≡ false
@@ -139,7 +132,7 @@ present_stays topology before step s h r now = by_live (is_live topology (step �
   where
     by_put : (b : Bool) → puts_out step (post s 0) ≡ b → (b || (not (answers step (post s 0)) && is_out before (post s 0))) ≡ true → (is_live topology before s || is_out before (post s 0)) ≡ true
     by_put true e now = is_present topology before s (put_live topology before step s 0 h e)
-    by_put false e now = out_is_present (is_live topology before s) (is_out before (post s 0)) (and_right (not (answers step (post s 0))) _ now)
+    by_put false e now = or_right (is_live topology before s) (is_out before (post s 0)) (and_right (not (answers step (post s 0))) _ now)
 
     by_live : (b : Bool) → is_live topology (step ∷ before) s ≡ b → (b || is_out (step ∷ before) (post s 0)) ≡ true → (is_live topology before s || is_out before (post s 0)) ≡ true
     by_live true e now = is_present topology before s (was_live topology before step s r e)
@@ -161,20 +154,6 @@ stays_untold topology before step p h e a = record {
 
 -- ---- a step that answers another post tells nothing of this one
 
-producer_child : (role : Role) → is_producer_role role ≡ true → is_supervisor_role role ≡ true → ⊥
-producer_child Producer h k = let x : false ≡ true = k in cc
-producer_child Processor h k = let x : false ≡ true = k in cc
-producer_child Supervisor h k = let x : false ≡ true = h in cc
-producer_child Batcher h k = let x : false ≡ true = k in cc
-producer_child BatchProcessor h k = let x : false ≡ true = k in cc
-
-processor_child : (role : Role) → is_processor_role role ≡ true → is_supervisor_role role ≡ true → ⊥
-processor_child Producer h k = let x : false ≡ true = k in cc
-processor_child Processor h k = let x : false ≡ true = k in cc
-processor_child Supervisor h k = let x : false ≡ true = h in cc
-processor_child Batcher h k = let x : false ≡ true = k in cc
-processor_child BatchProcessor h k = let x : false ≡ true = k in cc
-
 writer_child : (role : Role) → is_batch_processor_role role ≡ true → is_supervisor_role role ≡ true → ⊥
 writer_child Producer h k = let x : false ≡ true = k in cc
 writer_child Processor h k = let x : false ≡ true = k in cc
@@ -190,10 +169,10 @@ no_supervisor topology s one apart h = either (has_role topology s is_supervisor
     either false e = e
 
 pub producers_alone : (topology : Topology) (s : StageNo) → has_role topology s is_producer_role ≡ true → has_role topology s is_supervisor_role ≡ false
-producers_alone topology s h = no_supervisor topology s is_producer_role producer_child h
+producers_alone topology s h = no_supervisor topology s is_producer_role producer_supervises h
 
 pub processors_alone : (topology : Topology) (s : StageNo) → has_role topology s is_processor_role ≡ true → has_role topology s is_supervisor_role ≡ false
-processors_alone topology s h = no_supervisor topology s is_processor_role processor_child h
+processors_alone topology s h = no_supervisor topology s is_processor_role processor_supervisor h
 
 pub writers_alone : (topology : Topology) (s : StageNo) → has_role topology s is_batch_processor_role ≡ true → has_role topology s is_supervisor_role ≡ false
 writers_alone topology s h = no_supervisor topology s is_batch_processor_role writer_child h

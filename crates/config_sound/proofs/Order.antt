@@ -1,6 +1,6 @@
 -- The stages that settings give stand in their order.
-use Rattle.std.proofs.Common.{◌≡◌, ℕ, zero, suc, ◌+◌, ◌≤◌, Bool, true, false, ◌&&◌, ◌||◌, ◌==◌, ◌-◌, nat_le, List, [], ◌∷◌, ◌++◌, length, map, Option, Some, None, refl, ap, sym, subst, arith}
-use Rattle.std.proofs.lemmas.Bool.{eq-eqb, and_parts, leb-true}
+use Rattle.std.proofs.Common.{◌≡◌, ℕ, zero, suc, ◌+◌, ◌≤◌, Bool, true, false, ◌&&◌, ◌==◌, ◌-◌, nat_le, List, [], ◌∷◌, ◌++◌, length, map, Option, Some, None, refl, ap, sym, subst, arith}
+use Rattle.std.proofs.lemmas.Bool.{eq-eqb, and_parts, leb-true, or_right}
 use Rattle.std.specs.List.{list_all}
 use Rattle.pipe_types.specs.declared.topology.StageSpec.{StageSpec}
 use Rattle.pipe_types.specs.declared.topology.Role.{Role}
@@ -28,10 +28,6 @@ processor_follows known p before i = both (eq-eqb (before + (i + 1) + 1) (before
 
 member_follows : (k : ℕ) (b : BatcherSettings) (before i : ℕ) → may_follow (batch_processor_stage k b before i) (batch_processor_stage k b before (i + 1)) ≡ true
 member_follows k b before i = both (eq-eqb (before + (i + 1) + 1) (before + i + 1 + 1) (omega arith)) (rw (eq-eqb k k refl, eq-eqb (i + 1) (i + 1) refl) refl)
-
-or_right : (x y : Bool) → y ≡ true → (x || y) ≡ true
-or_right true y h = refl
-or_right false y h = h
 
 -- a group of at least one place begins
 enter : (n : ℕ) (last : StageSpec) (f : ℕ → StageSpec) (m c : ℕ) (rest : List StageSpec) → m ≡ suc c → may_follow last (f 0) ≡ true → may_go_on n (f 0) (map f (places (0 + 1) c) ++ rest) ≡ true

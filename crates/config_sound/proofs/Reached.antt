@@ -1,6 +1,7 @@
 -- Every batcher is reached.
 use Rattle.std.proofs.Common.{◌≡◌, ℕ, suc, ◌+◌, Bool, true, false, not, ◌&&◌, ◌||◌, ◌==◌, cond, List, [], ◌∷◌, map, Some, refl, sym, ◌∙◌, subst}
 use Rattle.std.specs.List.{list_all, list_any}
+use Rattle.std.proofs.lemmas.Bool.{or_left, or_right}
 use Rattle.pipe_types.specs.declared.topology.StageSpec.{StageSpec}
 use Rattle.pipe_types.specs.Sound.{is_reached, may_send_to, names_batcher, is_steps, processors}
 use Rattle.config_rule.specs.RuleText.{rule_of}
@@ -12,14 +13,6 @@ use Rattle.config_sound.proofs.Named.{both}
 use Rattle.config_sound.proofs.Distinct.{no_fault}
 use Rattle.config_sound.proofs.Rules.{routes_lead}
 
-or_left : (a b : Bool) → a ≡ true → (a || b) ≡ true
-or_left true b h = refl
-or_left false b h = cc
-
-or_next : (a b : Bool) → b ≡ true → (a || b) ≡ true
-or_next true b h = refl
-or_next false b h = h
-
 -- a group of processors that may send to a batcher
 pub group_sends : (k : ℕ) (known : List (List ℕ)) (q : ProcessorSettings) (first m c : ℕ) → m ≡ suc c → may_send_to k (processor_stage known q first 0) ≡ true → list_any (may_send_to k) (map (processor_stage known q first) (places 0 m)) ≡ true
 group_sends k known q first m c size h =
@@ -29,7 +22,7 @@ group_sends k known q first m c size h =
 -- processors of another kind may send anywhere
 pub any_reached : (all : List StageSpec) (second i : ℕ) (bs : List BatcherSettings) → ((k : ℕ) → list_any (may_send_to k) (processors all) ≡ true) → list_all (is_reached all) (batcher_stages second i bs) ≡ true
 any_reached all second i [] h = refl
-any_reached all second i (b ∷ bs) h = both (or_next (i == 0) (list_any (may_send_to i) (processors all)) (h i)) (any_reached all second (i + 1) bs h)
+any_reached all second i (b ∷ bs) h = both (or_right (i == 0) (list_any (may_send_to i) (processors all)) (h i)) (any_reached all second (i + 1) bs h)
 
 -- a batcher that is not left out is the first or has a route
 not_out : (z l : Bool) → (not z && not l) ≡ false → (z || l) ≡ true
@@ -50,7 +43,7 @@ routes_reach all known steps second i (b ∷ bs) h sends =
     (routes_reach all known steps second (i + 1) bs more sends)
 
 sends_by_route : (k : ℕ) (known : List (List ℕ)) (q : ProcessorSettings) (first : ℕ) → list_any (λ text. leads_to k (rule_of known text)) q.handler.steps ≡ true → may_send_to k (processor_stage known q first 0) ≡ true
-sends_by_route k known q first h = or_next (not (is_steps q.handler.kind)) (list_any (names_batcher k) (rules_of known q.handler.steps)) (routes_lead k known q.handler.steps ∙ h)
+sends_by_route k known q first h = or_right (not (is_steps q.handler.kind)) (list_any (names_batcher k) (rules_of known q.handler.steps)) (routes_lead k known q.handler.steps ∙ h)
 
 by_kind : (all : List StageSpec) (known : List (List ℕ)) (q : ProcessorSettings) (first second m c : ℕ) (bs : List BatcherSettings) (b : Bool) → is_steps q.handler.kind ≡ b → m ≡ suc c → processors all ≡ map (processor_stage known q first) (places 0 m)
     → cond b (left_out known q.handler.steps 0 bs) [] ≡ [] → list_all (is_reached all) (batcher_stages second 0 bs) ≡ true

@@ -18,12 +18,13 @@ use Rattle.pipe_edges.specs.declared.reading.LineEnd.{LineEnd}
 use Rattle.pipe_edges.specs.declared.reading.LineEnd.TheVariants as end
 use Rattle.run_claims.specs.Read.{HasNoControl}
 use Rattle.stage_job.specs.Chunks.{RoseBy}
-use Rattle.stage_bodies.specs.Seen.{SourceSeen, LineSeen}
+use Rattle.stage_bodies.specs.Seen.{LineSeen}
 use Rattle.stage_bodies.specs.Reads.{AreReadFrom}
 use Rattle.stage_bodies.specs.Jobs.{ReadsOn, Fetches, IsFetched}
 use Rattle.stage_bodies.specs.declared.job.Outcome.{Outcome}
 use Rattle.stage_bodies.specs.declared.job.Outcome.TheVariants as came
 use Rattle.body_laws.proofs.Rises.{rise_one, rise_stays}
+use Rattle.body_laws.proofs.Answering.{waits_stay}
 use Rattle.control_lines.specs.Steps.{begins, jobs_begun}
 use Rattle.control_lines.specs.Orders.{with_reading, IsReading}
 use Rattle.control_lines.specs.Keeping.{vain_tries_for, IsKnownControlEnd, KeepsLines, KeepsLinesPartly, KeepsControl, KeepsControlPartly, IsFresh}
@@ -153,21 +154,6 @@ unended (step ∷ before) e =
 no_some : {A : Type 0} (o : Option SourceHow) → o ≡ None → IsSome o → A
 no_some None none some = let x : false ≡ true = some in cc
 no_some (Some h) none some = cc
-
--- the waits of a source never fall
-waits_stay : (opened : SourceSeen) (earlier records : List (List ℕ)) (old new : LineSeen) → AreReadFrom opened old earlier → ReadsOn records old new → old.source.waits ≤ new.source.waits
-waits_stay opened earlier records old new read on =
-    (on (record opened { waits = old.source.waits }) earlier (record {
-      same_telling = read.same_telling;
-      each_is_a_line = read.each_is_a_line;
-      same_bytes = read.same_bytes;
-      to_come = read.to_come;
-      at_end = read.at_end;
-      at_long = read.at_long;
-      at_fault = read.at_fault;
-      faults_stay = read.faults_stay;
-      waits_stay = omega arith;
-    })).waits_stay
 
 -- nothing is read
 unread_on : (old : LineSeen) → ReadsOn [] old old

@@ -51,7 +51,7 @@ not_end_by line_end e is other at_end = other (same_end e (sym is ∙ at_end))
 -- ---- lines
 
 -- the records are the first of the lines of all the bytes
-first_lines : (line_end : Option LineEnd) (opened : SourceSeen) (now : LineSeen) (records : List (List ℕ)) → now.end ≡ line_end → AreReadFrom opened now records → IsTrue opened.told → AreFirstLines opened.left records
+pub first_lines : (line_end : Option LineEnd) (opened : SourceSeen) (now : LineSeen) (records : List (List ℕ)) → now.end ≡ line_end → AreReadFrom opened now records → IsTrue opened.told → AreFirstLines opened.left records
 first_lines None opened now records is r t = record {
   others = lines (now.waiting ++ now.source.left);
   parts = ap lines (r.to_come t (not_end now.end is)) ∙ lines_ended records (now.waiting ++ now.source.left) r.each_is_a_line;
@@ -75,7 +75,7 @@ long_append w rest b = record {
   unbroken = rw (take-append-le (max_bytes + 1) w rest (omega (arith, b.long))) b.unbroken;
 }
 
-before_long : (opened : SourceSeen) (now : LineSeen) (records : List (List ℕ)) → now.end ≡ Some end.TooLong → AreReadFrom opened now records → IsTrue opened.told → AreLinesBeforeLong opened.left records
+pub before_long : (opened : SourceSeen) (now : LineSeen) (records : List (List ℕ)) → now.end ≡ Some end.TooLong → AreReadFrom opened now records → IsTrue opened.told → AreLinesBeforeLong opened.left records
 before_long opened now records is r t =
     let come = r.to_come t (not_end_by now.end end.TooLong is (λ e. cc)) in record {
       all = sym (

@@ -1,10 +1,9 @@
 -- The fields after an accept.
-use Rattle.std.proofs.Common.{◌≡◌, ◌≢◌, ℕ, suc, ◌+◌, ◌<◌, ◌≤◌, List, ◌∷◌, ◌++◌, map, length, replicate, set, Bool, true, false, refl, ap, sym, ◌∙◌, Some, arith, inl, inr}
-use Rattle.std.specs.Prelude.{slice_get, option_map, if◌then◌else◌, ◌==◌, ◌&&◌, ◌⊎◌, not}
+use Rattle.std.proofs.Common.{◌≡◌, ◌≢◌, ℕ, suc, ◌+◌, ◌≤◌, List, ◌∷◌, ◌++◌, map, length, replicate, set, true, false, ap, sym, ◌∙◌, Some, arith, inl, inr}
+use Rattle.std.specs.Prelude.{slice_get, option_map, if◌then◌else◌, ◌==◌, ◌⊎◌}
 use Rattle.std.specs.declared.alloc.Global.{Global}
 use Rattle.std.specs.declared.vec.Vec.{Vec}
 use Rattle.std.specs.declared.collections.VecDeque.{VecDeque}
-use Rattle.std.proofs.lemmas.Bool.Decides.{nat_tests}
 use Rattle.std.proofs.lemmas.List.{length-set, length-append, length-replicate, map-append}
 use Rattle.pipe_types.specs.declared.numbers.StageNo.{StageNo}
 use Rattle.pipe_types.specs.declared.topology.Topology.{Topology}
@@ -13,7 +12,6 @@ use Rattle.pipe_types.specs.declared.topology.Role.TheVariants.{Producer}
 use Rattle.pipe_types.specs.declared.message.Place.{Place}
 use Rattle.pipe_types.specs.declared.message.Place.TheVariants.{Waiting}
 use Rattle.pipe_types.specs.declared.step.Step.TheVariants.{Accept}
-use Rattle.pipe_types.specs.Numbers.{same_post, post}
 use Rattle.pipe_types.specs.Sound.{IsSound}
 use Rattle.pipe_types.specs.Stages.{spec_of}
 use Rattle.pipe_model.specs.History.{History, accepted, bytes_in}
@@ -33,22 +31,8 @@ use Rattle.core_laws.specs.Laws.{AcceptLaws}
 use Rattle.core_laws.proofs.Accepting.{parts_old, parts_new, opens_kept, unsettled}
 use Rattle.core_state.specs.declared.state.Core.{Core}
 use Rattle.core_state.specs.Stands.{Fields}
+use Rattle.core_calls.proofs.Ending.{post_home}
 use Rattle.core_accepts.proofs.Rows.{behind, placed_new, marked_new, contents_new, contents_count}
-
-post_same : (s t slot : ℕ) → slot < 16 → (post_at s 0 == post_at t slot) ≡ (t == s && slot == 0)
-post_same s t slot low = grind (arith, nat_tests)
-
--- one stage's job came home
-post_home : (posts : List PostRow) (s t : StageNo) (slot : ℕ) (row : PostRow) → slot < 16 → slice_get posts (post_at t.0 slot) ≡ Some row
-    → (if post_at s.0 0 == post_at t.0 slot then option_map home (slice_get posts (post_at t.0 slot)) else slice_get posts (post_at t.0 slot))
-    ≡ Some (record { out = not (same_post (post t slot) (post s 0)) && row.out; from = row.from })
-post_home posts s t slot row low at =
-    ap (λ b. if b then option_map home (slice_get posts (post_at t.0 slot)) else slice_get posts (post_at t.0 slot)) (post_same s.0 t.0 slot low)
-    ∙ (ap (λ o. if t.0 == s.0 && slot == 0 then option_map home o else o) at ∙ by (t.0 == s.0 && slot == 0))
-  where
-    by : (b : Bool) → (if b then option_map home (Some row) else Some row) ≡ Some (record { out = not b && row.out; from = row.from })
-    by true = refl
-    by false = refl
 
 -- the records wait behind what waited in their producer
 pub parts_accepted : (topology : Topology) (before : History) (s : StageNo) (spec : StageSpec) (records : List (List ℕ)) → IsSound topology → is_legal topology before ≡ true → AcceptLaws topology before s records

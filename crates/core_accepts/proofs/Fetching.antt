@@ -1,9 +1,8 @@
 -- The fields after a fetch.
-use Rattle.std.proofs.Common.{◌≡◌, ℕ, ◌<◌, ◌≤◌, List, ◌∷◌, length, Bool, true, false, refl, ap, sym, ◌∙◌, Some, arith}
+use Rattle.std.proofs.Common.{◌≡◌, ℕ, ◌<◌, ◌≤◌, List, ◌∷◌, length, Bool, true, false, refl, ap, sym, ◌∙◌, Some}
 use Rattle.std.specs.Prelude.{slice_get, option_map, if◌then◌else◌, ◌==◌, ◌&&◌, ◌||◌}
 use Rattle.std.specs.declared.alloc.Global.{Global}
 use Rattle.std.specs.declared.vec.Vec.{Vec}
-use Rattle.std.proofs.lemmas.Bool.Decides.{nat_tests}
 use Rattle.pipe_types.specs.declared.numbers.StageNo.{StageNo}
 use Rattle.pipe_types.specs.declared.topology.Topology.{Topology}
 use Rattle.pipe_types.specs.declared.step.Step.TheVariants.{Fetch}
@@ -21,23 +20,10 @@ use Rattle.core_tables.specs.declared.rows.PostRow.{PostRow}
 use Rattle.core_tables.specs.Rows.{post_at, fetched}
 use Rattle.core_laws.specs.Columns.{stage_row, post_row, last_fetch}
 use Rattle.core_laws.proofs.Past.{known_within, live_known}
+use Rattle.core_laws.proofs.Came.{flip}
 use Rattle.core_state.specs.declared.state.Core.{Core}
 use Rattle.core_state.specs.Stands.{Fields}
-
-flip : (a b : ℕ) → (a == b) ≡ (b == a)
-flip a b = grind (arith, nat_tests)
-
--- one stage's row was changed
-row_changed : (f : StageRow → StageRow) (rows : List StageRow) (s t : StageNo) (row : StageRow) → slice_get rows t.0 ≡ Some row
-    → (if s.0 == t.0 then option_map f (slice_get rows t.0) else slice_get rows t.0) ≡ Some (if s.0 == t.0 then f row else row)
-row_changed f rows s t row at = ap (λ o. if s.0 == t.0 then option_map f o else o) at ∙ by (s.0 == t.0)
-  where
-    by : (b : Bool) → (if b then option_map f (Some row) else Some row) ≡ Some (if b then f row else row)
-    by true = refl
-    by false = refl
-
-post_same : (s t slot : ℕ) → slot < 16 → (post_at s 0 == post_at t slot) ≡ (t == s && slot == 0)
-post_same s t slot low = grind (arith, nat_tests)
+use Rattle.core_calls.proofs.Ending.{row_changed, post_same}
 
 -- one stage's job was put out
 post_out : (posts : List PostRow) (s t : StageNo) (slot from : ℕ) (row : PostRow) → slot < 16 → slice_get posts (post_at t.0 slot) ≡ Some row

@@ -25,7 +25,7 @@ use Rattle.pipe_laws.proofs.Tests.{and_left, and_right}
 use Rattle.pipe_laws.proofs.Lists.{Each, each_filter, each_weaker, each_always}
 use Rattle.pipe_laws.proofs.Accepted.{placed_content}
 use Rattle.pipe_laws.proofs.Kept.{runs_here}
-use Rattle.pipe_laws.proofs.Replies.{messages_length}
+use Rattle.pipe_laws.proofs.Replies.{messages_length, crash_stays}
 use Rattle.queue_laws.proofs.Laws.{chunk_law}
 use Rattle.core_allows.specs.Tested.{answers_each, may_be_done}
 use Rattle.core_allows.proofs.Held.{weaker_last}
@@ -80,12 +80,6 @@ same_crash Crashed (Pass n) h = cc
 same_crash Crashed (Failed other) h = cc
 same_crash Crashed (Raised other) h = cc
 
-reason_crash : (failed : Option (List ℕ)) (r : Reply) → is_crashed (with_reason failed r) ≡ is_crashed r
-reason_crash failed (Pass m) = refl
-reason_crash failed (Failed why) = refl
-reason_crash failed (Raised why) = refl
-reason_crash failed Crashed = refl
-
 -- of an own handler
 own_each : (batchers : ℕ) (messages : List Message) (numbers : List ℕ) (replies : List Reply) → length messages ≡ length numbers → are_own_replies batchers messages replies ≡ true → answers_each numbers replies ≡ true
 own_each batchers [] [] [] e h = refl
@@ -121,10 +115,10 @@ chunk_each spec seen (m ∷ messages) (n ∷ numbers) replies e h =
     by true is [] h rest = cc
     by false is [] h rest = cc
     by true is (r ∷ others) h rest =
-        let crash : is_crashed r ≡ true = same_crash r (with_reason spec.failed (eval spec seen m)) (and_left (same_reply r (with_reason spec.failed (eval spec seen m))) _ h) ∙ (reason_crash spec.failed (eval spec seen m) ∙ is) in
+        let crash : is_crashed r ≡ true = same_crash r (with_reason spec.failed (eval spec seen m)) (and_left (same_reply r (with_reason spec.failed (eval spec seen m))) _ h) ∙ (crash_stays spec.failed (eval spec seen m) ∙ is) in
         ap (λ c. if c then length others == 0 else answers_each numbers others) crash ∙ none others (and_right (same_reply r (with_reason spec.failed (eval spec seen m))) _ h)
     by false is (r ∷ others) h rest =
-        let crash : is_crashed r ≡ false = same_crash r (with_reason spec.failed (eval spec seen m)) (and_left (same_reply r (with_reason spec.failed (eval spec seen m))) _ h) ∙ (reason_crash spec.failed (eval spec seen m) ∙ is) in
+        let crash : is_crashed r ≡ false = same_crash r (with_reason spec.failed (eval spec seen m)) (and_left (same_reply r (with_reason spec.failed (eval spec seen m))) _ h) ∙ (crash_stays spec.failed (eval spec seen m) ∙ is) in
         ap (λ c. if c then length others == 0 else answers_each numbers others) crash ∙ rest others (and_right (same_reply r (with_reason spec.failed (eval spec seen m))) _ h)
 
 handled_each : (spec : Option StageSpec) (seen : ℕ) (messages : List Message) (numbers : List ℕ) (replies : List Reply) → length messages ≡ length numbers → are_handled spec seen messages replies ≡ true → answers_each numbers replies ≡ true

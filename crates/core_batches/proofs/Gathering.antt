@@ -32,8 +32,7 @@ use Rattle.pipe_laws.proofs.Accepted.{placed_accepted}
 use Rattle.pipe_laws.proofs.Entries.{EntryFits, entries_fit}
 use Rattle.pipe_laws.proofs.Idle.{fed_by_messages}
 use Rattle.pipe_laws.proofs.Busy.{inbox_here}
-use Rattle.pipe_laws.proofs.Handled.{handled_within}
-use Rattle.queue_laws.proofs.Inbox.{batcher_writes}
+use Rattle.pipe_laws.proofs.Handled.{handled_within, batcher_writes}
 use Rattle.queue_laws.proofs.Laws.{waiting_law, inbox_law, gathered_law, open_law}
 use Rattle.stage_laws.proofs.Laws.{running_law}
 use Rattle.stage_subs.specs.Pairs.{PairRow}

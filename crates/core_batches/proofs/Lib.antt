@@ -7,5 +7,5 @@ pub mod Removing
 pub mod Closing
 mod Outcomes
 pub mod Writing
-mod Settling
+pub mod Settling
 mod Written

@@ -29,7 +29,7 @@ use Rattle.pipe_types.specs.declared.message.Place.TheVariants.{InBatch}
 use Rattle.message_ack.specs.Ends.{ends_of, end_of}
 use Rattle.message_ack.specs.declared.legs.LegEnd.TheVariants.{Answered as AnsweredEnd}
 use Rattle.pipe_model.specs.Legal.{is_legal, allows, owed, has_role, is_producer_role, is_supervisor_role, is_batch_processor_role}
-use Rattle.pipe_model.specs.Standing.{works, leg_works, leg_works_in, works_at, is_at_work, has_entry}
+use Rattle.pipe_model.specs.Standing.{works, leg_works, leg_works_in, works_at, is_at_work}
 use Rattle.pipe_model.specs.Taken.{closed_as}
 use Rattle.pipe_laws.proofs.Tests.{clash, and_left, and_right, same_stage-true, same_stage-self, same_sub-true, same_sub-self}
 use Rattle.pipe_laws.proofs.Lists.{Each, each_weaker, each_both, each_map, weigh}
@@ -41,7 +41,7 @@ use Rattle.pipe_laws.proofs.Levels.{rank, feeds_down}
 use Rattle.pipe_laws.proofs.Busy.{Busy, busy, work_weight, two_roles}
 use Rattle.queue_laws.proofs.Apart.{Apart, apart_kept, apart_mapped}
 use Rattle.queue_laws.proofs.AtWork.{last_one, calm_batch}
-use Rattle.queue_laws.proofs.BatchWork.{WorksTaken, batch_work, writer_rank}
+use Rattle.queue_laws.proofs.BatchWork.{WorksTaken, batch_work, writer_rank, writes_produces}
 use Rattle.queue_laws.proofs.Batched.{BatchHolds, batch_holds, BatchListed, PlaceListed, LegListed, batch_listed}
 use Rattle.queue_laws.proofs.Counts.{TookBy, took}
 use Rattle.queue_laws.proofs.Distinct.{itself}
@@ -50,6 +50,7 @@ use Rattle.queue_laws.proofs.OneLeg.{leg_to, BatchOnce, legs_once}
 use Rattle.queue_laws.proofs.Roles.{rank_batcher}
 use Rattle.queue_laws.proofs.Singles.{none_of}
 use Rattle.queue_laws.proofs.Sounds.{fits}
+use Rattle.queue_laws.proofs.Writes.{of_entry}
 use Rattle.stage_laws.proofs.Bounds.{few_numbers}
 use Rattle.stage_laws.proofs.Numbering.{numbered_topology}
 use Rattle.core_laws.specs.Columns.{closed_numbers, sent_on, ends_in_progress}
@@ -69,13 +70,6 @@ some_weight {A = A} P f (x ∷ xs) h e = by (f x) refl (λ more. some_weight P f
     by : (n : ℕ) → f x ≡ n → (1 ≤ weigh f xs → (y : A) × P y × (1 ≤ f y)) → (y : A) × P y × (1 ≤ f y)
     by zero e0 rest = rest (omega (arith, e, e0))
     by (suc n) e0 rest = (x, h.0, omega (arith, e0))
-
-writer_produces : (role : Role) → is_batch_processor_role role ≡ true → is_producer_role role ≡ true → ⊥
-writer_produces Producer h k = let x : false ≡ true = h in cc
-writer_produces Processor h k = let x : false ≡ true = h in cc
-writer_produces Supervisor h k = let x : false ≡ true = h in cc
-writer_produces Batcher h k = let x : false ≡ true = h in cc
-writer_produces BatchProcessor h k = let x : false ≡ true = k in cc
 
 writer_supervises : (role : Role) → is_batch_processor_role role ≡ true → is_supervisor_role role ≡ true → ⊥
 writer_supervises Producer h k = let x : false ≡ true = h in cc
@@ -98,7 +92,7 @@ took_some topology (Fetch t n ∷ before) s h role out =
   where
     by : (b : Bool) → same_stage s t ≡ b → ((b && true) || is_out before (post s 0)) ≡ true → (is_out before (post s 0) ≡ true → is_some (last_take before s) ≡ true) → is_some (last_take before s) ≡ true
     by true e out rest =
-        absurd (two_roles topology s is_batch_processor_role is_producer_role writer_produces role
+        absurd (two_roles topology s is_batch_processor_role is_producer_role writes_produces role
         (subst (λ x. has_role topology x is_producer_role ≡ true) (sym (same_stage-true s t e)) (fetch_role topology before t n (legal_step topology before (Fetch t n) h))))
     by false e out rest = rest out
 took_some topology (Child t m k ∷ before) s h role out =
@@ -201,7 +195,7 @@ killed_on subs set i (Sent legs) h = subs_kept (λ u. leg_lost (reason_in set u.
 killed_on subs set i (Dropped l) h = tt
 
 -- a stage sends only batches that wait in it
-sent_waits : (topology : Topology) (before : History) (s : StageNo) (b : ℕ) → is_batcher (spec_of topology s) ≡ true → batch_waits_in s (batch topology before b) ≡ false → subs_of (deliveries topology before s) b ≡ []
+pub sent_waits : (topology : Topology) (before : History) (s : StageNo) (b : ℕ) → is_batcher (spec_of topology s) ≡ true → batch_waits_in s (batch topology before b) ≡ false → subs_of (deliveries topology before s) b ≡ []
 sent_waits topology before s b batcher none =
     none_of (deliveries topology before s) b
     (each_weaker (λ (d : SentUnit). IsOn topology before s d.sub × (is_waiting topology before s d.unit ≡ true)) (λ (d : SentUnit). (d.unit == b) ≡ false)
@@ -291,7 +285,7 @@ legs_are_on topology (step ∷ before) b h = legs_are_on topology before b (lega
 
 -- The numbers of a batch
 
-numbers_once : (topology : Topology) (before : History) (b : ℕ) → is_legal topology before ≡ true → Apart itself (closed_numbers (closed_as topology before b))
+pub numbers_once : (topology : Topology) (before : History) (b : ℕ) → is_legal topology before ≡ true → Apart itself (closed_numbers (closed_as topology before b))
 numbers_once topology [] b h = tt
 numbers_once topology (Close s first trigger ∷ before) b h = by (b == closed before + 1) (numbers_once topology before b (legal_before topology before (Close s first trigger) h))
   where
@@ -342,18 +336,6 @@ single (x ∷ []) n few h = by (x == n) refl h
     by true e h = ap (λ k. k ∷ []) (eqb-true x n e)
     by false e h = let wrong : false ≡ true = h in cc
 single (x ∷ y ∷ xs) n few h = absurd (omega arith)
-
-of_entry : (P : SubNo × ℕ → Type 0) (u : SubNo) (n : ℕ) (xs : List (SubNo × ℕ)) → Each P xs → has_entry u n xs ≡ true → P (u, n)
-of_entry P u n [] each h = cc
-of_entry P u n (d ∷ xs) each h = either (same_sub d.0 u) refl (d.1 == n) refl h (of_entry P u n xs each.1)
-  where
-    either : (a : Bool) → same_sub d.0 u ≡ a → (b : Bool) → (d.1 == n) ≡ b → ((a && b) || has_entry u n xs) ≡ true → (has_entry u n xs ≡ true → P (u, n)) → P (u, n)
-    either true ea true eb k rest =
-        let sub : d.0 ≡ u = same_sub-true d.0 u ea in
-        let no : d.1 ≡ n = eqb-true d.1 n eb in
-        subst (λ (x : SubNo × ℕ). P x) (λ i. (sub i, no i)) each.0
-    either true ea false eb k rest = rest k
-    either false ea b eb k rest = rest k
 
 fed_known : (x y : Option StageSpec) → option_feeds x y ≡ true → is_some y ≡ true
 fed_known (Some x) (Some y) h = refl

@@ -76,7 +76,7 @@ fn end_all(
 }
 
 /// Notes how each message of the batch ended.
-fn settle_all(places: &mut Vec<Place>, numbers: &[u32], settled: &Settled)
+pub fn settle_all(places: &mut Vec<Place>, numbers: &[u32], settled: &Settled)
     requires within { All (λ n. (1 ≤ n) × (n ≤ length places.old.items)) numbers.now }
     requires apart { AllPairs (λ a b. a ≢ b) numbers.now }
     ensures len { length places.new.items ≡ length places.old.items }
@@ -110,7 +110,7 @@ fn outcome_at(outcomes: &OutcomeList, at: usize) -> Outcome
 }
 
 /// Notes the step that settled each message of the batch.
-fn mark_all(marks: &mut Vec<u64>, numbers: &[u32], mark: u64)
+pub fn mark_all(marks: &mut Vec<u64>, numbers: &[u32], mark: u64)
     requires within { All (λ n. (1 ≤ n) × (n ≤ length marks.old.items)) numbers.now }
     ensures len { length marks.new.items ≡ length marks.old.items }
     ensures marked { (i : ℕ) → slice_get marks.new.items i ≡ option_map (marked numbers.now mark (suc i)) (slice_get marks.old.items i) }

@@ -8,7 +8,6 @@ use Rattle.pipe_types.specs.declared.numbers.MsgNo.{MsgNo}
 use Rattle.pipe_types.specs.declared.topology.Topology.{Topology}
 use Rattle.pipe_types.specs.declared.topology.StageSpec.{StageSpec}
 use Rattle.pipe_types.specs.declared.topology.Role.{Role}
-use Rattle.pipe_types.specs.declared.topology.Role.TheVariants.{Producer, Processor, Supervisor, Batcher, BatchProcessor}
 use Rattle.pipe_types.specs.declared.step.SourceHow.TheVariants.{End}
 use Rattle.pipe_types.specs.declared.step.Step.{Step}
 use Rattle.pipe_types.specs.declared.step.Step.TheVariants.{Ask, Fetch, Accept, Quiet, SourceEnd, Take, Gather, Tick}
@@ -25,8 +24,9 @@ use Rattle.pipe_model.specs.Moves.{next_in_slot}
 use Rattle.move_laws.specs.NextMoves.{MayBegin, fetches, takes, starts}
 use Rattle.move_laws.proofs.Legality.{may_allow}
 use Rattle.pipe_laws.proofs.Tests.{and_left, and_right, both, clash, same_stage-self, same_sub-true}
-use Rattle.pipe_laws.proofs.Allowed.{take_facts, child_facts, gather_facts, fetch_role}
-use Rattle.pipe_laws.proofs.Idle.{roles_apart}
+use Rattle.pipe_laws.proofs.Allowed.{take_facts, child_facts, gather_facts, fetch_role, not_halted}
+use Rattle.pipe_laws.proofs.Idle.{roles_apart, processor_producer, processor_supervisor}
+use Rattle.pipe_laws.proofs.Busy.{producer_takes, producer_supervises}
 use Rattle.core_checks.specs.Posts.{IsOut}
 
 -- where no step is owed, an allowed step may come by its own row
@@ -34,17 +34,6 @@ come : (topology : Topology) (before : History) (step : Step) → owed topology 
 come topology before step free h =
     and_right (not (happened is_halt before) || is_late step) (may_come topology before step)
     (subst (λ (o : Option (Step → Bool)). ((not (happened is_halt before) || is_late step) && passes o step (may_come topology before step)) ≡ true) free h)
-
--- where a step that is not late is allowed, the pipeline has not halted
-pub not_halted : (topology : Topology) (before : History) (step : Step) → is_late step ≡ false → allows topology before step ≡ true → happened is_halt before ≡ false
-not_halted topology before step e h =
-    either (happened is_halt before) (is_late step) e
-    (and_left (not (happened is_halt before) || is_late step) (passes (owed topology before) step (may_come topology before step)) h)
-  where
-    either : (a b : Bool) → b ≡ false → (not a || b) ≡ true → a ≡ false
-    either true true e k = e
-    either true false e k = sym k
-    either false b e k = refl
 
 -- an ask that is allowed is of the size that is due
 pub ask_due : (topology : Topology) (before : History) (u : SubNo) (n : ℕ) → owed topology before ≡ None → allows topology before (Ask u n) ≡ true → allows topology before (Ask u (due topology before u)) ≡ true
@@ -67,34 +56,6 @@ gather_first topology before s m h =
 pub one_role : (topology : Topology) (s : StageNo) (one other : Role → Bool) → ((role : Role) → one role ≡ true → other role ≡ true → ⊥) → has_role topology s one ≡ true → has_role topology s other ≡ true → ⊥
 one_role topology s one other apart h k = clash (same_stage s s) (same_stage-self s) (roles_apart topology s s one other apart h k)
 
-producer_takes : (role : Role) → is_producer_role role ≡ true → takes_role role ≡ true → ⊥
-producer_takes Producer h k = let x : false ≡ true = k in cc
-producer_takes Processor h k = let x : false ≡ true = h in cc
-producer_takes Supervisor h k = let x : false ≡ true = h in cc
-producer_takes Batcher h k = let x : false ≡ true = h in cc
-producer_takes BatchProcessor h k = let x : false ≡ true = h in cc
-
-pub producer_supervises : (role : Role) → is_producer_role role ≡ true → is_supervisor_role role ≡ true → ⊥
-producer_supervises Producer h k = let x : false ≡ true = k in cc
-producer_supervises Processor h k = let x : false ≡ true = h in cc
-producer_supervises Supervisor h k = let x : false ≡ true = h in cc
-producer_supervises Batcher h k = let x : false ≡ true = h in cc
-producer_supervises BatchProcessor h k = let x : false ≡ true = h in cc
-
-processor_brings : (role : Role) → is_processor_role role ≡ true → is_producer_role role ≡ true → ⊥
-processor_brings Producer h k = let x : false ≡ true = h in cc
-processor_brings Processor h k = let x : false ≡ true = k in cc
-processor_brings Supervisor h k = let x : false ≡ true = h in cc
-processor_brings Batcher h k = let x : false ≡ true = h in cc
-processor_brings BatchProcessor h k = let x : false ≡ true = h in cc
-
-processor_supervises : (role : Role) → is_processor_role role ≡ true → is_supervisor_role role ≡ true → ⊥
-processor_supervises Producer h k = let x : false ≡ true = h in cc
-processor_supervises Processor h k = let x : false ≡ true = k in cc
-processor_supervises Supervisor h k = let x : false ≡ true = h in cc
-processor_supervises Batcher h k = let x : false ≡ true = h in cc
-processor_supervises BatchProcessor h k = let x : false ≡ true = h in cc
-
 -- Jobs
 
 -- what a producer may begin is its fetch
@@ -113,12 +74,12 @@ next_take topology before s o (d ∷ units) u k first size h =
 
 -- what a processor may begin is its take
 pub begins_take : (topology : Topology) (before : History) (s : StageNo) → has_role topology s is_processor_role ≡ true → MayBegin topology before s → may_take_next topology before s ≡ true
-begins_take topology before s role (fetches h) = absurd (one_role topology s is_processor_role is_producer_role processor_brings role (fetch_role topology before s (bound topology before s) h))
+begins_take topology before s role (fetches h) = absurd (one_role topology s is_processor_role is_producer_role processor_producer role (fetch_role topology before s (bound topology before s) h))
 begins_take topology before s role (takes u k h) =
     let f = take_facts topology before s u k h in
     next_take topology before s (spec_of topology s) (inbox topology before s) u k f.first f.size h
 begins_take topology before s role (starts slot h) =
-    absurd (one_role topology s is_processor_role is_supervisor_role processor_supervises role (child_facts topology before s (message_no (next_in_slot topology before s slot)) slot h).role)
+    absurd (one_role topology s is_processor_role is_supervisor_role processor_supervisor role (child_facts topology before s (message_no (next_in_slot topology before s slot)) slot h).role)
 
 -- Jobs that are out
 

@@ -1,12 +1,10 @@
 -- A child that may start.
 use Rattle.std.proofs.Common.{◌≡◌, ◌<◌, ℕ, zero, suc, List, [], ◌∷◌, Bool, true, false, refl, drop, Some, Option}
-use Rattle.std.specs.Prelude.{if◌then◌else◌, ◌==◌, ◌&&◌, ◌||◌}
+use Rattle.std.specs.Prelude.{if◌then◌else◌, ◌==◌, ◌&&◌}
 use Rattle.std.specs.List.{list_any}
-use Rattle.std.proofs.lemmas.Bool.{eq-eqb}
+use Rattle.std.proofs.lemmas.Bool.{eq-eqb, or_right}
 use Rattle.pipe_types.specs.declared.numbers.StageNo.{StageNo}
 use Rattle.pipe_types.specs.declared.topology.Topology.{Topology}
-use Rattle.pipe_types.specs.declared.topology.Role.{Role}
-use Rattle.pipe_types.specs.declared.topology.Role.TheVariants.{Producer, Processor, Supervisor, Batcher, BatchProcessor}
 use Rattle.pipe_types.specs.declared.step.Step.TheVariants.{Child}
 use Rattle.pipe_types.specs.Numbers.{same_stage, message_no}
 use Rattle.pipe_types.specs.Sound.{IsSound}
@@ -17,14 +15,12 @@ use Rattle.pipe_model.specs.Moves.{next_in_slot}
 use Rattle.move_laws.specs.NextMoves.{MayBegin, fetches, takes, starts}
 use Rattle.pipe_laws.proofs.Tests.{both, same_stage-self}
 use Rattle.pipe_laws.proofs.Allowed.{take_facts, fetch_role}
+use Rattle.pipe_laws.proofs.Slots.{supervisor_takes}
+use Rattle.pipe_laws.proofs.Busy.{producer_supervises}
 use Rattle.core_laws.proofs.Past.{slot_low}
 use Rattle.core_rows.proofs.Finding.{slot_out}
 use Rattle.core_children.specs.Starts.{may_start_child}
-use Rattle.core_checks.proofs.Begun.{one_role, producer_supervises}
-
-or_right : (a b : Bool) → b ≡ true → (a || b) ≡ true
-or_right true b h = refl
-or_right false b h = h
+use Rattle.core_checks.proofs.Begun.{one_role}
 
 any_drop : (test : ℕ → Bool) (k : ℕ) (xs : List ℕ) → list_any test (drop k xs) ≡ true → list_any test xs ≡ true
 any_drop test zero xs h = h
@@ -40,13 +36,6 @@ start_low : (topology : Topology) (before : History) (s : StageNo) (slot n : ℕ
 start_low topology before s slot n sound legal h =
     slot_low topology (Child s (message_no n) slot ∷ before) s slot n sound (both (is_legal topology before) (allows topology before (Child s (message_no n) slot)) legal h)
     (picked {A = Option ℕ} (same_stage s s && slot == slot) (Some n) (in_slot before s slot) (both (same_stage s s) (slot == slot) (same_stage-self s) (eq-eqb slot slot refl)))
-
-supervisor_takes : (role : Role) → is_supervisor_role role ≡ true → takes_role role ≡ true → ⊥
-supervisor_takes Producer h k = let x : false ≡ true = h in cc
-supervisor_takes Processor h k = let x : false ≡ true = h in cc
-supervisor_takes Supervisor h k = let x : false ≡ true = k in cc
-supervisor_takes Batcher h k = let x : false ≡ true = h in cc
-supervisor_takes BatchProcessor h k = let x : false ≡ true = h in cc
 
 -- what a supervisor may begin is a child
 pub begins_child : (topology : Topology) (before : History) (s : StageNo) → IsSound topology → is_legal topology before ≡ true → has_role topology s is_supervisor_role ≡ true → MayBegin topology before s → may_start_child topology before s ≡ true

@@ -2,7 +2,7 @@
 use Rattle.std.proofs.Common.{◌≡◌, ℕ, List, [], ◌∷◌, length, map, Bool, true, false, refl, subst, Some, None, Option}
 use Rattle.std.specs.Prelude.{◌==◌, ◌&&◌, ◌||◌, nat_lt, nat_le}
 use Rattle.std.specs.List.{list_all}
-use Rattle.std.proofs.lemmas.Bool.{eq-eqb}
+use Rattle.std.proofs.lemmas.Bool.{eq-eqb, or_left}
 use Rattle.pipe_types.specs.declared.numbers.StageNo.{StageNo}
 use Rattle.pipe_types.specs.declared.topology.Topology.{Topology}
 use Rattle.pipe_types.specs.declared.topology.StageSpec.{StageSpec}
@@ -28,10 +28,6 @@ pub no_crash : (k : Bool) (messages : List Message) → has_crash (map (passed k
 no_crash k [] = refl
 no_crash k (m ∷ messages) = no_crash k messages
 
-either_left : (a b : Bool) → a ≡ true → (a || b) ≡ true
-either_left true b h = refl
-either_left false b h = cc
-
 one_passes : (batchers : ℕ) (k : Bool) (m : Message) → fits m ≡ true → is_own_reply batchers m (passed k m) ≡ true
 one_passes batchers k m h = by k
   where
@@ -42,7 +38,7 @@ one_passes batchers k m h = by k
     payload = and_left (nat_le (length m.payload) max_bytes) (nat_le (length m.key) max_bytes) lengths
 
     batcher : (m.batcher == 0 || nat_lt m.batcher batchers) ≡ true
-    batcher = either_left (m.batcher == 0) (nat_lt m.batcher batchers) (and_left (m.batcher == 0) (nat_le (length m.payload) max_bytes && nat_le (length m.key) max_bytes) h)
+    batcher = or_left (m.batcher == 0) (nat_lt m.batcher batchers) (and_left (m.batcher == 0) (nat_le (length m.payload) max_bytes && nat_le (length m.key) max_bytes) h)
 
     by : (k : Bool) → is_own_reply batchers m (passed k m) ≡ true
     by true =

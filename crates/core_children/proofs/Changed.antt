@@ -1,11 +1,11 @@
 -- One slot of one stage changes.
 use Rattle.std.proofs.Common.{◌≡◌, ◌≢◌, ℕ, zero, suc, ◌<◌, List, [], ◌∷◌, length, set, true, false, refl, ap, sym, ◌∙◌, Some, Option, arith, inl, inr}
 use Rattle.std.specs.Prelude.{slice_get, if◌then◌else◌, ◌==◌, ◌&&◌, ◌⊎◌}
-use Rattle.std.proofs.lemmas.Bool.Decides.{nat_tests}
 use Rattle.pipe_types.specs.declared.numbers.StageNo.{StageNo}
 use Rattle.consumer_sup.specs.Children.{Slots, child_in}
 use Rattle.consumer_sup.specs.declared.Child.{Child}
 use Rattle.core_tables.proofs.Tables.{get-set_same, get-set_other, same_or_other}
+use Rattle.core_laws.proofs.Came.{flip}
 use Rattle.core_state.specs.Stands.{child_at, child_of}
 
 -- a slot with a child is one of the slots
@@ -37,9 +37,6 @@ slot_is slots slot k what below = by (same_or_other slot k)
     by : (((slot == k) ≡ true) × (slot ≡ k)) ⊎ (((slot == k) ≡ false) × (slot ≢ k)) → child_in (set slots slot what) k ≡ (if slot == k then what else child_in slots k)
     by (inl same) = ap (child_in (set slots slot what)) (sym same.1) ∙ (set_here slots slot what below ∙ ap (λ b. if b then what else child_in slots k) (sym same.0))
     by (inr other) = set_else slots slot k what other.1 ∙ ap (λ b. if b then what else child_in slots k) (sym other.0)
-
-flip : (a b : ℕ) → (a == b) ≡ (b == a)
-flip a b = grind (arith, nat_tests)
 
 -- the children after one slot changed
 pub child_changed : (table : List Slots) (s : StageNo) (held new : Slots) (slot : ℕ) (what : Option Child) → s.0 < length table → slice_get table s.0 ≡ Some held → slot < length held.slots

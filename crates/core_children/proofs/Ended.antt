@@ -3,7 +3,6 @@ use Rattle.std.proofs.Common.{◌≡◌, ◌≢◌, ℕ, suc, ◌+◌, ◌<◌, 
 use Rattle.std.specs.Prelude.{slice_get, option_map, if◌then◌else◌, ◌==◌, ◌&&◌, ◌⊎◌, not, is_some, IfSome, IsSome}
 use Rattle.std.specs.declared.alloc.Global.{Global}
 use Rattle.std.specs.declared.vec.Vec.{Vec}
-use Rattle.std.proofs.lemmas.Bool.Decides.{nat_tests}
 use Rattle.std.proofs.lemmas.Bool.{eqb-true, eq-eqb}
 use Rattle.pipe_types.specs.declared.numbers.StageNo.{StageNo}
 use Rattle.pipe_types.specs.declared.numbers.SubNo.{SubNo}
@@ -15,7 +14,7 @@ use Rattle.pipe_types.specs.declared.message.Reply.{Reply}
 use Rattle.pipe_types.specs.declared.message.Reply.TheVariants.{Pass, Failed as FailedReply, Raised, Crashed}
 use Rattle.pipe_types.specs.declared.step.Step.TheVariants.{ChildEnd}
 use Rattle.pipe_types.specs.Children.{runs_again as mode_runs_again}
-use Rattle.pipe_types.specs.Numbers.{same_stage, same_sub, same_post, post, message_no}
+use Rattle.pipe_types.specs.Numbers.{same_stage, same_sub, post, message_no}
 use Rattle.pipe_types.specs.Stages.{spec_of, feeds}
 use Rattle.pipe_types.specs.Sound.{IsSound}
 use Rattle.pipe_laws.proofs.Tests.{clash, and_left, and_right, both, same_stage-true, same_stage-self, same_sub-self}
@@ -47,12 +46,13 @@ use Rattle.core_tables.proofs.Tables.{same_or_other}
 use Rattle.core_laws.specs.Columns.{running, post_row, part_of, open_batches, child_row, child_left, came, mark}
 use Rattle.core_laws.specs.Slots.{child_if, child_of}
 use Rattle.core_laws.proofs.Children.{child_is}
-use Rattle.core_laws.proofs.Came.{came_is, came_entry}
+use Rattle.core_laws.proofs.Came.{came_is, came_entry, flip}
 use Rattle.core_laws.proofs.Lawful.{legal_after}
 use Rattle.core_laws.proofs.Marks.{mark_is, open_unsettled}
 use Rattle.core_laws.proofs.Past.{known_within, live_known, out_post}
 use Rattle.core_state.specs.declared.state.Core.{Core}
 use Rattle.core_state.specs.Stands.{Fields, Holds, child_at, child_of as child_from}
+use Rattle.core_state.proofs.Homes.{post_home}
 use Rattle.core_takes.specs.Replies.{handled_on}
 use Rattle.core_children.specs.Slots.{left_in}
 use Rattle.core_children.proofs.Next.{out_slot}
@@ -121,24 +121,7 @@ ends topology before s slot reply n again sound legal allowed k is =
 
 -- ---- the posts
 
-post_same : (s t slot k : ℕ) → k < 16 → slot < 16 → (post_at s slot == post_at t k) ≡ (t == s && k == slot)
-post_same s t slot k low high = grind (arith, nat_tests)
-
-post_home : (posts : List PostRow) (s t : StageNo) (slot k : ℕ) (row : PostRow) → k < 16 → slot < 16 → slice_get posts (post_at t.0 k) ≡ Some row
-    → (if post_at s.0 slot == post_at t.0 k then option_map home (slice_get posts (post_at t.0 k)) else slice_get posts (post_at t.0 k))
-    ≡ Some (record { out = not (same_post (post t k) (post s slot)) && row.out; from = row.from })
-post_home posts s t slot k row low high at =
-    ap (λ b. if b then option_map home (slice_get posts (post_at t.0 k)) else slice_get posts (post_at t.0 k)) (post_same s.0 t.0 slot k low high)
-    ∙ (ap (λ o. if t.0 == s.0 && k == slot then option_map home o else o) at ∙ by (t.0 == s.0 && k == slot))
-  where
-    by : (b : Bool) → (if b then option_map home (Some row) else Some row) ≡ Some (record { out = not b && row.out; from = row.from })
-    by true = refl
-    by false = refl
-
 -- ---- the chunk
-
-flip : (a b : ℕ) → (a == b) ≡ (b == a)
-flip a b = grind (arith, nat_tests)
 
 runs_on : (topology : Topology) (before : History) (s t : StageNo) (slot : ℕ) (reply : Reply) (n : ℕ) (again : Bool) → IsSound topology → Ends topology before s slot reply n again
     → (if s.0 == t.0 && not again then filter (λ m. not (n == m)) (running topology before t) else running topology before t) ≡ running topology (ChildEnd s slot reply ∷ before) t

@@ -1,6 +1,6 @@
 -- The fields after a child starts for the first message of the inbox.
-use Rattle.std.proofs.Common.{◌≡◌, ◌≢◌, ℕ, zero, suc, ◌+◌, ◌*◌, ◌<◌, ◌≤◌, List, [], ◌∷◌, ◌++◌, length, map, take, Bool, true, false, refl, ap, sym, ◌∙◌, Some, None, Option, arith, inl, inr, cond}
-use Rattle.std.specs.Prelude.{slice_get, slice_index_or, option_map, if◌then◌else◌, ◌==◌, ◌&&◌, ◌||◌, ◌⊎◌, not, is_some, drop, filter}
+use Rattle.std.proofs.Common.{◌≡◌, ◌≢◌, ℕ, zero, suc, ◌+◌, ◌*◌, ◌<◌, ◌≤◌, List, [], ◌∷◌, ◌++◌, length, map, take, Bool, true, false, refl, ap, sym, ◌∙◌, Some, None, Option, arith, inl, inr}
+use Rattle.std.specs.Prelude.{slice_get, slice_index_or, option_map, if◌then◌else◌, ◌==◌, ◌&&◌, ◌||◌, ◌⊎◌, not, is_some, drop}
 use Rattle.std.specs.declared.alloc.Global.{Global}
 use Rattle.std.specs.declared.vec.Vec.{Vec}
 use Rattle.std.specs.declared.collections.VecDeque.{VecDeque}
@@ -29,13 +29,13 @@ use Rattle.pipe_laws.proofs.Accepted.{placed_accepted}
 use Rattle.pipe_laws.proofs.Allowed.{legal_before, legal_step, ChildFacts, child_facts, child_end_facts}
 use Rattle.pipe_model.specs.History.{History, accepted}
 use Rattle.pipe_model.specs.Posts.{is_out, in_slot, crashes, crashed_as}
-use Rattle.pipe_model.specs.Flow.{place, inbox, waiting, sent_to, among, runs_in, taken, units_on}
+use Rattle.pipe_model.specs.Flow.{place, inbox, waiting, sent_to, runs_in, taken, units_on}
 use Rattle.pipe_model.specs.Standing.{gathered_in}
 use Rattle.pipe_model.specs.Legal.{is_legal, allows, has_role, is_supervisor_role, first_unit, runs_number}
 use Rattle.queue_laws.specs.Queues.{without_number}
 use Rattle.queue_laws.proofs.Sounds.{fits}
 use Rattle.queue_laws.proofs.Laws.{waiting_law, inbox_law, gathered_law}
-use Rattle.stage_laws.proofs.Supervised.{runs_started, runs_started_else}
+use Rattle.stage_laws.proofs.Supervised.{runs_started, runs_started_else, child_takes, among_fails}
 use Rattle.consumer_sup.specs.Children.{Slots}
 use Rattle.core_tables.specs.declared.rows.PostRow.{PostRow}
 use Rattle.core_tables.specs.Rows.{post_at}
@@ -50,7 +50,7 @@ use Rattle.core_laws.proofs.Past.{out_post}
 use Rattle.core_state.specs.declared.state.Core.{Core}
 use Rattle.core_state.specs.Stands.{Holds, child_at}
 use Rattle.core_takes.specs.Takes.{out_of}
-use Rattle.core_children.proofs.Starting.{Started, child_takes}
+use Rattle.core_children.proofs.Starting.{Started}
 
 -- ---- a message in the supervisor's inbox has no crash
 
@@ -137,18 +137,6 @@ pub record Fresh (topology : Topology) (before : History) (s : StageNo) (m : Msg
 
 flip : (a b : ℕ) → (a == b) ≡ false → (b == a) ≡ false
 flip a b e = grind (arith, nat_tests)
-
-among_fails : (test : ℕ → Bool) (xs : List ℕ) (m : ℕ) → test m ≡ false → among (filter test xs) m ≡ false
-among_fails test [] m e = refl
-among_fails test (x ∷ xs) m e = either (test x) refl (among_fails test xs m e)
-  where
-    either : (b : Bool) → test x ≡ b → among (filter test xs) m ≡ false → among (cond b (x ∷ filter test xs) (filter test xs)) m ≡ false
-    either true is rest = by_number (x == m) refl
-      where
-        by_number : (c : Bool) → (x == m) ≡ c → (c || among (filter test xs) m) ≡ false
-        by_number true same = clash (test m) (ap test (sym (eqb-true x m same)) ∙ is) e
-        by_number false other = rest
-    either false is rest = rest
 
 pub fresh : (topology : Topology) (before : History) (s : StageNo) (m : MsgNo) (slot : ℕ) → IsSound topology → is_legal topology before ≡ true
     → allows topology before (Child s m slot) ≡ true → runs_number topology before s (in_slot before s slot) ≡ false → Fresh topology before s m slot

@@ -10,8 +10,6 @@ use Rattle.pipe_types.specs.declared.numbers.StageNo.{StageNo}
 use Rattle.pipe_types.specs.declared.numbers.MsgNo.{MsgNo}
 use Rattle.pipe_types.specs.declared.topology.Topology.{Topology}
 use Rattle.pipe_types.specs.declared.topology.StageSpec.{StageSpec}
-use Rattle.pipe_types.specs.declared.topology.Role.{Role}
-use Rattle.pipe_types.specs.declared.topology.Role.TheVariants.{Producer, Processor, Supervisor, Batcher, BatchProcessor}
 use Rattle.pipe_types.specs.declared.message.Place.TheVariants.{Running}
 use Rattle.pipe_types.specs.declared.step.Step.{Step}
 use Rattle.pipe_types.specs.declared.step.Step.TheVariants.{Fetch, Take, Child, Restart}
@@ -20,7 +18,7 @@ use Rattle.pipe_types.specs.Stages.{spec_of}
 use Rattle.pipe_types.specs.Sound.{IsSound}
 use Rattle.pipe_laws.proofs.Tests.{clash, and_left, and_right, both, same_stage-true, same_stage-self}
 use Rattle.pipe_laws.proofs.Busy.{same_incarnation, two_roles}
-use Rattle.pipe_laws.proofs.Slots.{slot_runs, number_is, first_stands, supervisor_writes}
+use Rattle.pipe_laws.proofs.Slots.{slot_runs, number_is, first_stands, supervisor_writes, supervisor_produces, supervisor_takes}
 use Rattle.pipe_laws.proofs.Accepted.{placed_accepted, accepted_content}
 use Rattle.pipe_laws.proofs.Kept.{runs_here}
 use Rattle.pipe_laws.proofs.Allowed.{legal_before, legal_step, unowed, child_facts, take_facts, fetch_role}
@@ -31,6 +29,7 @@ use Rattle.pipe_model.specs.Content.{content}
 use Rattle.pipe_model.specs.Flow.{place, inbox, runs_in, is_number}
 use Rattle.pipe_model.specs.Legal.{is_legal, owed, passes, is_late, happened, is_halt, allows, may_start, is_current, needs_restart, no_post_out, has_role, is_supervisor_role, is_producer_role, takes_role, first_unit, runs_number, max_of}
 use Rattle.pipe_model.specs.Moves.{next_in_slot}
+use Rattle.queue_laws.proofs.Late.{puts_no_restart}
 use Rattle.stage_laws.proofs.FewSlots.{slot_case, none_any}
 use Rattle.stage_laws.proofs.Numbering.{numbered_topology}
 use Rattle.consumer_sup.specs.Children.{Slots, child_in, alive}
@@ -41,6 +40,7 @@ use Rattle.core_laws.specs.Slots.{child_if, child_of}
 use Rattle.core_laws.proofs.Children.{child_is}
 use Rattle.core_laws.proofs.Past.{known_within, live_known, out_post, supervisor_max}
 use Rattle.core_laws.proofs.Lawful.{legal_after}
+use Rattle.core_laws.proofs.Came.{flip}
 use Rattle.core_state.specs.declared.state.Core.{Core}
 use Rattle.core_state.specs.Readings.{out_in}
 use Rattle.core_state.specs.Stands.{Holds, Stands, child_at, child_of as child_from}
@@ -50,23 +50,6 @@ use Rattle.core_children.specs.Starts.{may_start_child, again_in}
 use Rattle.core_children.proofs.Fresh.{idle_slot}
 
 -- ---- a post that is out
-
-supervisor_takes : (role : Role) → is_supervisor_role role ≡ true → takes_role role ≡ true → ⊥
-supervisor_takes Supervisor h k = let x : false ≡ true = k in cc
-supervisor_takes Producer h k = let x : false ≡ true = h in cc
-supervisor_takes Processor h k = let x : false ≡ true = h in cc
-supervisor_takes Batcher h k = let x : false ≡ true = h in cc
-supervisor_takes BatchProcessor h k = let x : false ≡ true = h in cc
-
-supervisor_produces : (role : Role) → is_supervisor_role role ≡ true → is_producer_role role ≡ true → ⊥
-supervisor_produces Supervisor h k = let x : false ≡ true = k in cc
-supervisor_produces Producer h k = let x : false ≡ true = h in cc
-supervisor_produces Processor h k = let x : false ≡ true = h in cc
-supervisor_produces Batcher h k = let x : false ≡ true = h in cc
-supervisor_produces BatchProcessor h k = let x : false ≡ true = h in cc
-
-flip : (a b : ℕ) → (a == b) ≡ (b == a)
-flip a b = grind (arith, nat_tests)
 
 later : (p q : Bool) → p ≡ false → (p || q) ≡ true → q ≡ true
 later false q e h = h
@@ -99,10 +82,6 @@ out_slot topology (Take t u n ∷ before) s k h role out =
     either false e rest = rest (and_right (not false) _ (later (same_stage s t && k == 0) _ e out))
 out_slot topology (step ∷ before) s k h role out =
     out_slot topology before s k (legal_before topology before step h) role (and_right (not (answers step (post s k))) _ out)
-
-puts_no_restart : (step : Step) (s : StageNo) (slot : ℕ) → puts_out step (post s slot) ≡ true → restarts step s ≡ false
-puts_no_restart (Restart t) s slot out = cc
-puts_no_restart _ s slot out = refl
 
 restart_free : (topology : Topology) (before : History) (step : Step) (s : StageNo) (k : ℕ) → k < 16 → allows topology before step ≡ true → restarts step s ≡ true → is_out before (post s k) ≡ true → ⊥
 restart_free topology before (Restart t) s k low h same out =

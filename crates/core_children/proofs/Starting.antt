@@ -5,41 +5,32 @@ use Rattle.std.specs.declared.alloc.Global.{Global}
 use Rattle.std.specs.declared.vec.Vec.{Vec}
 use Rattle.std.specs.declared.collections.VecDeque.{VecDeque}
 use Rattle.std.proofs.lemmas.Bool.Decides.{nat_tests}
-use Rattle.std.proofs.lemmas.Bool.{eqb-true, false_from_ne_true}
+use Rattle.std.proofs.lemmas.Bool.{eqb-true}
 use Rattle.pipe_types.specs.declared.numbers.StageNo.{StageNo}
 use Rattle.pipe_types.specs.declared.numbers.MsgNo.{MsgNo}
 use Rattle.pipe_types.specs.declared.numbers.SubNo.{SubNo}
 use Rattle.pipe_types.specs.declared.topology.Topology.{Topology}
 use Rattle.pipe_types.specs.declared.topology.StageSpec.{StageSpec}
 use Rattle.pipe_types.specs.declared.message.Place.{Place}
-use Rattle.pipe_types.specs.declared.message.Place.TheVariants.{Running, Inbox}
+use Rattle.pipe_types.specs.declared.message.Place.TheVariants.{Running}
 use Rattle.pipe_types.specs.declared.step.Step.TheVariants.{Child}
 use Rattle.pipe_types.specs.Numbers.{same_stage, same_post, post}
 use Rattle.pipe_types.specs.Stages.{spec_of}
 use Rattle.pipe_types.specs.Sound.{IsSound}
 use Rattle.pipe_laws.proofs.Tests.{and_left, and_right, both, same_stage-true, same_stage-self}
-use Rattle.pipe_laws.proofs.Lists.{Each, each_weaker, each_filter}
-use Rattle.pipe_laws.proofs.Entries.{EntryFits, entries_fit}
-use Rattle.pipe_laws.proofs.Busy.{inbox_here}
-use Rattle.pipe_laws.proofs.Idle.{fed_by_messages}
 use Rattle.pipe_laws.proofs.Kept.{runs_here}
-use Rattle.pipe_laws.proofs.Slots.{supervisor_writes, number_is}
-use Rattle.pipe_laws.proofs.Allowed.{legal_before, legal_step, ChildFacts, child_facts}
+use Rattle.pipe_laws.proofs.Slots.{number_is}
+use Rattle.pipe_laws.proofs.Allowed.{ChildFacts, child_facts}
 use Rattle.pipe_model.specs.History.{History, incarnation}
 use Rattle.pipe_model.specs.Posts.{is_out, out_from, in_slot, crashes}
-use Rattle.pipe_model.specs.Flow.{place, batch, inbox, waiting, sent_to, is_batcher, in_inbox_by, leg_waits_in}
-use Rattle.pipe_model.specs.Standing.{gathered_in, in_inbox}
-use Rattle.pipe_model.specs.Legal.{is_legal, allows, has_role, is_supervisor_role, first_unit, runs_number}
+use Rattle.pipe_model.specs.Flow.{place, inbox, waiting}
+use Rattle.pipe_model.specs.Standing.{gathered_in}
+use Rattle.pipe_model.specs.Legal.{is_legal, allows, has_role, is_supervisor_role, runs_number}
 use Rattle.queue_laws.specs.Queues.{without_number}
 use Rattle.queue_laws.proofs.Sounds.{fits}
-use Rattle.queue_laws.proofs.Fits.{Fits}
-use Rattle.queue_laws.proofs.Filters.{filter_all}
-use Rattle.queue_laws.proofs.Apart.{apart_kept}
-use Rattle.queue_laws.proofs.Distinct.{distinct, unit_of}
-use Rattle.queue_laws.proofs.Inboxes.{without_head}
 use Rattle.queue_laws.proofs.Laws.{waiting_law, inbox_law, gathered_law}
 use Rattle.queue_laws.proofs.Members.{stands_in_queue}
-use Rattle.stage_laws.proofs.Supervised.{child_elsewhere, child_runs, runs_started, runs_started_else}
+use Rattle.stage_laws.proofs.Supervised.{child_elsewhere, child_runs, runs_started, runs_started_else, child_takes}
 use Rattle.stage_laws.proofs.Numbering.{numbered_topology}
 use Rattle.pipe_journal.specs.Recorded.{Recorded}
 use Rattle.consumer_sup.specs.Children.{Slots}
@@ -54,6 +45,7 @@ use Rattle.core_laws.proofs.Lawful.{legal_after}
 use Rattle.core_laws.proofs.Past.{known_within, live_known, out_post}
 use Rattle.core_state.specs.declared.state.Core.{Core}
 use Rattle.core_state.specs.Stands.{Fields, Holds, child_at}
+use Rattle.core_state.proofs.Homes.{post_same}
 use Rattle.core_takes.specs.Takes.{out_of}
 
 -- what the passes of a child's start leave
@@ -77,10 +69,6 @@ pub record Started (core : Core) (topology : Topology) (before : History) (s : S
       → slice_get children.items t.0 ≡ Some held → (held.mode ≡ spec.child) × (length held.slots ≡ spec.max)
   pub placed : (i : ℕ) → slice_get places.items i ≡ place topology (Child s m slot ∷ before) (suc i)
   pub placed-len : length places.items ≡ length core.places.items
-
--- which row of the posts it is
-post_same : (s t slot k : ℕ) → k < 16 → slot < 16 → (post_at s slot == post_at t k) ≡ (t == s && k == slot)
-post_same s t slot k low high = grind (arith, nat_tests)
 
 pub started_fields : (core : Core) (topology : Topology) (before : History) (s : StageNo) (m : MsgNo) (slot : ℕ) (j : Recorded)
     (posts : Vec PostRow Global) (came_on : Vec SubNo Global) (inboxes : Vec (VecDeque (SubNo × ℕ) Global) Global) (chunks : Vec (Vec ℕ Global) Global) (children : Vec Slots Global) (places : Vec Place Global)
@@ -138,41 +126,6 @@ started_fields core topology before s m slot j posts came_on inboxes chunks chil
     out false t k e at = at ∙ ap (λ b. Some (record { out = b || is_out before (post t k); from = if b then incarnation before t else out_from before (post t k) })) (sym e)
 
 -- ---- the inbox
-
--- a message stands in the supervisor's inbox by its place
-inbox_places : (topology : Topology) (before : History) (s : StageNo) → has_role topology s is_supervisor_role ≡ true → Each (λ d. place topology before d.1 ≡ Some (Inbox d.0)) (inbox topology before s)
-inbox_places topology before s role =
-    each_weaker (λ d. EntryFits topology before s d × (in_inbox topology before d ≡ true)) (λ d. place topology before d.1 ≡ Some (Inbox d.0)) here (inbox topology before s)
-    (each_filter (EntryFits topology before s) (in_inbox topology before) (sent_to topology before s) (entries_fit topology before s))
-  where
-    here : (d : SubNo × ℕ) → EntryFits topology before s d × (in_inbox topology before d ≡ true) → place topology before d.1 ≡ Some (Inbox d.0)
-    here d p =
-        let plain : is_batcher (spec_of topology d.0.producer) ≡ false = fed_by_messages topology d.0.producer s is_supervisor_role supervisor_writes p.0.feeding role in
-        inbox_here d.0 (place topology before d.1)
-        (subst (λ b. (if b then leg_waits_in d.0 (batch topology before d.1) else in_inbox_by d.0 (place topology before d.1)) ≡ true) plain p.1)
-
--- the supervisor's child takes the first unit, or none
-pub child_takes : (topology : Topology) (before : History) (s : StageNo) (m : MsgNo) (slot : ℕ) → Fits topology → is_legal topology (Child s m slot ∷ before) ≡ true
-    → without_number m.0 (inbox topology before s) ≡ (if runs_number topology before s (in_slot before s slot) then inbox topology before s else drop 1 (inbox topology before s))
-child_takes topology before s m slot fit h = either (runs_number topology before s (in_slot before s slot)) refl
-  where
-    facts : ChildFacts topology before s m.0 slot
-    facts = child_facts topology before s m slot (legal_step topology before (Child s m slot) h)
-
-    stands : place topology before m.0 ≡ Some (Running s) → (d : SubNo × ℕ) → place topology before d.1 ≡ Some (Inbox d.0) → not (m.0 == d.1) ≡ true
-    stands ran d e =
-        ap not (false_from_ne_true (m.0 == d.1) (λ same. let both_at : Some (Running s) ≡ Some (Inbox d.0) = sym ran ∙ (ap (place topology before) (eqb-true m.0 d.1 same) ∙ e) in cc))
-
-    either : (b : Bool) → runs_number topology before s (in_slot before s slot) ≡ b → without_number m.0 (inbox topology before s) ≡ (if b then inbox topology before s else drop 1 (inbox topology before s))
-    either true e =
-        let own : in_slot before s slot ≡ Some m.0 = number_is (in_slot before s slot) m.0 (facts.again e) in
-        let ran : place topology before m.0 ≡ Some (Running s) = runs_here s (place topology before m.0) (ap (runs_number topology before s) (sym own) ∙ e) in
-        filter_all (λ d. not (m.0 == d.1)) (inbox topology before s)
-        (each_weaker (λ d. place topology before d.1 ≡ Some (Inbox d.0)) (λ d. not (m.0 == d.1) ≡ true) (stands ran) (inbox topology before s) (inbox_places topology before s facts.role))
-    either false e =
-        without_head m.0 (inbox topology before s)
-        (apart_kept unit_of (in_inbox topology before) (sent_to topology before s) ((distinct topology before fit.ascend (legal_before topology before (Child s m slot) h)).sent s))
-        (λ d ys is. (facts.new e).1 ∙ ap first_unit is)
 
 -- ---- a message runs again
 

@@ -37,7 +37,8 @@ use Rattle.core_laws.proofs.Lawful.{legal_after}
 use Rattle.core_laws.proofs.Past.{known_within, live_known}
 use Rattle.core_state.specs.declared.state.Core.{Core}
 use Rattle.core_state.specs.Stands.{Fields}
-use Rattle.core_lates.proofs.Leaving.{Leaves, Stays, left_fields, stays_changed, post_home}
+use Rattle.core_state.proofs.Homes.{post_home}
+use Rattle.core_lates.proofs.Leaving.{Leaves, Stays, left_fields, stays_changed}
 
 none_and : {A : Type 0} (a : Bool) (x y : A) → (if a && false then x else y) ≡ y
 none_and true x y = refl

@@ -2,7 +2,7 @@
 use Rattle.std.proofs.Common.{◌≡◌, ◌≤◌, ◌<◌, ℕ, zero, suc, List, [], ◌∷◌, length, drop, Bool, true, false, refl, ap, sym, ◌∙◌, subst, Some, None, Option, arith}
 use Rattle.std.specs.Prelude.{if◌then◌else◌, not, ◌==◌, ◌&&◌, ◌||◌, nat_lt, nat_le}
 use Rattle.std.specs.List.{list_any}
-use Rattle.std.proofs.lemmas.Bool.{eq-eqb, leb-true}
+use Rattle.std.proofs.lemmas.Bool.{eq-eqb, leb-true, or_right}
 use Rattle.pipe_types.specs.declared.numbers.StageNo.{StageNo}
 use Rattle.pipe_types.specs.declared.numbers.SubNo.{SubNo}
 use Rattle.pipe_types.specs.declared.numbers.MsgNo.{MsgNo}
@@ -24,13 +24,13 @@ use Rattle.pipe_model.specs.Content.{content}
 use Rattle.pipe_model.specs.Flow.{inbox, units_on}
 use Rattle.pipe_model.specs.Jobs.{take_first, allows_some, may_take_next, take_step}
 use Rattle.pipe_model.specs.Work.{child_of, messages_of}
-use Rattle.pipe_model.specs.Legal.{allows, is_legal, passes, owed, may_come, happened, is_halt, is_drain, is_late, has_role, is_producer_role, is_processor_role, is_supervisor_role, is_batch_processor_role, takes_role, bound, first_sub, first_unit, chunk_size, fetch_out, has_ended, rests, runs_number}
+use Rattle.pipe_model.specs.Legal.{allows, is_legal, happened, is_drain, has_role, is_producer_role, is_processor_role, is_supervisor_role, is_batch_processor_role, takes_role, bound, first_sub, first_unit, chunk_size, fetch_out, has_ended, rests, runs_number}
 use Rattle.pipe_model.specs.Moves.{next_in_slot}
 use Rattle.move_laws.specs.NextMoves.{MayBegin, fetches, takes, starts}
 use Rattle.pipe_laws.proofs.Tests.{and_left, and_right, both, clash, same_stage-self, same_sub-true}
-use Rattle.pipe_laws.proofs.Allowed.{unowed, legal_step, take_facts, child_facts, fetch_role}
-use Rattle.pipe_laws.proofs.Busy.{two_roles}
-use Rattle.pipe_laws.proofs.Slots.{number_is}
+use Rattle.pipe_laws.proofs.Allowed.{unowed, legal_step, take_facts, child_facts, fetch_role, not_halted}
+use Rattle.pipe_laws.proofs.Busy.{two_roles, producer_takes, producer_supervises}
+use Rattle.pipe_laws.proofs.Slots.{number_is, supervisor_takes}
 use Rattle.core_laws.proofs.Past.{slot_low}
 use Rattle.core_rows.proofs.Finding.{slot_out}
 use Rattle.core_takes.specs.declared.takes.Chunk.{Chunk}
@@ -44,27 +44,6 @@ use Rattle.stage_bodies.specs.Posts.{IsWorkOf, IsOutNow, IsJobOf}
 use Rattle.core_jobs.specs.Begun.{IsBegun, fetched, taken, started, work_on}
 
 -- ---- roles
-
-producer_takes : (role : Role) → is_producer_role role ≡ true → takes_role role ≡ true → ⊥
-producer_takes Producer h k = let x : false ≡ true = k in cc
-producer_takes Processor h k = let x : false ≡ true = h in cc
-producer_takes Supervisor h k = let x : false ≡ true = h in cc
-producer_takes Batcher h k = let x : false ≡ true = h in cc
-producer_takes BatchProcessor h k = let x : false ≡ true = h in cc
-
-producer_supervises : (role : Role) → is_producer_role role ≡ true → is_supervisor_role role ≡ true → ⊥
-producer_supervises Producer h k = let x : false ≡ true = k in cc
-producer_supervises Processor h k = let x : false ≡ true = h in cc
-producer_supervises Supervisor h k = let x : false ≡ true = h in cc
-producer_supervises Batcher h k = let x : false ≡ true = h in cc
-producer_supervises BatchProcessor h k = let x : false ≡ true = h in cc
-
-supervisor_takes : (role : Role) → is_supervisor_role role ≡ true → takes_role role ≡ true → ⊥
-supervisor_takes Producer h k = let x : false ≡ true = h in cc
-supervisor_takes Processor h k = let x : false ≡ true = h in cc
-supervisor_takes Supervisor h k = let x : false ≡ true = k in cc
-supervisor_takes Batcher h k = let x : false ≡ true = h in cc
-supervisor_takes BatchProcessor h k = let x : false ≡ true = h in cc
 
 takes_messages : (role : Role) → takes_role role ≡ true → is_batch_processor_role role ≡ false → is_processor_role role ≡ true
 takes_messages Producer h k = h
@@ -111,10 +90,6 @@ begins_take topology before s p v (takes u k h) =
 begins_take topology before s p v (starts slot h) =
     clash (has_role topology s is_supervisor_role) (child_facts topology before s (message_no (next_in_slot topology before s slot)) slot h).role v
 
-or_right : (a b : Bool) → b ≡ true → (a || b) ≡ true
-or_right true b h = refl
-or_right false b h = h
-
 any_drop : (test : ℕ → Bool) (k : ℕ) (xs : List ℕ) → list_any test (drop k xs) ≡ true → list_any test xs ≡ true
 any_drop test zero xs h = h
 any_drop test (suc k) [] h = h
@@ -146,17 +121,6 @@ begins_child topology before s sound legal role (starts slot h) =
     any_drop test slot slots (slot_out test slot (start_low topology before s (message_no (next_in_slot topology before s slot)) slot sound legal h) h)
 
 -- ---- the post that is out
-
--- where a step that is not late is allowed, the pipeline has not halted
-pub not_halted : (topology : Topology) (before : History) (step : Step) → is_late step ≡ false → allows topology before step ≡ true → happened is_halt before ≡ false
-not_halted topology before step e h =
-    either (happened is_halt before) (is_late step) e
-    (and_left (not (happened is_halt before) || is_late step) (passes (owed topology before) step (may_come topology before step)) h)
-  where
-    either : (a b : Bool) → b ≡ false → (not a || b) ≡ true → a ≡ false
-    either true true e k = e
-    either true false e k = sym k
-    either false b e k = refl
 
 now_out : (b x : Bool) (i j : ℕ) → b ≡ true → ((b || x) && ((if b then i else j) == i)) ≡ true
 now_out true x i j e = eq-eqb i i refl

@@ -24,12 +24,11 @@ use Rattle.pipe_types.specs.Handlers.{is_own_end, batch_end, batch_text}
 use Rattle.pipe_model.specs.Work.{count, batch_of, is_write_end, is_end_by, is_batch_handled}
 use Rattle.pipe_model.specs.Legal.{is_legal, allows, owed, happened, is_halt, is_crash_of}
 use Rattle.pipe_laws.proofs.Tests.{and_left, and_right, same_stage-self}
-use Rattle.pipe_laws.proofs.Allowed.{legal_step, wrote_facts}
+use Rattle.pipe_laws.proofs.Allowed.{legal_step, wrote_facts, not_halted}
 use Rattle.core_state.specs.declared.state.Core.{Core}
 use Rattle.core_state.specs.Stands.{Holds}
 use Rattle.stage_bodies.specs.Posts.{is_crashed_end}
 use Rattle.core_jobs.specs.Recorded.{and_kill}
-use Rattle.core_jobs.proofs.Beginning.{not_halted}
 
 -- ---- the kill that is owed
 

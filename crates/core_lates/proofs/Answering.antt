@@ -1,7 +1,6 @@
 -- What is known of a late answer that is legal, and what it leaves.
-use Rattle.std.proofs.Common.{◌≡◌, ℕ, ◌<◌, ◌≤◌, ◌∷◌, length, Bool, true, false, refl, ap, sym, ◌∙◌, Some, arith}
+use Rattle.std.proofs.Common.{◌≡◌, ℕ, ◌<◌, ◌≤◌, ◌∷◌, length, Bool, true, false, refl, ap, sym, ◌∙◌, Some}
 use Rattle.std.specs.Prelude.{slice_get, option_map, if◌then◌else◌, ◌==◌, ◌||◌}
-use Rattle.std.proofs.lemmas.Bool.Decides.{nat_tests}
 use Rattle.std.specs.declared.alloc.Global.{Global}
 use Rattle.std.specs.declared.vec.Vec.{Vec}
 use Rattle.pipe_types.specs.declared.numbers.StageNo.{StageNo}
@@ -26,12 +25,14 @@ use Rattle.core_laws.specs.Columns.{stage_row, post_row}
 use Rattle.core_laws.proofs.Accepting.{content_old}
 use Rattle.core_laws.proofs.Lawful.{legal_after}
 use Rattle.core_laws.proofs.Past.{IsPost, out_post, known_within}
+use Rattle.core_laws.proofs.Came.{flip}
 use Rattle.core_calls.proofs.Ending.{row_changed}
 use Rattle.core_state.specs.declared.state.Core.{Core}
 use Rattle.core_state.specs.Stands.{Fields, Holds, Stands}
 use Rattle.core_state.proofs.Steps.{holds_after, unowed_after}
+use Rattle.core_state.proofs.Homes.{post_home}
 use Rattle.core_lates.specs.Lates.{is_plain}
-use Rattle.core_lates.proofs.Leaving.{Leaves, Stays, left_fields, stays_changed, post_home}
+use Rattle.core_lates.proofs.Leaving.{Leaves, Stays, left_fields, stays_changed}
 
 -- a late answer's post has a row
 pub record IsLate (topology : Topology) (before : History) (s : StageNo) (slot i : ℕ) (answer : LateAnswer) : Type 0 where
@@ -113,9 +114,6 @@ plain_fields core topology before s slot i answer j posts x sound legal known pl
     (late_posts core topology before s slot i answer posts x known.low homed) len)
 
 -- The end of a source
-
-flip : (a b : ℕ) → (a == b) ≡ (b == a)
-flip a b = grind (arith, nat_tests)
 
 pub source_fields : (core : Core) (topology : Topology) (before : History) (s : StageNo) (slot i : ℕ) (how : SourceHow) (j : Recorded) (rows : Vec StageRow Global) (posts : Vec PostRow Global)
     → Fields core topology before → IsSound topology → is_legal topology before ≡ true → IsLate topology before s slot i (Source how)

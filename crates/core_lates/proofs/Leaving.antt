@@ -1,14 +1,12 @@
 -- Steps that bring a post home, and leave what waits, what is gathered and what runs.
 use Rattle.std.proofs.Common.{◌≡◌, ℕ, suc, ◌<◌, ◌≤◌, List, ◌∷◌, map, length, Bool, true, false, refl, ap, sym, ◌∙◌, subst, Some, None, Option, arith}
-use Rattle.std.specs.Prelude.{slice_get, option_map, if◌then◌else◌, ◌==◌, ◌&&◌, not, is_some}
+use Rattle.std.specs.Prelude.{slice_get, if◌then◌else◌, is_some}
 use Rattle.std.specs.declared.alloc.Global.{Global}
 use Rattle.std.specs.declared.vec.Vec.{Vec}
-use Rattle.std.proofs.lemmas.Bool.Decides.{nat_tests}
 use Rattle.pipe_types.specs.declared.numbers.StageNo.{StageNo}
 use Rattle.pipe_types.specs.declared.topology.Topology.{Topology}
 use Rattle.pipe_types.specs.declared.message.Place.{Place}
 use Rattle.pipe_types.specs.declared.step.Step.{Step}
-use Rattle.pipe_types.specs.Numbers.{same_post, post}
 use Rattle.pipe_types.specs.Sound.{IsSound}
 use Rattle.pipe_types.specs.Stages.{spec_of}
 use Rattle.pipe_model.specs.History.{History, accepted, closed}
@@ -30,7 +28,7 @@ use Rattle.core_tables.specs.declared.rows.StageRow.{StageRow}
 use Rattle.core_tables.specs.declared.rows.PostRow.{PostRow}
 use Rattle.core_tables.specs.declared.rows.ContentRow.{ContentRow}
 use Rattle.core_tables.specs.declared.rows.Totals.{Totals}
-use Rattle.core_tables.specs.Rows.{post_at, home}
+use Rattle.core_tables.specs.Rows.{post_at}
 use Rattle.core_laws.specs.Columns.{running, stage_row, post_row, came, part_of, waiting_parts, open_batches, child_row, mark, content_row, closed_numbers, sent_on, ends_in_progress}
 use Rattle.core_laws.proofs.Accepting.{closed_low}
 use Rattle.core_laws.proofs.Alike.{SameContent, SamePart, part_same, mapped_same, opens_same}
@@ -89,21 +87,6 @@ opens_left topology before step t x =
     x.times
 
 -- Posts
-
-post_same : (s t slot k : ℕ) → k < 16 → slot < 16 → (post_at s slot == post_at t k) ≡ (t == s && k == slot)
-post_same s t slot k low high = grind (arith, nat_tests)
-
--- one job came home
-pub post_home : (posts : List PostRow) (s t : StageNo) (slot k : ℕ) (row : PostRow) → k < 16 → slot < 16 → slice_get posts (post_at t.0 k) ≡ Some row
-    → (if post_at s.0 slot == post_at t.0 k then option_map home (slice_get posts (post_at t.0 k)) else slice_get posts (post_at t.0 k))
-    ≡ Some (record { out = not (same_post (post t k) (post s slot)) && row.out; from = row.from })
-post_home posts s t slot k row low high at =
-    ap (λ b. if b then option_map home (slice_get posts (post_at t.0 k)) else slice_get posts (post_at t.0 k)) (post_same s.0 t.0 slot k low high)
-    ∙ (ap (λ o. if t.0 == s.0 && k == slot then option_map home o else o) at ∙ by (t.0 == s.0 && k == slot))
-  where
-    by : (b : Bool) → (if b then option_map home (Some row) else Some row) ≡ Some (record { out = not b && row.out; from = row.from })
-    by true = refl
-    by false = refl
 
 -- Marks
 

@@ -2,7 +2,7 @@
 use Rattle.std.proofs.Common.{◌≡◌, ℕ, ◌≤◌, List, [], ◌∷◌, ◌++◌, Bool, true, false, refl, ap, sym, ◌∙◌, subst, Some, arith, cond}
 use Rattle.std.specs.Prelude.{if◌then◌else◌, ◌==◌, ◌&&◌, ◌||◌, not, filter}
 use Rattle.std.proofs.lemmas.Bool.Decides.{nat_tests}
-use Rattle.std.proofs.lemmas.Bool.{eqb-true, eq-eqb}
+use Rattle.std.proofs.lemmas.Bool.{eqb-true, eq-eqb, or_right}
 use Rattle.pipe_types.specs.declared.numbers.StageNo.{StageNo}
 use Rattle.pipe_types.specs.declared.numbers.SubNo.{SubNo}
 use Rattle.pipe_types.specs.declared.topology.Topology.{Topology}
@@ -36,10 +36,6 @@ came_more (x ∷ xs) ys n u h = either (n == x.1 && same_sub x.0 u) h (came_more
     either true h rest = refl
     either false h rest = rest h
 
-or_last : (a b : Bool) → b ≡ true → (a || b) ≡ true
-or_last true b h = refl
-or_last false b h = h
-
 -- what is kept of what was sent came
 came_kept : (test : SubNo × ℕ → Bool) (xs : List (SubNo × ℕ)) (d : SubNo × ℕ) (ys : List (SubNo × ℕ)) → filter test xs ≡ d ∷ ys → came_on xs (Some d.1) d.0 ≡ true
 came_kept test [] d ys e = cc
@@ -50,7 +46,7 @@ came_kept test (x ∷ xs) d ys e = either (test x) e (came_kept test xs d ys)
         let same : x ≡ d = cc in
         subst (λ (z : SubNo × ℕ). ((d.1 == z.1 && same_sub z.0 d.0) || came_on xs (Some d.1) d.0) ≡ true) (sym same)
         (ap (λ b. b || came_on xs (Some d.1) d.0) (both (d.1 == d.1) (same_sub d.0 d.0) (eq-eqb d.1 d.1 refl) (same_sub-self d.0)))
-    either false e rest = or_last (d.1 == x.1 && same_sub x.0 d.0) (came_on xs (Some d.1) d.0) (rest e)
+    either false e rest = or_right (d.1 == x.1 && same_sub x.0 d.0) (came_on xs (Some d.1) d.0) (rest e)
 
 -- ---- the slot's message was sent on the column's subscription
 
@@ -104,7 +100,7 @@ came_sent topology (step ∷ before) s slot n h own = came_sent topology before 
 
 -- ---- and on no other
 
-flip : (a b : ℕ) → (a == b) ≡ (b == a)
+pub flip : (a b : ℕ) → (a == b) ≡ (b == a)
 flip a b = grind (arith, nat_tests)
 
 sub_flip : (u v : SubNo) → same_sub u v ≡ same_sub v u

@@ -1,17 +1,14 @@
 -- The child of a slot is the message that was last started there, while it runs.
-use Rattle.std.proofs.Common.{◌≡◌, ℕ, ◌+◌, ◌*◌, length, [], ◌∷◌, Bool, true, false, refl, ap, sym, ◌∙◌, subst, Some, None, Option, inl, inr, arith}
-use Rattle.std.specs.Prelude.{◌⊎◌, if◌then◌else◌, ◌&&◌, ◌==◌, option_map, is_some}
+use Rattle.std.proofs.Common.{◌≡◌, ℕ, ◌+◌, length, [], ◌∷◌, Bool, true, false, refl, ap, sym, ◌∙◌, subst, Some, None, Option}
+use Rattle.std.specs.Prelude.{if◌then◌else◌, ◌&&◌, ◌==◌, option_map, is_some}
 use Rattle.std.proofs.lemmas.Bool.{eqb-true, eq-eqb, false_from_ne_true}
 use Rattle.pipe_types.specs.declared.numbers.StageNo.{StageNo}
 use Rattle.pipe_types.specs.declared.topology.Topology.{Topology}
 use Rattle.pipe_types.specs.declared.topology.StageSpec.{StageSpec}
-use Rattle.pipe_types.specs.declared.topology.Role.{Role}
-use Rattle.pipe_types.specs.declared.topology.Role.TheVariants.{Producer, Processor, Supervisor, Batcher, BatchProcessor}
 use Rattle.pipe_types.specs.declared.message.Why.{Why}
 use Rattle.pipe_types.specs.declared.message.Why.TheVariants.{Crash}
 use Rattle.pipe_types.specs.declared.message.Loss.TheVariants.{Killed}
-use Rattle.pipe_types.specs.declared.message.Place.{Place}
-use Rattle.pipe_types.specs.declared.message.Place.TheVariants.{Waiting, Inbox, Running, Gathered, InBatch, Acked, Lost}
+use Rattle.pipe_types.specs.declared.message.Place.TheVariants.{Waiting, Running, Lost}
 use Rattle.pipe_types.specs.declared.message.Reply.{Reply}
 use Rattle.pipe_types.specs.declared.message.Reply.TheVariants.{Pass, Failed as FailedReply, Raised, Crashed}
 use Rattle.pipe_types.specs.declared.step.Step.{Step}
@@ -25,57 +22,15 @@ use Rattle.pipe_model.specs.Posts.{in_slot, crashes, crashed_as}
 use Rattle.pipe_model.specs.Lives.{KillSet, reason_in, kill_set, death}
 use Rattle.pipe_model.specs.Content.{has_crash}
 use Rattle.pipe_model.specs.Flow.{place, runs_in, taken, dispatched, gathered, put_in_batch, by_batch, killed, lost_with, done, answered, reply_to, child_place, runs_again, deliveries, lost_over, view_of, next_units, closing, has_batchers_in, chunk_by, batch_after, child_ended, is_number, accepted_to, late_place}
-use Rattle.pipe_model.specs.Moves.{is_final}
 use Rattle.pipe_model.specs.Legal.{is_legal, has_role, is_supervisor_role, is_processor_role}
 use Rattle.pipe_laws.proofs.Tests.{clash, both, and_left, and_right, same_stage-true, same_stage-self}
 use Rattle.pipe_laws.proofs.Allowed.{legal_before, legal_step, child_facts, child_end_facts, done_facts}
 use Rattle.pipe_laws.proofs.Kept.{runs_here}
 use Rattle.pipe_laws.proofs.Busy.{two_roles}
-use Rattle.pipe_laws.proofs.Slots.{slot_reached, one_slot, slot_runs, number_is}
-use Rattle.pipe_laws.proofs.Places.{Move, stays, comes, comes_lost, sent_on, runs, waits, is_gathered, joins, ends, move_by}
-use Rattle.pipe_laws.proofs.Levels.{rank, level}
+use Rattle.pipe_laws.proofs.Slots.{one_slot, slot_runs, number_is, ran_before, ended_other, supervisor_processes}
 use Rattle.stage_laws.proofs.Supervised.{child_runs}
 use Rattle.core_laws.specs.Columns.{child_row, child_left}
 use Rattle.core_laws.specs.Slots.{child_if, child_of, child_in_slot}
-
--- what runs after a step ran before it, or stood in an inbox of the stage
-ran_or_stood : (topology : Topology) (before : History) (step : Step) (s : StageNo) (p q : Option Place) → Move topology before step p q → q ≡ Some (Running s) → (p ≡ Some (Running s)) ⊎ (level topology p ≡ 4 * rank topology s)
-ran_or_stood topology before step s p q stays e = inl e
-ran_or_stood topology before step s p q (runs u from) e =
-    let same : u.consumer ≡ s = cc in
-    inr (ap (λ x. 4 * rank topology x) same)
-ran_or_stood topology before step s p q (comes t) e = cc
-ran_or_stood topology before step s p q (comes_lost loss) e = cc
-ran_or_stood topology before step s p q (sent_on t u on) e = cc
-ran_or_stood topology before step s p q (waits t) e = cc
-ran_or_stood topology before step s p q (is_gathered u) e = cc
-ran_or_stood topology before step s p q (joins t b from) e = cc
-ran_or_stood topology before step s p q (ends x y final) e = not_final y final e
-  where
-    not_final : (y : Place) → is_final (Some y) ≡ true → Some y ≡ Some (Running s) → (Some x ≡ Some (Running s)) ⊎ (level topology (Some x) ≡ 4 * rank topology s)
-    not_final (Acked o) f e = cc
-    not_final (Lost l) f e = cc
-    not_final (Waiting t) f e = cc
-    not_final (Inbox u) f e = cc
-    not_final (Running t) f e = cc
-    not_final (Gathered t) f e = cc
-    not_final (InBatch b) f e = cc
-
--- a slot's message that runs after a step ran before it
-ran_before : (topology : Topology) (before : History) (step : Step) (s : StageNo) (slot n : ℕ) → is_legal topology before ≡ true → in_slot before s slot ≡ Some n → place topology (step ∷ before) n ≡ Some (Running s) → place topology before n ≡ Some (Running s)
-ran_before topology before step s slot n h e now = either (ran_or_stood topology before step s _ _ (move_by topology before step n) now)
-  where
-    either : (place topology before n ≡ Some (Running s)) ⊎ (level topology (place topology before n) ≡ 4 * rank topology s) → place topology before n ≡ Some (Running s)
-    either (inl ran) = ran
-    either (inr stood) = absurd (omega (arith, slot_reached topology before s slot n h e))
-
--- another child's end leaves the message
-ended_other : (topology : Topology) (before : History) (t s : StageNo) (k n : ℕ) (reply : Reply) → place topology before n ≡ Some (Running s) → (is_number (in_slot before t k) n ≡ true → ⊥) → place topology (ChildEnd t k reply ∷ before) n ≡ Some (Running s)
-ended_other topology before t s k n reply running other = rw (running, false_from_ne_true (is_number (in_slot before t k) n) other) (by_stage (same_stage t s) _)
-  where
-    by_stage : (b : Bool) (p : Place) → Some (if b && false then p else Running s) ≡ Some (Running s)
-    by_stage true p = refl
-    by_stage false p = refl
 
 running_here : (s : StageNo) → runs_in s (Some (Running s)) ≡ true
 running_here s = same_stage-self s
@@ -121,13 +76,6 @@ slot_role topology (Child t m k ∷ before) s slot n h e =
         ∙ (child_facts topology before t m k (legal_step topology before (Child t m k) h)).role
     either false other e rest = rest e
 slot_role topology (step ∷ before) s slot n h e = slot_role topology before s slot n (legal_before topology before step h) e
-
-supervisor_processes : (role : Role) → is_supervisor_role role ≡ true → is_processor_role role ≡ true → ⊥
-supervisor_processes Supervisor h k = let x : false ≡ true = k in cc
-supervisor_processes Producer h k = let x : false ≡ true = h in cc
-supervisor_processes Processor h k = let x : false ≡ true = h in cc
-supervisor_processes Batcher h k = let x : false ≡ true = h in cc
-supervisor_processes BatchProcessor h k = let x : false ≡ true = h in cc
 
 -- ---- kills
 

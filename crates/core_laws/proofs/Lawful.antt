@@ -27,7 +27,7 @@ use Rattle.pipe_model.specs.Flow.{waiting, inbox, sent, view_of, rooms_by, deliv
 use Rattle.pipe_model.specs.Legal.{is_legal, allows, may_dispatch, has_role, is_processor_role, passes, owed, is_dispatch_of, is_crash_of, happened, is_halt}
 use Rattle.pipe_laws.proofs.Tests.{clash, both, and_left, and_right, same_stage-true, same_stage-self, same_stage-flip, same_sub-self}
 use Rattle.pipe_laws.proofs.Lists.{Each, each_weaker, each_map, each_always}
-use Rattle.pipe_laws.proofs.Places.{IsOn, sends_on}
+use Rattle.pipe_laws.proofs.Places.{IsOn, sends_on, sends_each}
 use Rattle.pipe_laws.proofs.Numbers.{SubsAscendFrom, live_subs_ascend}
 use Rattle.pipe_laws.proofs.Sounds.{sound_ascends}
 use Rattle.pipe_laws.proofs.Chunks.{each_take}
@@ -39,7 +39,7 @@ use Rattle.queue_laws.specs.Queues.{without_first as law_without_first}
 use Rattle.queue_laws.proofs.Laws.{waiting_law, inbox_law, gathered_law}
 use Rattle.queue_laws.proofs.Sounds.{fits}
 use Rattle.queue_laws.proofs.Apart.{Apart, each_kept, each_mapped}
-use Rattle.queue_laws.proofs.Delivered.{rooms_apart, sends_each}
+use Rattle.queue_laws.proofs.Delivered.{rooms_apart}
 use Rattle.queue_laws.proofs.Singles.{demand_single}
 use Rattle.queue_laws.proofs.Filters.{filter_alike}
 use Rattle.core_tables.specs.Chunks.{without_first}

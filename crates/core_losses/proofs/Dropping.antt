@@ -14,11 +14,11 @@ use Rattle.pipe_model.specs.Standing.{going}
 use Rattle.message_ack.specs.declared.legs.Settled.{Settled}
 use Rattle.message_ack.specs.Ends.{IsSettledBy}
 use Rattle.core_batches.specs.Writes.{ended_by, marked_by, AreNumbers}
+use Rattle.core_batches.proofs.Settling.{ended_is}
 use Rattle.core_losses.specs.Losses.{loss_in}
 use Rattle.core_losses.specs.Legs.{AreDue, SettledAs, legs_after, leg_loss}
 use Rattle.core_losses.specs.Batches.{drop_of, batch_lost, fate_legs, ended_in, ended_with, marked_in}
 use Rattle.core_losses.proofs.LegsLost.{not_not}
-use Rattle.core_losses.proofs.Settling.{ended_is}
 
 pub not_dropped : (why : StageNo → Option Why) (incarnation : StageNo → ℕ) (place : BatchPlace) → drop_of why incarnation place ≡ None → batch_lost why incarnation place ≡ legs_after (leg_loss why incarnation) place
 not_dropped why incarnation (Sent legs) e = refl

@@ -1,4 +1,3 @@
-pub mod Settling
 mod Passing
 pub mod LegsLost
 mod Dropping

@@ -1,7 +1,6 @@
 -- The batches that a kill meets, as the tables have them.
 use Rattle.std.proofs.Common.{◌≡◌, ℕ, suc, ◌+◌, ◌≤◌, List, [], ◌∷◌, ◌++◌, map, length, Bool, true, false, refl, ap, sym, ◌∙◌, subst, Some, None, Option, arith, All}
-use Rattle.std.specs.Prelude.{slice_get, option_map, if◌then◌else◌, ◌&&◌, ◌==◌, is_some, bytes_eq}
-use Rattle.std.proofs.lemmas.Bool.{eqb-true, false_from_ne_true}
+use Rattle.std.specs.Prelude.{slice_get, option_map, if◌then◌else◌, ◌&&◌, ◌==◌, is_some}
 use Rattle.std.proofs.lemmas.List.{append-nil}
 use Rattle.pipe_types.specs.declared.numbers.StageNo.{StageNo}
 use Rattle.pipe_types.specs.declared.numbers.SubNo.{SubNo}
@@ -11,7 +10,6 @@ use Rattle.pipe_types.specs.declared.message.Why.{Why}
 use Rattle.pipe_types.specs.declared.message.Loss.{Loss}
 use Rattle.pipe_types.specs.declared.message.Place.TheVariants.{InBatch}
 use Rattle.pipe_types.specs.declared.message.BatchEnd.TheVariants.{Outcomes}
-use Rattle.pipe_types.specs.declared.room.Sent.{Sent as SentUnit}
 use Rattle.pipe_types.specs.declared.step.Step.{Step}
 use Rattle.pipe_types.specs.declared.step.Step.TheVariants.{Dispatch, Take, Close, Wrote, Kill, Halt}
 use Rattle.pipe_types.specs.Numbers.{same_stage, batch_no}
@@ -19,33 +17,30 @@ use Rattle.pipe_types.specs.Sound.{IsSound}
 use Rattle.pipe_types.specs.Stages.{spec_of, spec_in}
 use Rattle.pipe_model.specs.History.{History, closed, incarnation}
 use Rattle.pipe_model.specs.Lives.{KillSet, reason_in, kill_set}
-use Rattle.pipe_model.specs.Content.{content, key_in, gathers, arrivals}
+use Rattle.pipe_model.specs.Content.{arrivals}
 use Rattle.pipe_model.specs.Batches.{Batch, BatchPlace, AtBatcher, Sent, Dropped, Leg, LegPlace, new_legs, leg_taken, leg_answered, batch_on_legs, batch_sent, batch_killed, dropped_in}
-use Rattle.pipe_model.specs.Flow.{place, batch, waiting, among, view_of, subs_of, deliveries, closing, next_units, new_batch, change_place, numbers_in, is_batcher, is_gathered_in, batch_waits_in, waits_in, at_batcher}
+use Rattle.pipe_model.specs.Flow.{place, batch, waiting, among, view_of, subs_of, deliveries, closing, next_units, new_batch, change_place, numbers_in, is_batcher, batch_waits_in, waits_in, at_batcher}
 use Rattle.pipe_model.specs.Legal.{is_legal, is_batcher_role}
 use Rattle.pipe_model.specs.Taken.{closed_as}
-use Rattle.pipe_laws.proofs.Tests.{clash, same_stage-true}
+use Rattle.pipe_laws.proofs.Tests.{same_stage-true}
 use Rattle.pipe_laws.proofs.Lists.{Each, each_weaker, each_filter, each_always, each_among}
 use Rattle.pipe_laws.proofs.Accepted.{placed_accepted}
 use Rattle.pipe_laws.proofs.Allowed.{legal_before}
-use Rattle.pipe_laws.proofs.Entries.{is_waiting, waiting_each}
-use Rattle.pipe_laws.proofs.Places.{IsOn, sends_on}
 use Rattle.pipe_laws.proofs.Progress.{in_batch_going}
 use Rattle.pipe_laws.proofs.Settled.{batch_closed}
 use Rattle.pipe_laws.proofs.Sounds.{sound_ascends}
-use Rattle.queue_laws.proofs.Apart.{Apart, apart_kept}
+use Rattle.pipe_laws.proofs.Idle.{spec_batcher}
+use Rattle.queue_laws.proofs.Apart.{Apart}
 use Rattle.queue_laws.proofs.Batched.{BatchListed, batch_listed, BatchHolds, batch_holds}
 use Rattle.queue_laws.proofs.Distinct.{itself}
-use Rattle.queue_laws.proofs.Gathering.{gathers_once}
 use Rattle.queue_laws.proofs.Laws.{batch_stands_law, holds_law}
-use Rattle.queue_laws.proofs.Roles.{spec_batcher}
-use Rattle.queue_laws.proofs.Singles.{none_of}
 use Rattle.queue_laws.proofs.Sounds.{found_self}
 use Rattle.stage_laws.proofs.Bounds.{batch_least}
 use Rattle.stage_laws.proofs.Settling.{in_numbers}
 use Rattle.core_tables.specs.declared.rows.BatchRow.{BatchRow}
 use Rattle.core_tables.specs.Tables.{queue_at}
-use Rattle.core_batches.proofs.Writing.{IsOnSubs, PlaceOn, legs_are_on}
+use Rattle.core_batches.proofs.Writing.{IsOnSubs, PlaceOn, legs_are_on, sent_waits, numbers_once}
+use Rattle.core_batches.proofs.Settling.{pairs_apart}
 use Rattle.core_laws.specs.Columns.{closed_numbers, sent_on, part_of}
 use Rattle.core_laws.proofs.Lawful.{each_all}
 use Rattle.core_laws.proofs.Parts.{closed_is}
@@ -56,7 +51,6 @@ use Rattle.core_losses.specs.Losses.{incarnation_at, loss_in}
 use Rattle.core_losses.specs.Legs.{leg_due, leg_loss, AreDue}
 use Rattle.core_losses.specs.Batches.{or_loss, first_loss, drop_in, drop_due, drop_of, SeenRow, AreSeen}
 use Rattle.core_losses.proofs.Dues.{Killing, legs_due, legs_few, by_both}
-use Rattle.core_losses.proofs.Settling.{pairs_apart}
 
 -- A dropped batch was sent on no subscription
 
@@ -67,16 +61,6 @@ DroppedAt subs _ = Unit {0}
 abbrev DroppedOn : List SubNo → Option Batch → Type 0
 DroppedOn subs None = Unit {0}
 DroppedOn subs (Some x) = DroppedAt subs x.place
-
-sent_waits : (topology : Topology) (before : History) (s : StageNo) (b : ℕ) → is_batcher (spec_of topology s) ≡ true → batch_waits_in s (batch topology before b) ≡ false → subs_of (deliveries topology before s) b ≡ []
-sent_waits topology before s b batcher none =
-    none_of (deliveries topology before s) b
-    (each_weaker (λ (d : SentUnit). IsOn topology before s d.sub × (is_waiting topology before s d.unit ≡ true)) (λ (d : SentUnit). (d.unit == b) ≡ false)
-    (λ d p. false_from_ne_true (d.unit == b) (λ same.
-    let here : batch_waits_in s (batch topology before d.unit) ≡ true = sym (ap (λ c. if c then batch_waits_in s (batch topology before d.unit) else waits_in s (place topology before d.unit)) batcher) ∙ p.1 in
-    clash (batch_waits_in s (batch topology before b)) (ap (λ k. batch_waits_in s (batch topology before k)) (sym (eqb-true d.unit b same)) ∙ here) none))
-    (deliveries topology before s)
-    (sends_on topology before s (λ n. is_waiting topology before s n ≡ true) (waiting_each topology before s)))
 
 mapped_drop : (subs : List SubNo) (change : BatchPlace → BatchPlace) → ((p : BatchPlace) → DroppedAt subs p → DroppedAt subs (change p)) → (o : Option Batch) → DroppedOn subs o → DroppedOn subs (option_map (λ x. change_place x (change x.place)) o)
 mapped_drop subs change f None h = tt
@@ -159,16 +143,6 @@ dropped_on topology (Halt ∷ before) b h =
 dropped_on topology (step ∷ before) b h = dropped_on topology before b (legal_before topology before step h)
 
 -- The numbers of a batch
-
-numbers_once : (topology : Topology) (before : History) (b : ℕ) → is_legal topology before ≡ true → Apart itself (closed_numbers (closed_as topology before b))
-numbers_once topology [] b h = tt
-numbers_once topology (Close s first trigger ∷ before) b h = by (b == closed before + 1) (numbers_once topology before b (legal_before topology before (Close s first trigger) h))
-  where
-    by : (c : Bool) → Apart itself (closed_numbers (closed_as topology before b))
-        → Apart itself (closed_numbers (if c then Some (record { numbers = closing before (view_of topology before) s first.0; trigger = trigger }) else closed_as topology before b))
-    by true old = apart_kept itself (λ n. is_gathered_in s (place topology before n) && bytes_eq (key_in (content before n)) (key_in (content before first.0))) (gathers before s) (gathers_once topology before s (legal_before topology before (Close s first trigger) h))
-    by false old = old
-numbers_once topology (step ∷ before) b h = numbers_once topology before b (legal_before topology before step h)
 
 same_some : {A B : Type 0} (f : A → B) (o : Option A) → is_some o ≡ is_some (option_map f o)
 same_some f None = refl

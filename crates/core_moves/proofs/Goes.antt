@@ -1,6 +1,6 @@
 -- Whether a dispatcher sends anything of what waits.
 use Rattle.std.proofs.Common.{◌≡◌, ℕ, ◌+◌, ◌≤◌, List, [], ◌∷◌, ◌++◌, length, map, refl, ap, sym, ◌∙◌, subst, Bool, true, false, arith, inl, inr}
-use Rattle.std.specs.Prelude.{◌&&◌, ◌||◌, ◌==◌, not, nat_lt, nat_le, filter, count_by, if◌then◌else◌, ◌⊎◌, cond}
+use Rattle.std.specs.Prelude.{◌&&◌, ◌||◌, ◌==◌, not, nat_lt, nat_le, filter, count_by, cond}
 use Rattle.std.specs.List.{list_any, list_all}
 use Rattle.std.proofs.lemmas.Bool.Decides.{nat_tests}
 use Rattle.std.proofs.lemmas.Bool.{false_from_ne_true, ltb-true}
@@ -13,20 +13,11 @@ use Rattle.pipe_types.specs.Numbers.{sub_before}
 use Rattle.pipe_model.specs.Flow.{is_empty}
 use Rattle.pipe_laws.proofs.Tests.{clash, both, and_left, and_right}
 use Rattle.pipe_laws.proofs.Lists.{Each, each_weaker}
-use Rattle.queue_laws.proofs.Served.{served_chain, Has}
-use Rattle.stage_laws.proofs.Firsts.{not_itself}
+use Rattle.queue_laws.proofs.Served.{Has}
+use Rattle.move_laws.proofs.Demands.{none_ahead, has_kept, First, first_room}
 use Rattle.core_moves.specs.Sends.{has_left, takes_part, goes_some}
 
 -- Lists
-
-kept_some : (test : Room → Bool) (r : Room) (rooms : List Room) → Has r rooms → test r ≡ true → is_empty (filter test rooms) ≡ false
-kept_some test r [] has h = absurd has
-kept_some test r (x ∷ rooms) has h = by_place has (test x) refl (kept_some test r rooms)
-  where
-    by_place : (x ≡ r) ⊎ Has r rooms → (b : Bool) → test x ≡ b → (Has r rooms → test r ≡ true → is_empty (filter test rooms) ≡ false) → is_empty (cond b (x ∷ filter test rooms) (filter test rooms)) ≡ false
-    by_place has true e rest = refl
-    by_place (inl is) false e rest = clash (test x) (ap test is ∙ h) e
-    by_place (inr there) false e rest = rest there h
 
 kept_none : (test : Room → Bool) (rooms : List Room) → Each (λ r. test r ≡ false) rooms → is_empty (filter test rooms) ≡ true
 kept_none test [] each = refl
@@ -71,32 +62,6 @@ each_empty n (r ∷ rooms) = refl
 
 -- By demand
 
-record First (rooms : List Room) : Type 0 where
-  room : Room
-  has : Has room rooms
-  first : Each (λ v. is_served_before v room ≡ false) rooms
-
-first_room : (r : Room) (rooms : List Room) → First (r ∷ rooms)
-first_room r [] = record { room = r; has = inl refl; first = (not_itself r, tt) }
-first_room r (q ∷ rooms) = by_rest (first_room q rooms)
-  where
-    by_rest : First (q ∷ rooms) → First (r ∷ q ∷ rooms)
-    by_rest rest = either (is_served_before r rest.room) refl
-      where
-        none : is_served_before r rest.room ≡ true → (v : Room) → is_served_before v rest.room ≡ false → is_served_before v r ≡ false
-        none e v h = false_from_ne_true (is_served_before v r) (λ k. clash (is_served_before v rest.room) (served_chain v r rest.room k e) h)
-
-        either : (b : Bool) → is_served_before r rest.room ≡ b → First (r ∷ q ∷ rooms)
-        either false e = record { room = rest.room; has = inr rest.has; first = (e, rest.first) }
-        either true e = record { room = r; has = inl refl; first = (not_itself r, each_weaker (λ v. is_served_before v rest.room ≡ false) (λ v. is_served_before v r ≡ false) (none e) (q ∷ rooms) rest.first) }
-
-none_ahead : (r : Room) (rooms : List Room) → Each (λ v. is_served_before v r ≡ false) rooms → ahead rooms r ≡ 0
-none_ahead r [] h = refl
-none_ahead r (v ∷ rooms) h =
-    let one : ahead (v ∷ rooms) r ≡ (if is_served_before v r then v.left else 0) + ahead rooms r = sum_by-cons (λ v. if is_served_before v r then v.left else 0) v rooms in
-    let zero_is : (if is_served_before v r then v.left else 0) ≡ 0 = ap (λ b. if b then v.left else 0) h.0 in
-    omega (arith, one, zero_is, none_ahead r rooms h.1)
-
 -- a room that is served no later than an open one is open
 no_less : (v u : Room) → is_served_before v u ≡ false → has_left v ≡ true → 1 ≤ u.left
 no_less v u h k = by (nat_lt u.left v.left) refl h
@@ -115,7 +80,7 @@ goes_demand (r ∷ rooms) part h =
     let some = the_one has_left (r ∷ rooms) h in
     let left : 1 ≤ f.room.left = no_less some.0 f.room (has_each (λ v. is_served_before v f.room ≡ false) some.0 (r ∷ rooms) f.first some.1) some.2 in
     let none : ahead (r ∷ rooms) f.room ≡ 0 = none_ahead f.room (r ∷ rooms) f.first in
-    kept_some (goes Demand (r ∷ rooms) [] part) f.room (r ∷ rooms) f.has (grind (arith, nat_tests))
+    has_kept (goes Demand (r ∷ rooms) [] part) f.room (r ∷ rooms) f.has (grind (arith, nat_tests))
 
 stays_demand : (rooms : List Room) (earlier : List ℕ) (part : ℕ) → list_any has_left rooms ≡ false → is_empty (filter (goes Demand rooms earlier part) rooms) ≡ true
 stays_demand rooms earlier part h =
@@ -149,7 +114,7 @@ stays_broadcast (r ∷ rooms) earlier part h = kept_none (goes Broadcast (r ∷ 
 
 goes_broadcast : (rooms : List Room) (part : ℕ) → (not (is_empty rooms) && list_all has_left rooms) ≡ true → is_empty (filter (goes Broadcast rooms [] part) rooms) ≡ false
 goes_broadcast [] part h = cc
-goes_broadcast (r ∷ rooms) part h = kept_some (goes Broadcast (r ∷ rooms) [] part) r (r ∷ rooms) (inl refl) h
+goes_broadcast (r ∷ rooms) part h = has_kept (goes Broadcast (r ∷ rooms) [] part) r (r ∷ rooms) (inl refl) h
 
 -- By partition
 
@@ -174,7 +139,7 @@ count_none part (p ∷ earlier) each =
 
 goes_partition : (rooms : List Room) (earlier : List ℕ) (part : ℕ) → Each (λ p. takes_part rooms p ≡ false) earlier → takes_part rooms part ≡ true → is_empty (filter (goes Partition rooms earlier part) rooms) ≡ false
 goes_partition rooms earlier part each h =
-    kept_some (goes Partition rooms earlier part) found.0 rooms found.1 (both (part == found.0.part) (nat_lt (count_by (λ p. p == found.0.part) earlier) found.0.left) (and_left (part == found.0.part) _ found.2) room)
+    has_kept (goes Partition rooms earlier part) found.0 rooms found.1 (both (part == found.0.part) (nat_lt (count_by (λ p. p == found.0.part) earlier) found.0.left) (and_left (part == found.0.part) _ found.2) room)
   where
     found : (r : Room) × Has r rooms × ((part == r.part && has_left r) ≡ true)
     found = the_one (λ r. part == r.part && has_left r) rooms h

@@ -2,7 +2,7 @@
 use Rattle.std.proofs.Common.{◌≡◌, ℕ, ◌+◌, ◌<◌, ◌≤◌, List, Bool, true, false, refl, ap, sym, ◌∙◌, subst, Some, None, Option, option_map, arith}
 use Rattle.std.specs.Prelude.{slice_get, if◌then◌else◌, ◌&&◌, ◌||◌, ◌==◌, not, nat_le, is_none, IsSome}
 use Rattle.std.proofs.lemmas.Bool.Decides.{nat_tests}
-use Rattle.std.proofs.lemmas.Bool.{false_from_ne_true}
+use Rattle.std.proofs.lemmas.Bool.{false_from_ne_true, or_left, or_right}
 use Rattle.pipe_types.specs.declared.numbers.StageNo.{StageNo}
 use Rattle.pipe_types.specs.declared.topology.Topology.{Topology}
 use Rattle.pipe_types.specs.declared.topology.StageSpec.{StageSpec}
@@ -77,14 +77,6 @@ joins_fed topology s t c p b e f = ap (λ x. feeds topology p c && x) f ∙ (and
     and_true : (a : Bool) → (a && true) ≡ a
     and_true true = refl
     and_true false = refl
-
-or_left : (a b : Bool) → a ≡ true → (a || b) ≡ true
-or_left true b h = refl
-or_left false b h = cc
-
-or_right : (a b : Bool) → b ≡ true → (a || b) ≡ true
-or_right true b h = refl
-or_right false b h = h
 
 fed_as : (topology : Topology) (s t c p : StageNo) → c ≡ s → p ≡ t → feeds topology p c ≡ feeds topology t s
 fed_as topology s t c p to of = ap (λ x. feeds topology p x) to ∙ ap (λ x. feeds topology x s) of

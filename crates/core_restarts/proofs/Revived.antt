@@ -27,6 +27,7 @@ use Rattle.core_tables.specs.declared.rows.StageRow.{StageRow}
 use Rattle.core_tables.specs.declared.rows.Totals.{Totals}
 use Rattle.core_laws.specs.Columns.{stage_row}
 use Rattle.core_laws.proofs.Past.{known_within, live_known}
+use Rattle.core_laws.proofs.Came.{flip}
 use Rattle.core_state.specs.declared.state.Core.{Core}
 use Rattle.core_state.specs.Stands.{Fields, Holds}
 use Rattle.core_state.proofs.Reading.{live_by}
@@ -35,9 +36,6 @@ use Rattle.core_calls.proofs.Ending.{row_changed}
 use Rattle.stage_laws.proofs.Numbering.{numbered_topology}
 use Rattle.core_restarts.specs.Renewals.{restarted, live_upto, begins, renewed, IsClosed, AreRenewed}
 use Rattle.core_restarts.proofs.Unbegun.{unasked, unsent, unhandled, generation_room}
-
-flip : (a b : ℕ) → (a == b) ≡ (b == a)
-flip a b = grind (arith, nat_tests)
 
 -- Which stages live then
 

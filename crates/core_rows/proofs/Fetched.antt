@@ -10,7 +10,7 @@ use Rattle.pipe_types.specs.declared.topology.StageSpec.{StageSpec}
 use Rattle.pipe_types.specs.declared.topology.Role.{Role}
 use Rattle.pipe_types.specs.declared.step.Step.{Step}
 use Rattle.pipe_types.specs.declared.step.Step.TheVariants.{Fetch, Take}
-use Rattle.pipe_types.specs.Numbers.{post, same_stage, same_sub}
+use Rattle.pipe_types.specs.Numbers.{post, same_sub}
 use Rattle.pipe_types.specs.Stages.{spec_of}
 use Rattle.pipe_model.specs.History.{History, accepted_bytes}
 use Rattle.pipe_model.specs.Posts.{is_out}
@@ -20,23 +20,11 @@ use Rattle.pipe_model.specs.Legal.{allows, may_come, owed, passes, bound, fetch_
 use Rattle.pipe_model.specs.Moves.{first_take}
 use Rattle.pipe_laws.proofs.Tests.{same_sub-self}
 use Rattle.core_laws.specs.Columns.{last_fetch}
+use Rattle.core_laws.proofs.Bounds.{fetch_out_is}
 use Rattle.core_rows.specs.Jobs.{may_fetch_now, may_take_now}
 
--- how many records the last fetch might bring
-abbrev brought : History → StageNo → ℕ
-brought [] s = 0
-brought (Fetch t n ∷ before) s = if same_stage s t then n else brought before s
-brought (_ ∷ before) s = brought before s
-
-last_same : (before : History) (s : StageNo) → last_fetch before s ≡ brought before s
-last_same [] s = refl
-last_same (Fetch t n ∷ before) s = ap (λ m. if same_stage s t then n else m) (last_same before s)
-last_same (_ ∷ before) s = last_same before s
-
 pub fetch_by : (before : History) (s : StageNo) (b : Bool) → is_out before (post s 0) ≡ b → (if b then last_fetch before s else 0) ≡ fetch_out before s
-fetch_by before s b e =
-    let is : fetch_out before s ≡ (if is_out before (post s 0) then brought before s else 0) = refl in
-    ap (λ n. if b then n else 0) (last_same before s) ∙ (ap (λ c. if c then brought before s else 0) (sym e) ∙ sym is)
+fetch_by before s b e = ap (λ c. if c then last_fetch before s else 0) (sym e) ∙ sym (fetch_out_is before s)
 
 -- the fetches of these stages together
 abbrev pub out_among : History → List StageSpec → ℕ

@@ -1,51 +1,29 @@
 -- Where no job is out no batch is at work.
-use Rattle.std.proofs.Common.{◌≡◌, ℕ, ◌+◌, List, [], ◌∷◌, Bool, true, false, refl, ap, sym, ◌∙◌, Some, None, Option, arith}
-use Rattle.std.specs.Prelude.{is_some, ◌&&◌, ◌||◌}
-use Rattle.pipe_types.specs.declared.numbers.SubNo.{SubNo}
+use Rattle.std.proofs.Common.{◌≡◌, ℕ, ◌+◌, Bool, true, false, refl, ap, sym, ◌∙◌, Some, None, Option, arith}
+use Rattle.std.specs.Prelude.{is_some, ◌&&◌}
 use Rattle.pipe_types.specs.declared.numbers.StageNo.{StageNo}
 use Rattle.pipe_types.specs.declared.topology.Topology.{Topology}
 use Rattle.pipe_types.specs.declared.topology.StageSpec.{StageSpec}
 use Rattle.pipe_types.specs.declared.topology.Role.{Role}
 use Rattle.pipe_types.specs.declared.topology.Role.TheVariants.{Producer, Processor, Supervisor, Batcher, BatchProcessor}
-use Rattle.pipe_types.specs.Numbers.{same_sub}
 use Rattle.pipe_types.specs.Stages.{spec_of}
 use Rattle.pipe_model.specs.History.{History}
-use Rattle.pipe_model.specs.Batches.{Batch, BatchPlace, AtBatcher, Sent, Dropped, Leg}
 use Rattle.pipe_model.specs.Lives.{is_live}
-use Rattle.pipe_model.specs.Flow.{batch, sent_to, is_empty, is_batcher, waiting, inbox, chunk_by, view_of}
+use Rattle.pipe_model.specs.Flow.{batch, sent_to, is_empty, waiting, inbox, chunk_by, view_of}
 use Rattle.pipe_model.specs.Legal.{is_legal, owed, is_current, is_batch_processor_role}
 use Rattle.pipe_model.specs.Moves.{jobs_out}
-use Rattle.pipe_model.specs.Standing.{leg_works, leg_works_in, works_at, at_work, is_at_work, is_clear, gathered_in}
-use Rattle.pipe_laws.proofs.Tests.{clash, same_sub-true, and_right}
-use Rattle.pipe_laws.proofs.Lists.{Each}
+use Rattle.pipe_model.specs.Standing.{leg_works_in, at_work, is_clear, gathered_in}
+use Rattle.pipe_laws.proofs.Tests.{clash, and_right}
 use Rattle.pipe_laws.proofs.Entries.{EntryFits, entries_fit}
 use Rattle.pipe_laws.proofs.Levels.{rank, rank_of, rank_in, feeds_down}
 use Rattle.queue_laws.proofs.Roles.{batcher_rank}
-use Rattle.queue_laws.proofs.Batched.{BatchListed, PlaceListed, LegListed, batch_listed}
+use Rattle.queue_laws.proofs.Batched.{batch_listed}
 use Rattle.queue_laws.proofs.BatchWork.{batch_work, WorksTaken}
 use Rattle.queue_laws.proofs.Dry.{nothing_of}
 use Rattle.queue_laws.proofs.AtWork.{calm_batch}
 use Rattle.queue_laws.proofs.Laws.{dead_law}
 use Rattle.move_laws.proofs.Still.{found_role}
-use Rattle.move_laws.proofs.Rested.{current_none}
-
--- only a batcher's subscription carries legs
-leg_batcher : (topology : Topology) (before : History) (u : SubNo) (b : ℕ) → (o : Option Batch) → BatchListed topology before b o → leg_works_in u o ≡ true → is_batcher (spec_of topology u.producer) ≡ true
-leg_batcher topology before u b None lists h = cc
-leg_batcher topology before u b (Some x) lists h = by_place x.place lists h
-  where
-    by_legs : (legs : List Leg) → Each (LegListed topology before b) legs → leg_works u legs ≡ true → is_batcher (spec_of topology u.producer) ≡ true
-    by_legs [] each k = cc
-    by_legs (leg ∷ legs) each k = either (same_sub u leg.sub) refl (is_at_work leg.place) k (by_legs legs each.1)
-      where
-        either : (a : Bool) → same_sub u leg.sub ≡ a → (c : Bool) → ((a && c) || leg_works u legs) ≡ true → (leg_works u legs ≡ true → is_batcher (spec_of topology u.producer) ≡ true) → is_batcher (spec_of topology u.producer) ≡ true
-        either true is c k rest = ap (λ v. is_batcher (spec_of topology v.producer)) (same_sub-true u leg.sub is) ∙ each.0.batcher
-        either false is c k rest = rest k
-
-    by_place : (p : BatchPlace) → PlaceListed topology before b p → works_at u p ≡ true → is_batcher (spec_of topology u.producer) ≡ true
-    by_place (AtBatcher s) lists h = cc
-    by_place (Dropped l) lists h = cc
-    by_place (Sent legs) lists h = by_legs legs lists h
+use Rattle.move_laws.proofs.Rested.{current_none, leg_batcher}
 
 -- a live stage works on no batch where its job is home
 work_home : (topology : Topology) (before : History) (s : StageNo) (spec : StageSpec) → is_legal topology before ≡ true → owed topology before ≡ None → jobs_out topology before ≡ false

@@ -15,10 +15,10 @@ use Rattle.pipe_types.specs.Sound.{IsSound}
 use Rattle.pipe_types.specs.Stages.{feeds, spec_of}
 use Rattle.pipe_laws.proofs.Lists.{Each, each_weaker, each_always, each_map}
 use Rattle.pipe_laws.proofs.Tests.{and_left, and_right, both, same_sub-self}
+use Rattle.pipe_laws.proofs.Places.{sends_each}
 use Rattle.pipe_model.specs.History.{History, asked}
 use Rattle.pipe_model.specs.Flow.{kind_in, rooms_by, view_of, sent, index_in}
 use Rattle.pipe_model.specs.Lives.{is_live, is_live_sub, current_sub, live_subs, live_subs_from}
-use Rattle.queue_laws.proofs.Delivered.{sends_each}
 use Rattle.queue_laws.proofs.Roles.{fed_spec}
 use Rattle.stage_laws.proofs.Numbering.{numbered_topology}
 use Rattle.core_tables.specs.Tables.{queue_at, IsWithin}

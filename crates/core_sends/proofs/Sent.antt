@@ -14,6 +14,7 @@ use Rattle.pipe_types.specs.Stages.{spec_of}
 use Rattle.pipe_types.specs.Dispatchers.{sends_by_place}
 use Rattle.pipe_laws.proofs.Lists.{Each, each_weaker, each_always, each_filter}
 use Rattle.pipe_laws.proofs.Tests.{same_stage-self}
+use Rattle.pipe_laws.proofs.Places.{sends_each}
 use Rattle.pipe_model.specs.History.{History, accepted}
 use Rattle.pipe_model.specs.Content.{arrivals}
 use Rattle.pipe_model.specs.Legal.{is_legal, allows}
@@ -21,7 +22,6 @@ use Rattle.pipe_model.specs.Flow.{place, batch, waiting, deliveries, dispatched,
 use Rattle.queue_laws.specs.Queues.{left_over}
 use Rattle.queue_laws.proofs.Apart.{Apart, apart_kept}
 use Rattle.queue_laws.proofs.ByPlace.{deliveries_by_place}
-use Rattle.queue_laws.proofs.Delivered.{sends_each}
 use Rattle.queue_laws.proofs.Filters.{filter_each, filter_both}
 use Rattle.queue_laws.proofs.Laws.{waiting_law}
 use Rattle.queue_laws.proofs.Sounds.{fits}

@@ -29,25 +29,11 @@ use Rattle.pipe_laws.proofs.Levels.{rank, level, level_grows}
 use Rattle.pipe_laws.proofs.Busy.{two_roles, same_incarnation}
 use Rattle.pipe_laws.proofs.Kept.{runs_here}
 use Rattle.pipe_laws.proofs.Held.{held, stands_live}
-use Rattle.pipe_laws.proofs.Slots.{first_stands, supervisor_writes, number_is, slot_reached, one_slot}
+use Rattle.pipe_laws.proofs.Slots.{first_stands, supervisor_writes, number_is, slot_reached, one_slot, supervisor_produces, supervisor_processes}
 use Rattle.pipe_laws.proofs.Allowed.{legal_before, legal_step, unowed, accept_role, done_facts, wrote_facts, ChildFacts, child_facts, LateFacts, late_facts, restart_dead}
 use Rattle.count_laws.specs.Counts.{child_starts}
 
 -- Roles
-
-apart_producer : (role : Role) → is_supervisor_role role ≡ true → is_producer_role role ≡ true → ⊥
-apart_producer Supervisor h k = let x : false ≡ true = k in cc
-apart_producer Producer h k = let x : false ≡ true = h in cc
-apart_producer Processor h k = let x : false ≡ true = h in cc
-apart_producer Batcher h k = let x : false ≡ true = h in cc
-apart_producer BatchProcessor h k = let x : false ≡ true = h in cc
-
-apart_processor : (role : Role) → is_supervisor_role role ≡ true → is_processor_role role ≡ true → ⊥
-apart_processor Supervisor h k = let x : false ≡ true = k in cc
-apart_processor Producer h k = let x : false ≡ true = h in cc
-apart_processor Processor h k = let x : false ≡ true = h in cc
-apart_processor Batcher h k = let x : false ≡ true = h in cc
-apart_processor BatchProcessor h k = let x : false ≡ true = h in cc
 
 -- a supervisor stands in the second rank
 second : (topology : Topology) (s : StageNo) → has_role topology s is_supervisor_role ≡ true → rank topology s ≡ 1
@@ -168,16 +154,16 @@ ended topology before step s slot n h a now here own current = by_step step (leg
         let out : out_from before (post t k) ≡ incarnation before t = eqb-true _ _ (and_right (is_out before (post t k)) _ from) in
         let live : is_live topology before t ≡ true = subst (λ x. is_live topology before x ≡ true) there (runs_live topology before s n (legal_before topology before step h) here) in
         clash (is_live topology before t && incarnation before t == i) (both (is_live topology before t) _ live (eq-eqb (incarnation before t) i (sym out ∙ facts.from))) facts.gone
-    by_step (Accept t records) l e now = absurd (cross t _ is_producer_role apart_producer e (accept_role topology before t records l))
+    by_step (Accept t records) l e now = absurd (cross t _ is_producer_role supervisor_produces e (accept_role topology before t records l))
     by_step (Quiet t) l e now =
-        absurd (cross t _ is_producer_role apart_producer e (and_left (has_role topology t is_producer_role) _ (and_right (is_live topology before t) _ (unowed topology before (Quiet t) (λ x. refl) (λ x. refl) l))))
+        absurd (cross t _ is_producer_role supervisor_produces e (and_left (has_role topology t is_producer_role) _ (and_right (is_live topology before t) _ (unowed topology before (Quiet t) (λ x. refl) (λ x. refl) l))))
     by_step (SourceEnd t how) l e now = by_stage (same_stage t (stage 0)) (and_left (not (same_stage t (stage 0))) _ e) (unowed topology before (SourceEnd t how) (λ x. refl) (λ x. refl) l)
       where
         by_stage : (b : Bool) → not b ≡ true → (if b then not (has_ended before t) && same_truth (is_limit how) (controls before == 10000) else is_live topology before t && (has_role topology t is_producer_role && (is_current before t 0 && not (is_limit how)))) ≡ true → crashes (SourceEnd t how ∷ before) n ≡ crashes before n + 1
         by_stage true f row = cc
         by_stage false f row =
-            absurd (cross t _ is_producer_role apart_producer (and_right (not (same_stage t (stage 0))) _ e) (and_left (has_role topology t is_producer_role) _ (and_right (is_live topology before t) _ row)))
-    by_step (Done t replies) l e now = absurd (cross t _ is_processor_role apart_processor e (done_facts topology before t replies l).role)
+            absurd (cross t _ is_producer_role supervisor_produces (and_right (not (same_stage t (stage 0))) _ e) (and_left (has_role topology t is_producer_role) _ (and_right (is_live topology before t) _ row)))
+    by_step (Done t replies) l e now = absurd (cross t _ is_processor_role supervisor_processes e (done_facts topology before t replies l).role)
     by_step (Wrote t bytes end) l e now = absurd (cross t _ is_batch_processor_role supervisor_writes e (wrote_facts topology before t bytes end l).role)
     by_step _ l e now = let x : false ≡ true = e in cc
 

@@ -4,7 +4,6 @@ use Rattle.std.specs.Prelude.{◌==◌, if◌then◌else◌}
 use Rattle.std.specs.List.{AllByRecursion}
 use Rattle.std.proofs.lemmas.Bool.{eqb-true, eq-eqb}
 use Rattle.std.proofs.lemmas.List.Elements.{recursion_from_All}
-use Rattle.pipe_types.specs.declared.numbers.Post.{Post}
 use Rattle.pipe_types.specs.declared.step.Step.{Step}
 use Rattle.pipe_types.specs.declared.topology.Topology.{Topology}
 use Rattle.pipe_types.specs.Sound.{IsSound}
@@ -21,14 +20,14 @@ use Rattle.stage_bodies.specs.Posts.{place_at, IsJobOf, step_of}
 use Rattle.stage_bodies.specs.declared.job.Answer.{Answer}
 use Rattle.stage_bodies.specs.declared.job.Job.{Job}
 use Rattle.stage_bodies.specs.declared.job.Outcome.{Outcome as Came}
-use Rattle.body_laws.specs.Keeps.{KeepsBody, KeepsPartly, Keeps}
+use Rattle.body_laws.specs.Keeps.{KeepsBody, Keeps}
 use Rattle.body_laws.specs.Lates.{late_step}
 use Rattle.body_laws.specs.Ready.{There, IsBodyAt, Ready}
 use Rattle.body_laws.proofs.Posts.{out_has_post}
 use Rattle.body_laws.proofs.Steps.{Stays, stays, current_out}
 use Rattle.body_laws.proofs.Staying.{both_map, body_stays, ready_stays, keeps_back, ready_back}
 use Rattle.body_laws.proofs.Jobs.{begun_keeps, begun_ready, unrecorded_body, cut_body}
-use Rattle.body_laws.proofs.Laws.{answer_keeps, answer_ready}
+use Rattle.body_laws.proofs.Laws.{answer_keeps, answer_ready, both_part}
 use Rattle.body_laws.proofs.Lating.{late_keeps, late_ready}
 use Rattle.body_laws.proofs.Allowed.{answer_allowed}
 use Rattle.job_laws.specs.Away.{IsAway, is_from_live, AreElsewhere, IsAnswerTo}
@@ -153,21 +152,17 @@ late_home_ready topology before opened job answer old new now after sound legal 
 
 -- ---- it comes home, and the journal has no answer
 
-in_part : (topology : Topology) (before : History) (p : Post) (x : Option BodySeen) (old new : BodySeen) → ((a : BodySeen) → KeepsBody topology before p a old → KeepsPartly topology before p a new) → Both (KeepsBody topology before p) x (Some old) → Both (KeepsPartly topology before p) x (Some new)
-in_part topology before p (Some a) old new f k = f a k
-in_part topology before p None old new f k = absurd k
-
 pub cut_home : (topology : Topology) (before : History) (job : Job) (old new : BodySeen) (opened now after : ℕ → Option BodySeen) → IsSound topology → IsAway topology before (opened (place_at job.post)) job old → IsCutOff old new → ((s : ℕ) → after s ≡ (if place_at job.post == s then Some new else now s))
     → Keeps topology before opened now → Keeps topology before opened after
 cut_home topology before job old new opened now after sound away cut moved keeps =
     keeps_back topology before job.post new opened now after sound away.slot away.out moved
-    (in_part topology before job.post (opened (place_at job.post)) old new (λ a k. cut_body topology before job.post a old new cut k) away.kept) keeps
+    (both_part topology before job.post (opened (place_at job.post)) old new (λ a k. cut_body topology before job.post a old new cut k) away.kept) keeps
 
 pub unrecorded_home : (topology : Topology) (before : History) (job : Job) (outcome : Came) (old new : BodySeen) (opened now after : ℕ → Option BodySeen) → IsSound topology → IsAway topology before (opened (place_at job.post)) job old → IsDone job.work outcome old new
     → ((s : ℕ) → after s ≡ (if place_at job.post == s then Some new else now s)) → Keeps topology before opened now → Keeps topology before opened after
 unrecorded_home topology before job outcome old new opened now after sound away done moved keeps =
     keeps_back topology before job.post new opened now after sound away.slot away.out moved
-    (in_part topology before job.post (opened (place_at job.post)) old new (λ a k. unrecorded_body topology before job.post job.work outcome a old new away.work away.ready done k) away.kept) keeps
+    (both_part topology before job.post (opened (place_at job.post)) old new (λ a k. unrecorded_body topology before job.post job.work outcome a old new away.work away.ready done k) away.kept) keeps
 
 pub home_ready : (topology : Topology) (before : History) (opened : Option BodySeen) (job : Job) (old new : BodySeen) (now after : ℕ → Option BodySeen) → IsSound topology → IsAway topology before opened job old → ((s : ℕ) → after s ≡ (if place_at job.post == s then Some new else now s))
     → Ready topology before now → Ready topology before after

@@ -1,10 +1,7 @@
 -- The late answer of a job that is out may be recorded.
-use Rattle.std.proofs.Common.{◌≡◌, ℕ, ◌≤◌, List, [], ◌∷◌, length, Bool, true, false, refl, ap, sym, ◌∙◌, subst, Some, None, Option, arith}
-use Rattle.std.specs.Prelude.{not, ◌≢◌, ◌&&◌, ◌||◌, ◌==◌, nat_le, All, IsSome, is_some}
-use Rattle.std.specs.List.{list_all, AllByRecursion}
-use Rattle.std.proofs.lemmas.Bool.{eq-eqb}
-use Rattle.std.proofs.lemmas.Bool.Decides.{nat_tests}
-use Rattle.std.proofs.lemmas.List.Elements.{recursion_from_All}
+use Rattle.std.proofs.Common.{◌≡◌, ℕ, List, Bool, true, false, ap, sym, ◌∙◌, subst, Some, None, Option}
+use Rattle.std.specs.Prelude.{not, ◌≢◌, ◌&&◌, ◌||◌, ◌==◌, IsSome, is_some}
+use Rattle.std.proofs.lemmas.Bool.{eq-eqb, or_right}
 use Rattle.pipe_types.specs.declared.numbers.Post.{Post}
 use Rattle.pipe_types.specs.declared.numbers.StageNo.{StageNo}
 use Rattle.pipe_types.specs.declared.message.Batch.{Batch}
@@ -16,7 +13,6 @@ use Rattle.pipe_types.specs.declared.topology.Kind.{Kind}
 use Rattle.pipe_types.specs.declared.topology.Kind.TheVariants.{Steps, Lines, Own}
 use Rattle.pipe_types.specs.declared.topology.StageSpec.{StageSpec}
 use Rattle.pipe_types.specs.declared.topology.Topology.{Topology}
-use Rattle.pipe_types.specs.Lines.{max_bytes}
 use Rattle.pipe_types.specs.Numbers.{post}
 use Rattle.pipe_model.specs.History.{History, incarnation}
 use Rattle.pipe_model.specs.Lives.{is_live}
@@ -33,23 +29,11 @@ use Rattle.stage_bodies.specs.declared.job.Outcome.{Outcome as Came}
 use Rattle.stage_bodies.specs.declared.job.Outcome.TheVariants as came
 use Rattle.body_laws.specs.Lates.{late_of, late_step}
 use Rattle.body_laws.specs.Ready.{There, IsArmed, IsBodyAt}
-use Rattle.body_laws.proofs.Steps.{writers_alone, out_is_present}
+use Rattle.body_laws.proofs.Steps.{writers_alone}
 use Rattle.body_laws.proofs.Jobs.{fit_of, source_there, batch_for}
+use Rattle.body_laws.proofs.Allowed.{records_fit}
 
 -- ---- fetches
-
-all_short : (records : List (List ℕ)) → AllByRecursion (λ r. length r ≤ max_bytes) records → list_all (λ r. nat_le (length r) max_bytes) records ≡ true
-all_short [] short = refl
-all_short (r ∷ records) short =
-    let here : length r ≤ 65536 = short.0 in
-    let one : nat_le (length r) max_bytes ≡ true = grind (arith, nat_tests) in
-    rw one (all_short records short.1)
-
-records_fit : (records : List (List ℕ)) (most : ℕ) → 1 ≤ length records → length records ≤ most → All (λ r. length r ≤ max_bytes) records → are_records records most ≡ true
-records_fit records most some few short =
-    let one : nat_le 1 (length records) ≡ true = grind (arith, nat_tests) in
-    let within : nat_le (length records) most ≡ true = grind (arith, nat_tests) in
-    rw (one, within) (all_short records (recursion_from_All (λ r. length r ≤ max_bytes) records short))
 
 -- what the answer to a fetch says as a late answer
 fetched_fits : (topology : Topology) (before : History) (s : StageNo) (most : ℕ) (o : Came) (x y : Option LineSeen) → has_role topology s is_producer_role ≡ true → ((records : List (List ℕ)) → are_records records most ≡ true → late_fits topology before s (late_of (came.Records records)) ≡ true)
@@ -77,7 +61,7 @@ end_fits topology before s spec messages bytes end old new (Some b) (Some c) cal
 
     counted : (k : Kind) → b.kind ≡ k → b.kind ≢ Own → is_end_by k (is_some spec.edge) spec (count topology before s) messages bytes end ≡ true
     counted k e other =
-        subst (λ n. is_end_by k (is_some spec.edge) spec n messages bytes end ≡ true) (armed.count other calm (out_is_present (is_live topology before s) (is_out before (post s 0)) out))
+        subst (λ n. is_end_by k (is_some spec.edge) spec n messages bytes end ≡ true) (armed.count other calm (or_right (is_live topology before s) (is_out before (post s 0)) out))
         (subst (λ k. is_end_by k (is_some spec.edge) spec b.count messages bytes end ≡ true) e ended)
 
     by_kind : (k : Kind) → b.kind ≡ k → is_end_by k (is_some spec.edge) spec (count topology before s) messages bytes end ≡ true
@@ -98,10 +82,6 @@ batch_fits topology before p batch bytes end old new out is fit done =
 
 -- ---- any job
 
-or_second : (a b : Bool) → b ≡ true → (a || b) ≡ true
-or_second true b h = refl
-or_second false b h = h
-
 -- what the work came to has the form that a late answer has
 answer_fits : (topology : Topology) (before : History) (p : Post) (w : Work) (o : Came) (old new : BodySeen) → is_out before p ≡ true → IsWorkOf topology before p w → IsBodyAt topology before p old → IsDone w o old new → late_fits topology before p.stage (late_of o) ≡ true
 answer_fits topology before p (work.Fetch most) o old new out is fit done =
@@ -110,7 +90,7 @@ answer_fits topology before p (work.Chunk messages) (came.Replies replies) old n
 answer_fits topology before p (work.Chunk messages) o old new out is fit done = absurd done
 answer_fits topology before p (work.Batch batch) (came.Wrote bytes end) old new out is fit done = batch_fits topology before p batch bytes end old new out is fit done
 answer_fits topology before p (work.Batch batch) o old new out is fit done = absurd done
-answer_fits topology before p (work.Child message) (came.Reply reply) old new out is fit done = or_second (has_role topology p.stage is_processor_role) (has_role topology p.stage is_supervisor_role) is.0
+answer_fits topology before p (work.Child message) (came.Reply reply) old new out is fit done = or_right (has_role topology p.stage is_processor_role) (has_role topology p.stage is_supervisor_role) is.0
 answer_fits topology before p (work.Child message) o old new out is fit done = absurd done
 
 late_comes : (halted : Bool) (o : Option (Step → Bool)) (step : Step) (may : Bool) → o ≡ None → may ≡ true → ((not halted || true) && passes o step may) ≡ true

@@ -1,38 +1,22 @@
 -- Posts that are out, and steps that do not answer them.
 use Rattle.std.proofs.Common.{◌≡◌, ℕ, ◌<◌, [], ◌∷◌, Bool, true, false, refl, ap, sym, ◌∙◌}
 use Rattle.std.specs.Prelude.{not, ◌&&◌, ◌||◌, if◌then◌else◌}
-use Rattle.std.proofs.lemmas.Bool.{eqb-true, eq-eqb}
+use Rattle.std.proofs.lemmas.Bool.{eq-eqb}
 use Rattle.pipe_types.specs.declared.numbers.Post.{Post}
 use Rattle.pipe_types.specs.declared.numbers.StageNo.{StageNo}
 use Rattle.pipe_types.specs.declared.step.Step.{Step}
-use Rattle.pipe_types.specs.declared.step.Step.TheVariants.{Fetch, Take, Child, Restart}
+use Rattle.pipe_types.specs.declared.step.Step.TheVariants.{Restart}
 use Rattle.pipe_types.specs.declared.topology.Topology.{Topology}
-use Rattle.pipe_types.specs.Numbers.{post, same_stage, same_post}
+use Rattle.pipe_types.specs.Numbers.{post, same_stage}
 use Rattle.pipe_model.specs.History.{History, incarnation, incarnation_after}
-use Rattle.pipe_model.specs.Lives.{is_live, restarts}
+use Rattle.pipe_model.specs.Lives.{restarts}
 use Rattle.pipe_model.specs.Posts.{puts_out, answers, is_out, out_from, has_post_out, slots}
-use Rattle.pipe_model.specs.Legal.{is_legal, allows, has_role, has_ended, is_producer_role, is_current, needs_restart, no_post_out}
+use Rattle.pipe_model.specs.Legal.{is_legal, is_current, needs_restart, no_post_out}
 use Rattle.pipe_laws.proofs.Tests.{clash, and_left, and_right, both, not_true, same_stage-true}
-use Rattle.pipe_laws.proofs.Allowed.{legal_before, legal_step, unowed, take_facts, child_facts}
+use Rattle.pipe_laws.proofs.Allowed.{legal_before, legal_step, unowed}
 use Rattle.pipe_laws.proofs.Busy.{same_incarnation}
 use Rattle.stage_laws.proofs.FewSlots.{slot_case, none_any}
-
-pub same_post-is : (p q : Post) → same_post p q ≡ true → p ≡ q
-same_post-is p q h =
-    let first : p.stage ≡ q.stage = same_stage-true p.stage q.stage (and_left (same_stage p.stage q.stage) _ h) in
-    let second : p.slot ≡ q.slot = eqb-true p.slot q.slot (and_right (same_stage p.stage q.stage) _ h) in
-    λ i. record { stage = first i; slot = second i }
-
--- a post that goes out was home
-put_was_home : (topology : Topology) (before : History) (step : Step) (p : Post) → allows topology before step ≡ true → puts_out step p ≡ true → is_out before p ≡ false
-put_was_home topology before (Fetch t n) p h e =
-    let one = and_right (is_live topology before t) _ (unowed topology before (Fetch t n) (λ s. refl) (λ s. refl) h) in
-    let two = and_right (has_role topology t is_producer_role) _ one in
-    let three = and_right (not (has_ended before t)) _ two in
-    ap (is_out before) (same_post-is p (post t 0) e) ∙ not_true (is_out before (post t 0)) (and_left (not (is_out before (post t 0))) _ three)
-put_was_home topology before (Take t u k) p h e = ap (is_out before) (same_post-is p (post t 0) e) ∙ (take_facts topology before t u k h).free
-put_was_home topology before (Child t m slot) p h e = ap (is_out before) (same_post-is p (post t slot) e) ∙ (child_facts topology before t m slot h).free
-put_was_home topology before step p h e = cc
+use Rattle.body_laws.proofs.Jobs.{put_was_home}
 
 -- so no step puts out a post that is out
 pub put_out_once : (topology : Topology) (before : History) (step : Step) (p : Post) → is_legal topology (step ∷ before) ≡ true → is_out before p ≡ true → puts_out step p ≡ false

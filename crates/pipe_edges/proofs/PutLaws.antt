@@ -3,7 +3,7 @@ use Rattle.std.proofs.Common.{◌≡◌, Bool, ℕ, ◌+◌, ◌-◌, ◌≤◌,
 use Rattle.std.proofs.lemmas.List.{take-take, drop-take, take-append-drop, append_assoc, take_rest}
 use Rattle.std.specs.Prelude.{IsTrue}
 
-taken_is : (bytes : List ℕ) (i n : ℕ) → take (i + n) bytes ≡ take i bytes ++ take n (drop i bytes)
+pub taken_is : (bytes : List ℕ) (i n : ℕ) → take (i + n) bytes ≡ take i bytes ++ take n (drop i bytes)
 taken_is bytes i n =
     let l : i ≤ i + n = omega arith in
     sym (rw (take-take i (i + n) bytes l, drop-take i n bytes) at (take-append-drop i (take (i + n) bytes)))

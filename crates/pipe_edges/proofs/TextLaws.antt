@@ -16,7 +16,7 @@ pieces_front (b ∷ bs) w p ps h e =
     let no : is_lf b ≡ false = ne_eqb b 10 (All-head (λ b. b ≢ 10) b bs h) in
     rw (no, pieces_front bs w p ps (All-tail (λ b. b ≢ 10) b bs h) e) refl
 
-pieces_some : (w : List ℕ) → (p : List ℕ) × (ps : List (List ℕ)) × (pieces w ≡ p ∷ ps)
+pub pieces_some : (w : List ℕ) → (p : List ℕ) × (ps : List (List ℕ)) × (pieces w ≡ p ∷ ps)
 unfolding pieces
 pieces_some [] = ([], [], refl)
 pieces_some (b ∷ bs) =

@@ -185,7 +185,7 @@ produced topology (Late s slot i (Records records) ∷ before) n h low high =
 produced topology (step ∷ before) n h low high = produced topology before n (legal_before topology before step h) low high
 
 -- an accepted message keeps its producer
-same_producer : (before : History) (step : Step) (n : ℕ) → n ≤ accepted before → producer_of (step ∷ before) n ≡ producer_of before n
+pub same_producer : (before : History) (step : Step) (n : ℕ) → n ≤ accepted before → producer_of (step ∷ before) n ≡ producer_of before n
 same_producer before (Accept s records) n low = rw (not_next (accepted before) (length records) n low) refl
 same_producer before (Late s slot i (Records records)) n low = rw (not_next (accepted before) (length records) n low) refl
 same_producer before _ n low = refl

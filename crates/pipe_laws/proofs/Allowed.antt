@@ -1,5 +1,5 @@
 -- What each legal step says, as facts.
-use Rattle.std.proofs.Common.{◌≡◌, ℕ, ◌≤◌, List, [], ◌∷◌, length, Bool, true, false, refl, Some, None}
+use Rattle.std.proofs.Common.{◌≡◌, ℕ, ◌≤◌, List, [], ◌∷◌, length, Bool, true, false, refl, sym, Some, None}
 use Rattle.std.specs.Prelude.{if◌then◌else◌, not, nat_le, ◌==◌, ◌&&◌, ◌||◌}
 use Rattle.std.proofs.lemmas.Bool.{eqb-true, leb-true}
 use Rattle.pipe_types.specs.declared.numbers.SubNo.{SubNo}
@@ -30,6 +30,17 @@ legal_before topology before step h = and_left (is_legal topology before) _ h
 
 pub legal_step : (topology : Topology) (before : History) (step : Step) → is_legal topology (step ∷ before) ≡ true → allows topology before step ≡ true
 legal_step topology before step h = and_right (is_legal topology before) _ h
+
+-- where a step that is not late is allowed, the pipeline has not halted
+pub not_halted : (topology : Topology) (before : History) (step : Step) → is_late step ≡ false → allows topology before step ≡ true → happened is_halt before ≡ false
+not_halted topology before step e h =
+    either (happened is_halt before) (is_late step) e
+    (and_left (not (happened is_halt before) || is_late step) (passes (owed topology before) step (may_come topology before step)) h)
+  where
+    either : (a b : Bool) → b ≡ false → (not a || b) ≡ true → a ≡ false
+    either true true e k = e
+    either true false e k = sym k
+    either false b e k = refl
 
 passes_if : (b : Bool) (test : Step → Bool) (step : Step) (otherwise : Bool) → test step ≡ false → passes (if b then Some test else None) step otherwise ≡ true → otherwise ≡ true
 passes_if true test step otherwise refused h = cc

@@ -114,19 +114,33 @@ was_live topology before step s quiet live =
 
 -- Roles
 
-takes_producer : (role : Role) → takes_role role ≡ true → is_producer_role role ≡ true → ⊥
+pub takes_producer : (role : Role) → takes_role role ≡ true → is_producer_role role ≡ true → ⊥
 takes_producer Producer h k = let x : false ≡ true = h in cc
 takes_producer Processor h k = let x : false ≡ true = k in cc
 takes_producer Supervisor h k = let x : false ≡ true = k in cc
 takes_producer Batcher h k = let x : false ≡ true = k in cc
 takes_producer BatchProcessor h k = let x : false ≡ true = k in cc
 
-takes_supervisor : (role : Role) → takes_role role ≡ true → is_supervisor_role role ≡ true → ⊥
+pub takes_supervisor : (role : Role) → takes_role role ≡ true → is_supervisor_role role ≡ true → ⊥
 takes_supervisor Producer h k = let x : false ≡ true = h in cc
 takes_supervisor Processor h k = let x : false ≡ true = k in cc
 takes_supervisor Supervisor h k = let x : false ≡ true = h in cc
 takes_supervisor Batcher h k = let x : false ≡ true = k in cc
 takes_supervisor BatchProcessor h k = let x : false ≡ true = k in cc
+
+pub producer_takes : (role : Role) → is_producer_role role ≡ true → takes_role role ≡ true → ⊥
+producer_takes Producer h k = let x : false ≡ true = k in cc
+producer_takes Processor h k = let x : false ≡ true = h in cc
+producer_takes Supervisor h k = let x : false ≡ true = h in cc
+producer_takes Batcher h k = let x : false ≡ true = h in cc
+producer_takes BatchProcessor h k = let x : false ≡ true = h in cc
+
+pub producer_supervises : (role : Role) → is_producer_role role ≡ true → is_supervisor_role role ≡ true → ⊥
+producer_supervises Producer h k = let x : false ≡ true = k in cc
+producer_supervises Processor h k = let x : false ≡ true = h in cc
+producer_supervises Supervisor h k = let x : false ≡ true = h in cc
+producer_supervises Batcher h k = let x : false ≡ true = h in cc
+producer_supervises BatchProcessor h k = let x : false ≡ true = h in cc
 
 -- a stage has one role
 pub two_roles : (topology : Topology) (s : StageNo) (one other : Role → Bool) → ((role : Role) → one role ≡ true → other role ≡ true → ⊥) → has_role topology s one ≡ true → has_role topology s other ≡ true → ⊥
@@ -262,7 +276,7 @@ filtered_weight test on g (x ∷ xs) = either (test x) (on x) refl (filtered_wei
     either false true e rest = omega (arith, rest)
     either false false e rest = omega (arith, rest)
 
-chunk_within : (spec : Option StageSpec) (n : ℕ) → chunk_size spec n ≤ n
+pub chunk_within : (spec : Option StageSpec) (n : ℕ) → chunk_size spec n ≤ n
 chunk_within None n = omega arith
 chunk_within (Some spec) n = omega arith
 

@@ -12,7 +12,7 @@ use Rattle.pipe_types.specs.declared.step.Step.TheVariants.{Accept, Done, Late}
 use Rattle.pipe_model.specs.History.{History, accepted}
 use Rattle.pipe_model.specs.Content.{content, newer, changed_by, fresh, record_as, passed_as, has_crash, new_message}
 
-newer_cases : (x y : Option Message) (m : Message) → newer x y ≡ Some m → (x ≡ Some m) ⊎ (y ≡ Some m)
+pub newer_cases : (x y : Option Message) (m : Message) → newer x y ≡ Some m → (x ≡ Some m) ⊎ (y ≡ Some m)
 newer_cases (Some k) y m e = inl e
 newer_cases None y m e = inr e
 

@@ -103,7 +103,7 @@ delivered_count (d ∷ units) u = either (same_stage u.consumer d.sub.consumer) 
     either false true e rest = omega arith
     either false false e rest = rest
 
-new_legs_idle : (u : SubNo) (subs : List SubNo) → leg_works u (new_legs subs) ≡ false
+pub new_legs_idle : (u : SubNo) (subs : List SubNo) → leg_works u (new_legs subs) ≡ false
 new_legs_idle u [] = refl
 new_legs_idle u (v ∷ subs) = by_bool (same_sub u v) (new_legs_idle u subs)
   where
@@ -158,7 +158,7 @@ held_dispatch topology before s u =
 
 -- A gathering
 
-batcher_writes : (role : Role) → is_batcher_role role ≡ true → is_batch_processor_role role ≡ true → ⊥
+pub batcher_writes : (role : Role) → is_batcher_role role ≡ true → is_batch_processor_role role ≡ true → ⊥
 batcher_writes Producer h k = let x : false ≡ true = h in cc
 batcher_writes Processor h k = let x : false ≡ true = k in cc
 batcher_writes Supervisor h k = let x : false ≡ true = k in cc

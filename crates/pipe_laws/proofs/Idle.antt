@@ -47,14 +47,14 @@ pub roles_apart : (topology : Topology) (s t : StageNo) (one other : Role → Bo
 roles_apart topology s t one other apart h k =
     false_from_ne_true (same_stage s t) (λ same. two_roles topology s one other apart h (subst (λ x. has_role topology x other ≡ true) (sym (same_stage-true s t same)) k))
 
-processor_producer : (role : Role) → is_processor_role role ≡ true → is_producer_role role ≡ true → ⊥
+pub processor_producer : (role : Role) → is_processor_role role ≡ true → is_producer_role role ≡ true → ⊥
 processor_producer Producer h k = let x : false ≡ true = h in cc
 processor_producer Processor h k = let x : false ≡ true = k in cc
 processor_producer Supervisor h k = let x : false ≡ true = k in cc
 processor_producer Batcher h k = let x : false ≡ true = k in cc
 processor_producer BatchProcessor h k = let x : false ≡ true = k in cc
 
-processor_supervisor : (role : Role) → is_processor_role role ≡ true → is_supervisor_role role ≡ true → ⊥
+pub processor_supervisor : (role : Role) → is_processor_role role ≡ true → is_supervisor_role role ≡ true → ⊥
 processor_supervisor Producer h k = let x : false ≡ true = h in cc
 processor_supervisor Processor h k = let x : false ≡ true = k in cc
 processor_supervisor Supervisor h k = let x : false ≡ true = h in cc
@@ -80,7 +80,7 @@ batcher_feeds Batcher Processor b h k = cc
 batcher_feeds Batcher Supervisor b h k = cc
 batcher_feeds Batcher Batcher b h k = cc
 
-spec_batcher : (spec : StageSpec) → is_batcher (Some spec) ≡ is_batcher_role spec.role
+pub spec_batcher : (spec : StageSpec) → is_batcher (Some spec) ≡ is_batcher_role spec.role
 spec_batcher spec = by_role spec.role refl
   where
     by_role : (role : Role) → spec.role ≡ role → is_batcher (Some spec) ≡ is_batcher_role role
@@ -120,7 +120,7 @@ record Untouched (step : Step) (s : StageNo) : Type 0 where
 and_false : (a b : Bool) → a ≡ false → (a && b) ≡ false
 and_false a b e = ap (λ x. x && b) e
 
-not_source : (topology : Topology) (before : History) (t : StageNo) (how : SourceHow) → may_end topology before t how ≡ true → same_stage t (stage 0) ≡ false → has_role topology t is_producer_role ≡ true
+pub not_source : (topology : Topology) (before : History) (t : StageNo) (how : SourceHow) → may_end topology before t how ≡ true → same_stage t (stage 0) ≡ false → has_role topology t is_producer_role ≡ true
 not_source topology before t how h e = by_test (same_stage t (stage 0)) _ _ _ e h
   where
     by_test : (b x y z : Bool) → b ≡ false → (if b then x else (y && (has_role topology t is_producer_role && z))) ≡ true → has_role topology t is_producer_role ≡ true

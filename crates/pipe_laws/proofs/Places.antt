@@ -60,7 +60,7 @@ on_each_rooms : (P : SubNo → Type 0) (Q : ℕ → Type 0) (unit : ℕ) (rooms 
 on_each_rooms P Q unit [] q h = tt
 on_each_rooms P Q unit (r ∷ rooms) q h = ((h.0, q), on_each_rooms P Q unit rooms q h.1)
 
-sends_each : (P : SubNo → Type 0) (Q : ℕ → Type 0) (kind : DispatchKind) (rooms : List Room) (earlier : List ℕ) (units : List (ℕ × ℕ)) → Each (λ r. P r.sub) rooms → Each (λ unit. Q unit.0) units → Each (λ d. P d.sub × Q d.unit) (sends_from kind rooms earlier units)
+pub sends_each : (P : SubNo → Type 0) (Q : ℕ → Type 0) (kind : DispatchKind) (rooms : List Room) (earlier : List ℕ) (units : List (ℕ × ℕ)) → Each (λ r. P r.sub) rooms → Each (λ unit. Q unit.0) units → Each (λ d. P d.sub × Q d.unit) (sends_from kind rooms earlier units)
 sends_each P Q kind rooms earlier [] h q = tt
 sends_each P Q kind rooms earlier (unit ∷ units) h q =
     each-append (λ d. P d.sub × Q d.unit) (on_each unit.0 (filter (goes kind rooms earlier unit.1) rooms)) (sends_from kind rooms (unit.1 ∷ earlier) units)

@@ -234,13 +234,13 @@ live_on_legs live other change spares opens (leg ∷ legs) h =
     by_leg false e h = refl
     by_leg true e h = spares leg.sub leg.place e (open_live (is_leg_open leg.place) (live leg.sub.consumer) (opens leg.sub leg.place e) h)
 
-taken_opens : (s : StageNo) (u : SubNo) (p : LegPlace) → is_leg_open (leg_taken s u p) ≡ true → is_leg_open p ≡ true
+pub taken_opens : (s : StageNo) (u : SubNo) (p : LegPlace) → is_leg_open (leg_taken s u p) ≡ true → is_leg_open p ≡ true
 taken_opens s u InInbox h = refl
 taken_opens s u AtWork h = refl
 taken_opens s u (Answered o) h = h
 taken_opens s u (LegLost l) h = h
 
-answered_opens : (s : StageNo) (outcomes : List Outcome) (u : SubNo) (p : LegPlace) → is_leg_open (leg_answered s outcomes u p) ≡ true → is_leg_open p ≡ true
+pub answered_opens : (s : StageNo) (outcomes : List Outcome) (u : SubNo) (p : LegPlace) → is_leg_open (leg_answered s outcomes u p) ≡ true → is_leg_open p ≡ true
 answered_opens s outcomes u InInbox h = refl
 answered_opens s outcomes u AtWork h = refl
 answered_opens s outcomes u (Answered o) h = h

@@ -52,7 +52,7 @@ same_length (r ∷ replies) (q ∷ others) h k =
     let t = same_length replies others (and_right (same_reply r q) _ h) (tail_safe r replies k) in
     (ap suc t.0, safe_cons q others (same_safe r q (and_left (same_reply r q) _ h) (head_safe r replies k)) t.1)
 
-crash_stays : (failed : Option (List ℕ)) (r : Reply) → is_crashed (with_reason failed r) ≡ is_crashed r
+pub crash_stays : (failed : Option (List ℕ)) (r : Reply) → is_crashed (with_reason failed r) ≡ is_crashed r
 crash_stays failed (Pass m) = refl
 crash_stays failed (Failed why) = refl
 crash_stays failed (Raised why) = refl

@@ -38,21 +38,21 @@ supervisor_writes Supervisor h k = let x : false ≡ true = k in cc
 supervisor_writes Batcher h k = let x : false ≡ true = k in cc
 supervisor_writes BatchProcessor h k = let x : false ≡ true = h in cc
 
-supervisor_produces : (role : Role) → is_supervisor_role role ≡ true → is_producer_role role ≡ true → ⊥
+pub supervisor_produces : (role : Role) → is_supervisor_role role ≡ true → is_producer_role role ≡ true → ⊥
 supervisor_produces Producer h k = let x : false ≡ true = h in cc
 supervisor_produces Processor h k = let x : false ≡ true = k in cc
 supervisor_produces Supervisor h k = let x : false ≡ true = k in cc
 supervisor_produces Batcher h k = let x : false ≡ true = k in cc
 supervisor_produces BatchProcessor h k = let x : false ≡ true = k in cc
 
-supervisor_takes : (role : Role) → is_supervisor_role role ≡ true → takes_role role ≡ true → ⊥
+pub supervisor_takes : (role : Role) → is_supervisor_role role ≡ true → takes_role role ≡ true → ⊥
 supervisor_takes Producer h k = let x : false ≡ true = k in cc
 supervisor_takes Processor h k = let x : false ≡ true = h in cc
 supervisor_takes Supervisor h k = let x : false ≡ true = k in cc
 supervisor_takes Batcher h k = let x : false ≡ true = k in cc
 supervisor_takes BatchProcessor h k = let x : false ≡ true = h in cc
 
-supervisor_processes : (role : Role) → is_supervisor_role role ≡ true → is_processor_role role ≡ true → ⊥
+pub supervisor_processes : (role : Role) → is_supervisor_role role ≡ true → is_processor_role role ≡ true → ⊥
 supervisor_processes Producer h k = let x : false ≡ true = k in cc
 supervisor_processes Processor h k = let x : false ≡ true = h in cc
 supervisor_processes Supervisor h k = let x : false ≡ true = k in cc
@@ -147,7 +147,7 @@ ran_or_stood topology before step s p q (ends x y final) e = not_final y final e
     not_final (InBatch b) f e = cc
 
 -- a slot's message that runs after a step ran before it
-ran_before : (topology : Topology) (before : History) (step : Step) (s : StageNo) (slot n : ℕ) → is_legal topology before ≡ true → in_slot before s slot ≡ Some n → place topology (step ∷ before) n ≡ Some (Running s) → place topology before n ≡ Some (Running s)
+pub ran_before : (topology : Topology) (before : History) (step : Step) (s : StageNo) (slot n : ℕ) → is_legal topology before ≡ true → in_slot before s slot ≡ Some n → place topology (step ∷ before) n ≡ Some (Running s) → place topology before n ≡ Some (Running s)
 ran_before topology before step s slot n h e now = either (ran_or_stood topology before step s _ _ (move_by topology before step n) now)
   where
     either : (place topology before n ≡ Some (Running s)) ⊎ (level topology (place topology before n) ≡ 4 * rank topology s) → place topology before n ≡ Some (Running s)
@@ -194,7 +194,7 @@ and_false : (a b : Bool) → a ≡ false → (a && b) ≡ false
 and_false a b e = ap (λ x. x && b) e
 
 -- another child's end leaves the message
-ended_other : (topology : Topology) (before : History) (t s : StageNo) (k n : ℕ) (reply : Reply) → place topology before n ≡ Some (Running s) → (is_number (in_slot before t k) n ≡ true → ⊥) → place topology (ChildEnd t k reply ∷ before) n ≡ Some (Running s)
+pub ended_other : (topology : Topology) (before : History) (t s : StageNo) (k n : ℕ) (reply : Reply) → place topology before n ≡ Some (Running s) → (is_number (in_slot before t k) n ≡ true → ⊥) → place topology (ChildEnd t k reply ∷ before) n ≡ Some (Running s)
 ended_other topology before t s k n reply running other = rw (running, false_from_ne_true (is_number (in_slot before t k) n) other) (by_stage (same_stage t s) _)
   where
     by_stage : (b : Bool) (p : Place) → Some (if b && false then p else Running s) ≡ Some (Running s)

@@ -1,9 +1,8 @@
 -- From what a body's source was read to, to what the journal says of the source that was opened.
-use Rattle.std.proofs.Common.{◌≡◌, ℕ, ◌+◌, List, [], ◌∷◌, ◌++◌, Bool, true, false, arith, refl, ap, sym, ◌∙◌, subst, inl, inr, Option, Some, None}
+use Rattle.std.proofs.Common.{◌≡◌, ℕ, List, [], ◌∷◌, ◌++◌, Bool, true, false, refl, ap, sym, ◌∙◌, subst, inl, inr, Option, Some}
 use Rattle.std.specs.Prelude.{IsTrue, ◌⊎◌, ◌||◌, if◌then◌else◌}
-use Rattle.std.proofs.lemmas.List.{append_assoc, append-nil, take-append-le, length-append}
+use Rattle.std.proofs.lemmas.List.{append_assoc, append-nil}
 use Rattle.pipe_types.specs.Counts.{Rose}
-use Rattle.pipe_types.specs.Lines.{max_bytes, lines}
 use Rattle.pipe_types.specs.Numbers.{stage, post, same_stage}
 use Rattle.pipe_types.specs.declared.numbers.StageNo.{StageNo}
 use Rattle.pipe_types.specs.declared.step.LateAnswer.TheVariants as late
@@ -20,8 +19,6 @@ use Rattle.pipe_laws.proofs.Tests.{clash, same_stage-flip}
 use Rattle.count_laws.proofs.Crashes.{ended_rests}
 use Rattle.pipe_edges.specs.declared.reading.LineEnd.{LineEnd}
 use Rattle.pipe_edges.specs.declared.reading.LineEnd.TheVariants as end
-use Rattle.pipe_edges.specs.Texts.{BeginsTooLong}
-use Rattle.pipe_edges.proofs.TextLaws.{lines_ended, lines_too_long}
 use Rattle.source_lines.specs.Cut.{AreFirstLines, AreAllLines, AreLinesBeforeLong}
 use Rattle.run_claims.specs.Read.{quiets}
 use Rattle.stage_job.specs.Chunks.{RoseBy}
@@ -30,6 +27,7 @@ use Rattle.stage_bodies.specs.Seen.{SourceSeen, LineSeen}
 use Rattle.body_laws.specs.Keeps.{IsKnownEnd, KeepsSource}
 use Rattle.edge_names.specs.Seen.{EdgesSeen}
 use Rattle.edge_names.specs.Opened.{GivesLines}
+use Rattle.control_lines.proofs.Obeying.{first_lines, before_long}
 use Rattle.pipe_run.specs.Outside.{ReadsSource, IsSourceRead}
 
 -- ---- ends
@@ -42,15 +40,6 @@ known_long now line_end known is = rw is at known
 
 known_fault : (now : Option SourceHow) (line_end : Option LineEnd) → IsKnownEnd now line_end → now ≡ Some how.Fault → line_end ≡ Some end.Fault
 known_fault now line_end known is = rw is at known
-
-not_end : (line_end : Option LineEnd) → line_end ≡ None → ¬ (line_end ≡ Some end.End)
-not_end line_end none is = cc
-
-not_end_by : (line_end : Option LineEnd) (e : LineEnd) → line_end ≡ Some e → (e ≡ end.End → ⊥) → ¬ (line_end ≡ Some end.End)
-not_end_by line_end e is other at_end = other (same_end e (sym is ∙ at_end))
-  where
-    same_end : (e : LineEnd) → Some e ≡ Some end.End → e ≡ end.End
-    same_end e s = cc
 
 end_later : (t : Bool) (h : SourceHow) (how : SourceHow) (old : Option SourceHow) → (if t then Some h else old) ≡ Some how → (t ≡ true) ⊎ (old ≡ Some how)
 end_later true h how old e = inl refl
@@ -94,44 +83,6 @@ none_lost topology before s lost how legal role own (inr out) ended =
 
 -- ---- lines
 
--- the records are the first of the lines of all the bytes
-in_order : (line_end : Option LineEnd) (opened : SourceSeen) (now : LineSeen) (records : List (List ℕ)) → now.end ≡ line_end → AreReadFrom opened now records → IsTrue opened.told → AreFirstLines opened.left records
-in_order None opened now records is r t = record {
-  others = lines (now.waiting ++ now.source.left);
-  parts = ap lines (r.to_come t (not_end now.end is)) ∙ lines_ended records (now.waiting ++ now.source.left) r.each_is_a_line;
-}
-in_order (Some end.End) opened now records is r t = record {
-  others = [];
-  parts = rw append-nil (sym (r.at_end t is).all);
-}
-in_order (Some end.Fault) opened now records is r t = record {
-  others = lines (now.waiting ++ now.source.left);
-  parts = ap lines (r.to_come t (not_end_by now.end end.Fault is (λ e. cc))) ∙ lines_ended records (now.waiting ++ now.source.left) r.each_is_a_line;
-}
-in_order (Some end.TooLong) opened now records is r t = record {
-  others = lines (now.waiting ++ now.source.left);
-  parts = ap lines (r.to_come t (not_end_by now.end end.TooLong is (λ e. cc))) ∙ lines_ended records (now.waiting ++ now.source.left) r.each_is_a_line;
-}
-
-long_append : (w rest : List ℕ) → BeginsTooLong w → BeginsTooLong (w ++ rest)
-long_append w rest b = record {
-  long = omega (arith, length-append w rest, b.long);
-  unbroken = rw (take-append-le (max_bytes + 1) w rest (omega (arith, b.long))) b.unbroken;
-}
-
-before_long : (opened : SourceSeen) (now : LineSeen) (records : List (List ℕ)) → now.end ≡ Some end.TooLong → AreReadFrom opened now records → IsTrue opened.told → AreLinesBeforeLong opened.left records
-before_long opened now records is r t =
-    let come = r.to_come t (not_end_by now.end end.TooLong is (λ e. cc)) in record {
-      all = sym (
-          ap lines come
-          ∙ lines_ended records (now.waiting ++ now.source.left) r.each_is_a_line
-          ∙ ap (λ x. records ++ x) (lines_too_long now.waiting now.source.left (r.at_long is))
-          ∙ append-nil records);
-      rest = now.waiting ++ now.source.left;
-      parts = come;
-      long = long_append now.waiting now.source.left (r.at_long is);
-    }
-
 -- what the source gave and has left is what it had left when it was opened
 all_bytes : (opened : SourceSeen) (now : LineSeen) (records : List (List ℕ)) → opened.taken ≡ [] → AreReadFrom opened now records → IsTrue opened.told → now.source.taken ++ now.source.left ≡ opened.left
 all_bytes opened now records fresh r t = r.same_bytes t ∙ ap (λ x. x ++ opened.left) fresh
@@ -149,7 +100,7 @@ reads_source topology before s lost edges name opened now legal role own in_fetc
     subst (λ records. AreReadFrom source now records) (ap (λ x. f ++ x) (none_lost topology before s lost h legal role own in_fetch ended) ∙ append-nil f) k.read in
     record {
       in_order = λ t.
-          let first = in_order now.end source now (f ++ lost) refl k.read (told_then t) in
+          let first = first_lines now.end source now (f ++ lost) refl k.read (told_then t) in
           subst (λ bytes. AreFirstLines bytes f) (sym (all_bytes source now (f ++ lost) gives.source.nothing_taken k.read (told_then t))) (record {
             others = lost ++ first.others;
             parts = first.parts ∙ append_assoc f lost first.others;

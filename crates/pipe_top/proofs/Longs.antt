@@ -1,11 +1,11 @@
 -- Where a line is too long, not every line is short.
-use Rattle.std.proofs.Common.{◌≡◌, ℕ, ◌+◌, ◌≤◌, List, [], ◌∷◌, ◌++◌, length, take, drop, Bool, true, false, arith, refl}
+use Rattle.std.proofs.Common.{◌≡◌, ℕ, ◌+◌, ◌≤◌, List, [], ◌∷◌, ◌++◌, length, take, drop, Bool, true, false, arith}
 use Rattle.std.specs.Prelude.{All, if◌then◌else◌}
 use Rattle.std.proofs.lemmas.List.{append_assoc, take-append-drop, length-append, length-take-le}
 use Rattle.std.proofs.lemmas.List.Elements.{All-nil, All-cons, All-head, All-tail}
 use Rattle.pipe_types.specs.Lines.{max_bytes, is_lf, before_first_piece, pieces}
 use Rattle.pipe_edges.specs.Texts.{BeginsTooLong, ended}
-use Rattle.pipe_edges.proofs.TextLaws.{pieces_front}
+use Rattle.pipe_edges.proofs.TextLaws.{pieces_front, pieces_some}
 use Rattle.source_lines.specs.Cut.{HasShortLines, AreLinesBeforeLong}
 
 abbrev is_short : List ℕ → Type 0
@@ -28,15 +28,6 @@ short_line (b ∷ bs) w each = short_line bs w (short_after (is_lf b) b (pieces 
 short_rest : (records : List (List ℕ)) (w : List ℕ) → HasShortLines (ended records ++ w) → HasShortLines w
 short_rest [] w each = each
 short_rest (r ∷ rs) w each = short_rest rs w (short_line r (ended rs ++ w) (rw (append_assoc r (10 ∷ ended rs) w) at each))
-
-pieces_some : (w : List ℕ) → (p : List ℕ) × (ps : List (List ℕ)) × (pieces w ≡ p ∷ ps)
-unfolding pieces
-pieces_some [] = ([], [], refl)
-pieces_some (b ∷ bs) =
-    elim (is_lf b) as (λ t. (p : List ℕ) × (ps : List (List ℕ)) × ((if t then [] ∷ pieces bs else before_first_piece b (pieces bs)) ≡ p ∷ ps)) [
-      | true ↦ ([], pieces bs, refl)
-      | false ↦ (b ∷ (pieces_some bs).0, (pieces_some bs).1, rw (pieces_some bs).2 refl)
-    ]
 
 long_first : (w : List ℕ) → BeginsTooLong w → HasShortLines w → ⊥
 long_first w long each =

@@ -10,7 +10,7 @@ use Rattle.stage_callback.specs.Callbacks.{is_passed}
 use Rattle.stage_job.specs.Chunks.{RoseBy}
 
 -- a count that rose has risen after it did not fall
-rose_after : (before middle now : ℕ) → before ≤ middle → middle ≤ now → Rose before middle → Rose before now
+pub rose_after : (before middle now : ℕ) → before ≤ middle → middle ≤ now → Rose before middle → Rose before now
 rose_after before middle now low high (inl above) = inl (omega arith)
 rose_after before middle now low high (inr full) = by_order (cases_lt middle now)
   where
@@ -18,7 +18,7 @@ rose_after before middle now low high (inr full) = by_order (cases_lt middle now
     by_order (inl above) = inl (omega arith)
     by_order (inr same) = inr (omega arith)
 
-rose_before : (before middle now : ℕ) → before ≤ middle → Rose middle now → Rose before now
+pub rose_before : (before middle now : ℕ) → before ≤ middle → Rose middle now → Rose before now
 rose_before before middle now low (inl above) = inl (omega arith)
 rose_before before middle now low (inr full) = inr full
 

@@ -32,7 +32,7 @@ use Rattle.pipe_laws.proofs.Entries.{EntryFits, entries_fit}
 use Rattle.pipe_laws.proofs.Busy.{inbox_here, two_roles}
 use Rattle.pipe_laws.proofs.Idle.{fed_by_messages}
 use Rattle.pipe_laws.proofs.Kept.{runs_here}
-use Rattle.pipe_laws.proofs.Slots.{supervisor_writes, first_stands, number_is}
+use Rattle.pipe_laws.proofs.Slots.{supervisor_writes, first_stands, number_is, supervisor_takes}
 use Rattle.pipe_laws.proofs.Allowed.{legal_before, legal_step, take_facts, gather_facts, ChildFacts, child_facts}
 use Rattle.queue_laws.specs.Queues.{unless_killed, without_number, inbox_after}
 use Rattle.queue_laws.proofs.Filters.{filter_alike, filter_both, filter_all}
@@ -52,13 +52,6 @@ numbers topology before s = map (λ d. d.1) (sent_to topology before s)
 pub record Split (topology : Topology) (before : History) (s : StageNo) : Type 0 where
   pub gone : List (SubNo × ℕ)
   pub is : sent_to topology before s ≡ gone ++ inbox topology before s
-
-supervisor_takes : (role : Role) → is_supervisor_role role ≡ true → takes_role role ≡ true → ⊥
-supervisor_takes Supervisor h k = let x : false ≡ true = k in cc
-supervisor_takes Producer h k = let x : false ≡ true = h in cc
-supervisor_takes Processor h k = let x : false ≡ true = h in cc
-supervisor_takes Batcher h k = let x : false ≡ true = h in cc
-supervisor_takes BatchProcessor h k = let x : false ≡ true = h in cc
 
 supervisor_gathers : (role : Role) → is_supervisor_role role ≡ true → is_batcher_role role ≡ true → ⊥
 supervisor_gathers Supervisor h k = let x : false ≡ true = k in cc
@@ -80,7 +73,7 @@ inbox_places topology before s role =
         (subst (λ b. (if b then leg_waits_in d.0 (batch topology before d.1) else in_inbox_by d.0 (place topology before d.1)) ≡ true) plain p.1)
 
 -- the supervisor's child takes the first unit, or none
-child_takes : (topology : Topology) (before : History) (s : StageNo) (m : MsgNo) (slot : ℕ) → Fits topology → is_legal topology (Child s m slot ∷ before) ≡ true
+pub child_takes : (topology : Topology) (before : History) (s : StageNo) (m : MsgNo) (slot : ℕ) → Fits topology → is_legal topology (Child s m slot ∷ before) ≡ true
     → without_number m.0 (inbox topology before s) ≡ (if runs_number topology before s (in_slot before s slot) then inbox topology before s else drop 1 (inbox topology before s))
 child_takes topology before s m slot fit h = either (runs_number topology before s (in_slot before s slot)) refl
   where
@@ -191,7 +184,7 @@ apart_around (x ∷ xs) d ys a = ((behind xs a.0, (apart_around xs d ys a.1).0),
     behind [] e = e.0
     behind (z ∷ zs) e = behind zs e.1
 
-among_fails : (test : ℕ → Bool) (xs : List ℕ) (m : ℕ) → test m ≡ false → among (filter test xs) m ≡ false
+pub among_fails : (test : ℕ → Bool) (xs : List ℕ) (m : ℕ) → test m ≡ false → among (filter test xs) m ≡ false
 among_fails test [] m e = refl
 among_fails test (x ∷ xs) m e = either (test x) refl (among_fails test xs m e)
   where

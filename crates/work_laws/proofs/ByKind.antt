@@ -28,7 +28,7 @@ use Rattle.pipe_laws.proofs.Accepted.{placed_accepted}
 use Rattle.pipe_laws.proofs.Allowed.{legal_before, legal_step, take_facts, done_facts, wrote_facts, ChildFacts, child_facts, child_end_facts, fetch_role}
 use Rattle.pipe_laws.proofs.Busy.{two_roles}
 use Rattle.pipe_laws.proofs.Kept.{runs_here}
-use Rattle.pipe_laws.proofs.Slots.{first_stands, supervisor_writes, number_is}
+use Rattle.pipe_laws.proofs.Slots.{first_stands, supervisor_writes, number_is, supervisor_produces, supervisor_takes}
 use Rattle.queue_laws.proofs.Roles.{some_spec}
 use Rattle.queue_laws.proofs.Sounds.{sound_fields}
 use Rattle.stage_laws.proofs.Records.{accepted_within}
@@ -294,20 +294,6 @@ ends_answer (step ∷ before) p = omega (arith, ends_answer before p, less (is_c
     less false true = omega arith
     less false false = omega arith
 
-supervisor_fetches : (role : Role) → is_supervisor_role role ≡ true → is_producer_role role ≡ true → ⊥
-supervisor_fetches Supervisor h k = let x : false ≡ true = k in cc
-supervisor_fetches Producer h k = let x : false ≡ true = h in cc
-supervisor_fetches Processor h k = let x : false ≡ true = h in cc
-supervisor_fetches Batcher h k = let x : false ≡ true = h in cc
-supervisor_fetches BatchProcessor h k = let x : false ≡ true = h in cc
-
-supervisor_takes : (role : Role) → is_supervisor_role role ≡ true → takes_role role ≡ true → ⊥
-supervisor_takes Supervisor h k = let x : false ≡ true = k in cc
-supervisor_takes Producer h k = let x : false ≡ true = h in cc
-supervisor_takes Processor h k = let x : false ≡ true = h in cc
-supervisor_takes Batcher h k = let x : false ≡ true = h in cc
-supervisor_takes BatchProcessor h k = let x : false ≡ true = h in cc
-
 -- what a supervisor begins are children
 begun_children : (topology : Topology) (before : History) (s : StageNo) (slot : ℕ) → is_legal topology before ≡ true → has_role topology s is_supervisor_role ≡ true → begun before (post s slot) ≤ how_many is_child before
 begun_children topology [] s slot h role = omega arith
@@ -321,7 +307,7 @@ begun_children topology (step ∷ before) s slot h role = omega (arith, begun_ch
         either true e = absurd (two_roles topology t is_supervisor_role other f (subst (λ x. has_role topology x is_supervisor_role ≡ true) (same_stage-true s t e) role) k)
 
     less : (step : Step) → allows topology before step ≡ true → as_number (puts_out step (post s slot)) ≤ as_number (is_child step)
-    less (Fetch t n) l = apart t (slot == 0) is_producer_role supervisor_fetches (fetch_role topology before t n l)
+    less (Fetch t n) l = apart t (slot == 0) is_producer_role supervisor_produces (fetch_role topology before t n l)
     less (Take t u k) l = apart t (slot == 0) takes_role supervisor_takes (take_facts topology before t u k l).role
     less (Child t m k) l = either (same_stage s t && slot == k)
       where

@@ -21,6 +21,7 @@ use Rattle.pipe_laws.proofs.Tests.{clash, and_left, and_right, both, not_true, s
 use Rattle.pipe_laws.proofs.Allowed.{legal_before, legal_step, unowed, take_facts, child_facts, LateFacts, late_facts, restart_needs}
 use Rattle.pipe_laws.proofs.Busy.{same_incarnation, was_live}
 use Rattle.queue_laws.proofs.Roles.{some_spec}
+use Rattle.queue_laws.proofs.Late.{puts_no_restart}
 use Rattle.stage_laws.proofs.FewSlots.{slot_case, none_any}
 use Rattle.core_laws.proofs.Past.{out_post}
 use Rattle.count_laws.specs.Counts.{kills}
@@ -120,10 +121,6 @@ restarts_all topology before sound h =
     counts before _ l e = let x : false ≡ true = e in cc
 
 -- Late answers
-
-puts_no_restart : (step : Step) (s : StageNo) (slot : ℕ) → puts_out step (post s slot) ≡ true → restarts step s ≡ false
-puts_no_restart (Restart t) s slot out = cc
-puts_no_restart _ s slot out = refl
 
 -- a stage is not restarted while a post of it is out
 restart_waits : (topology : Topology) (before : History) (step : Step) (s : StageNo) (slot : ℕ) → slot < 16 → allows topology before step ≡ true → restarts step s ≡ true → is_out before (post s slot) ≡ true → ⊥
