@@ -22,7 +22,7 @@ use Rattle.body_laws.proofs.Laws.{silent_keeps, silent_ready}
 use Rattle.control_lines.specs.Steps.{jobs_begun, AddsControl, is_from_control}
 use Rattle.control_lines.specs.Keeping.{KeepsControl}
 use Rattle.control_lines.specs.Rest.{LeavesAtRest}
-use Rattle.stage_moves.specs.Going.{GoesOn, Advances, AddsSilently, Within}
+use Rattle.stage_moves.specs.Going.{GoesOn, Advances, AddsSilently, Within, Waits}
 use Rattle.body_laws.specs.Ready.{Ready}
 use Rattle.stage_moves.specs.Clocks.{ClockSeen, KeepsClock, KeepsClockPartly, KeepsClockAhead, KeepsClockOn, KeepsClockAheadOn, HasRead, HasPaused, IsRead, IsPaused, TicksTo}
 use Rattle.stage_moves.specs.Pauses.{may_pause, rounds_left}
@@ -53,16 +53,6 @@ vain_ahead (Ok x) a opened clock h k = let x : false ≡ true = h in cc
 vain_ahead (Err e) a opened clock h k = k
 
 -- ---- the clock was read
-
--- a run that goes on with all bodies where they are
-pub record Waits (topology : Topology) (old new : History) : Type 0 where
-  pub goes : (home : ℕ → Option BodySeen) → GoesOn topology old home new home
-  pub ready : (home : ℕ → Option BodySeen) → Ready topology old home → Ready topology new home
-  pub same_out : jobs_out topology new ≡ jobs_out topology old
-  pub silent : AddsSilently old new
-  pub control : (jobs : ℕ) (opened lines : Option LineSeen) → KeepsControl topology old jobs opened lines → KeepsControl topology new jobs opened lines
-  pub same_controls : controls new ≡ controls old
-  pub same_halt : happened is_halt new ≡ happened is_halt old
 
 waits_same : (topology : Topology) (before : History) → Waits topology before before
 waits_same topology before = record { goes = λ home. goes_same topology before home; ready = λ home r. r; same_out = refl; silent = silent_same before; control = λ jobs opened lines k. k; same_controls = refl; same_halt = refl }
