@@ -1,6 +1,6 @@
 -- How a run goes on over one step, and over several.
 use Rattle.std.proofs.Common.{◌≡◌, ℕ, ◌*◌, ◌<◌, [], ◌∷◌, true, false, refl, ap, sym, ◌∙◌, inl, inr, arith, subst}
-use Rattle.std.specs.Prelude.{◌⊎◌, ◌≢◌, ◌++◌, All, Option, IsSome, is_some, Result, OnOk, OnErr}
+use Rattle.std.specs.Prelude.{◌⊎◌, ◌≢◌, ◌++◌, Option, IsSome, is_some, Result, OnOk, OnErr}
 use Rattle.std.proofs.lemmas.List.Elements.{All-nil, All-cons, All-append}
 use Rattle.std.proofs.lemmas.List.{append_assoc}
 use Rattle.pipe_types.specs.Sound.{IsSound}

@@ -1,6 +1,6 @@
 -- A round: the clock, the steps of the pipeline's own, and then a job or a pause.
 use Rattle.std.proofs.Common.{◌≡◌, ℕ, ◌+◌, ◌*◌, ◌≤◌, ◌<◌, [], ◌∷◌, true, false, refl, ap, sym, ◌∙◌, subst, inl, inr, None, arith}
-use Rattle.std.specs.Prelude.{◌⊎◌, Option, Result, Ok, Err, OnOk, max, not, ◌&&◌}
+use Rattle.std.specs.Prelude.{◌⊎◌, Option, Result, Ok, Err, OnOk, OnErr, max, not, ◌&&◌}
 use Rattle.std.specs.Result.{IsErr}
 use Rattle.pipe_types.specs.Sound.{IsSound}
 use Rattle.pipe_types.specs.declared.topology.Topology.{Topology}
@@ -8,7 +8,7 @@ use Rattle.pipe_types.specs.declared.numbers.Post.{Post}
 use Rattle.pipe_types.specs.declared.step.Step.{Step}
 use Rattle.pipe_types.specs.declared.step.Step.TheVariants.{Tick, Kill, Drain, Refuse, SourceEnd}
 use Rattle.pipe_types.specs.Numbers.{post, same_post}
-use Rattle.pipe_model.specs.History.{History, now, controls}
+use Rattle.pipe_model.specs.History.{History, now}
 use Rattle.pipe_model.specs.Posts.{puts_out, answers}
 use Rattle.pipe_model.specs.Legal.{is_legal, owed, happened, is_halt}
 use Rattle.pipe_model.specs.Moves.{move, Pause, JobsOut, Halted, Drained, is_drained, jobs_out}
@@ -17,14 +17,12 @@ use Rattle.work_laws.specs.Left.{work_left}
 use Rattle.work_laws.proofs.Leaving.{tick_keeps}
 use Rattle.move_laws.proofs.Laws.{tick_law, move_law}
 use Rattle.move_laws.specs.NextMoves.{IsLegalMove}
-use Rattle.stage_bodies.specs.Seen.{BodySeen, LineSeen}
+use Rattle.stage_bodies.specs.Seen.{BodySeen}
 use Rattle.body_laws.proofs.Laws.{silent_keeps, silent_ready}
 use Rattle.control_lines.specs.Steps.{jobs_begun, AddsControl, is_from_control}
-use Rattle.control_lines.specs.Keeping.{KeepsControl}
 use Rattle.control_lines.specs.Rest.{LeavesAtRest}
-use Rattle.stage_moves.specs.Going.{GoesOn, Advances, AddsSilently, Within}
-use Rattle.body_laws.specs.Ready.{Ready}
-use Rattle.stage_moves.specs.Clocks.{ClockSeen, KeepsClock, KeepsClockPartly, KeepsClockAhead, KeepsClockOn, KeepsClockAheadOn, HasRead, HasPaused, IsRead, IsPaused, TicksTo}
+use Rattle.stage_moves.specs.Going.{GoesOn, Advances, AddsSilently, Within, Waits}
+use Rattle.stage_moves.specs.Clocks.{ClockSeen, KeepsClock, KeepsClockPartly, KeepsClockAhead, KeepsClockOn, KeepsClockAheadOn, HasRead, HasPaused, IsRead, TicksTo}
 use Rattle.stage_moves.specs.Pauses.{may_pause, rounds_left}
 use Rattle.stage_moves.proofs.Times.{read_ahead, ahead_then, ahead_same, partly}
 use Rattle.stage_moves.proofs.Controls.{other_step}
@@ -54,16 +52,6 @@ vain_ahead (Err e) a opened clock h k = k
 
 -- ---- the clock was read
 
--- a run that goes on with all bodies where they are
-pub record Waits (topology : Topology) (old new : History) : Type 0 where
-  pub goes : (home : ℕ → Option BodySeen) → GoesOn topology old home new home
-  pub ready : (home : ℕ → Option BodySeen) → Ready topology old home → Ready topology new home
-  pub same_out : jobs_out topology new ≡ jobs_out topology old
-  pub silent : AddsSilently old new
-  pub control : (jobs : ℕ) (opened lines : Option LineSeen) → KeepsControl topology old jobs opened lines → KeepsControl topology new jobs opened lines
-  pub same_controls : controls new ≡ controls old
-  pub same_halt : happened is_halt new ≡ happened is_halt old
-
 waits_same : (topology : Topology) (before : History) → Waits topology before before
 waits_same topology before = record { goes = λ home. goes_same topology before home; ready = λ home r. r; same_out = refl; silent = silent_same before; control = λ jobs opened lines k. k; same_controls = refl; same_halt = refl }
 
@@ -83,22 +71,12 @@ waits_tick topology before t sound legal = record {
   same_halt = refl;
 }
 
-pub read_waits : {T E : Type 0} (topology other : Topology) (before after : History) (r : Result T E) (old new : ClockSeen) → IsSound topology → other ≡ topology → is_legal other after ≡ true → IsRead r before after old new
+-- a tick was added, or memory was wanting for it
+pub tick_waits : {T E : Type 0} (topology other : Topology) (before after : History) (t : ℕ) (r : Result T E) → IsSound topology → other ≡ topology → is_legal other after ≡ true → OnOk r (after ≡ Tick t ∷ before) → OnErr r (after ≡ before)
     → Waits topology before after
-read_waits topology other before after (Err e) old new sound same legal read = subst (λ x. Waits topology before x) (sym read.unchanged) (waits_same topology before)
-read_waits topology other before after (Ok x) old new sound same legal read = by_tick read.ticks
-  where
-    by_tick : TicksTo read.reading before after → Waits topology before after
-    by_tick (inl (less, e)) =
-        subst (λ x. Waits topology before x) (sym e) (waits_tick topology before read.reading sound (subst (λ x. is_legal topology x ≡ true) e (subst (λ o. is_legal o after ≡ true) same legal)))
-    by_tick (inr (le, e)) = subst (λ x. Waits topology before x) (sym e) (waits_same topology before)
-
-pub paused_waits : {T E : Type 0} (topology other : Topology) (before after : History) (r : Result T E) (old new : ClockSeen) → IsSound topology → other ≡ topology → is_legal other after ≡ true → IsPaused r before after old new
-    → Waits topology before after
-paused_waits topology other before after (Err e) old new sound same legal read = subst (λ x. Waits topology before x) (sym read.unchanged) (waits_same topology before)
-paused_waits topology other before after (Ok x) old new sound same legal read =
-    subst (λ x. Waits topology before x) (sym read.ticks)
-    (waits_tick topology before (max (now before) read.reading) sound (subst (λ x. is_legal topology x ≡ true) read.ticks (subst (λ o. is_legal o after ≡ true) same legal)))
+tick_waits topology other before after t (Err e) sound same legal added unchanged = subst (λ x. Waits topology before x) (sym unchanged) (waits_same topology before)
+tick_waits topology other before after t (Ok x) sound same legal added unchanged =
+    subst (λ x. Waits topology before x) (sym added) (waits_tick topology before t sound (subst (λ x. is_legal topology x ≡ true) added (subst (λ o. is_legal o after ≡ true) same legal)))
 
 -- a control line was read
 pub line_waits : (topology : Topology) (before after : History) (home : ℕ → Option BodySeen) → LeavesAtRest topology before after → GoesOn topology before home after home

@@ -4,6 +4,7 @@ use Rattle.pipe_types.specs.declared.topology.Topology.{Topology}
 use Rattle.pipe_types.specs.declared.numbers.Post.{Post}
 use Rattle.pipe_model.specs.History.{History, now, controls}
 use Rattle.pipe_model.specs.Posts.{puts_out, answers}
+use Rattle.pipe_model.specs.Legal.{happened, is_halt}
 use Rattle.pipe_model.specs.Moves.{jobs_out}
 use Rattle.run_claims.specs.Followed.{FollowsMoves}
 use Rattle.stage_bodies.specs.Seen.{BodySeen, LineSeen}
@@ -49,3 +50,13 @@ pub record Advances (topology : Topology) (old : History) (home : ℕ → Option
   pub silent : AddsSilently old new
   pub within : Within topology 0 old new
   pub progress : (new ≡ old) ⊎ (work_left topology new < work_left topology old)
+
+-- a run that goes on with all bodies where they are, and the jobs, the control lines and the halt as they were
+pub record Waits (topology : Topology) (old new : History) : Type 0 where
+  pub goes : (home : ℕ → Option BodySeen) → GoesOn topology old home new home
+  pub ready : (home : ℕ → Option BodySeen) → Ready topology old home → Ready topology new home
+  pub same_out : jobs_out topology new ≡ jobs_out topology old
+  pub silent : AddsSilently old new
+  pub control : (jobs : ℕ) (opened lines : Option LineSeen) → KeepsControl topology old jobs opened lines → KeepsControl topology new jobs opened lines
+  pub same_controls : controls new ≡ controls old
+  pub same_halt : happened is_halt new ≡ happened is_halt old

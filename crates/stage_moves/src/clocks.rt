@@ -4,6 +4,7 @@ ghost use Rattle.std.specs.Prelude.{◌≡◌, false};
 ghost use Rattle.pipe_model.specs.Legal.{happened, is_halt};
 ghost use Rattle.core_state.specs.Stands.{Stands};
 ghost use Rattle.stage_moves.specs.Clocks.{clock_seen, IsRead, IsPaused};
+ghost use Rattle.stage_moves.specs.Going.{Waits};
 
 use core_calls::asks::tick;
 use core_state::Core;
@@ -16,6 +17,7 @@ pub(crate) fn read_clock<C: Clock>(core: &mut Core, clock: &mut C) -> Result<(),
     requires going { happened is_halt core.old.journal.steps ≡ false }
     ensures stands { Stands core.new }
     ensures topology { core.new.topology ≡ core.old.topology }
+    ensures waits { Waits core.old.topology core.old.journal.steps core.new.journal.steps }
     ensures read { IsRead result core.old.journal.steps core.new.journal.steps (clock_seen C.latest C.readings clock.old) (clock_seen C.latest C.readings clock.new) }
 {
     let reading = clock.now();
@@ -31,6 +33,7 @@ pub fn pause<C: Clock>(core: &mut Core, clock: &mut C) -> Result<(), AllocError>
     requires going { happened is_halt core.old.journal.steps ≡ false }
     ensures stands { Stands core.new }
     ensures topology { core.new.topology ≡ core.old.topology }
+    ensures waits { Waits core.old.topology core.old.journal.steps core.new.journal.steps }
     ensures paused { IsPaused result core.old.journal.steps core.new.journal.steps (clock_seen C.latest C.readings clock.old) (clock_seen C.latest C.readings clock.new) }
 {
     clock.pause();

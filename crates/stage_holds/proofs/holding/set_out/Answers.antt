@@ -7,12 +7,12 @@ use Rattle.body_laws.specs.Keeps.{Keeps}
 use Rattle.body_laws.specs.Ready.{Ready}
 use Rattle.control_lines.proofs.Kept.{jobless_keeps, kept_partly}
 use Rattle.job_laws.specs.Away.{IsAway}
-use Rattle.stage_moves.specs.Going.{Within}
+use Rattle.stage_moves.specs.Going.{Within, Waits}
 use Rattle.stage_moves.specs.Clocks.{clock_seen}
 use Rattle.stage_moves.proofs.Controls.{over_on}
 use Rattle.stage_moves.proofs.Goings.{silent_then}
 use Rattle.stage_moves.proofs.Times.{ahead_same, paused_then, in_vain, partly}
-use Rattle.stage_moves.proofs.Turning.{vain_way, worked_clock, paused_waits, drained_at, halted_at}
+use Rattle.stage_moves.proofs.Turning.{vain_way, worked_clock, drained_at, halted_at}
 use Rattle.stage_holds.proofs.Adding.{silently_hold, holds_then}
 use Rattle.stage_holds.proofs.Leaving.{same_homes, homes_then}
 use Rattle.stage_holds.proofs.Setting.{err_adds, err_homes}
@@ -27,15 +27,11 @@ pause-requires-clause-going g c =
 
 pub returns-in_err-pause-in-Pause-clause-adds : goal.returns-in_err-pause-in-Pause-clause-adds
 returns-in_err-pause-in-Pause-clause-adds g c =
-    let t = c.args.core.now.topology in
     let a = c.args.core.now.journal.steps in
     let b = c.advance.new.core.journal.steps in
     let e = c.advance.ensures in
     let p = c.pause.new.core.journal.steps in
-    let c1 = clock_seen g.C.Clock.latest g.C.Clock.readings c.advance.new.clock in
-    let c2 = clock_seen g.C.Clock.latest g.C.Clock.readings c.pause.new.clock in
-    let q = c.pause.ensures in
-    let v = paused_waits t c.pause.new.core.topology b p c.pause.result c1 c2 c.requires.stands.holds.sound (q.topology ∙ e.topology) q.stands.holds.legal q.paused in
+    let v = subst (λ o. Waits o b p) e.topology c.pause.ensures.waits in
     err_adds c.from_residual-in_err-pause-in-Pause.result a p c.from_residual-in_err-pause-in-Pause.ensures.0 (silently_hold a p (silent_then a b p e.silent v.silent))
 
 pub returns-in_err-pause-in-Pause-clause-homes : goal.returns-in_err-pause-in-Pause-clause-homes
@@ -48,15 +44,11 @@ returns-in_err-pause-in-Pause-clause-homes g c =
 
 pub returns-in_ok-pause-in-Pause-clause-adds : goal.returns-in_ok-pause-in-Pause-clause-adds
 returns-in_ok-pause-in-Pause-clause-adds g c =
-    let t = c.args.core.now.topology in
     let a = c.args.core.now.journal.steps in
     let b = c.advance.new.core.journal.steps in
     let e = c.advance.ensures in
     let p = c.pause.new.core.journal.steps in
-    let c1 = clock_seen g.C.Clock.latest g.C.Clock.readings c.advance.new.clock in
-    let c2 = clock_seen g.C.Clock.latest g.C.Clock.readings c.pause.new.clock in
-    let q = c.pause.ensures in
-    let v = paused_waits t c.pause.new.core.topology b p c.pause.result c1 c2 c.requires.stands.holds.sound (q.topology ∙ e.topology) q.stands.holds.legal q.paused in
+    let v = subst (λ o. Waits o b p) e.topology c.pause.ensures.waits in
     silently_hold a p (silent_then a b p e.silent v.silent)
 
 pub returns-in_ok-pause-in-Pause-clause-homes : goal.returns-in_ok-pause-in-Pause-clause-homes
@@ -82,40 +74,29 @@ returns-in_err-pause-in-Pause-clause-control g c opened k =
     let b = c.advance.new.core.journal.steps in
     let e = c.advance.ensures in
     let p = c.pause.new.core.journal.steps in
-    let c1 = clock_seen g.C.Clock.latest g.C.Clock.readings c.advance.new.clock in
-    let c2 = clock_seen g.C.Clock.latest g.C.Clock.readings c.pause.new.clock in
-    let q = c.pause.ensures in
-    let v = paused_waits t c.pause.new.core.topology b p c.pause.result c1 c2 c.requires.stands.holds.sound (q.topology ∙ e.topology) q.stands.holds.legal q.paused in
+    let v = subst (λ o. Waits o b p) e.topology c.pause.ensures.waits in
     let s = g.S.ByteSource in
     let l1 = option_map (line_seen s.told s.taken s.left s.faults s.waits) c.advance.new.control in
     over_on c.from_residual-in_err-pause-in-Pause.result t p opened l1 (jobless_keeps t p opened l1 (v.control 1 opened l1 (c.in_ok-stage.ensures.control opened k)))
 
 pub returns-in_ok-pause-in-Pause-clause-ready : goal.returns-in_ok-pause-in-Pause-clause-ready
 returns-in_ok-pause-in-Pause-clause-ready g c =
-    let t = c.args.core.now.topology in
     let b = c.advance.new.core.journal.steps in
     let look = g.B.Works.look in
     let here = body_at look c.advance.new.bodies.items in
     let e = c.advance.ensures in
     let p = c.pause.new.core.journal.steps in
-    let c1 = clock_seen g.C.Clock.latest g.C.Clock.readings c.advance.new.clock in
-    let c2 = clock_seen g.C.Clock.latest g.C.Clock.readings c.pause.new.clock in
-    let q = c.pause.ensures in
-    let v = paused_waits t c.pause.new.core.topology b p c.pause.result c1 c2 c.requires.stands.holds.sound (q.topology ∙ e.topology) q.stands.holds.legal q.paused in
+    let v = subst (λ o. Waits o b p) e.topology c.pause.ensures.waits in
     v.ready here e.ready
 
 pub returns-in_ok-pause-in-Pause-clause-keeps : goal.returns-in_ok-pause-in-Pause-clause-keeps
 returns-in_ok-pause-in-Pause-clause-keeps g c opened k =
-    let t = c.args.core.now.topology in
     let b = c.advance.new.core.journal.steps in
     let look = g.B.Works.look in
     let here = body_at look c.advance.new.bodies.items in
     let e = c.advance.ensures in
     let p = c.pause.new.core.journal.steps in
-    let c1 = clock_seen g.C.Clock.latest g.C.Clock.readings c.advance.new.clock in
-    let c2 = clock_seen g.C.Clock.latest g.C.Clock.readings c.pause.new.clock in
-    let q = c.pause.ensures in
-    let v = paused_waits t c.pause.new.core.topology b p c.pause.result c1 c2 c.requires.stands.holds.sound (q.topology ∙ e.topology) q.stands.holds.legal q.paused in
+    let v = subst (λ o. Waits o b p) e.topology c.pause.ensures.waits in
     (v.goes here).keeps opened (e.goes.keeps opened k)
 
 pub returns-in_ok-pause-in-Pause-clause-clock : goal.returns-in_ok-pause-in-Pause-clause-clock
@@ -132,10 +113,7 @@ returns-in_ok-pause-in-Pause-clause-control g c opened k =
     let b = c.advance.new.core.journal.steps in
     let e = c.advance.ensures in
     let p = c.pause.new.core.journal.steps in
-    let c1 = clock_seen g.C.Clock.latest g.C.Clock.readings c.advance.new.clock in
-    let c2 = clock_seen g.C.Clock.latest g.C.Clock.readings c.pause.new.clock in
-    let q = c.pause.ensures in
-    let v = paused_waits t c.pause.new.core.topology b p c.pause.result c1 c2 c.requires.stands.holds.sound (q.topology ∙ e.topology) q.stands.holds.legal q.paused in
+    let v = subst (λ o. Waits o b p) e.topology c.pause.ensures.waits in
     let s = g.S.ByteSource in
     let l1 = option_map (line_seen s.told s.taken s.left s.faults s.waits) c.advance.new.control in
     jobless_keeps t p opened l1 (v.control 1 opened l1 (c.in_ok-stage.ensures.control opened k))

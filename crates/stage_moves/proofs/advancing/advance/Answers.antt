@@ -13,22 +13,16 @@ use Rattle.stage_moves.specs.Pauses.{rounds_left}
 use Rattle.stage_moves.proofs.Times.{in_vain}
 use Rattle.stage_moves.proofs.Controls.{one_read, none_read, one_line, ahead_on, partly_on}
 use Rattle.stage_moves.proofs.Goings.{within_same, silent_then}
-use Rattle.stage_moves.proofs.Turning.{read_waits, read_no_more, line_goes, line_silent, on_goes, on_progress, on_clock, on_no_more, on_pauses, ahead_way, vain_ahead, always_ok}
+use Rattle.stage_moves.proofs.Turning.{read_no_more, line_goes, line_silent, on_goes, on_progress, on_clock, on_no_more, on_pauses, ahead_way, vain_ahead, always_ok}
 use Rattle.stage_moves.proofs.advancing.advance.Goals as goal
 
 pub returns-in_err-read_clock-clause-goes : goal.returns-in_err-read_clock-clause-goes
 returns-in_err-read_clock-clause-goes g c =
-    let e1 = c.read_clock.ensures in
-    let c0 = clock_seen g.C.Clock.latest g.C.Clock.readings c.args.clock.now in
-    let c1 = clock_seen g.C.Clock.latest g.C.Clock.readings c.read_clock.new.clock in
-    (read_waits c.args.core.now.topology c.read_clock.new.core.topology c.args.core.now.journal.steps c.read_clock.new.core.journal.steps c.read_clock.result c0 c1 c.requires.stands.holds.sound e1.topology e1.stands.holds.legal e1.read).goes (body_at g.B.Works.look c.args.bodies.now.items)
+    c.read_clock.ensures.waits.goes (body_at g.B.Works.look c.args.bodies.now.items)
 
 pub returns-in_err-read_clock-clause-ready : goal.returns-in_err-read_clock-clause-ready
 returns-in_err-read_clock-clause-ready g c =
-    let e1 = c.read_clock.ensures in
-    let c0 = clock_seen g.C.Clock.latest g.C.Clock.readings c.args.clock.now in
-    let c1 = clock_seen g.C.Clock.latest g.C.Clock.readings c.read_clock.new.clock in
-    (read_waits c.args.core.now.topology c.read_clock.new.core.topology c.args.core.now.journal.steps c.read_clock.new.core.journal.steps c.read_clock.result c0 c1 c.requires.stands.holds.sound e1.topology e1.stands.holds.legal e1.read).ready (body_at g.B.Works.look c.args.bodies.now.items) c.requires.ready
+    c.read_clock.ensures.waits.ready (body_at g.B.Works.look c.args.bodies.now.items) c.requires.ready
 
 pub returns-in_err-read_clock-clause-clock : goal.returns-in_err-read_clock-clause-clock
 returns-in_err-read_clock-clause-clock g c opened k =
@@ -39,13 +33,9 @@ returns-in_err-read_clock-clause-clock g c opened k =
 
 pub returns-in_err-read_clock-clause-one_line : goal.returns-in_err-read_clock-clause-one_line
 returns-in_err-read_clock-clause-one_line g c =
-    let t = c.args.core.now.topology in
     let a = c.args.core.now.journal.steps in
     let m = c.read_clock.new.core.journal.steps in
-    let e1 = c.read_clock.ensures in
-    let c0 = clock_seen g.C.Clock.latest g.C.Clock.readings c.args.clock.now in
-    let c1 = clock_seen g.C.Clock.latest g.C.Clock.readings c.read_clock.new.clock in
-    let w = read_waits t c.read_clock.new.core.topology a m c.read_clock.result c0 c1 c.requires.stands.holds.sound e1.topology e1.stands.holds.legal e1.read in
+    let w = c.read_clock.ensures.waits in
     none_read a m w.same_controls
 
 pub returns-in_err-read_clock-clause-no_more : goal.returns-in_err-read_clock-clause-no_more
@@ -57,25 +47,15 @@ returns-in_err-read_clock-clause-no_more g c =
 pub returns-in_err-read_clock-clause-control : goal.returns-in_err-read_clock-clause-control
 returns-in_err-read_clock-clause-control g c opened k =
     let t = c.args.core.now.topology in
-    let a = c.args.core.now.journal.steps in
     let m = c.read_clock.new.core.journal.steps in
-    let e1 = c.read_clock.ensures in
-    let c0 = clock_seen g.C.Clock.latest g.C.Clock.readings c.args.clock.now in
-    let c1 = clock_seen g.C.Clock.latest g.C.Clock.readings c.read_clock.new.clock in
-    let w = read_waits t c.read_clock.new.core.topology a m c.read_clock.result c0 c1 c.requires.stands.holds.sound e1.topology e1.stands.holds.legal e1.read in
+    let w = c.read_clock.ensures.waits in
     let s = g.S.ByteSource in
     let l0 = option_map (line_seen s.told s.taken s.left s.faults s.waits) c.args.control.now in
     partly_on c.from_residual.result t m 1 opened l0 c.from_residual.ensures.0 (kept_partly t m opened l0 (w.control 0 opened l0 k))
 
 pub read_control-requires-clause-going : goal.read_control-requires-clause-going
 read_control-requires-clause-going g c =
-    let t = c.args.core.now.topology in
-    let a = c.args.core.now.journal.steps in
-    let m = c.read_clock.new.core.journal.steps in
-    let e1 = c.read_clock.ensures in
-    let c0 = clock_seen g.C.Clock.latest g.C.Clock.readings c.args.clock.now in
-    let c1 = clock_seen g.C.Clock.latest g.C.Clock.readings c.read_clock.new.clock in
-    let w = read_waits t c.read_clock.new.core.topology a m c.read_clock.result c0 c1 c.requires.stands.holds.sound e1.topology e1.stands.holds.legal e1.read in
+    let w = c.read_clock.ensures.waits in
     w.same_halt ∙ c.requires.going
 
 pub returns-in_err-read_control-clause-goes : goal.returns-in_err-read_control-clause-goes
@@ -87,24 +67,18 @@ returns-in_err-read_control-clause-goes g c =
     let home = body_at g.B.Works.look c.args.bodies.now.items in
     let e1 = c.read_clock.ensures in
     let e2 = c.read_control.ensures in
-    let c0 = clock_seen g.C.Clock.latest g.C.Clock.readings c.args.clock.now in
-    let c1 = clock_seen g.C.Clock.latest g.C.Clock.readings c.read_clock.new.clock in
-    let w = read_waits t c.read_clock.new.core.topology a m c.read_clock.result c0 c1 c.requires.stands.holds.sound e1.topology e1.stands.holds.legal e1.read in
+    let w = c.read_clock.ensures.waits in
     let line = subst (λ o. LeavesAtRest o m n) e1.topology e2.rest in
     line_goes t a m n home w line
 
 pub returns-in_err-read_control-clause-ready : goal.returns-in_err-read_control-clause-ready
 returns-in_err-read_control-clause-ready g c =
-    let t = c.args.core.now.topology in
-    let a = c.args.core.now.journal.steps in
     let m = c.read_clock.new.core.journal.steps in
     let n = c.read_control.new.core.journal.steps in
     let home = body_at g.B.Works.look c.args.bodies.now.items in
     let e1 = c.read_clock.ensures in
     let e2 = c.read_control.ensures in
-    let c0 = clock_seen g.C.Clock.latest g.C.Clock.readings c.args.clock.now in
-    let c1 = clock_seen g.C.Clock.latest g.C.Clock.readings c.read_clock.new.clock in
-    let w = read_waits t c.read_clock.new.core.topology a m c.read_clock.result c0 c1 c.requires.stands.holds.sound e1.topology e1.stands.holds.legal e1.read in
+    let w = c.read_clock.ensures.waits in
     let line = subst (λ o. LeavesAtRest o m n) e1.topology e2.rest in
     line.ready home (w.ready home c.requires.ready)
 
@@ -124,13 +98,10 @@ returns-in_err-read_control-clause-clock g c opened k =
 pub returns-in_err-read_control-clause-control : goal.returns-in_err-read_control-clause-control
 returns-in_err-read_control-clause-control g c opened k =
     let t = c.args.core.now.topology in
-    let a = c.args.core.now.journal.steps in
     let m = c.read_clock.new.core.journal.steps in
     let n = c.read_control.new.core.journal.steps in
     let e1 = c.read_clock.ensures in
-    let c0 = clock_seen g.C.Clock.latest g.C.Clock.readings c.args.clock.now in
-    let c1 = clock_seen g.C.Clock.latest g.C.Clock.readings c.read_clock.new.clock in
-    let w = read_waits t c.read_clock.new.core.topology a m c.read_clock.result c0 c1 c.requires.stands.holds.sound e1.topology e1.stands.holds.legal e1.read in
+    let w = c.read_clock.ensures.waits in
     let s = g.S.ByteSource in
     let l0 = option_map (line_seen s.told s.taken s.left s.faults s.waits) c.args.control.now in
     let l1 = option_map (line_seen s.told s.taken s.left s.faults s.waits) c.read_control.new.control in
@@ -145,7 +116,7 @@ returns-in_err-read_control-clause-one_line g c =
     let e1 = c.read_clock.ensures in
     let c0 = clock_seen g.C.Clock.latest g.C.Clock.readings c.args.clock.now in
     let c1 = clock_seen g.C.Clock.latest g.C.Clock.readings c.read_clock.new.clock in
-    let w = read_waits t c.read_clock.new.core.topology a m c.read_clock.result c0 c1 c.requires.stands.holds.sound e1.topology e1.stands.holds.legal e1.read in
+    let w = c.read_clock.ensures.waits in
     let n = c.read_control.new.core.journal.steps in
     one_line a m n n w.same_controls (one_read m n c.read_control.ensures.adds) refl
 
@@ -164,16 +135,12 @@ returns-in_err-read_control-clause-no_more g c =
 
 pub go_on-requires-clause-ready : goal.go_on-requires-clause-ready
 go_on-requires-clause-ready g c =
-    let t = c.args.core.now.topology in
-    let a = c.args.core.now.journal.steps in
     let m = c.read_clock.new.core.journal.steps in
     let n = c.read_control.new.core.journal.steps in
     let home = body_at g.B.Works.look c.args.bodies.now.items in
     let e1 = c.read_clock.ensures in
     let e2 = c.read_control.ensures in
-    let c0 = clock_seen g.C.Clock.latest g.C.Clock.readings c.args.clock.now in
-    let c1 = clock_seen g.C.Clock.latest g.C.Clock.readings c.read_clock.new.clock in
-    let w = read_waits t c.read_clock.new.core.topology a m c.read_clock.result c0 c1 c.requires.stands.holds.sound e1.topology e1.stands.holds.legal e1.read in
+    let w = c.read_clock.ensures.waits in
     let line = subst (λ o. LeavesAtRest o m n) e1.topology e2.rest in
     subst (λ o. Ready o n home) (sym (e2.topology ∙ e1.topology)) (line.ready home (w.ready home c.requires.ready))
 
@@ -189,9 +156,7 @@ returns-clause-goes g c =
     let e1 = c.read_clock.ensures in
     let e2 = c.read_control.ensures in
     let e3 = c.go_on.ensures in
-    let c0 = clock_seen g.C.Clock.latest g.C.Clock.readings c.args.clock.now in
-    let c1 = clock_seen g.C.Clock.latest g.C.Clock.readings c.read_clock.new.clock in
-    let w = read_waits t c.read_clock.new.core.topology a m c.read_clock.result c0 c1 c.requires.stands.holds.sound e1.topology e1.stands.holds.legal e1.read in
+    let w = c.read_clock.ensures.waits in
     let line = subst (λ o. LeavesAtRest o m n) e1.topology e2.rest in
     let on = subst (λ o. Advances o n home b back) (e2.topology ∙ e1.topology) e3.advances in
     on_goes t a m n b home back w line on
@@ -229,7 +194,6 @@ returns-clause-clock g c opened k =
 pub returns-clause-control : goal.returns-clause-control
 returns-clause-control g c opened k =
     let t = c.args.core.now.topology in
-    let a = c.args.core.now.journal.steps in
     let m = c.read_clock.new.core.journal.steps in
     let n = c.read_control.new.core.journal.steps in
     let b = c.go_on.new.core.journal.steps in
@@ -238,9 +202,7 @@ returns-clause-control g c opened k =
     let e1 = c.read_clock.ensures in
     let e2 = c.read_control.ensures in
     let e3 = c.go_on.ensures in
-    let c0 = clock_seen g.C.Clock.latest g.C.Clock.readings c.args.clock.now in
-    let c1 = clock_seen g.C.Clock.latest g.C.Clock.readings c.read_clock.new.clock in
-    let w = read_waits t c.read_clock.new.core.topology a m c.read_clock.result c0 c1 c.requires.stands.holds.sound e1.topology e1.stands.holds.legal e1.read in
+    let w = c.read_clock.ensures.waits in
     let on = subst (λ o. Advances o n home b back) (e2.topology ∙ e1.topology) e3.advances in
     let s = g.S.ByteSource in
     let l0 = option_map (line_seen s.told s.taken s.left s.faults s.waits) c.args.control.now in
@@ -251,13 +213,9 @@ returns-clause-control g c opened k =
 
 pub returns-clause-one_line : goal.returns-clause-one_line
 returns-clause-one_line g c =
-    let t = c.args.core.now.topology in
     let a = c.args.core.now.journal.steps in
     let m = c.read_clock.new.core.journal.steps in
-    let e1 = c.read_clock.ensures in
-    let c0 = clock_seen g.C.Clock.latest g.C.Clock.readings c.args.clock.now in
-    let c1 = clock_seen g.C.Clock.latest g.C.Clock.readings c.read_clock.new.clock in
-    let w = read_waits t c.read_clock.new.core.topology a m c.read_clock.result c0 c1 c.requires.stands.holds.sound e1.topology e1.stands.holds.legal e1.read in
+    let w = c.read_clock.ensures.waits in
     let n = c.read_control.new.core.journal.steps in
     let b = c.go_on.new.core.journal.steps in
     one_line a m n b w.same_controls (one_read m n c.read_control.ensures.adds) c.go_on.ensures.advances.within.same_controls
@@ -301,60 +259,36 @@ returns-clause-pauses g c =
 
 pub returns-in_err-read_clock-clause-same_out : goal.returns-in_err-read_clock-clause-same_out
 returns-in_err-read_clock-clause-same_out g c =
-    let t = c.args.core.now.topology in
-    let a = c.args.core.now.journal.steps in
-    let m = c.read_clock.new.core.journal.steps in
-    let e1 = c.read_clock.ensures in
-    let c0 = clock_seen g.C.Clock.latest g.C.Clock.readings c.args.clock.now in
-    let c1 = clock_seen g.C.Clock.latest g.C.Clock.readings c.read_clock.new.clock in
-    let w = read_waits t c.read_clock.new.core.topology a m c.read_clock.result c0 c1 c.requires.stands.holds.sound e1.topology e1.stands.holds.legal e1.read in
+    let w = c.read_clock.ensures.waits in
     w.same_out
 
 pub returns-in_err-read_clock-clause-silent : goal.returns-in_err-read_clock-clause-silent
 returns-in_err-read_clock-clause-silent g c =
-    let t = c.args.core.now.topology in
-    let a = c.args.core.now.journal.steps in
-    let m = c.read_clock.new.core.journal.steps in
-    let e1 = c.read_clock.ensures in
-    let c0 = clock_seen g.C.Clock.latest g.C.Clock.readings c.args.clock.now in
-    let c1 = clock_seen g.C.Clock.latest g.C.Clock.readings c.read_clock.new.clock in
-    let w = read_waits t c.read_clock.new.core.topology a m c.read_clock.result c0 c1 c.requires.stands.holds.sound e1.topology e1.stands.holds.legal e1.read in
+    let w = c.read_clock.ensures.waits in
     w.silent
 
 pub returns-in_err-read_control-clause-same_out : goal.returns-in_err-read_control-clause-same_out
 returns-in_err-read_control-clause-same_out g c =
-    let t = c.args.core.now.topology in
-    let a = c.args.core.now.journal.steps in
     let m = c.read_clock.new.core.journal.steps in
     let e1 = c.read_clock.ensures in
-    let c0 = clock_seen g.C.Clock.latest g.C.Clock.readings c.args.clock.now in
-    let c1 = clock_seen g.C.Clock.latest g.C.Clock.readings c.read_clock.new.clock in
-    let w = read_waits t c.read_clock.new.core.topology a m c.read_clock.result c0 c1 c.requires.stands.holds.sound e1.topology e1.stands.holds.legal e1.read in
+    let w = c.read_clock.ensures.waits in
     let n = c.read_control.new.core.journal.steps in
     let line = subst (λ o. LeavesAtRest o m n) e1.topology c.read_control.ensures.rest in
     line.same_out ∙ w.same_out
 
 pub returns-in_err-read_control-clause-silent : goal.returns-in_err-read_control-clause-silent
 returns-in_err-read_control-clause-silent g c =
-    let t = c.args.core.now.topology in
     let a = c.args.core.now.journal.steps in
     let m = c.read_clock.new.core.journal.steps in
-    let e1 = c.read_clock.ensures in
-    let c0 = clock_seen g.C.Clock.latest g.C.Clock.readings c.args.clock.now in
-    let c1 = clock_seen g.C.Clock.latest g.C.Clock.readings c.read_clock.new.clock in
-    let w = read_waits t c.read_clock.new.core.topology a m c.read_clock.result c0 c1 c.requires.stands.holds.sound e1.topology e1.stands.holds.legal e1.read in
+    let w = c.read_clock.ensures.waits in
     let n = c.read_control.new.core.journal.steps in
     silent_then a m n w.silent (line_silent m n c.read_control.ensures.adds)
 
 pub returns-clause-same_out : goal.returns-clause-same_out
 returns-clause-same_out g c =
-    let t = c.args.core.now.topology in
-    let a = c.args.core.now.journal.steps in
     let m = c.read_clock.new.core.journal.steps in
     let e1 = c.read_clock.ensures in
-    let c0 = clock_seen g.C.Clock.latest g.C.Clock.readings c.args.clock.now in
-    let c1 = clock_seen g.C.Clock.latest g.C.Clock.readings c.read_clock.new.clock in
-    let w = read_waits t c.read_clock.new.core.topology a m c.read_clock.result c0 c1 c.requires.stands.holds.sound e1.topology e1.stands.holds.legal e1.read in
+    let w = c.read_clock.ensures.waits in
     let n = c.read_control.new.core.journal.steps in
     let line = subst (λ o. LeavesAtRest o m n) e1.topology c.read_control.ensures.rest in
     let b = c.go_on.new.core.journal.steps in
@@ -365,13 +299,9 @@ returns-clause-same_out g c =
 
 pub returns-clause-silent : goal.returns-clause-silent
 returns-clause-silent g c =
-    let t = c.args.core.now.topology in
     let a = c.args.core.now.journal.steps in
     let m = c.read_clock.new.core.journal.steps in
-    let e1 = c.read_clock.ensures in
-    let c0 = clock_seen g.C.Clock.latest g.C.Clock.readings c.args.clock.now in
-    let c1 = clock_seen g.C.Clock.latest g.C.Clock.readings c.read_clock.new.clock in
-    let w = read_waits t c.read_clock.new.core.topology a m c.read_clock.result c0 c1 c.requires.stands.holds.sound e1.topology e1.stands.holds.legal e1.read in
+    let w = c.read_clock.ensures.waits in
     let n = c.read_control.new.core.journal.steps in
     let b = c.go_on.new.core.journal.steps in
     silent_then a n b (silent_then a m n w.silent (line_silent m n c.read_control.ensures.adds)) c.go_on.ensures.advances.silent

@@ -5,13 +5,13 @@ use Rattle.work_laws.specs.Left.{work_left}
 use Rattle.move_laws.proofs.Laws.{pause_law}
 use Rattle.stage_bodies.specs.Seen.{body_at, line_seen}
 use Rattle.control_lines.proofs.Kept.{jobless_keeps}
-use Rattle.stage_moves.specs.Going.{GoesOn, Within}
+use Rattle.stage_moves.specs.Going.{GoesOn, Within, Waits}
 use Rattle.stage_rounds.specs.Rest.{IsAtRest}
 use Rattle.stage_moves.specs.Clocks.{clock_seen}
 use Rattle.stage_moves.proofs.Controls.{none_read, no_more_lines, over_on, partly_on}
 use Rattle.stage_moves.proofs.Goings.{goes_same, goes_then}
 use Rattle.stage_moves.proofs.Times.{ahead_same, paused_then, in_vain}
-use Rattle.stage_moves.proofs.Turning.{either_way, vain_way, worked_clock, paused_waits, job_leaves, pause_leaves, no_jobs_out, drained_at, halted_at}
+use Rattle.stage_moves.proofs.Turning.{either_way, vain_way, worked_clock, job_leaves, pause_leaves, no_jobs_out, drained_at, halted_at}
 use Rattle.stage_rounds.proofs.round.round.Goals as goal
 
 pub returns-then-is_halted-clause-goes : goal.returns-then-is_halted-clause-goes
@@ -127,10 +127,8 @@ returns-in_err-pause-in-Pause-clause-goes g c =
     let p = c.pause.new.core.journal.steps in
     let home = body_at look c.args.bodies.now.items in
     let here = body_at look c.advance.new.bodies.items in
-    let c1 = clock_seen g.C.Clock.latest g.C.Clock.readings c.advance.new.clock in
-    let c2 = clock_seen g.C.Clock.latest g.C.Clock.readings c.pause.new.clock in
     goes_then t c.args.core.now.journal.steps b p home here here c.advance.ensures.goes
-    ((paused_waits t c.pause.new.core.topology b p c.pause.result c1 c2 c.requires.stands.holds.sound (c.pause.ensures.topology ∙ c.advance.ensures.topology) c.pause.ensures.stands.holds.legal c.pause.ensures.paused).goes here)
+    ((subst (λ o. Waits o b p) c.advance.ensures.topology c.pause.ensures.waits).goes here)
 
 pub returns-in_err-pause-in-Pause-clause-clock : goal.returns-in_err-pause-in-Pause-clause-clock
 returns-in_err-pause-in-Pause-clause-clock g c opened k =
@@ -148,23 +146,16 @@ returns-in_err-pause-in-Pause-clause-control g c opened k =
     let p = c.pause.new.core.journal.steps in
     let s = g.S.ByteSource in
     let l1 = option_map (line_seen s.told s.taken s.left s.faults s.waits) c.advance.new.control in
-    let c1 = clock_seen g.C.Clock.latest g.C.Clock.readings c.advance.new.clock in
-    let c2 = clock_seen g.C.Clock.latest g.C.Clock.readings c.pause.new.clock in
-    let e = c.pause.ensures in
-    let v = paused_waits t c.pause.new.core.topology b p c.pause.result c1 c2 c.requires.stands.holds.sound (e.topology ∙ c.advance.ensures.topology) e.stands.holds.legal e.paused in
+    let v = subst (λ o. Waits o b p) c.advance.ensures.topology c.pause.ensures.waits in
     over_on c.from_residual-in_err-pause-in-Pause.result t p opened l1 (jobless_keeps t p opened l1 (v.control 1 opened l1 (c.in_ok-stage.ensures.control opened k)))
 
 pub returns-in_err-pause-in-Pause-clause-one_line : goal.returns-in_err-pause-in-Pause-clause-one_line
 returns-in_err-pause-in-Pause-clause-one_line g c =
-    let t = c.args.core.now.topology in
     let a = c.args.core.now.journal.steps in
     let b = c.advance.new.core.journal.steps in
     let p = c.pause.new.core.journal.steps in
-    let c1 = clock_seen g.C.Clock.latest g.C.Clock.readings c.advance.new.clock in
-    let c2 = clock_seen g.C.Clock.latest g.C.Clock.readings c.pause.new.clock in
-    let e = c.pause.ensures in
     no_more_lines a b p c.advance.ensures.one_line
-    (paused_waits t c.pause.new.core.topology b p c.pause.result c1 c2 c.requires.stands.holds.sound (e.topology ∙ c.advance.ensures.topology) e.stands.holds.legal e.paused).same_controls
+    (subst (λ o. Waits o b p) c.advance.ensures.topology c.pause.ensures.waits).same_controls
 
 pub returns-in_ok-pause-in-Pause-clause-goes : goal.returns-in_ok-pause-in-Pause-clause-goes
 returns-in_ok-pause-in-Pause-clause-goes g c =
@@ -174,21 +165,16 @@ returns-in_ok-pause-in-Pause-clause-goes g c =
     let p = c.pause.new.core.journal.steps in
     let home = body_at look c.args.bodies.now.items in
     let here = body_at look c.advance.new.bodies.items in
-    let c1 = clock_seen g.C.Clock.latest g.C.Clock.readings c.advance.new.clock in
-    let c2 = clock_seen g.C.Clock.latest g.C.Clock.readings c.pause.new.clock in
     goes_then t c.args.core.now.journal.steps b p home here here c.advance.ensures.goes
-    ((paused_waits t c.pause.new.core.topology b p c.pause.result c1 c2 c.requires.stands.holds.sound (c.pause.ensures.topology ∙ c.advance.ensures.topology) c.pause.ensures.stands.holds.legal c.pause.ensures.paused).goes here)
+    ((subst (λ o. Waits o b p) c.advance.ensures.topology c.pause.ensures.waits).goes here)
 
 pub returns-in_ok-pause-in-Pause-clause-rest : goal.returns-in_ok-pause-in-Pause-clause-rest
 returns-in_ok-pause-in-Pause-clause-rest g c =
     let look = g.B.Works.look in
-    let t = c.args.core.now.topology in
     let b = c.advance.new.core.journal.steps in
     let p = c.pause.new.core.journal.steps in
     let here = body_at look c.advance.new.bodies.items in
-    let c1 = clock_seen g.C.Clock.latest g.C.Clock.readings c.advance.new.clock in
-    let c2 = clock_seen g.C.Clock.latest g.C.Clock.readings c.pause.new.clock in
-    let w = paused_waits t c.pause.new.core.topology b p c.pause.result c1 c2 c.requires.stands.holds.sound (c.pause.ensures.topology ∙ c.advance.ensures.topology) c.pause.ensures.stands.holds.legal c.pause.ensures.paused in
+    let w = subst (λ o. Waits o b p) c.advance.ensures.topology c.pause.ensures.waits in
     record { none_out = w.same_out ∙ c.advance.ensures.same_out ∙ c.requires.rest.none_out; ready = w.ready here c.advance.ensures.ready }
 
 pub returns-in_ok-pause-in-Pause-clause-clock : goal.returns-in_ok-pause-in-Pause-clause-clock
@@ -205,23 +191,16 @@ returns-in_ok-pause-in-Pause-clause-control g c opened k =
     let p = c.pause.new.core.journal.steps in
     let s = g.S.ByteSource in
     let l1 = option_map (line_seen s.told s.taken s.left s.faults s.waits) c.advance.new.control in
-    let c1 = clock_seen g.C.Clock.latest g.C.Clock.readings c.advance.new.clock in
-    let c2 = clock_seen g.C.Clock.latest g.C.Clock.readings c.pause.new.clock in
-    let e = c.pause.ensures in
-    let v = paused_waits t c.pause.new.core.topology b p c.pause.result c1 c2 c.requires.stands.holds.sound (e.topology ∙ c.advance.ensures.topology) e.stands.holds.legal e.paused in
+    let v = subst (λ o. Waits o b p) c.advance.ensures.topology c.pause.ensures.waits in
     jobless_keeps t p opened l1 (v.control 1 opened l1 (c.in_ok-stage.ensures.control opened k))
 
 pub returns-in_ok-pause-in-Pause-clause-one_line : goal.returns-in_ok-pause-in-Pause-clause-one_line
 returns-in_ok-pause-in-Pause-clause-one_line g c =
-    let t = c.args.core.now.topology in
     let a = c.args.core.now.journal.steps in
     let b = c.advance.new.core.journal.steps in
     let p = c.pause.new.core.journal.steps in
-    let c1 = clock_seen g.C.Clock.latest g.C.Clock.readings c.advance.new.clock in
-    let c2 = clock_seen g.C.Clock.latest g.C.Clock.readings c.pause.new.clock in
-    let e = c.pause.ensures in
     no_more_lines a b p c.advance.ensures.one_line
-    (paused_waits t c.pause.new.core.topology b p c.pause.result c1 c2 c.requires.stands.holds.sound (e.topology ∙ c.advance.ensures.topology) e.stands.holds.legal e.paused).same_controls
+    (subst (λ o. Waits o b p) c.advance.ensures.topology c.pause.ensures.waits).same_controls
 
 pub returns-in_ok-pause-in-Pause-clause-progress : goal.returns-in_ok-pause-in-Pause-clause-progress
 returns-in_ok-pause-in-Pause-clause-progress g c is limit =
