@@ -50,8 +50,14 @@ fn expect_none(
     name: &str,
 ) -> Result<(), AllocError> {
     let text = text(alloc, name)?;
-    assert!(rt; matches!(edges.open_source(&text), Err(EdgeEnd::Failed)), "{name}");
-    assert!(rt; matches!(edges.open_sink(&text), Err(EdgeEnd::Failed)), "{name}");
+    assert!(rt;
+        matches!(edges.open_source(&text), Err(EdgeEnd::Failed)),
+        "{name}"
+    );
+    assert!(rt;
+        matches!(edges.open_sink(&text), Err(EdgeEnd::Failed)),
+        "{name}"
+    );
     Ok(())
 }
 

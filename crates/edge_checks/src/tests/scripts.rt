@@ -58,43 +58,43 @@ impl Write for Player<'_> {
 }
 
 /// The acts of a reader, and what one read of its source comes to.
-static READS: [([Act; 2], ReadEnd); 8] = [
-    ([Moves(3), Moves(0)], ReadEnd::Got(3)),
-    ([Moves(9), Moves(0)], ReadEnd::Got(8)),
-    ([Fails(ErrorKind::Interrupted), Moves(3)], ReadEnd::Got(3)),
-    ([Fails(ErrorKind::Interrupted), Moves(0)], ReadEnd::End),
-    ([Moves(0), Moves(3)], ReadEnd::End),
-    ([Fails(ErrorKind::WouldBlock), Moves(3)], ReadEnd::Empty),
+static READS: [(&[Act], ReadEnd); 8] = [
+    (&[Moves(3), Moves(0)], ReadEnd::Got(3)),
+    (&[Moves(9), Moves(0)], ReadEnd::Got(8)),
+    (&[Fails(ErrorKind::Interrupted), Moves(3)], ReadEnd::Got(3)),
+    (&[Fails(ErrorKind::Interrupted), Moves(0)], ReadEnd::End),
+    (&[Moves(0), Moves(3)], ReadEnd::End),
+    (&[Fails(ErrorKind::WouldBlock), Moves(3)], ReadEnd::Empty),
     (
-        [Fails(ErrorKind::ConnectionReset), Moves(3)],
+        &[Fails(ErrorKind::ConnectionReset), Moves(3)],
         ReadEnd::Failed,
     ),
-    ([Fails(ErrorKind::UnexpectedEof), Moves(3)], ReadEnd::Failed),
+    (&[Fails(ErrorKind::UnexpectedEof), Moves(3)], ReadEnd::Failed),
 ];
 
 #[test]
 fn an_interrupted_read_is_tried_again(rt: HostRuntime) {
     let mut piece = [0; 8];
-    for (acts, want) in &READS {
+    for &(acts, want) in &READS {
         let mut source = RealSource::new(playing(acts));
-        assert_eq!(rt; source.read(&mut piece), *want);
+        assert_eq!(rt; source.read(&mut piece), want);
     }
 }
 
 /// The acts of a writer, and what one write of its sink comes to.
-static WRITES: [([Act; 2], WriteEnd); 6] = [
-    ([Moves(3), Moves(0)], WriteEnd::Took(3)),
-    ([Fails(ErrorKind::Interrupted), Moves(3)], WriteEnd::Took(3)),
-    ([Fails(ErrorKind::WouldBlock), Moves(3)], WriteEnd::Took(3)),
-    ([Fails(ErrorKind::WouldBlock), Moves(0)], WriteEnd::Failed),
-    ([Moves(0), Moves(3)], WriteEnd::Failed),
-    ([Fails(ErrorKind::BrokenPipe), Moves(3)], WriteEnd::Failed),
+static WRITES: [(&[Act], WriteEnd); 6] = [
+    (&[Moves(3), Moves(0)], WriteEnd::Took(3)),
+    (&[Fails(ErrorKind::Interrupted), Moves(3)], WriteEnd::Took(3)),
+    (&[Fails(ErrorKind::WouldBlock), Moves(3)], WriteEnd::Took(3)),
+    (&[Fails(ErrorKind::WouldBlock), Moves(0)], WriteEnd::Failed),
+    (&[Moves(0), Moves(3)], WriteEnd::Failed),
+    (&[Fails(ErrorKind::BrokenPipe), Moves(3)], WriteEnd::Failed),
 ];
 
 #[test]
 fn a_write_that_would_wait_is_tried_again(rt: HostRuntime) {
-    for (acts, want) in &WRITES {
+    for &(acts, want) in &WRITES {
         let mut sink = RealOut::new(&rt, playing(acts));
-        assert_eq!(rt; sink.write(b"abcdefgh"), *want);
+        assert_eq!(rt; sink.write(b"abcdefgh"), want);
     }
 }
