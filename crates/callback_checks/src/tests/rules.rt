@@ -205,11 +205,7 @@ fn rules_in_order_and_counts(rt: HostRuntime) -> Result<(), Fail> {
 }
 
 /// How many bytes a prefix and a payload have, and whether they pass.
-static LONG: [(usize, usize, bool); 3] = [
-    (1, 65_535, true),
-    (1, 65_536, false),
-    (0, 65_536, true),
-];
+static LONG: [(usize, usize, bool); 3] = [(1, 65_535, true), (1, 65_536, false), (0, 65_536, true)];
 
 /// The reply to a payload of so many bytes behind a prefix of so many.
 fn prefixed(alloc: Global, prefix: usize, payload: usize) -> Result<Option<Reply>, AllocError> {

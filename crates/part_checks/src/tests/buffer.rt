@@ -59,12 +59,7 @@ fn over_of(list: &mut VecDeque<(u32, u32)>, keep: Keep) -> Option<(u32, u32)> {
 }
 
 /// Takes what is over out of both: it is the same unit.
-fn lose(
-    rt: &impl Abort,
-    buffer: &mut Buffer<u32>,
-    list: &mut VecDeque<(u32, u32)>,
-    keep: Keep,
-)
+fn lose(rt: &impl Abort, buffer: &mut Buffer<u32>, list: &mut VecDeque<(u32, u32)>, keep: Keep)
     ensures parts { buffer.new.parts ≡ buffer.old.parts }
     ensures arrived { buffer.new.arrived ≡ buffer.old.arrived }
 {

@@ -4,12 +4,7 @@ use restart_core::Restarts;
 use std::test::Fail;
 
 /// A time after three restarts at 0, 1000 and 2000, and whether one more may be made then.
-static TIMES: [(u64, bool); 4] = [
-    (2000, false),
-    (5000, false),
-    (5001, true),
-    (u64::MAX, true),
-];
+static TIMES: [(u64, bool); 4] = [(2000, false), (5000, false), (5001, true), (u64::MAX, true)];
 
 #[test]
 fn counts_the_restarts_in_the_window(rt: HostRuntime) -> Result<(), Fail> {

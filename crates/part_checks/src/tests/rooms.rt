@@ -33,5 +33,7 @@ pub(super) fn rooms(alloc: Global, open_demands: &[u32]) -> Result<Vec<Room>, Al
 
 /// The units that are sent, each with its consumer.
 pub(super) fn pairs_of(alloc: Global, sent: &[Sent]) -> Result<Vec<(u32, u16)>, AllocError> {
-    sent.iter().map(|s| (s.unit, s.sub.consumer.0)).collect(alloc)
+    sent.iter()
+        .map(|s| (s.unit, s.sub.consumer.0))
+        .collect(alloc)
 }

@@ -29,12 +29,7 @@ static ROWS: [(Dispatch, &[u32], &[u32], &[(u32, u16)]); 8] = [
 ];
 
 /// A byte string, how many parts there are, its part.
-static KEYS: [(&[u8], u32, u64); 4] = [
-    (b"", 3, 0),
-    (b"a", 3, 1),
-    (b"ab", 10, 5),
-    (b"ab", 0, 3105),
-];
+static KEYS: [(&[u8], u32, u64); 4] = [(b"", 3, 0), (b"a", 3, 1), (b"ab", 10, 5), (b"ab", 0, 3105)];
 
 /// The units from the first on, each with its part.
 fn units_of(alloc: Global, parts: &[u32]) -> Result<Vec<(u32, u32)>, AllocError> {
