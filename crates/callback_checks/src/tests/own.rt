@@ -1,6 +1,6 @@
 //! A user's own callback, called through its box.
 
-ghost use Rattle.std.specs.Prelude.{◌≡◌, ◌≢◌, ◌++◌, ◌∷◌, [], true, false, IfOk, OnOk, IsTrue};
+ghost use Rattle.std.specs.Prelude.{◌≡◌, ◌≢◌, ◌++◌, ◌∷◌, [], true, false, IfOk, OnOk, IsTrue, codes};
 ghost use Rattle.pipe_types.specs.Handlers.{eval, counted};
 ghost use Rattle.pipe_types.specs.declared.topology.Kind.TheVariants.{Own};
 ghost use Rattle.stage_callback.specs.Callbacks.{is_passed};
@@ -17,12 +17,21 @@ use stage_callback::{
 use std::alloc::{AllocError, Global};
 use std::test::Fail;
 
+/// Why a message fails that begins with `!`.
+fn watched() -> Reason
+    ensures { result ≡ codes "watched" }
+{
+    match Reason::new(b"watched") {
+        Some(reason) => reason,
+        None => unreachable!(),
+    }
+}
+
 /// Fails each message that begins with `!`, for the reason `watched`, and tells its answers.
 #[derive(Drop)]
 struct Watcher {
     alloc: Global,
     spec: StageSpec,
-    watched: Reason,
     calls: u64,
     bad: u64,
     said: Vec<Said>,
@@ -61,10 +70,10 @@ impl Callback for Watcher {
 
     fn message(&mut self, message: Message) -> Result<Reply, AllocError> {
         if message.payload.as_slice().starts_with(b"!") {
-            self.said.push(Said::Message(Reply::Failed(self.watched)))?;
+            self.said.push(Said::Message(Reply::Failed(watched())))?;
             self.calls = self.calls.saturating_add(1);
             self.bad = self.bad.saturating_add(1);
-            return Ok(Reply::Failed(self.watched));
+            return Ok(Reply::Failed(watched()));
         }
         let copied = copy_message(self.alloc, &message)?;
         self.said.push(Said::Message(Reply::Pass(copied)))?;
@@ -103,11 +112,10 @@ pub(super) fn ask(
     callback.message(message)
 }
 
-fn watcher(alloc: Global, watched: Reason) -> Watcher {
+fn new_watcher(alloc: Global) -> Watcher {
     Watcher {
         alloc,
         spec: unarmed(alloc, Kind::Own),
-        watched,
         calls: 0,
         bad: 0,
         said: Vec::new(alloc),
@@ -118,7 +126,7 @@ fn watcher(alloc: Global, watched: Reason) -> Watcher {
 fn an_own_callback_counts_through_its_box(rt: HostRuntime) -> Result<(), Fail> {
     let alloc = rt.alloc();
     let why = Reason::new(b"watched").ok_or("reason")?;
-    let mut callback: Box<dyn Callback + Send> = Box::new(alloc, watcher(alloc, why))?;
+    let mut callback: Box<dyn Callback + Send> = Box::new(alloc, new_watcher(alloc))?;
     callback.arm(&unarmed(alloc, Kind::Own))?;
     assert_eq!(rt; callback.kind(), Kind::Own);
     assert_eq!(rt; callback.prepare(&[])?, Prepared::Ready);
@@ -134,8 +142,7 @@ fn an_own_callback_counts_through_its_box(rt: HostRuntime) -> Result<(), Fail> {
 #[test]
 fn an_own_callback_counts_its_answers(rt: HostRuntime) -> Result<(), Fail> {
     let alloc = rt.alloc();
-    let why = Reason::new(b"watched").ok_or("reason")?;
-    let mut watcher = watcher(alloc, why);
+    let mut watcher = new_watcher(alloc);
     watcher.message(message_of(alloc, 7, b"a")?)?;
     watcher.message(message_of(alloc, 7, b"!b")?)?;
     watcher.message(message_of(alloc, 7, b"c")?)?;

@@ -69,7 +69,10 @@ static READS: [(&[Act], ReadEnd); 8] = [
         &[Fails(ErrorKind::ConnectionReset), Moves(3)],
         ReadEnd::Failed,
     ),
-    (&[Fails(ErrorKind::UnexpectedEof), Moves(3)], ReadEnd::Failed),
+    (
+        &[Fails(ErrorKind::UnexpectedEof), Moves(3)],
+        ReadEnd::Failed,
+    ),
 ];
 
 #[test]
@@ -84,7 +87,10 @@ fn an_interrupted_read_is_tried_again(rt: HostRuntime) {
 /// The acts of a writer, and what one write of its sink comes to.
 static WRITES: [(&[Act], WriteEnd); 6] = [
     (&[Moves(3), Moves(0)], WriteEnd::Took(3)),
-    (&[Fails(ErrorKind::Interrupted), Moves(3)], WriteEnd::Took(3)),
+    (
+        &[Fails(ErrorKind::Interrupted), Moves(3)],
+        WriteEnd::Took(3),
+    ),
     (&[Fails(ErrorKind::WouldBlock), Moves(3)], WriteEnd::Took(3)),
     (&[Fails(ErrorKind::WouldBlock), Moves(0)], WriteEnd::Failed),
     (&[Moves(0), Moves(3)], WriteEnd::Failed),
