@@ -72,121 +72,42 @@ fn journal_of(
     journal_text(alloc, core.journal())
 }
 
-/// A control source, whose text stands in it so many times, with its acts, how often it is read, and the steps that these
-/// readings come to, or where they are not the whole, the last of them.
-#[derive(Clone, Copy)]
-struct Readings {
-    text: &'static str,
-    times: u32,
-    acts: &'static [SourceAct],
-    readings: u32,
-    steps: &'static str,
-    whole: bool,
-}
-
-const PLAIN: Readings = Readings {
-    text: "",
-    times: 1,
-    acts: &[],
-    readings: 0,
-    steps: "",
-    whole: true,
-};
-
-/// A line comes in two pieces, between which nothing is ready, and behind it the source fails.
-const ACTS: &[SourceAct] = &[
-    SourceAct::Give(3),
-    SourceAct::Wait,
-    SourceAct::Give(3),
-    SourceAct::Fail,
-];
-
-static ROWS: [Readings; 12] = [
+/// Control lines, how often they are read, and the steps that they come to.
+static RUNS: [(&str, u32, &str); 8] = [
     // The processor goes with its producer. A line that is no order is refused.
-    Readings {
-        text: "kill p\noops\n",
-        readings: 3,
-        steps: "kill 1 kill\nrefuse 2\nsource 0 end\nend 3\n",
-        ..PLAIN
-    },
+    (
+        "kill p\noops\n",
+        3,
+        "kill 1 kill\nrefuse 2\nsource 0 end\nend 3\n",
+    ),
     // A stop is no kill: it takes nothing with it but what always goes. A dead stage is not killed again.
-    Readings {
-        text: "stop p\nkill p\nkill processors.0\n",
-        readings: 3,
-        steps: "kill 1 stop\nrefuse 2\nrefuse 3\nend 3\n",
-        ..PLAIN
-    },
-    Readings {
-        text: "kill processors.0\nstop p\n",
-        readings: 2,
-        steps: "kill 2 kill\nkill 1 stop\nend 2\n",
-        ..PLAIN
-    },
+    (
+        "stop p\nkill p\nkill processors.0\n",
+        3,
+        "kill 1 stop\nrefuse 2\nrefuse 3\nend 3\n",
+    ),
+    (
+        "kill processors.0\nstop p\n",
+        2,
+        "kill 2 kill\nkill 1 stop\nend 2\n",
+    ),
     // The drain begins once.
-    Readings {
-        text: "drain\ndrain\n",
-        readings: 3,
-        steps: "drain control\nrefuse 2\nsource 0 end\nend 3\n",
-        ..PLAIN
-    },
+    (
+        "drain\ndrain\n",
+        3,
+        "drain control\nrefuse 2\nsource 0 end\nend 3\n",
+    ),
     // The last line needs no LF, and nothing is read behind the end.
-    Readings {
-        text: "drain",
-        readings: 5,
-        steps: "drain control\nsource 0 end\nend 2\n",
-        ..PLAIN
-    },
+    ("drain", 5, "drain control\nsource 0 end\nend 2\n"),
     // Seven lines that are no orders.
-    Readings {
-        text: "\nkill\nkill nobody\nKILL p\ndrain now\ndrain\r\nkill p \n",
-        readings: 8,
-        steps: "refuse 1\nrefuse 2\nrefuse 3\nrefuse 4\nrefuse 5\nrefuse 6\nrefuse 7\nsource 0 end\nend 8\n",
-        ..PLAIN
-    },
+    (
+        "\nkill\nkill nobody\nKILL p\ndrain now\ndrain\r\nkill p \n",
+        8,
+        "refuse 1\nrefuse 2\nrefuse 3\nrefuse 4\nrefuse 5\nrefuse 6\nrefuse 7\nsource 0 end\nend 8\n",
+    ),
     // One line a reading.
-    Readings {
-        text: "kill p\ndrain\noops\n",
-        readings: 1,
-        steps: "kill 1 kill\nend 1\n",
-        ..PLAIN
-    },
-    Readings {
-        text: "",
-        readings: 2,
-        steps: "source 0 end\nend 1\n",
-        ..PLAIN
-    },
-    // A reading that finds nothing adds no step.
-    Readings {
-        text: "drain\ndrain\n",
-        acts: ACTS,
-        readings: 1,
-        steps: "end 0\n",
-        ..PLAIN
-    },
-    Readings {
-        text: "drain\ndrain\n",
-        acts: ACTS,
-        readings: 2,
-        steps: "drain control\nend 1\n",
-        ..PLAIN
-    },
-    Readings {
-        text: "drain\ndrain\n",
-        acts: ACTS,
-        readings: 4,
-        steps: "drain control\nsource 0 fault\nend 2\n",
-        ..PLAIN
-    },
-    // Ten thousand lines are read.
-    Readings {
-        text: "\n",
-        times: 10_002,
-        readings: 10_002,
-        steps: "refuse 9999\nrefuse 10000\nsource 0 limit\nend 10001\n",
-        whole: false,
-        ..PLAIN
-    },
+    ("kill p\ndrain\noops\n", 1, "kill 1 kill\nend 1\n"),
+    ("", 2, "source 0 end\nend 1\n"),
 ];
 
 /// The journal's text behind its first line.
@@ -198,31 +119,53 @@ fn steps_of(text: &Bytes) -> &[u8] {
     }
 }
 
-fn copies(alloc: Global, text: &str, times: u32) -> Result<String, AllocError> {
-    let mut all = String::new(alloc);
-    for _ in 0..times {
-        all.push_str(text)?;
-    }
-    Ok(all)
-}
-
-/// Whether the steps are those of the row.
-fn is_as(row: &Readings, steps: &[u8]) -> bool {
-    if row.whole {
-        steps == row.steps.as_bytes()
-    } else {
-        steps.ends_with(row.steps.as_bytes())
-    }
-}
-
 #[test]
 fn lines_are_obeyed_and_refused(rt: HostRuntime) -> Result<(), Fail> {
     let alloc = rt.alloc();
-    for row in &ROWS {
-        let text = copies(alloc, row.text, row.times)?;
-        let journal = journal_of(&rt, alloc, text.as_str(), row.acts, row.readings)?;
-        let (line, readings) = (row.text, row.readings);
-        assert!(rt; is_as(row, steps_of(&journal)), "{line} {readings}");
+    for run in &RUNS {
+        let (text, readings, steps) = *run;
+        let journal = journal_of(&rt, alloc, text, &[], readings)?;
+        assert_eq!(rt; steps_of(&journal), steps.as_bytes());
     }
+    Ok(())
+}
+
+#[test]
+fn a_reading_that_finds_nothing_adds_no_step(rt: HostRuntime) -> Result<(), Fail> {
+    let alloc = rt.alloc();
+    let acts = [
+        SourceAct::Give(3),
+        SourceAct::Wait,
+        SourceAct::Give(3),
+        SourceAct::Fail,
+    ];
+    let none = journal_of(&rt, alloc, "drain\ndrain\n", &acts, 1)?;
+    assert_eq!(rt; steps_of(&none), b"end 0\n".as_slice());
+    let some = journal_of(&rt, alloc, "drain\ndrain\n", &acts, 2)?;
+    assert_eq!(rt; steps_of(&some), b"drain control\nend 1\n".as_slice());
+    let all = journal_of(&rt, alloc, "drain\ndrain\n", &acts, 4)?;
+    assert_eq!(rt;
+        steps_of(&all),
+        b"drain control\nsource 0 fault\nend 2\n".as_slice()
+    );
+    Ok(())
+}
+
+/// So many line feeds.
+fn empty_lines(alloc: Global, many: u32) -> Result<String, AllocError> {
+    let mut text = String::new(alloc);
+    for _ in 0..many {
+        text.push('\n')?;
+    }
+    Ok(text)
+}
+
+#[test]
+fn ten_thousand_lines_are_read(rt: HostRuntime) -> Result<(), Fail> {
+    let alloc = rt.alloc();
+    let text = empty_lines(alloc, 10_002)?;
+    let journal = journal_of(&rt, alloc, text.as_str(), &[], 10_002)?;
+    let end = b"refuse 9999\nrefuse 10000\nsource 0 limit\nend 10001\n";
+    assert!(rt; steps_of(&journal).ends_with(end.as_slice()));
     Ok(())
 }

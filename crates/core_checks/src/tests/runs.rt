@@ -62,12 +62,11 @@ const MAX_BYTES: usize = 65_536;
 
 /// A topology file, and what each fetch brings: a record for each letter, `-` for nothing now, and the end of the source
 /// for no text and after the last. A text `!` with the number of a stage is a control line, which kills that stage as
-/// soon as it lives. The journal is that which the run must come to.
+/// soon as it lives.
 #[derive(Clone, Copy)]
 pub(super) struct Run<'a> {
     pub(super) file: &'a str,
     pub(super) brought: &'a [&'a str],
-    pub(super) journal: &'a str,
 }
 
 /// The journal of the run, as far as it goes.
