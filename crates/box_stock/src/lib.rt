@@ -25,6 +25,8 @@ mod handing;
 mod homes;
 mod returning;
 mod tables;
+#[cfg(test)]
+mod tests;
 
 pub use boxed::{Boxed, Carries};
 pub use handing::{Lent, Slip, hand_out};

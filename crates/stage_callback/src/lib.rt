@@ -14,6 +14,8 @@ mod handler;
 mod lines;
 mod rules;
 mod steps;
+#[cfg(test)]
+mod tests;
 
 pub use answers::{FailedReply, Prepared, Said};
 pub use armable::may_arm;

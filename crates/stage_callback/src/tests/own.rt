@@ -1,33 +1,22 @@
 //! A user's own callback, called through its box.
 
-ghost use Rattle.std.specs.Prelude.{◌≡◌, ◌≢◌, ◌++◌, ◌∷◌, [], true, false, IfOk, OnOk, IsTrue, codes};
+ghost use Rattle.std.specs.Prelude.{◌≡◌, ◌≢◌, ◌++◌, ◌∷◌, [], true, false, IfOk, OnOk, IsTrue};
 ghost use Rattle.pipe_types.specs.Handlers.{eval, counted};
 ghost use Rattle.pipe_types.specs.declared.topology.Kind.TheVariants.{Own};
 ghost use Rattle.stage_callback.specs.Callbacks.{is_passed};
 ghost use Rattle.pipe_types.specs.Counts.{Rose};
 
-use super::messages::message_of;
+use crate::rules::reason;
+use crate::{BatchReply, Callback, FailedReply, Prepared, Said, copy_message, copy_spec, unarmed};
+use pipe_types::bytes::Bytes;
 use pipe_types::message::{Batch, Message, Reply};
-use pipe_types::numbers::MsgNo;
+use pipe_types::numbers::{MsgNo, StageNo};
 use pipe_types::reason::Reason;
 use pipe_types::topology::{Kind, StageSpec};
-use stage_callback::{
-    BatchReply, Callback, FailedReply, Prepared, Said, copy_message, copy_spec, unarmed,
-};
 use std::alloc::{AllocError, Global};
 use std::test::Fail;
 
-/// Why a message fails that begins with `!`.
-fn watched() -> Reason
-    ensures { result ≡ codes "watched" }
-{
-    match Reason::new(b"watched") {
-        Some(reason) => reason,
-        None => unreachable!(),
-    }
-}
-
-/// Fails each message that begins with `!`, for the reason `watched`, and tells its answers.
+/// Fails each message that begins with `!`, and tells its answers.
 #[derive(Drop)]
 struct Watcher {
     alloc: Global,
@@ -70,10 +59,11 @@ impl Callback for Watcher {
 
     fn message(&mut self, message: Message) -> Result<Reply, AllocError> {
         if message.payload.as_slice().starts_with(b"!") {
-            self.said.push(Said::Message(Reply::Failed(watched())))?;
+            self.said
+                .push(Said::Message(Reply::Failed(reason(b"watched"))))?;
             self.calls = self.calls.saturating_add(1);
             self.bad = self.bad.saturating_add(1);
-            return Ok(Reply::Failed(watched()));
+            return Ok(Reply::Failed(reason(b"watched")));
         }
         let copied = copy_message(self.alloc, &message)?;
         self.said.push(Said::Message(Reply::Pass(copied)))?;
@@ -112,29 +102,39 @@ pub(super) fn ask(
     callback.message(message)
 }
 
-fn new_watcher(alloc: Global) -> Watcher {
-    Watcher {
-        alloc,
-        spec: unarmed(alloc, Kind::Own),
-        calls: 0,
-        bad: 0,
-        said: Vec::new(alloc),
-    }
+pub(super) fn message_of(alloc: Global, payload: &[u8]) -> Result<Message, AllocError> {
+    Ok(Message {
+        no: MsgNo(7),
+        producer: StageNo(1),
+        payload: Bytes::from_vec(Vec::from_slice(alloc, payload)?),
+        batcher: 0,
+        key: Bytes::from_vec(Vec::new(alloc)),
+        flush: false,
+    })
 }
 
 #[test]
 fn an_own_callback_counts_through_its_box(rt: HostRuntime) -> Result<(), Fail> {
     let alloc = rt.alloc();
-    let why = Reason::new(b"watched").ok_or("reason")?;
-    let mut callback: Box<dyn Callback + Send> = Box::new(alloc, new_watcher(alloc))?;
+    let watcher = Watcher {
+        alloc,
+        spec: unarmed(alloc, Kind::Own),
+        calls: 0,
+        bad: 0,
+        said: Vec::new(alloc),
+    };
+    let mut callback: Box<dyn Callback + Send> = Box::new(alloc, watcher)?;
     callback.arm(&unarmed(alloc, Kind::Own))?;
     assert_eq!(rt; callback.kind(), Kind::Own);
     assert_eq!(rt; callback.prepare(&[])?, Prepared::Ready);
-    let passed = ask(&mut callback, message_of(alloc, 7, b"a")?)?;
+    let passed = ask(&mut callback, message_of(alloc, b"a")?)?;
     assert!(rt; matches!(&passed, Reply::Pass(m) if m.no == MsgNo(7)));
-    let failed = ask(&mut callback, message_of(alloc, 7, b"!b")?)?;
-    assert!(rt; matches!(&failed, Reply::Failed(reason) if *reason == why));
-    assert_eq!(rt; callback.failed(MsgNo(7), &why)?, FailedReply::Keep);
+    let failed = ask(&mut callback, message_of(alloc, b"!b")?)?;
+    assert!(rt; matches!(&failed, Reply::Failed(why) if Reason::new(b"watched") == Some(*why)));
+    assert_eq!(rt;
+        callback.failed(MsgNo(7), &reason(b"watched"))?,
+        FailedReply::Keep
+    );
     callback.reset();
     Ok(())
 }
@@ -142,10 +142,16 @@ fn an_own_callback_counts_through_its_box(rt: HostRuntime) -> Result<(), Fail> {
 #[test]
 fn an_own_callback_counts_its_answers(rt: HostRuntime) -> Result<(), Fail> {
     let alloc = rt.alloc();
-    let mut watcher = new_watcher(alloc);
-    watcher.message(message_of(alloc, 7, b"a")?)?;
-    watcher.message(message_of(alloc, 7, b"!b")?)?;
-    watcher.message(message_of(alloc, 7, b"c")?)?;
+    let mut watcher = Watcher {
+        alloc,
+        spec: unarmed(alloc, Kind::Own),
+        calls: 0,
+        bad: 0,
+        said: Vec::new(alloc),
+    };
+    for payload in ["a", "!b", "c"] {
+        watcher.message(message_of(alloc, payload.as_bytes())?)?;
+    }
     assert_eq!(rt; watcher.calls, 3);
     assert_eq!(rt; watcher.bad, 1);
     assert_eq!(rt; watcher.said.len(), 3);

@@ -4,11 +4,10 @@ ghost use Rattle.std.specs.Prelude.{◌≡◌, ◌≢◌, ◌≤◌, ℕ, All, I
 ghost use Rattle.pipe_types.specs.Handlers.{counted as counted_by};
 ghost use Rattle.pipe_types.specs.declared.topology.StageSpec.{StageSpec};
 
-use super::messages::message_of;
-use super::own::ask;
+use super::own::{ask, message_of};
+use crate::{Callback, LinesBox, StepsBox, unarmed};
 use pipe_types::message::{Message, Reply};
 use pipe_types::topology::Kind;
-use stage_callback::{Callback, LinesBox, StepsBox, unarmed};
 use std::alloc::AllocError;
 use std::test::Fail;
 
@@ -95,7 +94,7 @@ fn bodies_are_handed_over(rt: HostRuntime) -> Result<(), Fail> {
     assert_eq!(rt; posts, 3);
     for body in bodies.items.iter_mut() {
         let had = body.callback.is_some();
-        let reply = run(body, message_of(alloc, 7, b"a")?)?;
+        let reply = run(body, message_of(alloc, b"a")?)?;
         assert_eq!(rt; reply.is_some(), had);
         assert_eq!(rt; body.runs, 1);
     }
