@@ -1,6 +1,6 @@
 -- A hold: what is brought to a round, and what comes of it.
 use Rattle.std.proofs.Common.{◌≡◌, List, sym, subst, Option, Some, None}
-use Rattle.std.specs.Prelude.{ℕ, IfSome}
+use Rattle.std.specs.Prelude.{ℕ, Bool, IfSome}
 use Rattle.pipe_types.specs.declared.numbers.Post.{Post}
 use Rattle.pipe_model.specs.History.{History}
 use Rattle.pipeline_turn.specs.Jobs.{IsUndone, AreAway}
@@ -21,15 +21,15 @@ pub away_as : (own own' job job' : Option Post) (taken taken' given : List Post)
 away_as own own' job job' taken taken' given a b c are =
     subst (λ (z : Option Post × Option Post × List Post). AreAway z.0 z.1 z.2 given) (λ i. (a i, b i, c i)) are
 
-comes_after : {L H : Type 0} (IsLoad : L → Type 0) (IsHome : H → Type 0) (round : Round L) (news : ℕ) → IfJob round IsLoad → Comes IsLoad IsHome (after_round round news)
-comes_after IsLoad IsHome (Job load) news h = h
-comes_after IsLoad IsHome Waits news h = tt
-comes_after IsLoad IsHome Again news h = tt
-comes_after IsLoad IsHome Ended news h = tt
+comes_after : {L H : Type 0} (IsLoad : L → Type 0) (IsHome : H → Type 0) (round : Round L) (news : ℕ) (is_still : Bool) → IfJob round IsLoad → Comes IsLoad IsHome (after_round round news is_still)
+comes_after IsLoad IsHome (Job load) news is_still h = h
+comes_after IsLoad IsHome Waits news is_still h = tt
+comes_after IsLoad IsHome Again news is_still h = tt
+comes_after IsLoad IsHome Ended news is_still h = tt
 
 -- the job that the worker goes away with is away from such a value, whose steps the seat has seen
-pub comes_by : {O L H : Type 0} (IsLoad : O → History → L → Type 0) (IsHome : O → History → H → Type 0) (origin origin' : O) (seen seen' : History) (round : Round L) (news : ℕ) (after : After L H)
-    → origin' ≡ origin → seen' ≡ seen → after ≡ after_round round news → IfJob round (IsLoad origin seen) → Comes (IsLoad origin' seen') (IsHome origin' seen') after
-comes_by {O} {L} {H} IsLoad IsHome origin origin' seen seen' round news after same_origin same_seen is job =
+pub comes_by : {O L H : Type 0} (IsLoad : O → History → L → Type 0) (IsHome : O → History → H → Type 0) (origin origin' : O) (seen seen' : History) (round : Round L) (news : ℕ) (is_still : Bool) (after : After L H)
+    → origin' ≡ origin → seen' ≡ seen → after ≡ after_round round news is_still → IfJob round (IsLoad origin seen) → Comes (IsLoad origin' seen') (IsHome origin' seen') after
+comes_by {O} {L} {H} IsLoad IsHome origin origin' seen seen' round news is_still after same_origin same_seen is job =
     subst (λ (z : O × History × After L H). Comes (IsLoad z.0 z.1) (IsHome z.0 z.1) z.2) (sym (λ i. (same_origin i, same_seen i, is i)))
-    (comes_after (IsLoad origin seen) (IsHome origin seen) round news job)
+    (comes_after (IsLoad origin seen) (IsHome origin seen) round news is_still job)

@@ -19,11 +19,11 @@ Comes IsLoad IsHome (Job load) = IsLoad load
 Comes IsLoad IsHome _ = Unit {0}
 
 -- and after a round
-abbrev pub after_round : {L H : Type 0} → Round L → (news : ℕ) → After L H
-after_round (round.Job load) news = Job load
-after_round round.Waits news = Sleeps news
-after_round round.Again news = Again
-after_round round.Ended news = Ends
+abbrev pub after_round : {L H : Type 0} → Round L → (news : ℕ) → (is_still : Bool) → After L H
+after_round (round.Job load) news is_still = Job load
+after_round round.Waits news is_still = Sleeps news is_still
+after_round round.Again news is_still = Again
+after_round round.Ended news is_still = Ends
 
 -- there may be something to do for another worker: another job, or to end
 abbrev pub is_news : {L : Type 0} → Round L → Bool

@@ -1,6 +1,6 @@
 //! A worker.
 
-ghost use Rattle.std.specs.Prelude.{◌≡◌, false, true, IfSome};
+ghost use Rattle.std.specs.Prelude.{◌≡◌, ◌-◌, ◌≤◌, false, true, IfSome, nat_le};
 ghost use Rattle.pipeline_turn.specs.Seats.{IsIdle, IsSameSeat};
 ghost use Rattle.stage_pipes.specs.Rounds.{job_post, brought_post};
 ghost use Rattle.stage_workers.specs.Holds.{post_after, Comes, after_round, is_news};
@@ -12,8 +12,11 @@ use std::alloc::Global;
 use std::sync::Wait;
 use std::time::Duration;
 
-/// How long a worker that finds nothing to do sleeps before it takes the value again.
-const WAIT_MS: u64 = 10;
+/// How long a worker that finds nothing to do sleeps at least before it takes the value again, in milliseconds.
+const LEAST_MS: u64 = 10;
+
+/// And at most.
+const MOST_MS: u64 = 1_000;
 
 /// What a worker does after it tried to take the value.
 pub(crate) enum After<L, H> {
@@ -21,8 +24,8 @@ pub(crate) enum After<L, H> {
     Missed(Option<H>),
     /// It does this job.
     Job(L),
-    /// It sleeps until there is other news than this count of it.
-    Sleeps(u32),
+    /// It sleeps until there is other news than this count of it. Whether nothing but the time is new to it.
+    Sleeps(u32, bool),
     /// It takes the value again.
     Again,
     /// It ends.
@@ -65,12 +68,12 @@ fn tell_of<H: Shift>(turn: &Turn<H>, seat: &mut Seat<H>, round: &Round<H::Load>)
 }
 
 /// What a worker does after the round.
-fn go_by<L, H>(round: Round<L>, news: u32) -> After<L, H>
-    ensures { result ≡ after_round round news }
+fn go_by<L, H>(round: Round<L>, news: u32, is_still: bool) -> After<L, H>
+    ensures { result ≡ after_round round news is_still }
 {
     match round {
         Round::Job(load) => After::Job(load),
-        Round::Waits => After::Sleeps(news),
+        Round::Waits => After::Sleeps(news, is_still),
         Round::Again => After::Again,
         Round::Ended => After::Ends,
     }
@@ -94,12 +97,30 @@ fn hold<H: Shift>(
     let Some(mut value) = turn.take(seat) else {
         return After::Missed(brought);
     };
+    let before = value.journal().len();
     let round = value.round(brought);
+    let is_still = is_reading(before, value.journal().len());
     tell_of(turn, seat, &round);
     let news = turn.news(seat);
     let job = job_for::<H>(&round);
     turn.give(seat, value, job);
-    go_by(round, news)
+    go_by(round, news, is_still)
+}
+
+/// Whether a hold added no step, or one, as it does where it finds nothing but a later time.
+fn is_reading(before: u64, after: u64) -> bool
+    ensures { result ≡ nat_le (after - before) 1 }
+{
+    after.saturating_sub(before) <= 1
+}
+
+/// How long a worker sleeps, in milliseconds, that has slept for so long since anything was new: an eighth of that, so that a batch
+/// closes late by an eighth of its time limit at most, and a silent day adds few readings of the clock.
+fn sleep_after(slept: u64) -> u64
+    ensures least { 10 ≤ result }
+    ensures most { result ≤ 1000 }
+{
+    (slept / 8).clamp(LEAST_MS, MOST_MS)
 }
 
 /// Takes the value in turn, does the jobs that it goes away with, and ends where nothing is to do any more.
@@ -110,15 +131,26 @@ pub fn work<H: Shift, R: Wait>(rt: &R, alloc: Global, turn: &Turn<H>, seat: &mut
     ensures idle { IsIdle seat.new }
 {
     let mut brought = None;
+    let mut heard = 0;
+    let mut slept = 0;
     for _ in rt.forever() {
         match hold(turn, seat, brought) {
             After::Missed(back) => {
                 turn.rest(rt);
                 brought = back;
             }
-            After::Job(load) => brought = Some(H::run(alloc, load)),
-            After::Sleeps(news) => {
-                turn.wait_for(rt, news, Duration::from_millis(WAIT_MS));
+            After::Job(load) => {
+                slept = 0;
+                brought = Some(H::run(alloc, load));
+            }
+            After::Sleeps(news, is_still) => {
+                if news != heard || !is_still {
+                    slept = 0;
+                }
+                let ms = sleep_after(slept);
+                turn.wait_for(rt, news, Duration::from_millis(ms));
+                heard = news;
+                slept = slept.saturating_add(ms);
                 brought = None;
             }
             After::Again => brought = None,
