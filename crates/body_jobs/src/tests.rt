@@ -1,6 +1,7 @@
 //! A job of each kind, on sources and sinks in memory.
 
-ghost use Rattle.std.specs.Prelude.{◌≡◌, IfOk};
+ghost use Rattle.std.specs.Prelude.{◌≡◌, IsSome, IfSome};
+ghost use Rattle.stage_bodies.specs.Jobs.{Fits};
 
 use crate::Body;
 use mem_edges::{MemSink, MemSource, SinkScript, SourceScript};
@@ -8,10 +9,11 @@ use pipe_edges::{ByteSource, LineSource};
 use pipe_types::bytes::Bytes;
 use pipe_types::message::{Batch, BatchEnd, Message, MessageList, Outcome as End, Reply, Trigger};
 use pipe_types::numbers::{BatchNo, MsgNo, Post, StageNo};
-use pipe_types::topology::{Kind, Rule, RuleList, StageSpec};
-use stage_bodies::{Answer, Houses, Job, Outcome, Work, Works};
+use pipe_types::topology::{Kind, Rule, RuleList};
+use stage_bodies::{Houses, Job, Outcome, Work, Works};
 use stage_callback::{Callback, LinesBox, StepsBox, may_arm, unarmed};
 use std::alloc::{AllocError, Global};
+use std::process::Abort;
 use std::test::Fail;
 
 fn bytes_of(alloc: Global, bytes: &[u8]) -> Result<Bytes, AllocError> {
@@ -42,48 +44,76 @@ fn are_two(records: &[Bytes]) -> bool {
         && records[1].as_slice() == b"bb".as_slice()
 }
 
-#[test]
-fn a_fetch_reads_the_first_lines(rt: HostRuntime) -> Result<(), Fail> {
-    let alloc = rt.alloc();
-    let source = MemSource::new(
-        bytes_of(alloc, b"a\nbb\nc")?,
-        SourceScript::from_vec(Vec::new(alloc)),
-    );
-    let Ok(lines) = LineSource::new(alloc, source) else {
-        return Err("no memory".into());
-    };
-    let mut body: Body<MemSource, MemSink> = Body {
-        callback: None,
-        source: Some(lines),
-        sink: None,
-    };
+fn lines_of(alloc: Global, bytes: &[u8]) -> Result<LineSource<MemSource>, Fail> {
+    let script = SourceScript::from_vec(Vec::new(alloc));
+    let source = MemSource::new(bytes_of(alloc, bytes)?, script);
+    match LineSource::new(alloc, source) {
+        Ok(lines) => Ok(lines),
+        Err(_) => Err("no memory".into()),
+    }
+}
+
+/// Does the job of a fetch, and wants its post and its incarnation back, and two records.
+fn expect_two<B: Works>(rt: &impl Abort, alloc: Global, body: &mut B) -> Result<(), AllocError>
+    requires fits { IsSome (B.look body.old).source }
+{
     let job = Job {
         post: post(),
         incarnation: 5,
         work: Work::Fetch(2),
     };
-    let Answer {
-        post: home,
-        incarnation,
-        outcome,
-    } = body.run_job(alloc, job)?;
-    assert_eq!(rt; home, post());
-    assert_eq!(rt; incarnation, 5);
-    let Outcome::Records(records) = outcome else {
-        return Err("records".into());
+    let answer = body.run_job(alloc, job)?;
+    assert_eq!(rt; answer.post, post());
+    assert_eq!(rt; answer.incarnation, 5);
+    let are = matches!(&answer.outcome, Outcome::Records(records) if are_two(records.as_slice()));
+    assert!(rt; are);
+    Ok(())
+}
+
+#[test]
+fn a_fetch_reads_the_first_lines(rt: HostRuntime) -> Result<(), Fail> {
+    let alloc = rt.alloc();
+    let mut body: Body<MemSource, MemSink> = Body {
+        callback: None,
+        source: Some(lines_of(alloc, b"a\nbb\nc")?),
+        sink: None,
     };
-    assert!(rt; are_two(records.as_slice()));
+    expect_two(&rt, alloc, &mut body)?;
     assert!(rt; body.take_source().is_some());
     Ok(())
 }
 
-/// A spec that fails each second message.
-fn spec_of(alloc: Global) -> Result<StageSpec, AllocError>
-    ensures { IfOk result (λ spec. spec.kind ≡ Kind.Steps) }
+/// What a job with this work comes to.
+fn outcome_of<B: Works>(alloc: Global, body: &mut B, work: Work) -> Result<Outcome, AllocError>
+    requires fits { Fits work (B.look body.old) }
 {
+    let job = Job {
+        post: post(),
+        incarnation: 1,
+        work,
+    };
+    Ok(body.run_job(alloc, job)?.outcome)
+}
+
+/// A box that fails each second message.
+fn every_second(alloc: Global) -> Result<Box<dyn Callback + Send>, AllocError> {
+    let mut callback: Box<dyn Callback + Send> = Box::new(alloc, StepsBox::new(alloc))?;
     let mut spec = unarmed(alloc, Kind::Steps);
     spec.rules = RuleList::from_vec(vec![in alloc; Rule::FailEvery(2)]?);
-    Ok(spec)
+    if may_arm(&spec) {
+        callback.arm(&spec)?;
+    }
+    Ok(callback)
+}
+
+fn with_box(callback: Box<dyn Callback + Send>) -> Body<MemSource, MemSink>
+    ensures { IsSome (⟦<Body<MemSource, MemSink> as Works>⟧.look result).callback }
+{
+    Body {
+        callback: Some(callback),
+        source: None,
+        sink: None,
+    }
 }
 
 fn three_of(alloc: Global) -> Result<MessageList, AllocError> {
@@ -109,137 +139,125 @@ fn are_three(replies: &[Reply]) -> bool {
         && is_passed(&replies[2], 3)
 }
 
+/// Wants that the second of three messages fails.
+fn expect_three<B: Works>(rt: &impl Abort, alloc: Global, body: &mut B) -> Result<(), AllocError>
+    requires fits { IsSome (B.look body.old).callback }
+{
+    let outcome = outcome_of(alloc, body, Work::Chunk(three_of(alloc)?))?;
+    let are = matches!(&outcome, Outcome::Replies(replies) if are_three(replies.as_slice()));
+    assert!(rt; are);
+    Ok(())
+}
+
+/// Wants that a child passes the fourth message.
+fn expect_passed<B: Works>(rt: &impl Abort, alloc: Global, body: &mut B) -> Result<(), AllocError>
+    requires fits { IsSome (B.look body.old).callback }
+{
+    let outcome = outcome_of(alloc, body, Work::Child(message_of(alloc, 4, b"d")?))?;
+    let is = matches!(&outcome, Outcome::Reply(reply) if is_passed(reply, 4));
+    assert!(rt; is);
+    Ok(())
+}
+
 #[test]
 fn a_child_begins_from_zero(rt: HostRuntime) -> Result<(), Fail> {
     let alloc = rt.alloc();
-    let mut callback: Box<dyn Callback + Send> = Box::new(alloc, StepsBox::new(alloc))?;
-    let spec = spec_of(alloc)?;
-    assert!(rt; may_arm(&spec));
-    callback.arm(&spec)?;
-    let mut body: Body<MemSource, MemSink> = Body {
-        callback: Some(callback),
-        source: None,
-        sink: None,
-    };
-    let chunk = Job {
-        post: post(),
-        incarnation: 1,
-        work: Work::Chunk(three_of(alloc)?),
-    };
-    let Outcome::Replies(replies) = body.run_job(alloc, chunk)?.outcome else {
-        return Err("replies".into());
-    };
-    assert!(rt; are_three(replies.as_slice()));
-
-    let callback = body.take_box().ok_or("a callback")?;
-    let mut body: Body<MemSource, MemSink> = Body {
-        callback: Some(callback),
-        source: None,
-        sink: None,
-    };
-    let child = Job {
-        post: post(),
-        incarnation: 1,
-        work: Work::Child(message_of(alloc, 4, b"d")?),
-    };
-    let Outcome::Reply(reply) = body.run_job(alloc, child)?.outcome else {
-        return Err("a reply".into());
-    };
-    assert!(rt; is_passed(&reply, 4));
+    let mut body = with_box(every_second(alloc)?);
+    expect_three(&rt, alloc, &mut body)?;
+    let mut body = with_box(body.take_box().ok_or("a callback")?);
+    expect_passed(&rt, alloc, &mut body)?;
     Ok(())
 }
 
 #[test]
 fn a_reset_begins_from_zero(rt: HostRuntime) -> Result<(), Fail> {
     let alloc = rt.alloc();
-    let mut callback: Box<dyn Callback + Send> = Box::new(alloc, StepsBox::new(alloc))?;
-    let spec = spec_of(alloc)?;
-    assert!(rt; may_arm(&spec));
-    callback.arm(&spec)?;
-    let mut next = Some(callback);
-    for _ in 0..2 {
-        let mut body: Body<MemSource, MemSink> = Body {
-            callback: Some(next.take().ok_or("a callback")?),
-            source: None,
-            sink: None,
-        };
-        let chunk = Job {
-            post: post(),
-            incarnation: 1,
-            work: Work::Chunk(three_of(alloc)?),
-        };
-        let Outcome::Replies(replies) = body.run_job(alloc, chunk)?.outcome else {
-            return Err("replies".into());
-        };
-        assert!(rt; are_three(replies.as_slice()));
-        body.reset();
-        next = body.take_box();
-    }
+    let mut body = with_box(every_second(alloc)?);
+    expect_three(&rt, alloc, &mut body)?;
+    body.reset();
+    let mut body = with_box(body.take_box().ok_or("a callback")?);
+    expect_three(&rt, alloc, &mut body)?;
     Ok(())
+}
+
+/// A batch of two messages.
+fn batch_of(alloc: Global) -> Result<Batch, AllocError> {
+    let mut messages = Vec::new(alloc);
+    messages.push(message_of(alloc, 1, b"hello")?)?;
+    messages.push(message_of(alloc, 2, b"y")?)?;
+    Ok(Batch {
+        no: BatchNo(1),
+        key: Bytes::from_vec(Vec::new(alloc)),
+        trigger: Trigger::Size,
+        messages: MessageList::from_vec(messages),
+    })
+}
+
+fn are_for_the_sink(outcomes: &[End]) -> bool {
+    outcomes.len() == 2
+        && outcomes.iter().all(
+            |end| matches!(end, End::Failed(why) if why.as_bytes() == b"sink".as_slice()),
+        )
+}
+
+/// Wants that so many bytes of a batch of two are written, and both fail for the sink.
+fn expect_short<B: Works>(
+    rt: &impl Abort,
+    alloc: Global,
+    body: &mut B,
+    bytes: u64,
+) -> Result<(), AllocError>
+    requires fits { IsSome (B.look body.old).callback × IfSome (B.look body.old).callback (λ box. box.kind ≡ box.spec.kind) }
+{
+    let outcome = outcome_of(alloc, body, Work::Batch(batch_of(alloc)?))?;
+    let Outcome::Wrote(written, BatchEnd::Outcomes(outcomes)) = &outcome else {
+        assert!(rt; false, "no write");
+        return Ok(());
+    };
+    assert_eq!(rt; *written, bytes);
+    assert!(rt; are_for_the_sink(outcomes.as_slice()));
+    Ok(())
+}
+
+/// A sink that takes so many bytes and then fails.
+fn sink_of(alloc: Global, room: usize) -> Result<MemSink, AllocError> {
+    let script = SinkScript::from_vec(Vec::new(alloc));
+    MemSink::new(alloc, Bytes::from_vec(Vec::new(alloc)), room, script)
 }
 
 #[test]
 fn a_short_write_fails_every_message(rt: HostRuntime) -> Result<(), Fail> {
     let alloc = rt.alloc();
     let mut callback: Box<dyn Callback + Send> = Box::new(alloc, LinesBox::new(alloc))?;
-    let spec = unarmed(alloc, Kind::Lines);
-    assert!(rt; may_arm(&spec));
-    callback.arm(&spec)?;
+    callback.arm(&unarmed(alloc, Kind::Lines))?;
     if callback.kind() != Kind::Lines {
         return Err("lines".into());
     }
-    let script = SinkScript::from_vec(Vec::new(alloc));
-    let sink = MemSink::new(alloc, Bytes::from_vec(Vec::new(alloc)), 7, script)?;
-    let mut messages = Vec::new(alloc);
-    messages.push(message_of(alloc, 1, b"hello")?)?;
-    messages.push(message_of(alloc, 2, b"y")?)?;
-    let batch = Batch {
-        no: BatchNo(1),
-        key: Bytes::from_vec(Vec::new(alloc)),
-        trigger: Trigger::Size,
-        messages: MessageList::from_vec(messages),
-    };
     let mut body: Body<MemSource, MemSink> = Body {
         callback: Some(callback),
         source: None,
-        sink: Some(sink),
+        sink: Some(sink_of(alloc, 7)?),
     };
-    let job = Job {
-        post: post(),
-        incarnation: 1,
-        work: Work::Batch(batch),
-    };
-    let Outcome::Wrote(bytes, BatchEnd::Outcomes(outcomes)) = body.run_job(alloc, job)?.outcome
-    else {
-        return Err("a write".into());
-    };
-    assert_eq!(rt; bytes, 7);
-    let outcomes = outcomes.as_slice();
-    assert_eq!(rt; outcomes.len(), 2);
-    for outcome in outcomes {
-        assert!(rt; matches!(outcome, End::Failed(why) if why.as_bytes() == b"sink".as_slice()));
-    }
+    expect_short(&rt, alloc, &mut body, 7)?;
     let sink = body.take_sink().ok_or("a sink")?;
     assert_eq!(rt; sink.held().as_slice(), b"hello\ny".as_slice());
+    Ok(())
+}
+
+/// Fills the body with a source, a sink that holds a byte, and a box.
+fn fill(alloc: Global, body: &mut Body<MemSource, MemSink>) -> Result<(), Fail> {
+    body.put_source(lines_of(alloc, b"a")?);
+    let script = SinkScript::from_vec(Vec::new(alloc));
+    body.put_sink(MemSink::new(alloc, bytes_of(alloc, b"x")?, 9, script)?);
+    body.put_box(Box::new(alloc, LinesBox::new(alloc))?);
     Ok(())
 }
 
 #[test]
 fn a_body_is_filled_and_emptied(rt: HostRuntime) -> Result<(), Fail> {
     let alloc = rt.alloc();
-    let source = MemSource::new(
-        bytes_of(alloc, b"a")?,
-        SourceScript::from_vec(Vec::new(alloc)),
-    );
-    let Ok(lines) = LineSource::new(alloc, source) else {
-        return Err("no memory".into());
-    };
-    let script = SinkScript::from_vec(Vec::new(alloc));
-    let callback: Box<dyn Callback + Send> = Box::new(alloc, LinesBox::new(alloc))?;
     let mut body: Body<MemSource, MemSink> = Body::empty();
-    body.put_source(lines);
-    body.put_sink(MemSink::new(alloc, bytes_of(alloc, b"x")?, 9, script)?);
-    body.put_box(callback);
+    fill(alloc, &mut body)?;
     assert!(rt; body.take_source().is_some());
     assert!(rt;
         matches!(body.take_sink(), Some(sink) if sink.held().as_slice() == b"x".as_slice())

@@ -8,7 +8,8 @@ use super::own::{ask, message_of};
 use crate::{Callback, LinesBox, StepsBox, unarmed};
 use pipe_types::message::{Message, Reply};
 use pipe_types::topology::Kind;
-use std::alloc::AllocError;
+use std::alloc::{AllocError, Global};
+use std::process::Abort;
 use std::test::Fail;
 
 #[derive(Drop)]
@@ -80,23 +81,46 @@ fn run(body: &mut Body, message: Message) -> Result<Option<Reply>, AllocError>
     }
 }
 
+/// A body with an armed box, one with none, and one with a box that was never armed.
+fn three_of(alloc: Global) -> Result<Bodies, AllocError> {
+    let mut items = Vec::new(alloc);
+    items.push(Body {
+        callback: Some(armed(alloc)?),
+        runs: 0,
+    })?;
+    items.push(Body {
+        callback: None,
+        runs: 0,
+    })?;
+    items.push(Body {
+        callback: Some(Box::new(alloc, LinesBox::new(alloc))?),
+        runs: 0,
+    })?;
+    Ok(Bodies { items })
+}
+
+fn armed(alloc: Global) -> Result<Box<dyn Callback + Send>, AllocError> {
+    let mut steps: Box<dyn Callback + Send> = Box::new(alloc, StepsBox::new(alloc))?;
+    steps.arm(&unarmed(alloc, Kind::Steps))?;
+    Ok(steps)
+}
+
+/// Runs a message on the body, and wants a reply where it has a box.
+fn expect_run(rt: &impl Abort, alloc: Global, body: &mut Body) -> Result<(), AllocError> {
+    let had = body.callback.is_some();
+    let reply = run(body, message_of(alloc, b"a")?)?;
+    assert_eq!(rt; reply.is_some(), had);
+    assert_eq!(rt; body.runs, 1);
+    Ok(())
+}
+
 #[test]
 fn bodies_are_handed_over(rt: HostRuntime) -> Result<(), Fail> {
     let alloc = rt.alloc();
-    let mut steps: Box<dyn Callback + Send> = Box::new(alloc, StepsBox::new(alloc))?;
-    steps.arm(&unarmed(alloc, Kind::Steps))?;
-    let lines: Box<dyn Callback + Send> = Box::new(alloc, LinesBox::new(alloc))?;
-    let mut items = Vec::new(alloc);
-    for callback in [Some(steps), None, Some(lines)] {
-        items.push(Body { callback, runs: 0 })?;
-    }
-    let (mut bodies, posts) = hand_over_bodies(Bodies { items });
+    let (mut bodies, posts) = hand_over_bodies(three_of(alloc)?);
     assert_eq!(rt; posts, 3);
     for body in bodies.items.iter_mut() {
-        let had = body.callback.is_some();
-        let reply = run(body, message_of(alloc, b"a")?)?;
-        assert_eq!(rt; reply.is_some(), had);
-        assert_eq!(rt; body.runs, 1);
+        expect_run(&rt, alloc, body)?;
     }
     Ok(())
 }
