@@ -1,13 +1,16 @@
 //! A run with a kill at each of its moves.
 
+ghost use Rattle.core_state.specs.Stands.{Stands};
+
 mod answers;
 mod judge;
 mod runs;
 
+use core_state::Core;
 use judge::replayed;
 use pipe_types::message::{Loss, Outcome, Place, Why};
 use pipe_types::numbers::StageNo;
-use pipe_types::state::{Life, PlaceRow};
+use pipe_types::state::{Life, PlaceRow, PlainState};
 use runs::{Kill, Run, is_drained, killed, moved};
 use std::alloc::{AllocError, Global};
 use std::process::Abort;
@@ -98,56 +101,56 @@ fn count_successful(places: &[PlaceRow]) -> usize {
     count
 }
 
-/// Kills the stage after so many moves: the run drains, the slow machine calls its journal legal, and of the accepted messages
-/// those that the stage held are lost and the others successful.
-fn try_kill(rt: &impl Abort, alloc: Global, kill: Kill) -> Result<(), AllocError> {
-    let Kill {
-        moves,
-        stage,
-        drains,
-    } = kill;
-    let core = killed(rt, alloc, BY_KEY, kill)?;
-    assert!(rt; is_drained(&core), "{moves} {stage:?} {drains}");
-    let Some(state) = replayed(alloc, &core)? else {
-        assert!(rt; false, "{moves} {stage:?} {drains}");
-        return Ok(());
+/// What does not hold of these, or nothing: the run with the kill drains, the slow machine calls its journal legal, of the
+/// accepted messages those that the stage held are lost and the others successful, and the stages live as they should.
+fn fault_in(core: &Core, state: &Option<PlainState>, kill: Kill) -> Result<&'static str, AllocError>
+    requires stands { Stands core.now }
+{
+    let Some(state) = state else {
+        return Ok("not legal");
     };
-    let accepted = if drains && moves < 4 { 0 } else { 4 };
-    let lost = held(stage.0, moves);
+    let accepted = if kill.drains && kill.moves < 4 { 0 } else { 4 };
+    let lost = held(kill.stage.0, kill.moves);
     let places = state.places.as_slice();
-    assert_eq!(rt; places.len(), accepted, "{moves} {stage:?} {drains}");
-    assert_eq!(rt;
-        count_lost(places, stage),
-        lost,
-        "{moves} {stage:?} {drains}"
-    );
-    assert_eq!(rt;
-        count_successful(places),
-        accepted.saturating_sub(lost),
-        "{moves} {stage:?} {drains}"
-    );
     let seen = core.places()?;
-    assert_eq!(rt; places, seen.as_slice(), "{moves} {stage:?} {drains}");
-    expect_lives(rt, state.lives.as_slice(), kill);
-    Ok(())
+    if !is_drained(core) {
+        Ok("not drained")
+    } else if places.len() != accepted {
+        Ok("accepted")
+    } else if count_lost(places, kill.stage) != lost {
+        Ok("lost")
+    } else if count_successful(places) != accepted.saturating_sub(lost) {
+        Ok("successful")
+    } else if places != seen.as_slice() {
+        Ok("places")
+    } else if !are_lives(state.lives.as_slice(), kill) {
+        Ok("lives")
+    } else {
+        Ok("")
+    }
 }
 
-/// The killed stage lives in its second incarnation, where it is restarted, and the others in their first.
-fn expect_lives(rt: &impl Abort, lives: &[Life], kill: Kill) {
-    let Kill {
-        moves,
-        stage,
-        drains,
-    } = kill;
-    assert_eq!(rt; lives.len(), 4);
+/// Whether the killed stage lives in its second incarnation, where it is restarted, and the others in their first.
+fn are_lives(lives: &[Life], kill: Kill) -> bool {
     let restarted = is_restarted(kill);
     for life in lives {
-        let again = life.stage == stage && restarted;
-        let incarnation = if again { 2 } else { 1 };
-        assert_eq!(rt; life.incarnation, incarnation, "{moves} {stage:?} {drains}");
-        let live = life.stage != stage || restarted;
-        assert_eq!(rt; life.live, live, "{moves} {stage:?} {drains}");
+        let killed = life.stage == kill.stage;
+        let incarnation = if killed && restarted { 2 } else { 1 };
+        if life.incarnation != incarnation || life.live != (!killed || restarted) {
+            return false;
+        }
     }
+    lives.len() == 4
+}
+
+/// Kills the stage after so many moves, and wants that nothing is lost but what it held.
+fn try_kill(rt: &impl Abort, alloc: Global, kill: Kill) -> Result<(), AllocError> {
+    let core = killed(rt, alloc, BY_KEY, kill)?;
+    let state = replayed(alloc, &core)?;
+    let fault = fault_in(&core, &state, kill)?;
+    let (moves, stage, drains) = (kill.moves, kill.stage.0, kill.drains);
+    assert!(rt; fault == "", "{moves} {stage} {drains}: {fault}");
+    Ok(())
 }
 
 /// Kills the stage after each number of moves.
@@ -158,12 +161,15 @@ fn try_stage(
     drains: bool,
 ) -> Result<(), AllocError> {
     for moves in 0..LENGTH + 1 {
-        let kill = Kill {
-            moves,
-            stage,
-            drains,
-        };
-        try_kill(rt, alloc, kill)?;
+        try_kill(
+            rt,
+            alloc,
+            Kill {
+                moves,
+                stage,
+                drains,
+            },
+        )?;
     }
     Ok(())
 }
@@ -183,52 +189,15 @@ fn nothing_is_lost_without_a_kill(rt: HostRuntime) -> Result<(), Fail> {
     Ok(())
 }
 
-#[test]
-fn a_killed_producer_loses_what_it_holds(rt: HostRuntime) -> Result<(), Fail> {
-    try_stage(&rt, rt.alloc(), StageNo(1), false)?;
-    Ok(())
-}
+/// The producer, the processor, the batcher and the batch processor.
+static STAGES: [StageNo; 4] = [StageNo(1), StageNo(2), StageNo(3), StageNo(4)];
 
+/// The drain begins of its own accord, and by a control line behind the kill.
 #[test]
-fn a_killed_processor_loses_what_it_holds(rt: HostRuntime) -> Result<(), Fail> {
-    try_stage(&rt, rt.alloc(), StageNo(2), false)?;
-    Ok(())
-}
-
-#[test]
-fn a_killed_batcher_loses_what_it_holds(rt: HostRuntime) -> Result<(), Fail> {
-    try_stage(&rt, rt.alloc(), StageNo(3), false)?;
-    Ok(())
-}
-
-#[test]
-fn a_killed_batch_processor_loses_what_it_holds(rt: HostRuntime) -> Result<(), Fail> {
-    try_stage(&rt, rt.alloc(), StageNo(4), false)?;
-    Ok(())
-}
-
-#[test]
-fn a_producer_killed_before_a_drain_is_not_restarted(rt: HostRuntime) -> Result<(), Fail> {
-    try_stage(&rt, rt.alloc(), StageNo(1), true)?;
-    Ok(())
-}
-
-#[test]
-fn a_processor_killed_before_a_drain_loses_what_it_holds(rt: HostRuntime) -> Result<(), Fail> {
-    try_stage(&rt, rt.alloc(), StageNo(2), true)?;
-    Ok(())
-}
-
-#[test]
-fn a_batcher_killed_before_a_drain_loses_what_it_holds(rt: HostRuntime) -> Result<(), Fail> {
-    try_stage(&rt, rt.alloc(), StageNo(3), true)?;
-    Ok(())
-}
-
-#[test]
-fn a_batch_processor_killed_before_a_drain_loses_what_it_holds(
-    rt: HostRuntime,
-) -> Result<(), Fail> {
-    try_stage(&rt, rt.alloc(), StageNo(4), true)?;
+fn a_killed_stage_loses_what_it_holds(rt: HostRuntime) -> Result<(), Fail> {
+    for stage in &STAGES {
+        try_stage(&rt, rt.alloc(), *stage, false)?;
+        try_stage(&rt, rt.alloc(), *stage, true)?;
+    }
     Ok(())
 }

@@ -1,16 +1,17 @@
-//! Rows of generated runs, by ranges.
+//! Rows of generated runs.
 
 mod calls;
 mod generated;
 mod seen;
 mod told;
 
-use calls::{call, shown};
-use generated::case_of;
+use calls::{Came, call, shown};
+use generated::{Case, case_of};
 use pipe_config::read_topology;
 use pipe_replay::replay_plain;
 use pipe_types::message::{Loss, Outcome, Place};
 use pipe_types::state::{Life, PlaceRow, PlainState};
+use pipe_types::step::Step;
 use seen::Seen;
 use std::alloc::{AllocError, Global};
 use std::process::Abort;
@@ -68,68 +69,104 @@ fn restarts_of(lives: &[Life]) -> usize {
     count
 }
 
-/// Each message has one end, is acknowledged once or lost, and each failure, each loss, each restart and each refused line
-/// stands where it came from.
-fn expect_sums(
-    rt: &impl Abort,
+/// What does not hold of these, or nothing: each message has one end and is acknowledged once or lost.
+fn fault_in_ends(
     alloc: Global,
     told: Told<'_>,
-    file: &str,
-) -> Result<(), AllocError> {
-    let counts = counts_of(told.report);
-    let acknowledged = counts.successful.saturating_add(counts.failed);
-    assert_eq!(rt;
-        acknowledged.saturating_add(counts.lost),
-        counts.accepted,
-        "{file}"
-    );
-    assert_eq!(rt; sum_of(told.report, "reason ", 2), counts.failed, "{file}");
-    assert_eq!(rt;
-        counts.killed.saturating_add(counts.overflows),
-        counts.lost,
-        "{file}"
-    );
+    counts: Counts,
+) -> Result<&'static str, AllocError> {
     let mut marks = vec![in alloc; false; 100]?;
-    assert_eq!(rt;
-        mark_all(told.acks, 3, &mut marks),
-        counts.successful,
-        "{file}"
-    );
-    assert_eq!(rt; mark_all(told.acks, 5, &mut marks), counts.failed, "{file}");
-    assert_eq!(rt; marked(&marks), acknowledged, "{file}");
-    assert_eq!(rt;
-        lines_with(told.journal, "restart "),
-        counts.restarts,
-        "{file}"
-    );
-    assert_eq!(rt;
-        lines_with(told.journal, "refuse "),
-        counts.refused,
-        "{file}"
-    );
-    assert_eq!(rt; lines_with(told.journal, "halt"), counts.halts, "{file}");
-    Ok(())
+    let successful = mark_all(told.acks, 3, &mut marks);
+    let failed = mark_all(told.acks, 5, &mut marks);
+    let acknowledged = counts.successful.saturating_add(counts.failed);
+    if acknowledged.saturating_add(counts.lost) != counts.accepted {
+        Ok("ends")
+    } else if successful != counts.successful || failed != counts.failed {
+        Ok("acknowledgements")
+    } else if marked(&marks) != acknowledged {
+        Ok("acknowledged numbers")
+    } else {
+        Ok("")
+    }
 }
 
-/// The state of the slow machine has the counts of the report, and nothing is left in it.
-fn expect_state(rt: &impl Abort, state: &PlainState, counts: Counts, file: &str) {
+/// What does not stand where it came from, or nothing: each failure, each loss, each restart, each refused line and the halt.
+fn fault_in_causes(told: Told<'_>, counts: Counts) -> &'static str {
+    if sum_of(told.report, "reason ", 2) != counts.failed {
+        "reasons"
+    } else if counts.killed.saturating_add(counts.overflows) != counts.lost {
+        "losses"
+    } else if lines_with(told.journal, "restart ") != counts.restarts {
+        "restarts"
+    } else if lines_with(told.journal, "refuse ") != counts.refused {
+        "refused lines"
+    } else if lines_with(told.journal, "halt") != counts.halts {
+        "halts"
+    } else {
+        ""
+    }
+}
+
+/// What does not hold of these, or nothing: the state of the slow machine has the counts of the report, and nothing is left in
+/// it.
+fn fault_in_state(state: &PlainState, counts: Counts) -> &'static str {
     let places = state.places.as_slice();
     let ends = ends_of(places);
-    assert_eq!(rt; places.len(), counts.accepted, "{file}");
-    assert_eq!(rt; ends.successful, counts.successful, "{file}");
-    assert_eq!(rt; ends.failed, counts.failed, "{file}");
-    assert_eq!(rt; ends.killed, counts.killed, "{file}");
-    assert_eq!(rt; ends.overflows, counts.overflows, "{file}");
-    assert_eq!(rt;
-        restarts_of(state.lives.as_slice()),
-        counts.restarts,
-        "{file}"
-    );
-    assert_eq!(rt; state.halted, counts.halts == 1, "{file}");
-    assert!(rt; state.draining || state.halted, "{file}");
+    if places.len() != counts.accepted {
+        "places"
+    } else if ends.successful != counts.successful || ends.failed != counts.failed {
+        "acknowledged places"
+    } else if ends.killed != counts.killed || ends.overflows != counts.overflows {
+        "lost places"
+    } else if restarts_of(state.lives.as_slice()) != counts.restarts {
+        "incarnations"
+    } else if state.halted != (counts.halts == 1) {
+        "halted"
+    } else if !state.draining && !state.halted {
+        "not at its end"
+    } else {
+        ""
+    }
 }
 
-/// Runs the row on so many workers, has its journal judged, and wants that its counts add up.
+/// What is wrong by the slow machine, or nothing.
+fn fault_by_steps(
+    alloc: Global,
+    file: &str,
+    steps: &[Step],
+    counts: Counts,
+) -> Result<&'static str, AllocError> {
+    let Ok(topology) = read_topology(alloc, file.as_bytes()) else {
+        return Ok("no accepted file");
+    };
+    match replay_plain(alloc, &topology, steps)? {
+        Some(state) => Ok(fault_in_state(&state, counts)),
+        None => Ok("not legal"),
+    }
+}
+
+/// What is wrong with the run, or nothing: its counts add up, and the slow machine accepts its journal with these counts.
+fn fault_in(alloc: Global, case: &Case, came: &Came) -> Result<&'static str, AllocError> {
+    let Some(told) = parts_of(shown(&came.out)) else {
+        return Ok("no report");
+    };
+    let counts = counts_of(told.report);
+    let ends = fault_in_ends(alloc, told, counts)?;
+    let causes = fault_in_causes(told, counts);
+    if came.status != status_of(counts) || came.status > 3 {
+        Ok("status")
+    } else if first_number(told.acks) != came.steps.len() {
+        Ok("number of steps")
+    } else if ends != "" {
+        Ok(ends)
+    } else if causes != "" {
+        Ok(causes)
+    } else {
+        fault_by_steps(alloc, case.file.as_str(), came.steps.as_slice(), counts)
+    }
+}
+
+/// Runs the row on so many workers, and wants that nothing is wrong with it.
 fn try_row(
     rt: &(impl Abort + Threads + Wait + Sync),
     alloc: Global,
@@ -137,172 +174,65 @@ fn try_row(
     workers: u16,
 ) -> Result<(), AllocError> {
     let case = case_of(alloc, row)?;
-    let file = case.file.as_str();
     let came = call(rt, alloc, &case, workers)?;
-    let Some(told) = parts_of(shown(&came.out)) else {
-        let said = shown(&came.err);
-        assert!(rt; false, "{row}: {said}: {file}");
-        return Ok(());
-    };
-    let counts = counts_of(told.report);
-    assert_eq!(rt; came.status, status_of(counts), "{row}: {file}");
-    assert!(rt; came.status < 4, "{row}: {file}");
-    assert_eq!(rt; first_number(told.acks), came.steps.len(), "{row}: {file}");
-    expect_sums(rt, alloc, told, file)?;
-    let topology = read_topology(alloc, file.as_bytes()).expect(rt, "an accepted file");
-    let Some(state) = replay_plain(alloc, &topology, came.steps.as_slice())? else {
-        let journal = told.journal;
-        assert!(rt; false, "not legal: {row}: {file}: {journal}");
-        return Ok(());
-    };
-    expect_state(rt, &state, counts, file);
+    let fault = fault_in(alloc, &case, &came)?;
+    let (file, told, said) = (case.file.as_str(), shown(&came.out), shown(&came.err));
+    assert!(rt;
+        fault == "",
+        "{row}: {workers}: {fault}: {file}: {told}: {said}"
+    );
     Ok(())
 }
 
+/// So many rows, from the first.
 fn try_rows(
     rt: &(impl Abort + Threads + Wait + Sync),
     alloc: Global,
-    from: u32,
-    to: u32,
+    rows: u32,
     workers: u16,
 ) -> Result<(), AllocError> {
-    for row in from..to {
+    for row in 0..rows {
         try_row(rt, alloc, row, workers)?;
     }
     Ok(())
 }
 
-#[test]
-fn the_rows_show_each_thing_that_a_run_comes_to(rt: HostRuntime) -> Result<(), Fail> {
-    let alloc = rt.alloc();
+fn seen_in(
+    rt: &(impl Threads + Wait + Sync),
+    alloc: Global,
+    rows: u32,
+) -> Result<Seen, AllocError> {
     let mut seen = Seen::new();
-    for row in 0..ROWS {
+    for row in 0..rows {
         let case = case_of(alloc, row)?;
-        let came = call(&rt, alloc, &case, 1)?;
+        let came = call(rt, alloc, &case, 1)?;
         if let Some(told) = parts_of(shown(&came.out)) {
             seen.add(came.status, told);
         }
     }
-    seen.expect_all(&rt);
+    Ok(seen)
+}
+
+#[test]
+fn the_rows_show_each_thing_that_a_run_comes_to(rt: HostRuntime) -> Result<(), Fail> {
+    let missing = seen_in(&rt, rt.alloc(), ROWS)?.missing();
+    assert!(rt; missing == "", "{missing}");
     Ok(())
 }
 
 #[test]
-fn the_slow_machine_accepts_rows_0_to_24(rt: HostRuntime) -> Result<(), Fail> {
-    try_rows(&rt, rt.alloc(), 0, 25, 1)?;
+fn the_slow_machine_accepts_each_row(rt: HostRuntime) -> Result<(), Fail> {
+    try_rows(&rt, rt.alloc(), ROWS, 1)?;
     Ok(())
 }
 
-#[test]
-fn the_slow_machine_accepts_rows_25_to_49(rt: HostRuntime) -> Result<(), Fail> {
-    try_rows(&rt, rt.alloc(), 25, 50, 1)?;
-    Ok(())
-}
+/// On how many workers the first rows run too.
+static WORKERS: [u16; 4] = [2, 3, 8, 16];
 
 #[test]
-fn the_slow_machine_accepts_rows_50_to_74(rt: HostRuntime) -> Result<(), Fail> {
-    try_rows(&rt, rt.alloc(), 50, 75, 1)?;
-    Ok(())
-}
-
-#[test]
-fn the_slow_machine_accepts_rows_75_to_99(rt: HostRuntime) -> Result<(), Fail> {
-    try_rows(&rt, rt.alloc(), 75, 100, 1)?;
-    Ok(())
-}
-
-#[test]
-fn the_slow_machine_accepts_rows_100_to_124(rt: HostRuntime) -> Result<(), Fail> {
-    try_rows(&rt, rt.alloc(), 100, 125, 1)?;
-    Ok(())
-}
-
-#[test]
-fn the_slow_machine_accepts_rows_125_to_149(rt: HostRuntime) -> Result<(), Fail> {
-    try_rows(&rt, rt.alloc(), 125, 150, 1)?;
-    Ok(())
-}
-
-#[test]
-fn the_slow_machine_accepts_rows_150_to_174(rt: HostRuntime) -> Result<(), Fail> {
-    try_rows(&rt, rt.alloc(), 150, 175, 1)?;
-    Ok(())
-}
-
-#[test]
-fn the_slow_machine_accepts_rows_175_to_199(rt: HostRuntime) -> Result<(), Fail> {
-    try_rows(&rt, rt.alloc(), 175, 200, 1)?;
-    Ok(())
-}
-
-#[test]
-fn the_slow_machine_accepts_rows_200_to_224(rt: HostRuntime) -> Result<(), Fail> {
-    try_rows(&rt, rt.alloc(), 200, 225, 1)?;
-    Ok(())
-}
-
-#[test]
-fn the_slow_machine_accepts_rows_225_to_249(rt: HostRuntime) -> Result<(), Fail> {
-    try_rows(&rt, rt.alloc(), 225, 250, 1)?;
-    Ok(())
-}
-
-#[test]
-fn the_slow_machine_accepts_rows_250_to_274(rt: HostRuntime) -> Result<(), Fail> {
-    try_rows(&rt, rt.alloc(), 250, 275, 1)?;
-    Ok(())
-}
-
-#[test]
-fn the_slow_machine_accepts_rows_275_to_299(rt: HostRuntime) -> Result<(), Fail> {
-    try_rows(&rt, rt.alloc(), 275, 300, 1)?;
-    Ok(())
-}
-
-#[test]
-fn two_workers_run_rows_0_to_49(rt: HostRuntime) -> Result<(), Fail> {
-    try_rows(&rt, rt.alloc(), 0, 50, 2)?;
-    Ok(())
-}
-
-#[test]
-fn two_workers_run_rows_50_to_99(rt: HostRuntime) -> Result<(), Fail> {
-    try_rows(&rt, rt.alloc(), 50, 100, 2)?;
-    Ok(())
-}
-
-#[test]
-fn three_workers_run_rows_0_to_49(rt: HostRuntime) -> Result<(), Fail> {
-    try_rows(&rt, rt.alloc(), 0, 50, 3)?;
-    Ok(())
-}
-
-#[test]
-fn three_workers_run_rows_50_to_99(rt: HostRuntime) -> Result<(), Fail> {
-    try_rows(&rt, rt.alloc(), 50, 100, 3)?;
-    Ok(())
-}
-
-#[test]
-fn eight_workers_run_rows_0_to_49(rt: HostRuntime) -> Result<(), Fail> {
-    try_rows(&rt, rt.alloc(), 0, 50, 8)?;
-    Ok(())
-}
-
-#[test]
-fn eight_workers_run_rows_50_to_99(rt: HostRuntime) -> Result<(), Fail> {
-    try_rows(&rt, rt.alloc(), 50, 100, 8)?;
-    Ok(())
-}
-
-#[test]
-fn sixteen_workers_run_rows_0_to_49(rt: HostRuntime) -> Result<(), Fail> {
-    try_rows(&rt, rt.alloc(), 0, 50, 16)?;
-    Ok(())
-}
-
-#[test]
-fn sixteen_workers_run_rows_50_to_99(rt: HostRuntime) -> Result<(), Fail> {
-    try_rows(&rt, rt.alloc(), 50, 100, 16)?;
+fn more_workers_run_the_first_hundred_rows(rt: HostRuntime) -> Result<(), Fail> {
+    for workers in &WORKERS {
+        try_rows(&rt, rt.alloc(), 100, *workers)?;
+    }
     Ok(())
 }

@@ -1,7 +1,6 @@
 //! What the runs of some rows came to, and how often.
 
 use super::told::{Told, lines_where, lines_with};
-use std::process::Abort;
 
 /// How many runs had each status, and how many steps of each kind there were. `cascades` counts the runs with more restarts
 /// than kills of one stage.
@@ -63,36 +62,21 @@ impl Seen {
         self.idle = self.idle.saturating_add(lines_with(journal, "drain idle"));
     }
 
-    /// Wants each of them.
-    pub(super) fn expect_all(self, rt: &impl Abort) {
+    /// What there was none of, or nothing.
+    pub(super) fn missing(&self) -> &'static str {
         let [all, failed, lost, halted] = self.statuses;
-        assert!(rt;
-            all.min(failed).min(lost).min(halted) > 0,
-            "{all} {failed} {lost} {halted}"
-        );
-        let Seen {
-            crashes,
-            kills,
-            stops,
-            cascades,
-            ..
-        } = self;
-        assert!(rt;
-            crashes.min(kills).min(stops).min(cascades) > 0,
-            "{crashes} {kills} {stops} {cascades}"
-        );
-        let Seen {
-            refused,
-            children,
-            batches,
-            drains,
-            idle,
-            ..
-        } = self;
-        assert!(rt;
-            refused.min(children).min(batches) > 0,
-            "{refused} {children} {batches}"
-        );
-        assert!(rt; drains.min(idle) > 0, "{drains} {idle}");
+        if all.min(failed).min(lost).min(halted) == 0 {
+            "a status"
+        } else if self.crashes.min(self.kills).min(self.stops) == 0 {
+            "a crash, a kill or a stop"
+        } else if self.cascades == 0 {
+            "a cascade"
+        } else if self.refused.min(self.children).min(self.batches) == 0 {
+            "a refused line, a child or a batch"
+        } else if self.drains.min(self.idle) == 0 {
+            "a drain by control or an idle end"
+        } else {
+            ""
+        }
     }
 }
