@@ -1,6 +1,6 @@
 //! Runs with a control source, which is the one under `mem:b`.
 
-use super::calls::{Given, ONE_STAGE, copies, expect, joined, on};
+use super::rows::{Copies, Out, PLAIN, Row, run_rows};
 use mem_edges::SourceAct;
 use std::test::Fail;
 
@@ -13,174 +13,180 @@ const ONE_AT_A_TIME: &str = "max_demand = 1\n[pipeline]\ncontrol = 'mem:b'\n";
 /// The same, where the processor dies with its producer.
 const TOGETHER: &str = "cancel = 'permanent'\n[pipeline]\ncontrol = 'mem:b'\n";
 
-/// The rest of a topology file, lines of its control source and of its source, and the status and the texts of the run.
-static RUNS: [(&str, &str, &str, u8, &str); 6] = [
-    (
-        TOGETHER,
-        "kill p\noops\n",
-        "x\n",
-        0,
-        "journal 1\nkill 1 kill\nrestart 1\nrestart 2\nask 2 1 2 10\n\
-        fetch 1 10\naccept 1 78\ndispatch 1\n\
-        refuse 2\ntake 2 1 2 1\ndone 2 p:0:0:-:78\n\
-        source 0 end\nfetch 1 9\nsource 1 end\ndrain sources\nend 14\n\
-        ack p ok 1 failed -\n\
-        accepted 1\nsuccessful 1\nfailed 0\nlost 0\nrestarts 2\nrefused 1\nend sources\n",
-    ),
-    (
-        "cancel = 'permanent'\n[pipeline]\ncontrol = 'mem:b'\nmax_restarts = 1\n",
-        "kill p\noops\n",
-        "x\n",
-        3,
-        "journal 1\nkill 1 kill\nrestart 1\nhalt\nend 3\n\
-        accepted 0\nsuccessful 0\nfailed 0\nlost 0\nrestarts 1\nrefused 0\nend halt\n",
-    ),
-    (
-        ONE_AT_A_TIME,
-        "wait\nwait\ndrain\ndrain\n",
-        "x\ny\n",
-        0,
-        "journal 1\nrefuse 1\nask 2 1 1 1\nfetch 1 1\naccept 1 78\ndispatch 1\n\
-        refuse 2\ntake 2 1 1 1\ndone 2 p:0:0:-:78\n\
-        drain control\nend 9\n\
-        ack p ok 1 failed -\n\
-        accepted 1\nsuccessful 1\nfailed 0\nlost 0\nrestarts 0\nrefused 2\nend control\n",
-    ),
-    (
-        CONTROL,
-        "drain",
-        "x\n",
-        0,
-        "journal 1\ndrain control\nend 1\n\
-        accepted 0\nsuccessful 0\nfailed 0\nlost 0\nrestarts 0\nrefused 0\nend control\n",
-    ),
-    (
-        CONTROL,
-        "wait\nkill processors.0\n",
-        "a\nb\nc\n",
-        2,
-        "journal 1\nrefuse 1\nask 2 1 1 10\nfetch 1 10\naccept 1 61,62,63\ndispatch 1\n\
-        kill 2 kill\nrestart 2\nask 2 1 2 10\nfetch 1 10\nsource 1 end\n\
-        source 0 end\ndrain sources\nend 12\n\
-        accepted 3\nsuccessful 0\nfailed 0\nlost 3\nkilled processors.0 3\nrestarts 1\nrefused 1\nend sources\n",
-    ),
-    (
-        CONTROL,
-        "wait\nstop processors.0\n",
-        "a\nb\nc\n",
-        2,
-        "journal 1\nrefuse 1\nask 2 1 1 10\nfetch 1 10\naccept 1 61,62,63\ndispatch 1\n\
-        kill 2 stop\nrestart 2\nask 2 1 2 10\nfetch 1 10\nsource 1 end\n\
-        source 0 end\ndrain sources\nend 12\n\
-        accepted 3\nsuccessful 0\nfailed 0\nlost 3\nkilled processors.0 3\nrestarts 1\nrefused 1\nend sources\n",
-    ),
+/// Control lines are obeyed.
+const OBEYED: Row<'static> = Row {
+    words: &["run t --steps --acks"],
+    ..PLAIN
+};
+
+/// Other lines are refused.
+const REFUSED: Row<'static> = Row {
+    words: &["run t"],
+    keys: ONE_AT_A_TIME,
+    lines: "a\nb\nc\nd\n",
+    ..PLAIN
+};
+
+/// The control source is opened first: the number of the call that fails, and the name that is told.
+const UNOPENED: Row<'static> = Row {
+    words: &["run t"],
+    keys: CONTROL,
+    lines: "a\n",
+    status: 5,
+    ..PLAIN
+};
+
+static ROWS: [Row<'static>; 15] = [
+    Row {
+        keys: TOGETHER,
+        lines: "x\n",
+        more_lines: "kill p\noops\n",
+        out: Out::Is(&[
+            "journal 1\nkill 1 kill\nrestart 1\nrestart 2\nask 2 1 2 10\n\
+            fetch 1 10\naccept 1 78\ndispatch 1\n\
+            refuse 2\ntake 2 1 2 1\ndone 2 p:0:0:-:78\n\
+            source 0 end\nfetch 1 9\nsource 1 end\ndrain sources\nend 14\n\
+            ack p ok 1 failed -\n\
+            accepted 1\nsuccessful 1\nfailed 0\nlost 0\nrestarts 2\nrefused 1\nend sources\n",
+        ]),
+        ..OBEYED
+    },
+    Row {
+        keys: "cancel = 'permanent'\n[pipeline]\ncontrol = 'mem:b'\nmax_restarts = 1\n",
+        lines: "x\n",
+        more_lines: "kill p\noops\n",
+        status: 3,
+        out: Out::Is(&[
+            "journal 1\nkill 1 kill\nrestart 1\nhalt\nend 3\n\
+            accepted 0\nsuccessful 0\nfailed 0\nlost 0\nrestarts 1\nrefused 0\nend halt\n",
+        ]),
+        ..OBEYED
+    },
+    Row {
+        keys: ONE_AT_A_TIME,
+        lines: "x\ny\n",
+        more_lines: "wait\nwait\ndrain\ndrain\n",
+        out: Out::Is(&[
+            "journal 1\nrefuse 1\nask 2 1 1 1\nfetch 1 1\naccept 1 78\ndispatch 1\n\
+            refuse 2\ntake 2 1 1 1\ndone 2 p:0:0:-:78\n\
+            drain control\nend 9\n\
+            ack p ok 1 failed -\n\
+            accepted 1\nsuccessful 1\nfailed 0\nlost 0\nrestarts 0\nrefused 2\nend control\n",
+        ]),
+        ..OBEYED
+    },
+    Row {
+        keys: CONTROL,
+        lines: "x\n",
+        more_lines: "drain",
+        out: Out::Is(&[
+            "journal 1\ndrain control\nend 1\n\
+            accepted 0\nsuccessful 0\nfailed 0\nlost 0\nrestarts 0\nrefused 0\nend control\n",
+        ]),
+        ..OBEYED
+    },
+    Row {
+        keys: CONTROL,
+        lines: "a\nb\nc\n",
+        more_lines: "wait\nkill processors.0\n",
+        status: 2,
+        out: Out::Is(&[
+            "journal 1\nrefuse 1\nask 2 1 1 10\nfetch 1 10\naccept 1 61,62,63\ndispatch 1\n\
+            kill 2 kill\nrestart 2\nask 2 1 2 10\nfetch 1 10\nsource 1 end\n\
+            source 0 end\ndrain sources\nend 12\n\
+            accepted 3\nsuccessful 0\nfailed 0\nlost 3\nkilled processors.0 3\nrestarts 1\nrefused 1\nend sources\n",
+        ]),
+        ..OBEYED
+    },
+    Row {
+        keys: CONTROL,
+        lines: "a\nb\nc\n",
+        more_lines: "wait\nstop processors.0\n",
+        status: 2,
+        out: Out::Is(&[
+            "journal 1\nrefuse 1\nask 2 1 1 10\nfetch 1 10\naccept 1 61,62,63\ndispatch 1\n\
+            kill 2 stop\nrestart 2\nask 2 1 2 10\nfetch 1 10\nsource 1 end\n\
+            source 0 end\ndrain sources\nend 12\n\
+            accepted 3\nsuccessful 0\nfailed 0\nlost 3\nkilled processors.0 3\nrestarts 1\nrefused 1\nend sources\n",
+        ]),
+        ..OBEYED
+    },
+    Row {
+        more_lines: "\nkill\nkill nobody\nKILL p\ndrain now\ndrain\r\nkill p \n",
+        out: Out::Is(&[
+            "accepted 4\nsuccessful 4\nfailed 0\nlost 0\nrestarts 0\nrefused 7\nend sources\n",
+        ]),
+        ..REFUSED
+    },
+    Row {
+        out: Out::Is(&[
+            "accepted 4\nsuccessful 4\nfailed 0\nlost 0\nrestarts 0\nrefused 0\nend sources\n",
+        ]),
+        ..REFUSED
+    },
+    Row {
+        more_lines: "no\nno\n",
+        more_acts: &[SourceAct::Give(3), SourceAct::Wait, SourceAct::Wait],
+        out: Out::Is(&[
+            "accepted 4\nsuccessful 4\nfailed 0\nlost 0\nrestarts 0\nrefused 2\nend sources\n",
+        ]),
+        ..REFUSED
+    },
+    Row {
+        more_lines: "no\nno\n",
+        more_acts: &[SourceAct::Give(5), SourceAct::Fail],
+        status: 4,
+        out: Out::Is(&[
+            "accepted 4\nsuccessful 4\nfailed 0\nlost 0\nrestarts 0\nrefused 1\nsource control fault\nend sources\n",
+        ]),
+        ..REFUSED
+    },
+    Row {
+        more_lines: "no\n",
+        more_acts: &[SourceAct::Fail],
+        status: 4,
+        out: Out::Is(&[
+            "accepted 4\nsuccessful 4\nfailed 0\nlost 0\nrestarts 0\nrefused 0\nsource control fault\nend sources\n",
+        ]),
+        ..REFUSED
+    },
+    // A control line has a longest length.
+    Row {
+        words: &["run t"],
+        keys: CONTROL,
+        lines: "a\n",
+        many_more: Copies(65_537, "x"),
+        status: 4,
+        out: Out::Is(&[
+            "accepted 1\nsuccessful 1\nfailed 0\nlost 0\nrestarts 0\nrefused 0\nsource control toolong\nend sources\n",
+        ]),
+        ..PLAIN
+    },
+    // Ten thousand control lines are read at most.
+    Row {
+        words: &["run t"],
+        keys: ONE_AT_A_TIME,
+        many: Copies(5_001, "x\n"),
+        many_more: Copies(10_001, "no\n"),
+        out: Out::Is(&[
+            "accepted 5001\nsuccessful 5001\nfailed 0\nlost 0\nrestarts 0\nrefused 10000\nend sources\n",
+        ]),
+        ..PLAIN
+    },
+    Row {
+        fails: &[2],
+        err: "edge mem:b\n",
+        ..UNOPENED
+    },
+    Row {
+        fails: &[3],
+        err: "edge mem:a\n",
+        ..UNOPENED
+    },
 ];
 
 #[test]
-fn control_lines_are_obeyed(rt: HostRuntime) -> Result<(), Fail> {
-    let alloc = rt.alloc();
-    for &(rest, control, lines, status, out) in &RUNS {
-        let file = joined(alloc, ONE_STAGE, rest)?;
-        let given = Given {
-            more_lines: control,
-            ..on("run t --steps --acks", file.as_str(), lines)
-        };
-        expect(&rt, alloc, given, status, out, "")?;
-    }
-    Ok(())
-}
-
-/// Control lines with what their source does, and the status and the last lines of the report on four records.
-static READINGS: [(&str, &[SourceAct], u8, &str); 5] = [
-    (
-        "\nkill\nkill nobody\nKILL p\ndrain now\ndrain\r\nkill p \n",
-        &[],
-        0,
-        "refused 7\nend sources\n",
-    ),
-    ("", &[], 0, "refused 0\nend sources\n"),
-    (
-        "no\nno\n",
-        &[SourceAct::Give(3), SourceAct::Wait, SourceAct::Wait],
-        0,
-        "refused 2\nend sources\n",
-    ),
-    (
-        "no\nno\n",
-        &[SourceAct::Give(5), SourceAct::Fail],
-        4,
-        "refused 1\nsource control fault\nend sources\n",
-    ),
-    (
-        "no\n",
-        &[SourceAct::Fail],
-        4,
-        "refused 0\nsource control fault\nend sources\n",
-    ),
-];
-
-#[test]
-fn other_lines_are_refused(rt: HostRuntime) -> Result<(), Fail> {
-    let alloc = rt.alloc();
-    let file = joined(alloc, ONE_STAGE, ONE_AT_A_TIME)?;
-    for &(control, acts, status, last) in &READINGS {
-        let out = format!(in alloc;
-            "accepted 4\nsuccessful 4\nfailed 0\nlost 0\nrestarts 0\n{last}"
-        )?;
-        let given = Given {
-            more_lines: control,
-            more_acts: acts,
-            ..on("run t", file.as_str(), "a\nb\nc\nd\n")
-        };
-        expect(&rt, alloc, given, status, out.as_str(), "")?;
-    }
-    Ok(())
-}
-
-#[test]
-fn a_control_line_has_a_longest_length(rt: HostRuntime) -> Result<(), Fail> {
-    let alloc = rt.alloc();
-    let file = joined(alloc, ONE_STAGE, CONTROL)?;
-    let control = copies(alloc, "x", 65_537)?;
-    let out =
-        "accepted 1\nsuccessful 1\nfailed 0\nlost 0\nrestarts 0\nrefused 0\nsource control toolong\nend sources\n";
-    let given = Given {
-        more_lines: control.as_str(),
-        ..on("run t", file.as_str(), "a\n")
-    };
-    expect(&rt, alloc, given, 4, out, "")?;
-    Ok(())
-}
-
-#[test]
-fn ten_thousand_control_lines_are_read_at_most(rt: HostRuntime) -> Result<(), Fail> {
-    let alloc = rt.alloc();
-    let file = joined(alloc, ONE_STAGE, ONE_AT_A_TIME)?;
-    let lines = copies(alloc, "x\n", 5_001)?;
-    let control = copies(alloc, "no\n", 10_001)?;
-    let out =
-        "accepted 5001\nsuccessful 5001\nfailed 0\nlost 0\nrestarts 0\nrefused 10000\nend sources\n";
-    let given = Given {
-        more_lines: control.as_str(),
-        ..on("run t", file.as_str(), lines.as_str())
-    };
-    expect(&rt, alloc, given, 0, out, "")?;
-    Ok(())
-}
-
-/// The number of the call that fails, and the name that is told.
-static OPENINGS: [(u64, &str); 2] = [(2, "edge mem:b\n"), (3, "edge mem:a\n")];
-
-#[test]
-fn the_control_source_is_opened_first(rt: HostRuntime) -> Result<(), Fail> {
-    let alloc = rt.alloc();
-    let file = joined(alloc, ONE_STAGE, CONTROL)?;
-    for &(call, err) in &OPENINGS {
-        let given = Given {
-            fails: &[call],
-            ..on("run t", file.as_str(), "a\n")
-        };
-        expect(&rt, alloc, given, 5, "", err)?;
-    }
+fn control_lines_are_obeyed_or_refused(rt: HostRuntime) -> Result<(), Fail> {
+    run_rows(&rt, rt.alloc(), &ROWS)?;
     Ok(())
 }

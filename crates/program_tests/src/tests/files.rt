@@ -1,196 +1,289 @@
 //! Topology files: refused, accepted, and not there.
 
-use super::calls::{Given, ONE_STAGE, copies, expect, joined, on};
+use super::rows::{Copies, ONE_STAGE, Out, PLAIN, Row, run_rows};
 use std::test::Fail;
 
-/// Topology files that are refused, with the number and the place of the fault.
-static REFUSED: [(&str, &str); 20] = [
-    (
-        "version = 1\n[[producer]]\nname = \"p\"\nsource = \"mem:a",
-        "topology 1 -\n",
-    ),
-    ("version = 1\nversion = 1", "topology 1 -\n"),
-    ("", "topology 2 version\n"),
-    ("version = 2", "topology 2 version\n"),
-    ("version = 3", "topology 2 version\n"),
-    ("version = 1\nproducers = []", "topology 3 producers\n"),
-    (
-        "version = 1\nproducer = [{name = 'p'}]\nprocessors = {}",
-        "topology 4 producer.0.source\n",
-    ),
-    (
-        "version = 1\nproducer = [{name = 'p', source = 'mem:a'}]\nprocessors = 1",
-        "topology 5 processors\n",
-    ),
-    (
-        "version = 1\n[[producer]]\nname = \"p\"\nsource = \"mem:a\"\n[processors]\nconcurrency = 0\n",
-        "topology 6 processors.concurrency\n",
-    ),
-    (
-        "version = 1\nproducer = [{name = 'p', source = 'mem:a'}]\nprocessors = {max_demand = 2, min_demand = 2}",
-        "topology 6 processors.min_demand\n",
-    ),
-    (
-        "version = 1\nproducer = [{name = 'p', source = 'mem:a'}]\nprocessors = {steps = ['pass', 'drop']}",
-        "topology 6 processors.steps.1\n",
-    ),
-    (
-        "version = 1\nproducer = [{name = 'p', source = 'mem:a'}, {name = 'p', source = 'mem:a'}]\nprocessors = {}",
-        "topology 7 producer.1.name\n",
-    ),
-    (
-        "version = 1\nproducer = [{name = 'p', source = 'mem:a'}]\nprocessors = {concurrency = 1, steps = ['route 1 b x']}",
-        "topology 8 processors.steps.0\n",
-    ),
-    ("version = 1", "topology 9 -\n"),
-    ("version = 1\nprocessors = {}", "topology 9 -\n"),
-    (
-        "version = 1\nproducer = [{name = 'p', source = 'mem:a'}]",
-        "topology 9 -\n",
-    ),
-    (
-        "version = 1\nproducer = [{name = 'p', source = 'mem:a'}]\nprocessors = {}\nsupervisor = {}",
-        "topology 9 -\n",
-    ),
-    (
-        "version = 1\nproducer = [{name = 'p', source = 'mem:a'}]\nprocessors = {concurrency = 32}\nbatcher = [{name = 'b', concurrency = 16}, {name = 'c', concurrency = 16}]",
-        "topology 10 -\n",
-    ),
-    (
-        "version = 1\nproducer = [{name = 'p', source = 'mem:a'}]\nprocessors = {}\nbatcher = [{name = 'b', dispatch = 'any'}]",
-        "topology 11 batcher.0.dispatch\n",
-    ),
-    (
-        "version = 1\nproducer = [{name = 'p', source = 'mem:a'}]\nprocessors = {}\nbatcher = [{name = 'b'}, {name = 'c'}]",
-        "topology 12 batcher.1\n",
-    ),
+/// The beginning of a topology file, up to the keys of its processors.
+const PROCESSORS: &str = "version = 1\nproducer = [{name = 'p', source = 'mem:a'}]\n[processors]\n";
+
+/// A refused file is told by the number and the place of the fault.
+const REFUSED: Row<'static> = Row {
+    words: &["check t", "run t --acks --steps", "run t --workers 2"],
+    head: "",
+    lines: "x\n",
+    steps_boxes: 0,
+    status: 6,
+    ran: Some(false),
+    steps: Some(0),
+    ..PLAIN
+};
+
+/// A run needs a box for each post.
+const SHORT: Row<'static> = Row {
+    words: &["run t", "run t --workers 2"],
+    head: PROCESSORS,
+    lines: "x\n",
+    status: 6,
+    ran: Some(false),
+    steps: Some(0),
+    ..PLAIN
+};
+
+/// What is not there is named.
+const ABSENT: Row<'static> = Row {
+    lines: "x\n",
+    status: 5,
+    ran: Some(false),
+    steps: Some(0),
+    ..PLAIN
+};
+
+static ROWS: [Row<'static>; 41] = [
+    Row {
+        keys: "version = 1\n[[producer]]\nname = \"p\"\nsource = \"mem:a",
+        err: "topology 1 -\n",
+        ..REFUSED
+    },
+    Row {
+        keys: "version = 1\nversion = 1",
+        err: "topology 1 -\n",
+        ..REFUSED
+    },
+    Row {
+        err: "topology 2 version\n",
+        ..REFUSED
+    },
+    Row {
+        keys: "version = 2",
+        err: "topology 2 version\n",
+        ..REFUSED
+    },
+    Row {
+        keys: "version = 3",
+        err: "topology 2 version\n",
+        ..REFUSED
+    },
+    Row {
+        keys: "version = 1\nproducers = []",
+        err: "topology 3 producers\n",
+        ..REFUSED
+    },
+    Row {
+        keys: "version = 1\nproducer = [{name = 'p'}]\nprocessors = {}",
+        err: "topology 4 producer.0.source\n",
+        ..REFUSED
+    },
+    Row {
+        keys: "version = 1\nproducer = [{name = 'p', source = 'mem:a'}]\nprocessors = 1",
+        err: "topology 5 processors\n",
+        ..REFUSED
+    },
+    Row {
+        keys: "version = 1\n[[producer]]\nname = \"p\"\nsource = \"mem:a\"\n[processors]\nconcurrency = 0\n",
+        err: "topology 6 processors.concurrency\n",
+        ..REFUSED
+    },
+    Row {
+        keys: "version = 1\nproducer = [{name = 'p', source = 'mem:a'}]\nprocessors = {max_demand = 2, min_demand = 2}",
+        err: "topology 6 processors.min_demand\n",
+        ..REFUSED
+    },
+    Row {
+        keys: "version = 1\nproducer = [{name = 'p', source = 'mem:a'}]\nprocessors = {steps = ['pass', 'drop']}",
+        err: "topology 6 processors.steps.1\n",
+        ..REFUSED
+    },
+    Row {
+        keys: "version = 1\nproducer = [{name = 'p', source = 'mem:a'}, {name = 'p', source = 'mem:a'}]\nprocessors = {}",
+        err: "topology 7 producer.1.name\n",
+        ..REFUSED
+    },
+    Row {
+        keys: "version = 1\nproducer = [{name = 'p', source = 'mem:a'}]\nprocessors = {concurrency = 1, steps = ['route 1 b x']}",
+        err: "topology 8 processors.steps.0\n",
+        ..REFUSED
+    },
+    Row {
+        keys: "version = 1",
+        err: "topology 9 -\n",
+        ..REFUSED
+    },
+    Row {
+        keys: "version = 1\nprocessors = {}",
+        err: "topology 9 -\n",
+        ..REFUSED
+    },
+    Row {
+        keys: "version = 1\nproducer = [{name = 'p', source = 'mem:a'}]",
+        err: "topology 9 -\n",
+        ..REFUSED
+    },
+    Row {
+        keys: "version = 1\nproducer = [{name = 'p', source = 'mem:a'}]\nprocessors = {}\nsupervisor = {}",
+        err: "topology 9 -\n",
+        ..REFUSED
+    },
+    Row {
+        keys: "version = 1\nproducer = [{name = 'p', source = 'mem:a'}]\nprocessors = {concurrency = 32}\nbatcher = [{name = 'b', concurrency = 16}, {name = 'c', concurrency = 16}]",
+        err: "topology 10 -\n",
+        ..REFUSED
+    },
+    Row {
+        keys: "version = 1\nproducer = [{name = 'p', source = 'mem:a'}]\nprocessors = {}\nbatcher = [{name = 'b', dispatch = 'any'}]",
+        err: "topology 11 batcher.0.dispatch\n",
+        ..REFUSED
+    },
+    Row {
+        keys: "version = 1\nproducer = [{name = 'p', source = 'mem:a'}]\nprocessors = {}\nbatcher = [{name = 'b'}, {name = 'c'}]",
+        err: "topology 12 batcher.1\n",
+        ..REFUSED
+    },
+    Row {
+        keys: "concurrency = 1",
+        steps_boxes: 0,
+        lines_boxes: 64,
+        err: "stock steps need 1 have 0\n",
+        ..SHORT
+    },
+    Row {
+        keys: "concurrency = 3",
+        steps_boxes: 2,
+        lines_boxes: 64,
+        err: "stock steps need 3 have 2\n",
+        ..SHORT
+    },
+    Row {
+        keys: "concurrency = 1\nkind = 'own'",
+        steps_boxes: 64,
+        lines_boxes: 64,
+        err: "stock own need 1 have 0\n",
+        ..SHORT
+    },
+    Row {
+        keys: "concurrency = 1\n[pipeline]\ncontrol = 'mem:c'",
+        steps_boxes: 0,
+        lines_boxes: 64,
+        err: "stock steps need 1 have 0\n",
+        ..SHORT
+    },
+    Row {
+        keys: "concurrency = 1\n[[batcher]]\nname = 'b'",
+        steps_boxes: 1,
+        lines_boxes: 0,
+        err: "stock lines need 1 have 0\n",
+        ..SHORT
+    },
+    Row {
+        keys: "concurrency = 1\n[[batcher]]\nname = 'b'\nconcurrency = 3",
+        steps_boxes: 0,
+        lines_boxes: 2,
+        err: "stock steps need 1 have 0\n",
+        ..SHORT
+    },
+    Row {
+        keys: "concurrency = 1\n[[batcher]]\nname = 'b'\nkind = 'steps'\nconcurrency = 3",
+        steps_boxes: 3,
+        lines_boxes: 0,
+        err: "stock steps need 4 have 3\n",
+        ..SHORT
+    },
+    Row {
+        keys: "kind = 'own'\n[[batcher]]\nname = 'b'\nconcurrency = 3",
+        steps_boxes: 0,
+        lines_boxes: 2,
+        err: "stock lines need 3 have 2\n",
+        ..SHORT
+    },
+    Row {
+        words: &["flow mem:a x"],
+        lines: "x\n",
+        steps_boxes: 0,
+        lines_boxes: 0,
+        status: 6,
+        err: "stock steps need 1 have 0\n",
+        ran: Some(false),
+        steps: Some(0),
+        ..PLAIN
+    },
+    // A check needs none.
+    Row {
+        words: &["check t"],
+        lines: "x\n",
+        steps_boxes: 0,
+        lines_boxes: 0,
+        out: Out::Is(&["stages 2 subscriptions 1\n"]),
+        ran: Some(true),
+        steps: Some(0),
+        ..PLAIN
+    },
+    Row {
+        words: &["check u"],
+        err: "edge u\n",
+        ..ABSENT
+    },
+    Row {
+        words: &["check mem:a"],
+        err: "edge mem:a\n",
+        ..ABSENT
+    },
+    Row {
+        words: &["run u"],
+        err: "edge u\n",
+        ..ABSENT
+    },
+    Row {
+        words: &["run u --acks --steps"],
+        err: "edge u\n",
+        ..ABSENT
+    },
+    Row {
+        words: &["run t"],
+        source: "mem:b",
+        err: "edge mem:a\n",
+        ..ABSENT
+    },
+    Row {
+        words: &["run t --acks --steps"],
+        source: "mem:b",
+        err: "edge mem:a\n",
+        ..ABSENT
+    },
+    Row {
+        words: &["run t"],
+        source: "t",
+        err: "edge mem:a\n",
+        ..ABSENT
+    },
+    Row {
+        words: &["flow mem:z a"],
+        err: "edge mem:z\n",
+        ..ABSENT
+    },
+    Row {
+        words: &["flow t a"],
+        err: "edge t\n",
+        ..ABSENT
+    },
+    // A topology file has a limit of 1,048,576 bytes.
+    Row {
+        words: &["check t"],
+        keys: "#",
+        filling: Copies(1_048_576 - ONE_STAGE.len() - 1, "c"),
+        out: Out::Is(&["stages 2 subscriptions 1\n"]),
+        ..PLAIN
+    },
+    Row {
+        words: &["check t"],
+        keys: "#",
+        filling: Copies(1_048_577 - ONE_STAGE.len() - 1, "c"),
+        status: 6,
+        err: "topology 1 -\n",
+        ..PLAIN
+    },
 ];
 
 #[test]
-fn refused_files_name_the_fault_and_its_place(rt: HostRuntime) -> Result<(), Fail> {
-    let alloc = rt.alloc();
-    for &(file, line) in &REFUSED {
-        for words in ["check t", "run t --acks --steps", "run t --workers 2"] {
-            let given = Given {
-                steps_boxes: 0,
-                ..on(words, file, "x\n")
-            };
-            let came = expect(&rt, alloc, given, 6, "", line)?;
-            assert_eq!(rt; (came.ran, came.steps), (false, 0), "{words}: {file}");
-        }
-    }
-    Ok(())
-}
-
-/// Topologies, boxes of the kinds `steps` and `lines`, and what the stock lacks for a run.
-static SHORT: [(&str, usize, usize, &str); 8] = [
-    ("concurrency = 1", 0, 64, "stock steps need 1 have 0\n"),
-    ("concurrency = 3", 2, 64, "stock steps need 3 have 2\n"),
-    (
-        "concurrency = 1\nkind = 'own'",
-        64,
-        64,
-        "stock own need 1 have 0\n",
-    ),
-    (
-        "concurrency = 1\n[pipeline]\ncontrol = 'mem:c'",
-        0,
-        64,
-        "stock steps need 1 have 0\n",
-    ),
-    (
-        "concurrency = 1\n[[batcher]]\nname = 'b'",
-        1,
-        0,
-        "stock lines need 1 have 0\n",
-    ),
-    (
-        "concurrency = 1\n[[batcher]]\nname = 'b'\nconcurrency = 3",
-        0,
-        2,
-        "stock steps need 1 have 0\n",
-    ),
-    (
-        "concurrency = 1\n[[batcher]]\nname = 'b'\nkind = 'steps'\nconcurrency = 3",
-        3,
-        0,
-        "stock steps need 4 have 3\n",
-    ),
-    (
-        "kind = 'own'\n[[batcher]]\nname = 'b'\nconcurrency = 3",
-        0,
-        2,
-        "stock lines need 3 have 2\n",
-    ),
-];
-
-#[test]
-fn a_run_needs_a_box_for_each_post_and_a_check_none(rt: HostRuntime) -> Result<(), Fail> {
-    let alloc = rt.alloc();
-    for &(processors, steps_boxes, lines_boxes, line) in &SHORT {
-        let head = "version = 1\nproducer = [{name = 'p', source = 'mem:a'}]\n[processors]\n";
-        let file = joined(alloc, head, processors)?;
-        for words in ["run t", "run t --workers 2"] {
-            let given = Given {
-                steps_boxes,
-                lines_boxes,
-                ..on(words, file.as_str(), "x\n")
-            };
-            let came = expect(&rt, alloc, given, 6, "", line)?;
-            assert_eq!(rt; (came.ran, came.steps), (false, 0), "{words}: {file}");
-        }
-    }
-    for (words, status, out, err) in [
-        ("flow mem:a x", 6, "", "stock steps need 1 have 0\n"),
-        ("check t", 0, "stages 2 subscriptions 1\n", ""),
-    ] {
-        let given = Given {
-            steps_boxes: 0,
-            lines_boxes: 0,
-            ..on(words, ONE_STAGE, "x\n")
-        };
-        let came = expect(&rt, alloc, given, status, out, err)?;
-        assert_eq!(rt; (came.ran, came.steps), (status == 0, 0), "{words}");
-    }
-    Ok(())
-}
-
-#[test]
-fn what_is_not_there_is_named(rt: HostRuntime) -> Result<(), Fail> {
-    let alloc = rt.alloc();
-    for (words, source, line) in [
-        ("check u", "mem:a", "edge u\n"),
-        ("check mem:a", "mem:a", "edge mem:a\n"),
-        ("run u", "mem:a", "edge u\n"),
-        ("run u --acks --steps", "mem:a", "edge u\n"),
-        ("run t", "mem:b", "edge mem:a\n"),
-        ("run t --acks --steps", "mem:b", "edge mem:a\n"),
-        ("run t", "t", "edge mem:a\n"),
-        ("flow mem:z a", "mem:a", "edge mem:z\n"),
-        ("flow t a", "mem:a", "edge t\n"),
-    ] {
-        let given = Given {
-            source,
-            ..on(words, ONE_STAGE, "x\n")
-        };
-        let came = expect(&rt, alloc, given, 5, "", line)?;
-        assert_eq!(rt; (came.ran, came.steps), (false, 0), "{words}");
-    }
-    Ok(())
-}
-
-#[test]
-fn a_topology_file_has_a_limit(rt: HostRuntime) -> Result<(), Fail> {
-    let alloc = rt.alloc();
-    let head = joined(alloc, ONE_STAGE, "#")?;
-    for (length, status, out, err) in [
-        (1_048_576usize, 0, "stages 2 subscriptions 1\n", ""),
-        (1_048_577, 6, "", "topology 1 -\n"),
-    ] {
-        let comment = copies(alloc, "c", length.saturating_sub(head.len()))?;
-        let file = joined(alloc, head.as_str(), comment.as_str())?;
-        let given = on("check t", file.as_str(), "");
-        expect(&rt, alloc, given, status, out, err)?;
-    }
+fn what_is_refused_or_not_there_is_named(rt: HostRuntime) -> Result<(), Fail> {
+    run_rows(&rt, rt.alloc(), &ROWS)?;
     Ok(())
 }

@@ -1,7 +1,8 @@
 //! Runs of generated topologies: the counts of each add up, whatever it is.
 
-use super::calls::{Came, Given, call, holding, is_home, on, shown};
+use super::calls::{Came, call, holding, is_home, shown};
 use super::generated::{Case, case_of};
+use super::rows::{PLAIN, Row};
 use std::alloc::{AllocError, Global};
 use std::process::Abort;
 use std::sync::Wait;
@@ -40,27 +41,6 @@ fn lines_with(text: &str, word: &str) -> usize {
     count
 }
 
-/// The number that the word at this place of the line is, or 0.
-fn number_at(line: &str, place: usize) -> usize {
-    for (at, word) in line.split(' ').enumerate() {
-        if at == place {
-            return word.parse::<usize>().unwrap_or(0);
-        }
-    }
-    0
-}
-
-/// The sum of the numbers at this place of the lines that begin so.
-fn sum_of(text: &str, word: &str, place: usize) -> usize {
-    let mut sum: usize = 0;
-    for line in text.lines() {
-        if line.starts_with(word) {
-            sum = sum.saturating_add(number_at(line, place));
-        }
-    }
-    sum
-}
-
 /// The word at this place of the line, or none.
 fn word_at(line: &str, place: usize) -> &str {
     for (at, word) in line.split(' ').enumerate() {
@@ -69,6 +49,18 @@ fn word_at(line: &str, place: usize) -> &str {
         }
     }
     ""
+}
+
+/// The sum of the numbers at this place of the lines that begin so.
+fn sum_of(text: &str, word: &str, place: usize) -> usize {
+    let mut sum: usize = 0;
+    for line in text.lines() {
+        if line.starts_with(word) {
+            let number = word_at(line, place).parse::<usize>().unwrap_or(0);
+            sum = sum.saturating_add(number);
+        }
+    }
+    sum
 }
 
 /// How many messages the lists at this place of the acknowledgements have; each is marked by its number.
@@ -159,68 +151,129 @@ struct Seen {
     children: usize,
 }
 
-/// Each message has one end, each is acknowledged once or lost, and each failure and each loss has its cause.
-fn expect_sums(
-    rt: &impl Abort,
+/// What does not hold of these, or nothing: each message has one end, each is acknowledged once or lost, and each failure and
+/// each loss has its cause.
+fn fault_in_sums(
     alloc: Global,
     told: Told<'_>,
-    file: &str,
-) -> Result<(), AllocError> {
-    let counts = counts_of(told.report);
-    let ends = counts
-        .successful
-        .saturating_add(counts.failed)
-        .saturating_add(counts.lost);
-    assert_eq!(rt; ends, counts.accepted, "{file}");
-    assert_eq!(rt; sum_of(told.report, "reason ", 2), counts.failed, "{file}");
-    assert_eq!(rt; sum_of(told.report, "overflow ", 2), counts.lost, "{file}");
+    counts: Counts,
+) -> Result<&'static str, AllocError> {
     let mut marks = vec![in alloc; false; 100]?;
-    assert_eq!(rt;
-        mark_all(told.acks, 3, &mut marks),
-        counts.successful,
-        "{file}"
-    );
-    assert_eq!(rt; mark_all(told.acks, 5, &mut marks), counts.failed, "{file}");
+    let successful = mark_all(told.acks, 3, &mut marks);
+    let failed = mark_all(told.acks, 5, &mut marks);
     let acknowledged = counts.successful.saturating_add(counts.failed);
-    assert_eq!(rt; marked(&marks), acknowledged, "{file}");
-    Ok(())
+    if acknowledged.saturating_add(counts.lost) != counts.accepted {
+        Ok("ends")
+    } else if sum_of(told.report, "reason ", 2) != counts.failed {
+        Ok("reasons")
+    } else if sum_of(told.report, "overflow ", 2) != counts.lost {
+        Ok("overflows")
+    } else if successful != counts.successful || failed != counts.failed {
+        Ok("acknowledgements")
+    } else if marked(&marks) != acknowledged {
+        Ok("acknowledged numbers")
+    } else {
+        Ok("")
+    }
 }
 
-/// Each job has its answer, and there is one drain and nothing of crashes and control.
-fn expect_answers(rt: &impl Abort, journal: &str, file: &str) {
+/// How many steps there are of crashes and control.
+fn interventions(journal: &str) -> usize {
+    lines_with(journal, "kill ")
+        .saturating_add(lines_with(journal, "late "))
+        .saturating_add(lines_with(journal, "restart "))
+        .saturating_add(lines_with(journal, "halt"))
+        .saturating_add(lines_with(journal, "refuse "))
+}
+
+/// What does not hold of these, or nothing: each job has its answer, and there is one drain and nothing of crashes and
+/// control.
+fn fault_in_answers(journal: &str) -> &'static str {
     let fetched = lines_with(journal, "accept ")
         .saturating_add(lines_with(journal, "quiet "))
         .saturating_add(lines_with(journal, "source "));
-    assert_eq!(rt; fetched, lines_with(journal, "fetch "), "{file}");
     let taken = lines_with(journal, "done ").saturating_add(lines_with(journal, "wrote "));
-    assert_eq!(rt; taken, lines_with(journal, "take "), "{file}");
-    let started = lines_with(journal, "child ");
-    assert_eq!(rt; lines_with(journal, "childend "), started, "{file}");
-    assert_eq!(rt; lines_with(journal, "drain "), 1, "{file}");
-    for word in ["kill ", "late ", "restart ", "halt", "refuse "] {
-        assert_eq!(rt; lines_with(journal, word), 0, "{file}");
+    if fetched != lines_with(journal, "fetch ") {
+        "fetches"
+    } else if taken != lines_with(journal, "take ") {
+        "takes"
+    } else if lines_with(journal, "childend ") != lines_with(journal, "child ") {
+        "children"
+    } else if lines_with(journal, "drain ") != 1 {
+        "drains"
+    } else if interventions(journal) > 0 {
+        "crashes and control"
+    } else {
+        ""
     }
 }
 
-/// All lines are accepted where every source came to its end, and the sinks hold what was written.
-fn expect_lines(rt: &impl Abort, case: &Case, came: &Came, told: Told<'_>) {
-    let file = case.file.as_str();
-    let counts = counts_of(told.report);
-    if counts.faults == 0 && told.report.ends_with("\nend sources\n") {
-        let lines = case.lines.count.saturating_add(if file.contains("mem:b") {
-            case.more.count
-        } else {
-            0
-        });
-        assert_eq!(rt; counts.accepted, lines, "{file}");
+/// How many lines its sources have.
+fn lines_in(case: &Case) -> usize {
+    if case.file.as_str().contains("mem:b") {
+        case.lines.count.saturating_add(case.more.count)
+    } else {
+        case.lines.count
     }
+}
+
+/// What does not hold of these, or nothing: all lines are accepted where every source came to its end, and the sinks hold
+/// what was written.
+fn fault_in_lines(case: &Case, came: &Came, told: Told<'_>, counts: Counts) -> &'static str {
+    let whole = counts.faults == 0 && told.report.ends_with("\nend sources\n");
     let (s, t) = (holding(&came.s), holding(&came.t));
-    let held = s.len().saturating_add(t.len());
-    assert_eq!(rt; sum_of(told.journal, "wrote ", 2), held, "{file}");
-    if let Some(copies) = case.copies {
-        let lines = lines_with(s, "").saturating_add(lines_with(t, ""));
-        assert_eq!(rt; lines, counts.successful.saturating_mul(copies), "{file}");
+    let lines = lines_with(s, "").saturating_add(lines_with(t, ""));
+    if whole && counts.accepted != lines_in(case) {
+        "accepted lines"
+    } else if sum_of(told.journal, "wrote ", 2) != s.len().saturating_add(t.len()) {
+        "written bytes"
+    } else {
+        match case.copies {
+            Some(copies) if lines != counts.successful.saturating_mul(copies) => "written lines",
+            _ => "",
+        }
     }
+}
+
+/// What does not add up, or nothing.
+fn fault_in(alloc: Global, case: &Case, came: &Came) -> Result<&'static str, AllocError> {
+    let Some(told) = parts_of(shown(&came.out)) else {
+        return Ok("no report");
+    };
+    let counts = counts_of(told.report);
+    let answers = fault_in_answers(told.journal);
+    let lines = fault_in_lines(case, came, told, counts);
+    if !is_home(came) {
+        Ok("what comes home")
+    } else if came.status != status_of(counts) {
+        Ok("status")
+    } else if answers != "" {
+        Ok(answers)
+    } else if lines != "" {
+        Ok(lines)
+    } else {
+        fault_in_sums(alloc, told, counts)
+    }
+}
+
+/// Calls the program on the case.
+fn call_case(
+    rt: &(impl Threads + Wait + Sync),
+    alloc: Global,
+    case: &Case,
+) -> Result<Came, AllocError> {
+    let row = Row {
+        head: case.file.as_str(),
+        lines: case.lines.text.as_str(),
+        acts: case.lines.acts.as_slice(),
+        more_lines: case.more.text.as_str(),
+        more_acts: case.more.acts.as_slice(),
+        s_acts: case.s_acts.as_slice(),
+        t_acts: case.t_acts.as_slice(),
+        nap: case.nap,
+        ..PLAIN
+    };
+    call(rt, alloc, "run t --acks --steps", &row)
 }
 
 /// Runs the case, and adds to what was seen.
@@ -230,30 +283,13 @@ fn run_case(
     case: &Case,
     seen: &mut Seen,
 ) -> Result<(), AllocError> {
-    let file = case.file.as_str();
-    let given = Given {
-        acts: case.lines.acts.as_slice(),
-        more_lines: case.more.text.as_str(),
-        more_acts: case.more.acts.as_slice(),
-        s_acts: case.s_acts.as_slice(),
-        t_acts: case.t_acts.as_slice(),
-        nap: case.nap,
-        ..on("run t --acks --steps", file, case.lines.text.as_str())
-    };
-    let came = call(rt, alloc, given)?;
-    assert!(rt; is_home(&came), "{file}");
-    let out = shown(&came.out);
-    let Some(told) = parts_of(out) else {
-        let said = shown(&came.err);
-        assert!(rt; false, "{file}: {said}");
-        return Ok(());
-    };
-    let status = status_of(counts_of(told.report));
-    assert_eq!(rt; came.status, status, "{file}");
-    expect_sums(rt, alloc, told, file)?;
-    expect_answers(rt, told.journal, file);
-    expect_lines(rt, case, &came, told);
-    see(seen, status, told);
+    let came = call_case(rt, alloc, case)?;
+    let fault = fault_in(alloc, case, &came)?;
+    let (file, said) = (case.file.as_str(), shown(&came.err));
+    assert!(rt; fault == "", "{file}: {fault}: {said}");
+    if let Some(told) = parts_of(shown(&came.out)) {
+        see(seen, came.status, told);
+    }
     Ok(())
 }
 
@@ -295,6 +331,22 @@ fn see_closes(seen: &mut Seen, journal: &str) {
     }
 }
 
+/// What was not seen, or nothing.
+fn unseen(seen: &Seen) -> &'static str {
+    let [all, failed, lost, _, faults] = seen.statuses;
+    if all.min(failed).min(lost).min(faults) == 0 {
+        "a status"
+    } else if seen.sizes.min(seen.flushes).min(seen.timeouts) == 0 {
+        "a trigger of batches"
+    } else if seen.waits.min(seen.idle).min(seen.children) == 0 {
+        "a wait, an idle end or a child"
+    } else if seen.overflows.min(seen.sinks) == 0 {
+        "an overflow or a sink that fails"
+    } else {
+        ""
+    }
+}
+
 #[test]
 fn the_counts_of_generated_topologies_add_up(rt: HostRuntime) -> Result<(), Fail> {
     let alloc = rt.alloc();
@@ -313,14 +365,7 @@ fn the_counts_of_generated_topologies_add_up(rt: HostRuntime) -> Result<(), Fail
         let case = case_of(alloc, seed)?;
         run_case(&rt, alloc, &case, &mut seen)?;
     }
-    let [all, failed, lost, _, faults] = seen.statuses;
-    assert!(rt;
-        all.min(failed).min(lost).min(faults) > 0,
-        "{all} {failed} {lost} {faults}"
-    );
-    let closes = seen.sizes.min(seen.flushes).min(seen.timeouts);
-    assert!(rt; closes > 0);
-    assert!(rt; seen.waits.min(seen.idle).min(seen.children) > 0);
-    assert!(rt; seen.overflows.min(seen.sinks) > 0);
+    let missing = unseen(&seen);
+    assert!(rt; missing == "", "{missing}");
     Ok(())
 }
