@@ -2,7 +2,8 @@
 //!
 //! A worker takes the pipe, brings home what its job came to, begins the next job and gives the pipe back; then it does the job while
 //! others have the pipe. Where no job can be begun it sleeps until there is news, or for some milliseconds, more of them the longer
-//! nothing was new, behind which it takes the pipe again, so that the clock is read. `run_workers` has as many of them run a pipe until the pipeline is drained or halted.
+//! nothing was new, behind which it takes the pipe again, so that the clock is read. `run_workers` has as many of them run a pipe
+//! until the pipeline is drained or halted.
 #![tactic(auto)]
 
 mod run;

@@ -114,8 +114,8 @@ fn is_reading(before: u64, after: u64) -> bool
     after.saturating_sub(before) <= 1
 }
 
-/// How long a worker sleeps, in milliseconds, that has slept for so long since anything was new: an eighth of that, so that a batch
-/// closes late by an eighth of its time limit at most, and a silent day adds few readings of the clock.
+/// How long a worker sleeps, in milliseconds, that has slept for so long since anything was new: an eighth of that, within bounds. So
+/// a batch closes late by an eighth of its time limit or by the least sleep, and a silent day adds few readings of the clock.
 fn sleep_after(slept: u64) -> u64
     ensures least { 10 ≤ result }
     ensures most { result ≤ 1000 }
