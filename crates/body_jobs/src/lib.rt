@@ -8,8 +8,6 @@
 mod batch;
 mod body;
 pub mod fetch;
-#[cfg(test)]
-mod tests;
 mod work;
 mod write;
 

@@ -25,8 +25,6 @@ mod handing;
 mod homes;
 mod returning;
 mod tables;
-#[cfg(test)]
-mod tests;
 
 pub use boxed::{Boxed, Carries};
 pub use handing::{Lent, Slip, hand_out};

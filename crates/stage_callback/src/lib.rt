@@ -14,8 +14,6 @@ mod handler;
 mod lines;
 mod rules;
 mod steps;
-#[cfg(test)]
-mod tests;
 
 pub use answers::{FailedReply, Prepared, Said};
 pub use armable::may_arm;

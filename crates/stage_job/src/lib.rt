@@ -10,8 +10,6 @@
 mod calm;
 mod chunk;
 mod stock;
-#[cfg(test)]
-mod tests;
 
 pub use calm::never_crashes;
 pub use chunk::{reason_for, run_chunk, run_message};

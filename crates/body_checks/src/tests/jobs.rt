@@ -3,33 +3,19 @@
 ghost use Rattle.std.specs.Prelude.{◌≡◌, IsSome, IfSome};
 ghost use Rattle.stage_bodies.specs.Jobs.{Fits};
 
-use crate::Body;
+use super::{bytes_of, is_passed, is_second_failed, message_of, three_of};
+use body_jobs::Body;
 use mem_edges::{MemSink, MemSource, SinkScript, SourceScript};
 use pipe_edges::{ByteSource, LineSource};
 use pipe_types::bytes::Bytes;
-use pipe_types::message::{Batch, BatchEnd, Message, MessageList, Outcome as End, Reply, Trigger};
-use pipe_types::numbers::{BatchNo, MsgNo, Post, StageNo};
+use pipe_types::message::{Batch, BatchEnd, MessageList, Outcome as End, Trigger};
+use pipe_types::numbers::{BatchNo, Post, StageNo};
 use pipe_types::topology::{Kind, Rule, RuleList};
 use stage_bodies::{Houses, Job, Outcome, Work, Works};
 use stage_callback::{Callback, LinesBox, StepsBox, may_arm, unarmed};
 use std::alloc::{AllocError, Global};
 use std::process::Abort;
 use std::test::Fail;
-
-fn bytes_of(alloc: Global, bytes: &[u8]) -> Result<Bytes, AllocError> {
-    Ok(Bytes::from_vec(Vec::from_slice(alloc, bytes)?))
-}
-
-fn message_of(alloc: Global, no: u32, payload: &[u8]) -> Result<Message, AllocError> {
-    Ok(Message {
-        no: MsgNo(no),
-        producer: StageNo(1),
-        payload: bytes_of(alloc, payload)?,
-        batcher: 0,
-        key: Bytes::from_vec(Vec::new(alloc)),
-        flush: false,
-    })
-}
 
 fn post() -> Post {
     Post {
@@ -116,35 +102,14 @@ fn with_box(callback: Box<dyn Callback + Send>) -> Body<MemSource, MemSink>
     }
 }
 
-fn three_of(alloc: Global) -> Result<MessageList, AllocError> {
-    let mut messages = Vec::new(alloc);
-    messages.push(message_of(alloc, 1, b"a")?)?;
-    messages.push(message_of(alloc, 2, b"b")?)?;
-    messages.push(message_of(alloc, 3, b"c")?)?;
-    Ok(MessageList::from_vec(messages))
-}
-
-fn is_passed(reply: &Reply, no: u32) -> bool {
-    matches!(reply, Reply::Pass(m) if m.no == MsgNo(no))
-}
-
-fn is_failed(reply: &Reply, reason: &[u8]) -> bool {
-    matches!(reply, Reply::Failed(why) if why.as_bytes() == reason)
-}
-
-fn are_three(replies: &[Reply]) -> bool {
-    replies.len() == 3
-        && is_passed(&replies[0], 1)
-        && is_failed(&replies[1], b"every")
-        && is_passed(&replies[2], 3)
-}
-
 /// Wants that the second of three messages fails.
 fn expect_three<B: Works>(rt: &impl Abort, alloc: Global, body: &mut B) -> Result<(), AllocError>
     requires fits { IsSome (B.look body.old).callback }
 {
-    let outcome = outcome_of(alloc, body, Work::Chunk(three_of(alloc)?))?;
-    let are = matches!(&outcome, Outcome::Replies(replies) if are_three(replies.as_slice()));
+    let messages = three_of(alloc, [b"a", b"b", b"c"])?;
+    let outcome = outcome_of(alloc, body, Work::Chunk(messages))?;
+    let are =
+        matches!(&outcome, Outcome::Replies(replies) if is_second_failed(replies.as_slice(), b"every"));
     assert!(rt; are);
     Ok(())
 }

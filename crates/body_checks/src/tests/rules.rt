@@ -1,20 +1,20 @@
 //! Each rule on messages, and the built-in answers to batches and to failed messages.
 
-use super::own::message_of;
-use crate::copies::copy_bytes;
-use crate::rules::reason;
-use crate::{BatchReply, Callback, FailedReply, LinesBox, Prepared, StepsBox, may_arm, unarmed};
+use super::{bytes_of, message_of, reason};
 use pipe_types::bytes::Bytes;
 use pipe_types::message::{Batch, MessageList, Outcome, Reply, Trigger};
 use pipe_types::numbers::{BatchNo, MsgNo};
 use pipe_types::reason::Reason;
 use pipe_types::topology::{Kind, Rule, RuleList, StageSpec};
+use stage_callback::{
+    BatchReply, Callback, FailedReply, LinesBox, Prepared, StepsBox, may_arm, unarmed,
+};
 use std::alloc::{AllocError, Global};
 use std::process::Abort;
 use std::test::Fail;
 
 fn text_rule(alloc: Global, word: &str, text: &str) -> Result<Rule, AllocError> {
-    let text = copy_bytes(alloc, text.as_bytes())?;
+    let text = bytes_of(alloc, text.as_bytes())?;
     Ok(match word {
         "prefix" => Rule::Prefix(text),
         "require" => Rule::Require(text),
@@ -86,7 +86,7 @@ fn reply_to<C: Callback>(
     callback: &mut C,
     payload: &[u8],
 ) -> Result<Vec<u8>, AllocError> {
-    let reply = callback.message(message_of(alloc, payload)?)?;
+    let reply = callback.message(message_of(alloc, 7, payload)?)?;
     describe(alloc, &reply)
 }
 
@@ -197,7 +197,7 @@ static ROUTES: [(u8, &str, &str, &str); 7] = [
 fn routes_compare_one_field(rt: HostRuntime) -> Result<(), Fail> {
     let alloc = rt.alloc();
     for &(field, value, payload, want) in ROUTES.iter() {
-        let value = copy_bytes(alloc, value.as_bytes())?;
+        let value = bytes_of(alloc, value.as_bytes())?;
         let rules = vec![in alloc; Rule::Route(field, 3, value)]?;
         expect(&rt, alloc, rules, &[payload], want)?;
     }
@@ -276,11 +276,11 @@ fn describe_batch(alloc: Global, reply: &BatchReply) -> Result<Vec<u8>, AllocErr
 fn batch_of(alloc: Global, payloads: &[&str]) -> Result<Batch, AllocError> {
     let mut messages = Vec::new(alloc);
     for payload in payloads {
-        messages.push(message_of(alloc, payload.as_bytes())?)?;
+        messages.push(message_of(alloc, 7, payload.as_bytes())?)?;
     }
     Ok(Batch {
         no: BatchNo(1),
-        key: copy_bytes(alloc, b"")?,
+        key: bytes_of(alloc, b"")?,
         trigger: Trigger::Size,
         messages: MessageList::from_vec(messages),
     })

@@ -6,13 +6,14 @@ ghost use Rattle.pipe_types.specs.declared.topology.Kind.TheVariants.{Own};
 ghost use Rattle.stage_callback.specs.Callbacks.{is_passed};
 ghost use Rattle.pipe_types.specs.Counts.{Rose};
 
-use crate::rules::reason;
-use crate::{BatchReply, Callback, FailedReply, Prepared, Said, copy_message, copy_spec, unarmed};
-use pipe_types::bytes::Bytes;
+use super::{is_failed, is_passed, message_of, reason};
 use pipe_types::message::{Batch, Message, Reply};
-use pipe_types::numbers::{MsgNo, StageNo};
+use pipe_types::numbers::MsgNo;
 use pipe_types::reason::Reason;
 use pipe_types::topology::{Kind, StageSpec};
+use stage_callback::{
+    BatchReply, Callback, FailedReply, Prepared, Said, copy_message, copy_spec, unarmed,
+};
 use std::alloc::{AllocError, Global};
 use std::test::Fail;
 
@@ -102,35 +103,32 @@ pub(super) fn ask(
     callback.message(message)
 }
 
-pub(super) fn message_of(alloc: Global, payload: &[u8]) -> Result<Message, AllocError> {
-    Ok(Message {
-        no: MsgNo(7),
-        producer: StageNo(1),
-        payload: Bytes::from_vec(Vec::from_slice(alloc, payload)?),
-        batcher: 0,
-        key: Bytes::from_vec(Vec::new(alloc)),
-        flush: false,
-    })
-}
-
-#[test]
-fn an_own_callback_counts_through_its_box(rt: HostRuntime) -> Result<(), Fail> {
-    let alloc = rt.alloc();
-    let watcher = Watcher {
+fn watching(alloc: Global) -> Watcher {
+    Watcher {
         alloc,
         spec: unarmed(alloc, Kind::Own),
         calls: 0,
         bad: 0,
         said: Vec::new(alloc),
-    };
-    let mut callback: Box<dyn Callback + Send> = Box::new(alloc, watcher)?;
+    }
+}
+
+fn armed(alloc: Global) -> Result<Box<dyn Callback + Send>, AllocError> {
+    let mut callback: Box<dyn Callback + Send> = Box::new(alloc, watching(alloc))?;
     callback.arm(&unarmed(alloc, Kind::Own))?;
+    Ok(callback)
+}
+
+#[test]
+fn an_own_callback_counts_through_its_box(rt: HostRuntime) -> Result<(), Fail> {
+    let alloc = rt.alloc();
+    let mut callback = armed(alloc)?;
     assert_eq!(rt; callback.kind(), Kind::Own);
     assert_eq!(rt; callback.prepare(&[])?, Prepared::Ready);
-    let passed = ask(&mut callback, message_of(alloc, b"a")?)?;
-    assert!(rt; matches!(&passed, Reply::Pass(m) if m.no == MsgNo(7)));
-    let failed = ask(&mut callback, message_of(alloc, b"!b")?)?;
-    assert!(rt; matches!(&failed, Reply::Failed(why) if Reason::new(b"watched") == Some(*why)));
+    let passed = ask(&mut callback, message_of(alloc, 7, b"a")?)?;
+    assert!(rt; is_passed(&passed, 7));
+    let failed = ask(&mut callback, message_of(alloc, 7, b"!b")?)?;
+    assert!(rt; is_failed(&failed, b"watched"));
     assert_eq!(rt;
         callback.failed(MsgNo(7), &reason(b"watched"))?,
         FailedReply::Keep
@@ -142,15 +140,9 @@ fn an_own_callback_counts_through_its_box(rt: HostRuntime) -> Result<(), Fail> {
 #[test]
 fn an_own_callback_counts_its_answers(rt: HostRuntime) -> Result<(), Fail> {
     let alloc = rt.alloc();
-    let mut watcher = Watcher {
-        alloc,
-        spec: unarmed(alloc, Kind::Own),
-        calls: 0,
-        bad: 0,
-        said: Vec::new(alloc),
-    };
+    let mut watcher = watching(alloc);
     for payload in ["a", "!b", "c"] {
-        watcher.message(message_of(alloc, payload.as_bytes())?)?;
+        watcher.message(message_of(alloc, 7, payload.as_bytes())?)?;
     }
     assert_eq!(rt; watcher.calls, 3);
     assert_eq!(rt; watcher.bad, 1);

@@ -4,10 +4,11 @@ ghost use Rattle.std.specs.Prelude.{◌≡◌, ◌≢◌, ◌≤◌, ℕ, All, I
 ghost use Rattle.pipe_types.specs.Handlers.{counted as counted_by};
 ghost use Rattle.pipe_types.specs.declared.topology.StageSpec.{StageSpec};
 
-use super::own::{ask, message_of};
-use crate::{Callback, LinesBox, StepsBox, unarmed};
+use super::message_of;
+use super::own::ask;
 use pipe_types::message::{Message, Reply};
 use pipe_types::topology::Kind;
+use stage_callback::{Callback, LinesBox, StepsBox, unarmed};
 use std::alloc::{AllocError, Global};
 use std::process::Abort;
 use std::test::Fail;
@@ -82,7 +83,7 @@ fn run(body: &mut Body, message: Message) -> Result<Option<Reply>, AllocError>
 }
 
 /// A body with an armed box, one with none, and one with a box that was never armed.
-fn three_of(alloc: Global) -> Result<Bodies, AllocError> {
+fn three_bodies(alloc: Global) -> Result<Bodies, AllocError> {
     let mut items = Vec::new(alloc);
     items.push(Body {
         callback: Some(armed(alloc)?),
@@ -108,7 +109,7 @@ fn armed(alloc: Global) -> Result<Box<dyn Callback + Send>, AllocError> {
 /// Runs a message on the body, and wants a reply where it has a box.
 fn expect_run(rt: &impl Abort, alloc: Global, body: &mut Body) -> Result<(), AllocError> {
     let had = body.callback.is_some();
-    let reply = run(body, message_of(alloc, b"a")?)?;
+    let reply = run(body, message_of(alloc, 7, b"a")?)?;
     assert_eq!(rt; reply.is_some(), had);
     assert_eq!(rt; body.runs, 1);
     Ok(())
@@ -117,7 +118,7 @@ fn expect_run(rt: &impl Abort, alloc: Global, body: &mut Body) -> Result<(), All
 #[test]
 fn bodies_are_handed_over(rt: HostRuntime) -> Result<(), Fail> {
     let alloc = rt.alloc();
-    let (mut bodies, posts) = hand_over_bodies(three_of(alloc)?);
+    let (mut bodies, posts) = hand_over_bodies(three_bodies(alloc)?);
     assert_eq!(rt; posts, 3);
     for body in bodies.items.iter_mut() {
         expect_run(&rt, alloc, body)?;

@@ -1,6 +1,6 @@
 //! The posts that the boxes of a kind are for.
 
-use crate::home_of;
+use box_stock::home_of;
 use pipe_config::read_topology;
 use pipe_types::numbers::{Post, StageNo};
 use pipe_types::topology::Kind;
