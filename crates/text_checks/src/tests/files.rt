@@ -1,28 +1,25 @@
 //! Topology files, with their faults or with what they leave to the defaults.
 
 use pipe_config::{ConfigFault, fault_number, read_topology};
-use pipe_types::topology::{
-    CancelMode, ChildMode, Dispatch, Keep, Kind, Role, Rule, StageSpec, Topology,
-};
-use std::alloc::Global;
+use std::alloc::{AllocError, Global};
 use std::process::Abort;
 
 /// The path of a fault, or `-` where it has none.
 fn path_of(fault: &ConfigFault) -> &str {
     match fault {
-        ConfigFault::Version(path) => path.as_str(),
-        ConfigFault::UnknownKey(path) => path.as_str(),
-        ConfigFault::Missing(path) => path.as_str(),
-        ConfigFault::WrongType(path) => path.as_str(),
-        ConfigFault::OutOfRange(path) => path.as_str(),
-        ConfigFault::DuplicateName(path) => path.as_str(),
-        ConfigFault::UnknownBatcher(path) => path.as_str(),
-        ConfigFault::BadDispatch(path) => path.as_str(),
-        ConfigFault::Unreachable(path) => path.as_str(),
-        ConfigFault::NotToml => "-",
-        ConfigFault::NoStage => "-",
-        ConfigFault::TooManyStages => "-",
-        ConfigFault::OutOfMemory => "-",
+        ConfigFault::Version(path)
+        | ConfigFault::UnknownKey(path)
+        | ConfigFault::Missing(path)
+        | ConfigFault::WrongType(path)
+        | ConfigFault::OutOfRange(path)
+        | ConfigFault::DuplicateName(path)
+        | ConfigFault::UnknownBatcher(path)
+        | ConfigFault::BadDispatch(path)
+        | ConfigFault::Unreachable(path) => path.as_str(),
+        ConfigFault::NotToml
+        | ConfigFault::NoStage
+        | ConfigFault::TooManyStages
+        | ConfigFault::OutOfMemory => "-",
     }
 }
 
@@ -531,116 +528,154 @@ static FILES: [(&str, u8, &str); 120] = [
     ),
 ];
 
+/// The number of the file's fault and its path, or of a file that is accepted 100 and `-`.
+fn told(alloc: Global, file: &str) -> Result<String, AllocError> {
+    match read_topology(alloc, file.as_bytes()) {
+        Ok(_) => String::from_str(alloc, "100 -"),
+        Err(fault) => format!(in alloc; "{} {}", fault_number(&fault), path_of(&fault)),
+    }
+}
+
+/// The file has this fault at this path, or is accepted.
+fn expect_told(
+    rt: &impl Abort,
+    alloc: Global,
+    file: &str,
+    number: u8,
+    path: &str,
+) -> Result<(), AllocError> {
+    let want = format!(in alloc; "{number} {path}")?;
+    let told = told(alloc, file)?;
+    assert_eq!(rt; told.as_str(), want.as_str(), "{file}");
+    Ok(())
+}
+
 #[test]
-fn a_file_is_accepted_or_has_its_first_fault(rt: HostRuntime) {
+fn a_file_is_accepted_or_has_its_first_fault(rt: HostRuntime) -> Result<(), AllocError> {
+    for &(file, number, path) in &FILES {
+        expect_told(&rt, rt.alloc(), file, number, path)?;
+    }
+    Ok(())
+}
+
+const ONE_STAGE: &str =
+    "version = 1\n[[producer]]\nname = \"p\"\nsource = \"mem:a\"\n[processors]\n";
+
+const SUPERVISOR: &str =
+    "version = 1\nproducer = [{name = \"p\", source = \"mem:a\"}]\n[supervisor]\nsteps = [\"crash !\"]\n";
+
+const BATCHERS: &str =
+    "version = 1\nproducer = [{name = \"p\", source = \"mem:a\"}]\n[processors]\nconcurrency = 1\npartition_by = 7\nsteps = [\"key 0\", \"route 2 c x\"]\n[[batcher]]\nname = \"b\"\n[[batcher]]\nname = \"c\"\nbatch_size = 7\nconcurrency = 2\ndispatch = \"partition\"\nsinks = [\"s\", \"t\"]\n";
+
+/// A file, the place of a stage and that stage.
+static STAGES: [(&str, usize, &str); 9] = [
+    (
+        ONE_STAGE,
+        0,
+        "StageSpec { no: StageNo(1), name: Text { text: \"p\" }, role: Producer, index: 0, batcher: 0, dispatch: Demand, parts: 0, field: 0, size: Some(10000), keep: Last, push: false, mode: Temporary, min: 0, max: 0, kind: Steps, rules: RuleList { items: [] }, failed: None, edge: Some(Text { text: \"mem:a\" }), batch_size: 0, batch_timeout: 0, child: Temporary, batchers: 0 }",
+    ),
+    (
+        ONE_STAGE,
+        2,
+        "StageSpec { no: StageNo(3), name: Text { text: \"processors.1\" }, role: Processor, index: 1, batcher: 0, dispatch: Demand, parts: 0, field: 0, size: None, keep: Last, push: false, mode: Temporary, min: 5, max: 10, kind: Steps, rules: RuleList { items: [] }, failed: None, edge: None, batch_size: 0, batch_timeout: 0, child: Temporary, batchers: 0 }",
+    ),
+    (
+        SUPERVISOR,
+        1,
+        "StageSpec { no: StageNo(2), name: Text { text: \"supervisor\" }, role: Supervisor, index: 0, batcher: 0, dispatch: Demand, parts: 0, field: 0, size: None, keep: Last, push: false, mode: Temporary, min: 5, max: 10, kind: Steps, rules: RuleList { items: [Crash(Bytes { bytes: [33] })] }, failed: None, edge: None, batch_size: 0, batch_timeout: 0, child: Temporary, batchers: 0 }",
+    ),
+    (
+        BATCHERS,
+        0,
+        "StageSpec { no: StageNo(1), name: Text { text: \"p\" }, role: Producer, index: 0, batcher: 0, dispatch: Partition, parts: 1, field: 7, size: Some(10000), keep: Last, push: false, mode: Temporary, min: 0, max: 0, kind: Steps, rules: RuleList { items: [] }, failed: None, edge: Some(Text { text: \"mem:a\" }), batch_size: 0, batch_timeout: 0, child: Temporary, batchers: 0 }",
+    ),
+    (
+        BATCHERS,
+        1,
+        "StageSpec { no: StageNo(2), name: Text { text: \"processors.0\" }, role: Processor, index: 0, batcher: 0, dispatch: Partition, parts: 2, field: 0, size: None, keep: Last, push: false, mode: Temporary, min: 5, max: 10, kind: Steps, rules: RuleList { items: [Key(0), Route(2, 1, Bytes { bytes: [120] })] }, failed: None, edge: None, batch_size: 0, batch_timeout: 0, child: Temporary, batchers: 2 }",
+    ),
+    (
+        BATCHERS,
+        2,
+        "StageSpec { no: StageNo(3), name: Text { text: \"b\" }, role: Batcher, index: 0, batcher: 0, dispatch: Demand, parts: 0, field: 0, size: None, keep: Last, push: false, mode: Temporary, min: 50, max: 100, kind: Steps, rules: RuleList { items: [] }, failed: None, edge: None, batch_size: 100, batch_timeout: 1000, child: Temporary, batchers: 0 }",
+    ),
+    (
+        BATCHERS,
+        3,
+        "StageSpec { no: StageNo(4), name: Text { text: \"c\" }, role: Batcher, index: 1, batcher: 1, dispatch: Partition, parts: 2, field: 0, size: None, keep: Last, push: false, mode: Temporary, min: 3, max: 7, kind: Steps, rules: RuleList { items: [] }, failed: None, edge: None, batch_size: 7, batch_timeout: 1000, child: Temporary, batchers: 0 }",
+    ),
+    (
+        BATCHERS,
+        4,
+        "StageSpec { no: StageNo(5), name: Text { text: \"b.0\" }, role: BatchProcessor, index: 0, batcher: 0, dispatch: Demand, parts: 0, field: 0, size: None, keep: Last, push: false, mode: Temporary, min: 0, max: 1, kind: Lines, rules: RuleList { items: [] }, failed: None, edge: None, batch_size: 0, batch_timeout: 0, child: Temporary, batchers: 0 }",
+    ),
+    (
+        BATCHERS,
+        6,
+        "StageSpec { no: StageNo(7), name: Text { text: \"c.1\" }, role: BatchProcessor, index: 1, batcher: 1, dispatch: Demand, parts: 0, field: 0, size: None, keep: Last, push: false, mode: Temporary, min: 0, max: 1, kind: Lines, rules: RuleList { items: [] }, failed: None, edge: Some(Text { text: \"t\" }), batch_size: 0, batch_timeout: 0, child: Temporary, batchers: 0 }",
+    ),
+];
+
+/// The stage at this place of a file that is accepted, or `none`.
+fn stage_in(alloc: Global, file: &str, place: usize) -> Result<String, AllocError> {
+    let Ok(topology) = read_topology(alloc, file.as_bytes()) else {
+        return String::from_str(alloc, "none");
+    };
+    match topology.stages.as_slice().get(place) {
+        Some(stage) => format!(in alloc; "{stage:?}"),
+        None => String::from_str(alloc, "none"),
+    }
+}
+
+#[test]
+fn what_a_stage_leaves_out_has_its_default(rt: HostRuntime) -> Result<(), AllocError> {
     let alloc = rt.alloc();
-    for (text, number, path) in &FILES {
-        match read_topology(alloc, text.as_bytes()) {
-            Ok(_) => assert_eq!(rt; *number, 100, "accepted: {text}"),
-            Err(fault) => {
-                assert_eq!(rt; fault_number(&fault), *number, "{text}");
-                assert!(rt; path_of(&fault) == *path, "{text}");
-            }
-        }
+    for (file, place, want) in &STAGES {
+        let stage = stage_in(alloc, file, *place)?;
+        assert_eq!(rt; stage.as_str(), *want, "at {place}");
     }
+    Ok(())
 }
 
-fn read(rt: &impl Abort, alloc: Global, text: &str) -> Topology {
-    read_topology(alloc, text.as_bytes()).expect(rt, "an accepted file")
-}
+/// Files, how many stages they have, and what they leave to the defaults.
+static PIPELINES: [(&str, &str); 3] = [
+    (
+        ONE_STAGE,
+        "3 stages, 3 restarts in 5000, idle 0, 200000 records of 67108864 bytes, control false",
+    ),
+    (
+        SUPERVISOR,
+        "2 stages, 3 restarts in 5000, idle 0, 200000 records of 67108864 bytes, control false",
+    ),
+    (
+        BATCHERS,
+        "7 stages, 3 restarts in 5000, idle 0, 200000 records of 67108864 bytes, control false",
+    ),
+];
 
-fn stage<'a>(rt: &impl Abort, topology: &'a Topology, place: usize) -> &'a StageSpec {
-    topology
-        .stages
-        .as_slice()
-        .get(place)
-        .expect(rt, "a stage at this place")
+/// What holds for the whole pipeline of a file that is accepted, or `none`.
+fn pipeline_in(alloc: Global, file: &str) -> Result<String, AllocError> {
+    let Ok(topology) = read_topology(alloc, file.as_bytes()) else {
+        return String::from_str(alloc, "none");
+    };
+    format!(in alloc;
+        "{} stages, {} restarts in {}, idle {}, {} records of {} bytes, control {}",
+        topology.stages.as_slice().len(),
+        topology.max_restarts,
+        topology.window_ms,
+        topology.idle_limit,
+        topology.record_limit,
+        topology.byte_limit,
+        topology.control.is_some()
+    )
 }
 
 #[test]
-fn defaults_of_one_stage(rt: HostRuntime) {
-    let text = "version = 1\n[[producer]]\nname = \"p\"\nsource = \"mem:a\"\n[processors]\n";
-    let topology = read(&rt, rt.alloc(), text);
-    assert_eq!(rt; topology.stages.as_slice().len(), 3);
-    assert_eq!(rt; topology.max_restarts, 3);
-    assert_eq!(rt; topology.window_ms, 5000);
-    assert_eq!(rt; topology.idle_limit, 0);
-    assert_eq!(rt; topology.record_limit, 200_000);
-    assert_eq!(rt; topology.byte_limit, 67_108_864);
-    assert!(rt; topology.control.is_none());
-    let producer = stage(&rt, &topology, 0);
-    assert_eq!(rt; producer.no.0, 1);
-    assert!(rt; producer.name.as_str() == "p");
-    assert_eq!(rt; producer.role, Role::Producer);
-    assert_eq!(rt; producer.size, Some(10_000));
-    assert_eq!(rt; producer.keep, Keep::Last);
-    assert!(rt; !producer.push);
-    let processor = stage(&rt, &topology, 2);
-    assert_eq!(rt; processor.no.0, 3);
-    assert!(rt; processor.name.as_str() == "processors.1");
-    assert_eq!(rt; processor.index, 1);
-    assert_eq!(rt; processor.min, 5);
-    assert_eq!(rt; processor.max, 10);
-    assert_eq!(rt; processor.mode, CancelMode::Temporary);
-    assert_eq!(rt; processor.kind, Kind::Steps);
-    assert!(rt; processor.failed.is_none());
-}
-
-#[test]
-fn defaults_of_a_supervisor(rt: HostRuntime) {
-    let text =
-        "version = 1\nproducer = [{name = \"p\", source = \"mem:a\"}]\n[supervisor]\nsteps = [\"crash !\"]\n";
-    let topology = read(&rt, rt.alloc(), text);
-    let supervisor = stage(&rt, &topology, 1);
-    assert_eq!(rt; supervisor.role, Role::Supervisor);
-    assert_eq!(rt; supervisor.max, 10);
-    assert_eq!(rt; supervisor.min, 5);
-    assert_eq!(rt; supervisor.child, ChildMode::Temporary);
-    assert_eq!(rt; supervisor.rules.as_slice().len(), 1);
-}
-
-#[test]
-fn defaults_of_a_batcher(rt: HostRuntime) {
-    let text =
-        "version = 1\nproducer = [{name = \"p\", source = \"mem:a\"}]\n[processors]\nconcurrency = 1\npartition_by = 7\nsteps = [\"key 0\", \"route 2 c x\"]\n[[batcher]]\nname = \"b\"\n[[batcher]]\nname = \"c\"\nbatch_size = 7\nconcurrency = 2\ndispatch = \"partition\"\nsinks = [\"s\", \"t\"]\n";
-    let topology = read(&rt, rt.alloc(), text);
-    assert_eq!(rt; topology.stages.as_slice().len(), 7);
-    let producer = stage(&rt, &topology, 0);
-    assert_eq!(rt; producer.dispatch, Dispatch::Partition);
-    assert_eq!(rt; producer.parts, 1);
-    assert_eq!(rt; producer.field, 7);
-    let processor = stage(&rt, &topology, 1);
-    assert_eq!(rt; processor.batchers, 2);
-    match processor.rules.as_slice().get(1) {
-        Some(Rule::Route(field, batcher, _)) => {
-            assert_eq!(rt; *field, 2);
-            assert_eq!(rt; *batcher, 1);
-        }
-        _ => assert!(rt; false, "no route"),
+fn what_a_pipeline_leaves_out_has_its_default(rt: HostRuntime) -> Result<(), AllocError> {
+    let alloc = rt.alloc();
+    for (file, want) in &PIPELINES {
+        let pipeline = pipeline_in(alloc, file)?;
+        assert_eq!(rt; pipeline.as_str(), *want);
     }
-    let batcher = stage(&rt, &topology, 2);
-    assert_eq!(rt; batcher.batch_size, 100);
-    assert_eq!(rt; batcher.batch_timeout, 1000);
-    assert_eq!(rt; batcher.max, 100);
-    assert_eq!(rt; batcher.min, 50);
-    assert_eq!(rt; batcher.dispatch, Dispatch::Demand);
-    let second = stage(&rt, &topology, 3);
-    assert_eq!(rt; second.max, 7);
-    assert_eq!(rt; second.min, 3);
-    assert_eq!(rt; second.parts, 2);
-    let first_of_first = stage(&rt, &topology, 4);
-    assert!(rt; first_of_first.name.as_str() == "b.0");
-    assert_eq!(rt; first_of_first.kind, Kind::Lines);
-    assert!(rt; first_of_first.edge.is_none());
-    let last = stage(&rt, &topology, 6);
-    assert_eq!(rt; last.no.0, 7);
-    assert!(rt; last.name.as_str() == "c.1");
-    assert_eq!(rt; last.batcher, 1);
-    assert_eq!(rt; last.max, 1);
-    match &last.edge {
-        Some(sink) => {
-            assert!(rt; sink.as_str() == "t");
-        }
-        None => assert!(rt; false, "no sink"),
-    }
+    Ok(())
 }

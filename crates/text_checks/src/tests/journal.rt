@@ -134,6 +134,21 @@ fn told(alloc: Global, journal: &Journal, at: u64) -> Result<String, AllocError>
     }
 }
 
+/// The step at that place is the one of this kind.
+fn expect_step(
+    rt: &impl Abort,
+    alloc: Global,
+    journal: &Journal,
+    at: u64,
+    kind: u64,
+) -> Result<(), AllocError> {
+    let step = step(alloc, kind)?;
+    let want = format!(in alloc; "{step:?}")?;
+    let got = told(alloc, journal, at)?;
+    assert_eq!(rt; got.as_str(), want.as_str(), "at {at}");
+    Ok(())
+}
+
 #[test]
 fn each_kind_of_step_comes_back_as_it_was(rt: HostRuntime) -> Result<(), AllocError> {
     let alloc = rt.alloc();
@@ -141,10 +156,7 @@ fn each_kind_of_step_comes_back_as_it_was(rt: HostRuntime) -> Result<(), AllocEr
     assert_eq!(rt; journal.len(), KINDS);
     assert!(rt; !journal.is_empty());
     for at in 0..KINDS {
-        let step = step(alloc, at)?;
-        let want = format!(in alloc; "{step:?}")?;
-        let got = told(alloc, &journal, at)?;
-        assert_eq!(rt; got.as_str(), want.as_str(), "at {at}");
+        expect_step(&rt, alloc, &journal, at, at)?;
     }
     assert_eq!(rt; told(alloc, &journal, KINDS)?.as_str(), "none");
     Ok(())
@@ -219,22 +231,24 @@ fn kept(journal: &mut Journal, first: Step, second: Step, third: Step) -> Result
     Ok(())
 }
 
+/// Keeps three steps of this kind.
+fn keep_three(alloc: Global, journal: &mut Journal, kind: u64) -> Result<(), AllocError> {
+    let first = step(alloc, kind)?;
+    let second = step(alloc, kind)?;
+    let third = step(alloc, kind)?;
+    kept(journal, first, second, third)
+}
+
 #[test]
 fn room_for_three_takes_three_of_any_kind(rt: HostRuntime) -> Result<(), AllocError> {
     let alloc = rt.alloc();
     let mut journal = Journal::new(alloc);
     for kind in &KEPT {
-        let first = step(alloc, *kind)?;
-        let second = step(alloc, *kind)?;
-        let third = step(alloc, *kind)?;
-        kept(&mut journal, first, second, third)?;
+        keep_three(alloc, &mut journal, *kind)?;
     }
     assert_eq!(rt; journal.len(), 18);
     for at in 0..18 {
-        let step = step(alloc, KEPT[at as usize / 3])?;
-        let want = format!(in alloc; "{step:?}")?;
-        let got = told(alloc, &journal, at)?;
-        assert_eq!(rt; got.as_str(), want.as_str(), "at {at}");
+        expect_step(&rt, alloc, &journal, at, KEPT[at as usize / 3])?;
     }
     Ok(())
 }
