@@ -5,10 +5,11 @@ use mem_edges::{
     CallList, MemClock, MemEdges, MemSink, MemSource, SinkAct, SinkScript, SourceAct, SourceScript,
 };
 use pipe_edges::{
-    ByteSink, ByteSource, Clock, EdgeEnd, Edges, Fetched, LineSource, PutEnd, ReadEnd, WriteEnd,
-    put_all,
+    ByteSink, ByteSource, Clock, Edges, Fetched, LineSource, PutEnd, ReadEnd, WriteEnd, put_all,
 };
+use pipe_types::bytes::Text;
 use std::alloc::{AllocError, Global};
+use std::process::Abort;
 use std::test::Fail;
 
 fn source_of(alloc: Global, bytes: &[u8], acts: &[SourceAct]) -> Result<MemSource, AllocError> {
@@ -224,62 +225,114 @@ fn three_names(alloc: Global, fails: CallList) -> Result<MemEdges, AllocError> {
     Ok(edges)
 }
 
+/// What a call by name asks for.
+#[derive(Clone, Copy, Debug)]
+enum Call {
+    Source,
+    Sink,
+    File,
+}
+
+/// Calls by name, where the third is to fail, and whether they are answered.
+static CALLS: [(Call, &str, bool); 6] = [
+    (Call::Source, "s", true),
+    // It is open.
+    (Call::Source, "s", false),
+    // The list has it.
+    (Call::File, "f", false),
+    // There is none.
+    (Call::Sink, "s", false),
+    (Call::File, "f", true),
+    (Call::Sink, "k", true),
+];
+
+/// Whether the call is answered.
+fn is_answered(
+    alloc: Global,
+    edges: &mut MemEdges,
+    call: Call,
+    name: &str,
+) -> Result<bool, AllocError> {
+    let name = text(alloc, name)?;
+    Ok(match call {
+        Call::Source => edges.open_source(&name).is_ok(),
+        Call::Sink => edges.open_sink(&name).is_ok(),
+        Call::File => edges.read_file(&name).is_ok(),
+    })
+}
+
 #[test]
 fn calls_by_name_fail_by_their_number_and_where_nothing_is_free(
     rt: HostRuntime,
 ) -> Result<(), Fail> {
     let alloc = rt.alloc();
     let mut edges = three_names(alloc, CallList::from_vec(vec![in alloc; 3]?))?;
-    let (s, k, f) = (text(alloc, "s")?, text(alloc, "k")?, text(alloc, "f")?);
-    assert!(rt; edges.open_source(&s).is_ok(), "call 1");
-    assert!(rt;
-        matches!(edges.open_source(&s), Err(EdgeEnd::Failed)),
-        "2 finds it open"
-    );
-    assert!(rt;
-        matches!(edges.read_file(&f), Err(EdgeEnd::Failed)),
-        "3 is in the list"
-    );
-    assert!(rt;
-        matches!(edges.open_sink(&s), Err(EdgeEnd::Failed)),
-        "4 finds no sink"
-    );
-    let Ok(file) = edges.read_file(&f) else {
-        return Err("call 5".into());
+    for &(call, name, is) in &CALLS {
+        let answered = is_answered(alloc, &mut edges, call, name)?;
+        assert_eq!(rt; answered, is, "{call:?} {name}");
+    }
+    Ok(())
+}
+
+#[test]
+fn a_file_and_a_sink_are_found_by_name(rt: HostRuntime) -> Result<(), Fail> {
+    let alloc = rt.alloc();
+    let mut edges = three_names(alloc, CallList::from_vec(Vec::new(alloc)))?;
+    let file = text(alloc, "f")?;
+    assert!(rt; edges.sink(&text(alloc, "k")?).is_some());
+    assert!(rt; edges.sink(&file).is_none());
+    let Ok(bytes) = edges.read_file(&file) else {
+        return Err("no file".into());
     };
-    assert_eq!(rt; file.as_slice(), b"x = 1".as_slice());
-    assert!(rt; edges.sink(&k).is_some());
-    assert!(rt; edges.sink(&f).is_none());
+    assert_eq!(rt; bytes.as_slice(), b"x = 1".as_slice());
     Ok(())
 }
 
 /// What a sink holds after each write.
 static HELD: [&[u8]; 2] = [b"> hi", b"> hihi"];
 
+/// Opens the source, reads a byte twice, and gives the source back.
+fn read_twice(edges: &mut MemEdges, name: &Text) -> Result<[ReadEnd; 2], Fail> {
+    let Ok(mut source) = edges.open_source(name) else {
+        return Err("no source".into());
+    };
+    let mut piece = [0; 4];
+    let reads = [source.read(&mut piece), source.read(&mut piece)];
+    edges.back_source(name, source)?;
+    Ok(reads)
+}
+
 #[test]
-fn what_is_given_back_opens_again(rt: HostRuntime) -> Result<(), Fail> {
+fn a_source_that_is_given_back_opens_again(rt: HostRuntime) -> Result<(), Fail> {
     let alloc = rt.alloc();
     let mut edges = three_names(alloc, CallList::from_vec(Vec::new(alloc)))?;
-    let (s, k) = (text(alloc, "s")?, text(alloc, "k")?);
-    let mut piece = [0; 4];
+    let name = text(alloc, "s")?;
     for _ in 0..2 {
-        let Ok(mut source) = edges.open_source(&s) else {
-            return Err("no source".into());
-        };
-        assert_eq!(rt; source.read(&mut piece), ReadEnd::Got(1));
-        assert_eq!(rt; source.read(&mut piece), ReadEnd::Got(1));
-        edges.back_source(&s, source)?;
+        let reads = read_twice(&mut edges, &name)?;
+        assert_eq!(rt; reads, [ReadEnd::Got(1), ReadEnd::Got(1)]);
     }
+    Ok(())
+}
+
+/// Opens the sink, which no one finds then, writes to it, and gives it back.
+fn write_once(rt: &impl Abort, edges: &mut MemEdges, name: &Text) -> Result<(), Fail> {
+    let Ok(mut sink) = edges.open_sink(name) else {
+        return Err("no sink".into());
+    };
+    assert!(rt; edges.sink(name).is_none());
+    assert_eq!(rt; sink.write(b"hi"), WriteEnd::Took(2));
+    edges.back_sink(name, sink)?;
+    Ok(())
+}
+
+#[test]
+fn a_sink_that_is_given_back_opens_again(rt: HostRuntime) -> Result<(), Fail> {
+    let alloc = rt.alloc();
+    let mut edges = three_names(alloc, CallList::from_vec(Vec::new(alloc)))?;
+    let name = text(alloc, "k")?;
     for held in &HELD {
-        let Ok(mut sink) = edges.open_sink(&k) else {
-            return Err("no sink".into());
-        };
-        assert!(rt; edges.sink(&k).is_none());
-        assert_eq!(rt; sink.write(b"hi"), WriteEnd::Took(2));
-        edges.back_sink(&k, sink)?;
-        let Some(back) = edges.sink(&k) else {
-            return Err("not back".into());
-        };
+        write_once(&rt, &mut edges, &name)?;
+        let back = edges.sink(&name).ok_or("not back")?;
         assert_eq!(rt; back.held().as_slice(), *held);
     }
     Ok(())

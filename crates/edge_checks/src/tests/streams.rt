@@ -2,7 +2,7 @@
 
 use super::{lines_of, open_sink, open_source};
 use file_socket_sinks::{RealEdges, RealOut, RealSource};
-use pipe_edges::{ByteSink, ByteSource, Fetched, PutEnd, ReadEnd, WriteEnd, put_all};
+use pipe_edges::{ByteSink, ByteSource, Fetched, LineSource, PutEnd, ReadEnd, WriteEnd, put_all};
 use pipe_types::bytes::Bytes;
 use std::alloc::{AllocError, Global};
 use std::os::unix::net::UnixStream;
@@ -57,6 +57,18 @@ fn a_file_is_read_in_many_pieces(rt: HostRuntime) -> Result<(), Fail> {
     Ok(())
 }
 
+/// What a fetch comes to, in a word.
+fn fetched<B: ByteSource>(lines: &mut LineSource<B>) -> Result<&'static str, AllocError> {
+    let fetched = lines.fetch(9)?;
+    Ok(match &fetched {
+        Fetched::Records(records) if records.as_slice().len() == 1 => "one",
+        Fetched::Records(_) => "more",
+        Fetched::NotYet => "not yet",
+        Fetched::End => "end",
+        Fetched::Fault | Fetched::TooLong => "fault",
+    })
+}
+
 #[test]
 fn what_would_wait_is_no_end(rt: HostRuntime) -> Result<(), Fail> {
     let alloc = rt.alloc();
@@ -64,17 +76,13 @@ fn what_would_wait_is_no_end(rt: HostRuntime) -> Result<(), Fail> {
     reader.set_nonblocking(true)?;
     let mut sink = RealOut::new(&rt, writer);
     let mut lines = lines_of(alloc, RealSource::new(reader))?;
-    assert!(rt; matches!(lines.fetch(9), Ok(Fetched::NotYet)));
+    assert_eq!(rt; fetched(&mut lines)?, "not yet");
     assert_eq!(rt; sink.write(b"a\nb"), WriteEnd::Took(3));
-    assert!(rt;
-        matches!(lines.fetch(9), Ok(Fetched::Records(records)) if records.as_slice().len() == 1)
-    );
-    assert!(rt; matches!(lines.fetch(9), Ok(Fetched::NotYet)));
+    assert_eq!(rt; fetched(&mut lines)?, "one");
+    assert_eq!(rt; fetched(&mut lines)?, "not yet");
     drop(sink);
-    assert!(rt;
-        matches!(lines.fetch(9), Ok(Fetched::Records(records)) if records.as_slice().len() == 1)
-    );
-    assert!(rt; matches!(lines.fetch(9), Ok(Fetched::End)));
+    assert_eq!(rt; fetched(&mut lines)?, "one");
+    assert_eq!(rt; fetched(&mut lines)?, "end");
     Ok(())
 }
 
