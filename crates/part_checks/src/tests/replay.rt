@@ -5,7 +5,7 @@ use pipe_replay::replay_plain;
 use pipe_types::bytes::{Bytes, BytesList};
 use pipe_types::message::{Loss, Message, Outcome, Place, Reply, ReplyList, Why};
 use pipe_types::numbers::{MsgNo, StageNo, SubNo};
-use pipe_types::state::{Life, PlaceRow, SubRow};
+use pipe_types::state::{Life, PlaceRow, PlainState, SubRow};
 use pipe_types::step::{DrainCause, LateAnswer, SourceHow, Step};
 use pipe_types::topology::CancelMode;
 use std::alloc::{AllocError, Global};
@@ -75,93 +75,104 @@ fn passed(alloc: Global) -> Result<Vec<Step>, AllocError> {
     Ok(steps)
 }
 
+/// The stage is killed while it has the line, its answer comes late, and it is restarted.
+fn killed(alloc: Global) -> Result<Vec<Step>, AllocError> {
+    let stage = StageNo(2);
+    let mut steps = taken(alloc)?;
+    steps.push(Step::Kill {
+        stage,
+        why: Why::Kill,
+    })?;
+    steps.push(Step::Tick { now: 7 })?;
+    steps.push(Step::Late {
+        stage,
+        slot: 0,
+        incarnation: 1,
+        answer: LateAnswer::Nothing,
+    })?;
+    steps.push(Step::Restart { stage })?;
+    Ok(steps)
+}
+
+/// The state after these steps of a producer and a temporary processor, or no state where they are not legal.
+fn state_after(alloc: Global, steps: &[Step]) -> Result<Option<PlainState>, AllocError> {
+    let topology = pair(alloc, CancelMode::Temporary)?;
+    replay_plain(alloc, &topology, steps)
+}
+
+/// The subscription of this generation: what was asked, sent and handled of it, and whether it is live.
+fn counts(generation: u32, of: [u64; 3], live: bool) -> SubRow {
+    let [asked, sent, handled] = of;
+    SubRow {
+        sub: sub(generation),
+        asked,
+        sent,
+        handled,
+        live,
+    }
+}
+
+fn first_message(place: Place) -> PlaceRow {
+    PlaceRow {
+        no: MsgNo(1),
+        producer: StageNo(1),
+        place,
+        at: 5,
+    }
+}
+
+fn living(stage: u16, incarnation: u32) -> Life {
+    Life {
+        stage: StageNo(stage),
+        incarnation,
+        live: true,
+    }
+}
+
 #[test]
 fn a_line_that_passes_is_successful(rt: HostRuntime) -> Result<(), Fail> {
     let alloc = rt.alloc();
-    let topology = pair(alloc, CancelMode::Temporary)?;
     let steps = passed(alloc)?;
-    assert_eq!(rt; steps.len(), 9);
-    let Some(state) = replay_plain(alloc, &topology, steps.as_slice())? else {
-        return Err("not legal".into());
-    };
-    let place = PlaceRow {
-        no: MsgNo(1),
-        producer: StageNo(1),
-        place: Place::Acked(Outcome::Successful),
-        at: 5,
-    };
-    let counts = SubRow {
-        sub: sub(1),
-        asked: 10,
-        sent: 1,
-        handled: 1,
-        live: true,
-    };
+    let state = state_after(alloc, &steps)?.ok_or("not legal")?;
+    let place = first_message(Place::Acked(Outcome::Successful));
     assert_eq!(rt; state.places.as_slice(), [place].as_slice());
-    assert_eq!(rt; state.subs.as_slice(), [counts].as_slice());
-    assert_eq!(rt; state.now, 0);
-    assert!(rt; state.draining);
-    assert!(rt; !state.halted);
+    assert_eq!(rt;
+        state.subs.as_slice(),
+        [counts(1, [10, 1, 1], true)].as_slice()
+    );
+    assert_eq!(rt; (state.now, state.draining, state.halted), (0, true, false));
+    Ok(())
+}
+
+#[test]
+fn a_fetch_that_no_one_asked_for_is_not_legal(rt: HostRuntime) -> Result<(), Fail> {
+    let steps = passed(rt.alloc())?;
+    assert_eq!(rt; steps.len(), 9);
     let without_ask = &steps.as_slice()[1..];
-    assert!(rt; replay_plain(alloc, &topology, without_ask)?.is_none());
+    assert!(rt; state_after(rt.alloc(), without_ask)?.is_none());
     Ok(())
 }
 
 #[test]
 fn a_late_answer_settles_nothing(rt: HostRuntime) -> Result<(), Fail> {
     let alloc = rt.alloc();
-    let topology = pair(alloc, CancelMode::Temporary)?;
-    let mut steps = taken(alloc)?;
-    steps.push(Step::Kill {
-        stage: StageNo(2),
-        why: Why::Kill,
-    })?;
-    steps.push(Step::Tick { now: 7 })?;
-    steps.push(Step::Late {
-        stage: StageNo(2),
-        slot: 0,
-        incarnation: 1,
-        answer: LateAnswer::Nothing,
-    })?;
-    steps.push(Step::Restart { stage: StageNo(2) })?;
-    let Some(state) = replay_plain(alloc, &topology, steps.as_slice())? else {
-        return Err("not legal".into());
-    };
-    let place = PlaceRow {
-        no: MsgNo(1),
-        producer: StageNo(1),
-        place: Place::Lost(Loss::Killed(StageNo(2), 1, Why::Kill)),
-        at: 5,
-    };
-    let closed = SubRow {
-        sub: sub(1),
-        asked: 10,
-        sent: 1,
-        handled: 0,
-        live: false,
-    };
-    let open = SubRow {
-        sub: sub(2),
-        asked: 0,
-        sent: 0,
-        handled: 0,
-        live: true,
-    };
-    let producer = Life {
-        stage: StageNo(1),
-        incarnation: 1,
-        live: true,
-    };
-    let restarted = Life {
-        stage: StageNo(2),
-        incarnation: 2,
-        live: true,
-    };
-    assert_eq!(rt; state.places.as_slice(), [place].as_slice());
-    assert_eq!(rt; state.subs.as_slice(), [closed, open].as_slice());
-    assert_eq!(rt; state.lives.as_slice(), [producer, restarted].as_slice());
+    let state = state_after(alloc, &killed(alloc)?)?.ok_or("not legal")?;
+    let lost = first_message(Place::Lost(Loss::Killed(StageNo(2), 1, Why::Kill)));
+    let subs = [counts(1, [10, 1, 0], false), counts(2, [0, 0, 0], true)];
+    assert_eq!(rt; state.places.as_slice(), [lost].as_slice());
+    assert_eq!(rt; state.subs.as_slice(), subs.as_slice());
+    assert_eq!(rt;
+        state.lives.as_slice(),
+        [living(1, 1), living(2, 2)].as_slice()
+    );
     assert_eq!(rt; state.now, 7);
+    Ok(())
+}
+
+#[test]
+fn a_live_stage_is_not_restarted(rt: HostRuntime) -> Result<(), Fail> {
+    let mut steps = killed(rt.alloc())?;
     steps.push(Step::Restart { stage: StageNo(2) })?;
-    assert!(rt; replay_plain(alloc, &topology, steps.as_slice())?.is_none());
+    assert!(rt; state_after(rt.alloc(), &steps)?.is_none());
     Ok(())
 }
