@@ -5,7 +5,8 @@ use mem_edges::{
     CallList, MemClock, MemEdges, MemSink, MemSource, SinkAct, SinkScript, SourceAct, SourceScript,
 };
 use pipe_edges::{
-    ByteSink, ByteSource, Clock, Edges, Fetched, LineSource, PutEnd, ReadEnd, WriteEnd, put_all,
+    ByteSink, ByteSource, Clock, EdgeEnd, Edges, Fetched, LineSource, PutEnd, ReadEnd, WriteEnd,
+    put_all,
 };
 use pipe_types::bytes::Text;
 use std::alloc::{AllocError, Global};
@@ -233,31 +234,39 @@ enum Call {
     File,
 }
 
-/// Calls by name, where the third is to fail, and whether they are answered.
-static CALLS: [(Call, &str, bool); 6] = [
-    (Call::Source, "s", true),
+/// Calls by name, where the third is to fail, and how they end.
+static CALLS: [(Call, &str, &str); 6] = [
+    (Call::Source, "s", "done"),
     // It is open.
-    (Call::Source, "s", false),
+    (Call::Source, "s", "failed"),
     // The list has it.
-    (Call::File, "f", false),
+    (Call::File, "f", "failed"),
     // There is none.
-    (Call::Sink, "s", false),
-    (Call::File, "f", true),
-    (Call::Sink, "k", true),
+    (Call::Sink, "s", "failed"),
+    (Call::File, "f", "done"),
+    (Call::Sink, "k", "done"),
 ];
 
-/// Whether the call is answered.
-fn is_answered(
+fn word_of<T>(answer: &Result<T, EdgeEnd>) -> &'static str {
+    match answer {
+        Ok(_) => "done",
+        Err(EdgeEnd::Failed) => "failed",
+        Err(EdgeEnd::OutOfMemory) => "out of memory",
+    }
+}
+
+/// How the call ends, in a word.
+fn end_of(
     alloc: Global,
     edges: &mut MemEdges,
     call: Call,
     name: &str,
-) -> Result<bool, AllocError> {
+) -> Result<&'static str, AllocError> {
     let name = text(alloc, name)?;
     Ok(match call {
-        Call::Source => edges.open_source(&name).is_ok(),
-        Call::Sink => edges.open_sink(&name).is_ok(),
-        Call::File => edges.read_file(&name).is_ok(),
+        Call::Source => word_of(&edges.open_source(&name)),
+        Call::Sink => word_of(&edges.open_sink(&name)),
+        Call::File => word_of(&edges.read_file(&name)),
     })
 }
 
@@ -267,9 +276,9 @@ fn calls_by_name_fail_by_their_number_and_where_nothing_is_free(
 ) -> Result<(), Fail> {
     let alloc = rt.alloc();
     let mut edges = three_names(alloc, CallList::from_vec(vec![in alloc; 3]?))?;
-    for &(call, name, is) in &CALLS {
-        let answered = is_answered(alloc, &mut edges, call, name)?;
-        assert_eq!(rt; answered, is, "{call:?} {name}");
+    for &(call, name, want) in &CALLS {
+        let end = end_of(alloc, &mut edges, call, name)?;
+        assert_eq!(rt; end, want, "{call:?} {name}");
     }
     Ok(())
 }

@@ -65,7 +65,8 @@ fn fetched<B: ByteSource>(lines: &mut LineSource<B>) -> Result<&'static str, All
         Fetched::Records(_) => "more",
         Fetched::NotYet => "not yet",
         Fetched::End => "end",
-        Fetched::Fault | Fetched::TooLong => "fault",
+        Fetched::Fault => "fault",
+        Fetched::TooLong => "too long",
     })
 }
 
