@@ -20,8 +20,8 @@ use Rattle.body_laws.specs.Ready.{There}
 use Rattle.edge_names.specs.Seen.{EdgesSeen}
 use Rattle.edge_names.specs.Opened.{call_in}
 use Rattle.pipe_config.specs.File.{topology_of_file}
-use Rattle.pipe_run.specs.Boxes.{AreBoxesLeft}
-use Rattle.pipe_run.specs.Outside.{IsOutside, IsSourceRead}
+use Rattle.pipe_top.specs.Boxes.{AreBoxesLeft}
+use Rattle.pipe_top.specs.Outside.{IsOutside, IsSourceRead}
 use Rattle.pipe_top.specs.Cases.{Case, Runs, InCase, IsNamedFile, case_of, file_name, for_topology, run_case, unless_short}
 use Rattle.pipe_top.specs.Runs.{OutsideSeen, IsCall, IsEndOf, IsOutsideOf}
 use Rattle.own_callback.specs.Came.{run_words, case_of_file}

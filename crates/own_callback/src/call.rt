@@ -11,7 +11,7 @@ ghost use Rattle.mem_edges.specs.MemSink.{held_by};
 ghost use Rattle.source_lines.specs.Cut.{AreFirstLines};
 ghost use Rattle.edge_names.specs.Opened.{call_in};
 ghost use Rattle.box_stock.specs.Lends.{kinds_of};
-ghost use Rattle.pipe_run.specs.Boxes.{AreBoxesLeft};
+ghost use Rattle.pipe_top.specs.Boxes.{AreBoxesLeft};
 ghost use Rattle.pipe_top.specs.Runs.{IsRunOrNone, IsEndOf, IsStatusOf, out_text};
 ghost use Rattle.own_callback.specs.Came.{run_words, case_of_file};
 

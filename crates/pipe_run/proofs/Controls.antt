@@ -5,8 +5,8 @@ use Rattle.pipe_types.specs.declared.topology.Topology.{Topology}
 use Rattle.pipe_model.specs.History.{History}
 use Rattle.run_claims.specs.Read.{HasNoControl}
 use Rattle.stage_bodies.specs.Seen.{LineSeen}
-use Rattle.control_lines.specs.Keeping.{IsFresh, KeepsControlPartly, KeepsLinesPartly}
-use Rattle.control_lines.proofs.Obeying.{control_read}
+use Rattle.stage_workers.specs.Keeping.{IsFresh, KeepsControlPartly, KeepsLinesPartly}
+use Rattle.stage_workers.proofs.Obeying.{control_read}
 use Rattle.edge_names.specs.Seen.{EdgesSeen}
 use Rattle.edge_names.specs.Controls.{control_call}
 use Rattle.edge_names.specs.Opened.{GivesLines, HasSource}

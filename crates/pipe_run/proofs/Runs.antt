@@ -9,13 +9,13 @@ use Rattle.pipe_model.specs.History.{History}
 use Rattle.pipe_model.specs.Legal.{happened, is_drain}
 use Rattle.pipe_model.specs.Moves.{jobs_out}
 use Rattle.stage_bodies.specs.Seen.{LineSeen, BodySeen}
-use Rattle.control_lines.specs.Keeping.{KeepsControlOn, KeepsControlPartly}
-use Rattle.control_lines.proofs.Kept.{kept_partly}
-use Rattle.stage_moves.specs.Clocks.{ClockSeen, KeepsClockOn, KeepsClockPartly}
-use Rattle.stage_rounds.specs.Rounds.{HasEnded}
-use Rattle.stage_rounds.specs.declared.run.RunEnd.{RunEnd}
-use Rattle.stage_rounds.specs.declared.run.RunEnd.TheVariants.{Drained, Halted}
-use Rattle.stage_pipes.specs.Seen.{PipeSeen}
+use Rattle.stage_workers.specs.Keeping.{KeepsControlOn, KeepsControlPartly}
+use Rattle.stage_workers.proofs.Kept.{kept_partly}
+use Rattle.stage_workers.specs.Clocks.{ClockSeen, KeepsClockOn, KeepsClockPartly}
+use Rattle.stage_workers.specs.Rounds.{HasEnded}
+use Rattle.stage_workers.specs.RunEnd.{RunEnd}
+use Rattle.stage_workers.specs.RunEnd.TheVariants.{Drained, Halted}
+use Rattle.stage_workers.specs.Seen.{PipeSeen}
 use Rattle.stage_workers.specs.Runs.{HasRun}
 use Rattle.edge_names.specs.Seen.{EdgesSeen}
 use Rattle.edge_names.specs.Controls.{IsGivenInPart, first_sources, first_sinks, named_control}

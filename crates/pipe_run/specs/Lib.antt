@@ -3,3 +3,4 @@ pub mod Boxes
 pub mod Whole
 pub mod Steps
 pub mod Parts
+pub use Rattle.stage_workers.specs.Clocks

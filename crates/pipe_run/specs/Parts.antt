@@ -2,9 +2,9 @@
 use Rattle.std.specs.Prelude.{None, length, option_map}
 use Rattle.pipe_edges.specs.declared.lines.LineSource.{LineSource}
 use Rattle.stage_bodies.specs.Seen.{BodySeen, LineSeen, body_at}
-use Rattle.stage_moves.specs.Clocks.{ClockSeen}
-use Rattle.stage_pipes.specs.Seen.{PipeSeen}
-use Rattle.stage_pipes.specs.declared.pipe.PipeParts.{PipeParts}
+use Rattle.stage_workers.specs.Clocks.{ClockSeen}
+use Rattle.stage_workers.specs.Seen.{PipeSeen}
+use Rattle.stage_workers.specs.PipeParts.{PipeParts}
 
 -- how the run ended stands beside them
 abbrev pub parts_seen : {B S C : Type 0} → (B → BodySeen) → (LineSource S → LineSeen) → (C → ClockSeen) → PipeParts B S C → PipeSeen

@@ -2,3 +2,5 @@ pub mod Cases
 pub mod Verdicts
 pub mod Runs
 pub mod Flows
+pub use Rattle.pipe_run.specs.Boxes
+pub use Rattle.pipe_run.specs.Outside

@@ -23,7 +23,7 @@ use Rattle.run_claims.specs.Kept.{KeepsClaims}
 use Rattle.run_claims.specs.Followed.{FollowsMoves}
 use Rattle.run_claims.specs.Read.{HasNoControl}
 use Rattle.stage_bodies.specs.Seen.{SourceSeen, SinkSeen, BoxSeen}
-use Rattle.stage_moves.specs.Clocks.{ClockSeen}
+use Rattle.pipe_run.specs.Clocks.{ClockSeen}
 use Rattle.edge_names.specs.Seen.{EdgesSeen}
 use Rattle.pipe_run.specs.Boxes.{AreBoxesLeft, AreSameBoxes}
 use Rattle.pipe_run.specs.Outside.{IsOutside, IsUnopened}

@@ -4,7 +4,7 @@ ghost use Rattle.std.specs.Prelude.{◌≡◌, ◌≢◌, ◌⊎◌, ◌≤◌, 
 ghost use Rattle.pipe_types.specs.Counts.{Rose};
 ghost use Rattle.program_words.specs.Refusals.{memory_line};
 ghost use Rattle.program_words.specs.Words.{command_of, texts_of, Flow, Check, Run};
-ghost use Rattle.stage_moves.specs.Clocks.{clock_seen};
+ghost use Rattle.pipe_run.specs.Clocks.{clock_seen};
 ghost use Rattle.box_stock.specs.Lends.{kinds_of};
 ghost use Rattle.topology_needs.specs.Needs.{boxes_in};
 ghost use Rattle.pipe_top.specs.Cases.{InCase};

@@ -23,8 +23,8 @@ use Rattle.body_laws.specs.Ready.{Ready, There, IsBodyAt}
 use Rattle.body_laws.proofs.Jobs.{begun_ready, ready_fits}
 use Rattle.body_laws.proofs.Laws.{silent_keeps, silent_ready, away_keeps, away_ready}
 use Rattle.core_jobs.specs.Begun.{IsBegun}
-use Rattle.control_lines.specs.Steps.{jobs_begun}
-use Rattle.control_lines.proofs.Kept.{job_keeps}
+use Rattle.stage_moves.specs.Steps.{jobs_begun}
+use Rattle.stage_moves.proofs.Kept.{job_keeps}
 use Rattle.job_laws.specs.Away.{IsAway}
 use Rattle.job_laws.proofs.Away.{leaves}
 use Rattle.job_laws.proofs.Outs.{put_out_once}

@@ -8,8 +8,8 @@ use Rattle.pipe_model.specs.Posts.{is_out}
 use Rattle.pipeline_turn.specs.Jobs.{IsUnanswered, IsOwnJob}
 use Rattle.stage_bodies.specs.Seen.{BodySeen, LineSeen}
 use Rattle.stage_bodies.specs.Posts.{place_at}
-use Rattle.control_lines.specs.Steps.{jobs_begun}
-use Rattle.control_lines.specs.Keeping.{KeepsControl}
+use Rattle.stage_moves.specs.Steps.{jobs_begun}
+use Rattle.stage_moves.specs.Keeping.{KeepsControl}
 
 -- the journal was only added to; no post that was out was answered but that of the job that came home, and the job that goes
 -- away is out, and was not before, if it is not the one that came home

@@ -12,7 +12,7 @@ ghost use Rattle.stage_bodies.specs.Jobs.{Fits};
 ghost use Rattle.stage_bodies.specs.Posts.{place_at};
 ghost use Rattle.body_laws.specs.Keeps.{Keeps};
 ghost use Rattle.body_laws.specs.Ready.{Ready};
-ghost use Rattle.control_lines.specs.Keeping.{KeepsControl, KeepsControlOn};
+ghost use Rattle.stage_moves.specs.Keeping.{KeepsControl, KeepsControlOn};
 ghost use Rattle.job_laws.specs.Away.{IsAway};
 ghost use Rattle.stage_moves.specs.Clocks.{ClockSeen, clock_seen, KeepsClock, KeepsClockOn};
 ghost use Rattle.stage_holds.specs.Answers.{with_answered};

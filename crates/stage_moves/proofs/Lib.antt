@@ -10,3 +10,5 @@ pub mod Goings
 pub mod Working
 pub mod Answering
 pub mod Turning
+pub use Rattle.control_lines.proofs.Kept
+pub use Rattle.control_lines.proofs.Obeying

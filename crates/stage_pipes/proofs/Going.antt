@@ -19,9 +19,9 @@ use Rattle.stage_bodies.specs.Posts.{place_at}
 use Rattle.body_laws.specs.Keeps.{Keeps}
 use Rattle.body_laws.specs.Ready.{Ready}
 use Rattle.body_laws.proofs.Posts.{out_has_post}
-use Rattle.control_lines.specs.Keeping.{KeepsControl, KeepsControlOn}
+use Rattle.stage_rounds.specs.Keeping.{KeepsControl, KeepsControlOn}
 use Rattle.job_laws.specs.Away.{IsAway}
-use Rattle.stage_moves.specs.Clocks.{ClockSeen, KeepsClock, KeepsClockOn}
+use Rattle.stage_rounds.specs.Clocks.{ClockSeen, KeepsClock, KeepsClockOn}
 use Rattle.stage_holds.specs.Answers.{with_answered}
 use Rattle.stage_holds.specs.Homes.{IsBack}
 use Rattle.stage_holds.specs.Holds.{AddsHold, AreHome}

@@ -11,9 +11,9 @@ use Rattle.body_laws.specs.Keeps.{Keeps, has_post}
 use Rattle.body_laws.specs.Ready.{IsFilled, Ready, There, IsBodyAt}
 use Rattle.body_laws.proofs.Rises.{rise_none}
 use Rattle.body_laws.proofs.Starts.{starts}
-use Rattle.control_lines.specs.Keeping.{IsFresh, KeepsControl}
-use Rattle.control_lines.proofs.Kept.{fresh_control}
-use Rattle.stage_moves.specs.Clocks.{ClockSeen, KeepsClock}
+use Rattle.stage_rounds.specs.Keeping.{IsFresh, KeepsControl}
+use Rattle.stage_rounds.proofs.Kept.{fresh_control}
+use Rattle.stage_rounds.specs.Clocks.{ClockSeen, KeepsClock}
 use Rattle.stage_pipes.specs.Away.{post_at, is_gone, away_in}
 use Rattle.stage_pipes.specs.Seen.{PipeSeen, away_of}
 use Rattle.stage_pipes.specs.Stems.{Stems}

@@ -4,3 +4,7 @@ pub mod Stems
 pub mod Jobs
 pub mod Rounds
 pub mod Rounded
+pub use Rattle.stage_rounds.specs.Clocks
+pub use Rattle.stage_rounds.specs.Going
+pub use Rattle.stage_rounds.specs.Keeping
+pub use Rattle.stage_rounds.specs.Obeyed

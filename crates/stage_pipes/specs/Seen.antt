@@ -6,7 +6,7 @@ use Rattle.pipe_types.specs.declared.topology.Topology.{Topology}
 use Rattle.pipe_model.specs.History.{History}
 use Rattle.pipe_edges.specs.declared.lines.LineSource.{LineSource}
 use Rattle.stage_bodies.specs.Seen.{BodySeen, LineSeen, body_at}
-use Rattle.stage_moves.specs.Clocks.{ClockSeen}
+use Rattle.stage_rounds.specs.Clocks.{ClockSeen}
 use Rattle.stage_rounds.specs.declared.run.RunEnd.{RunEnd}
 use Rattle.stage_pipes.specs.Away.{away_in}
 use Rattle.stage_pipes.specs.declared.pipe.Pipe.{Pipe}

@@ -10,8 +10,8 @@ use Rattle.stage_bodies.specs.Seen.{LineSeen}
 use Rattle.stage_bodies.specs.Posts.{place_at}
 use Rattle.body_laws.specs.Keeps.{Keeps, has_post}
 use Rattle.body_laws.specs.Ready.{Ready}
-use Rattle.control_lines.specs.Keeping.{KeepsControl, KeepsControlPartly}
-use Rattle.stage_moves.specs.Clocks.{ClockSeen, KeepsClock, KeepsClockPartly}
+use Rattle.stage_rounds.specs.Keeping.{KeepsControl, KeepsControlPartly}
+use Rattle.stage_rounds.specs.Clocks.{ClockSeen, KeepsClock, KeepsClockPartly}
 use Rattle.stage_rounds.specs.Rounds.{HasEnded}
 use Rattle.stage_rounds.specs.declared.run.RunEnd.{RunEnd}
 use Rattle.stage_pipes.specs.Seen.{PipeSeen}

@@ -4,8 +4,8 @@ ghost use Rattle.std.specs.Prelude.{◌≡◌, [], None, IfSome, option_map};
 ghost use Rattle.core_state.specs.Stands.{Stands};
 ghost use Rattle.stage_bodies.specs.Seen.{body_at, line_seen};
 ghost use Rattle.body_laws.specs.Ready.{IsFilled};
-ghost use Rattle.control_lines.specs.Keeping.{IsFresh};
-ghost use Rattle.stage_moves.specs.Clocks.{clock_seen};
+ghost use Rattle.stage_rounds.specs.Keeping.{IsFresh};
+ghost use Rattle.stage_rounds.specs.Clocks.{clock_seen};
 ghost use Rattle.stage_pipes.specs.Seen.{pipe_seen, away_of};
 ghost use Rattle.stage_pipes.specs.Stems.{Stems};
 
@@ -34,7 +34,7 @@ impl<B: Works, S: ByteSource, C: Clock> Held for Pipe<B, S, C> {
     ghost use Rattle.pipe_model.specs.Posts.{is_out};
     ghost use Rattle.core_state.specs.Stands.{Stands};
     ghost use Rattle.stage_bodies.specs.Seen.{line_seen};
-    ghost use Rattle.stage_moves.specs.Clocks.{clock_seen};
+    ghost use Rattle.stage_rounds.specs.Clocks.{clock_seen};
     ghost use Rattle.stage_pipes.specs.Seen.{pipe_seen, away_of};
     ghost use Rattle.stage_pipes.specs.Stems.{Stems};
 

@@ -9,7 +9,7 @@ ghost use Rattle.pipeline_turn.specs.Jobs.{IsUndone, IsUnanswered, IsOwnJob, Are
 ghost use Rattle.core_state.specs.Stands.{Stands};
 ghost use Rattle.stage_bodies.specs.Seen.{body_at, line_seen};
 ghost use Rattle.stage_bodies.specs.Posts.{place_at};
-ghost use Rattle.stage_moves.specs.Clocks.{clock_seen};
+ghost use Rattle.stage_rounds.specs.Clocks.{clock_seen};
 ghost use Rattle.stage_pipes.specs.declared.pipe.Pipe.{Pipe as PipeOf};
 ghost use Rattle.stage_pipes.specs.declared.shift.Round.{Round as RoundSeen};
 ghost use Rattle.stage_pipes.specs.declared.shift.Round.TheVariants.{Ended as EndedRound};
@@ -37,7 +37,7 @@ impl<B: Works, S: ByteSource, C: Clock> Shift for Pipe<B, S, C> {
     ghost use Rattle.pipeline_turn.specs.Jobs.{IsUndone, IsUnanswered, IsOwnJob, AreAway};
     ghost use Rattle.core_state.specs.Stands.{Stands};
     ghost use Rattle.stage_bodies.specs.Seen.{line_seen};
-    ghost use Rattle.stage_moves.specs.Clocks.{clock_seen};
+    ghost use Rattle.stage_rounds.specs.Clocks.{clock_seen};
     ghost use Rattle.stage_pipes.specs.declared.pipe.Pipe.{Pipe as PipeOf};
     ghost use Rattle.stage_pipes.specs.Jobs.{IsLoadOf, IsHomeOf};
     ghost use Rattle.stage_pipes.specs.Rounded.{Rounded};

@@ -28,9 +28,9 @@ use Rattle.body_laws.specs.Ready.{There, IsBodyAt, Ready}
 use Rattle.body_laws.proofs.Laws.{silent_keeps, silent_ready, away_keeps, away_ready, answer_keeps, answer_ready, step_puts_out, answers_self, names_slot, stage_low, NamesSlot}
 use Rattle.body_laws.proofs.Jobs.{begun_keeps, begun_ready}
 use Rattle.core_jobs.specs.Recorded.{with_answer}
-use Rattle.control_lines.specs.Steps.{jobs_begun}
-use Rattle.control_lines.specs.Keeping.{KeepsControl}
-use Rattle.control_lines.proofs.Kept.{job_keeps}
+use Rattle.stage_moves.specs.Steps.{jobs_begun}
+use Rattle.stage_moves.specs.Keeping.{KeepsControl}
+use Rattle.stage_moves.proofs.Kept.{job_keeps}
 use Rattle.stage_moves.specs.Going.{GoesOn, HasCallback}
 use Rattle.stage_rounds.specs.Rest.{IsAtRest}
 use Rattle.stage_moves.proofs.Controls.{other_step, other_count, job_count}

@@ -19,7 +19,7 @@ use Rattle.body_laws.proofs.Laws.{unrecorded_keeps, cut_keeps}
 use Rattle.body_laws.proofs.Allowed.{answer_allowed}
 use Rattle.core_jobs.specs.Begun.{IsBegun}
 use Rattle.core_jobs.specs.Recorded.{with_answer}
-use Rattle.control_lines.proofs.Kept.{job_keeps}
+use Rattle.stage_moves.proofs.Kept.{job_keeps}
 use Rattle.stage_moves.specs.Going.{GoesOn, Within, HasCallback}
 use Rattle.stage_rounds.specs.Rest.{IsAtRest}
 use Rattle.stage_moves.proofs.Working.{Began, began}

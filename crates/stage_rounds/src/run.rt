@@ -3,7 +3,7 @@
 ghost use Rattle.std.specs.Prelude.{◌≡◌, ◌≤◌, OnOk, IfOk, Option, option_map};
 ghost use Rattle.core_state.specs.Stands.{Stands};
 ghost use Rattle.stage_bodies.specs.Seen.{LineSeen, body_at, line_seen};
-ghost use Rattle.control_lines.specs.Keeping.{KeepsControl, KeepsControlOn};
+ghost use Rattle.stage_moves.specs.Keeping.{KeepsControl, KeepsControlOn};
 ghost use Rattle.stage_moves.specs.Going.{GoesOn};
 ghost use Rattle.stage_rounds.specs.Rest.{IsAtRest};
 ghost use Rattle.stage_moves.specs.Clocks.{ClockSeen, clock_seen, KeepsClock, KeepsClockOn};

@@ -8,10 +8,10 @@ use Rattle.pipe_model.specs.History.{History}
 use Rattle.run_claims.specs.Followed.{FollowsMoves}
 use Rattle.stage_bodies.specs.Seen.{LineSeen, BodySeen}
 use Rattle.body_laws.specs.Keeps.{has_post}
-use Rattle.control_lines.specs.Keeping.{KeepsControl, KeepsControlOn}
-use Rattle.control_lines.proofs.Kept.{kept_partly}
-use Rattle.stage_moves.specs.Clocks.{ClockSeen, KeepsClock, KeepsClockOn}
-use Rattle.stage_moves.specs.Going.{GoesOn}
+use Rattle.stage_pipes.specs.Keeping.{KeepsControl, KeepsControlOn}
+use Rattle.stage_pipes.proofs.Kept.{kept_partly}
+use Rattle.stage_pipes.specs.Clocks.{ClockSeen, KeepsClock, KeepsClockOn}
+use Rattle.stage_pipes.specs.Going.{GoesOn}
 use Rattle.stage_rounds.specs.Rounds.{HasEnded}
 use Rattle.stage_rounds.specs.declared.run.RunEnd.{RunEnd}
 use Rattle.stage_pipes.specs.Seen.{PipeSeen, away_of}

@@ -1,2 +1,4 @@
 mod Holding
 mod Ends
+pub use Rattle.stage_pipes.proofs.Kept
+pub use Rattle.stage_pipes.proofs.Obeying

@@ -3,8 +3,8 @@ use Rattle.std.specs.Prelude.{◌≡◌, ℕ, IsSome, IfOk, Result}
 use Rattle.std.specs.declared.alloc.AllocError.{AllocError}
 use Rattle.run_claims.specs.Followed.{FollowsMoves}
 use Rattle.body_laws.specs.Keeps.{Keeps}
-use Rattle.control_lines.specs.Keeping.{KeepsControlOn}
-use Rattle.stage_moves.specs.Clocks.{KeepsClockOn}
+use Rattle.stage_pipes.specs.Keeping.{KeepsControlOn}
+use Rattle.stage_pipes.specs.Clocks.{KeepsClockOn}
 use Rattle.stage_rounds.specs.Rounds.{HasEnded}
 use Rattle.stage_rounds.specs.declared.run.RunEnd.{RunEnd}
 use Rattle.stage_pipes.specs.Seen.{PipeSeen}

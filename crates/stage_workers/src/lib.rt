@@ -11,5 +11,7 @@ mod threads;
 mod worker;
 
 pub use run::run_workers;
+pub use stage_pipes::{Pipe, PipeParts};
+pub use stage_rounds::RunEnd;
 pub use threads::run_shifts;
 pub use worker::work;

@@ -3,7 +3,7 @@
 ghost use Rattle.std.specs.Prelude.{◌≡◌, ◌≤◌, [], None};
 ghost use Rattle.core_state.specs.Stands.{Stands};
 ghost use Rattle.stage_bodies.specs.Seen.{line_seen};
-ghost use Rattle.stage_moves.specs.Clocks.{clock_seen};
+ghost use Rattle.stage_pipes.specs.Clocks.{clock_seen};
 ghost use Rattle.stage_pipes.specs.Seen.{PipeSeen, pipe_seen, away_of};
 ghost use Rattle.stage_pipes.specs.Stems.{Stems};
 ghost use Rattle.stage_workers.specs.Runs.{HasRun};

@@ -1,8 +1,8 @@
 use Rattle.std.proofs.Common.{length, sym}
 use Rattle.std.specs.Prelude.{option_map}
 use Rattle.stage_bodies.specs.Seen.{body_at, line_seen}
-use Rattle.stage_moves.specs.Clocks.{clock_seen}
-use Rattle.stage_pipes.specs.Seen.{PipeSeen}
+use Rattle.stage_workers.specs.Clocks.{clock_seen}
+use Rattle.stage_workers.specs.Seen.{PipeSeen}
 use Rattle.stage_workers.specs.Runs.{HasRun}
 use Rattle.pipe_run.specs.Parts.{parts_seen}
 use Rattle.pipe_run.proofs.Runs.{ran_as, with_parts}

@@ -5,7 +5,7 @@ use Rattle.stage_bodies.specs.Seen.{body_at, line_seen}
 use Rattle.stage_bodies.specs.Posts.{place_at}
 use Rattle.body_laws.specs.Keeps.{Keeps}
 use Rattle.body_laws.specs.Ready.{Ready}
-use Rattle.control_lines.proofs.Kept.{jobless_keeps, kept_partly}
+use Rattle.stage_moves.proofs.Kept.{jobless_keeps, kept_partly}
 use Rattle.job_laws.specs.Away.{IsAway}
 use Rattle.stage_moves.specs.Going.{Within, Waits}
 use Rattle.stage_moves.specs.Clocks.{clock_seen}

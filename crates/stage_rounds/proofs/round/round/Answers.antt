@@ -4,7 +4,7 @@ use Rattle.pipe_model.specs.Moves.{move, Pause, jobs_out}
 use Rattle.work_laws.specs.Left.{work_left}
 use Rattle.move_laws.proofs.Laws.{pause_law}
 use Rattle.stage_bodies.specs.Seen.{body_at, line_seen}
-use Rattle.control_lines.proofs.Kept.{jobless_keeps}
+use Rattle.stage_moves.proofs.Kept.{jobless_keeps}
 use Rattle.stage_moves.specs.Going.{GoesOn, Within, Waits}
 use Rattle.stage_rounds.specs.Rest.{IsAtRest}
 use Rattle.stage_moves.specs.Clocks.{clock_seen}

@@ -2,7 +2,7 @@ use Rattle.std.proofs.Common.{◌≡◌}
 use Rattle.core_state.specs.Stands.{Stands}
 use Rattle.std.specs.Prelude.{Option, option_map}
 use Rattle.stage_bodies.specs.Seen.{LineSeen, body_at, line_seen}
-use Rattle.control_lines.specs.Keeping.{KeepsControl}
+use Rattle.stage_moves.specs.Keeping.{KeepsControl}
 use Rattle.stage_moves.specs.Going.{GoesOn}
 use Rattle.stage_rounds.specs.Rest.{IsAtRest}
 use Rattle.stage_moves.specs.Clocks.{ClockSeen, clock_seen, KeepsClock}

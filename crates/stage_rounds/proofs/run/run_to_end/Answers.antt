@@ -1,7 +1,7 @@
 use Rattle.std.proofs.Common.{subst}
 use Rattle.std.specs.Prelude.{option_map}
 use Rattle.stage_bodies.specs.Seen.{body_at, line_seen}
-use Rattle.control_lines.specs.Keeping.{KeepsControl, KeepsControlPartly}
+use Rattle.stage_moves.specs.Keeping.{KeepsControl, KeepsControlPartly}
 use Rattle.stage_moves.specs.Going.{GoesOn}
 use Rattle.stage_moves.proofs.Controls.{partly_on}
 use Rattle.stage_moves.proofs.Goings.{goes_then}

@@ -1,5 +1,5 @@
 use Rattle.stage_bodies.specs.Seen.{line_seen}
-use Rattle.stage_moves.specs.Clocks.{clock_seen}
+use Rattle.stage_pipes.specs.Clocks.{clock_seen}
 use Rattle.stage_pipes.specs.Seen.{pipe_seen}
 use Rattle.stage_workers.proofs.Ends.{has_ended}
 use Rattle.stage_workers.proofs.run.end_here.Goals as goal

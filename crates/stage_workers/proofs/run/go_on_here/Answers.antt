@@ -3,7 +3,7 @@ use Rattle.pipe_types.specs.declared.topology.Topology.{Topology}
 use Rattle.pipe_model.specs.Moves.{jobs_out}
 use Rattle.stage_bodies.specs.Seen.{body_at, line_seen}
 use Rattle.body_laws.specs.Ready.{Ready}
-use Rattle.stage_moves.specs.Clocks.{clock_seen}
+use Rattle.stage_pipes.specs.Clocks.{clock_seen}
 use Rattle.stage_pipes.specs.Seen.{pipe_seen}
 use Rattle.stage_workers.proofs.Ends.{cut_short, went_on}
 use Rattle.stage_workers.proofs.run.go_on_here.Goals as goal

@@ -1,7 +1,7 @@
 use Rattle.std.proofs.Common.{sym, subst, Err}
 use Rattle.core_state.specs.Stands.{Stands}
 use Rattle.stage_bodies.specs.Seen.{line_seen}
-use Rattle.stage_moves.specs.Clocks.{clock_seen}
+use Rattle.stage_pipes.specs.Clocks.{clock_seen}
 use Rattle.stage_pipes.specs.Seen.{pipe_seen}
 use Rattle.stage_workers.specs.Runs.{HasRun}
 use Rattle.stage_workers.proofs.Ends.{cut_short}

@@ -2,7 +2,7 @@ use Rattle.std.proofs.Common.{◌<◌, length, sym, subst, Some}
 use Rattle.std.specs.Prelude.{IfSome}
 use Rattle.stage_bodies.specs.Seen.{body_at, line_seen}
 use Rattle.stage_bodies.specs.Posts.{place_at}
-use Rattle.stage_moves.specs.Clocks.{clock_seen}
+use Rattle.stage_rounds.specs.Clocks.{clock_seen}
 use Rattle.stage_pipes.specs.Jobs.{IsBrought}
 use Rattle.stage_pipes.specs.Rounded.{Rounded}
 use Rattle.stage_pipes.specs.Seen.{pipe_seen}

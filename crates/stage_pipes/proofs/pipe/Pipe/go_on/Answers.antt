@@ -4,7 +4,7 @@ use Rattle.pipe_types.specs.declared.topology.Topology.{Topology}
 use Rattle.pipe_model.specs.Legal.{is_legal}
 use Rattle.pipe_model.specs.Moves.{is_drained, jobs_out}
 use Rattle.stage_bodies.specs.Seen.{body_at, line_seen}
-use Rattle.stage_moves.specs.Clocks.{clock_seen}
+use Rattle.stage_rounds.specs.Clocks.{clock_seen}
 use Rattle.stage_pipes.specs.Seen.{PipeSeen, pipe_seen}
 use Rattle.stage_pipes.proofs.Homing.{Brings, ready_first, within_first, back_first}
 use Rattle.stage_pipes.proofs.Going.{Held, holds_round}

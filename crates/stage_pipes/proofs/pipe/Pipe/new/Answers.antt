@@ -1,7 +1,7 @@
 use Rattle.std.proofs.Common.{refl, length, None}
 use Rattle.std.specs.Prelude.{option_map}
 use Rattle.stage_bodies.specs.Seen.{body_at, line_seen}
-use Rattle.stage_moves.specs.Clocks.{clock_seen}
+use Rattle.stage_rounds.specs.Clocks.{clock_seen}
 use Rattle.stage_pipes.specs.Seen.{PipeSeen}
 use Rattle.stage_pipes.proofs.Starts.{stems_itself, none_away}
 use Rattle.stage_pipes.proofs.pipe.Pipe.new.Goals as goal

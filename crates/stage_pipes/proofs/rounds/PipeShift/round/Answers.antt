@@ -1,5 +1,5 @@
 use Rattle.stage_bodies.specs.Seen.{line_seen}
-use Rattle.stage_moves.specs.Clocks.{clock_seen}
+use Rattle.stage_rounds.specs.Clocks.{clock_seen}
 use Rattle.stage_pipes.specs.Seen.{pipe_seen}
 use Rattle.stage_pipes.proofs.rounds.PipeShift.round.Goals as goal
 
