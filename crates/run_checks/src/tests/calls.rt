@@ -10,7 +10,7 @@ use super::generated::{Case, Lines};
 use body_jobs::Body;
 use mem_edges::{CallList, MemClock, MemEdges, MemSink, MemSource, SinkScript, SourceScript};
 use pipe_journal::Journal;
-use pipe_top::run_program;
+use pipe_top::{RunEnd, run_program};
 use pipe_types::bytes::{Bytes, Text};
 use pipe_types::step::Step;
 use stage_callback::{Callback, LinesBox, StepsBox};
@@ -41,33 +41,63 @@ pub(super) fn call<R: Threads + Wait + Sync>(
     workers: u16,
 ) -> Result<Came, AllocError> {
     let mut edges = edges_of(alloc, case)?;
+    let mut out = sink_of(alloc)?;
+    let mut err = sink_of(alloc)?;
+    let told = call_on(rt, alloc, workers, case.nap, &mut edges, &mut out, &mut err)?;
+    Ok(Came {
+        status: told.status,
+        out,
+        err,
+        steps: told.steps,
+    })
+}
+
+/// What the answer of a call tells.
+#[derive(Drop)]
+struct Told {
+    status: u8,
+    steps: Vec<Step>,
+}
+
+fn call_on<R: Threads + Wait + Sync>(
+    rt: &R,
+    alloc: Global,
+    workers: u16,
+    nap: u64,
+    edges: &mut MemEdges,
+    out: &mut MemSink,
+    err: &mut MemSink,
+) -> Result<Told, AllocError> {
     let command = format!(in alloc; "run t --acks --steps --workers {workers}")?;
     let words = words_of(alloc, command.as_str())?;
     let stock = stock_of(alloc)?;
-    let mut out = sink_of(alloc)?;
-    let mut err = sink_of(alloc)?;
-    let end = run_program::<
-        R,
-        MemEdges,
-        Box<dyn Callback + Send>,
-        Body<MemSource, MemSink>,
-        MemClock,
-    >(
-        rt,
-        alloc,
-        &words,
-        stock,
-        &mut edges,
-        clock(case.nap),
-        &mut out,
-        &mut err,
-    );
-    Ok(Came {
+    let end = end_of(rt, alloc, &words, stock, edges, nap, out, err);
+    Ok(Told {
         status: end.status,
-        out,
-        err,
         steps: steps_of(alloc, &end.journal)?,
     })
+}
+
+fn end_of<R: Threads + Wait + Sync>(
+    rt: &R,
+    alloc: Global,
+    words: &Vec<String>,
+    stock: Vec<Box<dyn Callback + Send>>,
+    edges: &mut MemEdges,
+    nap: u64,
+    out: &mut MemSink,
+    err: &mut MemSink,
+) -> RunEnd<Box<dyn Callback + Send>, MemClock> {
+    run_program::<R, MemEdges, Box<dyn Callback + Send>, Body<MemSource, MemSink>, MemClock>(
+        rt,
+        alloc,
+        words,
+        stock,
+        edges,
+        clock(nap),
+        out,
+        err,
+    )
 }
 
 /// What was written.
