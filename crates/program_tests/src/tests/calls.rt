@@ -13,7 +13,7 @@ use mem_edges::{
 };
 use pipe_edges::Edges;
 use pipe_journal::Journal;
-use pipe_top::run_program;
+use pipe_top::{RunEnd, run_program};
 use pipe_types::bytes::{Bytes, Text};
 use pipe_types::topology::Kind;
 use stage_callback::{Callback, LinesBox, StepsBox};
@@ -61,39 +61,95 @@ pub(super) fn call<R: Threads + Wait + Sync>(
     row: &Row<'_>,
 ) -> Result<Came, AllocError> {
     let mut edges = edges_of(alloc, row)?;
-    let source = text_of(alloc, row.source)?;
-    let words = words_of(alloc, words)?;
-    let stock = stock_of(alloc, row.steps_boxes, row.lines_boxes)?;
     let mut out = sink_of(alloc, row.out_acts)?;
     let mut err = sink_of(alloc, row.err_acts)?;
-    let end = run_program::<
-        R,
-        MemEdges,
-        Box<dyn Callback + Send>,
-        Body<MemSource, MemSink>,
-        MemClock,
-    >(
-        rt,
-        alloc,
-        &words,
-        stock,
-        &mut edges,
-        clock(row.nap),
-        &mut out,
-        &mut err,
-    );
+    let told = call_on(rt, alloc, words, row, &mut edges, &mut out, &mut err)?;
+    let back = back_of(alloc, row.source, edges)?;
     Ok(Came {
-        status: end.status,
+        status: told.status,
         out,
         err,
+        ran: told.ran,
+        steps: told.steps,
+        accepted: told.accepted,
+        s: back.s,
+        t: back.t,
+        free: back.free,
+        same_stock: told.same_stock,
+    })
+}
+
+/// What the answer of a call tells.
+#[derive(Clone, Copy)]
+struct Told {
+    status: u8,
+    ran: bool,
+    steps: u64,
+    accepted: usize,
+    same_stock: bool,
+}
+
+fn call_on<R: Threads + Wait + Sync>(
+    rt: &R,
+    alloc: Global,
+    words: &str,
+    row: &Row<'_>,
+    edges: &mut MemEdges,
+    out: &mut MemSink,
+    err: &mut MemSink,
+) -> Result<Told, AllocError> {
+    let words = words_of(alloc, words)?;
+    let stock = stock_of(alloc, row.steps_boxes, row.lines_boxes)?;
+    let end = end_of(rt, alloc, &words, stock, edges, row.nap, out, err);
+    Ok(Told {
+        status: end.status,
         ran: end.topology.is_some(),
         steps: end.journal.len(),
         accepted: accepted_in(&end.journal),
-        s: held_under(alloc, &edges, "mem:s")?,
-        t: held_under(alloc, &edges, "mem:t")?,
-        free: edges.open_source(&source).is_ok(),
         same_stock: is_stock(&end.stock, row.steps_boxes, row.lines_boxes),
     })
+}
+
+fn end_of<R: Threads + Wait + Sync>(
+    rt: &R,
+    alloc: Global,
+    words: &Vec<String>,
+    stock: Vec<Box<dyn Callback + Send>>,
+    edges: &mut MemEdges,
+    nap: u64,
+    out: &mut MemSink,
+    err: &mut MemSink,
+) -> RunEnd<Box<dyn Callback + Send>, MemClock> {
+    run_program::<R, MemEdges, Box<dyn Callback + Send>, Body<MemSource, MemSink>, MemClock>(
+        rt,
+        alloc,
+        words,
+        stock,
+        edges,
+        clock(nap),
+        out,
+        err,
+    )
+}
+
+/// What the sinks hold, and whether the source can be opened again.
+#[derive(Drop)]
+struct Back {
+    s: Option<String>,
+    t: Option<String>,
+    free: bool,
+}
+
+fn back_of(alloc: Global, source: &str, edges: MemEdges) -> Result<Back, AllocError> {
+    let s = held_under(alloc, &edges, "mem:s")?;
+    let t = held_under(alloc, &edges, "mem:t")?;
+    let free = is_free(alloc, source, edges)?;
+    Ok(Back { s, t, free })
+}
+
+fn is_free(alloc: Global, source: &str, mut edges: MemEdges) -> Result<bool, AllocError> {
+    let source = text_of(alloc, source)?;
+    Ok(edges.open_source(&source).is_ok())
 }
 
 /// What was written.
@@ -141,28 +197,42 @@ fn words_of(alloc: Global, text: &str) -> Result<Vec<String>, AllocError> {
 }
 
 fn edges_of(alloc: Global, row: &Row<'_>) -> Result<MemEdges, AllocError> {
-    let mut edges = edges_without_sources(alloc, row)?;
-    let source = source_of(alloc, lines_of(alloc, row.many, row.lines)?, row.acts)?;
-    edges.add_source(text_of(alloc, row.source)?, source)?;
+    let file = file_of(alloc, row)?;
+    let mut edges = edges_without_sources(alloc, row.fails, file, row.s_acts, row.t_acts)?;
+    edges.add_source(text_of(alloc, row.source)?, first_source(alloc, row)?)?;
     if row.source != "mem:b" {
-        let source = source_of(
-            alloc,
-            lines_of(alloc, row.many_more, row.more_lines)?,
-            row.more_acts,
-        )?;
-        edges.add_source(text_of(alloc, "mem:b")?, source)?;
+        edges.add_source(text_of(alloc, "mem:b")?, second_source(alloc, row)?)?;
     }
     Ok(edges)
 }
 
-fn edges_without_sources(alloc: Global, row: &Row<'_>) -> Result<MemEdges, AllocError>
+fn first_source(alloc: Global, row: &Row<'_>) -> Result<MemSource, AllocError>
+    ensures { IfOk result IsUnread }
+{
+    source_of(alloc, lines_of(alloc, row.many, row.lines)?, row.acts)
+}
+
+fn second_source(alloc: Global, row: &Row<'_>) -> Result<MemSource, AllocError>
+    ensures { IfOk result IsUnread }
+{
+    let lines = lines_of(alloc, row.many_more, row.more_lines)?;
+    source_of(alloc, lines, row.more_acts)
+}
+
+fn edges_without_sources(
+    alloc: Global,
+    fails: &[u64],
+    file: Bytes,
+    s_acts: &[SinkAct],
+    t_acts: &[SinkAct],
+) -> Result<MemEdges, AllocError>
     ensures { IfOk result (λ edges. (name : List ℕ) → IsNew edges EdgeKind.Source name) }
 {
-    let fails = CallList::from_vec(Vec::from_slice(alloc, row.fails)?);
+    let fails = CallList::from_vec(Vec::from_slice(alloc, fails)?);
     let mut edges = MemEdges::new(alloc, fails);
-    edges.add_file(text_of(alloc, "t")?, file_of(alloc, row)?)?;
-    edges.add_sink(text_of(alloc, "mem:s")?, sink_of(alloc, row.s_acts)?)?;
-    edges.add_sink(text_of(alloc, "mem:t")?, sink_of(alloc, row.t_acts)?)?;
+    edges.add_file(text_of(alloc, "t")?, file)?;
+    edges.add_sink(text_of(alloc, "mem:s")?, sink_of(alloc, s_acts)?)?;
+    edges.add_sink(text_of(alloc, "mem:t")?, sink_of(alloc, t_acts)?)?;
     Ok(edges)
 }
 

@@ -38,7 +38,8 @@ const ABSENT: Row<'static> = Row {
     ..PLAIN
 };
 
-static ROWS: [Row<'static>; 41] = [
+/// What is no topology file, and keys that are unknown, missing, of another type or out of their range.
+static KEYS: [Row<'static>; 11] = [
     Row {
         keys: "version = 1\n[[producer]]\nname = \"p\"\nsource = \"mem:a",
         err: "topology 1 -\n",
@@ -93,6 +94,16 @@ static ROWS: [Row<'static>; 41] = [
         err: "topology 6 processors.steps.1\n",
         ..REFUSED
     },
+];
+
+#[test]
+fn a_file_is_refused_for_its_keys(rt: HostRuntime) -> Result<(), Fail> {
+    run_rows(&rt, rt.alloc(), &KEYS)?;
+    Ok(())
+}
+
+/// Names that stand twice or are unknown, and stages that do not go together.
+static FORMS: [Row<'static>; 9] = [
     Row {
         keys: "version = 1\nproducer = [{name = 'p', source = 'mem:a'}, {name = 'p', source = 'mem:a'}]\nprocessors = {}",
         err: "topology 7 producer.1.name\n",
@@ -138,6 +149,16 @@ static ROWS: [Row<'static>; 41] = [
         err: "topology 12 batcher.1\n",
         ..REFUSED
     },
+];
+
+#[test]
+fn a_file_is_refused_for_its_form(rt: HostRuntime) -> Result<(), Fail> {
+    run_rows(&rt, rt.alloc(), &FORMS)?;
+    Ok(())
+}
+
+/// The first kind of box of which there are too few.
+static SHORTAGES: [Row<'static>; 10] = [
     Row {
         keys: "concurrency = 1",
         steps_boxes: 0,
@@ -216,6 +237,16 @@ static ROWS: [Row<'static>; 41] = [
         steps: Some(0),
         ..PLAIN
     },
+];
+
+#[test]
+fn a_kind_that_is_short_is_named(rt: HostRuntime) -> Result<(), Fail> {
+    run_rows(&rt, rt.alloc(), &SHORTAGES)?;
+    Ok(())
+}
+
+/// What is not there, be it a file or a source.
+static ABSENCES: [Row<'static>; 9] = [
     Row {
         words: &["check u"],
         err: "edge u\n",
@@ -264,7 +295,16 @@ static ROWS: [Row<'static>; 41] = [
         err: "edge t\n",
         ..ABSENT
     },
-    // A topology file has a limit of 1,048,576 bytes.
+];
+
+#[test]
+fn what_is_not_there_is_named(rt: HostRuntime) -> Result<(), Fail> {
+    run_rows(&rt, rt.alloc(), &ABSENCES)?;
+    Ok(())
+}
+
+/// A topology file has a limit of 1,048,576 bytes.
+static SIZES: [Row<'static>; 2] = [
     Row {
         words: &["check t"],
         keys: "#",
@@ -283,7 +323,7 @@ static ROWS: [Row<'static>; 41] = [
 ];
 
 #[test]
-fn what_is_refused_or_not_there_is_named(rt: HostRuntime) -> Result<(), Fail> {
-    run_rows(&rt, rt.alloc(), &ROWS)?;
+fn a_file_has_a_limit(rt: HostRuntime) -> Result<(), Fail> {
+    run_rows(&rt, rt.alloc(), &SIZES)?;
     Ok(())
 }
