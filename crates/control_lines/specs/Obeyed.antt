@@ -18,7 +18,8 @@ AreTried waits before = (jobs_begun before ≤ controls before + waits) ⊎ (2 ^
 
 -- the control steps are, one for one and in order, the readings of the first lines of what the source gave and has left: of all
 -- lines, none too long, where it ended; of all before the first that is too long, where it ended so. A fault has its cause in the
--- source, whose counts were 0 when it was opened; and until it ended, it was read before each job
+-- source, whose counts were 0 when it was opened; and up to its end no more jobs were begun than there are control steps and
+-- waits
 pub record IsControlRead (topology : Topology) (before : History) (source : SourceSeen) : Type 0 where
   pub obeyed : IsTrue source.told → IsObeyed topology before (source.taken ++ source.left)
   pub whole : IsTrue source.told → source_end before (stage 0) ≡ Some End → HasShortLines (source.taken ++ source.left)

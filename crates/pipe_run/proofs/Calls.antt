@@ -1,5 +1,5 @@
 -- The calls that a run makes by name, and those that it gives up after.
-use Rattle.std.proofs.Common.{◌≡◌, ℕ, suc, ◌+◌, ◌∷◌, ◌++◌, List, [], take, drop, length, Bool, arith, ap, sym, ◌∙◌, subst, inl, inr}
+use Rattle.std.proofs.Common.{◌≡◌, ℕ, suc, ◌+◌, ◌∷◌, ◌++◌, List, [], take, drop, length, Bool, arith, refl, ap, sym, ◌∙◌, subst, inl, inr}
 use Rattle.std.specs.Prelude.{IsTrue, Option, Some, None, option_map}
 use Rattle.std.proofs.lemmas.List.{append_assoc}
 use Rattle.pipe_types.specs.declared.topology.Topology.{Topology}
@@ -12,12 +12,13 @@ use Rattle.edge_names.specs.Opened.{Asks, IsOneFailed, calls_of, edge_calls, one
 use Rattle.edge_names.specs.Returned.{GivesBack}
 use Rattle.edge_names.proofs.Undoes.{calls_parts}
 use Rattle.box_stock.specs.Lends.{AreHandedOut}
-use Rattle.pipe_run.specs.Outside.{AreAsked, AreUsed, HasControl, IsControlUnopened, IsOutside, IsStageUnopened, IsUnopened}
-use Rattle.pipe_run.specs.Whole.{IsAskedUntil}
+use Rattle.pipe_run.specs.Outside.{AreAsked, AreUsed, HasControl, IsControlUnopened, IsOutside, IsStageUnopened}
+use Rattle.pipe_run.specs.Whole.{HasFailed}
 
-unopened_control : (topology : Topology) (name : List ℕ) (old new : EdgesSeen) → IsOneFailed (control_call topology.control) name old new → IsControlUnopened topology name old new
+unopened_control : (topology : Topology) (name : List ℕ) (old new : EdgesSeen) → IsOneFailed (control_call topology.control) name old new → IsControlUnopened topology name (edge_calls topology) old new
 unopened_control topology name old new failed = record {
   call = named topology.control failed.is;
+  to_come = refl;
   sources = failed.asks.sources;
   sinks = failed.asks.sinks;
 }
@@ -26,13 +27,15 @@ unopened_control topology name old new failed = record {
     named (Some n) is = ap (option_map (λ (call : EdgeKind × List ℕ). call.1)) is
     named None is = cc
 
-unopened_stage : (topology : Topology) (name : List ℕ) (start : ℕ → Option BodySeen) (old new : EdgesSeen) → AreHandedOut topology start → IsStageUndone topology name start old new → IsStageUnopened topology name old new
+unopened_stage : (topology : Topology) (name : List ℕ) (start : ℕ → Option BodySeen) (old new : EdgesSeen) → AreHandedOut topology start → (u : IsStageUndone topology name start old new)
+    → IsStageUnopened topology name (calls_of (drop (u.at + 1) topology.stages)) old new
 unopened_stage topology name start old new handed u = record {
   at = u.at;
   kind = u.kind;
   spec = u.spec;
   here = u.here;
   call = u.call;
+  to_come = refl;
   control = u.control;
   unread = u.lines;
   start = start;
@@ -43,20 +46,17 @@ unopened_stage topology name start old new handed u = record {
   sinks = u.sinks;
 }
 
-pub unopened : (topology : Topology) (name : List ℕ) (start : ℕ → Option BodySeen) (old new : EdgesSeen) → AreHandedOut topology start → IsUndone topology name start old new → IsUnopened topology name old new
-unopened topology name start old new handed (inl failed) = inl (unopened_control topology name old new failed)
-unopened topology name start old new handed (inr u) = inr (unopened_stage topology name start old new handed u)
-
-pub asked_until : (topology : Topology) (name : List ℕ) (start : ℕ → Option BodySeen) (old new : EdgesSeen) → IsUndone topology name start old new → IsAskedUntil topology name old new
-asked_until topology name start old new (inl failed) = record {
+pub failed_by : (topology : Topology) (name : List ℕ) (start : ℕ → Option BodySeen) (old new : EdgesSeen) → AreHandedOut topology start → IsUndone topology name start old new → HasFailed topology name old new
+failed_by topology name start old new handed (inl failed) = record {
   kind = failed.kind;
   front = [];
   rest = edge_calls topology;
   calls = ap (λ (call : Option (EdgeKind × List ℕ)). one call ++ edge_calls topology) failed.is;
   asks = record { same_telling = failed.asks.same_telling; asked = failed.asks.asked; faults_stay = failed.asks.faults_stay };
   fault = failed.fault;
+  back = inl (unopened_control topology name old new failed);
 }
-asked_until topology name start old new (inr u) =
+failed_by topology name start old new handed (inr u) =
     let first = one (control_call topology.control) in
     let before = calls_of (take u.at topology.stages) in
     let after = calls_of (drop (u.at + 1) topology.stages) in
@@ -73,6 +73,7 @@ asked_until topology name start old new (inr u) =
         faults_stay = u.faults_stay;
       };
       fault = u.fault;
+      back = inr (unopened_stage topology name start old new handed u);
     }
 
 -- what was opened was asked for, and nothing more

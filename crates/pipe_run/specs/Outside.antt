@@ -1,5 +1,5 @@
 -- What a run read of its sources, and wrote to its sinks.
-use Rattle.std.specs.Prelude.{◌≡◌, ◌≤◌, ◌⊎◌, ◌++◌, ℕ, suc, Bool, true, false, List, [], length, slice_get, All, IsTrue, Option, Some, None}
+use Rattle.std.specs.Prelude.{◌≡◌, ◌≤◌, ◌⊎◌, ◌+◌, ◌++◌, ℕ, suc, drop, Bool, true, false, List, [], length, slice_get, All, IsTrue, Option, Some, None}
 use Rattle.pipe_types.specs.Counts.{Rose}
 use Rattle.pipe_types.specs.declared.numbers.StageNo.{StageNo}
 use Rattle.pipe_types.specs.declared.step.SourceHow.TheVariants.{End, Fault, TooLong}
@@ -22,7 +22,7 @@ use Rattle.body_laws.specs.Ready.{There}
 use Rattle.stage_workers.specs.Obeyed.{IsControlRead}
 use Rattle.edge_names.specs.Seen.{EdgesSeen}
 use Rattle.edge_names.specs.Named.{GivesSource, GivesSink}
-use Rattle.edge_names.specs.Opened.{AreOpened, HasSource, call_in, edge_call}
+use Rattle.edge_names.specs.Opened.{AreOpened, HasSource, call_in, calls_of, edge_call, edge_calls}
 use Rattle.edge_names.specs.Returned.{source_in, sink_in, sources_of, sinks_of}
 use Rattle.edge_names.specs.Controls.{control_call, named_control, first_sources, first_sinks}
 use Rattle.box_stock.specs.Lends.{AreHandedOut}
@@ -95,20 +95,22 @@ pub record IsOutside (whole : Bool) (topology : Topology) (before : History) (ol
   pub sources : new.sources_back ≡ old.sources_back ++ first_sources parts topology control bodies
   pub sinks : new.sinks_back ≡ old.sinks_back ++ first_sinks parts topology bodies
 
--- the call of the control source failed by this name, and nothing was given back
-pub record IsControlUnopened (topology : Topology) (name : List ℕ) (old new : EdgesSeen) : Type 0 where
+-- the call of the control source failed by this name, with these calls still to come, and nothing was given back
+pub record IsControlUnopened (topology : Topology) (name : List ℕ) (rest : List (EdgeKind × List ℕ)) (old new : EdgesSeen) : Type 0 where
   pub call : topology.control ≡ Some name
+  pub to_come : rest ≡ edge_calls topology
   pub sources : new.sources_back ≡ old.sources_back
   pub sinks : new.sinks_back ≡ old.sinks_back
 
--- the call of a stage failed by this name, and the control source and then what the stages before it had opened, in their order,
--- was given back, unread and unwritten
-pub record IsStageUnopened (topology : Topology) (name : List ℕ) (old new : EdgesSeen) : Type 0 where
+-- the call of a stage failed by this name, with these calls still to come, and the control source and then what the stages before
+-- it had opened, in their order, was given back, unread and unwritten
+pub record IsStageUnopened (topology : Topology) (name : List ℕ) (rest : List (EdgeKind × List ℕ)) (old new : EdgesSeen) : Type 0 where
   pub at : ℕ
   pub kind : EdgeKind
   pub spec : StageSpec
   pub here : slice_get topology.stages at ≡ Some spec
   pub call : edge_call spec ≡ Some (kind, name)
+  pub to_come : rest ≡ calls_of (drop (at + 1) topology.stages)
   pub control : Option LineSeen
   pub unread : HasSource old (control_call topology.control) None control
   pub start : ℕ → Option BodySeen
@@ -118,9 +120,9 @@ pub record IsStageUnopened (topology : Topology) (name : List ℕ) (old new : Ed
   pub sources : new.sources_back ≡ old.sources_back ++ (named_control topology.control control ++ sources_of topology.stages bodies)
   pub sinks : new.sinks_back ≡ old.sinks_back ++ sinks_of topology.stages bodies
 
--- a call by this name failed, and what was opened before it was given back
-abbrev pub IsUnopened : Topology → (name : List ℕ) → (old new : EdgesSeen) → Type 0
-IsUnopened topology name old new = IsControlUnopened topology name old new ⊎ IsStageUnopened topology name old new
+-- a call that opens failed by this name, with these calls still to come, and what was opened before it was given back
+abbrev pub IsUnopened : Topology → (name : List ℕ) → (rest : List (EdgeKind × List ℕ)) → (old new : EdgesSeen) → Type 0
+IsUnopened topology name rest old new = IsControlUnopened topology name rest old new ⊎ IsStageUnopened topology name rest old new
 
 -- these calls by name were made, of edges that tell as before
 pub record AreAsked (calls : List (EdgeKind × List ℕ)) (old new : EdgesSeen) : Type 0 where

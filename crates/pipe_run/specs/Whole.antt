@@ -11,7 +11,7 @@ use Rattle.run_claims.specs.Read.{HasNoControl}
 use Rattle.stage_workers.specs.Clocks.{ClockSeen, KeepsClock, KeepsClockPartly}
 use Rattle.edge_names.specs.Seen.{EdgesSeen}
 use Rattle.edge_names.specs.Controls.{run_calls}
-use Rattle.pipe_run.specs.Outside.{AreAsked, IsOutside}
+use Rattle.pipe_run.specs.Outside.{AreAsked, IsOutside, IsUnopened}
 use Rattle.pipe_run.specs.declared.run.NoRun.{NoRun}
 use Rattle.pipe_run.specs.declared.run.NoRun.TheVariants.{Unopened, OutOfMemory}
 
@@ -34,14 +34,15 @@ pub record IsRunOf (whole : Bool) (topology : Topology) (before : History) (old 
   pub time : IsTimeOf whole before clock clock'
   pub asks : AreAsked (run_calls topology) old new
 
--- the calls up to the one that failed
-pub record IsAskedUntil (topology : Topology) (name : List ℕ) (old new : EdgesSeen) : Type 0 where
+-- a call by this name failed: it was the last, and what was opened before it was given back
+pub record HasFailed (topology : Topology) (name : List ℕ) (old new : EdgesSeen) : Type 0 where
   pub kind : EdgeKind
   pub front : List (EdgeKind × List ℕ)
   pub rest : List (EdgeKind × List ℕ)
   pub calls : run_calls topology ≡ front ++ (kind, name) ∷ rest
   pub asks : AreAsked (front ++ (kind, name) ∷ []) old new
   pub fault : Rose old.faults new.faults
+  pub back : IsUnopened topology name rest old new
 
 abbrev pub IfUnopened : NoRun → (List ℕ → Type 0) → Type 0
 IfUnopened (Unopened name) P = P name

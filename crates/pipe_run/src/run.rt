@@ -14,9 +14,8 @@ ghost use Rattle.edge_names.specs.Returned.{IsAskedInPart, KeepsCallbacks};
 ghost use Rattle.box_stock.specs.Homes.{Suffices};
 ghost use Rattle.box_stock.specs.Lends.{AreHandedOut, AreStillThere, IsSameBox, box_at, kinds_of};
 ghost use Rattle.pipe_run.specs.Boxes.{AreBoxesLeft, AreSameBoxes, LeavesCallbacks};
-ghost use Rattle.pipe_run.specs.Outside.{IsUnopened};
 ghost use Rattle.pipe_run.specs.Steps.{WentOn};
-ghost use Rattle.pipe_run.specs.Whole.{IsRunOf, IsAskedUntil, HasCome, IfUnopened, IfWanting};
+ghost use Rattle.pipe_run.specs.Whole.{IsRunOf, HasFailed, HasCome, IfUnopened, IfWanting};
 
 use crate::parts::run_parts;
 use box_stock::{Boxed, Carries, Lent, hand_out, take_back};
@@ -93,8 +92,7 @@ pub fn run_topology<
         (clock_seen K.latest K.readings clock) (clock_seen K.latest K.readings result.clock)) }
     ensures ended { IfOk result.run (λ run. IfOk run.end (HasEnded topology run.core.journal.steps)) }
     ensures boxes { IfOk result.run (λ run. AreBoxesLeft (is_ok run.end) topology run.core.journal.steps (map C.seen stock.items) (map C.seen result.stock.items)) }
-    ensures unopened { IfErr result.run (λ e. IfUnopened e (λ name. IsUnopened topology name (⟦<E as SeenEdges>⟧.seen edges.old) (⟦<E as SeenEdges>⟧.seen edges.new))) }
-    ensures failed { IfErr result.run (λ e. IfUnopened e (λ name. IsAskedUntil topology name (⟦<E as SeenEdges>⟧.seen edges.old) (⟦<E as SeenEdges>⟧.seen edges.new))) }
+    ensures failed { IfErr result.run (λ e. IfUnopened e (λ name. HasFailed topology name (⟦<E as SeenEdges>⟧.seen edges.old) (⟦<E as SeenEdges>⟧.seen edges.new))) }
     ensures wanting { IfErr result.run (λ e. IfWanting e (IsAskedInPart (run_calls topology) (⟦<E as SeenEdges>⟧.seen edges.old) (⟦<E as SeenEdges>⟧.seen edges.new))) }
     ensures same_boxes { OnErr result.run (AreSameBoxes (map C.seen stock.items) (map C.seen result.stock.items)) }
     ensures same_clock { OnErr result.run (result.clock ≡ clock) }
@@ -139,8 +137,7 @@ fn run_bodies<
         (clock_seen K.latest K.readings clock) (clock_seen K.latest K.readings result.clock)) }
     ensures ended { IfOk result.run (λ run. IfOk run.end (HasEnded topology run.core.journal.steps)) }
     ensures boxes { IfOk result.run (λ run. LeavesCallbacks (is_ok run.end) topology run.core.journal.steps (body_at B.look bodies.items) (body_at B.look result.bodies.items)) }
-    ensures unopened { IfErr result.run (λ e. IfUnopened e (λ name. IsUnopened topology name (⟦<E as SeenEdges>⟧.seen edges.old) (⟦<E as SeenEdges>⟧.seen edges.new))) }
-    ensures failed { IfErr result.run (λ e. IfUnopened e (λ name. IsAskedUntil topology name (⟦<E as SeenEdges>⟧.seen edges.old) (⟦<E as SeenEdges>⟧.seen edges.new))) }
+    ensures failed { IfErr result.run (λ e. IfUnopened e (λ name. HasFailed topology name (⟦<E as SeenEdges>⟧.seen edges.old) (⟦<E as SeenEdges>⟧.seen edges.new))) }
     ensures wanting { IfErr result.run (λ e. IfWanting e (IsAskedInPart (run_calls topology) (⟦<E as SeenEdges>⟧.seen edges.old) (⟦<E as SeenEdges>⟧.seen edges.new))) }
     ensures same_callbacks { OnErr result.run (KeepsCallbacks (body_at B.look bodies.items) (body_at B.look result.bodies.items)) }
     ensures same_clock { OnErr result.run (result.clock ≡ clock) }

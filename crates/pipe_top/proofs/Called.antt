@@ -20,7 +20,7 @@ use Rattle.edge_names.specs.Controls.{control_call, named_control, first_sources
 use Rattle.edge_names.specs.Returned.{source_in, sink_in, sources_of, sinks_of}
 use Rattle.pipe_run.specs.Outside.{IsSourceRead, IsSinkWritten, IsSinkWrittenBy, AreUsed, IsControlUsed, HasControl, IsOutside, IsStageUnopened, IsUnopened}
 use Rattle.pipe_top.specs.Cases.{Case, NoCommand, NoTopology as BadTopology, TooFew, Checks, Runs}
-use Rattle.pipe_top.specs.Runs.{OutsideSeen, IsUntouched, IsGivenUp, HasRunOrNot, IsOutsideOf, FailsAt}
+use Rattle.pipe_top.specs.Runs.{OutsideSeen, IsUntouched, IsNothingBack, IsGivenUp, HasRunOrNot, IsOutsideOf, FailsAt}
 use Rattle.pipe_top.specs.Flows.{IsEarly, Outcome, AskedBy, ComesBy}
 use Rattle.pipe_top.specs.declared.verdict.Refusal.TheVariants.{Usage, Topology as NoTopology, Stock, Edge, Memory}
 use Rattle.pipe_top.specs.declared.verdict.Verdict.{Verdict}
@@ -142,6 +142,23 @@ are_used whole topology old new before bodies same x = record {
       (λ sink. sink_written_by whole topology old new before s name sink same) (x.sinks s name call);
 }
 
+-- ---- a call that failed
+
+rose_from : (a b c : ℕ) → a ≤ b → Rose b c → Rose a c
+rose_from a b c at_least (inl more) = inl (omega (arith, at_least, more))
+rose_from a b c at_least (inr full) = inr full
+
+fails_as : (told told' : Bool) (call : EdgeKind × List ℕ) (calls asked middle asked' : List (EdgeKind × List ℕ)) (f f' f'' : ℕ) (name : List ℕ) → told' ≡ told → f ≤ f' → (IsTrue told → middle ≡ asked ++ call ∷ [])
+    → FailsAt told' calls middle asked' (Rose f' f'') name → FailsAt told (call ∷ calls) asked asked' (Rose f f'') name
+fails_as told told' call calls asked middle asked' f f' f'' name same at_least first x = record {
+  kind = x.kind;
+  front = call ∷ x.front;
+  rest = x.rest;
+  parts = ap (λ l. call ∷ l) x.parts;
+  is_last = λ t. x.is_last (rw same t) ∙ ap (λ l. l ++ (x.front ++ (x.kind, name) ∷ [])) (first t) ∙ append_assoc asked (call ∷ []) (x.front ++ (x.kind, name) ∷ []);
+  rose = rose_from f f' f'' at_least x.rose;
+}
+
 -- ---- the outside
 
 -- what became of the edges by a call by name that gave nothing back
@@ -168,14 +185,15 @@ outside_as whole topology before call old middle new c x = record {
   sinks = x.sinks ∙ ap (λ l. l ++ first_sinks x.parts topology x.bodies) c.same_sinks;
 }
 
-stage_unopened_as : (topology : Topology) (name : List ℕ) (call : EdgeKind × List ℕ) (old middle new : EdgesSeen) → Called old middle call
-    → IsStageUnopened topology name middle new → IsStageUnopened topology name old new
-stage_unopened_as topology name call old middle new c x = record {
+stage_unopened_as : (topology : Topology) (name : List ℕ) (rest : List (EdgeKind × List ℕ)) (call : EdgeKind × List ℕ) (old middle new : EdgesSeen) → Called old middle call
+    → IsStageUnopened topology name rest middle new → IsStageUnopened topology name rest old new
+stage_unopened_as topology name rest call old middle new c x = record {
   at = x.at;
   kind = x.kind;
   spec = x.spec;
   here = x.here;
   call = x.call;
+  to_come = x.to_come;
   control = x.control;
   unread = has_source old middle (control_call topology.control) None x.control c.names x.unread;
   start = x.start;
@@ -186,35 +204,45 @@ stage_unopened_as topology name call old middle new c x = record {
   sinks = x.sinks ∙ ap (λ l. l ++ sinks_of topology.stages x.bodies) c.same_sinks;
 }
 
-unopened_as : (topology : Topology) (name : List ℕ) (call : EdgeKind × List ℕ) (old middle new : EdgesSeen) → Called old middle call
-    → IsUnopened topology name middle new → IsUnopened topology name old new
-unopened_as topology name call old middle new c (inl x) = inl (record {
+unopened_as : (topology : Topology) (name : List ℕ) (rest : List (EdgeKind × List ℕ)) (call : EdgeKind × List ℕ) (old middle new : EdgesSeen) → Called old middle call
+    → IsUnopened topology name rest middle new → IsUnopened topology name rest old new
+unopened_as topology name rest call old middle new c (inl x) = inl (record {
   call = x.call;
+  to_come = x.to_come;
   sources = x.sources ∙ c.same_sources;
   sinks = x.sinks ∙ c.same_sinks;
 })
-unopened_as topology name call old middle new c (inr x) = inr (stage_unopened_as topology name call old middle new c x)
+unopened_as topology name rest call old middle new c (inr x) = inr (stage_unopened_as topology name rest call old middle new c x)
 
-given_up_as : (topology : Topology) (call : EdgeKind × List ℕ) (old middle new : EdgesSeen) → Called old middle call → IsGivenUp topology middle new → IsGivenUp topology old new
-given_up_as topology call old middle new c (inl x) = inl (x.0 ∙ c.same_sources, x.1 ∙ c.same_sinks)
-given_up_as topology call old middle new c (inr x) = inr (x.0, unopened_as topology x.0 call old middle new c x.1)
+given_back_as : (is_file : Type 0) (topology : Topology) (name : List ℕ) (rest : List (EdgeKind × List ℕ)) (call : EdgeKind × List ℕ) (old middle new : EdgesSeen) → Called old middle call
+    → (is_file × IsNothingBack middle new) ⊎ IsUnopened topology name rest middle new → (is_file × IsNothingBack old new) ⊎ IsUnopened topology name rest old new
+given_back_as is_file topology name rest call old middle new c (inl x) = inl (x.0, (x.1.0 ∙ c.same_sources, x.1.1 ∙ c.same_sinks))
+given_back_as is_file topology name rest call old middle new c (inr x) = inr (unopened_as topology name rest call old middle new c x)
 
-given_or_wanting : (memory : Type 0) (topology : Topology) (call : EdgeKind × List ℕ) (old middle new : EdgesSeen) → Called old middle call
-    → memory ⊎ IsGivenUp topology middle new → memory ⊎ IsGivenUp topology old new
-given_or_wanting memory topology call old middle new c (inl m) = inl m
-given_or_wanting memory topology call old middle new c (inr x) = inr (given_up_as topology call old middle new c x)
+given_up_as : (topology : Topology) (call : EdgeKind × List ℕ) (calls : List (EdgeKind × List ℕ)) (old middle new : EdgesSeen) → Called old middle call → IsGivenUp calls topology middle new → IsGivenUp (call ∷ calls) topology old new
+unfolding fails_as
+given_up_as topology call calls old middle new c x = record {
+  name = x.name;
+  fails = fails_as old.told middle.told call calls old.asked middle.asked new.asked old.faults middle.faults new.faults x.name c.names.same_telling c.faults_stay c.one_call x.fails;
+  back = given_back_as (x.fails.kind ≡ File) topology x.name x.fails.rest call old middle new c x.back;
+}
 
-run_or_not_as : (memory : Type 0) (wanted : Topology) (topology : Option Topology) (before : History) (call : EdgeKind × List ℕ) (old : OutsideSeen) (middle : EdgesSeen) (new : OutsideSeen) → Called old.edges middle call
-    → HasRunOrNot memory wanted topology before (with_edges old middle) new → HasRunOrNot memory wanted topology before old new
-run_or_not_as memory wanted (Some t) before call old middle new c x = record {
+given_or_wanting : (memory : Type 0) (topology : Topology) (call : EdgeKind × List ℕ) (calls : List (EdgeKind × List ℕ)) (old middle new : EdgesSeen) → Called old middle call
+    → memory ⊎ IsGivenUp calls topology middle new → memory ⊎ IsGivenUp (call ∷ calls) topology old new
+given_or_wanting memory topology call calls old middle new c (inl m) = inl m
+given_or_wanting memory topology call calls old middle new c (inr x) = inr (given_up_as topology call calls old middle new c x)
+
+run_or_not_as : (memory : Type 0) (wanted : Topology) (topology : Option Topology) (before : History) (call : EdgeKind × List ℕ) (calls : List (EdgeKind × List ℕ)) (old : OutsideSeen) (middle : EdgesSeen) (new : OutsideSeen)
+    → Called old.edges middle call → HasRunOrNot memory calls wanted topology before (with_edges old middle) new → HasRunOrNot memory (call ∷ calls) wanted topology before old new
+run_or_not_as memory wanted (Some t) before call calls old middle new c x = record {
   whole = x.whole;
   wanting = x.wanting;
   outside = outside_as x.whole wanted before call old.edges middle new.edges c x.outside;
   time = x.time;
   boxes = x.boxes;
 }
-run_or_not_as memory wanted None before call old middle new c x = record {
-  edges = given_or_wanting memory wanted call old.edges middle new.edges c x.edges;
+run_or_not_as memory wanted None before call calls old middle new c x = record {
+  edges = given_or_wanting memory wanted call calls old.edges middle new.edges c x.edges;
   clock = x.clock;
   boxes = x.boxes;
 }
@@ -227,13 +255,13 @@ untouched_as call old middle new c x = record {
   boxes = x.boxes;
 }
 
-outside_of_as : (memory : Type 0) (case : Case) (topology : Option Topology) (before : History) (call : EdgeKind × List ℕ) (old : OutsideSeen) (middle : EdgesSeen) (new : OutsideSeen) → Called old.edges middle call
-    → IsOutsideOf memory topology before case (with_edges old middle) new → IsOutsideOf memory topology before case old new
-outside_of_as memory NoCommand topology before call old middle new c x = untouched_as call old middle new c x
-outside_of_as memory (BadTopology fault) topology before call old middle new c x = untouched_as call old middle new c x
-outside_of_as memory (TooFew shortage) topology before call old middle new c x = untouched_as call old middle new c x
-outside_of_as memory (Checks wanted) topology before call old middle new c x = untouched_as call old middle new c x
-outside_of_as memory (Runs shows wanted) topology before call old middle new c x = run_or_not_as memory wanted topology before call old middle new c x
+outside_of_as : (memory : Type 0) (case : Case) (topology : Option Topology) (before : History) (call : EdgeKind × List ℕ) (calls : List (EdgeKind × List ℕ)) (old : OutsideSeen) (middle : EdgesSeen) (new : OutsideSeen)
+    → Called old.edges middle call → IsOutsideOf memory calls topology before case (with_edges old middle) new → IsOutsideOf memory (call ∷ calls) topology before case old new
+outside_of_as memory NoCommand topology before call calls old middle new c x = untouched_as call old middle new c x
+outside_of_as memory (BadTopology fault) topology before call calls old middle new c x = untouched_as call old middle new c x
+outside_of_as memory (TooFew shortage) topology before call calls old middle new c x = untouched_as call old middle new c x
+outside_of_as memory (Checks wanted) topology before call calls old middle new c x = untouched_as call old middle new c x
+outside_of_as memory (Runs shows wanted) topology before call calls old middle new c x = run_or_not_as memory wanted topology before call calls old middle new c x
 
 -- ---- the outcome
 
@@ -251,21 +279,6 @@ outcome_as : (case : Case) (fails fails' : List ℕ → Type 0) (topology : Opti
     → Outcome case fails topology before verdict → Outcome case fails' topology before verdict
 outcome_as case fails fails' topology before verdict so (inl e) = inl (early_as fails fails' topology before verdict so e)
 outcome_as case fails fails' topology before verdict so (inr r) = inr r
-
-rose_from : (a b c : ℕ) → a ≤ b → Rose b c → Rose a c
-rose_from a b c at_least (inl more) = inl (omega (arith, at_least, more))
-rose_from a b c at_least (inr full) = inr full
-
-fails_as : (told told' : Bool) (call : EdgeKind × List ℕ) (calls asked middle asked' : List (EdgeKind × List ℕ)) (f f' f'' : ℕ) (name : List ℕ) → told' ≡ told → f ≤ f' → (IsTrue told → middle ≡ asked ++ call ∷ [])
-    → FailsAt told' calls middle asked' (Rose f' f'') name → FailsAt told (call ∷ calls) asked asked' (Rose f f'') name
-fails_as told told' call calls asked middle asked' f f' f'' name same at_least first x = record {
-  kind = x.kind;
-  front = call ∷ x.front;
-  rest = x.rest;
-  parts = ap (λ l. call ∷ l) x.parts;
-  is_last = λ t. x.is_last (rw same t) ∙ ap (λ l. l ++ (x.front ++ (x.kind, name) ∷ [])) (first t) ∙ append_assoc asked (call ∷ []) (x.front ++ (x.kind, name) ∷ []);
-  rose = rose_from f f' f'' at_least x.rose;
-}
 
 -- ---- the calls
 
@@ -291,7 +304,7 @@ after_call old middle new case call calls topology before verdict c x = record {
       topology before verdict
       (λ name f. fails_as old.edges.told middle.told call calls old.edges.asked middle.asked new.edges.asked old.edges.faults middle.faults new.edges.faults name c.names.same_telling c.faults_stay c.one_call f)
       x.outcome;
-  outside = outside_of_as (verdict ≡ Refused Memory) case topology before call old middle new c x.outside;
+  outside = outside_of_as (verdict ≡ Refused Memory) case topology before call calls old middle new c x.outside;
   asked_by = λ t. asked_as verdict call calls old.edges.asked middle.asked new.edges.asked (c.one_call t) (x.asked_by (rw c.names.same_telling t));
   same_telling = x.same_telling ∙ c.names.same_telling;
 }

@@ -254,20 +254,13 @@ of_status_seven case fails topology before verdict status o is seven =
 -- which line a verdict writes
 one_line : (case : Case) (told : Bool) (calls asked asked' : List (EdgeKind × List ℕ)) (fault : Type 0) (topology : Option Topology) (before : History) (verdict : Verdict)
     → Outcome case (FailsAt told calls asked asked' fault) topology before verdict
-    → (err_text_of verdict ≡ []) ⊎ ((err_text_of verdict ≡ case_line case) ⊎ ((err_text_of verdict ≡ memory_line) ⊎ IsEdgeLine calls (err_text_of verdict)))
+    → (err_text_of verdict ≡ []) ⊎ ((err_text_of verdict ≡ case_line case) ⊎ ((err_text_of verdict ≡ memory_line) ⊎ IsEdgeLine told calls asked asked' fault (err_text_of verdict)))
 one_line case told calls asked asked' fault topology before verdict (inl e) = by_early (early (FailsAt told calls asked asked' fault) topology before verdict e).why
   where
     by_early : (verdict ≡ Refused Memory) ⊎ Fails (FailsAt told calls asked asked' fault) verdict
-        → (err_text_of verdict ≡ []) ⊎ ((err_text_of verdict ≡ case_line case) ⊎ ((err_text_of verdict ≡ memory_line) ⊎ IsEdgeLine calls (err_text_of verdict)))
+        → (err_text_of verdict ≡ []) ⊎ ((err_text_of verdict ≡ case_line case) ⊎ ((err_text_of verdict ≡ memory_line) ⊎ IsEdgeLine told calls asked asked' fault (err_text_of verdict)))
     by_early (inl is) = inr (inr (inl (ap err_text_of is)))
-    by_early (inr f) = inr (inr (inr (record {
-      kind = f.so.kind;
-      name = f.name;
-      front = f.so.front;
-      rest = f.so.rest;
-      parts = f.so.parts;
-      is = ap err_text_of f.is;
-    })))
+    by_early (inr f) = inr (inr (inr (record { name = f.name; fails = f.so; is = ap err_text_of f.is })))
 one_line NoCommand told calls asked asked' fault topology before verdict (inr r) = inr (inl (ap err_text_of r.refused))
 one_line (BadTopology f) told calls asked asked' fault topology before verdict (inr r) = inr (inl (ap err_text_of r.refused))
 one_line (TooFew shortage) told calls asked asked' fault topology before verdict (inr r) = inr (inl (ap err_text_of r.refused))
@@ -275,12 +268,13 @@ one_line (Checks wanted) told calls asked asked' fault topology before verdict (
 one_line (Runs shows wanted) told calls asked asked' fault topology before verdict (inr r) = by_run (ran verdict shows wanted before r.comes_to)
   where
     by_run : Reported shows wanted before verdict ⊎ (verdict ≡ Refused Memory)
-        → (err_text_of verdict ≡ []) ⊎ ((err_text_of verdict ≡ case_line (Runs shows wanted)) ⊎ ((err_text_of verdict ≡ memory_line) ⊎ IsEdgeLine calls (err_text_of verdict)))
+        → (err_text_of verdict ≡ []) ⊎ ((err_text_of verdict ≡ case_line (Runs shows wanted)) ⊎ ((err_text_of verdict ≡ memory_line) ⊎ IsEdgeLine told calls asked asked' fault (err_text_of verdict)))
     by_run (inl v) = inl (ap err_text_of v.is)
     by_run (inr is) = inr (inr (inl (ap err_text_of is)))
 
 pub line_begun : (case : Case) (told : Bool) (calls asked asked' : List (EdgeKind × List ℕ)) (fault : Type 0) (topology : Option Topology) (before : History) (verdict : Verdict) (held held' : List ℕ)
-    → Outcome case (FailsAt told calls asked asked' fault) topology before verdict → AddsPrefix held held' (err_text_of verdict) → BeginsLine calls held held' case
+    → Outcome case (FailsAt told calls asked asked' fault) topology before verdict → AddsPrefix held held' (err_text_of verdict)
+    → BeginsLine told calls asked asked' fault held held' case
 line_begun case told calls asked asked' fault topology before verdict held held' o b = record {
   text = err_text_of verdict;
   is_one = one_line case told calls asked asked' fault topology before verdict o;
@@ -404,13 +398,13 @@ run_opened : (shows : Shows) (wanted : Topology) (fails : List ℕ → Type 0) (
 run_opened shows wanted fails topology before verdict (inl e) u = nine_or_five (status_in verdict) (status_in verdict) (early_at fails topology before verdict e) refl (unopened_is (status_in verdict) u).2 (unopened_is (status_in verdict) u).1
 run_opened shows wanted fails topology before verdict (inr r) u = run_refused verdict (ran verdict shows wanted before r.comes_to) (inr u)
 
-pub not_opened : (case : Case) (fails : List ℕ → Type 0) (memory : Type 0) (topology : Option Topology) (before : History) (verdict : Verdict) (old new : OutsideSeen)
-    → Outcome case fails topology before verdict → IsUnopenedStatus (status_in verdict) → IsOutsideOf memory topology before case old new → IsUntouched old new
-not_opened NoCommand fails memory topology before verdict old new o u out = out
-not_opened (BadTopology fault) fails memory topology before verdict old new o u out = out
-not_opened (TooFew shortage) fails memory topology before verdict old new o u out = out
-not_opened (Checks wanted) fails memory topology before verdict old new o u out = out
-not_opened (Runs shows wanted) fails memory topology before verdict old new o u out = absurd (run_opened shows wanted fails topology before verdict o u)
+pub not_opened : (case : Case) (fails : List ℕ → Type 0) (memory : Type 0) (calls : List (EdgeKind × List ℕ)) (topology : Option Topology) (before : History) (verdict : Verdict) (old new : OutsideSeen)
+    → Outcome case fails topology before verdict → IsUnopenedStatus (status_in verdict) → IsOutsideOf memory calls topology before case old new → IsUntouched old new
+not_opened NoCommand fails memory calls topology before verdict old new o u out = out
+not_opened (BadTopology fault) fails memory calls topology before verdict old new o u out = out
+not_opened (TooFew shortage) fails memory calls topology before verdict old new o u out = out
+not_opened (Checks wanted) fails memory calls topology before verdict old new o u out = out
+not_opened (Runs shows wanted) fails memory calls topology before verdict old new o u out = absurd (run_opened shows wanted fails topology before verdict o u)
 
 used_as : (memory wanting : Type 0) → (memory → wanting) → (wanted : Topology) (before : History) (old new : OutsideSeen) → HasUsed memory wanted before old new → HasUsed wanting wanted before old new
 used_as memory wanting so wanted before old new used = record {
@@ -421,26 +415,26 @@ used_as memory wanting so wanted before old new used = record {
   boxes = used.boxes;
 }
 
-not_begun_as : (memory wanting : Type 0) → (memory → wanting) → (wanted : Topology) (old new : OutsideSeen) → HasNotBegun memory wanted old new → HasNotBegun wanting wanted old new
-not_begun_as memory wanting so wanted old new n = record { edges = by_edges n.edges; clock = n.clock; boxes = n.boxes }
+not_begun_as : (memory wanting : Type 0) → (memory → wanting) → (calls : List (EdgeKind × List ℕ)) (wanted : Topology) (old new : OutsideSeen) → HasNotBegun memory calls wanted old new → HasNotBegun wanting calls wanted old new
+not_begun_as memory wanting so calls wanted old new n = record { edges = by_edges n.edges; clock = n.clock; boxes = n.boxes }
   where
-    by_edges : memory ⊎ IsGivenUp wanted old.edges new.edges → wanting ⊎ IsGivenUp wanted old.edges new.edges
+    by_edges : memory ⊎ IsGivenUp calls wanted old.edges new.edges → wanting ⊎ IsGivenUp calls wanted old.edges new.edges
     by_edges (inl m) = inl (so m)
     by_edges (inr given) = inr given
 
-run_or_not_as : (memory wanting : Type 0) → (memory → wanting) → (wanted : Topology) (topology : Option Topology) (before : History) (old new : OutsideSeen)
-    → HasRunOrNot memory wanted topology before old new → HasRunOrNot wanting wanted topology before old new
-run_or_not_as memory wanting so wanted (Some topology) before old new r = used_as memory wanting so wanted before old new r
-run_or_not_as memory wanting so wanted None before old new r = not_begun_as memory wanting so wanted old new r
+run_or_not_as : (memory wanting : Type 0) → (memory → wanting) → (calls : List (EdgeKind × List ℕ)) (wanted : Topology) (topology : Option Topology) (before : History) (old new : OutsideSeen)
+    → HasRunOrNot memory calls wanted topology before old new → HasRunOrNot wanting calls wanted topology before old new
+run_or_not_as memory wanting so calls wanted (Some topology) before old new r = used_as memory wanting so wanted before old new r
+run_or_not_as memory wanting so calls wanted None before old new r = not_begun_as memory wanting so calls wanted old new r
 
 -- what the outside is like, where memory that was wanting is known otherwise
-pub outside_as : (memory wanting : Type 0) → (memory → wanting) → (topology : Option Topology) (before : History) (case : Case) (old new : OutsideSeen)
-    → IsOutsideOf memory topology before case old new → IsOutsideOf wanting topology before case old new
-outside_as memory wanting so topology before NoCommand old new out = out
-outside_as memory wanting so topology before (BadTopology fault) old new out = out
-outside_as memory wanting so topology before (TooFew shortage) old new out = out
-outside_as memory wanting so topology before (Checks wanted) old new out = out
-outside_as memory wanting so topology before (Runs shows wanted) old new out = run_or_not_as memory wanting so wanted topology before old new out
+pub outside_as : (memory wanting : Type 0) → (memory → wanting) → (calls : List (EdgeKind × List ℕ)) (topology : Option Topology) (before : History) (case : Case) (old new : OutsideSeen)
+    → IsOutsideOf memory calls topology before case old new → IsOutsideOf wanting calls topology before case old new
+outside_as memory wanting so calls topology before NoCommand old new out = out
+outside_as memory wanting so calls topology before (BadTopology fault) old new out = out
+outside_as memory wanting so calls topology before (TooFew shortage) old new out = out
+outside_as memory wanting so calls topology before (Checks wanted) old new out = out
+outside_as memory wanting so calls topology before (Runs shows wanted) old new out = run_or_not_as memory wanting so calls wanted topology before old new out
 
 -- ---- a text that was lost
 

@@ -19,6 +19,7 @@ use Rattle.pipe_types.specs.declared.topology.Topology.{Topology}
 use Rattle.pipe_model.specs.History.{History}
 use Rattle.pipe_model.specs.Legal.{happened, is_drain, is_halt, has_role, is_producer_role}
 use Rattle.pipe_model.specs.Outside.{fed, source_end}
+use Rattle.pipe_edges.specs.declared.edges.EdgeKind.{EdgeKind}
 use Rattle.pipe_edges.specs.declared.edges.EdgeKind.TheVariants.{Source}
 use Rattle.journal_texts.specs.Report.{places, is_fault, is_lost, is_failed, is_source_fault}
 use Rattle.run_claims.specs.Read.{HasNoControl, quiets}
@@ -47,7 +48,7 @@ use Rattle.pipe_top.proofs.Drains.{HasCause, limited, ended, controlled, rested,
 use Rattle.pipe_top.proofs.Ends.{ControlEndsBadly, EndsBadly, ends_limited, ended_as, faults_show, never_limited, producer_inner}
 use Rattle.pipe_top.proofs.Longs.{not_long}
 use Rattle.pipe_top.proofs.Outcomes.{Fails, early, Reported, ran}
-use Rattle.pipe_top.proofs.Statuses.{gravest_small}
+use Rattle.pipe_top.proofs.Statuses.{gravest_small, clean_status}
 
 -- ---- the sources of a whole run
 
@@ -208,6 +209,7 @@ ended_whole topology before status sound run end read fine = record {
   status_is = inl (rw end.by_journal (rw (no_fault topology before sound run read fine)
       (gravest_small (happened is_halt before) (list_any is_lost (places topology before)) (list_any is_failed (places topology before)))));
   whole = λ other. by_end end.ended;
+  clean = λ other lossless pass. end.by_journal ∙ clean_status topology before (no_fault topology before sound run read fine) lossless pass;
 }
   where
     by_cause : HasCause topology before → IsReadWhole topology before ⊎ (IsTrue (happened is_limit_drain before) ⊎ (IsTrue (happened is_control_drain before) ⊎ IsTrue (happened is_halt before)))
@@ -226,7 +228,11 @@ ended_whole topology before status sound run end read fine = record {
 
 -- want of memory
 wanting : (topology : Topology) (before : History) (status : ℕ) → status ≡ 9 → IsComplete topology before status
-wanting topology before status nine = record { status_is = inr nine; whole = λ other. absurd (other nine) }
+wanting topology before status nine = record {
+  status_is = inr nine;
+  whole = λ other. absurd (other nine);
+  clean = λ other lossless pass. absurd (other nine);
+}
 
 memory_or : (topology : Topology) (fails : List ℕ → Type 0) (before : History) (verdict : Verdict) (status : ℕ) → status ≡ status_in verdict → (verdict ≡ Refused Memory) ⊎ Fails fails verdict
     → ((name : List ℕ) → fails name → ⊥) → IsComplete topology before status
@@ -244,17 +250,17 @@ all_used memory topology before old new used never = by_whole used.whole used.wa
 done_is_no_refusal : (verdict : Verdict) (texts : Texts) (status : ℕ) → verdict ≡ Done texts status → verdict ≡ Refused Memory → ⊥
 done_is_no_refusal verdict texts status is memory = cc
 
-complete_in : (case : Case) (fails : List ℕ → Type 0) (topology : Option Topology) (before : History) (verdict : Verdict) (status : ℕ) (old new : OutsideSeen)
+complete_in : (case : Case) (fails : List ℕ → Type 0) (calls : List (EdgeKind × List ℕ)) (topology : Option Topology) (before : History) (verdict : Verdict) (status : ℕ) (old new : OutsideSeen)
     → status ≡ status_in verdict → ((name : List ℕ) → fails name → ⊥) → AreFaultless old.edges new.edges
-    → Outcome case fails topology before verdict → IsOutsideOf (verdict ≡ Refused Memory) topology before case old new
+    → Outcome case fails topology before verdict → IsOutsideOf (verdict ≡ Refused Memory) calls topology before case old new
     → IsCompleteIn before status case
-complete_in NoCommand fails topology before verdict status old new is calm fine o out = tt
-complete_in (BadTopology fault) fails topology before verdict status old new is calm fine o out = tt
-complete_in (TooFew shortage) fails topology before verdict status old new is calm fine o out = tt
-complete_in (Checks wanted) fails topology before verdict status old new is calm fine o out = tt
-complete_in (Runs shows wanted) fails topology before verdict status old new is calm fine (inl e) out =
+complete_in NoCommand fails calls topology before verdict status old new is calm fine o out = tt
+complete_in (BadTopology fault) fails calls topology before verdict status old new is calm fine o out = tt
+complete_in (TooFew shortage) fails calls topology before verdict status old new is calm fine o out = tt
+complete_in (Checks wanted) fails calls topology before verdict status old new is calm fine o out = tt
+complete_in (Runs shows wanted) fails calls topology before verdict status old new is calm fine (inl e) out =
     memory_or wanted fails before verdict status is (early fails topology before verdict e).why calm
-complete_in (Runs shows wanted) fails topology before verdict status old new is calm fine (inr r) out =
+complete_in (Runs shows wanted) fails calls topology before verdict status old new is calm fine (inr r) out =
     by_run (ran verdict shows wanted before r.comes_to)
   where
     used : HasUsed (verdict ≡ Refused Memory) wanted before old new
@@ -273,13 +279,13 @@ nine_complete (TooFew shortage) before status is = tt
 nine_complete (Checks wanted) before status is = tt
 nine_complete (Runs shows wanted) before status is = wanting wanted before status is
 
-pub complete_by : (case : Case) (fails : List ℕ → Type 0) (topology : Option Topology) (before : History) (verdict : Verdict) (status : ℕ) (old new : OutsideSeen)
+pub complete_by : (case : Case) (fails : List ℕ → Type 0) (calls : List (EdgeKind × List ℕ)) (topology : Option Topology) (before : History) (verdict : Verdict) (status : ℕ) (old new : OutsideSeen)
     → (status ≡ status_in verdict) ⊎ ((status ≡ 8) ⊎ (status ≡ 9)) → status ≢ 8 → ((name : List ℕ) → fails name → ⊥) → AreFaultless old.edges new.edges
-    → Outcome case fails topology before verdict → IsOutsideOf (verdict ≡ Refused Memory) topology before case old new
+    → Outcome case fails topology before verdict → IsOutsideOf (verdict ≡ Refused Memory) calls topology before case old new
     → IsCompleteIn before status case
-complete_by case fails topology before verdict status old new (inl is) written calm fine o out = complete_in case fails topology before verdict status old new is calm fine o out
-complete_by case fails topology before verdict status old new (inr (inl is)) written calm fine o out = absurd (written is)
-complete_by case fails topology before verdict status old new (inr (inr is)) written calm fine o out = nine_complete case before status is
+complete_by case fails calls topology before verdict status old new (inl is) written calm fine o out = complete_in case fails calls topology before verdict status old new is calm fine o out
+complete_by case fails calls topology before verdict status old new (inr (inl is)) written calm fine o out = absurd (written is)
+complete_by case fails calls topology before verdict status old new (inr (inr is)) written calm fine o out = nine_complete case before status is
 
 -- where no write failed, no text was lost
 pub unwritten : {out err : Type 0} → out ⊎ err → ¬ out → ¬ err → ⊥

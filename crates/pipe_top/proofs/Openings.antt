@@ -2,6 +2,7 @@
 use Rattle.std.proofs.Common.{◌≡◌, ℕ, List, [], ◌++◌, length, Bool, false, Option, Some, None, refl, sym, ◌∙◌, ap, inl, inr, arith}
 use Rattle.std.specs.Prelude.{unwrap_or}
 use Rattle.std.proofs.lemmas.List.{append-nil, take_all}
+use Rattle.pipe_types.specs.Counts.{Rose}
 use Rattle.pipe_types.specs.Sound.{IsSound}
 use Rattle.pipe_types.specs.declared.topology.Topology.{Topology}
 use Rattle.pipe_model.specs.History.{History}
@@ -15,10 +16,9 @@ use Rattle.edge_names.specs.Controls.{run_calls}
 use Rattle.edge_names.specs.Returned.{IsAskedInPart}
 use Rattle.topology_needs.specs.declared.stock.Shortage.{Shortage}
 use Rattle.pipe_run.specs.Boxes.{AreBoxesLeft, AreSameBoxes}
-use Rattle.pipe_run.specs.Outside.{IsUnopened}
-use Rattle.pipe_run.specs.Whole.{IsRunOf, IsAskedUntil}
+use Rattle.pipe_run.specs.Whole.{IsRunOf, HasFailed}
 use Rattle.pipe_top.specs.Cases.{Runs, unless_short, opening_calls}
-use Rattle.pipe_top.specs.Runs.{OutsideSeen, IsUntouched, IsRun}
+use Rattle.pipe_top.specs.Runs.{OutsideSeen, IsUntouched, IsRun, FailsAt}
 use Rattle.pipe_top.specs.Flows.{AskedBy, ComesBy, IsJudgement, refusal_in}
 use Rattle.pipe_top.specs.declared.verdict.Refusal.{Refusal}
 use Rattle.pipe_top.specs.declared.verdict.Refusal.TheVariants.{Usage, Topology as NoTopology, Stock, Edge, Memory}
@@ -106,24 +106,22 @@ ran old new shows wanted whole core topology before verdict same stands r boxes 
 
 -- a call by this name failed
 pub unopened : (old new : OutsideSeen) (shows : Shows) (wanted : Topology) (name : List ℕ) (topology : Option Topology) (before : History) (verdict : Verdict)
-    → IsUnopened wanted name old.edges new.edges → IsAskedUntil wanted name old.edges new.edges → new.clock ≡ old.clock → AreSameBoxes old.boxes new.boxes
+    → HasFailed wanted name old.edges new.edges → new.clock ≡ old.clock → AreSameBoxes old.boxes new.boxes
     → verdict ≡ Refused (Edge name) → (topology ≡ None) × (before ≡ [])
     → ComesBy old new (Runs shows wanted) (run_calls wanted) topology before verdict
-unopened old new shows wanted name topology before verdict u a clock boxes is none =
+unopened old new shows wanted name topology before verdict a clock boxes is none =
+    let failed : FailsAt old.edges.told (run_calls wanted) old.edges.asked new.edges.asked (Rose old.edges.faults new.edges.faults) name = record {
+      kind = a.kind;
+      front = a.front;
+      rest = a.rest;
+      parts = a.calls;
+      is_last = a.asks.asked;
+      rose = a.fault;
+    } in
     rw (is, none.0) (record {
-      outcome = inl (
-        none.1,
-        record {
-          kind = a.kind;
-          front = a.front;
-          rest = a.rest;
-          parts = a.calls;
-          is_last = a.asks.asked;
-          rose = a.fault;
-        },
-      );
+      outcome = inl (none.1, failed);
       outside = record {
-        edges = inr (inr (name, u));
+        edges = inr (record { name = name; fails = failed; back = inr a.back });
         clock = clock;
         boxes = boxes;
       };

@@ -52,8 +52,8 @@ call_by old new out out' err err' command topology before verdict status case c 
       (is_status status (status_in verdict) 5 w.status_is five (λ x. cc) (λ x. cc)) (w.errors (λ x. not_both 8 5 status x five (λ y. cc)) (λ x. not_both 9 5 status x five (λ y. cc)));
   lost = λ eight. lost_by case (Failing (calls_of command case) old new) topology before verdict (Rose out.faults out'.faults) (IsTrue err.told → err'.held ≡ err.held) (Rose err.faults err'.faults) c.outcome
       (w.fault eight (never_eight case (Failing (calls_of command case) old new) topology before verdict c.outcome)) (quiet_by verdict (IsTrue err.told) (err'.held ≡ err.held) w.quiet);
-  outside = outside_as (verdict ≡ Refused Memory) (status ≡ 9) w.wanting topology before case old new c.outside;
-  complete = λ calm out_calm err_calm fine. complete_by case (Failing (calls_of command case) old new) topology before verdict status old new w.status_is
+  outside = outside_as (verdict ≡ Refused Memory) (status ≡ 9) w.wanting (calls_of command case) topology before case old new c.outside;
+  complete = λ calm out_calm err_calm fine. complete_by case (Failing (calls_of command case) old new) (calls_of command case) topology before verdict status old new w.status_is
       (λ eight. unwritten (fault_by verdict (Rose out.faults out'.faults) (Rose err.faults err'.faults) (w.fault eight (never_eight case (Failing (calls_of command case) old new) topology before verdict c.outcome))) out_calm err_calm)
       (λ name f. calm f.rose) fine c.outcome c.outside;
   asks = λ t. asks case old.edges.told (calls_of command case) old.edges.asked new.edges.asked (Rose old.edges.faults new.edges.faults) topology before verdict c.outcome t (c.asked_by t);
@@ -116,4 +116,4 @@ none_ran_in {old} {new} {command} {boxes} {topology} {before} {verdict} status c
 pub not_opened_in : {old new : OutsideSeen} {command : Option Command} {boxes : Boxes} {topology : Option Topology} {before : History} {verdict : Verdict} (status : ℕ)
     → Came old new command boxes topology before verdict → (status ≡ status_in verdict) ⊎ ((status ≡ 8) ⊎ (status ≡ 9)) → IsUnopenedStatus status → IsUntouched old new
 not_opened_in {old} {new} {command} {boxes} {topology} {before} {verdict} status c is u =
-    not_opened (case_of command c.file boxes) (Failing (calls_of command (case_of command c.file boxes)) old new) (verdict ≡ Refused Memory) topology before verdict old new c.comes.outcome (unopened_as status (status_in verdict) is u) c.comes.outside
+    not_opened (case_of command c.file boxes) (Failing (calls_of command (case_of command c.file boxes)) old new) (verdict ≡ Refused Memory) (calls_of command (case_of command c.file boxes)) topology before verdict old new c.comes.outcome (unopened_as status (status_in verdict) is u) c.comes.outside

@@ -16,7 +16,7 @@ use Rattle.program_words.specs.Words.{Command, Flow, Check, Run}
 use Rattle.edge_names.specs.Seen.{EdgesSeen}
 use Rattle.topology_needs.specs.declared.stock.Boxes.{Boxes}
 use Rattle.pipe_top.specs.Cases.{Case, Checks, case_of, run_case, for_topology, report_alone, opening_calls, calls_of, file_name, IsNamedFile}
-use Rattle.pipe_top.specs.Runs.{OutsideSeen, IsUntouched, Asks}
+use Rattle.pipe_top.specs.Runs.{OutsideSeen, IsUntouched, Asks, FailsAt}
 use Rattle.pipe_top.specs.Flows.{IsCheckedOrNot, ComesBy, Came, ReadsFile, ReadsTopology, AskedFile}
 use Rattle.pipe_top.specs.declared.verdict.Refusal.{Refusal}
 use Rattle.pipe_top.specs.declared.verdict.Refusal.TheVariants.{Usage, Topology as NoTopology, Stock, Edge, Memory}
@@ -59,19 +59,19 @@ unread old new go name Memory topology before verdict is none same r =
     (λ t. one_of_more (File, name) (opening_calls case) old.edges.asked new.edges.asked (r.asked_by t)) r.same_telling
 unread old new go name (Edge other) topology before verdict is none same r =
     let case = for_topology (topology_of_file r.file) go in
+    let calls = (File, name) ∷ opening_calls case in
+    let failed : FailsAt old.edges.told calls old.edges.asked new.edges.asked (Rose old.edges.faults new.edges.faults) other = record {
+      kind = File;
+      front = [];
+      rest = opening_calls case;
+      parts = ap (λ n. (File, n) ∷ opening_calls case) (sym r.reads.0);
+      is_last = λ t. r.asked_by t ∙ ap (λ n. old.edges.asked ++ (File, n) ∷ []) (sym r.reads.0);
+      rose = r.reads.1;
+    } in
     rw (is, none.0) (record {
-      outcome = inl (
-        none.1,
-        record {
-          kind = File;
-          front = [];
-          rest = opening_calls case;
-          parts = ap (λ n. (File, n) ∷ opening_calls case) (sym r.reads.0);
-          is_last = λ t. r.asked_by t ∙ ap (λ n. old.edges.asked ++ (File, n) ∷ []) (sym r.reads.0);
-          rose = r.reads.1;
-        },
-      );
-      outside = outside_of_none (Refused (Edge other) ≡ Refused Memory) before case old new same;
+      outcome = inl (none.1, failed);
+      outside = outside_of_none (Refused (Edge other) ≡ Refused Memory) calls before case old new same
+          (λ wanted. inr (record { name = other; fails = failed; back = inl (refl, (same.sources, same.sinks)) }));
       asked_by = λ t. tt;
       same_telling = r.same_telling;
     })

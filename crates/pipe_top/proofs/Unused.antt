@@ -1,6 +1,6 @@
 -- What a call comes to that uses nothing of its outside.
-use Rattle.std.proofs.Common.{◌≡◌, ℕ, List, [], Option, Some, None, refl, sym, inl, inr, arith}
-use Rattle.std.specs.Prelude.{IsTrue, slice_get}
+use Rattle.std.proofs.Common.{◌≡◌, ℕ, List, [], Option, Some, None, refl, sym, inl, arith}
+use Rattle.std.specs.Prelude.{◌⊎◌, IsTrue, slice_get}
 use Rattle.std.proofs.lemmas.List.{append-nil}
 use Rattle.pipe_types.specs.declared.topology.Topology.{Topology}
 use Rattle.pipe_model.specs.History.{History}
@@ -10,7 +10,7 @@ use Rattle.stage_bodies.specs.Jobs.{Both}
 use Rattle.box_stock.specs.Lends.{IsSameBox}
 use Rattle.pipe_run.specs.Boxes.{AreSameBoxes}
 use Rattle.pipe_top.specs.Cases.{Case, NoCommand, NoTopology, TooFew, Checks, Runs}
-use Rattle.pipe_top.specs.Runs.{OutsideSeen, IsUntouched, IsOutsideOf, Asks}
+use Rattle.pipe_top.specs.Runs.{OutsideSeen, IsUntouched, IsGivenUp, IsOutsideOf, Asks}
 use Rattle.pipe_top.specs.Flows.{ComesBy}
 use Rattle.pipe_top.specs.declared.verdict.Refusal.TheVariants.{Memory}
 use Rattle.pipe_top.specs.declared.verdict.Verdict.{Verdict}
@@ -27,14 +27,15 @@ same_box (Some box) = record { kind = refl; told = refl; said = λ t. refl; call
 same_boxes : (boxes : List BoxSeen) → AreSameBoxes boxes boxes
 same_boxes boxes = record { as_many = refl; each = λ k. same_box (slice_get boxes k) }
 
--- where nothing is used there was no run
-pub outside_of_none : (memory : Type 0) (before : History) (case : Case) (old new : OutsideSeen) → IsUntouched old new → IsOutsideOf memory None before case old new
-outside_of_none memory before NoCommand old new u = u
-outside_of_none memory before (NoTopology fault) old new u = u
-outside_of_none memory before (TooFew shortage) old new u = u
-outside_of_none memory before (Checks wanted) old new u = u
-outside_of_none memory before (Runs shows wanted) old new u = record {
-  edges = inr (inl (u.sources, u.sinks));
+-- where nothing is used there was no run, since memory was wanting or a call by name failed
+pub outside_of_none : (memory : Type 0) (calls : List (EdgeKind × List ℕ)) (before : History) (case : Case) (old new : OutsideSeen) → IsUntouched old new
+    → ((wanted : Topology) → memory ⊎ IsGivenUp calls wanted old.edges new.edges) → IsOutsideOf memory calls None before case old new
+outside_of_none memory calls before NoCommand old new u why = u
+outside_of_none memory calls before (NoTopology fault) old new u why = u
+outside_of_none memory calls before (TooFew shortage) old new u why = u
+outside_of_none memory calls before (Checks wanted) old new u why = u
+outside_of_none memory calls before (Runs shows wanted) old new u why = record {
+  edges = why wanted;
   clock = u.clock;
   boxes = rw u.boxes (same_boxes old.boxes);
 }
@@ -46,7 +47,7 @@ pub wanting : (old new : OutsideSeen) (case : Case) (calls : List (EdgeKind × L
 wanting old new case calls topology before verdict is none untouched asks telling =
     rw (is, none.0) (record {
       outcome = inl none.1;
-      outside = outside_of_none (Refused Memory ≡ Refused Memory) before case old new untouched;
+      outside = outside_of_none (Refused Memory ≡ Refused Memory) calls before case old new untouched (λ wanted. inl refl);
       asked_by = asks;
       same_telling = telling;
     })

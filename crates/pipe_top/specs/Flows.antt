@@ -92,7 +92,7 @@ AskedBy _ calls asked asked' = asked' ≡ asked ++ calls
 -- what a call comes to in a case, with the calls by name that the case makes
 pub record ComesBy (old new : OutsideSeen) (case : Case) (calls : List (EdgeKind × List ℕ)) (topology : Option Topology) (before : History) (verdict : Verdict) : Type 0 where
   pub outcome : Outcome case (FailsAt old.edges.told calls old.edges.asked new.edges.asked (Rose old.edges.faults new.edges.faults)) topology before verdict
-  pub outside : IsOutsideOf (verdict ≡ Refused Memory) topology before case old new
+  pub outside : IsOutsideOf (verdict ≡ Refused Memory) calls topology before case old new
   pub asked_by : IsTrue old.edges.told → AskedBy verdict calls old.edges.asked new.edges.asked
   pub same_telling : new.edges.told ≡ old.edges.told
 

@@ -10,7 +10,10 @@ use Rattle.pipe_types.specs.declared.topology.Topology.{Topology}
 use Rattle.pipe_model.specs.History.{History}
 use Rattle.pipe_model.specs.Legal.{happened, is_halt, has_role, is_producer_role}
 use Rattle.pipe_model.specs.Outside.{source_end}
+use Rattle.pipe_model.specs.Acknowledgements.{is_lossless}
+use Rattle.pass_laws.specs.Passes.{all_pass}
 use Rattle.pipe_edges.specs.declared.edges.EdgeKind.{EdgeKind}
+use Rattle.pipe_edges.specs.declared.edges.EdgeKind.TheVariants.{File}
 use Rattle.config_table.specs.Fault.{number_of}
 use Rattle.journal_texts.specs.Steps.{journal_text}
 use Rattle.journal_texts.specs.Report.{report_text, status_of}
@@ -119,6 +122,22 @@ IsStatusOf status (TooFew shortage) = status ≡ 6
 IsStatusOf status (Checks topology) = status ≡ 0
 IsStatusOf status (Runs shows topology) = IsEndStatus status
 
+-- ---- calls by name
+
+-- the first so many of these calls were made
+pub record Asks (calls asked asked' : List (EdgeKind × List ℕ)) : Type 0 where
+  pub count : ℕ
+  pub is : asked' ≡ asked ++ take count calls
+
+-- a call by this name failed, and it was the last
+pub record FailsAt (told : Bool) (calls asked asked' : List (EdgeKind × List ℕ)) (fault : Type 0) (name : List ℕ) : Type 0 where
+  pub kind : EdgeKind
+  pub front : List (EdgeKind × List ℕ)
+  pub rest : List (EdgeKind × List ℕ)
+  pub parts : calls ≡ front ++ (kind, name) ∷ rest
+  pub is_last : IsTrue told → asked' ≡ asked ++ (front ++ (kind, name) ∷ [])
+  pub rose : fault
+
 -- ---- the outside
 
 -- nothing was opened or given back, and neither the clock nor a box was used
@@ -137,26 +156,31 @@ pub record HasUsed (memory : Type 0) (topology : Topology) (before : History) (o
   pub time : IsTimeOf whole before old.clock new.clock
   pub boxes : AreBoxesLeft whole topology before old.boxes new.boxes
 
--- nothing was given back; or a call failed, and what was opened before it was given back
-abbrev pub IsGivenUp : Topology → (old new : EdgesSeen) → Type 0
-IsGivenUp topology old new =
-    ((new.sources_back ≡ old.sources_back) × (new.sinks_back ≡ old.sinks_back)) ⊎ ((name : List ℕ) × IsUnopened topology name old new)
+-- nothing was given back
+abbrev pub IsNothingBack : (old new : EdgesSeen) → Type 0
+IsNothingBack old new = (new.sources_back ≡ old.sources_back) × (new.sinks_back ≡ old.sinks_back)
+
+-- a call by name failed, and what was opened before it was given back; where it was to read the topology file, nothing was opened
+pub record IsGivenUp (calls : List (EdgeKind × List ℕ)) (topology : Topology) (old new : EdgesSeen) : Type 0 where
+  pub name : List ℕ
+  pub fails : FailsAt old.told calls old.asked new.asked (Rose old.faults new.faults) name
+  pub back : ((fails.kind ≡ File) × IsNothingBack old new) ⊎ IsUnopened topology name fails.rest old new
 
 -- a run did not begin, since memory was wanting or a call by name failed: the clock was not used, and the boxes are the same,
 -- though some may be armed
-pub record HasNotBegun (memory : Type 0) (topology : Topology) (old new : OutsideSeen) : Type 0 where
-  pub edges : memory ⊎ IsGivenUp topology old.edges new.edges
+pub record HasNotBegun (memory : Type 0) (calls : List (EdgeKind × List ℕ)) (topology : Topology) (old new : OutsideSeen) : Type 0 where
+  pub edges : memory ⊎ IsGivenUp calls topology old.edges new.edges
   pub clock : new.clock ≡ old.clock
   pub boxes : AreSameBoxes old.boxes new.boxes
 
-abbrev pub HasRunOrNot : (memory : Type 0) → (wanted : Topology) → Option Topology → History → (old new : OutsideSeen) → Type 0
-HasRunOrNot memory wanted (Some topology) before old new = HasUsed memory wanted before old new
-HasRunOrNot memory wanted None before old new = HasNotBegun memory wanted old new
+abbrev pub HasRunOrNot : (memory : Type 0) → (calls : List (EdgeKind × List ℕ)) → (wanted : Topology) → Option Topology → History → (old new : OutsideSeen) → Type 0
+HasRunOrNot memory calls wanted (Some topology) before old new = HasUsed memory wanted before old new
+HasRunOrNot memory calls wanted None before old new = HasNotBegun memory calls wanted old new
 
--- what a call does to its outside
-abbrev pub IsOutsideOf : (memory : Type 0) → Option Topology → History → Case → (old new : OutsideSeen) → Type 0
-IsOutsideOf memory topology before (Runs shows wanted) old new = HasRunOrNot memory wanted topology before old new
-IsOutsideOf memory topology before _ old new = IsUntouched old new
+-- what a call does to its outside, with the calls by name that its case makes
+abbrev pub IsOutsideOf : (memory : Type 0) → (calls : List (EdgeKind × List ℕ)) → Option Topology → History → Case → (old new : OutsideSeen) → Type 0
+IsOutsideOf memory calls topology before (Runs shows wanted) old new = HasRunOrNot memory calls wanted topology before old new
+IsOutsideOf memory calls topology before _ old new = IsUntouched old new
 
 -- ---- completeness
 
@@ -187,12 +211,14 @@ abbrev pub IsReadWhole : Topology → History → Type 0
 IsReadWhole topology before = (p : StageNo) → has_role topology p is_producer_role ≡ true → source_end before p ≡ Some End
 
 -- the run came to its end, unless memory was wanting; then every source was read to its end, or a limit was reached, or a
--- control line asked for the drain, or the run was halted
+-- control line asked for the drain, or the run was halted; and where nothing was lost, each reply is a pass and each outcome of a
+-- batch a success, the status is 0
 pub record IsComplete (topology : Topology) (before : History) (status : ℕ) : Type 0 where
   pub status_is : (status ≤ 3) ⊎ (status ≡ 9)
   pub whole : status ≢ 9
       → IsReadWhole topology before
       ⊎ (IsTrue (happened is_limit_drain before) ⊎ (IsTrue (happened is_control_drain before) ⊎ IsTrue (happened is_halt before)))
+  pub clean : status ≢ 9 → IsTrue (is_lossless topology before) → IsTrue (all_pass before) → status ≡ 0
 
 -- a run is complete
 abbrev pub IsCompleteIn : History → (status : ℕ) → Case → Type 0
@@ -210,21 +236,7 @@ pub record IsReportOf (topology : Option Topology) (before : History) (case : Ca
 abbrev pub Lost : (reported out_fault quiet err_fault : Type 0) → Type 0
 Lost reported out_fault quiet err_fault = (reported × out_fault × quiet) ⊎ err_fault
 
--- ---- calls by name
-
--- the first so many of these calls were made
-pub record Asks (calls asked asked' : List (EdgeKind × List ℕ)) : Type 0 where
-  pub count : ℕ
-  pub is : asked' ≡ asked ++ take count calls
-
--- a call by this name failed, and it was the last
-pub record FailsAt (told : Bool) (calls asked asked' : List (EdgeKind × List ℕ)) (fault : Type 0) (name : List ℕ) : Type 0 where
-  pub kind : EdgeKind
-  pub front : List (EdgeKind × List ℕ)
-  pub rest : List (EdgeKind × List ℕ)
-  pub parts : calls ≡ front ++ (kind, name) ∷ rest
-  pub is_last : IsTrue told → asked' ≡ asked ++ (front ++ (kind, name) ∷ [])
-  pub rose : fault
+-- ---- lines of a call that failed
 
 -- the call that failed is named on the error output
 pub record NamesFault (told : Bool) (calls asked asked' : List (EdgeKind × List ℕ)) (fault : Type 0) (err_told : Bool) (held held' : List ℕ) : Type 0 where
@@ -232,19 +244,16 @@ pub record NamesFault (told : Bool) (calls asked asked' : List (EdgeKind × List
   pub fails : FailsAt told calls asked asked' fault name
   pub written : IsTrue err_told → Adds held held' (edge_line name)
 
--- the line names a call that failed
-pub record IsEdgeLine (calls : List (EdgeKind × List ℕ)) (text : List ℕ) : Type 0 where
-  pub kind : EdgeKind
+-- the line names the call that failed
+pub record IsEdgeLine (told : Bool) (calls asked asked' : List (EdgeKind × List ℕ)) (fault : Type 0) (text : List ℕ) : Type 0 where
   pub name : List ℕ
-  pub front : List (EdgeKind × List ℕ)
-  pub rest : List (EdgeKind × List ℕ)
-  pub parts : calls ≡ front ++ (kind, name) ∷ rest
+  pub fails : FailsAt told calls asked asked' fault name
   pub is : text ≡ edge_line name
 
--- a front of one line was written: of the case, of want of memory, or of a call that failed
-pub record BeginsLine (calls : List (EdgeKind × List ℕ)) (held held' : List ℕ) (case : Case) : Type 0 where
+-- a front of one line was written: of the case, of want of memory, or of the call that failed
+pub record BeginsLine (told : Bool) (calls asked asked' : List (EdgeKind × List ℕ)) (fault : Type 0) (held held' : List ℕ) (case : Case) : Type 0 where
   pub text : List ℕ
-  pub is_one : (text ≡ []) ⊎ ((text ≡ case_line case) ⊎ ((text ≡ memory_line) ⊎ IsEdgeLine calls text))
+  pub is_one : (text ≡ []) ⊎ ((text ≡ case_line case) ⊎ ((text ≡ memory_line) ⊎ IsEdgeLine told calls asked asked' fault text))
   pub begun : AddsPrefix held held' text
 
 -- ---- the call
@@ -260,13 +269,14 @@ pub record IsCall (old new : OutsideSeen) (out out' err err' : SinkSeen) (comman
   -- each case has its status, and the error output its text, but for 5, 8 and 9
   pub has_status : status ≢ 5 → status ≢ 8 → status ≢ 9 → IsStatusOf status case
   pub errors : status ≢ 5 → status ≢ 8 → status ≢ 9 → IsTrue err.told → Adds err.held err'.held (error_text status case)
-  pub errors_begun : IsTrue err.told → BeginsLine (calls_of command case) err.held err'.held case
+  pub errors_begun : IsTrue err.told
+      → BeginsLine old.edges.told (calls_of command case) old.edges.asked new.edges.asked (Rose old.edges.faults new.edges.faults) err.held err'.held case
   -- 5: a call by name failed, and it was the last; the error output names it
   pub edge : status ≡ 5 → NamesFault old.edges.told (calls_of command case) old.edges.asked new.edges.asked (Rose old.edges.faults new.edges.faults) err.told err.held err'.held
   -- 8: a write failed
   pub lost : status ≡ 8 → Lost (IsReportOf topology before case) (Rose out.faults out'.faults) (IsTrue err.told → err'.held ≡ err.held) (Rose err.faults err'.faults)
   -- what was opened was read, written and given back as the journal says; so with the clock and the boxes
-  pub outside : IsOutsideOf (status ≡ 9) topology before case old new
+  pub outside : IsOutsideOf (status ≡ 9) (calls_of command case) topology before case old new
   -- where no call by name and no write failed, and each source, the control source too, tells its bytes, never failed or waited
   -- and has no line that is too long, a run came to its end, unless memory was wanting
   pub complete : ¬ Rose old.edges.faults new.edges.faults → ¬ Rose out.faults out'.faults → ¬ Rose err.faults err'.faults → AreFaultless old.edges new.edges → IsCompleteIn before status case

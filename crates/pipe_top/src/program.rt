@@ -67,7 +67,8 @@ pub fn run_program<
         (record { edges = ⟦<E as SeenEdges>⟧.seen edges.new; clock = clock_seen K.latest K.readings result.clock; boxes = map C.seen result.stock.items })
         (⟦<E::Out as SeenSink>⟧.seen out.old) (⟦<E::Out as SeenSink>⟧.seen out.new) (⟦<E::Out as SeenSink>⟧.seen err.old) (⟦<E::Out as SeenSink>⟧.seen err.new)
         (command_of (texts_of words.now.items)) result.topology result.journal.steps result.status) }
-    // 7 comes exactly where the words are no command, 8 only where a write failed; 9 is want of memory.
+    // 7 comes only where the words are no command, which come to it unless a write failed or memory was wanting; 8 comes only
+    // where a write failed; 9 is want of memory.
     ensures usage { result.status ≡ 7 → command_of (texts_of words.now.items) ≡ None }
     ensures no_command { command_of (texts_of words.now.items) ≡ None → IsOr 7 result.status }
     ensures output_fault { result.status ≡ 8 → Rose (E.Out.faults out.old) (E.Out.faults out.new) ⊎ Rose (E.Out.faults err.old) (E.Out.faults err.new) }

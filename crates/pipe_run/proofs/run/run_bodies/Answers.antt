@@ -10,7 +10,7 @@ use Rattle.edge_names.specs.Controls.{IsUndone, control_call, run_calls}
 use Rattle.edge_names.specs.Opened.{AreOpened, Asks, HasSource}
 use Rattle.box_stock.proofs.Filled.{filled, homes}
 use Rattle.pipe_run.specs.Steps.{WentOn}
-use Rattle.pipe_run.proofs.Calls.{asked_until, unopened}
+use Rattle.pipe_run.proofs.Calls.{failed_by}
 use Rattle.pipe_run.proofs.Controls.{unread}
 use Rattle.pipe_run.proofs.Wholes.{run_leaves, run_of}
 use Rattle.pipe_run.proofs.run.run_bodies.Goals as goal
@@ -103,19 +103,5 @@ returns-in-Err-Failed-clause-failed g c =
     let old = seen c.args.edges.now in
     let new = seen c.open_or_give_back.new.edges in
     let undone = rw c.in-Err-Failed.field-0-is at c.in-Err-Failed.ensures.undone in
-    let asked = asked_until c.args.topology c.in-Err-Failed.name table old new (subst (λ (t : Topology). IsUndone t c.in-Err-Failed.name table old new) same undone) in
-    rw c.in-Err-Failed.field-0-is asked
-
-pub returns-in-Err-Failed-clause-unopened : goal.returns-in-Err-Failed-clause-unopened
-returns-in-Err-Failed-clause-unopened g c =
-    let e = g.E.Edges in
-    let s = g.E.Source.ByteSource in
-    let k = g.E.Sink.ByteSink in
-    let seen = edges_seen e.told e.named e.asked e.faults e.sources_back e.sinks_back (source_seen s.told s.taken s.left s.faults s.waits) (sink_seen k.told k.held k.faults) in
-    let same = c.topology.ensures ∙ c.in-Ok.ensures.topology in
-    let table = body_at g.B.Works.look c.args.bodies.items in
-    let old = seen c.args.edges.now in
-    let new = seen c.open_or_give_back.new.edges in
-    let undone = rw c.in-Err-Failed.field-0-is at c.in-Err-Failed.ensures.undone in
-    let given = unopened c.args.topology c.in-Err-Failed.name table old new c.requires.handed (subst (λ (t : Topology). IsUndone t c.in-Err-Failed.name table old new) same undone) in
-    rw c.in-Err-Failed.field-0-is given
+    let failed = failed_by c.args.topology c.in-Err-Failed.name table old new c.requires.handed (subst (λ (t : Topology). IsUndone t c.in-Err-Failed.name table old new) same undone) in
+    rw c.in-Err-Failed.field-0-is failed

@@ -20,7 +20,7 @@ returns-in-Err-Unopened g c =
     let why = c.in-Err-Unopened.field-0-is in
     record {
       comes = unopened _ _ c.args.shows c.args.topology c.in-Err-Unopened.name q.result.topology q.result.journal.steps q.result.verdict
-          (rw (is, why) at r.unopened) (rw (is, why) at r.failed) (rw q.ensures.same_clock (rw (rw is at r.same_clock) refl)) (rw q.ensures.same_boxes (rw is at r.same_boxes)) (rw why at q.ensures.verdict) q.ensures.no_run;
+          (rw (is, why) at r.failed) (rw q.ensures.same_clock (rw (rw is at r.same_clock) refl)) (rw q.ensures.same_boxes (rw is at r.same_boxes)) (rw why at q.ensures.verdict) q.ensures.no_run;
     }
 
 pub returns-in-Err-OutOfMemory : goal.returns-in-Err-OutOfMemory
