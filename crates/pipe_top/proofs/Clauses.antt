@@ -17,14 +17,14 @@ use Rattle.config_flow.specs.Flow.{flow_topology_of}
 use Rattle.pipe_config.specs.File.{topology_of_file}
 use Rattle.pipe_top.specs.Cases.{Case, NoCommand, NoTopology as BadTopology, TooFew, Checks, Runs, case_of, run_case, unless_short, for_topology, report_alone}
 use Rattle.pipe_top.specs.Verdicts.{Adds, AddsPrefix, out_text_of, err_text_of, status_in, FaultBy, QuietBy}
-use Rattle.pipe_top.specs.Runs.{OutsideSeen, IsRunOrNone, IsEndOf, IsOwnTopology, IsStatusOf, IsReportOf, Lost, IsUntouched, HasUsed, HasNotBegun, HasRunOrNot, IsGivenUp, IsOutsideOf, IsRefusalStatus, IsUnopenedStatus, IsOr, Asks, FailsAt, NamesFault, IsEdgeLine, BeginsLine, out_text, case_line, error_text}
+use Rattle.pipe_top.specs.Runs.{OutsideSeen, IsRunOrNone, IsEndOf, IsOwnTopology, IsStatusOf, IsReportOf, IsRefusal, IsRefused, Lost, IsUntouched, HasUsed, HasNotBegun, HasRunOrNot, IsGivenUp, IsOutsideOf, IsRefusalStatus, IsUnopenedStatus, IsOr, Asks, FailsAt, NamesFault, IsEdgeLine, BeginsLine, out_text, text_of_call, case_line, error_text}
 use Rattle.pipe_top.specs.Flows.{Outcome, IsEarly, AskedBy}
 use Rattle.pipe_top.specs.declared.verdict.Refusal.{Refusal}
 use Rattle.pipe_top.specs.declared.verdict.Refusal.TheVariants.{Usage, Topology as NoTopology, Stock, Edge, Memory}
 use Rattle.pipe_top.specs.declared.verdict.Shows.{Shows}
 use Rattle.pipe_top.specs.declared.verdict.Verdict.{Verdict}
 use Rattle.pipe_top.specs.declared.verdict.Verdict.TheVariants.{Refused, Done}
-use Rattle.pipe_top.proofs.Outcomes.{Fails, early, Reported, ran, settled, is_small, not_small, not_both, few_of}
+use Rattle.pipe_top.proofs.Outcomes.{Fails, Early, early, Reported, ran, settled, is_small, not_small, not_both, few_of}
 
 -- ---- the statuses of verdicts
 
@@ -143,15 +143,17 @@ begun_early fails held held' text verdict (inl is) begun = begun_refusal held he
 begun_early fails held held' text verdict (inr f) begun = begun_refusal held held' text verdict (Edge f.name) f.is begun
 
 pub begun : (case : Case) (fails : List ℕ → Type 0) (topology : Option Topology) (before : History) (verdict : Verdict) (held held' : List ℕ) → Outcome case fails topology before verdict
-    → AddsPrefix held held' (out_text_of verdict) → AddsPrefix held held' (out_text before case)
-begun case fails topology before verdict held held' (inl e) b = begun_early fails held held' (out_text before case) verdict (early fails topology before verdict e).why b
-begun NoCommand fails topology before verdict held held' (inr r) b = begun_refusal held held' [] verdict Usage r.refused b
-begun (BadTopology fault) fails topology before verdict held held' (inr r) b = begun_refusal held held' [] verdict (NoTopology fault) r.refused b
-begun (TooFew shortage) fails topology before verdict held held' (inr r) b = begun_refusal held held' [] verdict (Stock shortage) r.refused b
+    → AddsPrefix held held' (out_text_of verdict) → AddsPrefix held held' (text_of_call topology before case)
+begun case fails topology before verdict held held' (inl e) b =
+    let none = early fails topology before verdict e in
+    rw none.no_topology (begun_early fails held held' [] verdict none.why b)
+begun NoCommand fails topology before verdict held held' (inr r) b = rw r.no_topology (begun_refusal held held' [] verdict Usage r.refused b)
+begun (BadTopology fault) fails topology before verdict held held' (inr r) b = rw r.no_topology (begun_refusal held held' [] verdict (NoTopology fault) r.refused b)
+begun (TooFew shortage) fails topology before verdict held held' (inr r) b = rw r.no_topology (begun_refusal held held' [] verdict (Stock shortage) r.refused b)
 begun (Checks wanted) fails topology before verdict held held' (inr r) b =
     let counted : AddsPrefix held held' (out_text_of (Done r.texts 0)) = rw r.counted at b in
-    rw r.counts at counted
-begun (Runs shows wanted) fails topology before verdict held held' (inr r) b = by_run (ran verdict shows wanted before r.comes_to)
+    rw r.own (rw r.counts at counted)
+begun (Runs shows wanted) fails topology before verdict held held' (inr r) b = rw r.own (by_run (ran verdict shows wanted before r.comes_to))
   where
     by_run : Reported shows wanted before verdict ⊎ (verdict ≡ Refused Memory) → AddsPrefix held held' (out_text before (Runs shows wanted))
     by_run (inl v) =
@@ -252,32 +254,37 @@ of_status_seven case fails topology before verdict status o is seven =
     rw seven at (statuses case fails topology before verdict status o is (λ x. not_both 5 7 status x seven (λ y. cc)) (λ x. not_both 8 7 status x seven (λ y. cc)) (λ x. not_both 9 7 status x seven (λ y. cc)))
 
 -- which line a verdict writes
-one_line : (case : Case) (told : Bool) (calls asked asked' : List (EdgeKind × List ℕ)) (fault : Type 0) (topology : Option Topology) (before : History) (verdict : Verdict)
+one_line : (case : Case) (told : Bool) (calls asked asked' : List (EdgeKind × List ℕ)) (fault : Type 0) (topology : Option Topology) (before : History) (verdict : Verdict) (status : ℕ) → (verdict ≡ Refused Memory → status ≡ 9)
     → Outcome case (FailsAt told calls asked asked' fault) topology before verdict
-    → (err_text_of verdict ≡ []) ⊎ ((err_text_of verdict ≡ case_line case) ⊎ ((err_text_of verdict ≡ memory_line) ⊎ IsEdgeLine told calls asked asked' fault (err_text_of verdict)))
-one_line case told calls asked asked' fault topology before verdict (inl e) = by_early (early (FailsAt told calls asked asked' fault) topology before verdict e).why
+    → (err_text_of verdict ≡ []) ⊎ ((err_text_of verdict ≡ case_line case) ⊎ (((err_text_of verdict ≡ memory_line) × (status ≡ 9)) ⊎ IsEdgeLine told calls asked asked' fault topology (err_text_of verdict)))
+one_line case told calls asked asked' fault topology before verdict status wanting (inl e) = by_early (early (FailsAt told calls asked asked' fault) topology before verdict e).why
   where
     by_early : (verdict ≡ Refused Memory) ⊎ Fails (FailsAt told calls asked asked' fault) verdict
-        → (err_text_of verdict ≡ []) ⊎ ((err_text_of verdict ≡ case_line case) ⊎ ((err_text_of verdict ≡ memory_line) ⊎ IsEdgeLine told calls asked asked' fault (err_text_of verdict)))
-    by_early (inl is) = inr (inr (inl (ap err_text_of is)))
-    by_early (inr f) = inr (inr (inr (record { name = f.name; fails = f.so; is = ap err_text_of f.is })))
-one_line NoCommand told calls asked asked' fault topology before verdict (inr r) = inr (inl (ap err_text_of r.refused))
-one_line (BadTopology f) told calls asked asked' fault topology before verdict (inr r) = inr (inl (ap err_text_of r.refused))
-one_line (TooFew shortage) told calls asked asked' fault topology before verdict (inr r) = inr (inl (ap err_text_of r.refused))
-one_line (Checks wanted) told calls asked asked' fault topology before verdict (inr r) = inl (ap err_text_of r.counted)
-one_line (Runs shows wanted) told calls asked asked' fault topology before verdict (inr r) = by_run (ran verdict shows wanted before r.comes_to)
+        → (err_text_of verdict ≡ []) ⊎ ((err_text_of verdict ≡ case_line case) ⊎ (((err_text_of verdict ≡ memory_line) × (status ≡ 9)) ⊎ IsEdgeLine told calls asked asked' fault topology (err_text_of verdict)))
+    by_early (inl is) = inr (inr (inl (ap err_text_of is, wanting is)))
+    by_early (inr f) = inr (inr (inr (record {
+      no_run = (early (FailsAt told calls asked asked' fault) topology before verdict e).no_topology;
+      name = f.name;
+      fails = f.so;
+      is = ap err_text_of f.is;
+    })))
+one_line NoCommand told calls asked asked' fault topology before verdict status wanting (inr r) = inr (inl (ap err_text_of r.refused))
+one_line (BadTopology f) told calls asked asked' fault topology before verdict status wanting (inr r) = inr (inl (ap err_text_of r.refused))
+one_line (TooFew shortage) told calls asked asked' fault topology before verdict status wanting (inr r) = inr (inl (ap err_text_of r.refused))
+one_line (Checks wanted) told calls asked asked' fault topology before verdict status wanting (inr r) = inl (ap err_text_of r.counted)
+one_line (Runs shows wanted) told calls asked asked' fault topology before verdict status wanting (inr r) = by_run (ran verdict shows wanted before r.comes_to)
   where
     by_run : Reported shows wanted before verdict ⊎ (verdict ≡ Refused Memory)
-        → (err_text_of verdict ≡ []) ⊎ ((err_text_of verdict ≡ case_line (Runs shows wanted)) ⊎ ((err_text_of verdict ≡ memory_line) ⊎ IsEdgeLine told calls asked asked' fault (err_text_of verdict)))
+        → (err_text_of verdict ≡ []) ⊎ ((err_text_of verdict ≡ case_line (Runs shows wanted)) ⊎ (((err_text_of verdict ≡ memory_line) × (status ≡ 9)) ⊎ IsEdgeLine told calls asked asked' fault topology (err_text_of verdict)))
     by_run (inl v) = inl (ap err_text_of v.is)
-    by_run (inr is) = inr (inr (inl (ap err_text_of is)))
+    by_run (inr is) = inr (inr (inl (ap err_text_of is, wanting is)))
 
-pub line_begun : (case : Case) (told : Bool) (calls asked asked' : List (EdgeKind × List ℕ)) (fault : Type 0) (topology : Option Topology) (before : History) (verdict : Verdict) (held held' : List ℕ)
+pub line_begun : (case : Case) (told : Bool) (calls asked asked' : List (EdgeKind × List ℕ)) (fault : Type 0) (topology : Option Topology) (before : History) (verdict : Verdict) (status : ℕ) (held held' : List ℕ) → (verdict ≡ Refused Memory → status ≡ 9)
     → Outcome case (FailsAt told calls asked asked' fault) topology before verdict → AddsPrefix held held' (err_text_of verdict)
-    → BeginsLine told calls asked asked' fault held held' case
-line_begun case told calls asked asked' fault topology before verdict held held' o b = record {
+    → BeginsLine told calls asked asked' fault topology status held held' case
+line_begun case told calls asked asked' fault topology before verdict status held held' wanting o b = record {
   text = err_text_of verdict;
-  is_one = one_line case told calls asked asked' fault topology before verdict o;
+  is_one = one_line case told calls asked asked' fault topology before verdict status wanting o;
   begun = b;
 }
 
@@ -438,26 +445,38 @@ outside_as memory wanting so calls topology before (Runs shows wanted) old new o
 
 -- ---- a text that was lost
 
-refusal_lost : (verdict : Verdict) (refusal : Refusal) (reported out_fault quiet err_fault : Type 0) → verdict ≡ Refused refusal → FaultBy verdict out_fault err_fault → Lost reported out_fault quiet err_fault
-refusal_lost verdict refusal reported out_fault quiet err_fault is fault = inr (rw is at fault)
+refusal_lost : (verdict : Verdict) (refusal : Refusal) (reported out_fault quiet refused err_fault : Type 0) → verdict ≡ Refused refusal → refused → FaultBy verdict out_fault err_fault
+    → Lost reported out_fault quiet refused err_fault
+refusal_lost verdict refusal reported out_fault quiet refused err_fault is why fault = inr (why, rw is at fault)
 
-pub lost_by : (case : Case) (fails : List ℕ → Type 0) (topology : Option Topology) (before : History) (verdict : Verdict) (out_fault quiet err_fault : Type 0)
-    → Outcome case fails topology before verdict → FaultBy verdict out_fault err_fault → QuietBy verdict quiet → Lost (IsReportOf topology before case) out_fault quiet err_fault
-lost_by case fails topology before verdict out_fault quiet err_fault (inl e) fault q = by_why (early fails topology before verdict e).why
+refused_case : (fails : List ℕ → Type 0) (topology : Option Topology) (before : History) (case : Case) → topology ≡ None → before ≡ [] → IsRefusal case → IsRefused fails topology before case
+refused_case fails topology before case none empty is = record { no_topology = none; no_step = empty; why = inl is }
+
+pub lost_by : (case : Case) (fails : List ℕ → Type 0) (topology : Option Topology) (before : History) (verdict : Verdict) (out_fault quiet err_fault : Type 0) → verdict ≢ Refused Memory
+    → Outcome case fails topology before verdict → FaultBy verdict out_fault err_fault → QuietBy verdict quiet → Lost (IsReportOf topology before case) out_fault quiet (IsRefused fails topology before case) err_fault
+lost_by case fails topology before verdict out_fault quiet err_fault found (inl e) fault q = by_why none.why
   where
-    by_why : (verdict ≡ Refused Memory) ⊎ Fails fails verdict → Lost (IsReportOf topology before case) out_fault quiet err_fault
-    by_why (inl is) = refusal_lost verdict Memory _ out_fault quiet err_fault is fault
-    by_why (inr f) = refusal_lost verdict (Edge f.name) _ out_fault quiet err_fault f.is fault
-lost_by NoCommand fails topology before verdict out_fault quiet err_fault (inr r) fault q = refusal_lost verdict Usage _ out_fault quiet err_fault r.refused fault
-lost_by (BadTopology f) fails topology before verdict out_fault quiet err_fault (inr r) fault q = refusal_lost verdict (NoTopology f) _ out_fault quiet err_fault r.refused fault
-lost_by (TooFew shortage) fails topology before verdict out_fault quiet err_fault (inr r) fault q = refusal_lost verdict (Stock shortage) _ out_fault quiet err_fault r.refused fault
-lost_by (Checks wanted) fails topology before verdict out_fault quiet err_fault (inr r) fault q =
+    none : Early fails topology before verdict
+    none = early fails topology before verdict e
+
+    by_why : (verdict ≡ Refused Memory) ⊎ Fails fails verdict → Lost (IsReportOf topology before case) out_fault quiet (IsRefused fails topology before case) err_fault
+    by_why (inl is) = absurd (found is)
+    by_why (inr f) =
+        refusal_lost verdict (Edge f.name) (IsReportOf topology before case) out_fault quiet (IsRefused fails topology before case) err_fault f.is
+        (record { no_topology = none.no_topology; no_step = none.no_step; why = inr (f.name, f.so) }) fault
+lost_by NoCommand fails topology before verdict out_fault quiet err_fault found (inr r) fault q =
+    refusal_lost verdict Usage _ out_fault quiet (IsRefused fails topology before NoCommand) err_fault r.refused (refused_case fails topology before NoCommand r.no_topology r.no_step tt) fault
+lost_by (BadTopology f) fails topology before verdict out_fault quiet err_fault found (inr r) fault q =
+    refusal_lost verdict (NoTopology f) _ out_fault quiet (IsRefused fails topology before (BadTopology f)) err_fault r.refused (refused_case fails topology before (BadTopology f) r.no_topology r.no_step tt) fault
+lost_by (TooFew shortage) fails topology before verdict out_fault quiet err_fault found (inr r) fault q =
+    refusal_lost verdict (Stock shortage) _ out_fault quiet (IsRefused fails topology before (TooFew shortage)) err_fault r.refused (refused_case fails topology before (TooFew shortage) r.no_topology r.no_step tt) fault
+lost_by (Checks wanted) fails topology before verdict out_fault quiet err_fault found (inr r) fault q =
     inl (record { status = 0; end_of = (refl, r.own, r.no_step) }, rw r.counted at fault, rw r.counted at q)
-lost_by (Runs shows wanted) fails topology before verdict out_fault quiet err_fault (inr r) fault q = by_run (ran verdict shows wanted before r.comes_to)
+lost_by (Runs shows wanted) fails topology before verdict out_fault quiet err_fault found (inr r) fault q = by_run (ran verdict shows wanted before r.comes_to)
   where
-    by_run : Reported shows wanted before verdict ⊎ (verdict ≡ Refused Memory) → Lost (IsReportOf topology before (Runs shows wanted)) out_fault quiet err_fault
+    by_run : Reported shows wanted before verdict ⊎ (verdict ≡ Refused Memory) → Lost (IsReportOf topology before (Runs shows wanted)) out_fault quiet (IsRefused fails topology before (Runs shows wanted)) err_fault
     by_run (inl v) = inl (record { status = v.status; end_of = (r.own, v.report.ended) }, rw v.is at fault, rw v.is at q)
-    by_run (inr is) = refusal_lost verdict Memory _ out_fault quiet err_fault is fault
+    by_run (inr is) = absurd (found is)
 
 -- ---- the calls
 

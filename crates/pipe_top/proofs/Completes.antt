@@ -1,10 +1,9 @@
 -- Where nothing failed, the run came to its end.
-use Rattle.std.proofs.Common.{◌≡◌, ◌≢◌, ℕ, suc, ◌≤◌, List, [], ◌∷◌, ◌++◌, length, Bool, true, false, refl, ap, ◌∙◌, subst, inl, inr, Option, Some, None, arith}
+use Rattle.std.proofs.Common.{◌≡◌, ◌≢◌, ℕ, suc, List, [], ◌∷◌, ◌++◌, length, Bool, true, false, refl, ap, ◌∙◌, subst, inl, inr, Option, Some, None, arith}
 use Rattle.std.specs.Prelude.{◌⊎◌, ◌&&◌, ◌||◌, All, IsTrue, is_some, find, nat_le, if◌then◌else◌}
 use Rattle.std.specs.List.{list_any}
 use Rattle.std.proofs.lemmas.List.{take_all}
 use Rattle.std.proofs.lemmas.List.Elements.{All-nil, All-cons, All-head, All-tail}
-use Rattle.pipe_types.specs.Counts.{Rose}
 use Rattle.pipe_types.specs.Lines.{lines}
 use Rattle.pipe_types.specs.Numbers.{stage, post, same_stage}
 use Rattle.pipe_types.specs.Sound.{IsSound, processors, by_demand, by_partition, is_size, is_producer_in}
@@ -22,8 +21,7 @@ use Rattle.pipe_model.specs.Outside.{fed, source_end}
 use Rattle.pipe_edges.specs.declared.edges.EdgeKind.{EdgeKind}
 use Rattle.pipe_edges.specs.declared.edges.EdgeKind.TheVariants.{Source}
 use Rattle.journal_texts.specs.Report.{places, is_fault, is_lost, is_failed, is_source_fault}
-use Rattle.run_claims.specs.Read.{HasNoControl, quiets}
-use Rattle.stage_job.specs.Chunks.{RoseBy}
+use Rattle.run_claims.specs.Read.{HasNoControl}
 use Rattle.stage_bodies.specs.Seen.{SourceSeen, LineSeen, BodySeen}
 use Rattle.stage_bodies.specs.Posts.{place_at}
 use Rattle.stage_laws.proofs.Groups.{fields_of}
@@ -37,7 +35,7 @@ use Rattle.edge_names.specs.Returned.{named_source, source_in, sources_of, with_
 use Rattle.pipe_run.specs.Outside.{HasControl, IsOutside, IsSourceRead, ReadsSource}
 use Rattle.pipe_run.specs.Whole.{HasCome}
 use Rattle.pipe_top.specs.Verdicts.{status_in}
-use Rattle.pipe_top.specs.Runs.{OutsideSeen, IsRun, IsEnded, HasUsed, IsOutsideOf, IsFaultless, AreFaultless, IsReadWhole, IsComplete, IsCompleteIn, is_limit_drain, is_control_drain}
+use Rattle.pipe_top.specs.Runs.{OutsideSeen, IsRun, IsEnded, HasUsed, IsOutsideOf, IsFaultless, AreFaultless, IsReadWhole, IsComplete, IsCompleteIn, is_limit_drain, is_control_drain, is_idle_drain}
 use Rattle.pipe_top.specs.Cases.{Case, NoCommand, NoTopology as BadTopology, TooFew, Checks, Runs}
 use Rattle.pipe_top.specs.Flows.{Outcome}
 use Rattle.pipe_top.specs.declared.verdict.Refusal.TheVariants.{Memory}
@@ -195,14 +193,6 @@ no_fault topology before sound run read fine = either (happened is_source_fault 
     either false e = e
     either true e = absurd (by_end (faults_show topology before sound run.claims.legal e))
 
--- a faultless source never had nothing ready
-never_rested : (before : History) (p : StageNo) → IsWellRead before p → 1 ≤ quiets before p → ⊥
-never_rested before p w some = w.fine.no_wait (rose w.reads.quiet)
-  where
-    rose : RoseBy (quiets before p) 0 w.source.waits → Rose 0 w.source.waits
-    rose (inl h) = inl (omega (arith, h, some))
-    rose (inr full) = inl (omega (arith, full))
-
 -- a run that was reported
 pub ended_whole : (topology : Topology) (before : History) (status : ℕ) → IsSound topology → IsRun topology before → IsEnded topology before status → AreWellRead topology before → IsControlFine before → IsComplete topology before status
 ended_whole topology before status sound run end read fine = record {
@@ -212,17 +202,17 @@ ended_whole topology before status sound run end read fine = record {
   clean = λ other lossless pass. end.by_journal ∙ clean_status topology before (no_fault topology before sound run read fine) lossless pass;
 }
   where
-    by_cause : HasCause topology before → IsReadWhole topology before ⊎ (IsTrue (happened is_limit_drain before) ⊎ (IsTrue (happened is_control_drain before) ⊎ IsTrue (happened is_halt before)))
+    by_cause : HasCause topology before → IsReadWhole topology before ⊎ (IsTrue (happened is_limit_drain before) ⊎ (IsTrue (happened is_idle_drain before) ⊎ (IsTrue (happened is_control_drain before) ⊎ IsTrue (happened is_halt before))))
     by_cause (limited h) = inr (inl h)
     by_cause (ended each) = inl (λ p role.
         end_is before p (source_end before p) refl (ended_as before p ∙ each p role)
         (never_limited topology before p run.claims.legal (producer_inner topology p sound role)) (read p role))
-    by_cause (controlled h) = inr (inr (inl h))
-    by_cause (rested r) = absurd (never_rested before r.at (read r.at r.role) r.some)
+    by_cause (controlled h) = inr (inr (inr (inl h)))
+    by_cause (rested h) = inr (inr (inl h))
 
-    by_end : HasCome topology before → IsReadWhole topology before ⊎ (IsTrue (happened is_limit_drain before) ⊎ (IsTrue (happened is_control_drain before) ⊎ IsTrue (happened is_halt before)))
+    by_end : HasCome topology before → IsReadWhole topology before ⊎ (IsTrue (happened is_limit_drain before) ⊎ (IsTrue (happened is_idle_drain before) ⊎ (IsTrue (happened is_control_drain before) ⊎ IsTrue (happened is_halt before))))
     by_end (inl drained) = by_cause (drain_shows topology before run.claims.legal (and_left (happened is_drain before) _ drained))
-    by_end (inr halted) = inr (inr (inr halted.0))
+    by_end (inr halted) = inr (inr (inr (inr halted.0)))
 
 -- ---- in the case of the call
 

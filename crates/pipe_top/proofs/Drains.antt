@@ -1,78 +1,44 @@
 -- Why the drain of a legal journal began.
-use Rattle.std.proofs.Common.{◌≡◌, ℕ, ◌+◌, ◌≤◌, List, [], ◌∷◌, Bool, true, false, refl, sym, ap, ◌∙◌, arith, Some}
-use Rattle.std.specs.Prelude.{◌||◌, not, nat_le, if◌then◌else◌, find}
+use Rattle.std.proofs.Common.{◌≡◌, List, [], ◌∷◌, Bool, true, false, refl, sym, ap, ◌∙◌, Some}
+use Rattle.std.specs.Prelude.{◌||◌, not, if◌then◌else◌, find}
 use Rattle.std.specs.List.{list_all}
-use Rattle.std.proofs.lemmas.Bool.{leb-true, or_right}
+use Rattle.std.proofs.lemmas.Bool.{or_right}
 use Rattle.pipe_types.specs.declared.numbers.StageNo.{StageNo}
 use Rattle.pipe_types.specs.declared.topology.StageSpec.{StageSpec}
 use Rattle.pipe_types.specs.declared.topology.Topology.{Topology}
 use Rattle.pipe_types.specs.declared.step.DrainCause.{DrainCause}
 use Rattle.pipe_types.specs.declared.step.DrainCause.TheVariants.{Sources, Control, Limit, Idle}
-use Rattle.pipe_types.specs.declared.step.LateAnswer.TheVariants as late
 use Rattle.pipe_types.specs.declared.step.Step.{Step}
-use Rattle.pipe_types.specs.declared.step.Step.TheVariants.{Fetch, Quiet, Late, Tick, Drain}
+use Rattle.pipe_types.specs.declared.step.Step.TheVariants.{Drain}
 use Rattle.pipe_types.specs.Numbers.{same_stage}
 use Rattle.pipe_types.specs.Stages.{spec_in}
 use Rattle.pipe_model.specs.History.{History}
-use Rattle.pipe_model.specs.Legal.{is_legal, happened, is_drain, has_ended, ends_source, all_ended, drains_for, has_role, is_producer_role, quiet_row}
-use Rattle.run_claims.specs.Read.{quiets}
+use Rattle.pipe_model.specs.Legal.{is_legal, happened, is_drain, has_ended, ends_source, all_ended, drains_for, has_role, is_producer_role}
 use Rattle.pipe_laws.proofs.Allowed.{legal_before, legal_step, unowed}
-use Rattle.pipe_laws.proofs.Tests.{and_left, and_right, same_stage-self, same_stage-true}
+use Rattle.pipe_laws.proofs.Tests.{and_left, and_right, same_stage-true}
 use Rattle.body_laws.proofs.Posts.{some_role}
-use Rattle.body_laws.proofs.Steps.{quiet_facts}
-use Rattle.pipe_top.specs.Runs.{is_limit_drain, is_control_drain}
-
--- the source of a producer had nothing ready
-pub record HasRested (topology : Topology) (before : History) : Type 0 where
-  pub at : StageNo
-  pub role : has_role topology at is_producer_role ≡ true
-  pub some : 1 ≤ quiets before at
+use Rattle.pipe_top.specs.Runs.{is_limit_drain, is_control_drain, is_idle_drain}
 
 -- every producer's source has ended
 abbrev pub AreEnded : Topology → History → Type 0
 AreEnded topology before = (p : StageNo) → has_role topology p is_producer_role ≡ true → has_ended before p ≡ true
 
--- why a drain began: a limit was reached, every source had ended, a control line asked for it, or a source had nothing ready
+-- why a drain began: a limit was reached, every source had ended, a control line asked for it, or the idle limit was reached
 pub data HasCause (topology : Topology) (before : History) : Type 0 where
   limited : happened is_limit_drain before ≡ true → HasCause topology before
   ended : AreEnded topology before → HasCause topology before
   controlled : happened is_control_drain before ≡ true → HasCause topology before
-  rested : HasRested topology before → HasCause topology before
+  rested : happened is_idle_drain before ≡ true → HasCause topology before
 
 -- ---- a cause stays
-
-more_if : (b : Bool) (n : ℕ) → 1 ≤ n → 1 ≤ (if b then n + 1 else n)
-more_if true n h = omega (arith, h)
-more_if false n h = h
-
-quiets_stay : (step : Step) (before : History) (p : StageNo) → 1 ≤ quiets before p → 1 ≤ quiets (step ∷ before) p
-quiets_stay (Quiet s) before p h = more_if (same_stage s p) (quiets before p) h
-quiets_stay (Late s slot i late.Quiet) before p h = more_if (same_stage s p) (quiets before p) h
-quiets_stay _ before p h = h
 
 kept : (topology : Topology) (step : Step) (before : History) → HasCause topology before → HasCause topology (step ∷ before)
 kept topology step before (limited h) = limited (or_right (is_limit_drain step) (happened is_limit_drain before) h)
 kept topology step before (ended each) = ended (λ p role. or_right (ends_source p step) (has_ended before p) (each p role))
 kept topology step before (controlled h) = controlled (or_right (is_control_drain step) (happened is_control_drain before) h)
-kept topology step before (rested r) = rested (record { at = r.at; role = r.role; some = quiets_stay step before r.at r.some })
+kept topology step before (rested h) = rested (or_right (is_idle_drain step) (happened is_idle_drain before) h)
 
 -- ---- the first drain
-
--- a row of quiets has a quiet
-row_rests : (topology : Topology) (before : History) → is_legal topology before ≡ true → 1 ≤ quiet_row before → HasRested topology before
-row_rests topology [] legal h = absurd (omega (arith, h))
-row_rests topology (Quiet s ∷ before) legal h = record {
-  at = s;
-  role = (quiet_facts topology before s (legal_step topology before (Quiet s) legal)).role;
-  some = rw (same_stage-self s) (omega arith);
-}
-row_rests topology (Fetch s n ∷ before) legal h =
-    let r = row_rests topology before (legal_before topology before (Fetch s n) legal) h in
-    record { at = r.at; role = r.role; some = r.some }
-row_rests topology (Tick t ∷ before) legal h =
-    let r = row_rests topology before (legal_before topology before (Tick t) legal) h in
-    record { at = r.at; role = r.role; some = r.some }
-row_rests topology (_ ∷ before) legal h = absurd (omega (arith, h))
 
 found_ended : (before : History) (s : StageNo) (spec : StageSpec) (specs : List StageSpec) → list_all (λ spec. not (is_producer_role spec.role) || has_ended before spec.no) specs ≡ true
     → spec_in specs s ≡ Some spec → is_producer_role spec.role ≡ true → has_ended before s ≡ true
@@ -106,11 +72,7 @@ begun topology before cause legal =
     by_cause Limit legal h = limited refl
     by_cause Sources legal h = ended (all_are_ended topology before h)
     by_cause Control legal h = controlled refl
-    by_cause Idle legal h =
-        let least : 1 ≤ topology.idle_limit = leb-true 1 topology.idle_limit (and_left (nat_le 1 topology.idle_limit) _ h) in
-        let row : topology.idle_limit ≤ quiet_row before = leb-true topology.idle_limit (quiet_row before) (and_right (nat_le 1 topology.idle_limit) _ h) in
-        let r = row_rests topology before legal (omega (arith, least, row)) in
-        rested (record { at = r.at; role = r.role; some = r.some })
+    by_cause Idle legal h = rested refl
 
 -- a drain began for a cause
 pub drain_shows : (topology : Topology) (before : History) → is_legal topology before ≡ true → happened is_drain before ≡ true → HasCause topology before

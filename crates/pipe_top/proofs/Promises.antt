@@ -47,15 +47,17 @@ call_by old new out out' err err' command topology before verdict status case c 
   output = λ t. begun case (Failing (calls_of command case) old new) topology before verdict out.held out'.held c.outcome (w.output_begun t);
   has_status = λ a b d. statuses case (Failing (calls_of command case) old new) topology before verdict status c.outcome w.status_is a b d;
   errors = λ a b d t. lines case (Failing (calls_of command case) old new) topology before verdict status err.held err'.held c.outcome w.status_is a b d (w.errors b d t);
-  errors_begun = λ t. line_begun case old.edges.told (calls_of command case) old.edges.asked new.edges.asked (Rose old.edges.faults new.edges.faults) topology before verdict err.held err'.held c.outcome (w.errors_begun t);
+  errors_begun = λ t. line_begun case old.edges.told (calls_of command case) old.edges.asked new.edges.asked (Rose old.edges.faults new.edges.faults) topology before verdict status err.held err'.held w.wanting c.outcome (w.errors_begun t);
   edge = λ five. named_fault case old.edges.told (calls_of command case) old.edges.asked new.edges.asked (Rose old.edges.faults new.edges.faults) err.told topology before verdict err.held err'.held c.outcome
       (is_status status (status_in verdict) 5 w.status_is five (λ x. cc) (λ x. cc)) (w.errors (λ x. not_both 8 5 status x five (λ y. cc)) (λ x. not_both 9 5 status x five (λ y. cc)));
-  lost = λ eight. lost_by case (Failing (calls_of command case) old new) topology before verdict (Rose out.faults out'.faults) (IsTrue err.told → err'.held ≡ err.held) (Rose err.faults err'.faults) c.outcome
+  lost = λ eight. lost_by case (Failing (calls_of command case) old new) topology before verdict (Rose out.faults out'.faults) (IsTrue err.told → err'.held ≡ err.held) (Rose err.faults err'.faults)
+      (λ memory. not_both 9 8 status (w.wanting memory) eight (λ x. cc)) c.outcome
       (w.fault eight (never_eight case (Failing (calls_of command case) old new) topology before verdict c.outcome)) (quiet_by verdict (IsTrue err.told) (err'.held ≡ err.held) w.quiet);
   outside = outside_as (verdict ≡ Refused Memory) (status ≡ 9) w.wanting (calls_of command case) topology before case old new c.outside;
   complete = λ calm out_calm err_calm fine. complete_by case (Failing (calls_of command case) old new) (calls_of command case) topology before verdict status old new w.status_is
       (λ eight. unwritten (fault_by verdict (Rose out.faults out'.faults) (Rose err.faults err'.faults) (w.fault eight (never_eight case (Failing (calls_of command case) old new) topology before verdict c.outcome))) out_calm err_calm)
       (λ name f. calm f.rose) fine c.outcome c.outside;
+  told = c.same_telling;
   asks = λ t. asks case old.edges.told (calls_of command case) old.edges.asked new.edges.asked (Rose old.edges.faults new.edges.faults) topology before verdict c.outcome t (c.asked_by t);
   asks_all = λ a b d t. asks_all verdict (calls_of command case) old.edges.asked new.edges.asked (λ x. a (settled status (status_in verdict) w.status_is b d ∙ x)) (λ x. d (settled status (status_in verdict) w.status_is b d ∙ x)) (c.asked_by t);
 }

@@ -2,7 +2,7 @@
 use Rattle.std.specs.Prelude.{◌≡◌, ◌≢◌, ◌≤◌, ◌⊎◌, Bool, true, false, ℕ, List, [], ◌∷◌, ◌++◌, take, length, All, IsTrue, Option, Some, None, if◌then◌else◌, nat_le}
 use Rattle.pipe_types.specs.Counts.{Rose}
 use Rattle.pipe_types.specs.declared.numbers.StageNo.{StageNo}
-use Rattle.pipe_types.specs.declared.step.DrainCause.TheVariants.{Control, Limit}
+use Rattle.pipe_types.specs.declared.step.DrainCause.TheVariants.{Control, Limit, Idle}
 use Rattle.pipe_types.specs.declared.step.SourceHow.TheVariants.{End}
 use Rattle.pipe_types.specs.declared.step.Step.{Step}
 use Rattle.pipe_types.specs.declared.step.Step.TheVariants.{Drain}
@@ -85,6 +85,11 @@ abbrev pub out_text : History → Case → List ℕ
 out_text before (Checks topology) = counts_line (length topology.stages) (subscriptions_of topology)
 out_text before (Runs shows topology) = run_text shows topology before
 out_text before _ = []
+
+-- the same, and nothing where there was neither a run nor a check
+abbrev pub text_of_call : Option Topology → History → Case → List ℕ
+text_of_call None before case = []
+text_of_call (Some topology) before case = out_text before case
 
 -- why there is no run, but for a call by name that failed and want of memory
 abbrev pub case_line : Case → List ℕ
@@ -184,10 +189,9 @@ IsOutsideOf memory calls topology before _ old new = IsUntouched old new
 
 -- ---- completeness
 
--- the source had no fault and no wait, and it tells its bytes, of which no line is too long
+-- the source had no fault, and it tells its bytes, of which no line is too long
 pub record IsFaultless (source : SourceSeen) : Type 0 where
   pub no_fault : ¬ Rose 0 source.faults
-  pub no_wait : ¬ Rose 0 source.waits
   pub tells : IsTrue source.told
   pub short : HasShortLines (source.taken ++ source.left)
 
@@ -206,18 +210,24 @@ abbrev pub is_control_drain : Step → Bool
 is_control_drain (Drain Control) = true
 is_control_drain _ = false
 
+-- the step begins the drain since the idle limit is reached
+abbrev pub is_idle_drain : Step → Bool
+is_idle_drain (Drain Idle) = true
+is_idle_drain _ = false
+
 -- every source but the control source was read to its end
 abbrev pub IsReadWhole : Topology → History → Type 0
 IsReadWhole topology before = (p : StageNo) → has_role topology p is_producer_role ≡ true → source_end before p ≡ Some End
 
--- the run came to its end, unless memory was wanting; then every source was read to its end, or a limit was reached, or a
--- control line asked for the drain, or the run was halted; and where nothing was lost, each reply is a pass and each outcome of a
+-- the run came to its end, unless memory was wanting; then every source was read to its end, or a limit was reached, or the idle
+-- limit, or a control line asked for the drain, or the run was halted; and where nothing was lost, each reply is a pass and each outcome of a
 -- batch a success, the status is 0
 pub record IsComplete (topology : Topology) (before : History) (status : ℕ) : Type 0 where
   pub status_is : (status ≤ 3) ⊎ (status ≡ 9)
   pub whole : status ≢ 9
       → IsReadWhole topology before
-      ⊎ (IsTrue (happened is_limit_drain before) ⊎ (IsTrue (happened is_control_drain before) ⊎ IsTrue (happened is_halt before)))
+      ⊎ (IsTrue (happened is_limit_drain before)
+      ⊎ (IsTrue (happened is_idle_drain before) ⊎ (IsTrue (happened is_control_drain before) ⊎ IsTrue (happened is_halt before))))
   pub clean : status ≢ 9 → IsTrue (is_lossless topology before) → IsTrue (all_pass before) → status ≡ 0
 
 -- a run is complete
@@ -232,9 +242,22 @@ pub record IsReportOf (topology : Option Topology) (before : History) (case : Ca
   pub status : ℕ
   pub end_of : IsEndOf topology before status case
 
--- a write failed: of the texts of a whole run or a check, and nothing was written to the error output; or of a refusal
-abbrev pub Lost : (reported out_fault quiet err_fault : Type 0) → Type 0
-Lost reported out_fault quiet err_fault = (reported × out_fault × quiet) ⊎ err_fault
+-- the case is a refusal
+abbrev pub IsRefusal : Case → Type 0
+IsRefusal NoCommand = Unit {0}
+IsRefusal (NoTopology fault) = Unit {0}
+IsRefusal (TooFew shortage) = Unit {0}
+IsRefusal _ = ⊥
+
+-- there was no run, since the case is a refusal or a call by name failed
+pub record IsRefused (fails : List ℕ → Type 0) (topology : Option Topology) (before : History) (case : Case) : Type 0 where
+  pub no_topology : topology ≡ None
+  pub no_step : before ≡ []
+  pub why : IsRefusal case ⊎ ((name : List ℕ) × fails name)
+
+-- a write failed: of the texts of a whole run or a check, and nothing was written to the error output; or of the line of a refusal
+abbrev pub Lost : (reported out_fault quiet refused err_fault : Type 0) → Type 0
+Lost reported out_fault quiet refused err_fault = (reported × out_fault × quiet) ⊎ (refused × err_fault)
 
 -- ---- lines of a call that failed
 
@@ -244,16 +267,17 @@ pub record NamesFault (told : Bool) (calls asked asked' : List (EdgeKind × List
   pub fails : FailsAt told calls asked asked' fault name
   pub written : IsTrue err_told → Adds held held' (edge_line name)
 
--- the line names the call that failed
-pub record IsEdgeLine (told : Bool) (calls asked asked' : List (EdgeKind × List ℕ)) (fault : Type 0) (text : List ℕ) : Type 0 where
+-- there was no run, and the line names the call that failed
+pub record IsEdgeLine (told : Bool) (calls asked asked' : List (EdgeKind × List ℕ)) (fault : Type 0) (topology : Option Topology) (text : List ℕ) : Type 0 where
+  pub no_run : topology ≡ None
   pub name : List ℕ
   pub fails : FailsAt told calls asked asked' fault name
   pub is : text ≡ edge_line name
 
 -- a front of one line was written: of the case, of want of memory, or of the call that failed
-pub record BeginsLine (told : Bool) (calls asked asked' : List (EdgeKind × List ℕ)) (fault : Type 0) (held held' : List ℕ) (case : Case) : Type 0 where
+pub record BeginsLine (told : Bool) (calls asked asked' : List (EdgeKind × List ℕ)) (fault : Type 0) (topology : Option Topology) (status : ℕ) (held held' : List ℕ) (case : Case) : Type 0 where
   pub text : List ℕ
-  pub is_one : (text ≡ []) ⊎ ((text ≡ case_line case) ⊎ ((text ≡ memory_line) ⊎ IsEdgeLine told calls asked asked' fault text))
+  pub is_one : (text ≡ []) ⊎ ((text ≡ case_line case) ⊎ (((text ≡ memory_line) × (status ≡ 9)) ⊎ IsEdgeLine told calls asked asked' fault topology text))
   pub begun : AddsPrefix held held' text
 
 -- ---- the call
@@ -265,21 +289,25 @@ pub record IsCall (old new : OutsideSeen) (out out' err err' : SinkSeen) (comman
   pub ended : IsEndStatus status → IsEndOf topology before status case
   pub report : IsEndStatus status → IsTrue out.told → Adds out.held out'.held (out_text before case)
   -- under every status the output is a front of that text
-  pub output : IsTrue out.told → AddsPrefix out.held out'.held (out_text before case)
+  pub output : IsTrue out.told → AddsPrefix out.held out'.held (text_of_call topology before case)
   -- each case has its status, and the error output its text, but for 5, 8 and 9
   pub has_status : status ≢ 5 → status ≢ 8 → status ≢ 9 → IsStatusOf status case
   pub errors : status ≢ 5 → status ≢ 8 → status ≢ 9 → IsTrue err.told → Adds err.held err'.held (error_text status case)
   pub errors_begun : IsTrue err.told
-      → BeginsLine old.edges.told (calls_of command case) old.edges.asked new.edges.asked (Rose old.edges.faults new.edges.faults) err.held err'.held case
+      → BeginsLine old.edges.told (calls_of command case) old.edges.asked new.edges.asked (Rose old.edges.faults new.edges.faults) topology status err.held err'.held case
   -- 5: a call by name failed, and it was the last; the error output names it
   pub edge : status ≡ 5 → NamesFault old.edges.told (calls_of command case) old.edges.asked new.edges.asked (Rose old.edges.faults new.edges.faults) err.told err.held err'.held
   -- 8: a write failed
-  pub lost : status ≡ 8 → Lost (IsReportOf topology before case) (Rose out.faults out'.faults) (IsTrue err.told → err'.held ≡ err.held) (Rose err.faults err'.faults)
+  pub lost : status ≡ 8
+      → Lost (IsReportOf topology before case) (Rose out.faults out'.faults) (IsTrue err.told → err'.held ≡ err.held)
+      (IsRefused (FailsAt old.edges.told (calls_of command case) old.edges.asked new.edges.asked (Rose old.edges.faults new.edges.faults)) topology before case) (Rose err.faults err'.faults)
   -- what was opened was read, written and given back as the journal says; so with the clock and the boxes
   pub outside : IsOutsideOf (status ≡ 9) (calls_of command case) topology before case old new
-  -- where no call by name and no write failed, and each source, the control source too, tells its bytes, never failed or waited
-  -- and has no line that is too long, a run came to its end, unless memory was wanting
+  -- where no call by name and no write failed, and each source, the control source too, tells its bytes, never failed and has no
+  -- line that is too long, a run came to its end, unless memory was wanting
   pub complete : ¬ Rose old.edges.faults new.edges.faults → ¬ Rose out.faults out'.faults → ¬ Rose err.faults err'.faults → AreFaultless old.edges new.edges → IsCompleteIn before status case
+  -- the edges tell as before
+  pub told : new.edges.told ≡ old.edges.told
   -- the calls by name: the topology file is read, and then the sources and sinks of a run are opened
   pub asks : IsTrue old.edges.told → Asks (calls_of command case) old.edges.asked new.edges.asked
   pub asks_all : status ≢ 5 → status ≢ 8 → status ≢ 9 → IsTrue old.edges.told → new.edges.asked ≡ old.edges.asked ++ calls_of command case
