@@ -23,22 +23,24 @@ fn alone() -> Reason
     }
 }
 
-/// The calls of all callbacks that share a count are numbered from 1, as they begin. One of an odd number looks so many times,
-/// and gives other threads way after each look, whether the next one has begun: if so it passes its message, and else it
-/// fails it for the reason `alone`. One of an even number passes its message. It crashes at each batch.
+/// The calls of all callbacks that share a count are numbered from 1, as they begin, and make groups of so many. Each looks so
+/// many times, and gives other threads way after each look, whether all of its group have begun: if so it passes its message,
+/// and else it fails it for the reason `alone`. It crashes at each batch.
 #[derive(Drop)]
 pub struct Meets {
     alloc: Global,
     spec: StageSpec,
     begun: Arc<AtomicU64, Global>,
+    group: u64,
     looks: u64,
     calls: u64,
     bad: u64,
 }
 
 impl Meets {
-    /// A callback that was never armed, with the count that it shares and the number of its looks. It takes no memory.
-    pub fn new(alloc: Global, begun: Arc<AtomicU64, Global>, looks: u64) -> Meets
+    /// A callback that was never armed, with the count that it shares, the size of a group, where 0 counts as 1, and the number
+    /// of its looks. It takes no memory.
+    pub fn new(alloc: Global, begun: Arc<AtomicU64, Global>, group: u64, looks: u64) -> Meets
         ensures kind { ⟦<Meets as Callback>⟧.kind result ≡ Kind.Own }
         ensures calls { ⟦<Meets as Callback>⟧.calls result ≡ 0 }
         ensures bad { ⟦<Meets as Callback>⟧.bad result ≡ 0 }
@@ -47,16 +49,18 @@ impl Meets {
             alloc,
             spec: unarmed(alloc, Kind::Own),
             begun,
+            group,
             looks,
             calls: 0,
             bad: 0,
         }
     }
 
-    /// Begins a call, and says whether the number of calls that have begun came to an even one that counts it.
+    /// Begins a call, and says whether all calls of its group have begun.
     fn begin(&self) -> bool {
-        let number = self.begun.fetch_add(1, Ordering::SeqCst).saturating_add(1);
-        let wanted = number.saturating_add(number % 2);
+        let before = self.begun.fetch_add(1, Ordering::SeqCst);
+        let group = self.group.max(1);
+        let wanted = before.saturating_add(group - before % group);
         for _ in 0..self.looks {
             if self.begun.load(Ordering::SeqCst) >= wanted {
                 return true;

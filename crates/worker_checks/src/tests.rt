@@ -14,6 +14,13 @@ use std::sync::{Arc, Wait};
 use std::test::Fail;
 use std::thread::Threads;
 
+/// One producer and four processors, each of which takes one line at a time.
+const FOUR: &str = "version = 1\n[[producer]]\nname = \"p\"\nsource = \"mem:a\"\n\
+    [processors]\nconcurrency = 4\nmax_demand = 1\nmin_demand = 0\nkind = \"own\"\n";
+
+const FORTY_LINES: &str = "a\nb\nc\nd\na\nb\nc\nd\na\nb\nc\nd\na\nb\nc\nd\na\nb\nc\nd\n\
+    a\nb\nc\nd\na\nb\nc\nd\na\nb\nc\nd\na\nb\nc\nd\na\nb\nc\nd\n";
+
 /// One producer and two processors, each of which takes one line at a time.
 const FILE: &str = "version = 1\n[[producer]]\nname = \"p\"\nsource = \"mem:a\"\n\
     [processors]\nconcurrency = 2\nmax_demand = 1\nmin_demand = 0\nkind = \"own\"\n";
@@ -23,12 +30,16 @@ const TWELVE_LINES: &str = "a\nb\nc\nd\ne\nf\ng\nh\ni\nj\nk\nl\n";
 /// More looks than a second worker that runs leaves a first one waiting for.
 const LOOKS: u64 = 20_000_000;
 
-/// Two callbacks that share a count, which is 0.
-fn stock_of(alloc: Global, looks: u64) -> Result<Vec<Box<dyn Callback + Send>>, AllocError> {
+/// So many callbacks that share a count, which is 0, and meet all together.
+fn stock_of(
+    alloc: Global,
+    group: u64,
+    looks: u64,
+) -> Result<Vec<Box<dyn Callback + Send>>, AllocError> {
     let begun = Arc::new(alloc, AtomicU64::new(0))?;
     let mut stock: Vec<Box<dyn Callback + Send>> = Vec::new(alloc);
-    for _ in 0..2 {
-        let meets = Meets::new(alloc, Arc::try_clone(&begun)?, looks);
+    for _ in 0..group {
+        let meets = Meets::new(alloc, Arc::try_clone(&begun)?, group, looks);
         stock.push(Box::new(alloc, meets)?)?;
     }
     Ok(stock)
@@ -59,7 +70,7 @@ fn expect_met(
     requires least { 1 ≤ workers }
     requires most { workers ≤ 16 }
 {
-    let stock = stock_of(alloc, LOOKS)?;
+    let stock = stock_of(alloc, 2, LOOKS)?;
     let came = run_with::<_, _, Body<MemSource, MemSink>>(
         rt,
         alloc,
@@ -77,6 +88,41 @@ fn expect_met(
     assert!(rt; came.err.held().is_empty(), "{workers} workers");
     assert_eq!(rt; came.status, 0, "{workers} workers");
     assert_eq!(rt; came.stock.len(), 2, "{workers} workers");
+    Ok(())
+}
+
+/// Runs forty lines on so many workers, and wants that each call met three others.
+fn expect_four(
+    rt: &(impl Abort + Threads + Wait + Sync),
+    alloc: Global,
+    workers: u16,
+) -> Result<(), AllocError>
+    requires least { 1 ≤ workers }
+    requires most { workers ≤ 16 }
+{
+    let stock = stock_of(alloc, 4, LOOKS)?;
+    let came = run_with::<_, _, Body<MemSource, MemSink>>(
+        rt,
+        alloc,
+        workers,
+        FOUR,
+        FORTY_LINES,
+        stock,
+    )?;
+    let out = shown(&came);
+    let report =
+        "accepted 40\nsuccessful 40\nfailed 0\nlost 0\nrestarts 0\nrefused 0\nend sources\n";
+    assert!(rt; out.ends_with(report), "{workers} workers: {out}");
+    assert!(rt; came.err.held().is_empty(), "{workers} workers");
+    assert_eq!(rt; came.status, 0, "{workers} workers");
+    Ok(())
+}
+
+#[test]
+fn four_calls_are_inside_at_the_same_time(rt: HostRuntime) -> Result<(), Fail> {
+    let alloc = rt.alloc();
+    expect_four(&rt, alloc, 4)?;
+    expect_four(&rt, alloc, 16)?;
     Ok(())
 }
 
@@ -104,7 +150,7 @@ fn on_one_worker_each_call_of_an_odd_number_is_alone(rt: HostRuntime) -> Result<
         ack p ok - failed 2\nack p ok 1 failed -\nack p ok - failed 4\nack p ok 3 failed -\n\
         ack p ok - failed 6\nack p ok 5 failed -\n\
         accepted 6\nsuccessful 3\nfailed 3\nlost 0\nreason alone 3\nrestarts 0\nrefused 0\nend sources\n";
-    let stock = stock_of(alloc, 3)?;
+    let stock = stock_of(alloc, 2, 3)?;
     let lines = "a\nb\nc\nd\ne\nf\n";
     let came = run_with::<_, _, Body<MemSource, MemSink>>(&rt, alloc, 1, FILE, lines, stock)?;
     let out = shown(&came);
