@@ -9,7 +9,7 @@ use pipe_types::state::PlaceRow;
 use std::alloc::{AllocError, Global};
 
 /// A message that was acknowledged.
-#[derive(Clone, Copy, Debug)]
+#[derive(Clone, Copy)]
 pub(crate) struct AckedMessage {
     pub(crate) no: MsgNo,
     pub(crate) producer: StageNo,

@@ -22,7 +22,7 @@ use std::marker::Model;
 
 /// An open batch that may close: its place among the open batches, from 0 in the order in which they were opened, its
 /// first message, and the trigger that holds.
-#[derive(Clone, Copy, PartialEq, Eq, Debug)]
+#[derive(Clone, Copy, PartialEq, Eq)]
 pub struct Closable {
     pub at: usize,
     pub first: MsgNo,
@@ -30,7 +30,7 @@ pub struct Closable {
 }
 
 /// A batch that was closed. The messages are given by their numbers, in the order in which they were gathered.
-#[derive(Drop, Debug)]
+#[derive(Drop)]
 pub struct ClosedBatch {
     pub no: BatchNo,
     pub key: Bytes,

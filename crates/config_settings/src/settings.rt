@@ -8,7 +8,7 @@ use pipe_types::topology::{CancelMode, ChildMode, Dispatch, Keep, Kind};
 use std::marker::Model;
 
 /// Texts in the order of the file.
-#[derive(Drop, Debug)]
+#[derive(Drop)]
 pub struct TextList {
     items: Vec<Text>,
 }
@@ -36,7 +36,7 @@ impl TextList {
 }
 
 /// How a stage asks, and whether it is killed with a stage that it takes from.
-#[derive(Clone, Copy, Debug)]
+#[derive(Clone, Copy)]
 pub struct Demand {
     pub mode: CancelMode,
     pub min: u32,
@@ -44,14 +44,14 @@ pub struct Demand {
 }
 
 /// The handler of a stage: its kind, the texts of its rules, and the reason in place of another.
-#[derive(Drop, Debug)]
+#[derive(Drop)]
 pub struct Handler {
     pub kind: Kind,
     pub steps: TextList,
     pub failed: Option<Reason>,
 }
 
-#[derive(Drop, Debug)]
+#[derive(Drop)]
 pub struct ProducerSettings {
     pub name: Text,
     pub source: Text,
@@ -60,7 +60,7 @@ pub struct ProducerSettings {
     pub keep: Keep,
 }
 
-#[derive(Drop, Debug)]
+#[derive(Drop)]
 pub struct ProcessorSettings {
     pub concurrency: u32,
     pub partition_by: Option<u32>,
@@ -68,7 +68,7 @@ pub struct ProcessorSettings {
     pub handler: Handler,
 }
 
-#[derive(Drop, Debug)]
+#[derive(Drop)]
 pub struct SupervisorSettings {
     pub restart: ChildMode,
     pub demand: Demand,
@@ -76,7 +76,7 @@ pub struct SupervisorSettings {
 }
 
 /// A batcher with its batch processors. The timeout is in milliseconds; a dispatcher of another word is none.
-#[derive(Drop, Debug)]
+#[derive(Drop)]
 pub struct BatcherSettings {
     pub name: Text,
     pub concurrency: u32,
@@ -89,7 +89,7 @@ pub struct BatcherSettings {
 }
 
 /// Producers in the order of the file.
-#[derive(Drop, Debug)]
+#[derive(Drop)]
 pub struct ProducerList {
     items: Vec<ProducerSettings>,
 }
@@ -118,7 +118,7 @@ impl ProducerList {
 }
 
 /// Batchers in the order of the file.
-#[derive(Drop, Debug)]
+#[derive(Drop)]
 pub struct BatcherList {
     items: Vec<BatcherSettings>,
 }
@@ -147,7 +147,7 @@ impl BatcherList {
 }
 
 /// The values of a topology file. A control source is named where there is one.
-#[derive(Drop, Debug)]
+#[derive(Drop)]
 pub struct Settings {
     pub max_restarts: u32,
     pub max_seconds: u32,

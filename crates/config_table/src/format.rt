@@ -7,7 +7,7 @@ ghost use Rattle.config_table.specs.Format as format;
 use toml::{Table, Value};
 
 /// The keys of a topology file.
-#[derive(Clone, Copy, PartialEq, Eq, Debug)]
+#[derive(Clone, Copy, PartialEq, Eq)]
 pub enum Key {
     Version,
     Pipeline,
@@ -40,7 +40,7 @@ pub enum Key {
 }
 
 /// A whole number's least and greatest value, and what stands for one that is not given.
-#[derive(Clone, Copy, Debug)]
+#[derive(Clone, Copy)]
 pub struct Range {
     pub low: u32,
     pub high: u32,
@@ -48,7 +48,7 @@ pub struct Range {
 }
 
 /// The texts that a key may hold.
-#[derive(Clone, Copy, Debug)]
+#[derive(Clone, Copy)]
 pub enum Shape {
     Name,
     Edge,
@@ -64,7 +64,7 @@ pub enum Shape {
 }
 
 /// What a key may hold: a whole number, a text, at most 64 rules, or as many sinks as this.
-#[derive(Clone, Copy, Debug)]
+#[derive(Clone, Copy)]
 pub enum Form {
     Whole(Range),
     Text(Shape),
@@ -73,7 +73,7 @@ pub enum Form {
 }
 
 /// A key of a table.
-#[derive(Clone, Copy, Debug)]
+#[derive(Clone, Copy)]
 pub struct Row {
     pub key: Key,
     pub required: bool,
@@ -81,7 +81,7 @@ pub struct Row {
 }
 
 /// The tables of the file. Of a producer and a batcher there may be several.
-#[derive(Clone, Copy, PartialEq, Eq, Debug)]
+#[derive(Clone, Copy, PartialEq, Eq)]
 pub enum Section {
     Pipeline,
     Producer,

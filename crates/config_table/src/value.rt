@@ -12,7 +12,7 @@ use std::alloc::{AllocError, Global};
 use toml::Value;
 
 /// What is wrong with a value.
-#[derive(Clone, Copy, Debug)]
+#[derive(Clone, Copy)]
 pub enum Flaw {
     WrongType,
     OutOfRange,

@@ -18,14 +18,14 @@ use std::marker::Model;
 const MOST_RERUNS: u8 = 3;
 
 /// A child that is alive: its message, and how many of its runs crashed.
-#[derive(Clone, Copy, PartialEq, Eq, Debug)]
+#[derive(Clone, Copy, PartialEq, Eq)]
 pub struct Child {
     pub no: MsgNo,
     pub crashes: u8,
 }
 
 /// What becomes of a child whose run ended.
-#[derive(Clone, Copy, PartialEq, Eq, Debug)]
+#[derive(Clone, Copy, PartialEq, Eq)]
 pub enum ChildEnd {
     Settled,
     Again,
@@ -33,13 +33,13 @@ pub enum ChildEnd {
 }
 
 /// Why no child was started.
-#[derive(Clone, Copy, PartialEq, Eq, Debug)]
+#[derive(Clone, Copy, PartialEq, Eq)]
 pub enum StartFault {
     Full,
 }
 
 /// The children of one supervisor.
-#[derive(Drop, Debug)]
+#[derive(Drop)]
 pub struct Children {
     mode: ChildMode,
     slots: Vec<Option<Child>>,

@@ -21,7 +21,7 @@ use pipe_types::topology::StageSpec;
 use std::alloc::AllocError;
 
 /// What a control line asks for.
-#[derive(Clone, Copy, PartialEq, Eq, Debug)]
+#[derive(Clone, Copy, PartialEq, Eq)]
 pub(crate) enum Order {
     /// To kill a live stage, for this reason.
     Kill(StageNo, Why),

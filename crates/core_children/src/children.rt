@@ -24,7 +24,7 @@ use std::alloc::AllocError;
 use std::collections::VecDeque;
 
 /// What a child runs: its message, in this slot.
-#[derive(Drop, Debug)]
+#[derive(Drop)]
 pub struct ChildWork {
     pub slot: u16,
     pub message: Message,

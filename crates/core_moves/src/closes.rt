@@ -14,7 +14,7 @@ use pipe_types::numbers::{MsgNo, StageNo};
 use pipe_types::topology::StageSpec;
 
 /// An open batch that may close: its batcher, its first message, and the trigger that holds.
-#[derive(Clone, Copy, PartialEq, Eq, Debug)]
+#[derive(Clone, Copy, PartialEq, Eq)]
 pub struct Closing {
     pub stage: StageNo,
     pub first: MsgNo,

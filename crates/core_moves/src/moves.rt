@@ -23,7 +23,7 @@ use pipe_types::numbers::{MsgNo, StageNo, SubNo};
 use pipe_types::step::{DrainCause, Step};
 
 /// What comes next: an end, a step of the pipeline's own, a job of a stage, a wait for the jobs that are out, or a pause.
-#[derive(Drop, Debug)]
+#[derive(Drop)]
 pub enum Move {
     Halted,
     Drained,

@@ -25,7 +25,7 @@ use std::alloc::{AllocError, Global};
 use std::collections::VecDeque;
 
 /// What a take gives out: the messages of a processor's chunk, or a batch processor's batch.
-#[derive(Drop, Debug)]
+#[derive(Drop)]
 pub enum Chunk {
     Messages(MessageList),
     Batch(Batch),

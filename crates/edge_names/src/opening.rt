@@ -20,7 +20,7 @@ use stage_bodies::{Houses, place_of, put_back, take_out};
 use std::alloc::Global;
 
 /// Why not everything is open.
-#[derive(Drop, Debug)]
+#[derive(Drop)]
 pub enum Unopened {
     /// The call by this name failed.
     Failed(Text),

@@ -10,14 +10,14 @@ use std::io;
 use std::net::{TcpListener, TcpStream};
 
 /// A host, by its name or its IP address, and a port.
-#[derive(Clone, Copy, Debug, PartialEq, Eq)]
+#[derive(Clone, Copy, PartialEq, Eq)]
 pub struct Address<'a> {
     pub host: &'a str,
     pub port: u16,
 }
 
 /// What a source is read from.
-#[derive(Clone, Copy, Debug, PartialEq, Eq)]
+#[derive(Clone, Copy, PartialEq, Eq)]
 pub enum SourceName<'a> {
     /// `file:PATH`: the file of this path.
     File(&'a str),
@@ -30,7 +30,7 @@ pub enum SourceName<'a> {
 }
 
 /// What a sink is written to.
-#[derive(Clone, Copy, Debug, PartialEq, Eq)]
+#[derive(Clone, Copy, PartialEq, Eq)]
 pub enum SinkName<'a> {
     /// `file:PATH`: the file of this path.
     File(&'a str),

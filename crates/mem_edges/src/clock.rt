@@ -7,7 +7,7 @@ use pipe_edges::Clock;
 
 /// A clock that answers `at` and goes on by `step` at each reading and by `nap` at each pause, all in
 /// milliseconds. Its time stops at the last value of its type.
-#[derive(Clone, Copy, Debug, PartialEq, Eq)]
+#[derive(Clone, Copy, PartialEq, Eq)]
 pub struct MemClock {
     pub at: u64,
     pub step: u64,

@@ -12,7 +12,7 @@ use std::alloc::{AllocError, Global};
 use std::marker::Model;
 
 /// The numbers of the calls that fail, from 1.
-#[derive(Clone, Debug, Drop)]
+#[derive(Clone, Drop)]
 pub struct CallList {
     calls: Vec<u64>,
 }
@@ -41,7 +41,7 @@ impl CallList {
 }
 
 // One call that opened or read.
-#[derive(Debug, Drop)]
+#[derive(Drop)]
 pub struct Call {
     pub kind: EdgeKind,
     pub name: Text,
@@ -49,7 +49,7 @@ pub struct Call {
 
 /// Sources, sinks and files under names. Each opening gives what stands there anew: a source from its first byte
 /// and the start of its script, a sink with what it holds. What is given back stands under its name from then on.
-#[derive(Debug, Drop)]
+#[derive(Drop)]
 pub struct MemEdges {
     pub(crate) alloc: Global,
     pub(crate) fails: CallList,

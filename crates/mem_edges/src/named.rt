@@ -9,7 +9,7 @@ use pipe_types::bytes::Text;
 use std::alloc::{AllocError, Global};
 
 /// Something under a name: whether it is open, and whether it was given back.
-#[derive(Debug, Drop)]
+#[derive(Drop)]
 pub struct Named<T> {
     pub name: Text,
     pub item: T,

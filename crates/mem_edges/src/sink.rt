@@ -11,14 +11,14 @@ use std::marker::Model;
 use std::mem;
 
 /// What a sink does at one write: it takes so many bytes, 0 counting as 1, or fails.
-#[derive(Clone, Copy, Debug, PartialEq, Eq)]
+#[derive(Clone, Copy, PartialEq, Eq)]
 pub enum SinkAct {
     Take(usize),
     Fail,
 }
 
 /// What a sink does, one act for each write.
-#[derive(Clone, Debug, Drop)]
+#[derive(Clone, Drop)]
 pub struct SinkScript {
     acts: Vec<SinkAct>,
 }
@@ -49,7 +49,7 @@ impl SinkScript {
 
 /// Bytes that are taken by a script, and after it all that are offered, as far as there is room. Where nothing
 /// fits a write fails.
-#[derive(Debug, Drop)]
+#[derive(Drop)]
 pub struct MemSink {
     alloc: Global,
     held: Bytes,

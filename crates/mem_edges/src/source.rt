@@ -10,7 +10,7 @@ use std::alloc::{AllocError, Global};
 use std::marker::Model;
 
 /// What a source does at one read: it gives so many bytes, 0 counting as 1, has nothing ready, or fails.
-#[derive(Clone, Copy, Debug, PartialEq, Eq)]
+#[derive(Clone, Copy, PartialEq, Eq)]
 pub enum SourceAct {
     Give(usize),
     Wait,
@@ -18,7 +18,7 @@ pub enum SourceAct {
 }
 
 /// What a source does, one act for each read.
-#[derive(Clone, Debug, Drop)]
+#[derive(Clone, Drop)]
 pub struct SourceScript {
     acts: Vec<SourceAct>,
 }
@@ -48,7 +48,7 @@ impl SourceScript {
 }
 
 /// Bytes that are given by a script, and after it as many at each read as fit.
-#[derive(Debug, Drop)]
+#[derive(Drop)]
 pub struct MemSource {
     bytes: Bytes,
     at: usize,

@@ -14,14 +14,14 @@ use std::collections::HashMap;
 use std::marker::Model;
 
 /// How a leg of a batch ended: with an outcome for each message, in their order, or lost.
-#[derive(Drop, Debug)]
+#[derive(Drop)]
 pub enum LegEnd {
     Answered(OutcomeList),
     Lost(Loss),
 }
 
 /// How a batch ended: with an outcome for each message, in their order, or lost whole.
-#[derive(Drop, Debug)]
+#[derive(Drop)]
 pub enum Settled {
     Outcomes(OutcomeList),
     Lost(Loss),

@@ -11,7 +11,7 @@ use std::alloc::{AllocError, Global};
 use std::marker::Model;
 
 /// How a message ended, and the producer that accepted it.
-#[derive(Clone, Copy, Debug)]
+#[derive(Clone, Copy)]
 pub struct Verdict {
     pub no: MsgNo,
     pub producer: StageNo,
@@ -19,7 +19,7 @@ pub struct Verdict {
 }
 
 /// A producer with the numbers of its successful and of its failed messages, both ascending.
-#[derive(Drop, Debug)]
+#[derive(Drop)]
 pub struct Ack {
     pub producer: StageNo,
     pub successful: MsgList,
@@ -27,7 +27,7 @@ pub struct Ack {
 }
 
 /// Acknowledgements, in order of their producers.
-#[derive(Drop, Debug)]
+#[derive(Drop)]
 pub struct AckList {
     items: Vec<Ack>,
 }

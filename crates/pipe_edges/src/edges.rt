@@ -13,7 +13,7 @@ use std::alloc::AllocError;
 pub const MAX_FILE_BYTES: usize = 1_048_577;
 
 /// What stands under a name.
-#[derive(Clone, Copy, Debug, PartialEq, Eq)]
+#[derive(Clone, Copy, PartialEq, Eq)]
 pub enum EdgeKind {
     File,
     Source,
@@ -21,7 +21,7 @@ pub enum EdgeKind {
 }
 
 /// Why nothing was opened or read.
-#[derive(Clone, Copy, Debug, PartialEq, Eq)]
+#[derive(Clone, Copy, PartialEq, Eq)]
 pub enum EdgeEnd {
     Failed,
     OutOfMemory,

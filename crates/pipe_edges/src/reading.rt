@@ -12,7 +12,7 @@ use pipe_types::bytes::BytesList;
 use std::alloc::{AllocError, Global};
 
 /// Why no more lines come: the source ended, it failed, or a line is longer than 65,536 bytes.
-#[derive(Clone, Copy, Debug, PartialEq, Eq)]
+#[derive(Clone, Copy, PartialEq, Eq)]
 pub enum LineEnd {
     End,
     Fault,
@@ -32,7 +32,7 @@ impl LineEnd {
 }
 
 /// What a fetch came to: one line at least, nothing ready yet, or an end.
-#[derive(Debug, Drop)]
+#[derive(Drop)]
 pub enum Fetched {
     Records(BytesList),
     NotYet,

@@ -6,7 +6,7 @@ ghost use Rattle.pipe_edges.specs.Writes.{WritesBytes, WriteIsCounted, WriteHasC
 use pipe_types::bytes::Bytes;
 
 /// What a write came to: how many bytes were taken, or a fault.
-#[derive(Clone, Copy, Debug, PartialEq, Eq)]
+#[derive(Clone, Copy, PartialEq, Eq)]
 pub enum WriteEnd {
     Took(usize),
     Failed,
@@ -34,7 +34,7 @@ pub trait ByteSink {
 }
 
 /// What putting a whole text came to: all of it, or the number of bytes that went out before the fault.
-#[derive(Clone, Copy, Debug, PartialEq, Eq)]
+#[derive(Clone, Copy, PartialEq, Eq)]
 pub enum PutEnd {
     All,
     Failed(usize),

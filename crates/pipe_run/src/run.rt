@@ -38,7 +38,7 @@ pub struct Run {
 }
 
 /// Why there was no run.
-#[derive(Drop, Debug)]
+#[derive(Drop)]
 pub enum NoRun {
     /// The call by this name failed.
     Unopened(Text),

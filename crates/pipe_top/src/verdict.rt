@@ -13,7 +13,7 @@ use std::alloc::{AllocError, Global};
 use topology_needs::Shortage;
 
 /// Which texts stand before the report.
-#[derive(Clone, Copy, Drop, Debug)]
+#[derive(Clone, Copy, Drop)]
 pub(crate) struct Shows {
     /// The journal.
     pub(crate) steps: bool,

@@ -12,7 +12,7 @@ use std::alloc::{AllocError, Global};
 use std::marker::Model;
 
 /// A stage that is dead, and why.
-#[derive(Clone, Copy, Debug)]
+#[derive(Clone, Copy)]
 pub struct Death {
     stage: StageNo,
     why: Why,
@@ -49,14 +49,14 @@ impl Death {
 }
 
 /// A restart: the stage, and the stages that were live before it.
-#[derive(Drop, Debug)]
+#[derive(Drop)]
 pub struct Renewal {
     pub restarted: StageNo,
     pub live: Vec<StageNo>,
 }
 
 /// What the steps so far leave of lives: who is dead, and each restart.
-#[derive(Drop, Debug)]
+#[derive(Drop)]
 pub struct Lives {
     pub deaths: Vec<Death>,
     pub renewals: Vec<Renewal>,

@@ -12,7 +12,7 @@ use plain_counts::{plus, same_sub};
 use std::alloc::AllocError;
 
 /// Where a leg stands: in an inbox, at work, answered or lost.
-#[derive(Drop, Debug)]
+#[derive(Drop)]
 pub enum LegPlace {
     InInbox,
     AtWork,
@@ -21,14 +21,14 @@ pub enum LegPlace {
 }
 
 /// A batch on one of the subscriptions that it was sent on.
-#[derive(Drop, Debug)]
+#[derive(Drop)]
 pub struct Leg {
     pub sub: SubNo,
     pub place: LegPlace,
 }
 
 /// A batch waits in its batcher, was sent with its legs in order, or was lost in the batcher.
-#[derive(Drop, Debug)]
+#[derive(Drop)]
 pub enum BatchPlace {
     AtBatcher(StageNo),
     Sent(Vec<Leg>),
@@ -36,14 +36,14 @@ pub enum BatchPlace {
 }
 
 /// A batch: its messages, in order, and where it stands.
-#[derive(Drop, Debug)]
+#[derive(Drop)]
 pub struct BatchRow {
     pub numbers: Vec<u32>,
     pub place: BatchPlace,
 }
 
 /// Where each message stands, where each batch stands, both from number 1 on, and all that was sent, in order.
-#[derive(Drop, Debug)]
+#[derive(Drop)]
 pub struct Tables {
     pub places: Vec<Place>,
     pub batches: Vec<BatchRow>,

@@ -3,28 +3,28 @@
 use pipe_types::numbers::{StageNo, SubNo};
 
 /// What one take took: the stage, and the units in order.
-#[derive(Drop, Debug)]
+#[derive(Drop)]
 pub struct TakeRow {
     pub stage: StageNo,
     pub units: Vec<u32>,
 }
 
 /// How many messages a stage's handler had seen after one step.
-#[derive(Clone, Copy, Debug)]
+#[derive(Clone, Copy)]
 pub struct CountRow {
     pub stage: StageNo,
     pub count: u64,
 }
 
 /// How many units one step handled, on each of these subscriptions.
-#[derive(Drop, Debug)]
+#[derive(Drop)]
 pub struct HandledRow {
     pub subs: Vec<SubNo>,
     pub units: u64,
 }
 
 /// What the steps so far took, counted and handled, a row for each such step, the newest first.
-#[derive(Drop, Debug)]
+#[derive(Drop)]
 pub struct Works {
     pub takes: Vec<TakeRow>,
     pub counts: Vec<CountRow>,

@@ -14,7 +14,7 @@ use std::alloc::{AllocError, Global};
 const MOST_WORKERS: u16 = 16;
 
 /// `flow SOURCE PREFIX`: the name of a source, and what each line is to begin with.
-#[derive(Clone, Copy, Drop, Debug)]
+#[derive(Clone, Copy, Drop)]
 pub struct FlowWords<'a> {
     pub source: &'a str,
     pub prefix: &'a str,
@@ -22,7 +22,7 @@ pub struct FlowWords<'a> {
 
 /// `run TOPOLOGY [--workers N] [--acks] [--steps]`: the name of a topology file, how many workers are to run it, from 1
 /// to 16, and whether its acknowledgements and its steps are to be written before the report.
-#[derive(Clone, Copy, Drop, Debug)]
+#[derive(Clone, Copy, Drop)]
 pub struct RunWords<'a> {
     pub topology: &'a str,
     pub workers: u16,
@@ -31,7 +31,7 @@ pub struct RunWords<'a> {
 }
 
 /// A command of the program.
-#[derive(Clone, Copy, Drop, Debug)]
+#[derive(Clone, Copy, Drop)]
 pub enum Command<'a> {
     Flow(FlowWords<'a>),
     /// `check TOPOLOGY`: the name of a topology file.

@@ -13,7 +13,7 @@ use std::collections::VecDeque;
 use std::marker::Model;
 
 /// The last restarts, and how many of them may lie within the window.
-#[derive(Drop, Debug)]
+#[derive(Drop)]
 pub struct Restarts {
     max: u32,
     window_ms: u64,

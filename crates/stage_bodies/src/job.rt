@@ -6,7 +6,7 @@ use pipe_types::numbers::Post;
 use pipe_types::step::SourceHow;
 
 /// What a post is to do.
-#[derive(Drop, Debug)]
+#[derive(Drop)]
 pub enum Work {
     /// To read at most so many records.
     Fetch(u32),
@@ -19,7 +19,7 @@ pub enum Work {
 }
 
 /// What the work of a post came to.
-#[derive(Drop, Debug)]
+#[derive(Drop)]
 pub enum Outcome {
     Records(BytesList),
     /// The source has nothing ready.
@@ -32,7 +32,7 @@ pub enum Outcome {
 }
 
 /// A job of a post, which is out from this incarnation of its stage.
-#[derive(Drop, Debug)]
+#[derive(Drop)]
 pub struct Job {
     pub post: Post,
     pub incarnation: u32,
@@ -40,7 +40,7 @@ pub struct Job {
 }
 
 /// The answer to a job.
-#[derive(Drop, Debug)]
+#[derive(Drop)]
 pub struct Answer {
     pub post: Post,
     pub incarnation: u32,

@@ -15,21 +15,21 @@ use std::alloc::{AllocError, Global};
 use std::marker::Model;
 
 /// A unit with the number of its arrival.
-#[derive(Drop, Debug)]
+#[derive(Drop)]
 struct Arrived<T> {
     at: u64,
     unit: T,
 }
 
 /// When a unit arrived, and its part.
-#[derive(Clone, Copy, Debug)]
+#[derive(Clone, Copy)]
 struct Arrival {
     at: u64,
     part: u32,
 }
 
 /// The parts of units, in order.
-#[derive(Drop, Debug)]
+#[derive(Drop)]
 pub struct PartList {
     items: Vec<u32>,
 }

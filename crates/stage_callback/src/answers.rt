@@ -4,7 +4,7 @@ use pipe_types::message::{BatchReply, Reply};
 use pipe_types::reason::Reason;
 
 /// What a callback answers when it is shown a chunk, before the messages one by one.
-#[derive(Clone, Copy, PartialEq, Eq, Debug)]
+#[derive(Clone, Copy, PartialEq, Eq)]
 pub enum Prepared {
     Ready,
     /// Every message of the chunk fails with this reason.
@@ -14,7 +14,7 @@ pub enum Prepared {
 }
 
 /// What a callback answers when it is shown a message that failed.
-#[derive(Clone, Copy, PartialEq, Eq, Debug)]
+#[derive(Clone, Copy, PartialEq, Eq)]
 pub enum FailedReply {
     Keep,
     Replace(Reason),
@@ -23,7 +23,7 @@ pub enum FailedReply {
 }
 
 /// One answer of a callback, as a callback that tells its answers lists them.
-#[derive(Drop, Debug)]
+#[derive(Drop)]
 pub enum Said {
     Prepared(Prepared),
     Message(Reply),

@@ -11,7 +11,7 @@ ghost use Rattle.stage_demand.specs.declared.TheConstants.{MAX_DEMAND};
 pub const MAX_DEMAND: u32 = 10_000;
 
 /// The counts of one subscription, in units, and the bounds of its demand.
-#[derive(Clone, Copy, PartialEq, Eq, Debug)]
+#[derive(Clone, Copy, PartialEq, Eq)]
 pub struct Demand {
     min: u32,
     max: u32,

@@ -22,7 +22,7 @@ use stage_moves::{advance, pause};
 use std::alloc::{AllocError, Global};
 
 /// What a round came to: more is to do, or the pipeline is drained, or it has halted.
-#[derive(Clone, Copy, Debug, PartialEq, Eq)]
+#[derive(Clone, Copy, PartialEq, Eq)]
 pub(crate) enum RoundEnd {
     On,
     Drained,

@@ -33,7 +33,7 @@ const STRIDE: usize = 65;
 const CONSUMERS: u16 = 65;
 
 /// The last subscription of one pair.
-#[derive(Clone, Copy, PartialEq, Eq, Debug)]
+#[derive(Clone, Copy, PartialEq, Eq)]
 struct SubRow {
     generation: u32,
     live: bool,
@@ -41,7 +41,7 @@ struct SubRow {
 }
 
 /// Why no subscription was added.
-#[derive(Clone, Copy, PartialEq, Eq, Debug)]
+#[derive(Clone, Copy, PartialEq, Eq)]
 pub enum SubsFault {
     Full,
     OutOfMemory,
@@ -59,7 +59,7 @@ impl From<AllocError> for SubsFault {
 }
 
 /// All subscriptions, by pair.
-#[derive(Drop, Debug)]
+#[derive(Drop)]
 pub struct Subs {
     rows: Vec<Option<SubRow>>,
     live: u32,

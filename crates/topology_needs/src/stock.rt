@@ -3,7 +3,7 @@
 use pipe_types::topology::Kind;
 
 /// How many boxes of each kind a stock has.
-#[derive(Clone, Copy, PartialEq, Eq, Debug)]
+#[derive(Clone, Copy, PartialEq, Eq)]
 pub struct Boxes {
     pub steps: usize,
     pub lines: usize,
@@ -11,7 +11,7 @@ pub struct Boxes {
 }
 
 /// A kind of which there are fewer boxes than posts that need one.
-#[derive(Clone, Copy, PartialEq, Eq, Debug)]
+#[derive(Clone, Copy, PartialEq, Eq)]
 pub struct Shortage {
     pub kind: Kind,
     pub need: usize,

@@ -227,7 +227,7 @@ fn three_names(alloc: Global, fails: CallList) -> Result<MemEdges, AllocError> {
 }
 
 /// What a call by name asks for.
-#[derive(Clone, Copy, Debug)]
+#[derive(Clone, Copy)]
 enum Call {
     Source,
     Sink,
