@@ -29,7 +29,7 @@ use Rattle.pipe_model.specs.Legal.{fetch_out, has_role, is_supervisor_role}
 use Rattle.pipe_edges.specs.Cut.{CutsAll}
 use Rattle.pipe_edges.specs.declared.reading.LineEnd.{LineEnd}
 use Rattle.pipe_laws.proofs.Tests.{clash, same_stage-self}
-use Rattle.run_claims.specs.Read.{quiets}
+use Rattle.pipe_laws.specs.Read.{quiets}
 use Rattle.stage_callback.specs.Callbacks.{is_passed}
 use Rattle.stage_job.specs.Chunks.{RoseBy}
 use Rattle.stage_bodies.specs.Seen.{SourceSeen, LineSeen, SinkSeen, BoxSeen}

@@ -23,7 +23,7 @@ use Rattle.pipe_model.specs.Work.{count, batch_of}
 use Rattle.pipe_model.specs.Legal.{fetch_out, is_legal, allows, has_role, has_ended, is_producer_role, is_processor_role, is_supervisor_role, is_batch_processor_role}
 use Rattle.pipe_laws.proofs.Tests.{clash, and_left, and_right, not_true, same_stage-self}
 use Rattle.pipe_laws.proofs.Allowed.{legal_step, unowed, take_facts, child_facts}
-use Rattle.run_claims.specs.Read.{quiets}
+use Rattle.pipe_laws.specs.Read.{quiets}
 use Rattle.stage_bodies.specs.Seen.{LineSeen, SinkSeen, BoxSeen, BodySeen}
 use Rattle.stage_bodies.specs.Jobs.{Both, KeepsBox, Fetches, EndsIn, Writes, IsDone, IsCutOff, records_of, text_by, Fits}
 use Rattle.stage_bodies.specs.Posts.{place_at, IsWorkOf, step_of}

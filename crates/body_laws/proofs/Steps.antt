@@ -24,7 +24,7 @@ use Rattle.pipe_laws.proofs.Tests.{clash, and_left, and_right, both, same_stage-
 use Rattle.pipe_laws.proofs.Allowed.{legal_before, legal_step, unowed, take_facts, child_facts, done_facts, wrote_facts, late_facts}
 use Rattle.pipe_laws.proofs.Busy.{was_live, two_roles, producer_supervises}
 use Rattle.pipe_laws.proofs.Idle.{processor_supervisor}
-use Rattle.run_claims.specs.Read.{quiets}
+use Rattle.pipe_laws.specs.Read.{quiets}
 use Rattle.body_laws.specs.Counts.{brought, short_writes, calls_of, bad_of}
 use Rattle.body_laws.specs.Keeps.{has_post}
 use Rattle.body_laws.proofs.Posts.{same_post-true, only_slot, out_has_post, no_post_of_control}

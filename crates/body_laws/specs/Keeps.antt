@@ -22,7 +22,7 @@ use Rattle.pipe_model.specs.Legal.{has_role, is_supervisor_role}
 use Rattle.pipe_edges.specs.Cut.{CutsAll}
 use Rattle.pipe_edges.specs.declared.reading.LineEnd.{LineEnd}
 use Rattle.pipe_edges.specs.declared.reading.LineEnd.TheVariants as end
-use Rattle.run_claims.specs.Read.{quiets}
+use Rattle.pipe_laws.specs.Read.{quiets}
 use Rattle.stage_job.specs.Chunks.{RoseBy}
 use Rattle.stage_bodies.specs.Seen.{SourceSeen, LineSeen, SinkSeen, BoxSeen, BodySeen}
 use Rattle.stage_bodies.specs.Reads.{AreReadFrom}

@@ -16,7 +16,7 @@ use Rattle.pipe_model.specs.Outside.{control_reading, is_control, source_end, en
 use Rattle.pipe_edges.specs.Texts.{IsLine}
 use Rattle.pipe_edges.specs.declared.reading.LineEnd.{LineEnd}
 use Rattle.pipe_edges.specs.declared.reading.LineEnd.TheVariants as end
-use Rattle.run_claims.specs.Read.{HasNoControl}
+use Rattle.pipe_laws.specs.Read.{HasNoControl}
 use Rattle.stage_job.specs.Chunks.{RoseBy}
 use Rattle.stage_bodies.specs.Seen.{LineSeen}
 use Rattle.stage_bodies.specs.Reads.{AreReadFrom}

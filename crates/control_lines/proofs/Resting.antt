@@ -25,7 +25,7 @@ use Rattle.body_laws.proofs.Laws.{silent_keeps, silent_ready}
 use Rattle.work_laws.specs.Work.{is_work}
 use Rattle.work_laws.proofs.Leaving.{work_lowers}
 use Rattle.pipe_laws.proofs.Tests.{same_stage-true}
-use Rattle.run_claims.specs.Followed.{IsNextMove}
+use Rattle.pipe_laws.specs.Followed.{IsNextMove}
 use Rattle.control_lines.specs.Steps.{begins, jobs_begun, ends_control, is_from_control, AddsControl}
 use Rattle.control_lines.specs.Rest.{LeavesAtRest}
 use Rattle.control_lines.specs.Orders.{with_reading}

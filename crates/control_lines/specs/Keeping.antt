@@ -8,7 +8,7 @@ use Rattle.pipe_model.specs.History.{History, controls}
 use Rattle.pipe_model.specs.Legal.{has_ended}
 use Rattle.pipe_model.specs.Outside.{source_end, AreReadings}
 use Rattle.pipe_edges.specs.declared.reading.LineEnd.{LineEnd}
-use Rattle.run_claims.specs.Read.{HasNoControl}
+use Rattle.pipe_laws.specs.Read.{HasNoControl}
 use Rattle.stage_job.specs.Chunks.{RoseBy}
 use Rattle.stage_bodies.specs.Seen.{LineSeen}
 use Rattle.stage_bodies.specs.Reads.{AreReadFrom}

@@ -31,8 +31,8 @@ use Rattle.core_laws.specs.Laws.{AcceptLaws}
 use Rattle.core_laws.proofs.Accepting.{parts_old, parts_new, opens_kept, unsettled}
 use Rattle.core_state.specs.declared.state.Core.{Core}
 use Rattle.core_state.specs.Stands.{Fields}
-use Rattle.core_calls.proofs.Ending.{post_home}
-use Rattle.core_accepts.proofs.Rows.{behind, placed_new, marked_new, contents_new, contents_count}
+use Rattle.core_state.proofs.Ending.{post_home}
+use Rattle.core_tables.proofs.NewRows.{behind, placed_new, marked_new, contents_new, contents_count}
 
 -- the records wait behind what waited in their producer
 pub parts_accepted : (topology : Topology) (before : History) (s : StageNo) (spec : StageSpec) (records : List (List ℕ)) → IsSound topology → is_legal topology before ≡ true → AcceptLaws topology before s records

@@ -23,7 +23,7 @@ use Rattle.core_laws.proofs.Past.{known_within, live_known}
 use Rattle.core_laws.proofs.Came.{flip}
 use Rattle.core_state.specs.declared.state.Core.{Core}
 use Rattle.core_state.specs.Stands.{Fields}
-use Rattle.core_calls.proofs.Ending.{row_changed, post_same}
+use Rattle.core_state.proofs.Ending.{row_changed, post_same}
 
 -- one stage's job was put out
 post_out : (posts : List PostRow) (s t : StageNo) (slot from : ℕ) (row : PostRow) → slot < 16 → slice_get posts (post_at t.0 slot) ≡ Some row

@@ -14,7 +14,7 @@ use Rattle.stage_subs.specs.Subs.{due_on, due_in}
 use Rattle.stage_subs.specs.Ledger.{ledger_counts}
 use Rattle.core_state.specs.declared.state.Core.{Core}
 use Rattle.core_state.specs.Stands.{Fields}
-use Rattle.core_calls.proofs.Asking.{due_seen}
+use Rattle.core_state.proofs.Asking.{due_seen}
 
 -- on a subscription that is not live none is due
 pub due_none : (topology : Topology) (before : History) (u : SubNo) → is_live_sub topology before u ≡ false → due topology before u ≡ 0

@@ -56,6 +56,7 @@ use Rattle.core_tables.proofs.Tables.{same_or_other}
 use Rattle.core_laws.specs.Columns.{closed_numbers, sent_on, ends_in_progress, open_of, open_batches, keys_of, part_of, part_by, is_by_partition, waiting_parts}
 use Rattle.core_laws.proofs.Lawful.{legal_after}
 use Rattle.core_laws.proofs.Past.{known_within, live_known}
+use Rattle.core_laws.proofs.LegsOn.{none_sent, waiting_closed}
 use Rattle.core_state.specs.declared.state.Core.{Core}
 use Rattle.core_state.specs.Stands.{Fields, Stands, opens_in, opens_at, closed_seen}
 use Rattle.core_state.proofs.Reading.{some_at}
@@ -77,16 +78,6 @@ pub record IsClosing (topology : Topology) (before : History) (s : StageNo) (m :
   pub key : key_in (content before m.0) ≡ k
 
 -- Waiting batches
-
--- a batch that waits in a batcher was closed before
-waiting_closed : (topology : Topology) (before : History) (t : StageNo) (n : ℕ) → is_batcher (spec_of topology t) ≡ true → is_waiting topology before t n ≡ true → n ≤ closed before
-waiting_closed topology before t n batcher waits =
-    let here : batch_waits_in t (batch topology before n) ≡ true = sym (ap (λ b. if b then batch_waits_in t (batch topology before n) else waits_in t (place topology before n)) batcher) ∙ waits in
-    batch_closed topology before n (there t (batch topology before n) here)
-  where
-    there : (t : StageNo) (o : Option Batch) → batch_waits_in t o ≡ true → is_some o ≡ true
-    there t None h = cc
-    there t (Some b) h = refl
 
 -- the partition of a unit that waited before
 part_kept : (topology : Topology) (before : History) (s t : StageNo) (first : MsgNo) (trigger : Trigger) (n : ℕ) (o : Option StageSpec) → spec_of topology t ≡ o → is_waiting topology before t n ≡ true
@@ -197,27 +188,6 @@ batches_after topology before s first trigger rows row i len was is = by (same_o
         let apart : (suc i == closed before + 1) ≡ false = ne_eqb (suc i) (closed before + 1) (λ k. other.1 (omega (arith, k, len))) in
         ap (option_map closed_seen) (push_other rows row i other.1)
         ∙ (was ∙ sym (ap (λ b. if b then Some (record { numbers = closing before (view_of topology before) s first.0; trigger = trigger }) else closed_as topology before (suc i)) apart))
-
--- a batch that is not closed yet was sent nowhere
-pub none_sent : (topology : Topology) (before : History) (b : ℕ) → closed before < b → sent_on topology before b ≡ []
-none_sent topology [] b low = refl
-none_sent topology (Dispatch s ∷ before) b low = by (is_batcher (spec_of topology s)) refl (none_sent topology before b low)
-  where
-    nowhere : (units : List Rattle.pipe_types.specs.declared.room.Sent.Sent) → Each (λ d. IsOn topology before s d.sub × (d.unit ≤ closed before)) units → subs_of units b ≡ []
-    nowhere [] h = refl
-    nowhere (d ∷ units) h =
-        let other : (d.unit == b) ≡ false = ne_eqb d.unit b (λ k. (let most = h.0.1 in omega (arith, k, low, most))) in
-        ap (λ c. if c then d.sub ∷ subs_of units b else subs_of units b) other ∙ nowhere units h.1
-
-    by : (c : Bool) → is_batcher (spec_of topology s) ≡ c → sent_on topology before b ≡ [] → (if c then sent_on topology before b ++ subs_of (deliveries topology before s) b else sent_on topology before b) ≡ []
-    by false e old = old
-    by true e old =
-        ap (λ us. us ++ subs_of (deliveries topology before s) b) old
-        ∙ nowhere (deliveries topology before s)
-        (sends_on topology before s (λ n. n ≤ closed before)
-        (each_weaker (λ n. is_waiting topology before s n ≡ true) (λ n. n ≤ closed before) (λ n p. waiting_closed topology before s n e p) (waiting topology before s) (waiting_each topology before s)))
-none_sent topology (Close s first trigger ∷ before) b low = none_sent topology before b (omega (arith, low))
-none_sent topology (step ∷ before) b low = none_sent topology before b low
 
 sent_after : (topology : Topology) (before : History) (rows : List BatchRow) (row new : BatchRow) (i : ℕ) → length rows ≡ closed before → new.subs.items ≡ []
     → ((r : BatchRow) → slice_get rows i ≡ Some r → r.subs.items ≡ sent_on topology before (suc i)) → slice_get (rows ++ new ∷ []) i ≡ Some row → row.subs.items ≡ sent_on topology before (suc i)

@@ -54,7 +54,7 @@ use Rattle.core_tables.proofs.Tables.{same_or_other}
 use Rattle.core_laws.specs.Columns.{open_of, keys_of, open_batches, part_of, post_row, stage_row, mark, ends_in_progress, closed_numbers, sent_on}
 use Rattle.core_laws.proofs.Marks.{mark_is, open_unsettled}
 use Rattle.core_laws.proofs.Lawful.{each_all}
-use Rattle.core_calls.proofs.Ending.{post_home}
+use Rattle.core_state.proofs.Ending.{post_home}
 use Rattle.core_state.specs.declared.state.Core.{Core}
 use Rattle.core_state.specs.Stands.{Fields, Stands, closed_seen}
 use Rattle.core_state.proofs.Reading.{some_at}

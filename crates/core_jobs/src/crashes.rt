@@ -11,9 +11,9 @@ ghost use Rattle.pipe_model.specs.Legal.{allows, owed, is_crash_of};
 ghost use Rattle.core_state.specs.Stands.{Holds, Stands};
 ghost use Rattle.stage_bodies.specs.Posts.{is_crashed_end};
 
-use core_crashes::{answer_crash, write_crash};
 use core_deaths::reasons::reasons_room;
 use core_kills::kills::kill_owed;
+use core_lates::{answer_crash, write_crash};
 use core_state::Core;
 use pipe_types::message::{BatchEnd, Reply, ReplyList, Why};
 use pipe_types::numbers::StageNo;

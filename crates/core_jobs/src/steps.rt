@@ -7,8 +7,8 @@ ghost use Rattle.core_jobs.specs.Steps.{is_own_step};
 
 use core_batches::gathers::gather;
 use core_calls::asks::ask;
-use core_closes::close;
 use core_kills::kills::halt;
+use core_moves::close;
 use core_moves::drain::begin;
 use core_restarts::restart;
 use core_sends::sending::dispatch;

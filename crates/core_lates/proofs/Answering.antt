@@ -26,7 +26,7 @@ use Rattle.core_laws.proofs.Accepting.{content_old}
 use Rattle.core_laws.proofs.Lawful.{legal_after}
 use Rattle.core_laws.proofs.Past.{IsPost, out_post, known_within}
 use Rattle.core_laws.proofs.Came.{flip}
-use Rattle.core_calls.proofs.Ending.{row_changed}
+use Rattle.core_state.proofs.Ending.{row_changed}
 use Rattle.core_state.specs.declared.state.Core.{Core}
 use Rattle.core_state.specs.Stands.{Fields, Holds, Stands}
 use Rattle.core_state.proofs.Steps.{holds_after, unowed_after}

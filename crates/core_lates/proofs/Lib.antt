@@ -1,3 +1,4 @@
 pub mod Leaving
 pub mod Answering
 pub mod Losing
+pub mod Crashing

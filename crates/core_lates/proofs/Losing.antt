@@ -37,7 +37,7 @@ use Rattle.core_laws.specs.Columns.{stage_row, mark, at_record}
 use Rattle.core_laws.proofs.Accepting.{bytes_few}
 use Rattle.core_state.specs.declared.state.Core.{Core}
 use Rattle.core_state.specs.Stands.{Fields}
-use Rattle.core_accepts.proofs.Rows.{behind, placed_new, contents_new, contents_count}
+use Rattle.core_tables.proofs.NewRows.{behind, placed_new, contents_new, contents_count}
 use Rattle.core_lates.proofs.Leaving.{Changed, left_fields, mark_left}
 use Rattle.core_lates.proofs.Answering.{IsLate, post_of, late_leaves, late_posts}
 

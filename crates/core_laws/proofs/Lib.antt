@@ -10,3 +10,4 @@ pub mod Bounds
 pub mod Alike
 pub mod Accepting
 pub mod Came
+pub mod LegsOn

@@ -18,7 +18,7 @@ use Rattle.pipe_model.specs.Legal.{allows, may_come, owed, happened, is_halt, is
 use Rattle.pipe_model.specs.Moves.{Move, StepMove, or_else, if_so, when, has_job, has_child, first_take, move, move_or_pause, first_move, jobs_out, JobsOut, Halted, is_drained, Drained}
 use Rattle.core_state.specs.declared.state.Core.{Core}
 use Rattle.core_state.specs.Stands.{Stands}
-use Rattle.core_calls.proofs.Asking.{due_seen}
+use Rattle.core_state.proofs.Asking.{due_seen}
 use Rattle.stage_subs.specs.Subs.{due_on}
 use Rattle.core_rows.specs.Rows.{is_due}
 use Rattle.core_moves.specs.Moves.{cause_by, from_restarts}

@@ -1,12 +1,20 @@
 //! What comes next, for every sound topology.
 //!
-//! `moves::next_move` is the first move of the rule that applies; `drain::begin` begins the drain.
+//! `next_move` is the first move of the rule that applies, with its promises: it may come, a pipeline that drains is never
+//! stuck, and a pause shows that all that is left is to wait for sources or for time. `drain::begin` begins the drain, and
+//! `close` closes a batch.
 #![tactic(auto)]
 
 mod children;
 mod closes;
+mod closing;
 pub mod dispatches;
 pub mod drain;
 mod finds;
 pub mod gathers;
+mod going_on;
 pub mod moves;
+
+pub use closing::close;
+pub use going_on::next_move;
+pub use moves::Move;

@@ -33,8 +33,8 @@ pub enum Move {
     Pause,
 }
 
-/// The first move that applies.
-pub fn next_move(core: &Core) -> Move
+/// The first move that applies, as the rules have it.
+pub(crate) fn first_move(core: &Core) -> Move
     requires stands { Stands core.now }
     ensures { seen_as result ≡ next_move_of core.now.topology core.now.journal.steps }
 {

@@ -32,7 +32,7 @@ use Rattle.core_state.specs.declared.state.Core.{Core}
 use Rattle.core_state.specs.Stands.{Fields, Holds}
 use Rattle.core_state.proofs.Reading.{live_by}
 use Rattle.core_state.proofs.FirstPairs.{feeding}
-use Rattle.core_calls.proofs.Ending.{row_changed}
+use Rattle.core_state.proofs.Ending.{row_changed}
 use Rattle.stage_laws.proofs.Numbering.{numbered_topology}
 use Rattle.core_restarts.specs.Renewals.{restarted, live_upto, begins, renewed, IsClosed, AreRenewed}
 use Rattle.core_restarts.proofs.Unbegun.{unasked, unsent, unhandled, generation_room}

@@ -23,7 +23,7 @@ use Rattle.stage_laws.proofs.Records.{limit_is}
 use Rattle.count_laws.proofs.Bounds.{generations_within}
 use Rattle.work_laws.specs.Limits.{most_lives}
 use Rattle.work_laws.proofs.Lives.{lives_few}
-use Rattle.core_calls.proofs.Asking.{asking, sub_is}
+use Rattle.core_state.proofs.Asking.{asking, sub_is}
 
 -- a pair keeps its generation or takes the next one
 generation_grows : (topology : Topology) (before : History) (step : Step) (c p : StageNo) → generation topology before c p ≤ generation topology (step ∷ before) c p

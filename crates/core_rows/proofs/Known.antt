@@ -24,7 +24,7 @@ use Rattle.core_tables.specs.declared.rows.StageRow.{StageRow}
 use Rattle.core_laws.specs.Columns.{stage_row}
 use Rattle.core_state.specs.declared.state.Core.{Core}
 use Rattle.core_state.specs.Stands.{Fields, Holds, totals_of}
-use Rattle.core_calls.proofs.Asking.{due_seen}
+use Rattle.core_state.proofs.Asking.{due_seen}
 use Rattle.core_rows.specs.Rows.{needs_by, is_due, due_between, sub_if_due}
 
 -- a row that is read is the stage's

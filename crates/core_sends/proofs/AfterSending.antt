@@ -28,7 +28,7 @@ use Rattle.core_tables.specs.declared.rows.Totals.{Totals}
 use Rattle.core_tables.proofs.Tables.{same_or_other, queue-set_same, queue-set_other}
 use Rattle.core_laws.specs.Columns.{waiting_parts, mark, open_batches, ends_in_progress, sent_on}
 use Rattle.core_laws.specs.Laws.{IsSentWell, DispatchLaws}
-use Rattle.core_calls.proofs.Asking.{pair_is}
+use Rattle.core_state.proofs.Asking.{pair_is}
 use Rattle.core_state.specs.declared.state.Core.{Core}
 use Rattle.core_state.specs.Stands.{Fields}
 use Rattle.core_sends.specs.Losing.{left_in, numbers_in, over_of, kept_of, lost_over_size, marked}

@@ -31,7 +31,7 @@ use Rattle.core_laws.specs.Laws.{IsSentWell}
 use Rattle.core_laws.proofs.Parts.{closed_is}
 use Rattle.core_state.specs.declared.state.Core.{Core}
 use Rattle.core_state.specs.Stands.{Fields, closed_seen}
-use Rattle.core_batches.proofs.Writing.{IsOnSubs, PlaceOn, legs_are_on}
+use Rattle.core_laws.proofs.LegsOn.{IsOnSubs, PlaceOn, legs_are_on}
 use Rattle.core_sends.specs.Batches.{with_legs, subs_at, subs_seen, messages_of, messages_in, not_sent}
 use Rattle.core_sends.specs.Rooms.{planned}
 use Rattle.core_sends.proofs.BatchLegs.{sent_waits, legs_after}

@@ -24,7 +24,7 @@ use Rattle.core_tables.specs.Tables.{named, spare_at, HasRoom, IsWithin, IsNumbe
 use Rattle.core_laws.specs.Laws.{IsSentWell, DispatchLaws}
 use Rattle.core_laws.proofs.Lawful.{lawful}
 use Rattle.core_laws.proofs.Past.{known_within, live_known}
-use Rattle.core_calls.proofs.Asking.{sub_is, row_is, live_seen}
+use Rattle.core_state.proofs.Asking.{sub_is, row_is, live_seen}
 use Rattle.core_state.specs.declared.state.Core.{Core}
 use Rattle.core_state.specs.Stands.{Fields, Holds}
 use Rattle.core_sends.specs.Rooms.{planned}

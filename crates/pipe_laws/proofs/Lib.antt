@@ -27,3 +27,4 @@ pub mod Acknowledged
 pub mod Lossless
 pub mod HandlerReplies
 pub mod Contents
+pub mod Claims

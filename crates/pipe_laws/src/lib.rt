@@ -3,7 +3,8 @@
 //! Each function is a law: it does nothing, and its clause states the law, whose words stand in the specification.
 //! No step but those that move messages changes a place; journals continue one another; what is settled stays so;
 //! no subscription is sent more than it asked, handles more than it was sent, or has more in flight than its greatest
-//! demand; each message has one place, is acknowledged once, and at the end none is left. `proofs/` has the facts behind them, for the proofs of the layers above.
+//! demand; each message has one place, is acknowledged once, and at the end none is left. The last law has them all, as
+//! the top call's contract names them. `proofs/` has the facts behind them, for the proofs of the layers above.
 #![tactic(auto)]
 
 ghost use Rattle.std.specs.Prelude.{◌≡◌, ◌≤◌, ℕ, ◌∷◌, length, IsTrue};
@@ -16,6 +17,7 @@ ghost use Rattle.pipe_model.specs.Flow.{place};
 ghost use Rattle.pipe_model.specs.Begins.{BeginsWith};
 ghost use Rattle.pipe_model.specs.Legal.{is_legal};
 ghost use Rattle.pipe_types.specs.Sound.{IsSound};
+ghost use Rattle.pipe_laws.specs.KeptClaims.{KeepsClaims};
 ghost use Rattle.pipe_model.specs.Claims.{KeepsLedger, HasOnePlaceEach, StaysSettled, LegStaysSettled, LeavesNothing, IsAcknowledgedOnce, AcknowledgesEverything};
 
 /// A tick moves no message.
@@ -114,4 +116,11 @@ pub fn each_message_is_acknowledged_once()
 pub fn drains_acknowledge_everything()
     ensures { (topology : Topology) (before : History) →
         IsSound topology → IsTrue (is_legal topology before) → AcknowledgesEverything topology before }
+{}
+
+/// A legal journal of a sound topology keeps every claim, whatever steps made it.
+#[tactic(auto, using(crate::proofs::Claims::keeps_claims))]
+pub fn legal_journals_keep_their_claims()
+    ensures { (topology : Topology) (before : History) →
+        IsSound topology → IsTrue (is_legal topology before) → KeepsClaims topology before }
 {}

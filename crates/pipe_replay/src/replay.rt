@@ -4,7 +4,7 @@ ghost use Rattle.std.specs.Prelude.{◌≡◌, true, IfOk, IfSome, IsSome, is_so
 ghost use Rattle.pipe_types.specs.Sound.{IsSound};
 ghost use Rattle.pipe_model.specs.History.{history};
 ghost use Rattle.pipe_model.specs.Legal.{is_legal};
-ghost use Rattle.run_claims.specs.Kept.{KeepsClaims};
+ghost use Rattle.pipe_laws.specs.KeptClaims.{KeepsClaims};
 ghost use Rattle.pipe_replay.specs.Rows.{IsStateOf};
 ghost use Rattle.pipe_replay.specs.States.{StateStands};
 

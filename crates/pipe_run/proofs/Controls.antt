@@ -3,7 +3,7 @@ use Rattle.std.proofs.Common.{◌≡◌, ℕ, List, ◌++◌, ap, ◌∙◌, Opt
 use Rattle.std.specs.Prelude.{IfSome}
 use Rattle.pipe_types.specs.declared.topology.Topology.{Topology}
 use Rattle.pipe_model.specs.History.{History}
-use Rattle.run_claims.specs.Read.{HasNoControl}
+use Rattle.pipe_laws.specs.Read.{HasNoControl}
 use Rattle.stage_bodies.specs.Seen.{LineSeen}
 use Rattle.stage_workers.specs.Keeping.{IsFresh, KeepsControlPartly, KeepsLinesPartly}
 use Rattle.stage_workers.proofs.Obeying.{control_read}

@@ -6,8 +6,8 @@ use Rattle.pipe_model.specs.History.{History}
 use Rattle.pipe_model.specs.Legal.{happened, is_halt}
 use Rattle.pipe_model.specs.Moves.{is_drained, jobs_out}
 use Rattle.pipe_edges.specs.declared.edges.EdgeKind.{EdgeKind}
-use Rattle.run_claims.specs.Followed.{FollowsMoves}
-use Rattle.run_claims.specs.Read.{HasNoControl}
+use Rattle.pipe_laws.specs.Followed.{FollowsMoves}
+use Rattle.pipe_laws.specs.Read.{HasNoControl}
 use Rattle.stage_workers.specs.Clocks.{ClockSeen, KeepsClock, KeepsClockPartly}
 use Rattle.edge_names.specs.Seen.{EdgesSeen}
 use Rattle.edge_names.specs.Controls.{run_calls}

@@ -21,7 +21,7 @@ use Rattle.pipe_model.specs.Outside.{fed, source_end}
 use Rattle.pipe_edges.specs.declared.edges.EdgeKind.{EdgeKind}
 use Rattle.pipe_edges.specs.declared.edges.EdgeKind.TheVariants.{Source}
 use Rattle.journal_texts.specs.Report.{places, is_fault, is_lost, is_failed, is_source_fault}
-use Rattle.run_claims.specs.Read.{HasNoControl}
+use Rattle.pipe_laws.specs.Read.{HasNoControl}
 use Rattle.stage_bodies.specs.Seen.{SourceSeen, LineSeen, BodySeen}
 use Rattle.stage_bodies.specs.Posts.{place_at}
 use Rattle.stage_laws.proofs.Groups.{fields_of}

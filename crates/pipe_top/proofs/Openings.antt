@@ -9,9 +9,9 @@ use Rattle.pipe_model.specs.History.{History}
 use Rattle.pipe_edges.specs.declared.edges.EdgeKind.{EdgeKind}
 use Rattle.core_state.specs.declared.state.Core.{Core}
 use Rattle.core_state.specs.Stands.{Stands}
-use Rattle.run_claims.specs.Followed.{FollowsMoves}
-use Rattle.run_claims.specs.Read.{HasNoControl}
-use Rattle.run_claims.proofs.Claims.{keeps_claims}
+use Rattle.pipe_laws.specs.Followed.{FollowsMoves}
+use Rattle.pipe_laws.specs.Read.{HasNoControl}
+use Rattle.pipe_laws.proofs.Claims.{keeps_claims}
 use Rattle.edge_names.specs.Controls.{run_calls}
 use Rattle.edge_names.specs.Returned.{IsAskedInPart}
 use Rattle.topology_needs.specs.declared.stock.Shortage.{Shortage}

@@ -22,9 +22,9 @@ use Rattle.program_words.specs.Refusals.{usage_line, topology_line, stock_line, 
 use Rattle.program_words.specs.Words.{Command}
 use Rattle.topology_needs.specs.Needs.{subscriptions_of}
 use Rattle.source_lines.specs.Cut.{HasShortLines}
-use Rattle.run_claims.specs.Kept.{KeepsClaims}
-use Rattle.run_claims.specs.Followed.{FollowsMoves}
-use Rattle.run_claims.specs.Read.{HasNoControl}
+use Rattle.pipe_laws.specs.KeptClaims.{KeepsClaims}
+use Rattle.pipe_laws.specs.Followed.{FollowsMoves}
+use Rattle.pipe_laws.specs.Read.{HasNoControl}
 use Rattle.stage_bodies.specs.Seen.{SourceSeen, SinkSeen, BoxSeen}
 use Rattle.pipe_run.specs.Clocks.{ClockSeen}
 use Rattle.edge_names.specs.Seen.{EdgesSeen}

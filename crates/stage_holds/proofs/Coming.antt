@@ -11,7 +11,7 @@ use Rattle.pipe_model.specs.History.{History, now, incarnation}
 use Rattle.pipe_model.specs.Lives.{is_live}
 use Rattle.pipe_model.specs.Posts.{puts_out, answers}
 use Rattle.pipe_model.specs.Legal.{is_legal, allows, owed}
-use Rattle.run_claims.specs.Followed.{FollowsMoves, IsNextMove}
+use Rattle.pipe_laws.specs.Followed.{FollowsMoves, IsNextMove}
 use Rattle.stage_bodies.specs.Seen.{BodySeen}
 use Rattle.stage_bodies.specs.Posts.{place_at, step_of}
 use Rattle.stage_bodies.specs.declared.job.Answer.{Answer}

@@ -13,7 +13,7 @@ use Rattle.pipe_model.specs.History.{History}
 use Rattle.pipe_model.specs.Posts.{puts_out, answers, is_out}
 use Rattle.pipe_model.specs.Legal.{is_legal, owed}
 use Rattle.pipe_model.specs.Moves.{move, Job as JobMove}
-use Rattle.run_claims.specs.Followed.{FollowsMoves}
+use Rattle.pipe_laws.specs.Followed.{FollowsMoves}
 use Rattle.stage_bodies.specs.Seen.{BodySeen}
 use Rattle.stage_bodies.specs.Jobs.{Fits}
 use Rattle.stage_bodies.specs.Posts.{place_at, IsJobOf}

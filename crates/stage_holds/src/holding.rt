@@ -6,7 +6,7 @@ ghost use Rattle.pipe_model.specs.Begins.{BeginsWith};
 ghost use Rattle.pipe_model.specs.Legal.{happened, is_halt};
 ghost use Rattle.pipe_model.specs.Moves.{is_drained, jobs_out};
 ghost use Rattle.core_state.specs.Stands.{Stands};
-ghost use Rattle.run_claims.specs.Followed.{FollowsMoves};
+ghost use Rattle.pipe_laws.specs.Followed.{FollowsMoves};
 ghost use Rattle.stage_bodies.specs.Seen.{BodySeen, LineSeen, body_at, line_seen};
 ghost use Rattle.stage_bodies.specs.Jobs.{Fits};
 ghost use Rattle.stage_bodies.specs.Posts.{place_at};

@@ -3,7 +3,7 @@
 ghost use Rattle.std.specs.Prelude.{◌≡◌, ◌<◌, None, Some, ℕ, length, Option, IfOk, IsTrue, IsErr, OnOk, OnErr};
 ghost use Rattle.pipe_model.specs.Legal.{allows};
 ghost use Rattle.core_state.specs.Stands.{Stands};
-ghost use Rattle.run_claims.specs.Followed.{FollowsMoves};
+ghost use Rattle.pipe_laws.specs.Followed.{FollowsMoves};
 ghost use Rattle.stage_bodies.specs.Seen.{BodySeen, body_at};
 ghost use Rattle.stage_bodies.specs.Posts.{place_at};
 ghost use Rattle.body_laws.specs.Keeps.{Keeps};

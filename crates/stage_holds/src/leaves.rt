@@ -3,7 +3,7 @@
 ghost use Rattle.std.specs.Prelude.{◌≡◌, ◌<◌, None, Some, ℕ, length, Option, IfOk, OnErr};
 ghost use Rattle.pipe_model.specs.Moves.{move as next_move_of, Job as JobMove};
 ghost use Rattle.core_state.specs.Stands.{Stands};
-ghost use Rattle.run_claims.specs.Followed.{FollowsMoves};
+ghost use Rattle.pipe_laws.specs.Followed.{FollowsMoves};
 ghost use Rattle.stage_bodies.specs.Seen.{BodySeen, body_at};
 ghost use Rattle.stage_bodies.specs.Jobs.{Fits};
 ghost use Rattle.stage_bodies.specs.Posts.{place_at};

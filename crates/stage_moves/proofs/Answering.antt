@@ -10,7 +10,7 @@ use Rattle.pipe_model.specs.History.{History, now}
 use Rattle.pipe_model.specs.Content.{has_crash}
 use Rattle.pipe_model.specs.Legal.{is_legal, owed, may_dispatch}
 use Rattle.pipe_laws.proofs.Allowed.{legal_before}
-use Rattle.run_claims.specs.Followed.{IsNextMove}
+use Rattle.pipe_laws.specs.Followed.{IsNextMove}
 use Rattle.stage_bodies.specs.Posts.{step_of, is_crashed_end}
 use Rattle.stage_bodies.specs.declared.job.Outcome.{Outcome as Came}
 use Rattle.stage_bodies.specs.declared.job.Outcome.TheVariants as came

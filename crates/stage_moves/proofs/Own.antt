@@ -10,7 +10,7 @@ use Rattle.pipe_types.specs.declared.step.Step.TheVariants.{Ask, Dispatch, Gathe
 use Rattle.pipe_model.specs.History.{History, now}
 use Rattle.pipe_model.specs.Posts.{puts_out, answers}
 use Rattle.pipe_model.specs.Moves.{StepMove, move, jobs_out}
-use Rattle.run_claims.specs.Followed.{IsNextMove}
+use Rattle.pipe_laws.specs.Followed.{IsNextMove}
 use Rattle.work_laws.specs.Work.{is_work}
 use Rattle.body_laws.specs.Keeps.{is_silent}
 use Rattle.core_jobs.specs.Steps.{is_own_step}

@@ -15,7 +15,7 @@ use Rattle.pipe_model.specs.Legal.{is_legal, allows, owed, happened, is_drain, h
 use Rattle.pipe_model.specs.Moves.{move, Job as JobMove, next_in_slot}
 use Rattle.pipe_laws.proofs.Tests.{and_left, and_right, not_true}
 use Rattle.pipe_laws.proofs.Allowed.{legal_step, unowed}
-use Rattle.run_claims.specs.Followed.{IsNextMove}
+use Rattle.pipe_laws.specs.Followed.{IsNextMove}
 use Rattle.work_laws.specs.Left.{work_left}
 use Rattle.work_laws.proofs.Leaving.{work_lowers, fetch_keeps}
 use Rattle.move_laws.proofs.Laws.{idle_law}

@@ -6,7 +6,7 @@ use Rattle.pipe_model.specs.History.{History, now, controls}
 use Rattle.pipe_model.specs.Posts.{puts_out, answers}
 use Rattle.pipe_model.specs.Legal.{happened, is_halt}
 use Rattle.pipe_model.specs.Moves.{jobs_out}
-use Rattle.run_claims.specs.Followed.{FollowsMoves}
+use Rattle.pipe_laws.specs.Followed.{FollowsMoves}
 use Rattle.stage_bodies.specs.Seen.{BodySeen, LineSeen}
 use Rattle.body_laws.specs.Keeps.{Keeps}
 use Rattle.body_laws.specs.Ready.{Ready, There}

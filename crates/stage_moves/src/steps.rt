@@ -13,7 +13,7 @@ ghost use Rattle.stage_moves.specs.Going.{Advances};
 
 use crate::resets::reset_bodies;
 use core_jobs::own_step;
-use core_moves::moves::{Move, next_move};
+use core_moves::{Move, next_move};
 use core_state::Core;
 use pipe_types::numbers::StageNo;
 use pipe_types::step::Step;

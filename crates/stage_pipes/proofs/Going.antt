@@ -12,7 +12,7 @@ use Rattle.pipe_model.specs.Legal.{is_legal, happened, is_halt}
 use Rattle.pipe_model.specs.Moves.{is_drained, jobs_out}
 use Rattle.pipeline_turn.specs.Jobs.{AreAway}
 use Rattle.pipeline_turn.proofs.Journals.{begins_through}
-use Rattle.run_claims.specs.Followed.{FollowsMoves}
+use Rattle.pipe_laws.specs.Followed.{FollowsMoves}
 use Rattle.stage_bodies.specs.Seen.{LineSeen, BodySeen}
 use Rattle.stage_bodies.specs.Jobs.{Fits}
 use Rattle.stage_bodies.specs.Posts.{place_at}

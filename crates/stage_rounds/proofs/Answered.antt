@@ -13,7 +13,7 @@ use Rattle.pipe_model.specs.Posts.{puts_out}
 use Rattle.pipe_model.specs.Legal.{is_legal, owed, may_dispatch, quiet_row}
 use Rattle.pipe_model.specs.Moves.{jobs_out}
 use Rattle.pipe_laws.proofs.Allowed.{legal_before}
-use Rattle.run_claims.specs.Followed.{FollowsMoves, IsNextMove}
+use Rattle.pipe_laws.specs.Followed.{FollowsMoves, IsNextMove}
 use Rattle.work_laws.specs.Left.{work_left}
 use Rattle.work_laws.proofs.Leaving.{work_lowers, quiet_lowers}
 use Rattle.stage_bodies.specs.Seen.{BodySeen, LineSeen}

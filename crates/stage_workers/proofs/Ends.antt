@@ -5,7 +5,7 @@ use Rattle.std.specs.declared.alloc.AllocError.{AllocError}
 use Rattle.pipe_types.specs.declared.numbers.Post.{Post}
 use Rattle.pipe_types.specs.declared.topology.Topology.{Topology}
 use Rattle.pipe_model.specs.History.{History}
-use Rattle.run_claims.specs.Followed.{FollowsMoves}
+use Rattle.pipe_laws.specs.Followed.{FollowsMoves}
 use Rattle.stage_bodies.specs.Seen.{LineSeen, BodySeen}
 use Rattle.body_laws.specs.Keeps.{has_post}
 use Rattle.stage_pipes.specs.Keeping.{KeepsControl, KeepsControlOn}

@@ -1,7 +1,7 @@
 -- What a run by workers comes to.
 use Rattle.std.specs.Prelude.{◌≡◌, ℕ, IsSome, IfOk, Result}
 use Rattle.std.specs.declared.alloc.AllocError.{AllocError}
-use Rattle.run_claims.specs.Followed.{FollowsMoves}
+use Rattle.pipe_laws.specs.Followed.{FollowsMoves}
 use Rattle.body_laws.specs.Keeps.{Keeps}
 use Rattle.stage_pipes.specs.Keeping.{KeepsControlOn}
 use Rattle.stage_pipes.specs.Clocks.{KeepsClockOn}

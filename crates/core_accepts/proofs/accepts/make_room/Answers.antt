@@ -3,7 +3,7 @@ use Rattle.std.specs.Prelude.{slice_get}
 use Rattle.std.specs.Vec.{with_item}
 use Rattle.std.proofs.lemmas.List.{length-set}
 use Rattle.std.proofs.lemmas.Option.{slice_get_read}
-use Rattle.core_accepts.proofs.Roomy.{roomy, same_queue}
+use Rattle.core_state.proofs.Roomy.{roomy, same_queue}
 use Rattle.core_accepts.proofs.accepts.make_room.Goals as goal
 
 pub returns-clause-stands : goal.returns-clause-stands

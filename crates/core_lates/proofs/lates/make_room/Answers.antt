@@ -1,5 +1,5 @@
 use Rattle.std.proofs.Common.{refl}
-use Rattle.core_accepts.proofs.Roomy.{roomy}
+use Rattle.core_state.proofs.Roomy.{roomy}
 use Rattle.core_lates.proofs.lates.make_room.Goals as goal
 
 pub returns-clause-stands : goal.returns-clause-stands

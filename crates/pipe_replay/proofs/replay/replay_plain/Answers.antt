@@ -1,6 +1,6 @@
 use Rattle.std.proofs.Common.{rules}
 use Rattle.pipe_model.specs.History.{history}
-use Rattle.run_claims.proofs.Claims.{keeps_claims}
+use Rattle.pipe_laws.proofs.Claims.{keeps_claims}
 use Rattle.pipe_replay.proofs.replay.replay_plain.Goals as goal
 
 pub returns-in_ok-rows_of-in-Some-clause-claims : goal.returns-in_ok-rows_of-in-Some-clause-claims

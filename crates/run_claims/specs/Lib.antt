@@ -1,3 +1,0 @@
-pub mod Followed
-pub mod Kept
-pub mod Read
