@@ -10,3 +10,6 @@ pub mod Starts
 pub mod Allowed
 pub mod Lating
 pub mod Restarting
+pub mod Legs
+pub mod Places
+pub mod Passing

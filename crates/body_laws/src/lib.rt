@@ -4,6 +4,7 @@
 //! journal, its sink has got the journal's text, its callback has its count. `Ready`: it holds what the jobs of its post
 //! need. Both hold of bodies to which nothing was done, and every turn of a job keeps them: the step that begins it, the
 //! body that leaves, what the job makes of the body, the answer's step, and the failures between these.
+//! Where every reply of the journal is a pass and every outcome of a batch a success, no message of it is failed.
 //! Each function is a law: it does nothing, and its clause states the law. `proofs/` has the facts behind them.
 #![tactic(auto)]
 
@@ -18,7 +19,9 @@ ghost use Rattle.pipe_types.specs.declared.topology.StageSpec.{StageSpec};
 ghost use Rattle.pipe_types.specs.declared.topology.Topology.{Topology};
 ghost use Rattle.pipe_types.specs.Sound.{IsSound, batchers};
 ghost use Rattle.pipe_types.specs.Stages.{spec_of};
+ghost use Rattle.pipe_model.specs.Acknowledgements.{is_acked_failed};
 ghost use Rattle.pipe_model.specs.Content.{content};
+ghost use Rattle.pipe_model.specs.Flow.{place};
 ghost use Rattle.pipe_model.specs.History.{History};
 ghost use Rattle.pipe_model.specs.Legal.{is_legal, allows, owed};
 ghost use Rattle.pipe_model.specs.Posts.{is_out, puts_out};
@@ -33,6 +36,7 @@ ghost use Rattle.stage_bodies.specs.declared.job.Outcome.{Outcome as Came};
 ghost use Rattle.stage_bodies.specs.declared.job.Work.{Work};
 ghost use Rattle.body_laws.specs.Keeps.{has_post, is_silent, KeepsBody, Keeps};
 ghost use Rattle.body_laws.specs.Lates.{late_step, AreReset};
+ghost use Rattle.body_laws.specs.Passes.{all_pass};
 ghost use Rattle.body_laws.specs.Ready.{There, IsBodyAt, Ready, IsFilled};
 
 /// Posts with slots below 16 have places of their own.
@@ -214,4 +218,11 @@ pub fn restarts_keep_bodies_ready()
     ensures { (topology : Topology) (before : History) (s : StageNo) (now after : ℕ → Option BodySeen) →
         IsSound topology → IsTrue (is_legal topology (Restart s ∷ before)) → AreReset topology s now after →
         Ready topology before now → Ready topology (Restart s ∷ before) after }
+{}
+
+/// Where each reply is a pass and each outcome of a batch a success, no message is failed.
+#[tactic(auto, using(crate::proofs::Passing::none_failed_law))]
+pub fn passes_fail_nothing()
+    ensures { (topology : Topology) (before : History) (n : ℕ) →
+        IsTrue (all_pass before) → is_acked_failed (place topology before n) ≡ false }
 {}

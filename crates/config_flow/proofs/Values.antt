@@ -11,8 +11,8 @@ use Rattle.toml.specs.Data.{table, item, no_items}
 use Rattle.config_rule.specs.RuleText.{at_space, rule_of}
 use Rattle.config_judge.specs.Judge.{faults_in}
 use Rattle.config_build.specs.Build.{topology_in}
-use Rattle.config_sound.specs.Fit.{IsFit}
-use Rattle.config_sound.proofs.Sound.{built_is_sound}
+use Rattle.pipe_config.specs.Fit.{IsFit}
+use Rattle.pipe_config.proofs.Built.{built_is_sound}
 use Rattle.config_table.specs.declared.format.Section.TheVariants.{Processors, Producer}
 use Rattle.config_table.specs.Walk.{faults_of, table_faults, each_faults}
 use Rattle.pipe_config.specs.File.{judged, topology_of}

@@ -1,2 +1,11 @@
+pub mod Groups
+pub mod Order
+pub mod Named
+pub mod Distinct
+pub mod Rules
+pub mod Fields
+pub mod Reached
+pub mod Built
+pub mod Walked
 pub mod Table
 pub mod Sound

@@ -10,8 +10,8 @@ use Rattle.config_table.specs.Walk.{faults_of, has_version}
 use Rattle.config_settings.specs.Settings.{settings_of}
 use Rattle.config_judge.specs.Judge.{faults_in}
 use Rattle.config_build.specs.Build.{topology_in}
-use Rattle.config_sound.proofs.Walked.{least_none, walked_fits}
-use Rattle.config_sound.proofs.Sound.{built_is_sound}
+use Rattle.pipe_config.proofs.Walked.{least_none, walked_fits}
+use Rattle.pipe_config.proofs.Built.{built_is_sound}
 use Rattle.pipe_config.specs.File.{unless, judged, topology_of_table, topology_of_file, table_of, Answers}
 
 by_judge : (table : Members) (o : Option ConfigFault) (t : Topology) → least (faults_of table) ≡ None → least (faults_in (settings_of table)) ≡ o → unless o (Ok (topology_in (settings_of table))) ≡ Ok t → IsSound t

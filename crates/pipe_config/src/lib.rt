@@ -1,7 +1,9 @@
 //! Reading a topology file. `read_topology` answers the topology that the bytes name, or the first fault of the
 //! lowest number, by the definition `topology_of_file` of specs/File.antt; want of memory may come at any place.
+//! The topology of settings that fit the format and that no fault names is sound: the law of `laws`.
 #![tactic(auto)]
 
+pub mod laws;
 pub mod read;
 
 pub use config_table::fault::{ConfigFault, fault_number};

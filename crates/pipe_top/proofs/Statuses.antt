@@ -11,9 +11,9 @@ use Rattle.pipe_model.specs.Flow.{place}
 use Rattle.pipe_model.specs.Legal.{happened, is_halt}
 use Rattle.pipe_model.specs.Acknowledgements.{is_lossless, numbers_upto}
 use Rattle.pipe_laws.proofs.Lossless.{none_lost}
-use Rattle.pass_laws.specs.Passes.{all_pass}
-use Rattle.pass_laws.proofs.Places.{none_failed}
-use Rattle.pass_laws.proofs.Laws.{no_halt}
+use Rattle.body_laws.specs.Passes.{all_pass}
+use Rattle.body_laws.proofs.Places.{none_failed}
+use Rattle.body_laws.proofs.Passing.{no_halt}
 use Rattle.journal_texts.specs.Report.{places, is_lost, is_failed, is_source_fault, gravest_of, status_of}
 use Rattle.pipe_top.specs.Runs.{IsEnded}
 

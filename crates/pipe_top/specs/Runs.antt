@@ -11,7 +11,7 @@ use Rattle.pipe_model.specs.History.{History}
 use Rattle.pipe_model.specs.Legal.{happened, is_halt, has_role, is_producer_role}
 use Rattle.pipe_model.specs.Outside.{source_end}
 use Rattle.pipe_model.specs.Acknowledgements.{is_lossless}
-use Rattle.pass_laws.specs.Passes.{all_pass}
+use Rattle.body_laws.specs.Passes.{all_pass}
 use Rattle.pipe_edges.specs.declared.edges.EdgeKind.{EdgeKind}
 use Rattle.pipe_edges.specs.declared.edges.EdgeKind.TheVariants.{File}
 use Rattle.config_table.specs.Fault.{number_of}

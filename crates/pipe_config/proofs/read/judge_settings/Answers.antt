@@ -1,5 +1,5 @@
 use Rattle.std.proofs.Common.{sym, ◌∙◌}
-use Rattle.config_sound.proofs.Sound.{few_stages}
+use Rattle.pipe_config.proofs.Built.{few_stages}
 use Rattle.pipe_config.proofs.read.judge_settings.Goals as goal
 
 pub build_topology-requires-clause-few : goal.build_topology-requires-clause-few

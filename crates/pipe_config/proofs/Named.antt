@@ -14,7 +14,7 @@ use Rattle.config_settings.specs.declared.settings.ProcessorSettings.{ProcessorS
 use Rattle.config_settings.specs.declared.settings.SupervisorSettings.{SupervisorSettings}
 use Rattle.config_settings.specs.declared.settings.BatcherSettings.{BatcherSettings}
 use Rattle.config_build.specs.Build.{producer_stages, places, processor_stage, processor_stages, supervisor_stages, batcher_stage, batcher_stages, batch_processor_stage, batch_processor_stages}
-use Rattle.config_sound.proofs.Groups.{AllRole}
+use Rattle.pipe_config.proofs.Groups.{AllRole}
 
 pub both : {a b : Bool} → a ≡ true → b ≡ true → (a && b) ≡ true
 both {a} {b} p q = rw (p, q) refl

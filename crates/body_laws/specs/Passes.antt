@@ -1,15 +1,11 @@
 -- Journals whose handlers pass every message and every batch.
-use Rattle.std.specs.Prelude.{◌≡◌, ◌≤◌, ℕ, Bool, true, [], ◌∷◌, ◌&&◌, Some}
+use Rattle.std.specs.Prelude.{Bool, true, [], ◌∷◌, ◌&&◌}
 use Rattle.std.specs.List.{list_all}
 use Rattle.pipe_types.specs.declared.message.BatchEnd.TheVariants.{Outcomes}
-use Rattle.pipe_types.specs.declared.message.Outcome.TheVariants.{Successful}
-use Rattle.pipe_types.specs.declared.message.Place.TheVariants.{Acked}
 use Rattle.pipe_types.specs.declared.step.Step.{Step}
 use Rattle.pipe_types.specs.declared.step.Step.TheVariants.{Done, Wrote, ChildEnd}
-use Rattle.pipe_types.specs.declared.topology.Topology.{Topology}
 use Rattle.pipe_types.specs.Handlers.{is_successful}
-use Rattle.pipe_model.specs.History.{History, accepted}
-use Rattle.pipe_model.specs.Flow.{place}
+use Rattle.pipe_model.specs.History.{History}
 use Rattle.stage_callback.specs.Callbacks.{is_passed}
 
 -- each reply of the step is a pass, and each outcome of a batch a success
@@ -23,7 +19,3 @@ passes _ = true
 abbrev pub all_pass : History → Bool
 all_pass [] = true
 all_pass (step ∷ before) = all_pass before && passes step
-
--- every accepted message is acknowledged as successful
-abbrev pub AreSuccessful : Topology → History → Type 0
-AreSuccessful topology before = (n : ℕ) → 1 ≤ n → n ≤ accepted before → place topology before n ≡ Some (Acked Successful)

@@ -14,16 +14,16 @@ use Rattle.config_settings.specs.declared.settings.BatcherSettings.{BatcherSetti
 use Rattle.config_settings.specs.declared.settings.Settings.{Settings}
 use Rattle.config_judge.specs.Judge.{faults_in, duplicate_names, duplicates_with, routes_with, group_faults, bad_dispatches, unreachable_with, lacks_stage, stage_count, processor_count, supervisor_count, batcher_names, producer_names, processor_routes, supervisor_routes, batcher_routes, fault_if}
 use Rattle.config_build.specs.Build.{topology_in, stages_of, partition_field, producer_stages, processor_stages, supervisor_stages, batcher_stages, batch_processor_stages}
-use Rattle.config_sound.specs.Fit.{IsFit, producer_fits, processors_fit, supervisor_fits, batcher_fits, demand_fits, handler_fits, field_fits}
-use Rattle.config_sound.proofs.Groups.{AllRole, role_producers, role_processors, role_supervisors, role_batchers, role_batch_processors, length-producers, length-processors, length-supervisors, length-batchers, length-batch_processors, five_producers, five_processors, five_batchers}
-use Rattle.config_sound.proofs.Order.{IsEnough, stages_are_ordered}
-use Rattle.config_sound.proofs.Named.{both, all_append, named_producers, named_processors, named_supervisors, named_batchers, named_batch_processors, found_batchers, find_other}
-use Rattle.config_sound.proofs.Distinct.{no_fault, nothing_left, names_are_distinct}
-use Rattle.config_sound.proofs.Rules.{rules_fit}
-use Rattle.config_sound.proofs.Fields.{FieldFits, ProcessorRules, SupervisorRules, producer_fields, processor_fields, supervisor_fields, batcher_fields, member_fields, counted_batchers, none_of}
-use Rattle.config_sound.proofs.Walked.{least_none}
+use Rattle.pipe_config.specs.Fit.{IsFit, producer_fits, processors_fit, supervisor_fits, batcher_fits, demand_fits, handler_fits, field_fits}
+use Rattle.pipe_config.proofs.Groups.{AllRole, role_producers, role_processors, role_supervisors, role_batchers, role_batch_processors, length-producers, length-processors, length-supervisors, length-batchers, length-batch_processors, five_producers, five_processors, five_batchers}
+use Rattle.pipe_config.proofs.Order.{IsEnough, stages_are_ordered}
+use Rattle.pipe_config.proofs.Named.{both, all_append, named_producers, named_processors, named_supervisors, named_batchers, named_batch_processors, found_batchers, find_other}
+use Rattle.pipe_config.proofs.Distinct.{no_fault, nothing_left, names_are_distinct}
+use Rattle.pipe_config.proofs.Rules.{rules_fit}
+use Rattle.pipe_config.proofs.Fields.{FieldFits, ProcessorRules, SupervisorRules, producer_fields, processor_fields, supervisor_fields, batcher_fields, member_fields, counted_batchers, none_of}
+use Rattle.pipe_config.proofs.Walked.{least_none}
 use Rattle.config_table.specs.Fault.{least, under}
-use Rattle.config_sound.proofs.Reached.{batchers_reached}
+use Rattle.pipe_config.proofs.Reached.{batchers_reached}
 use Rattle.std.proofs.lemmas.List.Elements.{filter-append}
 
 length-names : (bs : List BatcherSettings) → length (batcher_names bs) ≡ length bs

@@ -28,9 +28,9 @@ use Rattle.config_table.specs.declared.value.Flaw.TheVariants.{OutOfRange}
 use Rattle.config_table.specs.Walk.{held_faults, row_faults, rows_faults, unknown_keys, table_faults, each_faults, array_faults, top_faults, faults_of}
 use Rattle.config_settings.specs.Settings as settings
 use Rattle.config_settings.specs.Settings.{texts_in, text_before, table_at, array_at, settings_of, producers_in, producers_at, batchers_in, batchers_at, producer_of, processors_of, supervisor_of, batcher_of, reason_of, kind_of, demand_of, pipeline_number}
-use Rattle.config_sound.specs.Fit.{IsFit, demand_fits, producer_fits, field_fits, processors_fit, supervisor_fits, batcher_fits}
-use Rattle.config_sound.proofs.Named.{both}
-use Rattle.config_sound.proofs.Distinct.{nothing_left}
+use Rattle.pipe_config.specs.Fit.{IsFit, demand_fits, producer_fits, field_fits, processors_fit, supervisor_fits, batcher_fits}
+use Rattle.pipe_config.proofs.Named.{both}
+use Rattle.pipe_config.proofs.Distinct.{nothing_left}
 
 -- ---- no fault at all
 

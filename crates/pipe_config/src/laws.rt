@@ -1,10 +1,10 @@
-//! The law of `config_sound`.
+//! The law that the topology of faultless settings is sound.
 
 ghost use Rattle.std.specs.Prelude.{◌≡◌, []};
 ghost use Rattle.pipe_types.specs.Sound.{IsSound};
 ghost use Rattle.config_judge.specs.Judge.{faults_in};
 ghost use Rattle.config_build.specs.Build.{topology_in};
-ghost use Rattle.config_sound.specs.Fit.{IsFit};
+ghost use Rattle.pipe_config.specs.Fit.{IsFit};
 
 use config_settings::settings::Settings;
 

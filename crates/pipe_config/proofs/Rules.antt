@@ -10,8 +10,8 @@ use Rattle.pipe_types.specs.Sound.{is_rule, are_rules, is_between, names_batcher
 use Rattle.config_rule.specs.RuleText.{rule_of, rule_from, route_by, route_to, decimal_in, is_decimal, digits_number, at_space}
 use Rattle.config_judge.specs.Judge.{is_astray, astray_routes, leads_to}
 use Rattle.config_build.specs.Build.{rules_of}
-use Rattle.config_sound.proofs.Named.{both}
-use Rattle.config_sound.proofs.Distinct.{no_fault}
+use Rattle.pipe_config.proofs.Named.{both}
+use Rattle.pipe_config.proofs.Distinct.{no_fault}
 
 -- the numbers of a rule but a batcher's
 abbrev is_formed : Rule → Bool

@@ -9,9 +9,9 @@ use Rattle.config_settings.specs.declared.settings.ProcessorSettings.{ProcessorS
 use Rattle.config_settings.specs.declared.settings.BatcherSettings.{BatcherSettings}
 use Rattle.config_judge.specs.Judge.{is_left_out, left_out, leads_to, unreachable_with}
 use Rattle.config_build.specs.Build.{places, processor_stage, batcher_stages, rules_of}
-use Rattle.config_sound.proofs.Named.{both}
-use Rattle.config_sound.proofs.Distinct.{no_fault}
-use Rattle.config_sound.proofs.Rules.{routes_lead}
+use Rattle.pipe_config.proofs.Named.{both}
+use Rattle.pipe_config.proofs.Distinct.{no_fault}
+use Rattle.pipe_config.proofs.Rules.{routes_lead}
 
 -- a group of processors that may send to a batcher
 pub group_sends : (k : ℕ) (known : List (List ℕ)) (q : ProcessorSettings) (first m c : ℕ) → m ≡ suc c → may_send_to k (processor_stage known q first 0) ≡ true → list_any (may_send_to k) (map (processor_stage known q first) (places 0 m)) ≡ true

@@ -24,8 +24,8 @@ use Rattle.pipe_model.specs.Flow.{place, batch, among, subs_of, dispatched, wait
 use Rattle.pipe_model.specs.Acknowledgements.{is_acked_failed}
 use Rattle.stage_callback.specs.Callbacks.{is_passed}
 use Rattle.pipe_laws.proofs.Tests.{and_left, and_right}
-use Rattle.pass_laws.specs.Passes.{all_pass}
-use Rattle.pass_laws.proofs.Legs.{pass_before, pass_here, batch_passes, batches_pass, batch_leaves}
+use Rattle.body_laws.specs.Passes.{all_pass}
+use Rattle.body_laws.proofs.Legs.{pass_before, pass_here, batch_passes, batches_pass, batch_leaves}
 
 mapped_fine : (f : Place → Place) → ((p : Place) → is_acked_failed (Some p) ≡ false → is_acked_failed (Some (f p)) ≡ false) → (o : Option Place) → is_acked_failed o ≡ false → is_acked_failed (option_map f o) ≡ false
 mapped_fine f keeps None h = refl

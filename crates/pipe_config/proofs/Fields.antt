@@ -16,11 +16,11 @@ use Rattle.config_settings.specs.declared.settings.BatcherSettings.{BatcherSetti
 use Rattle.config_judge.specs.Judge.{batcher_route, batcher_routes}
 use Rattle.config_build.specs.Build.{producer_stage, producer_stages, places, processor_stage, processor_stages, supervisor_stages, batcher_stage, batcher_stages, batch_processor_stage, batch_processor_stages, dispatch_to, rules_of}
 use Rattle.config_table.specs.Fault.{under, at_place}
-use Rattle.config_sound.specs.Fit.{demand_fits, handler_fits, producer_fits, field_fits, processors_fit, supervisor_fits, batcher_fits}
-use Rattle.config_sound.proofs.Groups.{AllRole, length-places}
-use Rattle.config_sound.proofs.Named.{both, all_append}
-use Rattle.config_sound.proofs.Rules.{rules_fit}
-use Rattle.config_sound.proofs.Distinct.{nothing_left}
+use Rattle.pipe_config.specs.Fit.{demand_fits, handler_fits, producer_fits, field_fits, processors_fit, supervisor_fits, batcher_fits}
+use Rattle.pipe_config.proofs.Groups.{AllRole, length-places}
+use Rattle.pipe_config.proofs.Named.{both, all_append}
+use Rattle.pipe_config.proofs.Rules.{rules_fit}
+use Rattle.pipe_config.proofs.Distinct.{nothing_left}
 
 -- a test of every place of a group
 pub all_places : (test : StageSpec → Bool) (f : ℕ → StageSpec) (n i most : ℕ) → i + n ≤ most → ((k : ℕ) → k < most → test (f k) ≡ true) → list_all test (map f (places i n)) ≡ true

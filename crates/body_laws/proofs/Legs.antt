@@ -21,7 +21,7 @@ use Rattle.pipe_model.specs.Batches.{Batch, BatchPlace, AtBatcher, Sent, Dropped
 use Rattle.pipe_model.specs.Flow.{batch, view_of, among, sends_by, subs_of, place_in_batch, change_place, new_batch, next_units, closing}
 use Rattle.pipe_model.specs.Acknowledgements.{is_acked_failed}
 use Rattle.pipe_laws.proofs.Tests.{and_left, and_right, both}
-use Rattle.pass_laws.specs.Passes.{passes, all_pass}
+use Rattle.body_laws.specs.Passes.{passes, all_pass}
 
 pub pass_before : (before : History) (step : Step) → all_pass (step ∷ before) ≡ true → all_pass before ≡ true
 pass_before before step h = and_left (all_pass before) (passes step) h

@@ -1,9 +1,0 @@
-pub mod Groups
-pub mod Order
-pub mod Named
-pub mod Distinct
-pub mod Rules
-pub mod Fields
-pub mod Reached
-pub mod Sound
-pub mod Walked
