@@ -5,7 +5,7 @@ use Rattle.pipe_model.specs.Legal.{allows}
 use Rattle.core_state.specs.declared.state.Core.{Core}
 use Rattle.core_state.proofs.Steps.{holds_after, unowed_after, still_stands}
 use Rattle.core_state.proofs.Asking.{asking, live_seen, due_seen, ask_fits, asked_fields}
-use Rattle.core_state.proofs.asks.ask.Goals as goal
+use Rattle.core_calls.proofs.asks.ask.Goals as goal
 
 pub ask-requires-clause-live : goal.ask-requires-clause-live
 ask-requires-clause-live c =

@@ -5,7 +5,7 @@ use Rattle.core_tables.specs.declared.rows.Totals.{Totals}
 use Rattle.core_state.specs.declared.state.Core.{Core}
 use Rattle.core_state.proofs.Steps.{holds_after, unowed_after, still_stands}
 use Rattle.core_state.proofs.Ending.{refused_fields, controls_few}
-use Rattle.core_state.proofs.asks.refuse.Goals as goal
+use Rattle.core_calls.proofs.asks.refuse.Goals as goal
 
 pub returns-clause-stands : goal.returns-clause-stands
 returns-clause-stands c =

@@ -4,7 +4,7 @@ use Rattle.pipe_model.specs.History.{History}
 use Rattle.core_state.specs.declared.state.Core.{Core}
 use Rattle.core_state.proofs.Steps.{holds_after, unowed_after, still_stands}
 use Rattle.core_state.proofs.Ending.{ticked_fields}
-use Rattle.core_state.proofs.asks.tick.Goals as goal
+use Rattle.core_calls.proofs.asks.tick.Goals as goal
 
 pub returns-clause-stands : goal.returns-clause-stands
 returns-clause-stands c =

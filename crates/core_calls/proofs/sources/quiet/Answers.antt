@@ -7,7 +7,7 @@ use Rattle.core_state.specs.declared.state.Core.{Core}
 use Rattle.core_state.proofs.Steps.{holds_after, unowed_after, still_stands}
 use Rattle.core_state.proofs.Ending.{rested_fields, quiet_within, quiet_few}
 use Rattle.stage_laws.proofs.Numbering.{numbered_topology}
-use Rattle.core_state.proofs.sources.quiet.Goals as goal
+use Rattle.core_calls.proofs.sources.quiet.Goals as goal
 
 pub note_rest-requires : goal.note_rest-requires
 note_rest-requires c =

@@ -5,7 +5,7 @@ use Rattle.core_state.specs.declared.state.Core.{Core}
 use Rattle.core_state.proofs.Steps.{holds_after, unowed_after, still_stands}
 use Rattle.core_state.proofs.Ending.{ended_fields, end_within}
 use Rattle.stage_laws.proofs.Numbering.{numbered_topology}
-use Rattle.core_state.proofs.sources.source_end.Goals as goal
+use Rattle.core_calls.proofs.sources.source_end.Goals as goal
 
 pub note_end-requires : goal.note_end-requires
 note_end-requires c =
