@@ -9,8 +9,6 @@
 mod acks;
 mod groups;
 mod lines;
-#[cfg(test)]
-mod tests;
 mod words;
 
 pub use acks::ack_text;
