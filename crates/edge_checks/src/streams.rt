@@ -1,13 +1,14 @@
 //! Sources and sinks that are set not to wait, and a file of many pieces.
 
-use super::{lines_of, open_sink, open_source};
+use super::stories::tell_wrote;
+use super::texts::name_of;
 use file_socket_sinks::{RealEdges, RealOut, RealSource};
-use pipe_edges::{ByteSink, ByteSource, Fetched, LineSource, PutEnd, ReadEnd, WriteEnd, put_all};
+use pipe_edges::{ByteSink, ByteSource, Edges, Fetched, LineSource, PutEnd, ReadEnd, put_all};
 use pipe_types::bytes::Bytes;
 use std::alloc::{AllocError, Global};
 use std::os::unix::net::UnixStream;
-use std::test::Fail;
-use std::thread;
+use std::thread::Threads;
+use std::{io, thread};
 
 /// How many bytes stand in several pieces of a read, and fill a pipe more than once.
 const MANY: usize = 600_000;
@@ -46,15 +47,24 @@ fn read_text<B: ByteSource>(source: &mut B) -> Option<usize> {
     None
 }
 
-#[test]
-fn a_file_is_read_in_many_pieces(rt: HostRuntime) -> Result<(), Fail> {
-    let alloc = rt.alloc();
-    let mut edges = RealEdges::new(&rt);
-    let mut sink = open_sink(alloc, &mut edges, "file:many")?;
-    assert_eq!(rt; put_all(&mut sink, &text_of_many(alloc)?), PutEnd::All);
-    let mut source = open_source(alloc, &mut edges, "file:many")?;
-    assert_eq!(rt; read_text(&mut source), Some(MANY));
-    Ok(())
+// Whether the put took all, and how many bytes were read.
+fn tell_many(rt: &HostRuntime, put: PutEnd, read: Option<usize>) -> io::Result<()> {
+    print!(rt; " {} {}", put == PutEnd::All, read.unwrap_or(0))
+}
+
+/// `many`: what a file takes, and what is read of it again.
+pub fn many(rt: &HostRuntime) -> io::Result<()> {
+    let mut edges = RealEdges::new(rt);
+    let name = name_of(rt.alloc(), "file:many")?;
+    let text = text_of_many(rt.alloc())?;
+    let Ok(mut sink) = edges.open_sink(&name) else {
+        return print!(rt; " no sink");
+    };
+    let put = put_all(&mut sink, &text);
+    match edges.open_source(&name) {
+        Ok(mut source) => tell_many(rt, put, read_text(&mut source)),
+        Err(_) => print!(rt; " no source"),
+    }
 }
 
 /// What a fetch comes to, in a word.
@@ -63,43 +73,41 @@ fn fetched<B: ByteSource>(lines: &mut LineSource<B>) -> Result<&'static str, All
     Ok(match &fetched {
         Fetched::Records(records) if records.as_slice().len() == 1 => "one",
         Fetched::Records(_) => "more",
-        Fetched::NotYet => "not yet",
+        Fetched::NotYet => "not-yet",
         Fetched::End => "end",
         Fetched::Fault => "fault",
-        Fetched::TooLong => "too long",
+        Fetched::TooLong => "long",
     })
 }
 
-#[test]
-fn what_would_wait_is_no_end(rt: HostRuntime) -> Result<(), Fail> {
-    let alloc = rt.alloc();
-    let (reader, writer) = UnixStream::pair(&rt)?;
+/// `no_wait`: fetches of a connection that is set not to wait, with a write between them, and its end.
+pub fn no_wait(rt: &HostRuntime) -> io::Result<()> {
+    let (reader, writer) = UnixStream::pair(rt)?;
     reader.set_nonblocking(true)?;
-    let mut sink = RealOut::new(&rt, writer);
-    let mut lines = lines_of(alloc, RealSource::new(reader))?;
-    assert_eq!(rt; fetched(&mut lines)?, "not yet");
-    assert_eq!(rt; sink.write(b"a\nb"), WriteEnd::Took(3));
-    assert_eq!(rt; fetched(&mut lines)?, "one");
-    assert_eq!(rt; fetched(&mut lines)?, "not yet");
+    let mut sink = RealOut::new(rt, writer);
+    let Ok(mut lines) = LineSource::new(rt.alloc(), RealSource::new(reader)) else {
+        return print!(rt; " no memory");
+    };
+    print!(rt; " {}", fetched(&mut lines)?)?;
+    tell_wrote(rt, sink.write(b"a\nb"))?;
+    print!(rt; " {}", fetched(&mut lines)?)?;
+    print!(rt; " {}", fetched(&mut lines)?)?;
     drop(sink);
-    assert_eq!(rt; fetched(&mut lines)?, "one");
-    assert_eq!(rt; fetched(&mut lines)?, "end");
-    Ok(())
+    print!(rt; " {}", fetched(&mut lines)?)?;
+    print!(rt; " {}", fetched(&mut lines)?)
 }
 
-#[test]
-fn a_full_pipe_is_written_in_parts(rt: HostRuntime) -> Result<(), Fail> {
-    let (reader, writer) = UnixStream::pair(&rt)?;
+/// `full_pipe`: what a connection takes that is set not to wait, and what a second thread reads of it.
+pub fn full_pipe<R: Threads + Sync>(rt: &HostRuntime, threads: &R) -> io::Result<()> {
+    let (reader, writer) = UnixStream::pair(rt)?;
     writer.set_nonblocking(true)?;
     let many = text_of_many(rt.alloc())?;
-    let mut sink = RealOut::new(&rt, writer);
+    let mut sink = RealOut::new(rt, writer);
     let mut source = RealSource::new(reader);
     let (put, read) = thread::join(
-        &rt,
+        threads,
         move || put_all(&mut sink, &many),
         move || read_text(&mut source),
     );
-    assert_eq!(rt; put, PutEnd::All);
-    assert_eq!(rt; read, Some(MANY));
-    Ok(())
+    tell_many(rt, put, read)
 }
