@@ -9,7 +9,7 @@ use super::own::ask;
 use pipe_types::message::{Message, Reply};
 use pipe_types::topology::Kind;
 use stage_callback::{Callback, LinesBox, StepsBox, unarmed};
-use std::alloc::{AllocError, Global};
+use std::alloc::AllocError;
 use std::io;
 
 #[derive(Drop)]
@@ -81,13 +81,11 @@ fn run(body: &mut Body, message: Message) -> Result<Option<Reply>, AllocError>
     }
 }
 
-/// Adds a body with an armed box, one with none, and one with a box that was never armed.
-fn add_three(alloc: Global, items: &mut Vec<Body>) -> Result<(), AllocError> {
-    let mut steps: Handler = Box::new(alloc, StepsBox::new(alloc))?;
-    steps.arm(&unarmed(alloc, Kind::Steps))?;
-    add(items, Some(steps))?;
-    add(items, None)?;
-    add(items, Some(Box::new(alloc, LinesBox::new(alloc))?))
+/// Runs a message on the body, and says whether it has a box, whether there is a reply, and how often it ran.
+fn tell_run(rt: &HostRuntime, body: &mut Body) -> io::Result<()> {
+    let had = body.callback.is_some();
+    let reply = run(body, message_of(rt.alloc(), 7, "a")?)?;
+    print!(rt; " {} {} {}", had, reply.is_some(), body.runs)
 }
 
 fn add(items: &mut Vec<Body>, callback: Option<Handler>) -> Result<(), AllocError> {
@@ -95,18 +93,21 @@ fn add(items: &mut Vec<Body>, callback: Option<Handler>) -> Result<(), AllocErro
     Ok(())
 }
 
-// Runs a message on the body: whether there is a reply, as there is where it has a box, and how often it ran.
-fn tell_run(rt: &HostRuntime, body: &mut Body) -> io::Result<()> {
-    let had = body.callback.is_some();
-    let reply = run(body, message_of(rt.alloc(), 7, "a")?)?;
-    print!(rt; " {} {} {}", had, reply.is_some(), body.runs)
-}
-
-/// `handed`: how many bodies are handed over, and a run of each.
+/// `handed`: how many bodies are handed over, and a run of each: one with an armed box, one with none, and one with a box
+/// that was never armed.
 pub fn over(rt: &HostRuntime) -> io::Result<()> {
     let mut items = Vec::new(rt.alloc());
-    add_three(rt.alloc(), &mut items)?;
-    let (mut bodies, posts) = hand_over_bodies(Bodies { items });
+    let mut steps: Handler = Box::new(rt.alloc(), StepsBox::new(rt.alloc()))?;
+    steps.arm(&unarmed(rt.alloc(), Kind::Steps))?;
+    add(&mut items, Some(steps))?;
+    add(&mut items, None)?;
+    let lines: Handler = Box::new(rt.alloc(), LinesBox::new(rt.alloc()))?;
+    add(&mut items, Some(lines))?;
+    tell_all(rt, Bodies { items })
+}
+
+fn tell_all(rt: &HostRuntime, bodies: Bodies) -> io::Result<()> {
+    let (mut bodies, posts) = hand_over_bodies(bodies);
     print!(rt; " {posts}")?;
     for body in bodies.items.iter_mut() {
         tell_run(rt, body)?;

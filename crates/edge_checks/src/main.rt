@@ -19,7 +19,6 @@ mod streams;
 mod texts;
 
 use std::io;
-use std::sync::Wait;
 use std::thread::Threads;
 
 fn main(rt: HostRuntime) -> io::Result<()> {
@@ -30,7 +29,7 @@ fn main(rt: HostRuntime) -> io::Result<()> {
     Ok(())
 }
 
-fn tell<R: Threads + Wait + Sync>(rt: &HostRuntime, waits: &R, line: &str) -> io::Result<()> {
+fn tell<R: Threads + Sync>(rt: &HostRuntime, waits: &R, line: &str) -> io::Result<()> {
     if line.starts_with('#') {
         return println!(rt; "{line}");
     }
@@ -41,12 +40,7 @@ fn tell<R: Threads + Wait + Sync>(rt: &HostRuntime, waits: &R, line: &str) -> io
 }
 
 // The parts of which a case is made of acts; any other is one of what is always done in the same way.
-fn run<R: Threads + Wait + Sync>(
-    rt: &HostRuntime,
-    waits: &R,
-    part: &str,
-    acts: &str,
-) -> io::Result<()> {
+fn run<R: Threads + Sync>(rt: &HostRuntime, waits: &R, part: &str, acts: &str) -> io::Result<()> {
     match part {
         "lines" => memory::lines(rt, acts),
         "put" => memory::put(rt, acts),
@@ -63,7 +57,7 @@ fn run<R: Threads + Wait + Sync>(
     }
 }
 
-fn system<R: Threads + Wait + Sync>(
+fn system<R: Threads + Sync>(
     rt: &HostRuntime,
     waits: &R,
     part: &str,
@@ -78,7 +72,7 @@ fn system<R: Threads + Wait + Sync>(
     }
 }
 
-fn fixed<R: Threads + Wait + Sync>(rt: &HostRuntime, waits: &R, part: &str) -> io::Result<()> {
+fn fixed<R: Threads + Sync>(rt: &HostRuntime, waits: &R, part: &str) -> io::Result<()> {
     match part {
         "again" => memory::again(rt),
         "offers" => memory::each_offer(rt),

@@ -28,10 +28,11 @@ struct Watcher {
     said: Vec<Said>,
 }
 
-fn watched() -> Reason
-    ensures { IsReasonText result }
+fn reason(word: &[u8]) -> Reason
+    requires { IsReasonText word.now }
+    ensures { result ≡ word.now }
 {
-    match Reason::new(b"watched") {
+    match Reason::new(word) {
         Some(reason) => reason,
         None => unreachable!(),
     }
@@ -70,10 +71,11 @@ impl Callback for Watcher {
 
     fn message(&mut self, message: Message) -> Result<Reply, AllocError> {
         if message.payload.as_slice().starts_with(b"!") {
-            self.said.push(Said::Message(Reply::Failed(watched())))?;
+            self.said
+                .push(Said::Message(Reply::Failed(reason(b"watched"))))?;
             self.calls = self.calls.saturating_add(1);
             self.bad = self.bad.saturating_add(1);
-            return Ok(Reply::Failed(watched()));
+            return Ok(Reply::Failed(reason(b"watched")));
         }
         let copied = copy_message(self.alloc, &message)?;
         self.said.push(Said::Message(Reply::Pass(copied)))?;

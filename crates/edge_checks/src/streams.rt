@@ -67,17 +67,15 @@ pub fn many(rt: &HostRuntime) -> io::Result<()> {
     }
 }
 
-/// What a fetch comes to, in a word.
-fn fetched<B: ByteSource>(lines: &mut LineSource<B>) -> Result<&'static str, AllocError> {
-    let fetched = lines.fetch(9)?;
-    Ok(match &fetched {
-        Fetched::Records(records) if records.as_slice().len() == 1 => "one",
-        Fetched::Records(_) => "more",
-        Fetched::NotYet => "not-yet",
-        Fetched::End => "end",
-        Fetched::Fault => "fault",
-        Fetched::TooLong => "long",
-    })
+// What a fetch comes to, in a word.
+fn tell_fetched<B: ByteSource>(rt: &HostRuntime, lines: &mut LineSource<B>) -> io::Result<()> {
+    match &lines.fetch(9)? {
+        Fetched::Records(records) => print!(rt; " records:{}", records.as_slice().len()),
+        Fetched::NotYet => print!(rt; " not-yet"),
+        Fetched::End => print!(rt; " end"),
+        Fetched::Fault => print!(rt; " fault"),
+        Fetched::TooLong => print!(rt; " long"),
+    }
 }
 
 /// `no_wait`: fetches of a connection that is set not to wait, with a write between them, and its end.
@@ -88,13 +86,13 @@ pub fn no_wait(rt: &HostRuntime) -> io::Result<()> {
     let Ok(mut lines) = LineSource::new(rt.alloc(), RealSource::new(reader)) else {
         return print!(rt; " no memory");
     };
-    print!(rt; " {}", fetched(&mut lines)?)?;
+    tell_fetched(rt, &mut lines)?;
     tell_wrote(rt, sink.write(b"a\nb"))?;
-    print!(rt; " {}", fetched(&mut lines)?)?;
-    print!(rt; " {}", fetched(&mut lines)?)?;
+    tell_fetched(rt, &mut lines)?;
+    tell_fetched(rt, &mut lines)?;
     drop(sink);
-    print!(rt; " {}", fetched(&mut lines)?)?;
-    print!(rt; " {}", fetched(&mut lines)?)
+    tell_fetched(rt, &mut lines)?;
+    tell_fetched(rt, &mut lines)
 }
 
 /// `full_pipe`: what a connection takes that is set not to wait, and what a second thread reads of it.
