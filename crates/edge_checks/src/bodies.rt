@@ -49,12 +49,21 @@ pub fn jobs(rt: &HostRuntime, text: &str) -> io::Result<()> {
     if !arm(rt.alloc(), &mut callback, Kind::Steps, rules)? {
         return print!(rt; " not allowed");
     }
-    let mut body: MemBody = Body::empty();
-    body.put_box(callback);
+    let mut body = with_box(callback);
     for act in acts.split_whitespace() {
         act_on(rt, &mut body, act)?;
     }
     Ok(())
+}
+
+fn with_box(callback: Handler) -> MemBody
+    ensures { IsSome (⟦<Body<MemSource, MemSink> as Works>⟧.look result).callback }
+{
+    Body {
+        callback: Some(callback),
+        source: None,
+        sink: None,
+    }
 }
 
 // `(A|B..` is a chunk, `reset` a reset, and another word the payload of the fourth message, for a child.
@@ -67,8 +76,7 @@ fn act_on(rt: &HostRuntime, body: &mut MemBody, act: &str) -> io::Result<()> {
     let Some(callback) = body.take_box() else {
         return print!(rt; " no box");
     };
-    *body = Body::empty();
-    body.put_box(callback);
+    *body = with_box(callback);
     match act.strip_prefix('(') {
         Some(list) => chunk(rt, body, list),
         None => child(rt, body, act),
