@@ -3,10 +3,11 @@
 ghost use Rattle.std.specs.Prelude.{◌≡◌, ◌≢◌, ◌++◌, ◌∷◌, [], true, false, IfOk, OnOk, IsTrue};
 ghost use Rattle.pipe_types.specs.Handlers.{eval, counted};
 ghost use Rattle.pipe_types.specs.declared.topology.Kind.TheVariants.{Own};
+ghost use Rattle.pipe_types.specs.Reason.{IsReasonText};
 ghost use Rattle.stage_callback.specs.Callbacks.{is_passed};
 ghost use Rattle.pipe_types.specs.Counts.{Rose};
 
-use super::{is_failed, is_passed, message_of, reason};
+use super::boxes::{Handler, message_of, tell_failed, tell_kind, tell_number, tell_prepared};
 use pipe_types::message::{Batch, Message, Reply};
 use pipe_types::numbers::MsgNo;
 use pipe_types::reason::Reason;
@@ -15,7 +16,7 @@ use stage_callback::{
     BatchReply, Callback, FailedReply, Prepared, Said, copy_message, copy_spec, unarmed,
 };
 use std::alloc::{AllocError, Global};
-use std::test::Fail;
+use std::io;
 
 /// Fails each message that begins with `!`, and tells its answers.
 #[derive(Drop)]
@@ -25,6 +26,16 @@ struct Watcher {
     calls: u64,
     bad: u64,
     said: Vec<Said>,
+}
+
+fn reason(word: &[u8]) -> Reason
+    requires { IsReasonText word.now }
+    ensures { result ≡ word.now }
+{
+    match Reason::new(word) {
+        Some(reason) => reason,
+        None => unreachable!(),
+    }
 }
 
 impl Callback for Watcher {
@@ -86,10 +97,7 @@ impl Callback for Watcher {
 }
 
 /// Calls `message` through the box, and says what it answered and what that did to the box.
-pub(super) fn ask(
-    callback: &mut Box<dyn Callback + Send>,
-    message: Message,
-) -> Result<Reply, AllocError>
+pub fn ask(callback: &mut Handler, message: Message) -> Result<Reply, AllocError>
     ensures same { (kind callback.new ≡ kind callback.old) × (spec callback.new ≡ spec callback.old) }
     ensures built_in { kind callback.old ≢ Kind.Own → IfOk result (λ reply.
         (reply ≡ eval (spec callback.old) (count callback.old) message)
@@ -113,39 +121,31 @@ fn watching(alloc: Global) -> Watcher {
     }
 }
 
-fn armed(alloc: Global) -> Result<Box<dyn Callback + Send>, AllocError> {
-    let mut callback: Box<dyn Callback + Send> = Box::new(alloc, watching(alloc))?;
-    callback.arm(&unarmed(alloc, Kind::Own))?;
-    Ok(callback)
-}
-
-#[test]
-fn an_own_callback_counts_through_its_box(rt: HostRuntime) -> Result<(), Fail> {
+/// `own`: the kind of the box, and its answers to a chunk, to messages that pass and that fail, and to one that failed.
+pub fn through_its_box(rt: &HostRuntime) -> io::Result<()> {
     let alloc = rt.alloc();
-    let mut callback = armed(alloc)?;
-    assert_eq!(rt; callback.kind(), Kind::Own);
-    assert_eq!(rt; callback.prepare(&[])?, Prepared::Ready);
-    let passed = ask(&mut callback, message_of(alloc, 7, b"a")?)?;
-    assert!(rt; is_passed(&passed, 7));
-    let failed = ask(&mut callback, message_of(alloc, 7, b"!b")?)?;
-    assert!(rt; is_failed(&failed, b"watched"));
-    assert_eq!(rt;
-        callback.failed(MsgNo(7), &reason(b"watched"))?,
-        FailedReply::Keep
-    );
+    let mut callback: Handler = Box::new(alloc, watching(alloc))?;
+    callback.arm(&unarmed(alloc, Kind::Own))?;
+    tell_kind(rt, callback.kind())?;
+    tell_prepared(rt, &mut callback)?;
+    tell_asked(rt, &mut callback, "a")?;
+    tell_asked(rt, &mut callback, "!b")?;
+    tell_failed(rt, &mut callback)?;
     callback.reset();
     Ok(())
 }
 
-#[test]
-fn an_own_callback_counts_its_answers(rt: HostRuntime) -> Result<(), Fail> {
-    let alloc = rt.alloc();
-    let mut watcher = watching(alloc);
-    for payload in ["a", "!b", "c"] {
-        watcher.message(message_of(alloc, 7, payload.as_bytes())?)?;
+fn tell_asked(rt: &HostRuntime, callback: &mut Handler, payload: &str) -> io::Result<()> {
+    let reply = ask(callback, message_of(rt.alloc(), 7, payload)?)?;
+    tell_number(rt, &reply)
+}
+
+/// `answers`: the calls that it counts over three messages, those that were no success, and how many answers it tells.
+pub fn answers(rt: &HostRuntime) -> io::Result<()> {
+    let mut watcher = watching(rt.alloc());
+    for payload in "a !b c".split(' ') {
+        let message = message_of(rt.alloc(), 7, payload)?;
+        watcher.message(message)?;
     }
-    assert_eq!(rt; watcher.calls, 3);
-    assert_eq!(rt; watcher.bad, 1);
-    assert_eq!(rt; watcher.said.len(), 3);
-    Ok(())
+    print!(rt; " {} {} {}", watcher.calls, watcher.bad, watcher.said.len())
 }

@@ -1,6 +1,6 @@
 use Rattle.std.proofs.Common.{◌≡◌}
 use Rattle.pipe_edges.specs.declared.edges.EdgeKind.TheVariants.{File, Source, Sink}
-use Rattle.edge_checks.proofs.tests.memory.three_names.Goals as goal
+use Rattle.edge_checks.proofs.names.three_names.Goals as goal
 
 sink_is_no_source : Sink ≡ Source → ⊥
 sink_is_no_source h = cc

@@ -4,18 +4,17 @@ ghost use Rattle.std.specs.Prelude.{◌≡◌, ◌≢◌, ◌≤◌, ℕ, All, I
 ghost use Rattle.pipe_types.specs.Handlers.{counted as counted_by};
 ghost use Rattle.pipe_types.specs.declared.topology.StageSpec.{StageSpec};
 
-use super::message_of;
+use super::boxes::{Handler, message_of};
 use super::own::ask;
 use pipe_types::message::{Message, Reply};
 use pipe_types::topology::Kind;
 use stage_callback::{Callback, LinesBox, StepsBox, unarmed};
-use std::alloc::{AllocError, Global};
-use std::process::Abort;
-use std::test::Fail;
+use std::alloc::AllocError;
+use std::io;
 
 #[derive(Drop)]
 struct Body {
-    callback: Option<Box<dyn Callback + Send>>,
+    callback: Option<Handler>,
     runs: u64,
 }
 
@@ -82,46 +81,36 @@ fn run(body: &mut Body, message: Message) -> Result<Option<Reply>, AllocError>
     }
 }
 
-/// A body with an armed box, one with none, and one with a box that was never armed.
-fn three_bodies(alloc: Global) -> Result<Bodies, AllocError> {
-    let mut items = Vec::new(alloc);
-    items.push(Body {
-        callback: Some(armed(alloc)?),
-        runs: 0,
-    })?;
-    items.push(Body {
-        callback: None,
-        runs: 0,
-    })?;
-    items.push(Body {
-        callback: Some(Box::new(alloc, LinesBox::new(alloc))?),
-        runs: 0,
-    })?;
-    Ok(Bodies { items })
-}
-
-fn armed(alloc: Global) -> Result<Box<dyn Callback + Send>, AllocError> {
-    let mut steps: Box<dyn Callback + Send> = Box::new(alloc, StepsBox::new(alloc))?;
-    steps.arm(&unarmed(alloc, Kind::Steps))?;
-    Ok(steps)
-}
-
-/// Runs a message on the body, and wants a reply where it has a box.
-fn expect_run(rt: &impl Abort, alloc: Global, body: &mut Body) -> Result<(), AllocError> {
+/// Runs a message on the body, and says whether it has a box, whether there is a reply, and how often it ran.
+fn tell_run(rt: &HostRuntime, body: &mut Body) -> io::Result<()> {
     let had = body.callback.is_some();
-    let reply = run(body, message_of(alloc, 7, b"a")?)?;
-    assert_eq!(rt; reply.is_some(), had);
-    assert_eq!(rt; body.runs, 1);
+    let reply = run(body, message_of(rt.alloc(), 7, "a")?)?;
+    print!(rt; " {} {} {}", had, reply.is_some(), body.runs)
+}
+
+fn add(items: &mut Vec<Body>, callback: Option<Handler>) -> Result<(), AllocError> {
+    items.push(Body { callback, runs: 0 })?;
     Ok(())
 }
 
-#[test]
-fn bodies_are_handed_over(rt: HostRuntime) -> Result<(), Fail> {
-    let alloc = rt.alloc();
-    let (mut bodies, posts) = hand_over_bodies(three_bodies(alloc)?);
-    assert_eq!(rt; posts, 3);
+/// `handed`: how many bodies are handed over, and a run of each: one with an armed box, one with none, and one with a box
+/// that was never armed.
+pub fn over(rt: &HostRuntime) -> io::Result<()> {
+    let mut items = Vec::new(rt.alloc());
+    let mut steps: Handler = Box::new(rt.alloc(), StepsBox::new(rt.alloc()))?;
+    steps.arm(&unarmed(rt.alloc(), Kind::Steps))?;
+    add(&mut items, Some(steps))?;
+    add(&mut items, None)?;
+    let lines: Handler = Box::new(rt.alloc(), LinesBox::new(rt.alloc()))?;
+    add(&mut items, Some(lines))?;
+    tell_all(rt, Bodies { items })
+}
+
+fn tell_all(rt: &HostRuntime, bodies: Bodies) -> io::Result<()> {
+    let (mut bodies, posts) = hand_over_bodies(bodies);
+    print!(rt; " {posts}")?;
     for body in bodies.items.iter_mut() {
-        expect_run(&rt, alloc, body)?;
+        tell_run(rt, body)?;
     }
     Ok(())
 }
