@@ -137,10 +137,7 @@ fn read_often(
     Ok(())
 }
 
-fn read_once(
-    core: &mut Core,
-    control: &mut Option<LineSource<MemSource>>,
-) -> Result<(), AllocError>
+fn read_once(core: &mut Core, control: &mut Option<LineSource<MemSource>>) -> Result<(), AllocError>
     requires stands { Stands core.old }
     ensures stands { Stands core.new }
 {

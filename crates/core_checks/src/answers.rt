@@ -67,10 +67,7 @@ fn reply_to(message: &Message, keyed: bool) -> Result<Reply, AllocError> {
 
 fn written(alloc: Global, messages: &[Message]) -> Result<Outcome, AllocError> {
     let outcomes = successes(alloc, messages)?;
-    Ok(Outcome::Wrote(
-        bytes_of(messages),
-        BatchEnd::Outcomes(outcomes),
-    ))
+    Ok(Outcome::Wrote(bytes_of(messages), BatchEnd::Outcomes(outcomes)))
 }
 
 /// How many bytes the lines of the messages have.

@@ -15,7 +15,7 @@ use core_calls::asks::tick;
 use core_jobs::{begin_job, own_step, record_answer};
 use core_kills::kills::kill;
 use core_lates::lates::late;
-use core_moves::moves::{Move, next_move};
+use core_moves::{Move, next_move};
 use core_state::Core;
 use pipe_config::read_topology;
 use pipe_journal::StepView;
@@ -98,12 +98,7 @@ fn count_fetches(core: &Core) -> usize {
 }
 
 /// Goes on until a fetch is out, which brings the text.
-pub fn bring(
-    rt: &HostRuntime,
-    core: &mut Core,
-    out: &mut Option<Job>,
-    text: &str,
-) -> io::Result<()>
+pub fn bring(rt: &HostRuntime, core: &mut Core, out: &mut Option<Job>, text: &str) -> io::Result<()>
     requires stands { Stands core.old }
     ensures stands { Stands core.new }
 {

@@ -10,7 +10,7 @@ ghost use Rattle.core_state.specs.Stands.{Stands};
 use super::case::{number, small};
 use super::drive::next;
 use super::judge::replayed;
-use core_moves::moves::Move;
+use core_moves::Move;
 use core_state::Core;
 use journal_texts::lines::journal_text;
 use pipe_types::message::{Loss, Outcome, Place, Why};
@@ -96,7 +96,9 @@ fn tell_state(rt: &HostRuntime, core: &Core, stage: StageNo, state: &PlainState)
     let accepted = places.len();
     let lost = count_lost(places, stage);
     let successful = count_successful(places);
-    print!(rt; "{end}, same places {same}, accepted {accepted}, lost {lost}, successful {successful}, lives")?;
+    print!(rt;
+        "{end}, same places {same}, accepted {accepted}, lost {lost}, successful {successful}, lives"
+    )?;
     tell_lives(rt, state.lives.as_slice())
 }
 

@@ -2,4 +2,4 @@ use Rattle.core_state.specs.Stands.{Stands}
 use Rattle.core_checks.proofs.drive.drive.Given as goal
 
 abbrev pub invariant-loop : goal.invariant-loop
-invariant-loop g l = Stands l.core
+invariant-loop l = Stands l.core
