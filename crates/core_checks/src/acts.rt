@@ -49,7 +49,7 @@ fn run_acts(rt: &HostRuntime, case: &Case, core: Core) -> io::Result<()>
     let mut core = core;
     let control = Some(lines_of(rt.alloc(), case)?);
     let mut beside = Beside { out: None, control };
-    for act in case.acts.as_str().split('\n') {
+    for act in case.acts.as_str().lines() {
         act_on(rt, case, &mut core, &mut beside, act)?;
     }
     Ok(())

@@ -83,7 +83,12 @@ fn text_now<'a>(core: &Core, texts: Option<&'a str>) -> Option<&'a str> {
 }
 
 fn text_at(texts: &str, at: usize) -> &str {
-    texts.split(',').nth(at).unwrap_or("")
+    for (place, text) in texts.split(',').enumerate() {
+        if place == at {
+            return text;
+        }
+    }
+    ""
 }
 
 /// How many fetches there were.

@@ -18,13 +18,11 @@ use pipe_types::numbers::StageNo;
 use pipe_types::state::{Life, PlaceRow, PlainState};
 use std::io;
 
-/// Tells what the words ask for; nothing where they are empty.
+/// Tells what the words ask for.
 pub fn tell(rt: &HostRuntime, core: &Core, word: &str, rest: &str) -> io::Result<()>
     requires stands { Stands core.now }
 {
-    if word == "" {
-        Ok(())
-    } else if word == "journal" {
+    if word == "journal" {
         tell_tail(rt, core, u64::MAX)
     } else if word == "tail" {
         tell_tail(rt, core, number(rest))
@@ -43,8 +41,8 @@ fn tell_tail(rt: &HostRuntime, core: &Core, many: u64) -> io::Result<()> {
     let text = journal_text(rt.alloc(), core.journal())?;
     let shown = str::from_utf8(text.as_slice()).unwrap_or("no text");
     let mut left = lines_in(shown);
-    for line in shown.split('\n') {
-        if 0 < left && left <= many {
+    for line in shown.lines() {
+        if left <= many {
             println!(rt; "{line}")?;
         }
         left = left.saturating_sub(1);

@@ -14,7 +14,7 @@ returns c = λ is.
     let whole : c.in_ok-steps.steps.items ≡ reverse core.journal.steps = search rules in
     let pushed : c.as_slice.result.now ≡ c.in_ok-steps.steps.items ++ step ∷ [] = search rules in
     let items : c.as_slice.result.now ≡ reverse core.journal.steps ++ c.args.step.now ∷ [] =
-        pushed ∙ ap (λ xs. xs ++ step ∷ []) whole ∙ ap (λ s. reverse core.journal.steps ++ s ∷ []) copied in
+    pushed ∙ ap (λ xs. xs ++ step ∷ []) whole ∙ ap (λ s. reverse core.journal.steps ++ s ∷ []) copied in
     let found : is_some c.in_ok-found.found ≡ true = sym c.is_some.ensures ∙ is in
     let legal : is_legal c.topology.result.now (history c.as_slice.result.now) ≡ true = sym c.in_ok-found.ensures.legal ∙ found in
     may_follow core.topology core.journal.steps c.as_slice.result.now c.args.step.now items (subst (λ (t : Topology). is_legal t (history c.as_slice.result.now) ≡ true) c.topology.ensures legal)
