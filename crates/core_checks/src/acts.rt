@@ -43,10 +43,9 @@ pub fn run_case(rt: &HostRuntime, case: &Case) -> io::Result<()> {
     }
 }
 
-fn run_acts(rt: &HostRuntime, case: &Case, core: Core) -> io::Result<()>
+fn run_acts(rt: &HostRuntime, case: &Case, mut core: Core) -> io::Result<()>
     requires stands { Stands core }
 {
-    let mut core = core;
     let control = Some(lines_of(rt.alloc(), case)?);
     let mut beside = Beside { out: None, control };
     for act in case.acts.as_str().lines() {

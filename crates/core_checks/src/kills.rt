@@ -55,10 +55,9 @@ fn tell_kill(rt: &HostRuntime, file: &str, kill: Kill<'_>) -> io::Result<()> {
     }
 }
 
-fn run_kill(rt: &HostRuntime, core: Core, kill: Kill<'_>) -> io::Result<()>
+fn run_kill(rt: &HostRuntime, mut core: Core, kill: Kill<'_>) -> io::Result<()>
     requires stands { Stands core }
 {
-    let mut core = core;
     go_through(rt, &mut core, kill)?;
     tell_verdict(rt, &core, kill.stage)
 }
