@@ -1,3 +1,1 @@
-mod Begun
-mod Children
-mod Passing
+mod Judged

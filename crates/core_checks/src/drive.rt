@@ -1,0 +1,347 @@
+//! The moves of a core, and the jobs that come home between them.
+
+ghost use Rattle.std.specs.Prelude.{◌≡◌, false, IfOk, IfSome, IsTrue};
+ghost use Rattle.pipe_types.specs.Sound.{IsSound};
+ghost use Rattle.pipe_model.specs.Legal.{allows as allows_by, happened, is_halt};
+ghost use Rattle.move_laws.specs.NextMoves.{IsLegalMove};
+ghost use Rattle.core_moves.specs.Moves.{seen_as};
+ghost use Rattle.core_moves.specs.declared.moves.Move.TheVariants.{Pause};
+ghost use Rattle.core_state.specs.Stands.{Stands};
+ghost use Rattle.core_jobs.specs.Steps.{is_own_step};
+
+use super::answers::{is_keyed, late_of, outcome_of, step_of};
+use super::judge::may_come;
+use core_calls::asks::tick;
+use core_jobs::{begin_job, own_step, record_answer};
+use core_kills::kills::kill;
+use core_lates::lates::late;
+use core_moves::{Move, next_move};
+use core_state::Core;
+use pipe_config::read_topology;
+use pipe_journal::StepView;
+use pipe_types::numbers::Post;
+use pipe_types::step::{LateAnswer, Step};
+use pipe_types::topology::Topology;
+use stage_bodies::{Answer, Job, Work};
+use std::alloc::{AllocError, Global};
+use std::io;
+
+/// The most moves where no number is given.
+pub const MOVES: u64 = 200;
+
+/// How far the clock goes on at a pause, in milliseconds.
+const NAP: u64 = 1000;
+
+/// A core without a step, or none where the file is refused.
+pub fn core_of(alloc: Global, file: &str) -> Result<Option<Core>, AllocError>
+    ensures { IfOk result (λ found. IfSome found Stands) }
+{
+    match read_topology(alloc, file.as_bytes()) {
+        Ok(topology) => new_core(alloc, topology),
+        Err(_) => Ok(None),
+    }
+}
+
+fn new_core(alloc: Global, topology: Topology) -> Result<Option<Core>, AllocError>
+    requires { IsSound topology }
+    ensures { IfOk result (λ found. IfSome found Stands) }
+{
+    match Core::new(alloc, topology) {
+        Ok(core) => Ok(Some(core)),
+        Err((_, failed)) => Err(failed),
+    }
+}
+
+/// Makes so many moves, as far as there are any. A fetch brings the text of its number, from 1 on; where there are no texts,
+/// it stays out.
+pub fn drive(
+    rt: &HostRuntime,
+    core: &mut Core,
+    out: &mut Option<Job>,
+    texts: Option<&str>,
+    moves: u64,
+) -> io::Result<()>
+    requires stands { Stands core.old }
+    ensures stands { Stands core.new }
+{
+    for _ in 0..moves {
+        let text = text_now(core, texts);
+        move_on(rt, core, out, text)?;
+    }
+    Ok(())
+}
+
+/// The text that the last fetch brings: behind the last text the source ends.
+fn text_now<'a>(core: &Core, texts: Option<&'a str>) -> Option<&'a str> {
+    match texts {
+        Some(texts) => {
+            let fetch = count_fetches(core);
+            Some(text_at(texts, fetch.saturating_sub(1)))
+        }
+        None => None,
+    }
+}
+
+fn text_at(texts: &str, at: usize) -> &str {
+    for (place, text) in texts.split(',').enumerate() {
+        if place == at {
+            return text;
+        }
+    }
+    ""
+}
+
+/// How many fetches there were.
+fn count_fetches(core: &Core) -> usize {
+    let mut count: usize = 0;
+    for at in 0..core.journal().len() {
+        if matches!(core.journal().view(at), StepView::Fetch { .. }) {
+            count = count.saturating_add(1);
+        }
+    }
+    count
+}
+
+/// Goes on until a fetch is out, which brings the text.
+pub fn bring(rt: &HostRuntime, core: &mut Core, out: &mut Option<Job>, text: &str) -> io::Result<()>
+    requires stands { Stands core.old }
+    ensures stands { Stands core.new }
+{
+    drive_to_fetch(rt, core, out)?;
+    if !is_fetch(out) {
+        return println!(rt; "no fetch for: {text}");
+    }
+    move_on(rt, core, out, Some(text))
+}
+
+fn drive_to_fetch(rt: &HostRuntime, core: &mut Core, out: &mut Option<Job>) -> io::Result<()>
+    requires stands { Stands core.old }
+    ensures stands { Stands core.new }
+{
+    for _ in 0..MOVES {
+        move_on(rt, core, out, None)?;
+    }
+    Ok(())
+}
+
+/// Whether the job that is out is a fetch.
+fn is_fetch(out: &Option<Job>) -> bool {
+    match out {
+        Some(job) => matches!(job.work, Work::Fetch(_)),
+        None => false,
+    }
+}
+
+/// Answers the job that is out, or makes the move that comes next. A fetch for which there is no text stays out.
+fn move_on(
+    rt: &HostRuntime,
+    core: &mut Core,
+    out: &mut Option<Job>,
+    text: Option<&str>,
+) -> io::Result<()>
+    requires stands { Stands core.old }
+    ensures stands { Stands core.new }
+{
+    if text.is_none() && is_fetch(out) {
+        return Ok(());
+    }
+    match out.take() {
+        Some(job) => come_home(rt, core, job, text.unwrap_or("")),
+        None => {
+            *out = go_on(core)?;
+            Ok(())
+        }
+    }
+}
+
+/// Makes the move that comes next, and gives out the job that it begins. A child stays out.
+fn go_on(core: &mut Core) -> Result<Option<Job>, AllocError>
+    requires stands { Stands core.old }
+    ensures stands { Stands core.new }
+{
+    match next(core) {
+        Move::Step(step) => {
+            make(core, step)?;
+            Ok(None)
+        }
+        Move::Job(stage) => {
+            let job = begin_job(core, stage)?;
+            Ok(kept(job))
+        }
+        Move::Pause => {
+            nap(core)?;
+            Ok(None)
+        }
+        Move::JobsOut | Move::Halted | Move::Drained => Ok(None),
+    }
+}
+
+/// The job, where it is no child.
+fn kept(job: Job) -> Option<Job> {
+    if matches!(job.work, Work::Child(_)) {
+        None
+    } else {
+        Some(job)
+    }
+}
+
+/// The next move, which is legal.
+pub fn next(core: &Core) -> Move
+    requires stands { Stands core.now }
+    ensures legal { IsLegalMove core.now.topology core.now.journal.steps (seen_as result) }
+    ensures going { result ≡ Pause → happened is_halt core.now.journal.steps ≡ false }
+{
+    next_move(core)
+}
+
+/// Makes a step of the pipeline's own.
+fn make(core: &mut Core, step: Step) -> Result<(), AllocError>
+    requires stands { Stands core.old }
+    requires legal { IsTrue (allows_by core.old.topology core.old.journal.steps step) }
+    ensures stands { Stands core.new }
+{
+    if is_own(&step) {
+        own_step(core, step)
+    } else {
+        Ok(())
+    }
+}
+
+/// Whether the step is one of the pipeline's own.
+fn is_own(step: &Step) -> bool
+    ensures { result ≡ is_own_step step.now }
+{
+    matches!(
+        step,
+        Step::Ask { .. }
+            | Step::Dispatch { .. }
+            | Step::Gather { .. }
+            | Step::Close { .. }
+            | Step::Restart { .. }
+            | Step::Drain { .. }
+            | Step::Halt
+    )
+}
+
+/// Puts the clock on.
+fn nap(core: &mut Core) -> Result<(), AllocError>
+    requires stands { Stands core.old }
+    requires going { happened is_halt core.old.journal.steps ≡ false }
+    ensures stands { Stands core.new }
+{
+    let now = core.now().saturating_add(NAP);
+    tick(core, now)
+}
+
+/// Brings the job's answer home, late where its incarnation was killed.
+fn come_home(rt: &HostRuntime, core: &mut Core, job: Job, text: &str) -> io::Result<()>
+    requires stands { Stands core.old }
+    ensures stands { Stands core.new }
+{
+    let Job {
+        post,
+        incarnation,
+        work,
+    } = job;
+    let keyed = is_keyed(core.topology(), post.stage);
+    let outcome = outcome_of(rt.alloc(), work, keyed, text)?;
+    let answer = Answer {
+        post,
+        incarnation,
+        outcome,
+    };
+    if is_in_time(core, &answer) {
+        return record(rt, core, answer);
+    }
+    come_late(rt, core, answer)
+}
+
+/// Whether the incarnation that the job left from is live.
+fn is_in_time(core: &Core, answer: &Answer) -> bool
+    requires stands { Stands core.now }
+{
+    core.is_live(answer.post.stage) && core.incarnation(answer.post.stage) == answer.incarnation
+}
+
+/// Records the answer, where it may come.
+fn record(rt: &HostRuntime, core: &mut Core, answer: Answer) -> io::Result<()>
+    requires stands { Stands core.old }
+    ensures stands { Stands core.new }
+{
+    let step = step_of(answer.post, &answer.outcome)?;
+    if may_come(rt.alloc(), core, &step)? {
+        record_answer(core, answer)?;
+        return Ok(());
+    }
+    let stage = answer.post.stage.0;
+    println!(rt; "not legal: an answer of {stage}")
+}
+
+/// Records what of the answer is late.
+fn come_late(rt: &HostRuntime, core: &mut Core, answer: Answer) -> io::Result<()>
+    requires stands { Stands core.old }
+    ensures stands { Stands core.new }
+{
+    let Answer {
+        post,
+        incarnation,
+        outcome,
+    } = answer;
+    let step = Step::Late {
+        stage: post.stage,
+        slot: post.slot,
+        incarnation,
+        answer: late_of(outcome),
+    };
+    if try_step(rt.alloc(), core, step)? {
+        return Ok(());
+    }
+    let stage = post.stage.0;
+    println!(rt; "not legal: a late answer of {stage}")
+}
+
+/// Makes the step where it may come, and says whether it could. It is no begin of a job, and no answer in time.
+pub fn try_step(alloc: Global, core: &mut Core, step: Step) -> Result<bool, AllocError>
+    requires stands { Stands core.old }
+    ensures stands { Stands core.new }
+{
+    let may = may_come(alloc, core, &step)?;
+    if may {
+        apply(core, step)?;
+    }
+    Ok(may)
+}
+
+fn apply(core: &mut Core, step: Step) -> Result<(), AllocError>
+    requires stands { Stands core.old }
+    requires legal { IsTrue (allows_by core.old.topology core.old.journal.steps step) }
+    ensures stands { Stands core.new }
+{
+    match step {
+        Step::Kill { stage, why } => kill(core, stage, why),
+        Step::Tick { now } => tick(core, now),
+        Step::Late {
+            stage,
+            slot,
+            incarnation,
+            answer,
+        } => end_late(core, Post { stage, slot }, incarnation, answer),
+        _ => make(core, step),
+    }
+}
+
+fn end_late(
+    core: &mut Core,
+    post: Post,
+    incarnation: u32,
+    answer: LateAnswer,
+) -> Result<(), AllocError>
+    requires stands { Stands core.old }
+    requires legal { IsTrue (allows_by core.old.topology core.old.journal.steps (Step.Late post.stage post.slot incarnation answer)) }
+    ensures stands { Stands core.new }
+{
+    match late(core, post, incarnation, answer) {
+        Ok(()) => Ok(()),
+        Err((_, failed)) => Err(failed),
+    }
+}

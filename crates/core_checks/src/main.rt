@@ -1,0 +1,32 @@
+//! Runs of the core, as standard input lists them, and what each came to.
+//!
+//! A case is a topology file and lines of acts (`case.rt`, `acts.rt`), and a line `run`. Each step is made only where it may
+//! come next: what handlers answered is judged by the slow machine, all else by the core's own test. What is wanted was
+//! worked out by hand.
+#![tactic(auto)]
+
+mod acts;
+mod answers;
+mod case;
+mod drive;
+mod judge;
+mod kills;
+mod tell;
+
+use acts::run_case;
+use case::Case;
+use std::io;
+
+fn main(rt: HostRuntime) -> io::Result<()> {
+    let mut case = Case::new(rt.alloc());
+    for line in rt.lines(rt.alloc()) {
+        let line = line?;
+        if line.as_str() == "run" {
+            run_case(&rt, &case)?;
+            case = Case::new(rt.alloc());
+        } else {
+            case.read(line.as_str())?;
+        }
+    }
+    Ok(())
+}
