@@ -4,11 +4,11 @@ ghost use Rattle.std.specs.Prelude.{IfOk};
 ghost use Rattle.pipe_types.specs.Rooms.{AreAscending, PartsDiffer};
 
 use pipe_types::numbers::{StageNo, SubNo};
-use pipe_types::room::{Room, Sent};
+use pipe_types::room::Room;
 use std::alloc::{AllocError, Global};
 
-// Rooms with these open demands; the consumers and the parts are numbered from 0.
-pub(super) fn rooms(alloc: Global, open_demands: &[u32]) -> Result<Vec<Room>, AllocError>
+/// Rooms with these open demands; the consumers and the parts are numbered from 0.
+pub fn rooms(alloc: Global, open_demands: &[u32]) -> Result<Vec<Room>, AllocError>
     ensures ascending { IfOk result (λ rooms. AreAscending rooms.items) }
     ensures parts_differ { IfOk result (λ rooms. PartsDiffer rooms.items) }
 {
@@ -29,11 +29,4 @@ pub(super) fn rooms(alloc: Global, open_demands: &[u32]) -> Result<Vec<Room>, Al
         })?;
     }
     Ok(rooms)
-}
-
-/// The units that are sent, each with its consumer.
-pub(super) fn pairs_of(alloc: Global, sent: &[Sent]) -> Result<Vec<(u32, u16)>, AllocError> {
-    sent.iter()
-        .map(|s| (s.unit, s.sub.consumer.0))
-        .collect(alloc)
 }
