@@ -1,2 +1,2 @@
-pub mod Pairs
-pub mod Sound
+mod Judged
+mod Sound

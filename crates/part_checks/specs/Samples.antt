@@ -1,11 +1,12 @@
--- Stages and topologies as the tests build them.
-use Rattle.std.specs.Prelude.{codes, ℕ, false, List, [], ◌∷◌, Some, None}
+-- Stages and topologies as the cases name them.
+use Rattle.std.specs.Prelude.{codes, ℕ, false, List, [], Some, None}
 use Rattle.pipe_types.specs.declared.topology.Topology.{Topology}
 use Rattle.pipe_types.specs.declared.topology.StageSpec.{StageSpec}
 use Rattle.pipe_types.specs.declared.topology.Role.{Role}
 use Rattle.pipe_types.specs.declared.topology.Role.TheVariants.{Producer, Processor, Supervisor, Batcher, BatchProcessor}
 use Rattle.pipe_types.specs.declared.topology.Dispatch.TheVariants.{Demand, Partition}
 use Rattle.pipe_types.specs.declared.topology.Keep.TheVariants.{Last}
+use Rattle.pipe_types.specs.declared.topology.CancelMode.{CancelMode}
 use Rattle.pipe_types.specs.declared.topology.CancelMode.TheVariants as cancel
 use Rattle.pipe_types.specs.declared.topology.ChildMode.TheVariants as child
 use Rattle.pipe_types.specs.declared.topology.Kind.TheVariants.{Steps}
@@ -19,12 +20,9 @@ blank n name role =
 abbrev pub source : StageSpec
 source = record (blank 1 (codes "p") Producer) { size = Some 10000; edge = Some (codes "mem:a") }
 
-abbrev pub supervisor : StageSpec
-supervisor = record (blank 2 (codes "supervisor") Supervisor) { min = 5; max = 10 }
-
--- it goes with a producer that is killed
-abbrev pub follower : StageSpec
-follower = record supervisor { mode = cancel.Permanent }
+-- it goes with a producer that is killed as its mode says
+abbrev pub supervisor : CancelMode → StageSpec
+supervisor mode = record (blank 2 (codes "supervisor") Supervisor) { mode = mode; min = 5; max = 10 }
 
 -- it sends to one batcher
 abbrev pub worker : StageSpec
@@ -36,9 +34,5 @@ gatherer = record (blank 3 (codes "hot") Batcher) { min = 5; max = 10; batch_siz
 abbrev pub writer : StageSpec
 writer = record (blank 4 (codes "hot.0") BatchProcessor) { max = 1 }
 
-abbrev pub topology_of : List StageSpec → Topology
-topology_of stages = record { stages = stages; max_restarts = 3; window_ms = 5000; idle_limit = 0; record_limit = 200000; byte_limit = 67108864; control = None }
-
--- a producer, and a supervisor that goes with it; no restart is allowed
-abbrev pub pair : Topology
-pair = record (topology_of (source ∷ follower ∷ [])) { max_restarts = 0 }
+abbrev pub topology_of : List StageSpec → ℕ → Topology
+topology_of stages max_restarts = record { stages = stages; max_restarts = max_restarts; window_ms = 5000; idle_limit = 0; record_limit = 200000; byte_limit = 67108864; control = None }

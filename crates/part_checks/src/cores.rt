@@ -1,0 +1,161 @@
+//! A core without a step, and its kills.
+//!
+//! Begins with `supervised:MODE:RESTARTS`, a producer and a supervisor that goes with it by this mode, or with `batched`, a
+//! producer, a processor, a batcher and a batch processor. The acts are `kill=STAGE:WHY` and `halt`, where the slow machine
+//! lets them come next; and what a core says: `live=STAGE`; `ready=STAGE`, whether it is live in its first incarnation with no
+//! job out; `due=CONSUMER:PRODUCER`, on the pair's first subscription; `sub=CONSUMER:PRODUCER`, the generation that is live;
+//! `place=MESSAGE`, whether it has one; and the counts `now`, `accepted`, `places`, `steps`, `controls`, and `halted`.
+
+ghost use Rattle.std.specs.Prelude.{◌≡◌, reverse, true, IfOk, IsTrue};
+ghost use Rattle.pipe_types.specs.Sound.{IsSound};
+ghost use Rattle.pipe_model.specs.Legal.{allows};
+ghost use Rattle.core_state.specs.Stands.{Stands};
+
+use crate::stages::{batched, supervised};
+use crate::words::{Case, cut, item, mode_of, number, stage, tell_number, tell_refusal, why_of};
+use core_kills::kills::{halt, kill};
+use core_state::Core;
+use pipe_journal::Journal;
+use pipe_replay::replay_plain;
+use pipe_types::message::Why;
+use pipe_types::numbers::{MsgNo, Post, StageNo, SubNo};
+use pipe_types::step::Step;
+use pipe_types::topology::Topology;
+use std::alloc::{AllocError, Global};
+use std::io;
+
+pub fn run(rt: &HostRuntime, case: &Case<'_>) -> io::Result<()> {
+    let mut core = begin(rt.alloc(), case.begun)?;
+    for act in case.acts.split_whitespace() {
+        let (verb, rest) = cut(act, '=');
+        act_on(rt, &mut core, verb, rest)?;
+    }
+    Ok(())
+}
+
+fn begin(alloc: Global, begun: &str) -> Result<Core, AllocError>
+    ensures { IfOk result (λ core. Stands core) }
+{
+    match Core::new(alloc, topology_of(alloc, begun)?) {
+        Ok(core) => Ok(core),
+        Err((_, failed)) => Err(failed),
+    }
+}
+
+fn topology_of(alloc: Global, begun: &str) -> Result<Topology, AllocError>
+    ensures { IfOk result IsSound }
+{
+    if item(begun, 0) == "batched" {
+        return batched(alloc);
+    }
+    let max_restarts = number(item(begun, 2)).min(1_000);
+    supervised(alloc, mode_of(item(begun, 1)), max_restarts)
+}
+
+fn act_on(rt: &HostRuntime, core: &mut Core, verb: &str, rest: &str) -> io::Result<()>
+    requires stands { Stands core.old }
+    ensures stands { Stands core.new }
+{
+    match verb {
+        "kill" => kill_stage(rt, core, stage(item(rest, 0)), why_of(item(rest, 1))),
+        "halt" => halt_all(rt, core),
+        _ => ask(rt, core, verb, rest),
+    }
+}
+
+fn kill_stage(rt: &HostRuntime, core: &mut Core, stage: StageNo, why: Why) -> io::Result<()>
+    requires stands { Stands core.old }
+    ensures stands { Stands core.new }
+{
+    if !may_come(rt.alloc(), core, Step::Kill { stage, why })? {
+        return tell_refusal(rt);
+    }
+    kill(core, stage, why)?;
+    Ok(())
+}
+
+fn halt_all(rt: &HostRuntime, core: &mut Core) -> io::Result<()>
+    requires stands { Stands core.old }
+    ensures stands { Stands core.new }
+{
+    if !may_come(rt.alloc(), core, Step::Halt)? {
+        return tell_refusal(rt);
+    }
+    halt(core)?;
+    Ok(())
+}
+
+/// Whether the slow machine calls the journal with the step legal.
+fn may_come(alloc: Global, core: &Core, step: Step) -> Result<bool, AllocError>
+    ensures { IfOk result (λ may. may ≡ true → IsTrue (allows core.now.topology core.now.journal.steps step)) }
+{
+    let mut steps = steps_of(alloc, core.journal())?;
+    steps.push(step)?;
+    let found = replay_plain(alloc, core.topology(), steps.as_slice())?;
+    Ok(found.is_some())
+}
+
+/// The steps of the journal, oldest first.
+fn steps_of(alloc: Global, journal: &Journal) -> Result<Vec<Step>, AllocError>
+    ensures { IfOk result (λ steps. steps.items ≡ reverse journal.now.steps) }
+{
+    let mut steps = Vec::new(alloc);
+    for at in 0..journal.len() {
+        steps.push(journal.view(at).to_step(alloc)?)?;
+    }
+    Ok(steps)
+}
+
+fn ask(rt: &HostRuntime, core: &Core, verb: &str, rest: &str) -> io::Result<()>
+    requires stands { Stands core.now }
+{
+    match verb {
+        "live" => print!(rt; " {}", core.is_live(stage(rest))),
+        "ready" => print!(rt; " {}", is_ready(core, stage(rest))),
+        "due" => print!(rt;
+            " {}",
+            first_due(core, stage(item(rest, 0)), stage(item(rest, 1)))
+        ),
+        "sub" => tell_sub(rt, core, stage(item(rest, 0)), stage(item(rest, 1))),
+        "place" => print!(rt; " {}", core.place(MsgNo(number(rest))).is_some()),
+        _ => count(rt, core, verb),
+    }
+}
+
+fn count(rt: &HostRuntime, core: &Core, verb: &str) -> io::Result<()>
+    requires stands { Stands core.now }
+{
+    match verb {
+        "now" => print!(rt; " {}", core.now()),
+        "accepted" => print!(rt; " {}", core.accepted()),
+        "places" => print!(rt; " {}", core.places()?.as_slice().len()),
+        "steps" => print!(rt; " {}", core.journal().len()),
+        "controls" => print!(rt; " {}", core.totals.controls),
+        "halted" => print!(rt; " {}", core.totals.halted),
+        _ => tell_refusal(rt),
+    }
+}
+
+/// Whether the stage is live in its first incarnation, with no job out.
+fn is_ready(core: &Core, stage: StageNo) -> bool
+    requires { Stands core.now }
+{
+    let is_first = core.incarnation(stage) == 1;
+    let is_idle = !core.is_out(Post { stage, slot: 0 });
+    core.is_live(stage) && is_first && is_idle
+}
+
+/// What is due on the pair's first subscription.
+fn first_due(core: &Core, consumer: StageNo, producer: StageNo) -> u32 {
+    core.subs.due(SubNo {
+        consumer,
+        producer,
+        generation: 1,
+    })
+}
+
+/// The generation of the pair's live subscription.
+fn tell_sub(rt: &HostRuntime, core: &Core, consumer: StageNo, producer: StageNo) -> io::Result<()> {
+    let live = core.subs.live_of(consumer, producer);
+    tell_number(rt, live.map(|sub| sub.generation))
+}
