@@ -163,7 +163,6 @@ fn fault_in_answers(journal: &str) -> &'static str {
         .saturating_add(lines_with(journal, "quiet "))
         .saturating_add(lines_with(journal, "source "));
     let taken = lines_with(journal, "done ").saturating_add(lines_with(journal, "wrote "));
-    let stopped = lines_with(journal, "kill ").saturating_add(lines_with(journal, "late "));
     if fetched != lines_with(journal, "fetch ") {
         "fetches"
     } else if taken != lines_with(journal, "take ") {
@@ -172,11 +171,20 @@ fn fault_in_answers(journal: &str) -> &'static str {
         "children"
     } else if lines_with(journal, "drain ") != 1 {
         "drains"
-    } else if stopped > 0 {
-        "kills"
+    } else if interventions(journal) > 0 {
+        "crashes and control"
     } else {
         ""
     }
+}
+
+/// How many steps there are of crashes and control.
+fn interventions(journal: &str) -> usize {
+    lines_with(journal, "kill ")
+        .saturating_add(lines_with(journal, "late "))
+        .saturating_add(lines_with(journal, "restart "))
+        .saturating_add(lines_with(journal, "halt"))
+        .saturating_add(lines_with(journal, "refuse "))
 }
 
 /// How many lines the sources of the topology have.
@@ -245,6 +253,8 @@ fn fault_in_calm(case: &Case, came: Came<'_>, told: Told<'_>, counts: Counts) ->
     let answers = fault_in_answers(told.journal);
     if answers != "" {
         answers
+    } else if counts.killed > 0 {
+        "killed messages"
     } else {
         fault_in_lines(case, came, told, counts)
     }
