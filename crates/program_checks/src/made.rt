@@ -99,7 +99,7 @@ fn fault_of(
         home,
         steps: steps.len(),
     };
-    let calm = rules.text("calm") != "";
+    let calm = rules.text("rule") == "calm";
     fault_in(alloc, calm, case, came, steps.as_slice())
 }
 
