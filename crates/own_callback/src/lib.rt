@@ -10,6 +10,3 @@ mod third;
 
 pub use call::{Came, run_with};
 pub use third::ThirdCrashes;
-
-#[cfg(test)]
-mod tests;

@@ -1,0 +1,247 @@
+//! A call of the program over objects in memory, and what it came to.
+
+use super::case::Case;
+use super::outside::{World, are_sinks_free, clock, held_under, is_source_free, shown, world_of};
+use super::texts::{has_line, has_word, pieces_in};
+use body_jobs::Body;
+use mem_edges::{MemClock, MemEdges, MemSink, MemSource};
+use pipe_journal::Journal;
+use pipe_top::{RunEnd, run_program};
+use pipe_types::topology::Kind;
+use stage_callback::{Callback, LinesBox, StepsBox};
+use std::alloc::{AllocError, Global};
+use std::io;
+use std::sync::Wait;
+use std::thread::Threads;
+
+/// How many boxes of each built-in kind are in stock, where the case does not tell it.
+const STOCK: u64 = 64;
+
+/// A callback in its box.
+pub type Handler = Box<dyn Callback + Send>;
+
+/// What the answer of a call tells: `home` says whether the boxes came back in their order.
+#[derive(Clone, Copy)]
+struct Told {
+    status: u8,
+    topology: bool,
+    steps: u64,
+    accepted: usize,
+    home: bool,
+}
+
+/// Calls the program with these words, and writes what it came to.
+pub fn run_call<R: Threads + Wait + Sync>(
+    rt: &HostRuntime,
+    waits: &R,
+    case: &Case,
+    words: &str,
+) -> io::Result<()> {
+    let mut world = world_of(rt.alloc(), case)?;
+    let end = call(waits, rt.alloc(), case, words, &mut world)?;
+    let told = told_of(&end, case);
+    let home = told.home && is_home(rt.alloc(), case, &mut world)?;
+    let back = if home { "home" } else { "not home" };
+    let status = told.status;
+    print!(rt; "{words}: status {status}, {back}")?;
+    tell_counts(rt, case, told)?;
+    tell_texts(rt, case, &world)
+}
+
+fn tell_counts(rt: &HostRuntime, case: &Case, told: Told) -> io::Result<()> {
+    let (topology, steps, accepted) = (told.topology, told.steps, told.accepted);
+    let show = case.text("show");
+    if has_word(show, "topology") {
+        print!(rt; ", topology {topology}")?;
+    }
+    if has_word(show, "steps") {
+        print!(rt; ", steps {steps}")?;
+    }
+    if has_word(show, "accepted") {
+        print!(rt; ", accepted {accepted}")?;
+    }
+    println!(rt; "")
+}
+
+fn tell_texts(rt: &HostRuntime, case: &Case, world: &World) -> io::Result<()> {
+    tell_outputs(rt, case, shown(&world.out), shown(&world.err))?;
+    tell_sinks(rt, case, &world.edges)
+}
+
+/// Writes the output, or of it what the case wants to see, and the error output.
+pub fn tell_outputs(rt: &HostRuntime, case: &Case, out: &str, err: &str) -> io::Result<()> {
+    if has_word(case.text_or("show", "out"), "out") {
+        tell(rt, "", out)?;
+    }
+    if has_word(case.text("show"), "report") {
+        tell_report(rt, out)?;
+    }
+    tell_looks(rt, case.text("look"), out)?;
+    tell(rt, "error ", err)
+}
+
+/// Writes what the sinks hold that the case wants to see.
+fn tell_sinks(rt: &HostRuntime, case: &Case, edges: &MemEdges) -> io::Result<()> {
+    if has_word(case.text("show"), "s") {
+        tell(rt, "s ", held_under(rt.alloc(), edges, "mem:s")?)?;
+    }
+    if has_word(case.text("show"), "t") {
+        tell(rt, "t ", held_under(rt.alloc(), edges, "mem:t")?)?;
+    }
+    if has_word(case.text("show"), "sorted") {
+        tell_sorted(rt, case, "s", held_under(rt.alloc(), edges, "mem:s")?)?;
+        tell_sorted(rt, case, "t", held_under(rt.alloc(), edges, "mem:t")?)?;
+    }
+    Ok(())
+}
+
+/// Writes whether the lines are those that the case wants, in any order.
+fn tell_sorted(rt: &HostRuntime, case: &Case, name: &str, text: &str) -> io::Result<()> {
+    let wanted = sorted(rt.alloc(), case.text(name))?;
+    let same = sorted(rt.alloc(), text)? == wanted;
+    let count = wanted.len();
+    println!(rt; "{name} has the {count} lines: {same}")
+}
+
+fn sorted(alloc: Global, text: &str) -> Result<Vec<&str>, AllocError> {
+    let mut lines = Vec::new(alloc);
+    for line in text.lines() {
+        lines.push(line)?;
+    }
+    lines.sort_unstable();
+    Ok(lines)
+}
+
+/// Writes each line of the text behind its mark and a `|`, and a last one that has no end behind a `+`.
+fn tell(rt: &HostRuntime, mark: &str, text: &str) -> io::Result<()> {
+    let last = pieces_in(text, '\n').saturating_sub(1);
+    for (at, line) in text.split('\n').enumerate() {
+        if at < last {
+            println!(rt; "{mark}|{line}")?;
+        } else if !line.is_empty() {
+            println!(rt; "{mark}+{line}")?;
+        }
+    }
+    Ok(())
+}
+
+/// Writes of each form whether the text has such a line.
+fn tell_looks(rt: &HostRuntime, forms: &str, text: &str) -> io::Result<()> {
+    for form in forms.lines() {
+        let seen = if has_line(text, form) {
+            "seen"
+        } else {
+            "not seen"
+        };
+        println!(rt; "{seen}: {form}")?;
+    }
+    Ok(())
+}
+
+/// Writes the lines from that on which begins the report.
+fn tell_report(rt: &HostRuntime, out: &str) -> io::Result<()> {
+    let mut begun = false;
+    for line in out.lines() {
+        begun = begun || line.starts_with("accepted ");
+        if begun {
+            println!(rt; "|{line}")?;
+        }
+    }
+    Ok(())
+}
+
+/// Calls the program with these words on what the case gives.
+pub fn call<R: Threads + Wait + Sync>(
+    rt: &R,
+    alloc: Global,
+    case: &Case,
+    words: &str,
+    world: &mut World,
+) -> Result<RunEnd<Handler, MemClock>, AllocError> {
+    let words = words_of(alloc, words)?;
+    let stock = stock_of(alloc, lines_boxes(case), steps_boxes(case))?;
+    let nap = case.number_or("nap", 0);
+    Ok(end_of(rt, alloc, &words, stock, nap, world))
+}
+
+fn end_of<R: Threads + Wait + Sync>(
+    rt: &R,
+    alloc: Global,
+    words: &Vec<String>,
+    stock: Vec<Handler>,
+    nap: u64,
+    world: &mut World,
+) -> RunEnd<Handler, MemClock> {
+    run_program::<R, MemEdges, Handler, Body<MemSource, MemSink>, MemClock>(
+        rt,
+        alloc,
+        words,
+        stock,
+        &mut world.edges,
+        clock(nap),
+        &mut world.out,
+        &mut world.err,
+    )
+}
+
+fn told_of(end: &RunEnd<Handler, MemClock>, case: &Case) -> Told {
+    Told {
+        status: end.status,
+        topology: end.topology.is_some(),
+        steps: end.journal.len(),
+        accepted: accepted_in(&end.journal),
+        home: is_stock(&end.stock, lines_boxes(case), steps_boxes(case)),
+    }
+}
+
+fn accepted_in(journal: &Journal) -> usize {
+    let mut accepted: usize = 0;
+    for at in 0..journal.len() {
+        accepted = accepted.saturating_add(journal.view(at).records().len());
+    }
+    accepted
+}
+
+/// Whether the source and the sinks were given back.
+pub fn is_home(alloc: Global, case: &Case, world: &mut World) -> Result<bool, AllocError> {
+    Ok(are_sinks_free(alloc, &world.edges)? && is_source_free(alloc, case, &mut world.edges)?)
+}
+
+// No words are none, and not one that is empty.
+fn words_of(alloc: Global, text: &str) -> Result<Vec<String>, AllocError> {
+    let mut words = Vec::new(alloc);
+    if !text.is_empty() {
+        for word in text.split(' ') {
+            words.push(String::from_str(alloc, word)?)?;
+        }
+    }
+    Ok(words)
+}
+
+fn lines_boxes(case: &Case) -> u64 {
+    case.number_or("lines.boxes", STOCK)
+}
+
+fn steps_boxes(case: &Case) -> u64 {
+    case.number_or("steps.boxes", STOCK)
+}
+
+fn stock_of(alloc: Global, lines: u64, steps: u64) -> Result<Vec<Handler>, AllocError> {
+    let mut stock: Vec<Handler> = Vec::new(alloc);
+    for _ in 0..lines {
+        stock.push(Box::new(alloc, LinesBox::new(alloc))?)?;
+    }
+    for _ in 0..steps {
+        stock.push(Box::new(alloc, StepsBox::new(alloc))?)?;
+    }
+    Ok(stock)
+}
+
+fn is_stock(stock: &Vec<Handler>, lines: u64, steps: u64) -> bool {
+    for (at, callback) in stock.iter().enumerate() {
+        if matches!(callback.kind(), Kind::Lines) != ((at as u64) < lines) {
+            return false;
+        }
+    }
+    stock.len() as u64 == lines.saturating_add(steps)
+}
