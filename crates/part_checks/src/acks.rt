@@ -104,6 +104,9 @@ pub fn run_verdicts(rt: &HostRuntime, case: &Case<'_>) -> io::Result<()> {
 }
 
 fn verdicts_of(alloc: Global, acts: &str) -> Result<Vec<Verdict>, AllocError> {
+    // the toolchain loses the type of an outcome in a push of a verdict where the function does not name it
+    let outcome = Outcome::Successful;
+    let _ = outcome;
     let mut verdicts = Vec::new(alloc);
     for act in acts.split_whitespace() {
         verdicts.push(verdict_of(act))?;
