@@ -91,8 +91,10 @@ pub fn kept(rt: &HostRuntime) -> io::Result<()> {
     let bytes = bytes_of(rt.alloc(), "one$two$$half")?;
     let is_all = put_all(&mut sink, &bytes) == PutEnd::All;
     print!(rt; " {is_all}")?;
-    read_lines(rt, &mut RealEdges::new(rt), &name)?;
-    read_lines(rt, &mut RealEdges::new(rt), &name)
+    let mut edges = RealEdges::new(rt);
+    read_lines(rt, &mut edges, &name)?;
+    let mut others = RealEdges::new(rt);
+    read_lines(rt, &mut others, &name)
 }
 
 /// Opens the source and writes its story.
