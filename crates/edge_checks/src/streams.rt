@@ -54,14 +54,13 @@ fn tell_many(rt: &HostRuntime, put: PutEnd, read: Option<usize>) -> io::Result<(
 
 /// `many`: what a file takes, and what is read of it again.
 pub fn many(rt: &HostRuntime) -> io::Result<()> {
-    let mut edges = RealEdges::new(rt);
     let name = name_of(rt.alloc(), "file:many")?;
     let text = text_of_many(rt.alloc())?;
-    let Ok(mut sink) = edges.open_sink(&name) else {
+    let Ok(mut sink) = RealEdges::new(rt).open_sink(&name) else {
         return print!(rt; " no sink");
     };
     let put = put_all(&mut sink, &text);
-    match edges.open_source(&name) {
+    match RealEdges::new(rt).open_source(&name) {
         Ok(mut source) => tell_many(rt, put, read_text(&mut source)),
         Err(_) => print!(rt; " no source"),
     }

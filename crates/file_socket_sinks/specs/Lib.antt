@@ -1,3 +1,4 @@
 pub mod Back
 pub mod Came
 pub mod Names
+pub mod Once

@@ -5,6 +5,7 @@ ghost use Rattle.pipe_edges.specs.Named.{AddsBack, EdgeHasCause};
 ghost use Rattle.file_socket_sinks.specs.Back.{given_in};
 ghost use Rattle.file_socket_sinks.specs.Came.{OpenCameTo};
 
+use crate::opened::OpenFiles;
 use crate::output::{RealOut, Writer};
 use crate::source::{Reader, RealSource};
 use pipe_edges::{EdgeEnd, Edges, MAX_FILE_BYTES};
@@ -53,12 +54,14 @@ fn count<T: Drop>(faults: &mut u64, opened: io::Result<T>) -> Result<T, EdgeEnd>
 
 /// What the system has by name. Sources are `file:PATH`, read from the start, `stdin:`, `connect:HOST:PORT`, and
 /// `listen:HOST:PORT`, of which one connection is accepted at opening; sinks are `file:PATH`, made new or emptied, and
-/// `connect:HOST:PORT`; the name of a file to read whole is its path. Every other name fails. It tells no bytes and no
-/// calls, counts each failure, and keeps what is given back until it is dropped, which closes it.
+/// `connect:HOST:PORT`; the name of a file to read whole is its path. Every other name fails, and so does the name of
+/// a regular file that is open already, of a FIFO that is read, or of standard input a second time. It tells no bytes
+/// and no calls, counts each failure, and keeps what is given back until it is dropped, which closes it.
 #[derive(Drop)]
 pub struct RealEdges {
     rt: HostRuntime,
     faults: u64,
+    opened: OpenFiles,
     sources: Vec<GivenBack<RealSource<Reader>>>,
     sinks: Vec<GivenBack<RealOut<Writer>>>,
 }
@@ -72,6 +75,7 @@ impl RealEdges {
         RealEdges {
             rt: *rt,
             faults: 0,
+            opened: OpenFiles::new(rt.alloc()),
             sources: Vec::new(rt.alloc()),
             sinks: Vec::new(rt.alloc()),
         }
@@ -106,12 +110,13 @@ impl Edges for RealEdges {
     ghost sinks_back = { λ e. given_in e.sinks.items };
 
     fn open_source(&mut self, name: &Text) -> Result<RealSource<Reader>, EdgeEnd> {
-        let reader = count(&mut self.faults, Reader::open(&self.rt, name.as_str()))?;
-        Ok(RealSource::new(reader))
+        let reader = Reader::open(&self.rt, &mut self.opened, name.as_str());
+        Ok(RealSource::new(count(&mut self.faults, reader)?))
     }
 
     fn open_sink(&mut self, name: &Text) -> Result<RealOut<Writer>, EdgeEnd> {
-        let writer = count(&mut self.faults, Writer::open(&self.rt, name.as_str()))?;
+        let writer = Writer::open(&self.rt, &mut self.opened, name.as_str());
+        let writer = count(&mut self.faults, writer)?;
         Ok(RealOut::new(&self.rt, writer))
     }
 

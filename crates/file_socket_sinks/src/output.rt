@@ -6,8 +6,9 @@ ghost use Rattle.std.specs.IoError.{error_kind};
 ghost use Rattle.file_socket_sinks.specs.Names.{IsSinkName};
 
 use crate::names::SinkName;
+use crate::opened::OpenFiles;
 use pipe_edges::{ByteSink, WriteEnd};
-use std::fs::File;
+use std::fs::{File, OpenOptions};
 use std::io;
 use std::io::{ErrorKind, Stderr, Stdout, Write};
 use std::net::TcpStream;
@@ -26,13 +27,25 @@ pub enum Writer {
     Error(Stderr),
 }
 
+// A file that is made new or emptied. One that is open already is left as it is.
+fn open_file(rt: &HostRuntime, opened: &mut OpenFiles, path: &str) -> io::Result<File> {
+    let file = OpenOptions::new().write(true).create(true).open(rt, path)?;
+    let metadata = file.metadata()?;
+    if metadata.is_file() {
+        opened.add_sink(rt, &metadata)?;
+        file.set_len(0)?;
+    }
+    Ok(file)
+}
+
 impl Writer {
-    /// Opens what the name of a sink says: a file is made new or emptied. A name of another form is `InvalidInput`.
-    pub fn open(rt: &HostRuntime, name: &str) -> io::Result<Writer>
+    /// Opens what the name of a sink says: a file is made new or emptied. What is open already is `ResourceBusy`, and
+    /// a name of another form `InvalidInput`.
+    pub fn open(rt: &HostRuntime, opened: &mut OpenFiles, name: &str) -> io::Result<Writer>
         ensures { IfOk result (λ _. IsSinkName name.now) }
     {
         match SinkName::parse(name) {
-            Some(SinkName::File(path)) => Ok(Writer::File(File::create(rt, path)?)),
+            Some(SinkName::File(path)) => Ok(Writer::File(open_file(rt, opened, path)?)),
             Some(SinkName::Connect(peer)) => Ok(Writer::Connection(peer.connect(rt)?)),
             None => Err(io::Error::from(ErrorKind::InvalidInput)),
         }

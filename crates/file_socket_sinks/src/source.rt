@@ -7,6 +7,7 @@ ghost use Rattle.file_socket_sinks.specs.Came.{ReadCameTo};
 ghost use Rattle.file_socket_sinks.specs.Names.{IsSourceName};
 
 use crate::names::SourceName;
+use crate::opened::OpenFiles;
 use pipe_edges::{ByteSource, ReadEnd};
 use std::fs::File;
 use std::io;
@@ -23,13 +24,20 @@ pub enum Reader {
 
 impl Reader {
     /// Opens what the name of a source says, and waits for the peer where that is a connection. Of a listener's
-    /// connections one is accepted. A name of another form is `InvalidInput`.
-    pub fn open(rt: &HostRuntime, name: &str) -> io::Result<Reader>
+    /// connections one is accepted. What is open already is `ResourceBusy`, and a name of another form `InvalidInput`.
+    pub fn open(rt: &HostRuntime, opened: &mut OpenFiles, name: &str) -> io::Result<Reader>
         ensures { IfOk result (λ _. IsSourceName name.now) }
     {
         match SourceName::parse(name) {
-            Some(SourceName::File(path)) => Ok(Reader::File(File::open(rt, path)?)),
-            Some(SourceName::Input) => Ok(Reader::Input(rt.stdin())),
+            Some(SourceName::File(path)) => {
+                let file = File::open(rt, path)?;
+                opened.add_source(&file.metadata()?)?;
+                Ok(Reader::File(file))
+            }
+            Some(SourceName::Input) => {
+                opened.add_input(rt)?;
+                Ok(Reader::Input(rt.stdin()))
+            }
             Some(SourceName::Connect(peer)) => Ok(Reader::Connection(peer.connect(rt)?)),
             Some(SourceName::Listen(own)) => Ok(Reader::Connection(own.accept(rt)?)),
             None => Err(io::Error::from(ErrorKind::InvalidInput)),

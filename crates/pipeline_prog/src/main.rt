@@ -3,7 +3,9 @@
 #![tactic(auto)]
 
 use body_jobs::Body;
-use file_socket_sinks::{Reader, RealClock, RealEdges, RealOut, RealSource, Writer};
+use file_socket_sinks::{
+    Reader, RealClock, RealEdges, RealOut, RealSource, Writer, take_closed_streams,
+};
 use pipe_top::run_program;
 use stage_callback::{Callback, LinesBox, StepsBox};
 use std::alloc::AllocError;
@@ -36,8 +38,10 @@ fn words_of(rt: &HostRuntime) -> Result<Vec<String>, AllocError> {
     }
 }
 
-// A run may wait for its sources and start threads, which takes a handle of its own.
+// A run may wait for its sources and start threads, which takes a handle of its own. Where the system has no descriptor
+// left for a stream that is closed, that is want of memory.
 fn run<R: Threads + Wait + Sync>(rt: &HostRuntime, waits: &R) -> Result<u8, AllocError> {
+    take_closed_streams(rt).map_err(|_| AllocError)?;
     let alloc = rt.alloc();
     let words = words_of(rt)?;
     let mut stock: Vec<Handler> = Vec::new(alloc);
