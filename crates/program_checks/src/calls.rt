@@ -6,7 +6,7 @@ use super::texts::{has_line, has_word, pieces_in};
 use body_jobs::Body;
 use mem_edges::{MemClock, MemEdges, MemSink, MemSource};
 use pipe_journal::Journal;
-use pipe_top::{RunEnd, run_program};
+use pipe_top::run_program;
 use pipe_types::topology::Kind;
 use stage_callback::{Callback, LinesBox, StepsBox};
 use std::alloc::{AllocError, Global};
@@ -20,13 +20,12 @@ const STOCK: u64 = 64;
 /// A callback in its box.
 pub type Handler = Box<dyn Callback + Send>;
 
-/// What the answer of a call tells: `home` says whether the boxes came back in their order.
-#[derive(Clone, Copy)]
-struct Told {
-    status: u8,
+/// What a call came to: its status, whether there was a topology, its journal, and whether the boxes came back in their order.
+#[derive(Drop)]
+pub struct Ended {
+    pub status: u8,
     topology: bool,
-    steps: u64,
-    accepted: usize,
+    pub journal: Journal,
     home: bool,
 }
 
@@ -39,17 +38,16 @@ pub fn run_call<R: Threads + Wait + Sync>(
 ) -> io::Result<()> {
     let mut world = world_of(rt.alloc(), case)?;
     let end = call(waits, rt.alloc(), case, words, &mut world)?;
-    let told = told_of(&end, case);
-    let home = told.home && is_home(rt.alloc(), case, &mut world)?;
+    let home = end.home && is_home(rt.alloc(), case, &mut world)?;
     let back = if home { "home" } else { "not home" };
-    let status = told.status;
+    let status = end.status;
     print!(rt; "{words}: status {status}, {back}")?;
-    tell_counts(rt, case, told)?;
+    tell_counts(rt, case, &end)?;
     tell_texts(rt, case, &world)
 }
 
-fn tell_counts(rt: &HostRuntime, case: &Case, told: Told) -> io::Result<()> {
-    let (topology, steps, accepted) = (told.topology, told.steps, told.accepted);
+fn tell_counts(rt: &HostRuntime, case: &Case, end: &Ended) -> io::Result<()> {
+    let (topology, steps) = (end.topology, end.journal.len());
     let show = case.text("show");
     if has_word(show, "topology") {
         print!(rt; ", topology {topology}")?;
@@ -58,6 +56,7 @@ fn tell_counts(rt: &HostRuntime, case: &Case, told: Told) -> io::Result<()> {
         print!(rt; ", steps {steps}")?;
     }
     if has_word(show, "accepted") {
+        let accepted = accepted_in(&end.journal);
         print!(rt; ", accepted {accepted}")?;
     }
     println!(rt; "")
@@ -150,48 +149,39 @@ fn tell_report(rt: &HostRuntime, out: &str) -> io::Result<()> {
     Ok(())
 }
 
-/// Calls the program with these words on what the case gives.
+/// Calls the program with these words on what the case gives, with as many boxes of each kind in stock as it tells.
 pub fn call<R: Threads + Wait + Sync>(
     rt: &R,
     alloc: Global,
     case: &Case,
     words: &str,
     world: &mut World,
-) -> Result<RunEnd<Handler, MemClock>, AllocError> {
+) -> Result<Ended, AllocError> {
     let words = words_of(alloc, words)?;
-    let stock = stock_of(alloc, lines_boxes(case), steps_boxes(case))?;
-    let nap = case.number_or("nap", 0);
-    Ok(end_of(rt, alloc, &words, stock, nap, world))
-}
-
-fn end_of<R: Threads + Wait + Sync>(
-    rt: &R,
-    alloc: Global,
-    words: &Vec<String>,
-    stock: Vec<Handler>,
-    nap: u64,
-    world: &mut World,
-) -> RunEnd<Handler, MemClock> {
-    run_program::<R, MemEdges, Handler, Body<MemSource, MemSink>, MemClock>(
+    let (lines, steps) = (lines_boxes(case), steps_boxes(case));
+    let mut stock: Vec<Handler> = Vec::new(alloc);
+    for _ in 0..lines {
+        stock.push(Box::new(alloc, LinesBox::new(alloc))?)?;
+    }
+    for _ in 0..steps {
+        stock.push(Box::new(alloc, StepsBox::new(alloc))?)?;
+    }
+    let end = run_program::<R, MemEdges, Handler, Body<MemSource, MemSink>, MemClock>(
         rt,
         alloc,
-        words,
+        &words,
         stock,
         &mut world.edges,
-        clock(nap),
+        clock(case.number_or("nap", 0)),
         &mut world.out,
         &mut world.err,
-    )
-}
-
-fn told_of(end: &RunEnd<Handler, MemClock>, case: &Case) -> Told {
-    Told {
+    );
+    Ok(Ended {
         status: end.status,
         topology: end.topology.is_some(),
-        steps: end.journal.len(),
-        accepted: accepted_in(&end.journal),
-        home: is_stock(&end.stock, lines_boxes(case), steps_boxes(case)),
-    }
+        home: is_stock(&end.stock, lines, steps),
+        journal: end.journal,
+    })
 }
 
 fn accepted_in(journal: &Journal) -> usize {
@@ -224,17 +214,6 @@ fn lines_boxes(case: &Case) -> u64 {
 
 fn steps_boxes(case: &Case) -> u64 {
     case.number_or("steps.boxes", STOCK)
-}
-
-fn stock_of(alloc: Global, lines: u64, steps: u64) -> Result<Vec<Handler>, AllocError> {
-    let mut stock: Vec<Handler> = Vec::new(alloc);
-    for _ in 0..lines {
-        stock.push(Box::new(alloc, LinesBox::new(alloc))?)?;
-    }
-    for _ in 0..steps {
-        stock.push(Box::new(alloc, StepsBox::new(alloc))?)?;
-    }
-    Ok(stock)
 }
 
 fn is_stock(stock: &Vec<Handler>, lines: u64, steps: u64) -> bool {

@@ -1,19 +1,21 @@
 //! Calls of the program with callbacks of one's own.
 
+ghost use Rattle.std.specs.Prelude.{◌≤◌};
+
 use super::calls::{Handler, tell_outputs};
 use super::case::{Case, number};
 use super::meets::Meets;
 use super::outside::shown;
 use body_jobs::Body;
 use mem_edges::{MemSink, MemSource};
-use own_callback::{ThirdCrashes, run_with};
-use std::alloc::{AllocError, Global};
+use own_callback::{Came, ThirdCrashes, run_with};
 use std::io;
 use std::sync::atomic::AtomicU64;
 use std::sync::{Arc, Wait};
 use std::thread::Threads;
 
-/// Runs the callbacks of the case on so many workers, and writes what it came to.
+/// Runs the callbacks of the case on so many workers, and writes what it came to: callbacks that meet, if the case tells how
+/// many, or one that crashes at its third message.
 pub fn run_own<R: Threads + Wait + Sync>(
     rt: &HostRuntime,
     waits: &R,
@@ -24,8 +26,25 @@ pub fn run_own<R: Threads + Wait + Sync>(
     if count < 1 || count > 16 {
         return println!(rt; "not allowed");
     }
+    if number(case.text("meets")) > 0 {
+        run_meets(rt, waits, case, count)
+    } else {
+        run_third(rt, waits, case, count)
+    }
+}
+
+fn run_third<R: Threads + Wait + Sync>(
+    rt: &HostRuntime,
+    waits: &R,
+    case: &Case,
+    count: u16,
+) -> io::Result<()>
+    requires least { 1 ≤ count }
+    requires most { count ≤ 16 }
+{
     let (file, lines) = (case.text("file"), case.text("a"));
-    let stock = stock_of(rt.alloc(), case)?;
+    let mut stock: Vec<Handler> = Vec::new(rt.alloc());
+    stock.push(Box::new(rt.alloc(), ThirdCrashes::new(rt.alloc()))?)?;
     let came = run_with::<_, _, Body<MemSource, MemSink>>(
         waits,
         rt.alloc(),
@@ -34,34 +53,40 @@ pub fn run_own<R: Threads + Wait + Sync>(
         lines,
         stock,
     )?;
-    let (status, callbacks) = (came.status, came.stock.len());
-    println!(rt; "{workers} workers: status {status}, callbacks {callbacks}")?;
-    tell_outputs(rt, case, shown(&came.out), shown(&came.err))
+    tell_own(rt, case, count, &came)
 }
 
-/// Callbacks that meet, if the case tells how many, or one that crashes at its third message.
-fn stock_of(alloc: Global, case: &Case) -> Result<Vec<Handler>, AllocError> {
-    let meets = number(case.text("meets"));
-    if meets > 0 {
-        meets_of(alloc, meets, number(case.text("looks")))
-    } else {
-        third_of(alloc)
-    }
-}
-
-fn third_of(alloc: Global) -> Result<Vec<Handler>, AllocError> {
-    let mut stock: Vec<Handler> = Vec::new(alloc);
-    stock.push(Box::new(alloc, ThirdCrashes::new(alloc))?)?;
-    Ok(stock)
-}
-
-/// So many callbacks that share a count, which is 0, and meet all together.
-fn meets_of(alloc: Global, group: u64, looks: u64) -> Result<Vec<Handler>, AllocError> {
-    let begun = Arc::new(alloc, AtomicU64::new(0))?;
-    let mut stock: Vec<Handler> = Vec::new(alloc);
+/// Runs so many callbacks that share a count, which is 0, and meet all together.
+fn run_meets<R: Threads + Wait + Sync>(
+    rt: &HostRuntime,
+    waits: &R,
+    case: &Case,
+    count: u16,
+) -> io::Result<()>
+    requires least { 1 ≤ count }
+    requires most { count ≤ 16 }
+{
+    let (group, looks) = (number(case.text("meets")), number(case.text("looks")));
+    let (file, lines) = (case.text("file"), case.text("a"));
+    let begun = Arc::new(rt.alloc(), AtomicU64::new(0))?;
+    let mut stock: Vec<Handler> = Vec::new(rt.alloc());
     for _ in 0..group {
-        let meets = Meets::new(alloc, Arc::try_clone(&begun)?, group, looks);
-        stock.push(Box::new(alloc, meets)?)?;
+        let meets = Meets::new(rt.alloc(), Arc::try_clone(&begun)?, group, looks);
+        stock.push(Box::new(rt.alloc(), meets)?)?;
     }
-    Ok(stock)
+    let came = run_with::<_, _, Body<MemSource, MemSink>>(
+        waits,
+        rt.alloc(),
+        count,
+        file,
+        lines,
+        stock,
+    )?;
+    tell_own(rt, case, count, &came)
+}
+
+fn tell_own(rt: &HostRuntime, case: &Case, count: u16, came: &Came<Handler>) -> io::Result<()> {
+    let (status, callbacks) = (came.status, came.stock.len());
+    println!(rt; "{count} workers: status {status}, callbacks {callbacks}")?;
+    tell_outputs(rt, case, shown(&came.out), shown(&came.err))
 }
