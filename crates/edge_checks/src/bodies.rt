@@ -42,7 +42,8 @@ fn outcome_of<B: Works>(alloc: Global, body: &mut B, work: Work) -> Result<Outco
     Ok(body.run_job(alloc, job)?.outcome)
 }
 
-/// `jobs RULES.. : ACTS..`: the replies of a body with a box of the kind `steps` that is armed with these rules.
+/// `jobs RULES.. : ACTS..`: the replies of a body with a box of the kind `steps` that is armed with these rules. An act
+/// `(A|B..` is a chunk, `reset` a reset, and another word the payload of the fourth message, for a child.
 pub fn jobs(rt: &HostRuntime, text: &str) -> io::Result<()> {
     let (rules, acts) = text.split_once(':').unwrap_or((text, ""));
     let mut callback: Handler = Box::new(rt.alloc(), StepsBox::new(rt.alloc()))?;
@@ -51,7 +52,19 @@ pub fn jobs(rt: &HostRuntime, text: &str) -> io::Result<()> {
     }
     let mut body = with_box(callback);
     for act in acts.split_whitespace() {
-        act_on(rt, &mut body, act)?;
+        if act == "reset" {
+            body.reset();
+            continue;
+        }
+        // Each job begins in a body of its own.
+        let Some(callback) = body.take_box() else {
+            return print!(rt; " no box");
+        };
+        body = with_box(callback);
+        match act.strip_prefix('(') {
+            Some(list) => chunk(rt, &mut body, list)?,
+            None => child(rt, &mut body, act)?,
+        }
     }
     Ok(())
 }
@@ -63,23 +76,6 @@ fn with_box(callback: Handler) -> MemBody
         callback: Some(callback),
         source: None,
         sink: None,
-    }
-}
-
-// `(A|B..` is a chunk, `reset` a reset, and another word the payload of the fourth message, for a child.
-fn act_on(rt: &HostRuntime, body: &mut MemBody, act: &str) -> io::Result<()> {
-    if act == "reset" {
-        body.reset();
-        return Ok(());
-    }
-    // Each job begins in a body of its own.
-    let Some(callback) = body.take_box() else {
-        return print!(rt; " no box");
-    };
-    *body = with_box(callback);
-    match act.strip_prefix('(') {
-        Some(list) => chunk(rt, body, list),
-        None => child(rt, body, act),
     }
 }
 
@@ -205,7 +201,7 @@ pub fn filled(rt: &HostRuntime) -> io::Result<()> {
     }
 }
 
-fn fill(alloc: Global, body: &mut MemBody) -> Result<(), AllocError> {
+fn fill<B: Houses<MemSource, MemSink>>(alloc: Global, body: &mut B) -> Result<(), AllocError> {
     let source = source_of(alloc, "a", "")?;
     if let Ok(lines) = LineSource::new(alloc, source) {
         body.put_source(lines);

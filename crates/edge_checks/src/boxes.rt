@@ -243,21 +243,17 @@ pub fn stock(rt: &HostRuntime) -> io::Result<()> {
     stock.push(Box::new(alloc, StepsBox::new(alloc))?)?;
     print!(rt; " {}", boxes_of(stock.as_slice(), Kind::Steps))?;
     print!(rt; " {}", boxes_of(stock.as_slice(), Kind::Own))?;
-    match stock.last_mut() {
-        Some(steps) => chunk(rt, steps),
-        None => Ok(()),
-    }
-}
-
-fn chunk(rt: &HostRuntime, steps: &mut Handler) -> io::Result<()> {
-    let spec = spec_of(rt.alloc(), Kind::Steps, "require^a")?;
+    let spec = spec_of(alloc, Kind::Steps, "require^a")?;
     let is_calm = never_crashes(spec.rules.as_slice());
+    let Some(steps) = stock.last_mut() else {
+        return Ok(());
+    };
     if !may_arm(&spec) {
         return print!(rt; " not allowed");
     }
     steps.arm(&spec)?;
-    let messages = messages_of(rt.alloc(), "a1|b|a2")?;
-    let replies = run_chunk(rt.alloc(), steps, messages)?;
+    let messages = messages_of(alloc, "a1|b|a2")?;
+    let replies = run_chunk(alloc, steps, messages)?;
     print!(rt; " {is_calm}")?;
     tell_numbers(rt, replies.as_slice())
 }
