@@ -9,14 +9,14 @@ use Rattle.pipe_model.specs.History.{History}
 use Rattle.pipe_model.specs.Legal.{happened, is_drain}
 use Rattle.pipe_model.specs.Moves.{jobs_out}
 use Rattle.stage_bodies.specs.Seen.{LineSeen, BodySeen}
-use Rattle.stage_workers.specs.Keeping.{KeepsControlOn, KeepsControlPartly}
-use Rattle.stage_workers.proofs.Kept.{kept_partly}
-use Rattle.stage_workers.specs.Clocks.{ClockSeen, KeepsClockOn, KeepsClockPartly}
-use Rattle.stage_workers.specs.Rounds.{HasEnded}
-use Rattle.stage_workers.specs.RunEnd.{RunEnd}
-use Rattle.stage_workers.specs.RunEnd.TheVariants.{Drained, Halted}
-use Rattle.stage_workers.specs.Seen.{PipeSeen}
-use Rattle.stage_workers.specs.Runs.{HasRun}
+use Rattle.run_pipe.specs.Keeping.{KeepsControlOn, KeepsControlPartly}
+use Rattle.run_pipe.proofs.Kept.{kept_partly}
+use Rattle.run_pipe.specs.Clocks.{ClockSeen, KeepsClockOn, KeepsClockPartly}
+use Rattle.run_pipe.specs.Ends.{HasEnded}
+use Rattle.run_pipe.specs.RunEnd.{RunEnd}
+use Rattle.run_pipe.specs.RunEnd.TheVariants.{Drained, Halted}
+use Rattle.run_pipe.specs.Seen.{PipeState}
+use Rattle.run_pipe.specs.Runs.{HasRun}
 use Rattle.edge_names.specs.Seen.{EdgesSeen}
 use Rattle.edge_names.specs.Controls.{IsGivenInPart, first_sources, first_sinks, named_control}
 use Rattle.edge_names.specs.Returned.{GivesBack, KeepsCallbacks, sources_of, sinks_of}
@@ -55,23 +55,7 @@ all_back topology control bodies old new h =
     let stages = topology.stages in
     subst (λ (xs : List StageSpec). GivesBack (named_control topology.control control ++ sources_of xs bodies) (sinks_of xs bodies) old new) (sym (take_all (length stages) stages (omega arith))) h
 
--- the same said of equal pipes
-pub ran_as : (r : Result RunEnd AllocError) (o opened p final : PipeSeen) → o ≡ opened → p ≡ final → HasRun r o p → HasRun r opened final
-ran_as r o opened p final first last ran = subst (λ (z : PipeSeen × PipeSeen). HasRun r z.0 z.1) (λ i. (first i, last i)) ran
-
--- nothing that is said of a run depends on what its pipe says of the end
-pub with_parts : (r : Result RunEnd AllocError) (opened left : PipeSeen) (end : Option (Result RunEnd AllocError)) → HasRun r opened (record left { end = end }) → HasRun r opened left
-with_parts r opened left end h = record {
-  topology = h.topology;
-  follows = h.follows;
-  keeps = h.keeps;
-  stay = h.stay;
-  clock = h.clock;
-  control = h.control;
-  ended = h.ended;
-}
-
-pub went : (r : Result RunEnd AllocError) (opened p : PipeSeen) (final : ℕ → Option BodySeen) (old new : EdgesSeen) → HasRun r opened p
+pub went : (r : Result RunEnd AllocError) (opened p : PipeState) (final : ℕ → Option BodySeen) (old new : EdgesSeen) → HasRun opened p r
     → GivesBack (named_control opened.topology.control p.control ++ sources_of opened.topology.stages p.home) (sinks_of opened.topology.stages p.home) old new → KeepsCallbacks p.home final
     → WentOn (is_ok r) opened.topology p.steps opened.home final opened.control old new opened.clock p.clock
 went (Ok end) opened p final old new h back kept = record {
@@ -106,7 +90,7 @@ went (Err e) opened p final old new h back kept = record {
 }
 
 -- there was no memory for giving all back
-pub went_in_part : (r : Result RunEnd AllocError) (opened p : PipeSeen) (final : ℕ → Option BodySeen) (old new : EdgesSeen) → HasRun r opened p
+pub went_in_part : (r : Result RunEnd AllocError) (opened p : PipeState) (final : ℕ → Option BodySeen) (old new : EdgesSeen) → HasRun opened p r
     → IsGivenInPart opened.topology p.control p.home old new → KeepsCallbacks p.home final → WentOn false opened.topology p.steps opened.home final opened.control old new opened.clock p.clock
 went_in_part r opened p final old new h part kept = record {
   follows = h.follows;

@@ -1,7 +1,7 @@
 use Rattle.std.proofs.Common.{◌++◌, ◌∙◌, subst}
 use Rattle.pipe_types.specs.declared.topology.Topology.{Topology}
 use Rattle.stage_bodies.specs.Seen.{body_at, line_seen, source_seen, sink_seen}
-use Rattle.stage_workers.specs.Clocks.{clock_seen}
+use Rattle.run_pipe.specs.Clocks.{clock_seen}
 use Rattle.edge_names.specs.Seen.{edges_seen}
 use Rattle.edge_names.specs.Controls.{IsGivenInPart, named_control}
 use Rattle.edge_names.specs.Returned.{GivesBack, sources_of, sinks_of}
