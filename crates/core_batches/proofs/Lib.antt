@@ -7,5 +7,4 @@ pub mod Removing
 pub mod Closing
 mod Outcomes
 pub mod Writing
-pub mod Settling
 mod Written

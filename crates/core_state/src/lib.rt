@@ -7,6 +7,7 @@
 mod new;
 mod places;
 mod readers;
+pub mod settles;
 pub mod state;
 mod subscribing;
 mod tables;
