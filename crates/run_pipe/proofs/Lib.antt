@@ -1,0 +1,10 @@
+pub mod Views
+pub mod Measures
+pub mod Gone
+pub mod InHands
+pub mod Backs
+pub mod Homing
+pub mod Going
+pub mod Starts
+pub use Rattle.stage_moves.proofs.Kept
+pub use Rattle.stage_moves.proofs.Obeying
