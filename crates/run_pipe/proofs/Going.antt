@@ -36,20 +36,20 @@ use Rattle.stage_holds.specs.declared.holding.Next.{Next}
 use Rattle.stage_holds.specs.declared.holding.Next.TheVariants as next
 use Rattle.stage_holds.specs.declared.loads.Load.{Load}
 use Rattle.stage_holds.specs.declared.loads.Home.{Home}
-use Rattle.run_pipe.specs.Ends.{HasEnded}
+use Rattle.run_pipe.specs.Ends.{HasEnded, HasMemory}
 use Rattle.run_pipe.specs.declared.ends.RunEnd.{RunEnd}
 use Rattle.run_pipe.specs.Away.{away_in}
-use Rattle.core_state.specs.Stands.{Stands}
-use Rattle.core_state.specs.declared.state.Core.{Core}
 use Rattle.run_pipe.specs.Whole.{IsWhole}
 use Rattle.run_pipe.specs.Seen.{PipeState, away_of}
 use Rattle.run_pipe.specs.Stems.{Stems, KeepsClockTo, KeepsControlTo, IsOfPost}
 use Rattle.run_pipe.specs.Jobs.{IsLoadOf, IsBrought}
 use Rattle.run_pipe.specs.Rounded.{Rounded}
-use Rattle.run_pipe.specs.Rounds.{IfJob, Goes, IsOn, IsOver, IsWaiting, begins_job, job_post, round_of, end_of, HasMemory}
+use Rattle.run_pipe.specs.Rounds.{Goes, IsOn, IsOver, IsWaiting, begins_job, round_of, end_of}
+use Rattle.stage_workers.specs.Rounds.{IfJob, job_post}
 use Rattle.stage_workers.specs.declared.shift.Round.{Round}
 use Rattle.run_pipe.proofs.Gone.{some_same, moves, IsPlaced}
 use Rattle.run_pipe.proofs.Backs.{if_some, IsBackNow}
+use Rattle.run_pipe.proofs.Outs.{outs_on}
 use Rattle.run_pipe.proofs.Homing.{Brings, backs, not_going}
 
 abbrev pub Came : Type 0 → Type 0
@@ -252,44 +252,54 @@ slots_low : {B : Type 0} (look : B → BodySeen) (opened : PipeState) (steps : H
 slots_low look opened steps None b = tt
 slots_low look opened steps (Some home) b = b.slot
 
--- the hold of a pipe is a round
-pub holds_round : {B : Type 0} (look : B → BodySeen) (brought : Option (Home B)) (came : Came B) (round : Round (Load B)) (old new : PipeState) → Brings look brought old → Held look brought came old.topology old new
-    → new.topology ≡ old.topology → new.places ≡ old.places → old.end ≡ None → new.end ≡ end_of came → round ≡ round_of came → Rounded look brought round old new
-holds_round {B = B} look brought came round old new g held topology places going end is =
-    let at_opened : (opened : PipeState) → Stems opened old → Held look brought came opened.topology old new = λ opened s. subst (λ (t : Topology). Held look brought came t old new) s.topology held in
-    let back : (opened : PipeState) (seen : History) → Stems opened old → IsBrought look opened seen old.steps brought → IfSome brought (IsBackNow look opened old.steps) = λ opened seen s b. backs look brought opened old seen g.sound g.legal s b in
-    let b = back g.opened g.seen g.stems g.is_brought in
-    let same : job_of came ≡ job_post (λ (load : Load B). load.job.post) round = same_job came ∙ ap (job_post (λ (load : Load B). load.job.post)) (sym is) in
-    let jobs : IfSome (job_of came) (IsPlaced old.topology new.places) =
-    subst (λ (t : Topology). IfSome (job_of came) (IsPlaced t new.places)) (sym g.stems.topology)
-    (to_job came (IsPlaced g.opened.topology new.places) (placed look brought came g.opened old new (at_opened g.opened g.stems) g.stems b)) in
-    record {
-      stems = λ opened seen s br. stems_on look brought came opened old new (at_opened opened s) s (back opened seen s br) topology places going end;
-      load = λ opened seen s br. subst (λ (r : Round (Load B)). IfJob r (IsLoadOf look opened new.steps)) (sym is) (loads look brought came opened old new (at_opened opened s) s (back opened seen s br) (places ∙ s.places));
-      adds = subst (λ (j : Option Post). AddsHold (post_of brought) j old.steps new.steps) same held.adds;
-      recorded = λ start memory. where_held came (IsRecorded old.topology old.steps new.steps brought) (subst HasMemory end memory) held.recorded;
-      ended = λ some. not_going old.end some going;
-      on = λ o. (going, end ∙ on_by came (subst IsOn is o));
-      over = λ o. subst (λ (e : Option (Result RunEnd AllocError)). IsSome e) (sym end) (over_by came (subst IsOver is o));
-      outs = λ start memory. subst (λ (j : Option Post). OutsAre (post_of brought) j old.steps new.steps) same (where_held came (OutsAre (post_of brought) (job_of came) old.steps new.steps) (subst HasMemory end memory) held.outs);
-      waits = λ start w. waiting_by old.topology old.steps new.steps came held.waits (subst IsWaiting is w);
-      row = λ start. subst (λ (r : Round (Load B)). IfJob r (λ load. 1 ≤ old.topology.idle_limit → quiet_row new.steps < old.topology.idle_limit)) (sym is)
-          (to_round came (λ load. 1 ≤ old.topology.idle_limit → quiet_row new.steps < old.topology.idle_limit) held.row);
-      lessens = λ row goes. subst (λ (r : Round (Load B)). holds_left old.topology new.steps (begins_job r) < holds_left old.topology old.steps (is_some brought)) (sym is)
-          (less_by old.topology old.steps new.steps brought came held.sound held.legal held.adds.begins held.cut_off held.recorded held.paused row (subst Goes is goes));
-      away = subst (λ (j : Option Post). AreAway (post_of brought) j (away_of old) (away_of new)) same
-          (subst (λ (n : ℕ). AreAway (post_of brought) (job_of came) (away_in old.topology old.home n) (away_of new)) places
-          (subst (λ (t : Topology). AreAway (post_of brought) (job_of came) (away_in old.topology old.home new.places) (away_in t new.home new.places)) (sym topology)
-          (moves old.topology old.home new.home new.places (post_of brought) (job_of came) held.homes (slots_low look g.opened old.steps brought b) jobs)));
-    }
+module _ {B : Type 0} (look : B → BodySeen) (brought : Option (Home B)) (came : Came B) (old new : PipeState) (g : Brings look brought old) (held : Held look brought came old.topology old new) (topology : new.topology ≡ old.topology)
+  (places : new.places ≡ old.places) (going : old.end ≡ None) (end : new.end ≡ end_of came) where
+  at_opened : (opened : PipeState) → Stems opened old → Held look brought came opened.topology old new
+  at_opened opened s = subst (λ (t : Topology). Held look brought came t old new) s.topology held
 
--- and the pipe is whole
-pub holds_whole : {B : Type 0} (look : B → BodySeen) (brought : Option (Home B)) (came : Came B) (core core' : Core) (old new : PipeState) → IsWhole core old → Stands core' → Held look brought came old.topology old new
-    → new.topology ≡ old.topology → new.end ≡ end_of came → IsWhole core' new
-holds_whole look brought came core core' old new w stands h topology end = record {
-  stands = stands;
-  follows = subst (λ (t : Topology). FollowsMoves t new.steps) (sym topology) (h.follows w.follows);
-  ready = subst (λ (t : Topology). Ready t new.steps new.home) (sym topology) h.ready;
-  ended = subst (λ (e : Option (Result RunEnd AllocError)). IfSome e (λ end. IfOk end (HasEnded new.topology new.steps))) (sym end)
-      (subst (λ (t : Topology). IfSome (end_of came) (λ end. IfOk end (HasEnded t new.steps))) (sym topology) (ended_by came old.topology new.steps h.drained h.halted));
-}
+  back : (opened : PipeState) (seen : History) → Stems opened old → IsBrought look opened seen old.steps brought → IfSome brought (IsBackNow look opened old.steps)
+  back opened seen s b = backs look brought opened old seen g.sound g.legal s b
+
+  first : IfSome brought (IsBackNow look g.opened old.steps)
+  first = back g.opened g.seen g.stems g.is_brought
+
+  jobs : IfSome (job_of came) (IsPlaced old.topology new.places)
+  jobs = subst (λ (t : Topology). IfSome (job_of came) (IsPlaced t new.places)) (sym g.stems.topology)
+      (to_job came (IsPlaced g.opened.topology new.places) (placed look brought came g.opened old new (at_opened g.opened g.stems) g.stems first))
+
+  moved : AreAway (post_of brought) (job_of came) (away_of old) (away_of new)
+  moved = subst (λ (n : ℕ). AreAway (post_of brought) (job_of came) (away_in old.topology old.home n) (away_of new)) places
+      (subst (λ (t : Topology). AreAway (post_of brought) (job_of came) (away_in old.topology old.home new.places) (away_in t new.home new.places)) (sym topology)
+      (moves old.topology old.home new.home new.places (post_of brought) (job_of came) held.homes (slots_low look g.opened old.steps brought first) jobs))
+
+  -- the pipe is whole behind the hold
+  pub holds_whole : IsWhole old → IsWhole new
+  holds_whole w = record {
+    follows = subst (λ (t : Topology). FollowsMoves t new.steps) (sym topology) (held.follows w.follows);
+    ready = subst (λ (t : Topology). Ready t new.steps new.home) (sym topology) held.ready;
+    ended = subst (λ (e : Option (Result RunEnd AllocError)). IfSome e (λ end. IfOk end (HasEnded new.topology new.steps))) (sym end)
+        (subst (λ (t : Topology). IfSome (end_of came) (λ end. IfOk end (HasEnded t new.steps))) (sym topology) (ended_by came old.topology new.steps held.drained held.halted));
+    outs = λ memory. outs_on (post_of brought) (job_of came) old new (where_held came (OutsAre (post_of brought) (job_of came) old.steps new.steps) (subst HasMemory end memory) held.outs) moved
+        (w.outs (subst HasMemory (sym going) tt));
+  }
+
+  -- and the hold is a round
+  pub holds_round : (round : Round (Load B)) → IsWhole old → round ≡ round_of came → Rounded look brought round old new
+  holds_round round w is =
+      let same : job_of came ≡ job_post (λ (load : Load B). load.job.post) round = same_job came ∙ ap (job_post (λ (load : Load B). load.job.post)) (sym is) in
+      record {
+        stems = λ opened seen s b. stems_on look brought came opened old new (at_opened opened s) s (back opened seen s b) topology places going end;
+        load = λ opened seen s b. subst (λ (r : Round (Load B)). IfJob r (IsLoadOf look opened new.steps)) (sym is) (loads look brought came opened old new (at_opened opened s) s (back opened seen s b) (places ∙ s.places));
+        adds = subst (λ (j : Option Post). AddsHold (post_of brought) j old.steps new.steps) same held.adds;
+        recorded = λ start memory. where_held came (IsRecorded old.topology old.steps new.steps brought) (subst HasMemory end memory) held.recorded;
+        ended = λ some. not_going old.end some going;
+        on = λ o. (going, end ∙ on_by came (subst IsOn is o));
+        over = λ o. subst (λ (e : Option (Result RunEnd AllocError)). IsSome e) (sym end) (over_by came (subst IsOver is o));
+        whole = holds_whole w;
+        waits = λ start w. waiting_by old.topology old.steps new.steps came held.waits (subst IsWaiting is w);
+        row = λ start. subst (λ (r : Round (Load B)). IfJob r (λ load. 1 ≤ old.topology.idle_limit → quiet_row new.steps < old.topology.idle_limit)) (sym is)
+            (to_round came (λ load. 1 ≤ old.topology.idle_limit → quiet_row new.steps < old.topology.idle_limit) held.row);
+        lessens = λ row goes. subst (λ (r : Round (Load B)). holds_left old.topology new.steps (begins_job r) < holds_left old.topology old.steps (is_some brought)) (sym is)
+            (less_by old.topology old.steps new.steps brought came held.sound held.legal held.adds.begins held.cut_off held.recorded held.paused row (subst Goes is goes));
+        away = subst (λ (j : Option Post). AreAway (post_of brought) j (away_of old) (away_of new)) same moved;
+      }

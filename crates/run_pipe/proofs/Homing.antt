@@ -23,7 +23,6 @@ use Rattle.stage_holds.specs.Holds.{AreHome}
 use Rattle.stage_holds.specs.declared.loads.Home.{Home}
 use Rattle.run_pipe.specs.declared.ends.RunEnd.{RunEnd}
 use Rattle.run_pipe.specs.Away.{away_in}
-use Rattle.core_state.specs.declared.state.Core.{Core}
 use Rattle.run_pipe.specs.Whole.{IsWhole}
 use Rattle.run_pipe.specs.Seen.{PipeState, away_of}
 use Rattle.run_pipe.specs.Stems.{Stems}
@@ -33,6 +32,7 @@ use Rattle.stage_holds.specs.declared.loads.Load.{Load}
 use Rattle.stage_workers.specs.declared.shift.Round.{Round}
 use Rattle.stage_workers.specs.declared.shift.Round.TheVariants.{Ended}
 use Rattle.run_pipe.proofs.Gone.{some_same, moves}
+use Rattle.run_pipe.proofs.Outs.{none_out_ended}
 use Rattle.run_pipe.proofs.Backs.{if_some, IsBackNow, brought_now, adds_nothing}
 
 -- the body at one place, and the others as they were
@@ -75,8 +75,8 @@ pub not_going : {A : Type 0} (end : Option (Result RunEnd AllocError)) → IsSom
 not_going None some e = let x : false ≡ true = some in cc
 not_going (Some end) some e = cc
 
-pub nothing_home : {B : Type 0} (look : B → BodySeen) (p : PipeState) → IsSome p.end → Rounded look None Ended p p
-nothing_home look p ended = record {
+pub nothing_home : {B : Type 0} (look : B → BodySeen) (p : PipeState) → IsWhole p → IsSome p.end → Rounded look None Ended p p
+nothing_home look p w ended = record {
   stems = λ opened seen s b. s;
   load = λ opened seen s b. tt;
   adds = adds_nothing None p.steps;
@@ -84,7 +84,7 @@ nothing_home look p ended = record {
   ended = λ some. (refl, refl);
   on = λ o. absurd o;
   over = λ o. ended;
-  outs = λ going memory. not_going p.end ended going;
+  whole = w;
   waits = λ going w. absurd w;
   row = λ going. tt;
   lessens = λ row goes. absurd goes;
@@ -115,8 +115,22 @@ module _ {B : Type 0} (look : B → BodySeen) (brought : Option (Home B)) (p : P
       (λ home k. (g.opened.home (place_at home.post), subst (λ (t : Topology). IsBack t p.steps (g.opened.home (place_at home.post)) home.post home.answer (look home.body)) (sym g.stems.topology) k.back))
       (backs look brought g.opened p g.seen g.sound g.legal g.stems g.is_brought)
 
-pub one_home : {B : Type 0} (look : B → BodySeen) (home : Home B) (p : PipeState) (after : ℕ → Option BodySeen) (places : ℕ) → Brings look (Some home) p → IsSome p.end → Table home.post (look home.body) p.home after → places ≡ p.places → Rounded look (Some home) Ended p (with_home p after places)
-one_home look home p after places g ended table same =
+-- the pipe stays whole
+pub home_whole : {B : Type 0} (look : B → BodySeen) (home : Home B) (p : PipeState) (after : ℕ → Option BodySeen) (places : ℕ) → IsWhole p → Brings look (Some home) p → IsSome p.end → Table home.post (look home.body) p.home after → IsWhole (with_home p after places)
+home_whole look home p after places w g ended table =
+    let k = backs look (Some home) g.opened p g.seen g.sound g.legal g.stems g.is_brought in
+    let at_opened = subst (λ (t : Topology). Ready t p.steps p.home) g.stems.topology w.ready in
+    let sound = subst IsSound g.stems.topology g.sound in
+    record {
+      follows = w.follows;
+      ready = subst (λ (t : Topology). Ready t p.steps after) (sym g.stems.topology)
+          (ready_on home.post (look home.body) p.home after table g.opened.topology p.steps (g.opened.home (place_at home.post)) home.answer sound k.back at_opened);
+      ended = w.ended;
+      outs = λ memory q out. none_out_ended p.topology p.steps p.end g.sound g.legal ended w.ended memory q out;
+    }
+
+pub one_home : {B : Type 0} (look : B → BodySeen) (home : Home B) (p : PipeState) (after : ℕ → Option BodySeen) (places : ℕ) → IsWhole p → Brings look (Some home) p → IsSome p.end → Table home.post (look home.body) p.home after → places ≡ p.places → Rounded look (Some home) Ended p (with_home p after places)
+one_home look home p after places w g ended table same =
     let first = backs look (Some home) g.opened p g.seen g.sound g.legal g.stems g.is_brought in
     record {
       stems = λ opened seen s b. let k = backs look (Some home) opened p seen g.sound g.legal s b in
@@ -135,26 +149,12 @@ one_home look home p after places g ended table same =
       ended = λ some. (refl, refl);
       on = λ o. absurd o;
       over = λ o. ended;
-      outs = λ going memory. not_going p.end ended going;
+      whole = home_whole look home p after places w g ended table;
       waits = λ going w. absurd w;
       row = λ going. tt;
       lessens = λ row goes. absurd goes;
       away = subst (λ (n : ℕ). AreAway (Some home.post) None (away_of p) (away_in p.topology after n)) (sym same)
           (moves p.topology p.home after p.places (Some home.post) None (comes_home home.post (look home.body) p.home after table) first.slot tt);
-    }
-
--- the pipe stays whole
-pub home_whole : {B : Type 0} (look : B → BodySeen) (home : Home B) (core : Core) (p : PipeState) (after : ℕ → Option BodySeen) (places : ℕ) → IsWhole core p → Brings look (Some home) p → Table home.post (look home.body) p.home after → IsWhole core (with_home p after places)
-home_whole look home core p after places w g table =
-    let k = backs look (Some home) g.opened p g.seen g.sound g.legal g.stems g.is_brought in
-    let at_opened = subst (λ (t : Topology). Ready t p.steps p.home) g.stems.topology w.ready in
-    let sound = subst IsSound g.stems.topology g.sound in
-    record {
-      stands = w.stands;
-      follows = w.follows;
-      ready = subst (λ (t : Topology). Ready t p.steps after) (sym g.stems.topology)
-          (ready_on home.post (look home.body) p.home after table g.opened.topology p.steps (g.opened.home (place_at home.post)) home.answer sound k.back at_opened);
-      ended = w.ended;
     }
 
 -- what is known of a pipe by its fields

@@ -1,10 +1,12 @@
-pub mod Views
-pub mod Measures
-pub mod Gone
-pub mod InHands
-pub mod Backs
-pub mod Homing
-pub mod Going
-pub mod Starts
+mod Views
+mod Measures
+mod Gone
+mod InHands
+mod Backs
+mod Outs
+mod Homing
+mod Going
+mod Starts
+mod Ends
 pub use Rattle.stage_moves.proofs.Kept
 pub use Rattle.stage_moves.proofs.Obeying

@@ -4,6 +4,8 @@ use Rattle.std.specs.Prelude.{◌&&◌, IfSome, IsSome, is_none}
 use Rattle.pipe_types.specs.declared.numbers.Post.{Post}
 use Rattle.pipe_types.specs.declared.topology.Topology.{Topology}
 use Rattle.pipe_model.specs.History.{History}
+use Rattle.pipe_model.specs.Posts.{is_out}
+use Rattle.pipe_laws.specs.Followed.{FollowsMoves}
 use Rattle.pipeline_turn.proofs.Journals.{begins_itself}
 use Rattle.stage_bodies.specs.Seen.{BodySeen}
 use Rattle.stage_bodies.specs.Posts.{place_at}
@@ -17,6 +19,7 @@ use Rattle.stage_moves.specs.Clocks.{ClockSeen, KeepsClock}
 use Rattle.run_pipe.specs.Away.{post_at, is_gone, away_in}
 use Rattle.run_pipe.specs.Seen.{PipeState, away_of}
 use Rattle.run_pipe.specs.Stems.{Stems}
+use Rattle.run_pipe.specs.Whole.{IsWhole}
 use Rattle.run_pipe.proofs.Gone.{place_of_post}
 
 -- an unused pipe
@@ -25,6 +28,14 @@ pub record IsFirst (p : PipeState) : Type 0 where
   pub empty : p.steps ≡ []
   pub filled : IsFilled p.topology p.home
   pub fresh : IfSome p.control IsFresh
+
+pub first_whole : (p : PipeState) → IsFirst p → IsWhole p
+first_whole p u = record {
+  follows = subst (λ (h : History). FollowsMoves p.topology h) (sym u.empty) tt;
+  ready = subst (λ (h : History). Ready p.topology h p.home) (sym u.empty) u.filled.ready;
+  ended = rw u.going tt;
+  outs = λ memory q out. let x : false ≡ true = subst (λ (h : History). is_out h q ≡ true) u.empty out in cc;
+}
 
 clock_starts : (clock : ClockSeen) → KeepsClock [] clock clock
 clock_starts clock = record { latest = omega arith; readings = rise_none clock.readings }

@@ -9,6 +9,7 @@ use Rattle.stage_moves.specs.Clocks.{clock_seen}
 use Rattle.run_pipe.specs.Jobs.{IsBrought}
 use Rattle.run_pipe.specs.Seen.{PipeState, state_of}
 use Rattle.run_pipe.specs.Rounded.{Rounded}
+use Rattle.run_pipe.specs.Whole.{IsWhole}
 use Rattle.stage_workers.specs.declared.shift.Round.TheVariants.{Ended}
 use Rattle.run_pipe.proofs.Views.{fields_of, seen_of, state_is}
 use Rattle.run_pipe.proofs.Homing.{Brings, within_first, back_first, with_home, one_home, nothing_home, home_whole, brings_at, rounded_at, going_by}
@@ -28,7 +29,10 @@ invariant_of-self g c =
     let h = c.requires.home in
     let home = c.in-Some.home in
     let b = brings_at look (Some home) (state_of c.args.self.now) old same w.stands.holds.sound w.stands.holds.legal h.0 h.1 h.2 (subst (IsBrought look h.0 h.1 c.args.self.now.steps) c.in-Some.is h.3) in
-    home_whole look home i.core old (body_at look c.put_home.new.bodies.items) (length c.put_home.new.bodies.items) w b c.put_home.ensures.table
+    record {
+      stands = w.stands;
+      whole = home_whole look home old (body_at look c.put_home.new.bodies.items) (length c.put_home.new.bodies.items) w.whole b (sym c.is_some.ensures ∙ c.if-is_some.true) c.put_home.ensures.table;
+    }
 
 pub returns-in-Some : goal.returns-in-Some
 returns-in-Some g c =
@@ -49,7 +53,7 @@ returns-in-Some g c =
       rounded = subst (λ o. Rounded look o Ended (state_of c.args.self.now) after) (sym c.in-Some.is)
           (rounded_at look (Some home) Ended (state_of c.args.self.now) old after (with_home old (body_at look m) (length m)) same
           (state_is look i.core.topology i.core.journal.steps m (option_map line i.control) (time i.clock) i.end)
-          (one_home look home old (body_at look m) (length m) b (sym c.is_some.ensures ∙ c.if-is_some.true) c.put_home.ensures.table c.put_home.ensures.len));
+          (one_home look home old (body_at look m) (length m) w.whole b (sym c.is_some.ensures ∙ c.if-is_some.true) c.put_home.ensures.table c.put_home.ensures.len));
     }
 
 pub returns-in-None : goal.returns-in-None
@@ -64,7 +68,7 @@ returns-in-None g c =
     let w = c.self.invariant in
     let h = c.requires.home in
     let b : IsSome (state_of c.args.self.now).end = subst (λ (p : PipeState). IsSome p.end) (sym same) (sym c.is_some.ensures ∙ c.if-is_some.true) in
-    record { rounded = subst (λ o. Rounded look o Ended (state_of c.args.self.now) (state_of c.args.self.now)) (sym c.in-None.is) (nothing_home look (state_of c.args.self.now) b) }
+    record { rounded = subst (λ o. Rounded look o Ended (state_of c.args.self.now) (state_of c.args.self.now)) (sym c.in-None.is) (nothing_home look (state_of c.args.self.now) (subst IsWhole (sym same) w.whole) b) }
 
 pub hold-came-requires-clause-back : goal.hold-came-requires-clause-back
 hold-came-requires-clause-back g c =
@@ -105,6 +109,7 @@ invariant_of-self-2 g c =
     let same = sym (ap state_of c.self.view_is) ∙ state_is look i.core.topology i.core.journal.steps i.bodies.items (option_map line i.control) (time i.clock) i.end in
     let w = c.self.invariant in
     let h = c.requires.home in
+    let b = brings_at look c.args.brought (state_of c.args.self.now) old same w.stands.holds.sound w.stands.holds.legal h.0 h.1 h.2 h.3 in
     let came = c.hold-came.result in
     let e = c.hold-came.ensures in
     let n = c.hold-came.new in
@@ -132,7 +137,10 @@ invariant_of-self-2 g c =
       drained = λ is. subst (λ (t : Topology). IsTrue (is_drained t steps)) e.topology (e.drained is);
       halted = λ is. ((e.halted is).0, subst (λ (t : Topology). jobs_out t steps ≡ false) e.topology (e.halted is).1);
     } in
-    holds_whole look c.args.brought came i.core n.core old new w e.stands held e.topology c.told-round.ensures.end
+    record {
+      stands = e.stands;
+      whole = holds_whole look c.args.brought came old new b held e.topology e.len (going_by i.end (sym c.is_some.ensures ∙ c.if-is_some.false)) c.told-round.ensures.end w.whole;
+    }
 
 pub returns : goal.returns
 returns g c =
@@ -176,5 +184,5 @@ returns g c =
     record {
       rounded = rounded_at look c.args.brought c.told-round.result.0 (state_of c.args.self.now) old _ new same
           (state_is look n.core.topology steps n.bodies.items (option_map line n.control) (time n.clock) c.told-round.result.1)
-          (holds_round look c.args.brought came c.told-round.result.0 old new b held e.topology e.len (going_by i.end (sym c.is_some.ensures ∙ c.if-is_some.false)) c.told-round.ensures.end c.told-round.ensures.round);
+          (holds_round look c.args.brought came old new b held e.topology e.len (going_by i.end (sym c.is_some.ensures ∙ c.if-is_some.false)) c.told-round.ensures.end c.told-round.result.0 w.whole c.told-round.ensures.round);
     }

@@ -1,26 +1,32 @@
-use Rattle.std.proofs.Common.{◌≡◌, [], refl, sym, subst, length, None}
+use Rattle.std.proofs.Common.{◌≡◌, [], refl, sym, subst, None}
 use Rattle.std.specs.Prelude.{option_map}
-use Rattle.pipe_model.specs.History.{History}
-use Rattle.pipe_laws.specs.Followed.{FollowsMoves}
-use Rattle.stage_bodies.specs.Seen.{body_at, line_seen}
-use Rattle.body_laws.specs.Ready.{Ready}
+use Rattle.stage_bodies.specs.Seen.{line_seen}
 use Rattle.stage_moves.specs.Clocks.{clock_seen}
 use Rattle.run_pipe.specs.Seen.{PipeState, away_of}
 use Rattle.run_pipe.specs.Stems.{Stems}
 use Rattle.run_pipe.proofs.Views.{fields_of, state_is}
-use Rattle.run_pipe.proofs.Starts.{stems_itself, none_away}
+use Rattle.run_pipe.proofs.Starts.{stems_itself, none_away, first_whole}
 use Rattle.run_pipe.proofs.pipe.Pipe.new.Goals as goal
 
 pub invariant_of-result : goal.invariant_of-result
 invariant_of-result g c =
-    let t = c.args.core.topology in
-    let home = body_at g.B.Works.look c.args.bodies.items in
+    let s = g.S.ByteSource in
+    let look = g.B.Works.look in
+    let line = line_seen s.told s.taken s.left s.faults s.waits in
+    let time = clock_seen g.C.Clock.latest g.C.Clock.readings in
+    let p = fields_of look c.args.core.topology c.args.core.journal.steps c.args.bodies.items (option_map line c.args.control) (time c.args.clock) None in
     record {
       stands = c.requires.stands;
-      follows = subst (λ (h : History). FollowsMoves t h) (sym c.requires.empty) tt;
-      ready = subst (λ (h : History). Ready t h home) (sym c.requires.empty) c.requires.filled.ready;
-      ended = tt;
+      whole = first_whole p (record { going = refl; empty = c.requires.empty; filled = c.requires.filled; fresh = c.requires.fresh });
     }
+
+pub returns-clause-made : goal.returns-clause-made
+returns-clause-made g c =
+    let s = g.S.ByteSource in
+    let look = g.B.Works.look in
+    let line = line_seen s.told s.taken s.left s.faults s.waits in
+    let time = clock_seen g.C.Clock.latest g.C.Clock.readings in
+    state_is look c.args.core.topology c.args.core.journal.steps c.args.bodies.items (option_map line c.args.control) (time c.args.clock) None
 
 pub returns-clause-stems : goal.returns-clause-stems
 returns-clause-stems g c =
