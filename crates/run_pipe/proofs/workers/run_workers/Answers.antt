@@ -4,6 +4,9 @@ use Rattle.run_pipe.specs.Seen.{state_of}
 use Rattle.run_pipe.proofs.Ends.{has_run}
 use Rattle.run_pipe.proofs.workers.run_workers.Goals as goal
 
+pub run_here-requires-clause-stems : goal.run_here-requires-clause-stems
+run_here-requires-clause-stems g c = (state_of c.args.pipe, c.requires.stems)
+
 pub returns-then-workers-eq1 : goal.returns-then-workers-eq1
 returns-then-workers-eq1 g c =
     record { ran = has_run (state_of c.args.pipe) (state_of c.args.pipe) (state_of c.run_here.new.pipe) c.requires.stems c.run_here.ensures.ran }
