@@ -12,7 +12,8 @@ ghost use Rattle.pipe_model.specs.Legal.{allows};
 ghost use Rattle.core_state.specs.Stands.{Stands};
 
 use crate::stages::{batched, supervised};
-use crate::words::{Case, cut, item, mode_of, number, stage, tell_number, tell_refusal, why_of};
+use crate::told::Told;
+use crate::words::{Case, cut, item, mode_of, number, stage, why_of};
 use core_kills::kills::{halt, kill};
 use core_state::Core;
 use pipe_journal::Journal;
@@ -22,13 +23,12 @@ use pipe_types::numbers::{MsgNo, Post, StageNo, SubNo};
 use pipe_types::step::Step;
 use pipe_types::topology::Topology;
 use std::alloc::{AllocError, Global};
-use std::io;
 
-pub fn run(rt: &HostRuntime, case: &Case<'_>) -> io::Result<()> {
-    let mut core = begin(rt.alloc(), case.begun)?;
+pub fn run(told: &mut Told, case: &Case<'_>) -> Result<(), AllocError> {
+    let mut core = begin(told.alloc, case.begun)?;
     for act in case.acts.split_whitespace() {
         let (verb, rest) = cut(act, '=');
-        act_on(rt, &mut core, verb, rest)?;
+        act_on(told, &mut core, verb, rest)?;
     }
     Ok(())
 }
@@ -52,34 +52,36 @@ fn topology_of(alloc: Global, begun: &str) -> Result<Topology, AllocError>
     supervised(alloc, mode_of(item(begun, 1)), max_restarts)
 }
 
-fn act_on(rt: &HostRuntime, core: &mut Core, verb: &str, rest: &str) -> io::Result<()>
+fn act_on(told: &mut Told, core: &mut Core, verb: &str, rest: &str) -> Result<(), AllocError>
     requires stands { Stands core.old }
     ensures stands { Stands core.new }
 {
     match verb {
-        "kill" => kill_stage(rt, core, stage(item(rest, 0)), why_of(item(rest, 1))),
-        "halt" => halt_all(rt, core),
-        _ => ask(rt, core, verb, rest),
+        "kill" => kill_stage(told, core, stage(item(rest, 0)), why_of(item(rest, 1))),
+        "halt" => halt_all(told, core),
+        _ => ask(told, core, verb, rest),
     }
 }
 
-fn kill_stage(rt: &HostRuntime, core: &mut Core, stage: StageNo, why: Why) -> io::Result<()>
+fn kill_stage(told: &mut Told, core: &mut Core, stage: StageNo, why: Why) -> Result<(), AllocError>
     requires stands { Stands core.old }
     ensures stands { Stands core.new }
 {
-    if !may_come(rt.alloc(), core, Step::Kill { stage, why })? {
-        return tell_refusal(rt);
+    if !may_come(told.alloc, core, Step::Kill { stage, why })? {
+        told.refusal();
+        return Ok(());
     }
     kill(core, stage, why)?;
     Ok(())
 }
 
-fn halt_all(rt: &HostRuntime, core: &mut Core) -> io::Result<()>
+fn halt_all(told: &mut Told, core: &mut Core) -> Result<(), AllocError>
     requires stands { Stands core.old }
     ensures stands { Stands core.new }
 {
-    if !may_come(rt.alloc(), core, Step::Halt)? {
-        return tell_refusal(rt);
+    if !may_come(told.alloc, core, Step::Halt)? {
+        told.refusal();
+        return Ok(());
     }
     halt(core)?;
     Ok(())
@@ -106,34 +108,33 @@ fn steps_of(alloc: Global, journal: &Journal) -> Result<Vec<Step>, AllocError>
     Ok(steps)
 }
 
-fn ask(rt: &HostRuntime, core: &Core, verb: &str, rest: &str) -> io::Result<()>
+fn ask(told: &mut Told, core: &Core, verb: &str, rest: &str) -> Result<(), AllocError>
     requires stands { Stands core.now }
 {
     match verb {
-        "live" => print!(rt; " {}", core.is_live(stage(rest))),
-        "ready" => print!(rt; " {}", is_ready(core, stage(rest))),
-        "due" => print!(rt;
-            " {}",
-            first_due(core, stage(item(rest, 0)), stage(item(rest, 1)))
-        ),
-        "sub" => tell_sub(rt, core, stage(item(rest, 0)), stage(item(rest, 1))),
-        "place" => print!(rt; " {}", core.place(MsgNo(number(rest))).is_some()),
-        _ => count(rt, core, verb),
+        "live" => told.flag(core.is_live(stage(rest))),
+        "ready" => told.flag(is_ready(core, stage(rest))),
+        "due" => told.count(first_due(core, stage(item(rest, 0)), stage(item(rest, 1)))),
+        "sub" => tell_sub(told, core, stage(item(rest, 0)), stage(item(rest, 1))),
+        "place" => told.flag(core.place(MsgNo(number(rest))).is_some()),
+        _ => return count(told, core, verb),
     }
+    Ok(())
 }
 
-fn count(rt: &HostRuntime, core: &Core, verb: &str) -> io::Result<()>
+fn count(told: &mut Told, core: &Core, verb: &str) -> Result<(), AllocError>
     requires stands { Stands core.now }
 {
     match verb {
-        "now" => print!(rt; " {}", core.now()),
-        "accepted" => print!(rt; " {}", core.accepted()),
-        "places" => print!(rt; " {}", core.places()?.as_slice().len()),
-        "steps" => print!(rt; " {}", core.journal().len()),
-        "controls" => print!(rt; " {}", core.totals.controls),
-        "halted" => print!(rt; " {}", core.totals.halted),
-        _ => tell_refusal(rt),
+        "now" => told.count(core.now()),
+        "accepted" => told.count(u64::from(core.accepted())),
+        "places" => told.count(core.places()?.as_slice().len() as u64),
+        "steps" => told.count(core.journal().len()),
+        "controls" => told.count(u64::from(core.totals.controls)),
+        "halted" => told.flag(core.totals.halted),
+        _ => told.refusal(),
     }
+    Ok(())
 }
 
 /// Whether the stage is live in its first incarnation, with no job out.
@@ -146,16 +147,20 @@ fn is_ready(core: &Core, stage: StageNo) -> bool
 }
 
 /// What is due on the pair's first subscription.
-fn first_due(core: &Core, consumer: StageNo, producer: StageNo) -> u32 {
-    core.subs.due(SubNo {
-        consumer,
-        producer,
-        generation: 1,
-    })
+fn first_due(core: &Core, consumer: StageNo, producer: StageNo) -> u64 {
+    u64::from(
+        core.subs.due(SubNo {
+            consumer,
+            producer,
+            generation: 1,
+        }),
+    )
 }
 
 /// The generation of the pair's live subscription.
-fn tell_sub(rt: &HostRuntime, core: &Core, consumer: StageNo, producer: StageNo) -> io::Result<()> {
-    let live = core.subs.live_of(consumer, producer);
-    tell_number(rt, live.map(|sub| sub.generation))
+fn tell_sub(told: &mut Told, core: &Core, consumer: StageNo, producer: StageNo) {
+    match core.subs.live_of(consumer, producer) {
+        Some(sub) => told.count(u64::from(sub.generation)),
+        None => told.add(" none"),
+    }
 }

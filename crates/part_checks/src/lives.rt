@@ -5,21 +5,23 @@
 
 use crate::stages::pair;
 use crate::steps::step_of;
-use crate::words::{Case, cut, item, mode_of, stage, tell_refusal};
+use crate::told::Told;
+use crate::words::{Case, cut, item, mode_of, stage};
 use pipe_types::message::Why;
+use pipe_types::numbers::StageNo;
 use pipe_types::step::Step;
 use pipe_types::topology::Topology;
 use plain_lives::{Past, lives_of};
-use std::io;
+use std::alloc::AllocError;
 
-pub fn run(rt: &HostRuntime, case: &Case<'_>) -> io::Result<()> {
-    let topology = pair(rt.alloc(), mode_of(case.begun))?;
-    let mut steps = Vec::new(rt.alloc());
+pub fn run(told: &mut Told, case: &Case<'_>) -> Result<(), AllocError> {
+    let topology = pair(told.alloc, mode_of(case.begun))?;
+    let mut steps = Vec::new(told.alloc);
     for act in case.acts.split_whitespace() {
         let (verb, rest) = cut(act, '=');
-        match step_of(rt.alloc(), verb, rest)? {
+        match step_of(told.alloc, verb, rest)? {
             Some(step) => steps.push(step)?,
-            None => ask(rt, &topology, &steps, verb, rest)?,
+            None => ask(told, &topology, &steps, verb, rest)?,
         }
     }
     Ok(())
@@ -27,39 +29,51 @@ pub fn run(rt: &HostRuntime, case: &Case<'_>) -> io::Result<()> {
 
 /// Asks what the steps leave.
 fn ask(
-    rt: &HostRuntime,
+    told: &mut Told,
     topology: &Topology,
     steps: &[Step],
     verb: &str,
     rest: &str,
-) -> io::Result<()> {
-    let lives = lives_of(rt.alloc(), topology, steps)?;
+) -> Result<(), AllocError> {
+    let lives = lives_of(told.alloc, topology, steps)?;
     let past = Past {
         topology,
         steps,
         lives: &lives,
     };
     match verb {
-        "death" => tell_death(rt, past.death(stage(rest))),
-        "live" => print!(rt; " {}", past.is_live(stage(rest))),
-        "sub" => {
-            let sub = past.current_sub(stage(item(rest, 0)), stage(item(rest, 1)))?;
-            print!(rt; " {}/{}", sub.generation, past.is_live_sub(sub)?)
-        }
-        _ => tell_refusal(rt),
+        "death" => tell_death(told, past.death(stage(rest))),
+        "live" => told.flag(past.is_live(stage(rest))),
+        "sub" => tell_sub(told, &past, stage(item(rest, 0)), stage(item(rest, 1)))?,
+        _ => told.refusal(),
     }
+    Ok(())
 }
 
-fn tell_death(rt: &HostRuntime, why: Option<Why>) -> io::Result<()> {
+fn tell_sub(
+    told: &mut Told,
+    past: &Past<'_>,
+    consumer: StageNo,
+    producer: StageNo,
+) -> Result<(), AllocError> {
+    let sub = past.current_sub(consumer, producer)?;
+    told.count(u64::from(sub.generation));
+    told.flag_behind("/", past.is_live_sub(sub)?);
+    Ok(())
+}
+
+fn tell_death(told: &mut Told, why: Option<Why>) {
     match why {
         Some(Why::Cancelled(sub)) => {
-            print!(rt;
-                " cancelled:{}:{}:{}",
-                sub.consumer.0, sub.producer.0, sub.generation
-            )
+            told.behind(" cancelled:", u64::from(sub.consumer.0));
+            told.behind(":", u64::from(sub.producer.0));
+            told.behind(":", u64::from(sub.generation));
         }
-        Some(why) => print!(rt; " {}", word_of(why)),
-        None => print!(rt; " none"),
+        Some(why) => {
+            told.add(" ");
+            told.add(word_of(why));
+        }
+        None => told.add(" none"),
     }
 }
 

@@ -8,81 +8,95 @@
 use crate::lives::word_of;
 use crate::stages::pair;
 use crate::steps::step_of;
-use crate::words::{Case, cut, mode_of, tell_refusal};
+use crate::told::Told;
+use crate::words::{Case, cut, mode_of};
 use pipe_replay::replay_plain;
 use pipe_types::message::{Loss, Outcome, Place};
 use pipe_types::state::{Life, PlaceRow, PlainState, SubRow};
 use pipe_types::step::Step;
 use pipe_types::topology::Topology;
-use std::io;
+use std::alloc::AllocError;
 
-pub fn run(rt: &HostRuntime, case: &Case<'_>) -> io::Result<()> {
-    let topology = pair(rt.alloc(), mode_of(case.begun))?;
-    let mut steps = Vec::new(rt.alloc());
+pub fn run(told: &mut Told, case: &Case<'_>) -> Result<(), AllocError> {
+    let topology = pair(told.alloc, mode_of(case.begun))?;
+    let mut steps = Vec::new(told.alloc);
     for act in case.acts.split_whitespace() {
         let (verb, rest) = cut(act, '=');
-        match step_of(rt.alloc(), verb, rest)? {
+        match step_of(told.alloc, verb, rest)? {
             Some(step) => steps.push(step)?,
-            None => ask(rt, &topology, &steps, verb)?,
+            None => ask(told, &topology, &steps, verb)?,
         }
     }
     Ok(())
 }
 
-fn ask(rt: &HostRuntime, topology: &Topology, steps: &[Step], verb: &str) -> io::Result<()> {
-    let found = replay_plain(rt.alloc(), topology, steps)?;
+fn ask(told: &mut Told, topology: &Topology, steps: &[Step], verb: &str) -> Result<(), AllocError> {
+    let found = replay_plain(told.alloc, topology, steps)?;
     if verb == "legal" {
-        return print!(rt; " {}", found.is_some());
+        told.flag(found.is_some());
+        return Ok(());
     }
     match found {
-        Some(state) => tell(rt, &state, verb),
-        None => tell_refusal(rt),
-    }
-}
-
-fn tell(rt: &HostRuntime, state: &PlainState, verb: &str) -> io::Result<()> {
-    match verb {
-        "places" => tell_places(rt, state.places.as_slice()),
-        "subs" => tell_subs(rt, state.subs.as_slice()),
-        "lives" => tell_lives(rt, state.lives.as_slice()),
-        "now" => print!(rt; " {}", state.now),
-        "ends" => print!(rt; " {}/{}", state.draining, state.halted),
-        _ => tell_refusal(rt),
-    }
-}
-
-fn tell_places(rt: &HostRuntime, rows: &[PlaceRow]) -> io::Result<()> {
-    for row in rows {
-        print!(rt; " {}:{}:", row.no.0, row.producer.0)?;
-        tell_place(rt, row.place)?;
-        print!(rt; ":{}", row.at)?;
+        Some(state) => tell(told, &state, verb),
+        None => told.refusal(),
     }
     Ok(())
+}
+
+fn tell(told: &mut Told, state: &PlainState, verb: &str) {
+    match verb {
+        "places" => tell_places(told, state.places.as_slice()),
+        "subs" => tell_subs(told, state.subs.as_slice()),
+        "lives" => tell_lives(told, state.lives.as_slice()),
+        "now" => told.count(state.now),
+        "ends" => {
+            told.flag(state.draining);
+            told.flag_behind("/", state.halted);
+        }
+        _ => told.refusal(),
+    }
+}
+
+fn tell_places(told: &mut Told, rows: &[PlaceRow]) {
+    for row in rows {
+        told.count(u64::from(row.no.0));
+        told.behind(":", u64::from(row.producer.0));
+        told.add(":");
+        tell_place(told, row.place);
+        told.behind(":", row.at);
+    }
 }
 
 /// Where a message ended. No case asks of another.
-fn tell_place(rt: &HostRuntime, place: Place) -> io::Result<()> {
+fn tell_place(told: &mut Told, place: Place) {
     match place {
-        Place::Acked(Outcome::Successful) => print!(rt; "successful"),
+        Place::Acked(Outcome::Successful) => told.add("successful"),
         Place::Lost(Loss::Killed(stage, incarnation, why)) => {
-            print!(rt; "lost:{}:{incarnation}:{}", stage.0, word_of(why))
+            told.behind("lost:", u64::from(stage.0));
+            told.behind(":", u64::from(incarnation));
+            told.add(":");
+            told.add(word_of(why));
         }
-        _ => print!(rt; "elsewhere"),
+        _ => told.add("elsewhere"),
     }
 }
 
-fn tell_subs(rt: &HostRuntime, rows: &[SubRow]) -> io::Result<()> {
+fn tell_subs(told: &mut Told, rows: &[SubRow]) {
     for row in rows {
-        let sub = row.sub;
-        print!(rt; " {}:{}:{}", sub.consumer.0, sub.producer.0, sub.generation)?;
-        print!(rt; "={}/{}/{}/{}", row.asked, row.sent, row.handled, row.live)?;
+        told.count(u64::from(row.sub.consumer.0));
+        told.behind(":", u64::from(row.sub.producer.0));
+        told.behind(":", u64::from(row.sub.generation));
+        told.behind("=", row.asked);
+        told.behind("/", row.sent);
+        told.behind("/", row.handled);
+        told.flag_behind("/", row.live);
     }
-    Ok(())
 }
 
-fn tell_lives(rt: &HostRuntime, rows: &[Life]) -> io::Result<()> {
+fn tell_lives(told: &mut Told, rows: &[Life]) {
     for row in rows {
-        print!(rt; " {}:{}/{}", row.stage.0, row.incarnation, row.live)?;
+        told.count(u64::from(row.stage.0));
+        told.behind(":", u64::from(row.incarnation));
+        told.flag_behind("/", row.live);
     }
-    Ok(())
 }
