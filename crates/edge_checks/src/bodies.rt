@@ -8,7 +8,6 @@ use super::boxes::{
 };
 use super::homes::tell_post;
 use super::memory::{sink_of, source_of, tell_held};
-use super::told::Told;
 use body_jobs::Body;
 use mem_edges::{MemSink, MemSource};
 use pipe_edges::LineSource;
@@ -19,6 +18,7 @@ use pipe_types::topology::Kind;
 use stage_bodies::{Houses, Job, Outcome, Work, Works};
 use stage_callback::{Callback, LinesBox, StepsBox, unarmed};
 use std::alloc::{AllocError, Global};
+use told_text::Told;
 
 /// A body over sources and sinks in memory.
 type MemBody = Body<MemSource, MemSink>;
@@ -146,7 +146,7 @@ fn fetch_two<B: Works>(told: &mut Told, body: &mut B) -> Result<(), AllocError>
 fn tell_records(told: &mut Told, records: &[Bytes]) {
     for record in records {
         told.add(" ");
-        told.bytes(record.as_slice());
+        told.spelled(record.as_slice());
     }
 }
 

@@ -1,7 +1,6 @@
 //! Callbacks in their boxes: rules on messages, on batches and on chunks.
 
 use super::texts::{bytes_of, halves, name_of, spelled};
-use super::told::Told;
 use config_rule::form::parse;
 use pipe_types::bytes::{Bytes, Text};
 use pipe_types::message::{Batch, Message, MessageList, Outcome, Reply, Trigger};
@@ -13,6 +12,7 @@ use stage_callback::{
 };
 use stage_job::{boxes_of, never_crashes, run_chunk};
 use std::alloc::{AllocError, Global};
+use told_text::Told;
 
 /// A callback in its box.
 pub type Handler = Box<dyn Callback + Send>;
@@ -195,9 +195,9 @@ fn tell_pass(told: &mut Told, message: &Message) {
     told.add(" pass");
     told.number(u64::from(message.batcher));
     told.add(if message.flush { "!|" } else { "|" });
-    told.bytes(message.key.as_slice());
+    told.spelled(message.key.as_slice());
     told.add("|");
-    told.bytes(message.payload.as_slice());
+    told.spelled(message.payload.as_slice());
 }
 
 /// Tells what came, and the text of its reason.
@@ -227,7 +227,7 @@ fn tell_batch(told: &mut Told, callback: &mut Handler, list: &str) -> Result<(),
             told.add(" ");
             tell_outcomes(told, outcomes.as_slice());
             told.add("|");
-            told.bytes(text.as_slice());
+            told.spelled(text.as_slice());
         }
         BatchReply::Raised(why) => tell_why(told, " raise:", why),
         BatchReply::Crashed => told.add(" crash"),

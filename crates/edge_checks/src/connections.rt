@@ -3,7 +3,6 @@
 use super::devices::{tell_sink, tell_source};
 use super::stories::story;
 use super::texts::halves;
-use super::told::Told;
 use file_socket_sinks::{RealEdges, RealSource};
 use pipe_edges::{Edges, PutEnd, put_all};
 use pipe_types::bytes::{Bytes, Text};
@@ -13,6 +12,7 @@ use std::rt::Clock as SystemClock;
 use std::thread::Threads;
 use std::time::Duration;
 use std::{io, thread};
+use told_text::Told;
 
 /// How many bytes are more than the system keeps for a peer that reads none.
 const MANY: usize = 33_554_432;

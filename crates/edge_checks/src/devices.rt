@@ -3,7 +3,6 @@
 use super::names::tell_end;
 use super::stories::{story, tell_read, tell_wrote};
 use super::texts::{bytes_of, halves, name_of};
-use super::told::Told;
 use file_socket_sinks::{RealClock, RealEdges};
 use pipe_edges::{ByteSink, ByteSource, Clock, Edges, PutEnd, put_all};
 use pipe_types::bytes::Text;
@@ -11,6 +10,7 @@ use std::alloc::AllocError;
 use std::fs::Permissions;
 use std::os::unix::fs::PermissionsExt;
 use std::{fs, io};
+use told_text::Told;
 
 /// `device source NAME` or `device sink NAME`: what a read or a write of 8 bytes comes to. It is given back then.
 pub fn device(rt: &HostRuntime, told: &mut Told, acts: &str) -> Result<(), AllocError> {

@@ -6,11 +6,11 @@ ghost use Rattle.pipe_types.specs.declared.topology.StageSpec.{StageSpec};
 
 use super::boxes::{Handler, message_of};
 use super::own::ask;
-use super::told::Told;
 use pipe_types::message::{Message, Reply};
 use pipe_types::topology::Kind;
 use stage_callback::{Callback, LinesBox, StepsBox, unarmed};
 use std::alloc::AllocError;
+use told_text::Told;
 
 #[derive(Drop)]
 struct Body {

@@ -1,12 +1,12 @@
 //! The posts that the boxes of a kind are for.
 
 use super::texts::{halves, number};
-use super::told::Told;
 use box_stock::home_of;
 use pipe_config::read_topology;
 use pipe_types::numbers::Post;
 use pipe_types::topology::Kind;
 use std::{fs, io};
+use told_text::Told;
 
 /// `home FILE KIND BEFORE`: the post of a box of the kind `own` or `steps` that has so many of its kind before it.
 pub fn home(rt: &HostRuntime, told: &mut Told, acts: &str) -> io::Result<()> {

@@ -18,12 +18,11 @@ mod players;
 mod stories;
 mod streams;
 mod texts;
-mod told;
 
 use std::alloc::AllocError;
 use std::io;
 use std::thread::Threads;
-use told::Told;
+use told_text::Told;
 
 fn main(rt: HostRuntime) -> io::Result<()> {
     let mut told = Told::new(rt.alloc());

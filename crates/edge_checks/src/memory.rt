@@ -6,12 +6,12 @@ ghost use Rattle.mem_edges.specs.MemSink.{IsUnwritten};
 
 use super::stories::{story, tell_read};
 use super::texts::{bytes_of, count, halves, number};
-use super::told::Told;
 use mem_edges::{MemClock, MemSink, MemSource, SinkAct, SinkScript, SourceAct, SourceScript};
 use pipe_edges::{
     ByteSink, ByteSource, Clock, Fetched, LineSource, PutEnd, ReadEnd, WriteEnd, put_all,
 };
 use std::alloc::{AllocError, Global};
+use told_text::Told;
 
 /// The source of these bytes, with a script: a number gives so many bytes, `wait` nothing yet, `fail` fails.
 pub fn source_of(alloc: Global, bytes: &str, acts: &str) -> Result<MemSource, AllocError>
@@ -93,7 +93,7 @@ fn put_hello<K: ByteSink>(told: &mut Told, sink: &mut K) -> Result<(), AllocErro
 /// Tells what the sink holds.
 pub fn tell_held(told: &mut Told, sink: &MemSink) {
     told.add(" ");
-    told.bytes(sink.held().as_slice());
+    told.spelled(sink.held().as_slice());
 }
 
 /// `clock AT STEP NAP ACTS..`: the readings, `now`, of a clock that is paused between them; the latest and their number.

@@ -7,12 +7,12 @@ ghost use Rattle.mem_edges.specs.MemSink.{IsUnwritten};
 use super::memory::{read_twice, sink_of, source_of, tell_held};
 use super::stories::tell_wrote;
 use super::texts::{bytes_of, halves, name_of, spelled};
-use super::told::Told;
 use file_socket_sinks::{Address, SinkName, SourceName};
 use mem_edges::{CallList, MemEdges, MemSink, MemSource};
 use pipe_edges::{ByteSink, EdgeEnd, Edges};
 use pipe_types::bytes::{Bytes, Text};
 use std::alloc::{AllocError, Global};
+use told_text::Told;
 
 /// `address TEXT`: the host and the port.
 pub fn address(told: &mut Told, word: &str) -> Result<(), AllocError> {
@@ -131,7 +131,7 @@ fn tell_file(told: &mut Told, edges: &mut MemEdges, name: &Text) {
     match edges.read_file(name) {
         Ok(bytes) => {
             told.add(" ");
-            told.bytes(bytes.as_slice());
+            told.spelled(bytes.as_slice());
         }
         Err(_) => told.add(" none"),
     }

@@ -8,7 +8,6 @@ ghost use Rattle.stage_callback.specs.Callbacks.{is_passed};
 ghost use Rattle.pipe_types.specs.Counts.{Rose};
 
 use super::boxes::{Handler, message_of, tell_failed, tell_kind, tell_number, tell_prepared};
-use super::told::Told;
 use pipe_types::message::{Batch, Message, Reply};
 use pipe_types::numbers::MsgNo;
 use pipe_types::reason::Reason;
@@ -17,6 +16,7 @@ use stage_callback::{
     BatchReply, Callback, FailedReply, Prepared, Said, copy_message, copy_spec, unarmed,
 };
 use std::alloc::{AllocError, Global};
+use told_text::Told;
 
 /// Fails each message that begins with `!`, and tells its answers.
 #[derive(Drop)]

@@ -4,12 +4,12 @@ ghost use Rattle.std.specs.Prelude.{◌≤◌, IfOk};
 
 use super::stories::{tell_read, tell_wrote};
 use super::texts::number;
-use super::told::Told;
 use file_socket_sinks::{RealOut, RealSource};
 use pipe_edges::{ByteSink, ByteSource};
 use std::alloc::{AllocError, Global};
 use std::io;
 use std::io::{ErrorKind, Read, Write};
+use told_text::Told;
 
 /// What one call answers: so many bytes, or an error of this kind.
 #[derive(Clone, Copy)]

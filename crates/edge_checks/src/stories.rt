@@ -2,9 +2,9 @@
 
 ghost use Rattle.std.specs.Prelude.{◌<◌};
 
-use super::told::Told;
 use pipe_edges::{ByteSource, Fetched, LineSource, ReadEnd, WriteEnd};
 use pipe_types::bytes::BytesList;
+use told_text::Told;
 
 /// Tells what fetches of at most so many records come to, until an end: each record with a bar, where a read would wait a
 /// question mark, and the end.

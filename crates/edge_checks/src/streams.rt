@@ -2,7 +2,6 @@
 
 use super::stories::tell_wrote;
 use super::texts::name_of;
-use super::told::Told;
 use file_socket_sinks::{RealEdges, RealOut, RealSource};
 use pipe_edges::{ByteSink, ByteSource, Edges, Fetched, LineSource, PutEnd, ReadEnd, put_all};
 use pipe_types::bytes::{Bytes, Text};
@@ -10,6 +9,7 @@ use std::alloc::{AllocError, Global};
 use std::os::unix::net::UnixStream;
 use std::thread::Threads;
 use std::{io, thread};
+use told_text::Told;
 
 /// How many bytes stand in several pieces of a read, and fill a pipe more than once.
 const MANY: usize = 600_000;

@@ -74,13 +74,3 @@ pub fn bytes_of(alloc: Global, word: &str) -> Result<Bytes, AllocError> {
 pub fn name_of(alloc: Global, word: &str) -> Result<Text, AllocError> {
     Ok(Text::from_string(spelled(alloc, word)?))
 }
-
-/// The letter that spells the byte.
-pub fn shown_letter(byte: u8) -> char {
-    match byte {
-        b' ' => '^',
-        b'\r' => '~',
-        b'\n' => '$',
-        _ => byte as char,
-    }
-}

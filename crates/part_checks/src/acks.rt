@@ -7,13 +7,13 @@
 ghost use Rattle.std.specs.Prelude.{IfOk, Some};
 ghost use Rattle.message_ack.specs.Ends.{HasOutcomes};
 
-use crate::told::Told;
 use crate::words::{Case, item, number, stage};
 use message_ack::{Ack, LegEnd, Legs, Settled, Verdict, group};
 use pipe_types::message::{Loss, MsgList, Outcome, OutcomeList, Why};
 use pipe_types::numbers::{BatchNo, MsgNo, StageNo};
 use pipe_types::reason::Reason;
 use std::alloc::{AllocError, Global};
+use told_text::Told;
 
 pub fn run_legs(told: &mut Told, case: &Case<'_>) -> Result<(), AllocError> {
     for act in case.acts.split_whitespace() {

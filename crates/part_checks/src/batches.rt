@@ -6,12 +6,12 @@
 //! of the first that begins with that message; `close=BATCH:NOW` and `drain=BATCH:NOW`, the batch that closes; `fits=KEY`; and
 //! `dump`. An empty key is an empty text.
 
-use crate::told::Told;
-use crate::words::{Case, cut, item, long, number};
+use crate::words::{Case, cut, item, long, number, refuse};
 use batcher::{Batcher, Closable, ClosedBatch};
 use pipe_types::message::Trigger;
 use pipe_types::numbers::{BatchNo, MsgNo};
 use std::alloc::AllocError;
+use told_text::Told;
 
 pub fn run(told: &mut Told, case: &Case<'_>) -> Result<(), AllocError> {
     let size = number(item(case.begun, 0));
@@ -47,7 +47,7 @@ fn ask(told: &mut Told, batcher: &Batcher, verb: &str, rest: &str) {
         "dry" => tell_closable(told, batcher.closable(long(rest), true)),
         "closable_at" => tell_closable(told, closable_at(batcher, rest, false)),
         "dry_at" => tell_closable(told, closable_at(batcher, rest, true)),
-        _ => told.refusal(),
+        _ => refuse(told),
     }
 }
 

@@ -5,11 +5,11 @@
 
 ghost use Rattle.std.specs.Prelude.{◌≡◌};
 
-use crate::told::Told;
-use crate::words::{Case, cut, item, number};
+use crate::words::{Case, cut, item, number, refuse};
 use pipe_types::topology::Keep;
 use stage_buffer::Buffer;
 use std::alloc::{AllocError, Global};
+use told_text::Told;
 
 /// No case has more units.
 const MOST: u64 = 1_000_000;
@@ -59,7 +59,7 @@ fn push(told: &mut Told, held: Held, part: u32, unit: u32) -> Result<Held, Alloc
         arrived,
     } = held;
     if part >= parts || arrived >= MOST || u64::from(buffer.len()) >= MOST {
-        told.refusal();
+        refuse(told);
         return Ok(Held {
             buffer,
             parts,
@@ -82,7 +82,7 @@ fn ask(told: &mut Told, held: &mut Held, verb: &str, part: u32) -> Result<(), Al
         "front" => told.found(held.buffer.front(part).copied()),
         "len" => told.count(u64::from(held.buffer.len())),
         "parts" => tell_parts(told, &held.buffer)?,
-        _ => told.refusal(),
+        _ => refuse(told),
     }
     Ok(())
 }

@@ -3,12 +3,12 @@
 //! Begins with `SLOTS:MODE`. The acts are `start=MESSAGE`; `held`, the slots that have a child; `slot=SLOT`, the message of its
 //! child; `crash=MESSAGE` and `finish=MESSAGE`, what becomes of the child of that message; `has=MESSAGE`; and `clear`.
 
-use crate::told::Told;
-use crate::words::{Case, cut, item, number, short};
+use crate::words::{Case, cut, item, number, refuse, short};
 use consumer_sup::{ChildEnd, Children};
 use pipe_types::numbers::MsgNo;
 use pipe_types::topology::ChildMode;
 use std::alloc::AllocError;
+use told_text::Told;
 
 pub fn run(told: &mut Told, case: &Case<'_>) -> Result<(), AllocError> {
     let mode = if item(case.begun, 1) == "transient" {
@@ -33,7 +33,7 @@ fn act_on(told: &mut Told, children: &mut Children, verb: &str, n: u32) {
         "has" => told.flag(slot_of(children, MsgNo(n)).is_some()),
         "slot" => tell_slot(told, children, n),
         "clear" => children.clear(),
-        _ => told.refusal(),
+        _ => refuse(told),
     }
 }
 
@@ -62,7 +62,7 @@ fn tell_end(told: &mut Told, end: Option<ChildEnd>) {
         Some(ChildEnd::Again) => told.add(" again"),
         Some(ChildEnd::Lost) => told.add(" lost"),
         Some(ChildEnd::Settled) => told.add(" settled"),
-        None => told.refusal(),
+        None => refuse(told),
     }
 }
 

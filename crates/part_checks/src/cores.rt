@@ -12,8 +12,7 @@ ghost use Rattle.pipe_model.specs.Legal.{allows};
 ghost use Rattle.core_state.specs.Stands.{Stands};
 
 use crate::stages::{batched, supervised};
-use crate::told::Told;
-use crate::words::{Case, cut, item, mode_of, number, stage, why_of};
+use crate::words::{Case, cut, item, mode_of, number, refuse, stage, why_of};
 use core_kills::kills::{halt, kill};
 use core_state::Core;
 use pipe_journal::Journal;
@@ -23,6 +22,7 @@ use pipe_types::numbers::{MsgNo, Post, StageNo, SubNo};
 use pipe_types::step::Step;
 use pipe_types::topology::Topology;
 use std::alloc::{AllocError, Global};
+use told_text::Told;
 
 pub fn run(told: &mut Told, case: &Case<'_>) -> Result<(), AllocError> {
     let mut core = begin(told.alloc, case.begun)?;
@@ -68,7 +68,7 @@ fn kill_stage(told: &mut Told, core: &mut Core, stage: StageNo, why: Why) -> Res
     ensures stands { Stands core.new }
 {
     if !may_come(told.alloc, core, Step::Kill { stage, why })? {
-        told.refusal();
+        refuse(told);
         return Ok(());
     }
     kill(core, stage, why)?;
@@ -80,7 +80,7 @@ fn halt_all(told: &mut Told, core: &mut Core) -> Result<(), AllocError>
     ensures stands { Stands core.new }
 {
     if !may_come(told.alloc, core, Step::Halt)? {
-        told.refusal();
+        refuse(told);
         return Ok(());
     }
     halt(core)?;
@@ -132,7 +132,7 @@ fn count(told: &mut Told, core: &Core, verb: &str) -> Result<(), AllocError>
         "steps" => told.count(core.journal().len()),
         "controls" => told.count(u64::from(core.totals.controls)),
         "halted" => told.flag(core.totals.halted),
-        _ => told.refusal(),
+        _ => refuse(told),
     }
     Ok(())
 }

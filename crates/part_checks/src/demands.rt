@@ -6,9 +6,9 @@ ghost use Rattle.std.specs.Prelude.{◌≡◌, ◌≤◌, ◌*◌};
 ghost use Rattle.stage_demand.specs.Demand.{counts_of};
 ghost use Rattle.part_checks.specs.declared.demands.TheConstants.{MOST};
 
-use crate::told::Told;
-use crate::words::{Case, cut, item, number};
+use crate::words::{Case, cut, item, number, refuse};
 use stage_demand::{Demand, MAX_DEMAND};
+use told_text::Told;
 
 /// No case asks for more than twice as many.
 const MOST: u64 = 10_000_000_000;
@@ -32,7 +32,7 @@ struct Tally {
 
 pub fn run(told: &mut Told, case: &Case<'_>) {
     let Some(mut tally) = begin(number(item(case.begun, 0)), number(item(case.begun, 1))) else {
-        return told.refusal();
+        return refuse(told);
     };
     for act in case.acts.split_whitespace() {
         let (verb, count) = cut(act, '=');
@@ -40,7 +40,7 @@ pub fn run(told: &mut Told, case: &Case<'_>) {
             told.count(u64::from(tally.demand.due()));
             told.behind("/", u64::from(tally.demand.left()));
         } else if !count_more(&mut tally, verb, number(count)) {
-            told.refusal();
+            refuse(told);
         }
     }
 }

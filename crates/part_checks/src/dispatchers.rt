@@ -5,14 +5,14 @@
 //! of a case go to one dispatcher. Of `keys` an act is `part=KEY:PARTS`, or `plain=KEY:PARTS` of the slow machine.
 
 use crate::rooms::rooms;
-use crate::told::Told;
-use crate::words::{Case, cut, item, number, numbers};
+use crate::words::{Case, cut, item, number, numbers, refuse};
 use dispatch_broadcast::BroadcastDispatch;
 use dispatch_demand::DemandDispatch;
 use dispatch_partition::PartitionDispatch;
 use pipe_types::room::Sent;
 use pipe_types::topology::Dispatch;
 use std::alloc::{AllocError, Global};
+use told_text::Told;
 
 pub fn by_demand(told: &mut Told, case: &Case<'_>) -> Result<(), AllocError> {
     let mut dispatch = DemandDispatch::new(told.alloc);
@@ -56,7 +56,7 @@ fn send_parts(
     parts: &[u32],
 ) -> Result<(), AllocError> {
     if parts.len() > 1_000 {
-        told.refusal();
+        refuse(told);
         return Ok(());
     }
     let rooms = rooms(told.alloc, open)?;
@@ -124,7 +124,7 @@ fn tell_part(told: &mut Told, verb: &str, key: &str, parts: u32) {
     if verb == "plain" {
         told.count(plain_dispatch::partition_of(key.as_bytes(), parts));
     } else if parts == 0 {
-        told.refusal();
+        refuse(told);
     } else {
         told.count(u64::from(dispatch_partition::partition_of(key.as_bytes(), parts)));
     }

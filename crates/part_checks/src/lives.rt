@@ -5,14 +5,14 @@
 
 use crate::stages::pair;
 use crate::steps::step_of;
-use crate::told::Told;
-use crate::words::{Case, cut, item, mode_of, stage};
+use crate::words::{Case, cut, item, mode_of, refuse, stage};
 use pipe_types::message::Why;
 use pipe_types::numbers::StageNo;
 use pipe_types::step::Step;
 use pipe_types::topology::Topology;
 use plain_lives::{Past, lives_of};
 use std::alloc::AllocError;
+use told_text::Told;
 
 pub fn run(told: &mut Told, case: &Case<'_>) -> Result<(), AllocError> {
     let topology = pair(told.alloc, mode_of(case.begun))?;
@@ -45,7 +45,7 @@ fn ask(
         "death" => tell_death(told, past.death(stage(rest))),
         "live" => told.flag(past.is_live(stage(rest))),
         "sub" => tell_sub(told, &past, stage(item(rest, 0)), stage(item(rest, 1)))?,
-        _ => told.refusal(),
+        _ => refuse(told),
     }
     Ok(())
 }

@@ -19,12 +19,11 @@ mod rooms;
 mod stages;
 mod steps;
 mod subs;
-mod told;
 mod words;
 
 use std::alloc::AllocError;
 use std::io;
-use told::Told;
+use told_text::Told;
 use words::{Case, case_of};
 
 fn main(rt: HostRuntime) -> io::Result<()> {

@@ -8,14 +8,14 @@
 use crate::lives::word_of;
 use crate::stages::pair;
 use crate::steps::step_of;
-use crate::told::Told;
-use crate::words::{Case, cut, mode_of};
+use crate::words::{Case, cut, mode_of, refuse};
 use pipe_replay::replay_plain;
 use pipe_types::message::{Loss, Outcome, Place};
 use pipe_types::state::{Life, PlaceRow, PlainState, SubRow};
 use pipe_types::step::Step;
 use pipe_types::topology::Topology;
 use std::alloc::AllocError;
+use told_text::Told;
 
 pub fn run(told: &mut Told, case: &Case<'_>) -> Result<(), AllocError> {
     let topology = pair(told.alloc, mode_of(case.begun))?;
@@ -38,7 +38,7 @@ fn ask(told: &mut Told, topology: &Topology, steps: &[Step], verb: &str) -> Resu
     }
     match found {
         Some(state) => tell(told, &state, verb),
-        None => told.refusal(),
+        None => refuse(told),
     }
     Ok(())
 }
@@ -53,7 +53,7 @@ fn tell(told: &mut Told, state: &PlainState, verb: &str) {
             told.flag(state.draining);
             told.flag_behind("/", state.halted);
         }
-        _ => told.refusal(),
+        _ => refuse(told),
     }
 }
 

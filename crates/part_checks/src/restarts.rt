@@ -4,10 +4,10 @@
 
 ghost use Rattle.std.specs.Prelude.{◌≡◌, ◌≤◌, All};
 
-use crate::told::Told;
-use crate::words::{Case, cut, item, long, number};
+use crate::words::{Case, cut, item, long, number, refuse};
 use restart_core::Restarts;
 use std::alloc::AllocError;
+use told_text::Told;
 
 /// A limit, how many restarts it allows, and the time of the last one.
 #[derive(Drop)]
@@ -31,7 +31,7 @@ pub fn run(told: &mut Told, case: &Case<'_>) -> Result<(), AllocError> {
         if verb == "may" {
             told.flag(limit.restarts.may(long(time)));
         } else if !make(&mut limit, long(time)) {
-            told.refusal();
+            refuse(told);
         }
     }
     Ok(())

@@ -10,10 +10,10 @@ ghost use Rattle.pipe_types.specs.Numbers.{stage, subscription};
 ghost use Rattle.stage_subs.specs.Subs.{row_at};
 ghost use Rattle.stage_subs.specs.declared.TheConstants.{LAST_STAGE};
 
-use crate::told::Told;
-use crate::words::{Case, cut, item, mode_of, number, short, why_of};
+use crate::words::{Case, cut, item, mode_of, number, refuse, short, why_of};
 use pipe_types::numbers::{StageNo, SubNo};
 use stage_subs::{Subs, SubsFault, exits};
+use told_text::Told;
 
 const CONSUMER: StageNo = StageNo(2);
 
@@ -46,7 +46,7 @@ pub fn run(told: &mut Told, case: &Case<'_>) {
         return run_many(told, case.acts);
     }
     let Some(mut pair) = begin(Subs::new(told.alloc)) else {
-        return told.refusal();
+        return refuse(told);
     };
     for act in case.acts.split_whitespace() {
         let (verb, rest) = cut(act, '=');
@@ -154,7 +154,7 @@ fn ask_pair(told: &mut Told, pair: &Pair, verb: &str, rest: &str) {
         "below" => told.count(pair.subs.room_below(StageNo(short(rest)))),
         "last" => told.flag(pair.subs.is_last(sub_of(number(rest)))),
         "live" => tell_live(told, &pair.subs, sub_of(0)),
-        _ => told.refusal(),
+        _ => refuse(told),
     }
 }
 
@@ -182,7 +182,7 @@ fn run_many(told: &mut Told, acts: &str) {
             "fill" => fill(told, &mut subs),
             "count" => told.count(u64::from(count_new(&subs))),
             "live" => tell_live(told, &subs, sub_at(short(rest))),
-            _ => told.refusal(),
+            _ => refuse(told),
         }
     }
 }

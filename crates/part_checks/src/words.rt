@@ -4,6 +4,7 @@ use pipe_types::message::Why;
 use pipe_types::numbers::StageNo;
 use pipe_types::topology::CancelMode;
 use std::alloc::{AllocError, Global};
+use told_text::Told;
 
 /// A case: its title, the part, how the part begins, and the acts on it.
 #[derive(Clone, Copy)]
@@ -80,4 +81,8 @@ pub fn why_of(word: &str) -> Why {
         "crash" => Why::Crash,
         _ => Why::Kill,
     }
+}
+
+pub fn refuse(told: &mut Told) {
+    told.add(" not-allowed");
 }
