@@ -1,4 +1,4 @@
-//! The worked examples of the parts that a core is made of, and of the slow machine that judges journals.
+//! The worked examples of the parts that a core is made of.
 //!
 //! Standard input lists the cases, with an empty line between two. A case has a title in its first line; in its second line
 //! the part, and how the part begins; and behind these the acts on it, as words. It is answered by its title, and behind that
@@ -9,15 +9,10 @@ mod acks;
 mod batches;
 mod buffers;
 mod children;
-mod cores;
 mod demands;
 mod dispatchers;
-mod lives;
-mod replays;
 mod restarts;
 mod rooms;
-mod stages;
-mod steps;
 mod subs;
 mod words;
 
@@ -78,16 +73,6 @@ fn run_sends(told: &mut Told, case: &Case<'_>) -> Result<(), AllocError> {
             dispatchers::keys(told, case);
             Ok(())
         }
-        _ => run_journal(told, case),
-    }
-}
-
-/// Runs a case of a list of steps.
-fn run_journal(told: &mut Told, case: &Case<'_>) -> Result<(), AllocError> {
-    match case.part {
-        "lives" => lives::run(told, case),
-        "replay" => replays::run(told, case),
-        "core" => cores::run(told, case),
         _ => {
             told.add(" no such part");
             Ok(())
