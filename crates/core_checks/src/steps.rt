@@ -2,9 +2,9 @@
 //! `take=CONSUMER:PRODUCER:GENERATION:N`, `pass=STAGE:MESSAGE:PRODUCER:LINE`, `end=STAGE` of a source, `drain`,
 //! `kill=STAGE:WHY`, `late=STAGE:SLOT:INCARNATION` with no answer, `restart=STAGE`, `tick=TIME`, `halt`.
 
-use crate::words::{item, long, number, short, stage, why_of};
+use super::case::{item, number, small, stage};
 use pipe_types::bytes::{Bytes, BytesList};
-use pipe_types::message::{Message, Reply, ReplyList};
+use pipe_types::message::{Message, Reply, ReplyList, Why};
 use pipe_types::numbers::{MsgNo, SubNo};
 use pipe_types::step::{DrainCause, LateAnswer, SourceHow, Step};
 use std::alloc::{AllocError, Global};
@@ -26,7 +26,7 @@ fn short_step(verb: &str, rest: &str) -> Option<Step> {
     match verb {
         "fetch" => Some(Step::Fetch {
             stage,
-            n: number(item(rest, 1)),
+            n: count(item(rest, 1)),
         }),
         "dispatch" => Some(Step::Dispatch { stage }),
         "end" => Some(Step::SourceEnd {
@@ -45,7 +45,7 @@ fn short_step(verb: &str, rest: &str) -> Option<Step> {
 /// A step of no stage.
 fn still_step(verb: &str, rest: &str) -> Option<Step> {
     match verb {
-        "tick" => Some(Step::Tick { now: long(rest) }),
+        "tick" => Some(Step::Tick { now: number(rest) }),
         "drain" => Some(Step::Drain {
             cause: DrainCause::Sources,
         }),
@@ -54,18 +54,30 @@ fn still_step(verb: &str, rest: &str) -> Option<Step> {
     }
 }
 
+fn count(text: &str) -> u32 {
+    u32::from(small(text))
+}
+
+fn why_of(word: &str) -> Why {
+    match word {
+        "stop" => Why::Stop,
+        "crash" => Why::Crash,
+        _ => Why::Kill,
+    }
+}
+
 fn sub_of(rest: &str) -> SubNo {
     SubNo {
         consumer: stage(item(rest, 0)),
         producer: stage(item(rest, 1)),
-        generation: number(item(rest, 2)),
+        generation: count(item(rest, 2)),
     }
 }
 
 fn ask(rest: &str) -> Step {
     Step::Ask {
         sub: sub_of(rest),
-        n: number(item(rest, 3)),
+        n: count(item(rest, 3)),
     }
 }
 
@@ -73,15 +85,15 @@ fn take(rest: &str) -> Step {
     Step::Take {
         stage: stage(item(rest, 0)),
         sub: sub_of(rest),
-        k: number(item(rest, 3)),
+        k: count(item(rest, 3)),
     }
 }
 
 fn late(rest: &str) -> Step {
     Step::Late {
         stage: stage(item(rest, 0)),
-        slot: short(item(rest, 1)),
-        incarnation: number(item(rest, 2)),
+        slot: small(item(rest, 1)),
+        incarnation: count(item(rest, 2)),
         answer: LateAnswer::Nothing,
     }
 }
@@ -104,10 +116,11 @@ fn pass(alloc: Global, rest: &str) -> Result<Step, AllocError> {
 }
 
 fn message(alloc: Global, rest: &str) -> Result<Message, AllocError> {
+    let payload = bytes_of(alloc, item(rest, 3))?;
     Ok(Message {
-        no: MsgNo(number(item(rest, 1))),
+        no: MsgNo(count(item(rest, 1))),
         producer: stage(item(rest, 2)),
-        payload: bytes_of(alloc, item(rest, 3))?,
+        payload,
         batcher: 0,
         key: Bytes::from_vec(Vec::new(alloc)),
         flush: false,
