@@ -8,8 +8,10 @@
 mod handler;
 mod judge;
 mod own_box;
+mod pass_all;
 mod reasons;
 
 pub use handler::{BatchAnswer, Handler};
 pub use own_box::OwnBox;
+pub use pass_all::PassAll;
 pub use reasons::reason;
