@@ -1,6 +1,8 @@
 -- What a box of a handler answers, by what its handler answered: the same, or where the shape is wrong a crash.
-use Rattle.std.specs.Prelude.{ℕ, ◌+◌, Bool, List, [], ◌∷◌, ◌++◌, length, replicate, ◌==◌, ◌&&◌, if◌then◌else◌}
+use Rattle.std.specs.Prelude.{◌≡◌, ℕ, ◌+◌, Bool, false, List, [], ◌∷◌, ◌++◌, length, replicate, ◌==◌, ◌&&◌, if◌then◌else◌}
 use Rattle.std.specs.List.{list_all}
+use Rattle.pipe_types.specs.declared.numbers.MsgNo.{MsgNo}
+use Rattle.pipe_types.specs.declared.numbers.StageNo.{StageNo}
 use Rattle.pipe_types.specs.declared.message.Message.{Message}
 use Rattle.pipe_types.specs.declared.message.Outcome.{Outcome}
 use Rattle.pipe_types.specs.declared.message.Outcome.TheVariants as outcome
@@ -21,9 +23,19 @@ abbrev pub judged_prepared : Prepared → Prepared
 judged_prepared (prepared.Raised why) = if is_own_reason why then prepared.Raised why else prepared.Crashed
 judged_prepared given = given
 
+-- a message of which nothing but the number and the producer is said
+abbrev pub bare : MsgNo → StageNo → Message
+bare no producer = record { payload = []; key = []; no = no; producer = producer; batcher = 0; flush = false }
+
 -- the same message, for one of the stage's batchers, not too long, or a reason of one's own
 abbrev pub judged_reply : (batchers : ℕ) → Message → Reply → Reply
 judged_reply batchers m given = if is_own_reply batchers m given then given else reply.Crashed
+
+-- a reply is what the handler gave, as it is or as a crash
+pub record IsJudged (gives : Reply → Type 0) (batchers : ℕ) (m : Message) (answered : Reply) : Type 0 where
+  pub given : Reply
+  pub meant : gives given
+  pub is : answered ≡ judged_reply batchers m given
 
 -- an outcome for each message, none with the reason of a sink; the text is the payload and LF of each successful message
 abbrev pub judged_outcomes : List Message → List Outcome → BatchReply
@@ -32,10 +44,13 @@ judged_outcomes messages outcomes =
     then batch.Answered outcomes (lines_where is_successful messages outcomes)
     else batch.Crashed
 
+abbrev pub judged_raised : (why : List ℕ) → BatchReply
+judged_raised why = if is_own_reason why then batch.Raised why else batch.Crashed
+
 abbrev pub judged_batch : List Message → BatchAnswer → BatchReply
 judged_batch messages answer.Successful = judged_outcomes messages (replicate (length messages) outcome.Successful)
 judged_batch messages (answer.Each outcomes) = judged_outcomes messages outcomes.items
-judged_batch messages (answer.Raised why) = if is_own_reason why then batch.Raised why else batch.Crashed
+judged_batch messages (answer.Raised why) = judged_raised why
 judged_batch messages answer.Crashed = batch.Crashed
 
 -- the old reason stays in place of the reason of a sink

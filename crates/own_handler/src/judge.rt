@@ -1,11 +1,12 @@
 //! Answers of a handler, each as it is or as a crash.
 
-ghost use Rattle.std.specs.Prelude.{◌≡◌, ◌++◌, length, IfOk, OnOk};
+ghost use Rattle.std.specs.Prelude.{◌≡◌, ◌++◌, List, length, IfOk, IsTrue};
 ghost use Rattle.std.specs.List.{list_all};
-ghost use Rattle.pipe_types.specs.Handlers.{is_own_reason as is_own_reason_in, is_own_reply as is_own_reply_in, is_own_outcome as is_own_outcome_in, is_successful as is_successful_in, lines_where};
+ghost use Rattle.std.specs.Str.{bytes_eq};
+ghost use Rattle.pipe_types.specs.Handlers.{is_own_reason as is_own_reason_in, is_own_reply as is_own_reply_in, may_pass as may_pass_in, is_own_outcome as is_own_outcome_in, is_successful as is_successful_in, lines_where};
 ghost use Rattle.pipe_types.specs.declared.message.Message.{Message};
-ghost use Rattle.stage_callback.specs.Callbacks.{is_passed as is_passed_in, is_ready as is_ready_in, is_all_successful as is_all_successful_in};
-ghost use Rattle.own_handler.specs.Judged.{judged_prepared, judged_reply, judged_outcomes, judged_batch, judged_failed, line_where};
+ghost use Rattle.stage_callback.specs.Callbacks.{is_passed as is_passed_in, is_ready as is_ready_in, is_all_successful as is_all_successful_in, is_prepared_answer, is_batch_answer, is_failed_answer, HasOwnText};
+ghost use Rattle.own_handler.specs.Judged.{bare, judged_prepared, judged_reply, judged_outcomes, judged_raised, judged_batch, judged_failed, line_where};
 
 use crate::BatchAnswer;
 use pipe_types::bytes::Bytes;
@@ -18,19 +19,32 @@ use std::alloc::{AllocError, Global};
 /// The most bytes of a payload, and of a key.
 const MAX_BYTES: usize = 65536;
 
+fn same_bytes(a: &[u8], b: &[u8]) -> bool
+    ensures { result ≡ bytes_eq a.now b.now }
+{
+    a == b
+}
+
 /// Whether the reason is not that of a sink's fault.
 fn is_own_reason(why: &Reason) -> bool
     ensures { result ≡ is_own_reason_in why.now }
 {
-    why.as_bytes() != b"sink".as_slice()
+    !same_bytes(why.as_bytes(), b"sink")
 }
 
 /// The answer to a chunk.
 pub(crate) fn judge_prepared(answer: Prepared) -> Prepared
-    ensures { result ≡ judged_prepared answer }
+    ensures answer { result ≡ judged_prepared answer }
+    ensures shape { IsTrue (is_prepared_answer result) }
 {
     match answer {
-        Prepared::Raised(why) if !is_own_reason(&why) => Prepared::Crashed,
+        Prepared::Raised(why) => {
+            if is_own_reason(&why) {
+                Prepared::Raised(why)
+            } else {
+                Prepared::Crashed
+            }
+        }
         answer => answer,
     }
 }
@@ -41,27 +55,32 @@ pub(crate) fn is_ready(answer: &Prepared) -> bool
     matches!(answer, Prepared::Ready)
 }
 
-/// Whether it is the message with this number and producer, for one of the stage's batchers, with a payload and a key that are
-/// not too long, or no message and a reason of one's own.
+/// Whether the reply to a message with this number and producer is of the right shape: that message, for one of the stage's
+/// batchers, not too long, or a reason of one's own.
 fn is_own_reply(batchers: u16, no: MsgNo, producer: StageNo, reply: &Reply) -> bool
-    ensures { (m : Message) → m.no ≡ no → m.producer ≡ producer → result ≡ is_own_reply_in batchers m reply.now }
+    ensures { result ≡ is_own_reply_in batchers (bare no producer) reply.now }
 {
     match reply {
-        Reply::Pass(passed) => {
-            passed.no.0 == no.0
-                && (passed.producer.0 == producer.0
-                    && ((passed.batcher == 0 || passed.batcher < batchers)
-                        && (passed.payload.len() <= MAX_BYTES && passed.key.len() <= MAX_BYTES)))
-        }
+        Reply::Pass(passed) => may_pass(batchers, no, producer, passed),
         Reply::Failed(why) => is_own_reason(why),
         Reply::Raised(why) => is_own_reason(why),
         Reply::Crashed => true,
     }
 }
 
-/// The reply to the message with this number and producer, in a stage with so many batchers.
+fn may_pass(batchers: u16, no: MsgNo, producer: StageNo, passed: &Message) -> bool
+    ensures { result ≡ may_pass_in batchers (bare no producer) passed.now }
+{
+    passed.no.0 == no.0
+        && (passed.producer.0 == producer.0
+            && ((passed.batcher == 0 || passed.batcher < batchers)
+                && (passed.payload.len() <= MAX_BYTES && passed.key.len() <= MAX_BYTES)))
+}
+
+/// The reply to a message with this number and producer, in a stage with so many batchers.
 pub(crate) fn judge_reply(batchers: u16, no: MsgNo, producer: StageNo, reply: Reply) -> Reply
-    ensures { (m : Message) → m.no ≡ no → m.producer ≡ producer → result ≡ judged_reply batchers m reply }
+    ensures answer { result ≡ judged_reply batchers (bare no producer) reply }
+    ensures shape { IsTrue (is_own_reply_in batchers (bare no producer) result) }
 {
     if is_own_reply(batchers, no, producer, &reply) {
         reply
@@ -113,15 +132,16 @@ pub(crate) fn is_all_successful(reply: &BatchReply) -> bool
     }
 }
 
-/// Adds the payload and LF of a successful message.
-fn push_line(text: &mut Vec<u8>, message: &Message, outcome: &Outcome) -> Result<(), AllocError>
-    ensures { OnOk result (text.new.items ≡ text.old.items ++ line_where is_successful_in message.now outcome.now) }
+/// Puts the payload and LF of a successful message behind the text.
+fn push_line(text: Vec<u8>, message: &Message, outcome: &Outcome) -> Result<Vec<u8>, AllocError>
+    ensures { IfOk result (λ more. more.items ≡ text.items ++ line_where is_successful_in message.now outcome.now) }
 {
+    let mut more = text;
     if is_successful(outcome) {
-        text.extend_from_slice(message.payload.as_slice())?;
-        text.push(b'\n')?;
+        more.extend_from_slice(message.payload.as_slice())?;
+        more.push(b'\n')?;
     }
-    Ok(())
+    Ok(more)
 }
 
 /// The payload and LF of each successful message.
@@ -135,7 +155,7 @@ fn lines_of(
 {
     let mut text = Vec::new(alloc);
     for i in 0..messages.len() {
-        push_line(&mut text, &messages[i], &outcomes[i])?;
+        text = push_line(text, &messages[i], &outcomes[i])?;
     }
     Ok(text)
 }
@@ -146,16 +166,28 @@ fn judge_outcomes(
     messages: &[Message],
     outcomes: Vec<Outcome>,
 ) -> Result<BatchReply, AllocError>
-    ensures { IfOk result (λ reply. reply ≡ judged_outcomes messages.now outcomes.items) }
+    ensures answer { IfOk result (λ reply. reply ≡ judged_outcomes messages.now outcomes.items) }
+    ensures shape { IfOk result (λ reply. IsTrue (is_batch_answer messages.now reply)) }
+    ensures own_text { IfOk result (λ reply. HasOwnText messages.now reply) }
 {
     if outcomes.len() != messages.len() || !are_own_outcomes(outcomes.as_slice()) {
         return Ok(BatchReply::Crashed);
     }
     let text = lines_of(alloc, messages, outcomes.as_slice())?;
-    Ok(BatchReply::Answered(
-        OutcomeList::from_vec(outcomes),
-        Bytes::from_vec(text),
-    ))
+    Ok(BatchReply::Answered(OutcomeList::from_vec(outcomes), Bytes::from_vec(text)))
+}
+
+/// The answer to a batch by one reason for all.
+fn judge_raised(why: Reason) -> BatchReply
+    ensures answer { result ≡ judged_raised why }
+    ensures shape { (messages : List Message) → IsTrue (is_batch_answer messages result) }
+    ensures own_text { (messages : List Message) → HasOwnText messages result }
+{
+    if is_own_reason(&why) {
+        BatchReply::Raised(why)
+    } else {
+        BatchReply::Crashed
+    }
 }
 
 /// The answer to a batch.
@@ -164,7 +196,9 @@ pub(crate) fn judge_batch(
     messages: &[Message],
     answer: BatchAnswer,
 ) -> Result<BatchReply, AllocError>
-    ensures { IfOk result (λ reply. reply ≡ judged_batch messages.now answer) }
+    ensures answer { IfOk result (λ reply. reply ≡ judged_batch messages.now answer) }
+    ensures shape { IfOk result (λ reply. IsTrue (is_batch_answer messages.now reply)) }
+    ensures own_text { IfOk result (λ reply. HasOwnText messages.now reply) }
 {
     match answer {
         BatchAnswer::Successful => {
@@ -172,17 +206,24 @@ pub(crate) fn judge_batch(
             judge_outcomes(alloc, messages, outcomes)
         }
         BatchAnswer::Each(outcomes) => judge_outcomes(alloc, messages, outcomes),
-        BatchAnswer::Raised(why) if is_own_reason(&why) => Ok(BatchReply::Raised(why)),
-        BatchAnswer::Raised(_) | BatchAnswer::Crashed => Ok(BatchReply::Crashed),
+        BatchAnswer::Raised(why) => Ok(judge_raised(why)),
+        BatchAnswer::Crashed => Ok(BatchReply::Crashed),
     }
 }
 
 /// The answer to a message that failed. The old reason stays in place of one that is not allowed.
 pub(crate) fn judge_failed(answer: FailedReply) -> FailedReply
-    ensures { result ≡ judged_failed answer }
+    ensures answer { result ≡ judged_failed answer }
+    ensures shape { IsTrue (is_failed_answer result) }
 {
     match answer {
-        FailedReply::Replace(why) if !is_own_reason(&why) => FailedReply::Raised,
+        FailedReply::Replace(why) => {
+            if is_own_reason(&why) {
+                FailedReply::Replace(why)
+            } else {
+                FailedReply::Raised
+            }
+        }
         answer => answer,
     }
 }

@@ -1,11 +1,10 @@
 //! The callback that a handler makes.
 
-ghost use Rattle.std.specs.Prelude.{◌≡◌, false, [], IfOk, OnOk, OnErr, if◌then◌else◌, IsTrue};
-ghost use Rattle.pipe_types.specs.Handlers.{counted};
-ghost use Rattle.pipe_types.specs.declared.message.Reply.{Reply};
+ghost use Rattle.std.specs.Prelude.{◌≡◌, false, [], IfOk, OnOk, OnErr, IsTrue};
+ghost use Rattle.pipe_types.specs.Handlers.{counted, is_own_reply};
 ghost use Rattle.pipe_types.specs.declared.topology.Kind.TheVariants.{Own};
-ghost use Rattle.stage_callback.specs.Callbacks.{can_arm, is_passed as is_passed_in, is_ready as is_ready_in, is_all_successful as is_all_successful_in};
-ghost use Rattle.own_handler.specs.Judged.{judged_prepared, judged_reply, judged_batch, judged_failed, counted_unless};
+ghost use Rattle.stage_callback.specs.Callbacks.{is_passed as is_passed_in, is_all_successful as is_all_successful_in, is_batch_answer, HasOwnText};
+ghost use Rattle.own_handler.specs.Judged.{IsJudged, counted_unless};
 
 use crate::Handler;
 use crate::judge::{
@@ -43,6 +42,45 @@ impl<H: Handler> OwnBox<H> {
             bad: 0,
             handler,
         }
+    }
+
+    /// Handles one message, as `message` of the callback does: the call is counted, and its answer where it is no pass.
+    #[tactic(auto, using(crate::proofs::Judging::same_shape, crate::proofs::Judging::same_judged))]
+    pub fn handle(&mut self, message: Message) -> Result<Reply, AllocError>
+        ensures same_spec { ⟦<OwnBox<H> as Callback>⟧.spec self.new ≡ ⟦<OwnBox<H> as Callback>⟧.spec self.old }
+        // It is what the handler gave, as it is or as a crash.
+        ensures judged { IfOk result (λ reply. IsJudged (λ given. H.message_gives self.old.handler message given self.new.handler)
+            (⟦<OwnBox<H> as Callback>⟧.spec self.old).batchers message reply) }
+        ensures shape { IfOk result (λ reply. IsTrue (is_own_reply (⟦<OwnBox<H> as Callback>⟧.spec self.old).batchers message reply)) }
+        ensures calls { OnOk result (⟦<OwnBox<H> as Callback>⟧.calls self.new ≡ counted (⟦<OwnBox<H> as Callback>⟧.calls self.old) 1) }
+        ensures bad { IfOk result (λ reply.
+            ⟦<OwnBox<H> as Callback>⟧.bad self.new ≡ counted_unless (is_passed_in reply) (⟦<OwnBox<H> as Callback>⟧.bad self.old)) }
+        ensures unchanged { OnErr result ((⟦<OwnBox<H> as Callback>⟧.calls self.new ≡ ⟦<OwnBox<H> as Callback>⟧.calls self.old)
+            × (⟦<OwnBox<H> as Callback>⟧.bad self.new ≡ ⟦<OwnBox<H> as Callback>⟧.bad self.old)) }
+    {
+        let (no, producer) = (message.no, message.producer);
+        let given = self.handler.message(message)?;
+        let reply = judge_reply(self.spec.batchers, no, producer, given);
+        self.count_call(is_passed(&reply));
+        Ok(reply)
+    }
+
+    /// Handles a batch, as `batch` of the callback does: the call is counted, and its answer where not every message is
+    /// successful.
+    pub fn handle_batch(&mut self, batch: &Batch) -> Result<BatchReply, AllocError>
+        ensures same_spec { ⟦<OwnBox<H> as Callback>⟧.spec self.new ≡ ⟦<OwnBox<H> as Callback>⟧.spec self.old }
+        ensures shape { IfOk result (λ reply. IsTrue (is_batch_answer batch.now.messages reply)) }
+        ensures own_text { IfOk result (λ reply. HasOwnText batch.now.messages reply) }
+        ensures calls { OnOk result (⟦<OwnBox<H> as Callback>⟧.calls self.new ≡ counted (⟦<OwnBox<H> as Callback>⟧.calls self.old) 1) }
+        ensures bad { IfOk result (λ reply.
+            ⟦<OwnBox<H> as Callback>⟧.bad self.new ≡ counted_unless (is_all_successful_in reply) (⟦<OwnBox<H> as Callback>⟧.bad self.old)) }
+        ensures unchanged { OnErr result ((⟦<OwnBox<H> as Callback>⟧.calls self.new ≡ ⟦<OwnBox<H> as Callback>⟧.calls self.old)
+            × (⟦<OwnBox<H> as Callback>⟧.bad self.new ≡ ⟦<OwnBox<H> as Callback>⟧.bad self.old)) }
+    {
+        let answer = self.handler.batch(batch)?;
+        let reply = judge_batch(self.alloc, batch.messages.as_slice(), answer)?;
+        self.count_call(is_all_successful(&reply));
+        Ok(reply)
     }
 
     /// Counts an answer other than success.
@@ -98,27 +136,12 @@ impl<H: Handler> Callback for OwnBox<H> {
         Ok(answer)
     }
 
-    fn message(&mut self, message: Message) -> Result<Reply, AllocError>
-        ensures same_spec { self.new.spec ≡ self.old.spec }
-        ensures counts { IfOk result (λ reply. (self.new.calls ≡ counted self.old.calls 1)
-            × (self.new.bad ≡ counted_unless (is_passed_in reply) self.old.bad)) }
-        // It is what the handler gave, as it is or as a crash.
-        ensures gives { IfOk result (λ reply. (given : Reply) × H.message_gives self.old.handler message given self.new.handler
-            × (reply ≡ judged_reply self.old.spec.batchers message given)) }
-        ensures unchanged { OnErr result ((self.new.calls ≡ self.old.calls) × (self.new.bad ≡ self.old.bad)) }
-    {
-        let (no, producer) = (message.no, message.producer);
-        let given = self.handler.message(message)?;
-        let reply = judge_reply(self.spec.batchers, no, producer, given);
-        self.count_call(is_passed(&reply));
-        Ok(reply)
+    fn message(&mut self, message: Message) -> Result<Reply, AllocError> {
+        self.handle(message)
     }
 
     fn batch(&mut self, batch: &Batch) -> Result<BatchReply, AllocError> {
-        let answer = self.handler.batch(batch)?;
-        let reply = judge_batch(self.alloc, batch.messages.as_slice(), answer)?;
-        self.count_call(is_all_successful(&reply));
-        Ok(reply)
+        self.handle_batch(batch)
     }
 
     fn failed(&mut self, no: MsgNo, reason: &Reason) -> Result<FailedReply, AllocError> {

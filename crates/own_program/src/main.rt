@@ -42,14 +42,8 @@ fn run<R: Threads + Wait + Sync>(rt: &HostRuntime, waits: &R) -> Result<u8, Allo
     let alloc = rt.alloc();
     let words = words_of(rt)?;
     let mut stock: Vec<Handler> = Vec::new(alloc);
-    stock.push(Box::new(
-        alloc,
-        OwnBox::new(alloc, Orders::new(alloc)),
-    )?)?;
-    stock.push(Box::new(
-        alloc,
-        OwnBox::new(alloc, OrderLines::new(alloc)),
-    )?)?;
+    stock.push(Box::new(alloc, OwnBox::new(alloc, Orders::new(alloc)))?)?;
+    stock.push(Box::new(alloc, OwnBox::new(alloc, OrderLines::new(alloc)))?)?;
     let mut edges = RealEdges::new(rt);
     let mut out = RealOut::standard_output(rt);
     let mut err = RealOut::standard_error(rt);

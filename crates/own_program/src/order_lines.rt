@@ -1,5 +1,8 @@
 //! Batches of orders, written as JSON lines.
 
+ghost use Rattle.std.specs.Prelude.{◌≡◌};
+ghost use Rattle.pipe_types.specs.declared.message.Reply.TheVariants.{Pass};
+
 use own_handler::{BatchAnswer, Handler, reason};
 use pipe_types::message::{Batch, Message, Outcome, Reply};
 use std::alloc::{AllocError, Global};
@@ -18,6 +21,9 @@ impl OrderLines {
 }
 
 impl Handler for OrderLines {
+    // A message stays as it is.
+    ghost message_gives = { λ _ message reply _. reply ≡ Pass message };
+
     fn message(&mut self, message: Message) -> Result<Reply, AllocError> {
         Ok(Reply::Pass(message))
     }

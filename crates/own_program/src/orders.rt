@@ -19,7 +19,12 @@ impl Orders {
         Orders { alloc }
     }
 
-    fn order(&self, mut message: Message, customer: String, cents: u32) -> Result<Reply, AllocError> {
+    fn order(
+        &self,
+        mut message: Message,
+        customer: String,
+        cents: u32,
+    ) -> Result<Reply, AllocError> {
         let line = format!(in self.alloc; "{{\"customer\":\"{customer}\",\"cents\":{cents}}}")?;
         message.payload = Bytes::from_vec(line.into_bytes());
         message.key = Bytes::from_vec(customer.into_bytes());
