@@ -52,12 +52,7 @@ pub enum Verdict {
 }
 
 /// Writes the texts or the refusal, and answers the status: 9 where memory was wanting, 8 where a write failed.
-pub fn write_verdict<K: ByteSink>(
-    alloc: Global,
-    verdict: &Verdict,
-    out: &mut K,
-    err: &mut K,
-) -> u8
+pub fn write_verdict<K: ByteSink>(alloc: Global, verdict: &Verdict, out: &mut K, err: &mut K) -> u8
     ensures status { (result ≡ status_in verdict.now) ⊎ ((result ≡ 8) ⊎ (result ≡ 9)) }
     ensures wanting { verdict.now ≡ Verdict.Refused Refusal.Memory → result ≡ 9 }
     ensures fault { result ≡ 8 → status_in verdict.now ≢ 8 → FaultBy verdict.now (Rose (K.faults out.old) (K.faults out.new)) (Rose (K.faults err.old) (K.faults err.new)) }
