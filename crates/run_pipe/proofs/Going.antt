@@ -253,7 +253,7 @@ slots_low look opened steps None b = tt
 slots_low look opened steps (Some home) b = b.slot
 
 module _ {B : Type 0} (look : B → BodySeen) (brought : Option (Home B)) (came : Came B) (old new : PipeState) (g : Brings look brought old) (held : Held look brought came old.topology old new) (topology : new.topology ≡ old.topology)
-  (places : new.places ≡ old.places) (going : old.end ≡ None) (end : new.end ≡ end_of came) where
+    (places : new.places ≡ old.places) (going : old.end ≡ None) (end : new.end ≡ end_of came) where
   at_opened : (opened : PipeState) → Stems opened old → Held look brought came opened.topology old new
   at_opened opened s = subst (λ (t : Topology). Held look brought came t old new) s.topology held
 

@@ -7,6 +7,6 @@ mod Outs
 mod Homing
 mod Going
 mod Starts
-mod Ends
+mod Outcomes
 pub use Rattle.stage_moves.proofs.Kept
 pub use Rattle.stage_moves.proofs.Obeying

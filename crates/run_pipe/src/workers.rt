@@ -22,12 +22,7 @@ pub fn run_workers<
     S: ByteSource + Send,
     C: Clock + Send,
     R: Threads + Wait + Sync,
->(
-    rt: &R,
-    alloc: Global,
-    workers: u16,
-    pipe: Pipe<B, S, C>,
-) -> Pipe<B, S, C>
+>(rt: &R, alloc: Global, workers: u16, pipe: Pipe<B, S, C>) -> Pipe<B, S, C>
     requires some { 1 ≤ workers }
     requires stems { Stems (state_of pipe) (state_of pipe) }
     requires none_away { away_of (state_of pipe) ≡ [] }

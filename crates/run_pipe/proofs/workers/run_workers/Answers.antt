@@ -1,7 +1,7 @@
 use Rattle.std.proofs.Common.{sym, subst}
 use Rattle.run_pipe.specs.Runs.{RanToEnd, HasRun}
 use Rattle.run_pipe.specs.Seen.{state_of}
-use Rattle.run_pipe.proofs.Ends.{has_run}
+use Rattle.run_pipe.proofs.Outcomes.{has_run}
 use Rattle.run_pipe.proofs.workers.run_workers.Goals as goal
 
 pub run_here-requires-clause-stems : goal.run_here-requires-clause-stems
