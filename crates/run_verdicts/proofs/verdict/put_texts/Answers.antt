@@ -1,7 +1,7 @@
 use Rattle.std.proofs.Common.{refl}
-use Rattle.pipe_top.specs.Verdicts.{or_nothing}
-use Rattle.pipe_top.proofs.Fronts.{front, after_first}
-use Rattle.pipe_top.proofs.verdict.put_texts.Goals as goal
+use Rattle.run_verdicts.specs.Verdicts.{or_nothing}
+use Rattle.run_verdicts.proofs.Fronts.{front, after_first}
+use Rattle.run_verdicts.proofs.verdict.put_texts.Goals as goal
 
 pub returns-then-not-put_optional-clause-begun : goal.returns-then-not-put_optional-clause-begun
 returns-then-not-put_optional-clause-begun g c told = front _ _ (or_nothing c.args.texts.now.steps) _ (c.put_optional.ensures.begun told)

@@ -2,7 +2,7 @@
 
 ghost use Rattle.std.specs.Prelude.{◌≡◌, ◌≢◌, ◌⊎◌, ◌≤◌, ◌++◌, true, false, IsTrue, IfOk, option_map};
 ghost use Rattle.pipe_types.specs.Counts.{Rose};
-ghost use Rattle.pipe_top.specs.Verdicts.{path_of, refusal_text, refusal_status, or_nothing, whole_text, out_text_of, err_text_of, status_in, Adds, AddsPrefix, FaultBy, QuietBy};
+ghost use Rattle.run_verdicts.specs.Verdicts.{path_of, refusal_text, refusal_status, or_nothing, whole_text, out_text_of, err_text_of, status_in, Adds, AddsPrefix, FaultBy, QuietBy};
 ghost use Rattle.program_words.specs.Refusals.{memory_line as memory_text};
 
 use pipe_config::{ConfigFault, fault_number};
@@ -14,16 +14,16 @@ use topology_needs::Shortage;
 
 /// Which texts stand before the report.
 #[derive(Clone, Copy, Drop)]
-pub(crate) struct Shows {
+pub struct Shows {
     /// The journal.
-    pub(crate) steps: bool,
+    pub steps: bool,
     /// The acknowledgements.
-    pub(crate) acks: bool,
+    pub acks: bool,
 }
 
 /// Why there is no report.
 #[derive(Drop)]
-pub(crate) enum Refusal {
+pub enum Refusal {
     /// The words are no command.
     Usage,
     /// The file is no topology.
@@ -38,26 +38,21 @@ pub(crate) enum Refusal {
 /// What is written to the output: the journal and the acknowledgements, where they are shown, and then the report. Of
 /// a topology that is only checked the last text has its counts.
 #[derive(Drop)]
-pub(crate) struct Texts {
-    pub(crate) steps: Option<Bytes>,
-    pub(crate) acks: Option<Bytes>,
-    pub(crate) last: Bytes,
+pub struct Texts {
+    pub steps: Option<Bytes>,
+    pub acks: Option<Bytes>,
+    pub last: Bytes,
 }
 
 /// What a call comes to: a refusal, or texts with a status.
 #[derive(Drop)]
-pub(crate) enum Verdict {
+pub enum Verdict {
     Refused(Refusal),
     Done { texts: Texts, status: u8 },
 }
 
 /// Writes the texts or the refusal, and answers the status: 9 where memory was wanting, 8 where a write failed.
-pub(crate) fn write_verdict<K: ByteSink>(
-    alloc: Global,
-    verdict: &Verdict,
-    out: &mut K,
-    err: &mut K,
-) -> u8
+pub fn write_verdict<K: ByteSink>(alloc: Global, verdict: &Verdict, out: &mut K, err: &mut K) -> u8
     ensures status { (result ≡ status_in verdict.now) ⊎ ((result ≡ 8) ⊎ (result ≡ 9)) }
     ensures wanting { verdict.now ≡ Verdict.Refused Refusal.Memory → result ≡ 9 }
     ensures fault { result ≡ 8 → status_in verdict.now ≢ 8 → FaultBy verdict.now (Rose (K.faults out.old) (K.faults out.new)) (Rose (K.faults err.old) (K.faults err.new)) }

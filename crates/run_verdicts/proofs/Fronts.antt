@@ -3,9 +3,9 @@ use Rattle.std.proofs.Common.{◌≡◌, ℕ, zero, suc, ◌+◌, List, [], ◌�
 use Rattle.std.proofs.lemmas.List.{append-nil, append_assoc}
 use Rattle.std.proofs.Math.Seq.{take-nil}
 use Rattle.program_words.specs.Refusals.{memory_line}
-use Rattle.pipe_top.specs.Verdicts.{Adds, AddsPrefix, refusal_text, refusal_status}
-use Rattle.pipe_top.specs.declared.verdict.Refusal.{Refusal}
-use Rattle.pipe_top.specs.declared.verdict.Refusal.TheVariants.{Usage, Topology, Stock, Edge, Memory}
+use Rattle.run_verdicts.specs.Verdicts.{Adds, AddsPrefix, refusal_text, refusal_status}
+use Rattle.run_verdicts.specs.declared.verdict.Refusal.{Refusal}
+use Rattle.run_verdicts.specs.declared.verdict.Refusal.TheVariants.{Usage, Topology, Stock, Edge, Memory}
 
 -- a front of the first text is a front of both
 front_of : (count : ℕ) (first second : List ℕ) → (n : ℕ) × (take count first ≡ take n (first ++ second))

@@ -4,11 +4,11 @@ use Rattle.config_table.specs.declared.fault.ConfigFault.{ConfigFault}
 use Rattle.config_table.specs.declared.fault.ConfigFault.TheVariants.{NotToml, Version, UnknownKey, Missing, WrongType, OutOfRange, DuplicateName, UnknownBatcher, NoStage, TooManyStages, BadDispatch, Unreachable, OutOfMemory}
 use Rattle.config_table.specs.Fault.{number_of}
 use Rattle.program_words.specs.Refusals.{usage_line, topology_line, stock_line, edge_line, memory_line}
-use Rattle.pipe_top.specs.declared.verdict.Refusal.{Refusal}
-use Rattle.pipe_top.specs.declared.verdict.Refusal.TheVariants.{Usage, Topology as NoTopology, Stock, Edge, Memory}
-use Rattle.pipe_top.specs.declared.verdict.Texts.{Texts}
-use Rattle.pipe_top.specs.declared.verdict.Verdict.{Verdict}
-use Rattle.pipe_top.specs.declared.verdict.Verdict.TheVariants.{Refused, Done}
+use Rattle.run_verdicts.specs.declared.verdict.Refusal.{Refusal}
+use Rattle.run_verdicts.specs.declared.verdict.Refusal.TheVariants.{Usage, Topology as NoTopology, Stock, Edge, Memory}
+use Rattle.run_verdicts.specs.declared.verdict.Texts.{Texts}
+use Rattle.run_verdicts.specs.declared.verdict.Verdict.{Verdict}
+use Rattle.run_verdicts.specs.declared.verdict.Verdict.TheVariants.{Refused, Done}
 
 -- exactly this text was written
 abbrev pub Adds : (held held' text : List ℕ) → Type 0
