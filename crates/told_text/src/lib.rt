@@ -1,15 +1,8 @@
 //! The text that the cases of a program of tests come to.
 //!
-//! A case writes into one text, which main prints at the end: a word that is printed where it stands may fail, and each such
-//! early return has the proof let go of all that the case holds. Where memory is wanting the text is cut: what is to be added
-//! then is left out, and `print` fails.
-//!
-//! ```text
-//! let mut told = Told::new(rt.alloc());
-//! told.add("one:");
-//! told.count(1);
-//! told.print(&rt)
-//! ```
+//! A case adds its words to one text, which main prints at the end: where each is printed as it comes, each print may fail, and
+//! at each such early return the proof lets go of all that the case holds. Where memory is wanting the text is cut: what is to
+//! be added then is left out, and `print` fails.
 #![tactic(auto)]
 
 use std::alloc::{AllocError, Global};
