@@ -1,7 +1,8 @@
 //! The callback that a handler makes.
 
-ghost use Rattle.std.specs.Prelude.{◌≡◌, false, [], IfOk, OnOk, OnErr, IsTrue};
+ghost use Rattle.std.specs.Prelude.{◌≡◌, ◌≤◌, false, [], IfOk, OnOk, OnErr, IsTrue};
 ghost use Rattle.pipe_types.specs.Handlers.{counted, is_own_reply};
+ghost use Rattle.pipe_types.specs.Counts.{Rose};
 ghost use Rattle.pipe_types.specs.declared.topology.Kind.TheVariants.{Own};
 ghost use Rattle.stage_callback.specs.Callbacks.{is_passed as is_passed_in, is_all_successful as is_all_successful_in, is_batch_answer, HasOwnText};
 ghost use Rattle.own_handler.specs.Judged.{IsJudged, counted_unless};
@@ -85,7 +86,9 @@ impl<H: Handler> OwnBox<H> {
 
     /// Counts an answer other than success.
     fn count_answer(&mut self, success: bool)
-        ensures { self.new ≡ record self.old { bad = counted_unless success self.old.bad } }
+        ensures whole { self.new ≡ record self.old { bad = counted_unless success self.old.bad } }
+        ensures never_falls { self.old.bad ≤ self.new.bad }
+        ensures rose { success ≡ false → Rose self.old.bad self.new.bad }
     {
         if !success {
             self.bad = self.bad.saturating_add(1);
@@ -94,7 +97,10 @@ impl<H: Handler> OwnBox<H> {
 
     /// Counts a call, and its answer where it is no success.
     fn count_call(&mut self, success: bool)
-        ensures { self.new ≡ record self.old { calls = counted self.old.calls 1; bad = counted_unless success self.old.bad } }
+        ensures whole { self.new ≡ record self.old { calls = counted self.old.calls 1; bad = counted_unless success self.old.bad } }
+        ensures never_fall { (self.old.calls ≤ self.new.calls) × (self.old.bad ≤ self.new.bad) }
+        ensures calls { Rose self.old.calls self.new.calls }
+        ensures bad { success ≡ false → Rose self.old.bad self.new.bad }
     {
         self.calls = self.calls.saturating_add(1);
         self.count_answer(success);

@@ -17,10 +17,10 @@ use std::alloc::AllocError;
 use std::process::ExitCode;
 use std::sync::Wait;
 use std::thread::Threads;
-use std::{env, mem};
+use std::{env, io, mem};
 
 /// A callback in its box.
-type Handler = Box<dyn Callback + Send>;
+type BoxedCallback = Box<dyn Callback + Send>;
 
 /// The status for want of memory.
 const OUT_OF_MEMORY: u8 = 9;
@@ -28,12 +28,16 @@ const OUT_OF_MEMORY: u8 = 9;
 // The words without the program's name. Words that are no text are no command, so none are given then.
 fn words_of(rt: &HostRuntime) -> Result<Vec<String>, AllocError> {
     let mut words = Vec::new(rt.alloc());
-    if let Ok(all) = env::args(rt) {
-        for word in all.skip(1) {
-            words.push(word)?;
+    match env::args(rt) {
+        Ok(all) => {
+            for word in all.skip(1) {
+                words.push(word)?;
+            }
+            Ok(words)
         }
+        Err(e) if e.kind() == io::ErrorKind::OutOfMemory => Err(AllocError),
+        Err(_) => Ok(words),
     }
-    Ok(words)
 }
 
 // The first callback of the stock is for the one processor, the second for the one batch processor.
@@ -41,7 +45,7 @@ fn run<R: Threads + Wait + Sync>(rt: &HostRuntime, waits: &R) -> Result<u8, Allo
     take_closed_streams(rt).map_err(|_| AllocError)?;
     let alloc = rt.alloc();
     let words = words_of(rt)?;
-    let mut stock: Vec<Handler> = Vec::new(alloc);
+    let mut stock: Vec<BoxedCallback> = Vec::new(alloc);
     stock.push(Box::new(alloc, OwnBox::new(alloc, Orders::new(alloc)))?)?;
     stock.push(Box::new(alloc, OwnBox::new(alloc, OrderLines::new(alloc)))?)?;
     let mut edges = RealEdges::new(rt);
@@ -51,7 +55,7 @@ fn run<R: Threads + Wait + Sync>(rt: &HostRuntime, waits: &R) -> Result<u8, Allo
     let end = run_program::<
         R,
         RealEdges,
-        Handler,
+        BoxedCallback,
         Body<RealSource<Reader>, RealOut<Writer>>,
         RealClock,
     >(
@@ -66,6 +70,9 @@ fn run<R: Threads + Wait + Sync>(rt: &HostRuntime, waits: &R) -> Result<u8, Allo
 fn main(rt: HostRuntime) -> ExitCode {
     match run(&rt, &rt) {
         Ok(status) => ExitCode::from(status),
-        Err(AllocError) => ExitCode::from(OUT_OF_MEMORY),
+        Err(AllocError) => {
+            let _ = rt.eprintln("memory");
+            ExitCode::from(OUT_OF_MEMORY)
+        }
     }
 }
