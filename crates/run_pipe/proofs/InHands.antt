@@ -1,6 +1,6 @@
 -- One worker: what it has in hand between two holds.
 use Rattle.std.proofs.Common.{◌≡◌, ◌≢◌, ⊎_elim, ◌<◌, ◌≤◌, List, [], ◌∷◌, Bool, true, false, arith, refl, sym, ap, ◌∙◌, subst, Option, Some, None, Contains}
-use Rattle.std.specs.Prelude.{◌||◌, ◌⊎◌, IfSome, IsSome, is_some}
+use Rattle.std.specs.Prelude.{◌||◌, IfSome, IsSome, is_some}
 use Rattle.std.specs.List.{list_any}
 use Rattle.pipe_types.specs.declared.numbers.Post.{Post}
 use Rattle.pipe_types.specs.declared.topology.Topology.{Topology}

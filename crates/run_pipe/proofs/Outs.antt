@@ -1,6 +1,6 @@
 -- A post that is out is away.
 use Rattle.std.proofs.Common.{◌≡◌, ◌≢◌, ⊎_elim, inl, inr, Bool, true, false, refl, sym, ap, ◌∙◌, Option, Some, None, Result, Ok, Err, Contains}
-use Rattle.std.specs.Prelude.{◌⊎◌, ◌&&◌, not, IfSome, IfOk, IsSome}
+use Rattle.std.specs.Prelude.{◌&&◌, not, IfSome, IfOk, IsSome}
 use Rattle.std.specs.declared.alloc.AllocError.{AllocError}
 use Rattle.pipe_types.specs.declared.numbers.Post.{Post}
 use Rattle.pipe_types.specs.declared.topology.StageSpec.{StageSpec}

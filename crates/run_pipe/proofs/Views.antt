@@ -1,5 +1,5 @@
 -- A pipe as contracts see it, and what its fields are.
-use Rattle.std.proofs.Common.{◌≡◌, ℕ, suc, List, [], ◌∷◌, refl, ap, ◌∙◌, length, Option, Some, None, Result}
+use Rattle.std.proofs.Common.{◌≡◌, suc, List, [], ◌∷◌, refl, ap, ◌∙◌, length, Option, Some, None, Result}
 use Rattle.std.specs.Prelude.{map, option_map, slice_get}
 use Rattle.std.specs.declared.alloc.AllocError.{AllocError}
 use Rattle.std.proofs.lemmas.Option.{slice_get-map}

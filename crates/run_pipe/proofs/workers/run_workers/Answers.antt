@@ -1,5 +1,5 @@
-use Rattle.std.proofs.Common.{sym, subst}
-use Rattle.run_pipe.specs.Runs.{RanToEnd, HasRun}
+use Rattle.std.proofs.Common.{subst}
+use Rattle.run_pipe.specs.Runs.{RanToEnd}
 use Rattle.run_pipe.specs.Seen.{state_of}
 use Rattle.run_pipe.proofs.Outcomes.{has_run}
 use Rattle.run_pipe.proofs.workers.run_workers.Goals as goal
@@ -11,8 +11,8 @@ pub returns-then-workers-eq1 : goal.returns-then-workers-eq1
 returns-then-workers-eq1 g c =
     record { ran = has_run (state_of c.args.pipe) (state_of c.args.pipe) (state_of c.run_here.new.pipe) c.requires.stems c.run_here.ensures.ran }
 
-pub run_here-in-Ok-requires-clause-stems : goal.run_here-in-Ok-requires-clause-stems
-run_here-in-Ok-requires-clause-stems g c = (state_of c.args.pipe, c.in-Ok.ensures.stems)
+pub run_here-requires-in-Ok-clause-stems : goal.run_here-requires-in-Ok-clause-stems
+run_here-requires-in-Ok-clause-stems g c = (state_of c.args.pipe, c.in-Ok.ensures.stems)
 
 pub returns-in-Ok : goal.returns-in-Ok
 returns-in-Ok g c =

@@ -1,10 +1,9 @@
-use Rattle.std.proofs.Common.{◌≡◌, ◌<◌, ◌∙◌, true, false, refl, sym, ap, subst, length, Some, None}
-use Rattle.std.specs.Prelude.{option_map, IsTrue, IfSome, IsSome}
+use Rattle.std.proofs.Common.{◌≡◌, ◌∙◌, true, false, sym, ap, subst, length, Some}
+use Rattle.std.specs.Prelude.{option_map, IsTrue, IsSome}
 use Rattle.pipe_types.specs.declared.topology.Topology.{Topology}
 use Rattle.pipe_model.specs.Legal.{is_legal}
 use Rattle.pipe_model.specs.Moves.{is_drained, jobs_out}
 use Rattle.stage_bodies.specs.Seen.{body_at, line_seen}
-use Rattle.stage_bodies.specs.Posts.{place_at}
 use Rattle.stage_moves.specs.Clocks.{clock_seen}
 use Rattle.run_pipe.specs.Jobs.{IsBrought}
 use Rattle.run_pipe.specs.Seen.{PipeState, state_of}
@@ -12,7 +11,7 @@ use Rattle.run_pipe.specs.Rounded.{Rounded}
 use Rattle.run_pipe.specs.Whole.{IsWhole}
 use Rattle.stage_workers.specs.declared.shift.Round.TheVariants.{Ended}
 use Rattle.run_pipe.proofs.Views.{fields_of, seen_of, state_is}
-use Rattle.run_pipe.proofs.Homing.{Brings, within_first, back_first, with_home, one_home, nothing_home, home_whole, brings_at, rounded_at, going_by}
+use Rattle.run_pipe.proofs.Homing.{within_first, back_first, with_home, one_home, nothing_home, home_whole, brings_at, rounded_at, going_by}
 use Rattle.run_pipe.proofs.Going.{Held, holds_round, holds_whole}
 use Rattle.run_pipe.proofs.pipe.Pipe.hold.Goals as goal
 
