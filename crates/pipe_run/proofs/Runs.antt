@@ -117,19 +117,19 @@ went (Err e) opened p topology final old new h same back kept = record {
 pub went_in_part : (r : Result RunEnd AllocError) (opened p : PipeState) (topology : Topology) (final : ℕ → Option BodySeen) (old new : EdgesSeen) → HasRun opened p r → topology ≡ p.topology
     → IsGivenInPart topology p.control p.home old new → KeepsCallbacks p.home final → WentOn false opened.topology p.steps opened.home final opened.control old new opened.clock p.clock
 went_in_part r opened p topology final old new h same given kept =
-  let part = subst (λ (t : Topology). IsGivenInPart t p.control p.home old new) (same ∙ h.topology) given in
-  record {
-  follows = h.follows;
-  ended = λ w. not_whole w;
-  time = partly r p.steps opened.clock p.clock h.clock;
-  control = p.control;
-  obeyed = partly_obeyed r opened.topology p.steps opened.control p.control h.control;
-  bodies = p.home;
-  keeps = h.keeps;
-  none_out = λ w. not_whole w;
-  stay = h.stay;
-  parts = part.parts;
-  all = λ w. not_whole w;
-  back = part.back;
-  kept = kept;
-}
+    let part = subst (λ (t : Topology). IsGivenInPart t p.control p.home old new) (same ∙ h.topology) given in
+    record {
+      follows = h.follows;
+      ended = λ w. not_whole w;
+      time = partly r p.steps opened.clock p.clock h.clock;
+      control = p.control;
+      obeyed = partly_obeyed r opened.topology p.steps opened.control p.control h.control;
+      bodies = p.home;
+      keeps = h.keeps;
+      none_out = λ w. not_whole w;
+      stay = h.stay;
+      parts = part.parts;
+      all = λ w. not_whole w;
+      back = part.back;
+      kept = kept;
+    }

@@ -1,4 +1,3 @@
-use Rattle.std.proofs.Common.{◌∙◌}
 use Rattle.stage_bodies.specs.Seen.{body_at, source_seen, sink_seen}
 use Rattle.edge_names.specs.Seen.{edges_seen}
 use Rattle.pipe_run.proofs.Runs.{has_end, ran_to, went, went_in_part}
