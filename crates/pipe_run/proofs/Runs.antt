@@ -1,5 +1,5 @@
 -- What a run and the giving back come to.
-use Rattle.std.proofs.Common.{◌≡◌, ℕ, suc, List, ◌++◌, length, Bool, true, false, not, arith, refl, sym, subst, inl, inr, Option, Some, None, Result, Ok, Err}
+use Rattle.std.proofs.Common.{◌≡◌, ℕ, suc, List, ◌++◌, length, Bool, true, false, not, arith, refl, sym, ◌∙◌, subst, inl, inr, Option, Some, None, Result, Ok, Err}
 use Rattle.std.specs.Prelude.{IsTrue, IsSome, IsSomeAnd, ◌&&◌, is_ok}
 use Rattle.std.specs.declared.alloc.AllocError.{AllocError}
 use Rattle.std.proofs.lemmas.List.{take_all}
@@ -55,6 +55,11 @@ all_back topology control bodies old new h =
     let stages = topology.stages in
     subst (λ (xs : List StageSpec). GivesBack (named_control topology.control control ++ sources_of xs bodies) (sinks_of xs bodies) old new) (sym (take_all (length stages) stages (omega arith))) h
 
+back_of : (topology same : Topology) (control : Option LineSeen) (bodies : ℕ → Option BodySeen) (old new : EdgesSeen) → topology ≡ same
+    → GivesBack (named_control topology.control control ++ sources_of topology.stages bodies) (sinks_of topology.stages bodies) old new
+    → GivesBack (named_control same.control control ++ sources_of same.stages bodies) (sinks_of same.stages bodies) old new
+back_of topology same control bodies old new e h = subst (λ (t : Topology). GivesBack (named_control t.control control ++ sources_of t.stages bodies) (sinks_of t.stages bodies) old new) e h
+
 -- ---- the parts of a pipe
 
 some_of : {A : Type 0} (P : A → Type 0) (o : Option A) → IsSomeAnd o P → IsSome o
@@ -73,10 +78,11 @@ ran_to o opened p final end first last is ran =
 
 -- ---- the whole
 
-pub went : (r : Result RunEnd AllocError) (opened p : PipeState) (final : ℕ → Option BodySeen) (old new : EdgesSeen) → HasRun opened p r
-    → GivesBack (named_control opened.topology.control p.control ++ sources_of opened.topology.stages p.home) (sinks_of opened.topology.stages p.home) old new → KeepsCallbacks p.home final
+-- all was given back of the topology that stands in the core
+pub went : (r : Result RunEnd AllocError) (opened p : PipeState) (topology : Topology) (final : ℕ → Option BodySeen) (old new : EdgesSeen) → HasRun opened p r → topology ≡ p.topology
+    → GivesBack (named_control topology.control p.control ++ sources_of topology.stages p.home) (sinks_of topology.stages p.home) old new → KeepsCallbacks p.home final
     → WentOn (is_ok r) opened.topology p.steps opened.home final opened.control old new opened.clock p.clock
-went (Ok end) opened p final old new h back kept = record {
+went (Ok end) opened p topology final old new h same back kept = record {
   follows = h.follows;
   ended = λ w. has_come opened.topology p.steps end h.ended;
   time = h.clock;
@@ -88,10 +94,10 @@ went (Ok end) opened p final old new h back kept = record {
   stay = h.stay;
   parts = suc (length opened.topology.stages);
   all = λ w. refl;
-  back = all_back opened.topology p.control p.home old new back;
+  back = all_back opened.topology p.control p.home old new (back_of topology opened.topology p.control p.home old new (same ∙ h.topology) back);
   kept = kept;
 }
-went (Err e) opened p final old new h back kept = record {
+went (Err e) opened p topology final old new h same back kept = record {
   follows = h.follows;
   ended = λ w. not_whole w;
   time = h.clock;
@@ -103,25 +109,27 @@ went (Err e) opened p final old new h back kept = record {
   stay = h.stay;
   parts = suc (length opened.topology.stages);
   all = λ w. refl;
-  back = all_back opened.topology p.control p.home old new back;
+  back = all_back opened.topology p.control p.home old new (back_of topology opened.topology p.control p.home old new (same ∙ h.topology) back);
   kept = kept;
 }
 
 -- there was no memory for giving all back
-pub went_in_part : (r : Result RunEnd AllocError) (opened p : PipeState) (final : ℕ → Option BodySeen) (old new : EdgesSeen) → HasRun opened p r
-    → IsGivenInPart opened.topology p.control p.home old new → KeepsCallbacks p.home final → WentOn false opened.topology p.steps opened.home final opened.control old new opened.clock p.clock
-went_in_part r opened p final old new h part kept = record {
-  follows = h.follows;
-  ended = λ w. not_whole w;
-  time = partly r p.steps opened.clock p.clock h.clock;
-  control = p.control;
-  obeyed = partly_obeyed r opened.topology p.steps opened.control p.control h.control;
-  bodies = p.home;
-  keeps = h.keeps;
-  none_out = λ w. not_whole w;
-  stay = h.stay;
-  parts = part.parts;
-  all = λ w. not_whole w;
-  back = part.back;
-  kept = kept;
-}
+pub went_in_part : (r : Result RunEnd AllocError) (opened p : PipeState) (topology : Topology) (final : ℕ → Option BodySeen) (old new : EdgesSeen) → HasRun opened p r → topology ≡ p.topology
+    → IsGivenInPart topology p.control p.home old new → KeepsCallbacks p.home final → WentOn false opened.topology p.steps opened.home final opened.control old new opened.clock p.clock
+went_in_part r opened p topology final old new h same given kept =
+    let part = subst (λ (t : Topology). IsGivenInPart t p.control p.home old new) (same ∙ h.topology) given in
+    record {
+      follows = h.follows;
+      ended = λ w. not_whole w;
+      time = partly r p.steps opened.clock p.clock h.clock;
+      control = p.control;
+      obeyed = partly_obeyed r opened.topology p.steps opened.control p.control h.control;
+      bodies = p.home;
+      keeps = h.keeps;
+      none_out = λ w. not_whole w;
+      stay = h.stay;
+      parts = part.parts;
+      all = λ w. not_whole w;
+      back = part.back;
+      kept = kept;
+    }
