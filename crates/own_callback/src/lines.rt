@@ -63,7 +63,7 @@ pub fn run_lines<
         report,
         s: held_under(alloc, &edges, "mem:s")?,
         t: held_under(alloc, &edges, "mem:t")?,
-        errors: copy(alloc, err.held().as_slice())?,
+        errors: copy_bytes(alloc, err.held().as_slice())?,
         topology: end.topology,
         journal: end.journal,
         stock: end.stock,
@@ -103,7 +103,7 @@ fn held_under(alloc: Global, edges: &MemEdges, name: &str) -> Result<Bytes, Allo
 {
     let name = text(alloc, name)?;
     match edges.sink(&name) {
-        Some(sink) => copy(alloc, sink.held().as_slice()),
+        Some(sink) => copy_bytes(alloc, sink.held().as_slice()),
         None => Ok(Bytes::from_vec(Vec::new(alloc))),
     }
 }
@@ -113,7 +113,10 @@ fn parts_of(alloc: Global, text: &[u8]) -> Result<(Bytes, Bytes), AllocError>
     ensures { IfOk result (λ parts. parts.0 ++ parts.1 ≡ text.now) }
 {
     let at = report_at(text);
-    Ok((copy(alloc, &text[..at])?, copy(alloc, &text[at..])?))
+    Ok((
+        copy_bytes(alloc, &text[..at])?,
+        copy_bytes(alloc, &text[at..])?,
+    ))
 }
 
 /// Where the first line begins that begins with `accepted `, or the end.
@@ -128,7 +131,7 @@ fn report_at(text: &[u8]) -> usize
     text.len()
 }
 
-fn copy(alloc: Global, bytes: &[u8]) -> Result<Bytes, AllocError>
+fn copy_bytes(alloc: Global, bytes: &[u8]) -> Result<Bytes, AllocError>
     ensures { IfOk result (λ copied. copied ≡ bytes.now) }
 {
     Ok(Bytes::from_vec(Vec::from_slice(alloc, bytes)?))

@@ -1,5 +1,5 @@
 -- What a box of a handler answers, by what its handler answered: the same, or where the shape is wrong a crash.
-use Rattle.std.specs.Prelude.{◌≡◌, ℕ, ◌+◌, Bool, false, List, [], ◌∷◌, ◌++◌, length, replicate, ◌==◌, ◌&&◌, if◌then◌else◌}
+use Rattle.std.specs.Prelude.{◌≡◌, ℕ, Bool, false, List, [], ◌∷◌, ◌++◌, length, replicate, ◌==◌, ◌&&◌, if◌then◌else◌}
 use Rattle.std.specs.List.{list_all}
 use Rattle.pipe_types.specs.declared.numbers.MsgNo.{MsgNo}
 use Rattle.pipe_types.specs.declared.numbers.StageNo.{StageNo}
@@ -25,7 +25,7 @@ judged_prepared given = given
 
 -- a message of which nothing but the number and the producer is said
 abbrev pub bare : MsgNo → StageNo → Message
-bare no producer = record { payload = []; key = []; no = no; producer = producer; batcher = 0; flush = false }
+bare number from = record { payload = []; key = []; no = number; producer = from; batcher = 0; flush = false }
 
 -- the same message, for one of the stage's batchers, not too long, or a reason of one's own
 abbrev pub judged_reply : (batchers : ℕ) → Message → Reply → Reply

@@ -46,7 +46,6 @@ impl<H: Handler> OwnBox<H> {
     }
 
     /// Handles one message, as `message` of the callback does: the call is counted, and its answer where it is no pass.
-    #[tactic(auto, using(crate::proofs::Judging::same_shape, crate::proofs::Judging::same_judged))]
     pub fn handle(&mut self, message: Message) -> Result<Reply, AllocError>
         ensures same_spec { ⟦<OwnBox<H> as Callback>⟧.spec self.new ≡ ⟦<OwnBox<H> as Callback>⟧.spec self.old }
         // It is what the handler gave, as it is or as a crash.
@@ -56,13 +55,16 @@ impl<H: Handler> OwnBox<H> {
         ensures calls { OnOk result (⟦<OwnBox<H> as Callback>⟧.calls self.new ≡ counted (⟦<OwnBox<H> as Callback>⟧.calls self.old) 1) }
         ensures bad { IfOk result (λ reply.
             ⟦<OwnBox<H> as Callback>⟧.bad self.new ≡ counted_unless (is_passed_in reply) (⟦<OwnBox<H> as Callback>⟧.bad self.old)) }
+        ensures never_fall { (⟦<OwnBox<H> as Callback>⟧.calls self.old ≤ ⟦<OwnBox<H> as Callback>⟧.calls self.new)
+            × (⟦<OwnBox<H> as Callback>⟧.bad self.old ≤ ⟦<OwnBox<H> as Callback>⟧.bad self.new) }
         ensures unchanged { OnErr result ((⟦<OwnBox<H> as Callback>⟧.calls self.new ≡ ⟦<OwnBox<H> as Callback>⟧.calls self.old)
             × (⟦<OwnBox<H> as Callback>⟧.bad self.new ≡ ⟦<OwnBox<H> as Callback>⟧.bad self.old)) }
     {
         let (no, producer) = (message.no, message.producer);
         let given = self.handler.message(message)?;
         let reply = judge_reply(self.spec.batchers, no, producer, given);
-        self.count_call(is_passed(&reply));
+        count_call(&mut self.calls);
+        count_answer(&mut self.bad, is_passed(&reply));
         Ok(reply)
     }
 
@@ -75,36 +77,38 @@ impl<H: Handler> OwnBox<H> {
         ensures calls { OnOk result (⟦<OwnBox<H> as Callback>⟧.calls self.new ≡ counted (⟦<OwnBox<H> as Callback>⟧.calls self.old) 1) }
         ensures bad { IfOk result (λ reply.
             ⟦<OwnBox<H> as Callback>⟧.bad self.new ≡ counted_unless (is_all_successful_in reply) (⟦<OwnBox<H> as Callback>⟧.bad self.old)) }
+        ensures never_fall { (⟦<OwnBox<H> as Callback>⟧.calls self.old ≤ ⟦<OwnBox<H> as Callback>⟧.calls self.new)
+            × (⟦<OwnBox<H> as Callback>⟧.bad self.old ≤ ⟦<OwnBox<H> as Callback>⟧.bad self.new) }
         ensures unchanged { OnErr result ((⟦<OwnBox<H> as Callback>⟧.calls self.new ≡ ⟦<OwnBox<H> as Callback>⟧.calls self.old)
             × (⟦<OwnBox<H> as Callback>⟧.bad self.new ≡ ⟦<OwnBox<H> as Callback>⟧.bad self.old)) }
     {
         let answer = self.handler.batch(batch)?;
         let reply = judge_batch(self.alloc, batch.messages.as_slice(), answer)?;
-        self.count_call(is_all_successful(&reply));
+        count_call(&mut self.calls);
+        count_answer(&mut self.bad, is_all_successful(&reply));
         Ok(reply)
     }
+}
 
-    /// Counts an answer other than success.
-    fn count_answer(&mut self, success: bool)
-        ensures whole { self.new ≡ record self.old { bad = counted_unless success self.old.bad } }
-        ensures never_falls { self.old.bad ≤ self.new.bad }
-        ensures rose { success ≡ false → Rose self.old.bad self.new.bad }
-    {
-        if !success {
-            self.bad = self.bad.saturating_add(1);
-        }
+/// Counts an answer other than success.
+fn count_answer(bad: &mut u64, success: bool)
+    ensures count { bad.new ≡ counted_unless success bad.old }
+    ensures never_falls { bad.old ≤ bad.new }
+    ensures rose { success ≡ false → Rose bad.old bad.new }
+{
+    let before = *bad;
+    if !success {
+        *bad = before.saturating_add(1);
     }
+}
 
-    /// Counts a call, and its answer where it is no success.
-    fn count_call(&mut self, success: bool)
-        ensures whole { self.new ≡ record self.old { calls = counted self.old.calls 1; bad = counted_unless success self.old.bad } }
-        ensures never_fall { (self.old.calls ≤ self.new.calls) × (self.old.bad ≤ self.new.bad) }
-        ensures calls { Rose self.old.calls self.new.calls }
-        ensures bad { success ≡ false → Rose self.old.bad self.new.bad }
-    {
-        self.calls = self.calls.saturating_add(1);
-        self.count_answer(success);
-    }
+/// Counts a call.
+fn count_call(calls: &mut u64)
+    ensures count { calls.new ≡ counted calls.old 1 }
+    ensures never_falls { calls.old ≤ calls.new }
+    ensures rose { Rose calls.old calls.new }
+{
+    *calls = calls.saturating_add(1);
 }
 
 impl<H: Handler> Callback for OwnBox<H> {
@@ -138,7 +142,7 @@ impl<H: Handler> Callback for OwnBox<H> {
 
     fn prepare(&mut self, messages: &[Message]) -> Result<Prepared, AllocError> {
         let answer = judge_prepared(self.handler.prepare(messages)?);
-        self.count_answer(is_ready(&answer));
+        count_answer(&mut self.bad, is_ready(&answer));
         Ok(answer)
     }
 
