@@ -1,7 +1,7 @@
 -- The text of a batch, message by message.
-use Rattle.std.proofs.Common.{◌≡◌, ℕ, ◌+◌, ◌<◌, ◌≤◌, true, false, List, [], ◌∷◌, ◌++◌, length, drop, get_or, refl, ap, sym, ◌∙◌}
+use Rattle.std.proofs.Common.{◌≡◌, ℕ, ◌+◌, ◌<◌, true, false, List, [], ◌∷◌, ◌++◌, length, drop, get_or, refl, ap, sym, ◌∙◌}
 use Rattle.std.specs.Prelude.{Bool, if◌then◌else◌}
-use Rattle.std.proofs.lemmas.List.{drop_all, drop_more, append-nil}
+use Rattle.std.proofs.lemmas.List.{drop_more}
 use Rattle.pipe_types.specs.declared.message.Message.{Message}
 use Rattle.pipe_types.specs.declared.message.Outcome.{Outcome}
 use Rattle.pipe_types.specs.Handlers.{lines_where}
@@ -24,9 +24,3 @@ lines_next test messages outcomes i m o within is among was =
     by : (b : Bool) (rest : List ℕ) → (if b then (m.payload ++ 10 ∷ []) ++ rest else rest) ≡ (if b then m.payload ++ 10 ∷ [] else []) ++ rest
     by true rest = refl
     by false rest = refl
-
--- no message is left
-pub lines_end : (test : Outcome → Bool) (messages : List Message) (outcomes : List Outcome) (i : ℕ) (text : List ℕ) → length messages ≤ i
-    → text ≡ text ++ lines_where test (drop i messages) outcomes
-lines_end test messages outcomes i text past =
-    sym (ap (λ ms. text ++ lines_where test ms outcomes) (drop_all i messages past) ∙ append-nil text)

@@ -4,9 +4,9 @@ use Rattle.own_handler.proofs.own_box.OwnBox.handle.Goals as goal
 
 pub returns-clause-judged : goal.returns-clause-judged
 returns-clause-judged g c = record {
-  given = c.in_ok-given.field-0;
+  given = c.in_ok-given.given;
   meant = c.in_ok-given.ensures;
-  is = c.judge_reply-reply.ensures.answer ∙ same_judged c.args.self.now.spec.batchers c.args.message c.in_ok-given.field-0;
+  is = c.judge_reply-reply.ensures.answer ∙ same_judged c.args.self.now.spec.batchers c.args.message c.in_ok-given.given;
 }
 
 pub returns-clause-shape : goal.returns-clause-shape
