@@ -127,7 +127,7 @@ fn play(told: &mut Told, callback: &mut Handler, kind: Kind, text: &str) -> Resu
 fn act_on(told: &mut Told, callback: &mut Handler, act: &str) -> Result<(), AllocError> {
     match act {
         "reset" => callback.reset(),
-        "failed" => tell_failed(told, callback),
+        "failed" => return tell_failed(told, callback),
         "prepare" => tell_prepared(told, callback),
         "kind" => tell_kind(told, callback.kind()),
         _ => return tell_answer(told, callback, act),
@@ -245,16 +245,16 @@ fn tell_outcomes(told: &mut Told, outcomes: &[Outcome]) {
     }
 }
 
-pub fn tell_failed(told: &mut Told, callback: &mut Handler) {
+pub fn tell_failed(told: &mut Told, callback: &mut Handler) -> Result<(), AllocError> {
     let Some(old) = Reason::new(b"old") else {
-        return;
+        return Ok(());
     };
-    match callback.failed(MsgNo(1), &old) {
-        Ok(FailedReply::Keep) => told.add(" keep"),
-        Ok(FailedReply::Replace(why)) => tell_why(told, " replace:", &why),
-        Ok(FailedReply::Raised) => told.add(" raised"),
-        Err(_) => told.cut(),
+    match callback.failed(MsgNo(1), &old)? {
+        FailedReply::Keep => told.add(" keep"),
+        FailedReply::Replace(why) => tell_why(told, " replace:", &why),
+        FailedReply::Raised => told.add(" raised"),
     }
+    Ok(())
 }
 
 pub fn tell_prepared(told: &mut Told, callback: &mut Handler) {
@@ -283,24 +283,19 @@ pub fn stock(told: &mut Told) -> Result<(), AllocError> {
     stock.push(Box::new(alloc, StepsBox::new(alloc))?)?;
     told.count(boxes_of(stock.as_slice(), Kind::Steps) as u64);
     told.count(boxes_of(stock.as_slice(), Kind::Own) as u64);
-    match stock.last_mut() {
-        Some(steps) => tell_chunk(told, steps, "require^a"),
-        None => Ok(()),
-    }
-}
-
-fn tell_chunk(told: &mut Told, steps: &mut Handler, rules: &str) -> Result<(), AllocError> {
-    if !arm(told.alloc, steps, Kind::Steps, rules)? {
+    let spec = spec_of(alloc, Kind::Steps, "require^a")?;
+    let is_calm = never_crashes(spec.rules.as_slice());
+    let Some(steps) = stock.last_mut() else {
+        return Ok(());
+    };
+    if !may_arm(&spec) {
         told.add(" not allowed");
         return Ok(());
     }
-    told.flag(is_calm(told.alloc, rules)?);
-    let messages = messages_of(told.alloc, "a1|b|a2")?;
-    tell_numbers(told, run_chunk(told.alloc, steps, messages)?.as_slice());
+    steps.arm(&spec)?;
+    let messages = messages_of(alloc, "a1|b|a2")?;
+    let replies = run_chunk(alloc, steps, messages)?;
+    told.flag(is_calm);
+    tell_numbers(told, replies.as_slice());
     Ok(())
-}
-
-fn is_calm(alloc: Global, rules: &str) -> Result<bool, AllocError> {
-    let spec = spec_of(alloc, Kind::Steps, rules)?;
-    Ok(never_crashes(spec.rules.as_slice()))
 }

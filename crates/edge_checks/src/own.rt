@@ -128,7 +128,7 @@ pub fn through_its_box(told: &mut Told) -> Result<(), AllocError> {
     tell_kind(told, callback.kind());
     tell_prepared(told, &mut callback);
     tell_asked(told, &mut callback)?;
-    tell_failed(told, &mut callback);
+    tell_failed(told, &mut callback)?;
     callback.reset();
     Ok(())
 }
