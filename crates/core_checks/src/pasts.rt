@@ -11,7 +11,6 @@ use super::case::{item, stage};
 use super::steps::step_of;
 use pipe_replay::replay_plain;
 use pipe_types::message::{Loss, Outcome, Place, Why};
-use pipe_types::numbers::StageNo;
 use pipe_types::state::{Life, PlaceRow, PlainState, SubRow};
 use pipe_types::step::Step;
 use pipe_types::topology::Topology;
@@ -61,20 +60,12 @@ fn ask_lives(
     match verb {
         "death" => tell_death(told, past.death(stage(rest))),
         "live" => told.flag(past.is_live(stage(rest))),
-        _ => tell_sub(told, &past, stage(item(rest, 0)), stage(item(rest, 1)))?,
+        _ => {
+            let sub = past.current_sub(stage(item(rest, 0)), stage(item(rest, 1)))?;
+            told.count(u64::from(sub.generation));
+            told.flag_behind("/", past.is_live_sub(sub)?);
+        }
     }
-    Ok(())
-}
-
-fn tell_sub(
-    told: &mut Told,
-    past: &Past<'_>,
-    consumer: StageNo,
-    producer: StageNo,
-) -> Result<(), AllocError> {
-    let sub = past.current_sub(consumer, producer)?;
-    told.count(u64::from(sub.generation));
-    told.flag_behind("/", past.is_live_sub(sub)?);
     Ok(())
 }
 
