@@ -34,7 +34,7 @@ second_false false b c h = cc
 
 -- no job is out at the end
 none_out : (topology : Topology) (before : History) (end : RunEnd) → HasEnded topology before end → jobs_out topology before ≡ false
-none_out topology before Drained h = second_false (happened is_drain before) (jobs_out topology before) _ h
+none_out topology before Drained h = second_false (happened is_drain before) (jobs_out topology before) _ h.0
 none_out topology before Halted h = h.1
 
 not_whole : {A : Type 0} → IsTrue false → A

@@ -15,9 +15,9 @@ use Rattle.pipe_run.specs.Outside.{AreAsked, IsOutside, IsUnopened}
 use Rattle.pipe_run.specs.declared.run.NoRun.{NoRun}
 use Rattle.pipe_run.specs.declared.run.NoRun.TheVariants.{Unopened, OutOfMemory}
 
--- every accepted message is acknowledged or lost and no job is out, or the pipeline halted and no job is out
+-- every accepted message is acknowledged or lost, no job is out and the pipeline has not halted; or it halted, and no job is out
 abbrev pub HasCome : Topology → History → Type 0
-HasCome topology before = IsTrue (is_drained topology before) ⊎ ((happened is_halt before ≡ true) × (jobs_out topology before ≡ false))
+HasCome topology before = (IsTrue (is_drained topology before) × (happened is_halt before ≡ false)) ⊎ ((happened is_halt before ≡ true) × (jobs_out topology before ≡ false))
 
 -- where memory was wanting, the greatest reading may have no tick
 abbrev pub IsTimeOf : (whole : Bool) → History → (old new : ClockSeen) → Type 0

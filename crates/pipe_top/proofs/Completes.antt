@@ -211,7 +211,7 @@ ended_whole topology before status sound run end read fine = record {
     by_cause (rested h) = inr (inr (inl h))
 
     by_end : HasCome topology before → IsReadWhole topology before ⊎ (IsTrue (happened is_limit_drain before) ⊎ (IsTrue (happened is_idle_drain before) ⊎ (IsTrue (happened is_control_drain before) ⊎ IsTrue (happened is_halt before))))
-    by_end (inl drained) = by_cause (drain_shows topology before run.claims.legal (and_left (happened is_drain before) _ drained))
+    by_end (inl drained) = by_cause (drain_shows topology before run.claims.legal (and_left (happened is_drain before) _ drained.0))
     by_end (inr halted) = inr (inr (inr (inr halted.0)))
 
 -- ---- in the case of the call

@@ -1,6 +1,6 @@
 -- A round of a pipe that has not ended: one hold.
-use Rattle.std.proofs.Common.{◌≡◌, ◌≢◌, ⊎_elim, ℕ, ◌*◌, ◌<◌, ◌≤◌, true, false, refl, sym, ap, ◌∙◌, subst, Option, Some, None, Result, Ok, Err}
-use Rattle.std.specs.Prelude.{IfSome, IsSome, is_some, IfOk, OnOk, IsTrue, option_map}
+use Rattle.std.proofs.Common.{◌≡◌, ◌≢◌, ⊎_elim, ℕ, ◌+◌, ◌*◌, ◌<◌, ◌≤◌, Bool, true, false, refl, sym, ap, ◌∙◌, subst, Option, Some, None, Result, Ok, Err}
+use Rattle.std.specs.Prelude.{IfSome, IsSome, is_some, IfOk, OnOk, option_map}
 use Rattle.std.specs.Result.{IsErr}
 use Rattle.work_laws.specs.Left.{work_left}
 use Rattle.stage_moves.specs.Pauses.{may_pause, rounds_left}
@@ -11,10 +11,15 @@ use Rattle.std.specs.declared.alloc.AllocError.{AllocError}
 use Rattle.pipe_types.specs.declared.numbers.Post.{Post}
 use Rattle.pipe_types.specs.declared.topology.Topology.{Topology}
 use Rattle.pipe_types.specs.Sound.{IsSound}
-use Rattle.pipe_model.specs.History.{History}
+use Rattle.pipe_model.specs.History.{History, controls}
 use Rattle.pipe_model.specs.Begins.{BeginsWith}
-use Rattle.pipe_model.specs.Legal.{is_legal, happened, is_halt, quiet_row}
-use Rattle.pipe_model.specs.Moves.{is_drained, jobs_out}
+use Rattle.pipe_model.specs.Legal.{is_legal, owed, happened, is_drain, is_halt, quiet_row}
+use Rattle.pipe_model.specs.Moves.{move, is_drained, jobs_out}
+use Rattle.pipe_model.specs.Moves as next_move
+use Rattle.move_laws.specs.NextMoves.{IsLegalMove}
+use Rattle.move_laws.proofs.Laws.{move_law}
+use Rattle.move_laws.proofs.Legality.{halted_move}
+use Rattle.stage_moves.proofs.Turning.{drained_at, halted_at}
 use Rattle.pipeline_turn.specs.Jobs.{AreAway}
 use Rattle.pipeline_turn.proofs.Journals.{begins_through}
 use Rattle.pipe_laws.specs.Followed.{FollowsMoves}
@@ -29,8 +34,9 @@ use Rattle.job_laws.specs.Away.{IsAway}
 use Rattle.stage_moves.specs.Clocks.{ClockSeen, KeepsClock, KeepsClockOn}
 use Rattle.stage_holds.specs.Answers.{with_answered}
 use Rattle.stage_holds.specs.Homes.{IsBack}
-use Rattle.stage_holds.specs.Holds.{AddsHold, AreHome, OutsAre}
-use Rattle.stage_holds.specs.Nexts.{job_of, post_of}
+use Rattle.stage_holds.specs.Holds.{AddsHold, AreHome, OutsAre, Holds}
+use Rattle.stage_holds.specs.Parts.{PartsSeen}
+use Rattle.stage_holds.specs.Nexts.{IsByMove, HasPausedAt, job_of, post_of}
 use Rattle.stage_holds.specs.Nexts as next_job
 use Rattle.stage_holds.specs.declared.holding.Next.{Next}
 use Rattle.stage_holds.specs.declared.holding.Next.TheVariants as next
@@ -44,12 +50,12 @@ use Rattle.run_pipe.specs.Seen.{PipeState, away_of}
 use Rattle.run_pipe.specs.Stems.{Stems, KeepsClockTo, KeepsControlTo, IsOfPost}
 use Rattle.run_pipe.specs.Jobs.{IsLoadOf, IsBrought}
 use Rattle.run_pipe.specs.Rounded.{Rounded}
-use Rattle.run_pipe.specs.Rounds.{Goes, IsOn, IsOver, IsWaiting, begins_job, round_of, end_of}
+use Rattle.run_pipe.specs.Rounds.{Goes, IsOn, IsOver, IsWaiting, HasPaused, begins_job, round_of, end_of}
 use Rattle.stage_workers.specs.Rounds.{IfJob, job_post}
 use Rattle.stage_workers.specs.declared.shift.Round.{Round}
 use Rattle.run_pipe.proofs.Gone.{some_same, moves, IsPlaced}
 use Rattle.run_pipe.proofs.Backs.{if_some, IsBackNow}
-use Rattle.run_pipe.proofs.Outs.{outs_on}
+use Rattle.run_pipe.proofs.Outs.{outs_on, second_false}
 use Rattle.run_pipe.proofs.Homing.{Brings, backs, not_going}
 
 abbrev pub Came : Type 0 → Type 0
@@ -59,6 +65,14 @@ abbrev pub AtJob : {B : Type 0} → Came B → (Load B → Type 0) → Type 0
 AtJob {B = B} came P = IfOk came (λ (n : Next B). next_job.IfJob n P)
 
 -- ---- by how the hold came out
+
+-- a pipeline that has halted does not drain
+unhalted : (topology : Topology) (steps : History) → jobs_out topology steps ≡ false → move topology steps ≡ next_move.Drained → happened is_halt steps ≡ false
+unhalted topology steps home n = by (happened is_halt steps) refl
+  where
+    by : (b : Bool) → happened is_halt steps ≡ b → happened is_halt steps ≡ false
+    by true e = let x : next_move.Halted ≡ next_move.Drained = sym (halted_move topology steps e home) ∙ n in cc
+    by false e = e
 
 module _ {B : Type 0} where
   with_all : (came : Came B) (P Q R : Load B → Type 0) → ((load : Load B) → P load → Q load → R load) → AtJob came P → AtJob came Q → AtJob came R
@@ -109,14 +123,16 @@ module _ {B : Type 0} where
   control_to (Ok next.Halted) topology steps opened lines k = k
   control_to (Err e) topology steps opened lines k = k
 
-  ended_by : (came : Came B) (topology : Topology) (steps : History) → (came ≡ Ok next.Drained → IsTrue (is_drained topology steps)) → (came ≡ Ok next.Halted → (happened is_halt steps ≡ true) × (jobs_out topology steps ≡ false))
-      → IfSome (end_of came) (λ end. IfOk end (HasEnded topology steps))
-  ended_by (Ok (next.Job load)) topology steps d h = tt
-  ended_by (Ok next.JobsOut) topology steps d h = tt
-  ended_by (Ok next.Paused) topology steps d h = tt
-  ended_by (Ok next.Drained) topology steps d h = d refl
-  ended_by (Ok next.Halted) topology steps d h = h refl
-  ended_by (Err e) topology steps d h = tt
+  -- how it ended, by the next move
+  ended_by : (came : Came B) (topology : Topology) (steps : History) → is_legal topology steps ≡ true → owed topology steps ≡ None → IfOk came (IsByMove topology steps) → IfSome (end_of came) (λ end. IfOk end (HasEnded topology steps))
+  ended_by (Ok (next.Job load)) topology steps legal free n = tt
+  ended_by (Ok next.JobsOut) topology steps legal free n = tt
+  ended_by (Ok next.Paused) topology steps legal free n = tt
+  ended_by (Ok next.Drained) topology steps legal free n =
+      let drained : is_drained topology steps ≡ true = drained_at topology steps legal free (sym n) in
+      (drained, unhalted topology steps (second_false (happened is_drain steps) (jobs_out topology steps) _ drained) n)
+  ended_by (Ok next.Halted) topology steps legal free n = halted_at topology steps legal free (sym n)
+  ended_by (Err e) topology steps legal free n = tt
 
   where_held : (came : Came B) (P : Type 0) → HasMemory (end_of came) → OnOk came P → P
   where_held (Ok (next.Job load)) P m p = p
@@ -143,13 +159,27 @@ module _ {B : Type 0} (topology : Topology) (old new : History) where
   less_by brought (Ok next.Halted) sound legal b cut rec paused row goes = absurd goes
   less_by brought (Err e) sound legal b cut rec paused row goes = absurd goes
 
-  waiting_by : (came : Came B) → (came ≡ Ok next.JobsOut → jobs_out topology new ≡ true) → IsWaiting (round_of came) → jobs_out topology new ≡ true
-  waiting_by (Ok (next.Job load)) w is = absurd is
-  waiting_by (Ok next.JobsOut) w is = w refl
-  waiting_by (Ok next.Paused) w is = absurd is
-  waiting_by (Ok next.Drained) w is = absurd is
-  waiting_by (Ok next.Halted) w is = absurd is
-  waiting_by (Err e) w is = absurd is
+-- why it does not begin a job
+module _ {B : Type 0} (topology : Topology) (steps : History) where
+  waiting_by : (came : Came B) → is_legal topology steps ≡ true → owed topology steps ≡ None → IfOk came (IsByMove topology steps) → IsWaiting (round_of came) → (move topology steps ≡ next_move.JobsOut) × (jobs_out topology steps ≡ true)
+  waiting_by (Ok (next.Job load)) legal free n is = absurd is
+  waiting_by (Ok next.JobsOut) legal free n is = (n, subst (IsLegalMove topology steps) n (move_law topology steps legal free))
+  waiting_by (Ok next.Paused) legal free n is = absurd is
+  waiting_by (Ok next.Drained) legal free n is = absurd is
+  waiting_by (Ok next.Halted) legal free n is = absurd is
+  waiting_by (Err e) legal free n is = absurd is
+
+  pausing_by : (came : Came B) → IfOk came (IsByMove topology steps) → HasPaused (round_of came) → HasPausedAt topology steps
+  pausing_by (Ok (next.Job load)) n is = absurd is
+  pausing_by (Ok next.JobsOut) n is = absurd is
+  pausing_by (Ok next.Paused) n is = n
+  pausing_by (Ok next.Drained) n is = absurd is
+  pausing_by (Ok next.Halted) n is = absurd is
+  pausing_by (Err e) n is = absurd is
+
+cut_by : {B : Type 0} (came : Came B) → IsErr came → IsSome (end_of came)
+cut_by (Ok n) fails = let x : false ≡ true = fails in cc
+cut_by (Err e) fails = refl
 
 on_by : {B : Type 0} (came : Came B) → IsOn (round_of came) → end_of came ≡ None
 on_by (Ok (next.Job load)) o = refl
@@ -179,6 +209,7 @@ IsBackFrom look topology steps opened brought = IfSome brought (λ home. IsBack 
 pub record Held {B : Type 0} (look : B → BodySeen) (brought : Option (Home B)) (came : Came B) (topology : Topology) (old new : PipeState) : Type 0 where
   pub sound : IsSound topology
   pub legal : is_legal topology new.steps ≡ true
+  pub free : owed topology new.steps ≡ None
   pub within : AtJob came (λ load. place_at load.job.post < new.places)
   pub follows : FollowsMoves topology old.steps → FollowsMoves topology new.steps
   pub ready : Ready topology new.steps new.home
@@ -189,15 +220,46 @@ pub record Held {B : Type 0} (look : B → BodySeen) (brought : Option (Home B))
   pub recorded : OnOk came (IsRecorded topology old.steps new.steps brought)
   pub cut_off : IfSome brought (λ home. IsErr home.answer → IsErr came)
   pub outs : OnOk came (OutsAre (post_of brought) (job_of came) old.steps new.steps)
-  pub waits : came ≡ Ok next.JobsOut → jobs_out topology new.steps ≡ true
+  pub by_move : IfOk came (IsByMove topology new.steps)
+  pub one_line : controls new.steps ≤ controls old.steps + 1
   pub row : AtJob came (λ load. 1 ≤ topology.idle_limit → quiet_row new.steps < topology.idle_limit)
   pub paused : came ≡ Ok next.Paused → (may_pause new.steps ≡ 0) × (brought ≡ None → 2 * work_left topology new.steps < rounds_left topology old.steps)
   pub adds : AddsHold (post_of brought) (job_of came) old.steps new.steps
   pub homes : AreHome (post_of brought) (job_of came) old.home new.home
   pub clock : (opened : ClockSeen) → KeepsClock old.steps opened old.clock → KeepsClockOn came new.steps opened new.clock
   pub control : (opened : Option LineSeen) → KeepsControl topology old.steps 0 opened old.control → KeepsControlOn came topology new.steps 0 opened new.control
-  pub drained : came ≡ Ok next.Drained → IsTrue (is_drained topology new.steps)
-  pub halted : came ≡ Ok next.Halted → (happened is_halt new.steps ≡ true) × (jobs_out topology new.steps ≡ false)
+
+-- what the hold works on
+abbrev pub parts_of : PipeState → PartsSeen
+parts_of p = record { topology = p.topology; steps = p.steps; home = p.home; places = p.places; control = p.control; clock = p.clock }
+
+pause_none : (topology : Topology) (steps : History) → HasPausedAt topology steps → may_pause steps ≡ 0
+pause_none topology steps p = subst (λ (h : History). may_pause h ≡ 0) (sym p.is) refl
+
+pub held_by : {B : Type 0} (look : B → BodySeen) (brought : Option (Home B)) (came : Came B) (old new : PipeState) → IsSound old.topology → is_legal new.topology new.steps ≡ true → owed new.topology new.steps ≡ None
+    → Holds look brought came (parts_of old) (parts_of new) → Held look brought came old.topology old new
+held_by {B} look brought came old new sound legal free h = record {
+  sound = sound;
+  legal = subst (λ (t : Topology). is_legal t new.steps ≡ true) h.topology legal;
+  free = subst (λ (t : Topology). owed t new.steps ≡ None) h.topology free;
+  within = h.within;
+  follows = h.follows;
+  ready = h.ready;
+  keeps = h.keeps;
+  load = h.load;
+  fits = h.fits;
+  recorded = h.recorded;
+  cut_off = h.cut_off;
+  outs = h.outs;
+  by_move = h.by_move;
+  one_line = h.one_line;
+  row = h.row;
+  paused = λ is. (pause_none old.topology new.steps (subst (λ (r : Came B). IfOk r (IsByMove old.topology new.steps)) is h.by_move), h.paused is);
+  adds = h.adds;
+  homes = h.homes;
+  clock = h.clock;
+  control = h.control;
+}
 
 -- the job that the worker goes away with is of a post of the topology
 module _ {B : Type 0} (look : B → BodySeen) (brought : Option (Home B)) (came : Came B) (opened old new : PipeState) (h : Held look brought came opened.topology old new) (s : Stems opened old) (b : IfSome brought (IsBackNow look opened old.steps)) where
@@ -278,7 +340,7 @@ module _ {B : Type 0} (look : B → BodySeen) (brought : Option (Home B)) (came 
     follows = subst (λ (t : Topology). FollowsMoves t new.steps) (sym topology) (held.follows w.follows);
     ready = subst (λ (t : Topology). Ready t new.steps new.home) (sym topology) held.ready;
     ended = subst (λ (e : Option (Result RunEnd AllocError)). IfSome e (λ end. IfOk end (HasEnded new.topology new.steps))) (sym end)
-        (subst (λ (t : Topology). IfSome (end_of came) (λ end. IfOk end (HasEnded t new.steps))) (sym topology) (ended_by came old.topology new.steps held.drained held.halted));
+        (subst (λ (t : Topology). IfSome (end_of came) (λ end. IfOk end (HasEnded t new.steps))) (sym topology) (ended_by came old.topology new.steps held.legal held.free held.by_move));
     outs = λ memory. outs_on (post_of brought) (job_of came) old new (where_held came (OutsAre (post_of brought) (job_of came) old.steps new.steps) (subst HasMemory end memory) held.outs) moved
         (w.outs (subst HasMemory (sym going) tt));
   }
@@ -296,7 +358,11 @@ module _ {B : Type 0} (look : B → BodySeen) (brought : Option (Home B)) (came 
         on = λ o. (going, end ∙ on_by came (subst IsOn is o));
         over = λ o. subst (λ (e : Option (Result RunEnd AllocError)). IsSome e) (sym end) (over_by came (subst IsOver is o));
         whole = holds_whole w;
-        waits = λ start w. waiting_by old.topology old.steps new.steps came held.waits (subst IsWaiting is w);
+        waits = λ w. subst (λ (t : Topology). (move t new.steps ≡ next_move.JobsOut) × (jobs_out t new.steps ≡ true)) (sym topology) (waiting_by old.topology new.steps came held.legal held.free held.by_move (subst IsWaiting is w));
+        pauses = λ p. subst (λ (t : Topology). HasPausedAt t new.steps) (sym topology) (pausing_by old.topology new.steps came held.by_move (subst HasPaused is p));
+        cut_off = if_some brought (λ home. IsErr home.answer → IsErr came) (λ home. IsErr home.answer → IsSome new.end)
+            (λ home cut fails. subst (λ (e : Option (Result RunEnd AllocError)). IsSome e) (sym end) (cut_by came (cut fails))) held.cut_off;
+        one_line = held.one_line;
         row = λ start. subst (λ (r : Round (Load B)). IfJob r (λ load. 1 ≤ old.topology.idle_limit → quiet_row new.steps < old.topology.idle_limit)) (sym is)
             (to_round came (λ load. 1 ≤ old.topology.idle_limit → quiet_row new.steps < old.topology.idle_limit) held.row);
         lessens = λ row goes. subst (λ (r : Round (Load B)). holds_left old.topology new.steps (begins_job r) < holds_left old.topology old.steps (is_some brought)) (sym is)

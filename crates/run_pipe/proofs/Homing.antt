@@ -1,5 +1,5 @@
 -- A round of a pipe that has ended: the body that is brought is put to its place, and no step is added.
-use Rattle.std.proofs.Common.{◌≡◌, ◌≢◌, ⊎_elim, inr, ℕ, ◌==◌, ◌<◌, Bool, true, false, if◌then◌else◌, sym, ap, refl, ◌∙◌, subst, Option, Some, None, Result, Ok, Err, Contains, eq-eqb, ne_eqb}
+use Rattle.std.proofs.Common.{◌≡◌, ◌≢◌, ⊎_elim, inr, arith, ℕ, ◌==◌, ◌<◌, Bool, true, false, if◌then◌else◌, sym, ap, refl, ◌∙◌, subst, Option, Some, None, Result, Ok, Err, Contains, eq-eqb, ne_eqb}
 use Rattle.std.specs.Prelude.{IfSome, IsSome, is_some, option_map}
 use Rattle.std.proofs.lemmas.Option.{none-some}
 use Rattle.std.specs.declared.alloc.AllocError.{AllocError}
@@ -19,7 +19,7 @@ use Rattle.body_laws.specs.Ready.{Ready}
 use Rattle.job_laws.specs.Away.{IsAway}
 use Rattle.job_laws.proofs.Away.{unrecorded_home, cut_home, home_ready}
 use Rattle.stage_holds.specs.Homes.{IsBack}
-use Rattle.stage_holds.specs.Holds.{AreHome}
+use Rattle.stage_holds.specs.Holds.{AreHome, IsHome}
 use Rattle.stage_holds.specs.declared.loads.Home.{Home}
 use Rattle.run_pipe.specs.declared.ends.RunEnd.{RunEnd}
 use Rattle.run_pipe.specs.Away.{away_in}
@@ -85,7 +85,10 @@ nothing_home look p w ended = record {
   on = λ o. absurd o;
   over = λ o. ended;
   whole = w;
-  waits = λ going w. absurd w;
+  waits = λ w. absurd w;
+  pauses = λ p. absurd p;
+  cut_off = tt;
+  one_line = omega arith;
   row = λ going. tt;
   lessens = λ row goes. absurd goes;
   away = λ post. (λ c. inr (c, λ e. none-some post e), ⊎_elim (λ (e : None ≡ Some post). absurd (none-some post e)) (λ (u : Contains (away_of p) post × (None ≢ Some post)). u.0));
@@ -105,14 +108,13 @@ backs look brought opened p seen sound legal s b = brought_now look opened p see
 
 -- the first condition of a hold, or of putting a body home
 module _ {B : Type 0} (look : B → BodySeen) (brought : Option (Home B)) (p : PipeState) (g : Brings look brought p) where
-  pub within_first : IfSome brought (λ home. place_at home.post < p.places)
-  within_first = if_some brought (IsBackNow look g.opened p.steps) (λ home. place_at home.post < p.places)
-      (λ home k. subst (λ (n : ℕ). place_at home.post < n) (sym g.stems.places) k.within)
-      (backs look brought g.opened p g.seen g.sound g.legal g.stems g.is_brought)
-
-  pub back_first : IfSome brought (λ home. (o : Option BodySeen) × IsBack p.topology p.steps o home.post home.answer (look home.body))
-  back_first = if_some brought (IsBackNow look g.opened p.steps) (λ home. (o : Option BodySeen) × IsBack p.topology p.steps o home.post home.answer (look home.body))
-      (λ home k. (g.opened.home (place_at home.post), subst (λ (t : Topology). IsBack t p.steps (g.opened.home (place_at home.post)) home.post home.answer (look home.body)) (sym g.stems.topology) k.back))
+  pub home_first : IfSome brought (IsHome look p.topology p.steps p.places)
+  home_first = if_some brought (IsBackNow look g.opened p.steps) (IsHome look p.topology p.steps p.places)
+      (λ home k. record {
+        opened = g.opened.home (place_at home.post);
+        back = subst (λ (t : Topology). IsBack t p.steps (g.opened.home (place_at home.post)) home.post home.answer (look home.body)) (sym g.stems.topology) k.back;
+        within = subst (λ (n : ℕ). place_at home.post < n) (sym g.stems.places) k.within;
+      })
       (backs look brought g.opened p g.seen g.sound g.legal g.stems g.is_brought)
 
 -- the pipe stays whole
@@ -150,7 +152,10 @@ one_home look home p after places w g ended table same =
       on = λ o. absurd o;
       over = λ o. ended;
       whole = home_whole look home p after places w g ended table;
-      waits = λ going w. absurd w;
+      waits = λ w. absurd w;
+      pauses = λ p. absurd p;
+      cut_off = λ fails. ended;
+      one_line = omega arith;
       row = λ going. tt;
       lessens = λ row goes. absurd goes;
       away = subst (λ (n : ℕ). AreAway (Some home.post) None (away_of p) (away_in p.topology after n)) (sym same)

@@ -11,7 +11,8 @@ use Rattle.pipe_model.specs.Legal.{quiet_row}
 use Rattle.pipe_model.specs.Moves.{jobs_out}
 use Rattle.pipe_model.specs.Posts.{is_out, slots, has_post_out}
 use Rattle.pipeline_turn.specs.Jobs.{IsUndone, AreAway}
-use Rattle.pipeline_turn.proofs.Journals.{unanswered_itself}
+use Rattle.pipe_model.specs.Begins.{BeginsWith}
+use Rattle.pipeline_turn.proofs.Journals.{unanswered_itself, begins_itself, begins_through}
 use Rattle.stage_bodies.specs.Seen.{BodySeen}
 use Rattle.stage_holds.specs.Homes.{IsOutcomeOf}
 use Rattle.stage_holds.specs.declared.loads.Load.{Load}
@@ -29,9 +30,10 @@ use Rattle.run_pipe.specs.Runs.{RanToEnd}
 use Rattle.run_pipe.proofs.Backs.{if_some, worked}
 use Rattle.run_pipe.proofs.Outs.{no_truth}
 
--- the pipe comes from what it was, with what the worker brings, and no body is away but that one
+-- the pipe comes from what it was, with steps added and with what the worker brings, and no body is away but that one
 pub record InHand {B : Type 0} (look : B → BodySeen) (first now : PipeState) (brought : Option (Home B)) : Type 0 where
   pub stems : (opened : PipeState) → Stems opened first → Stems opened now × IfSome brought (IsHomeOf look opened now.steps)
+  pub begins : BeginsWith now.steps first.steps
   pub away : (q : Post) → Contains (away_of now) q → brought_post (λ home. home.post) brought ≡ Some q
 
 -- there is an idle limit, and the answer that the worker brings is work
@@ -56,6 +58,7 @@ no_one p e = cc
 pub hand_first : {B : Type 0} (look : B → BodySeen) (first : PipeState) → away_of first ≡ [] → InHand look first first None
 hand_first look first none = record {
   stems = λ opened s. (s, tt);
+  begins = begins_itself first.steps;
   away = λ q c. not_in_none q (subst (λ (xs : List Post). Contains xs q) none c);
 }
 
@@ -81,6 +84,9 @@ module _ {B : Type 0} (look : B → BodySeen) (first now : PipeState) (brought :
     next_stems : (round : Round (Load B)) → Rounded look brought round now new → (opened : PipeState) → Stems opened first → Stems opened new
     next_stems round r opened s = let k = h.stems opened s in r.stems opened now.steps k.0 (brings_it look opened now.steps brought k.1)
 
+    next_begins : (round : Round (Load B)) → Rounded look brought round now new → BeginsWith new.steps first.steps
+    next_begins round r = begins_through new.steps now.steps first.steps r.adds.begins h.begins
+
     memory : new.end ≡ None → HasMemory new.end
     memory e = subst HasMemory (sym e) tt
 
@@ -96,12 +102,14 @@ module _ {B : Type 0} (look : B → BodySeen) (first now : PipeState) (brought :
     pub hand_job : (load : Load B) (home : Home B) → Rounded look brought (Job load) now new → home.post ≡ load.job.post → IsOutcomeOf load.job home.answer (look load.body) (look home.body) → InHand look first new (Some home)
     hand_job load home r is outcome = record {
       stems = λ o t. (next_stems (Job load) r o t, worked look o new.steps load home is outcome (hand_fits load r (o, t)));
+      begins = next_begins (Job load) r;
       away = λ q c. ap Some is ∙ away_then (Some load.job.post) r.away q c;
     }
 
     pub hand_again : Rounded look brought Again now new → InHand look first new None
     hand_again r = record {
       stems = λ o t. (next_stems Again r o t, tt);
+      begins = next_begins Again r;
       away = λ q c. away_then None r.away q c;
     }
 
@@ -114,13 +122,14 @@ module _ {B : Type 0} (look : B → BodySeen) (first now : PipeState) (brought :
     hand_waits r =
         let on = r.on tt in
         let none : (q : Post) → is_out new.steps q ≡ false = λ q. not_out (λ p out. no_one p (away_then None r.away p (r.whole.outs (memory on.1) p out))) q (is_out new.steps q) refl in
-        no_truth (jobs_out now.topology new.steps) (r.waits on.0 tt)
-        (any_none (λ (spec : StageSpec). has_post_out new.steps spec.no) now.topology.stages (λ spec. any_none (λ slot. is_out new.steps (post spec.no slot)) slots (λ slot. none (post spec.no slot))))
+        no_truth (jobs_out new.topology new.steps) (r.waits tt).1
+        (any_none (λ (spec : StageSpec). has_post_out new.steps spec.no) new.topology.stages (λ spec. any_none (λ slot. is_out new.steps (post spec.no slot)) slots (λ slot. none (post spec.no slot))))
 
     -- where it has ended, each body is at home
     pub hand_ended : Rounded look brought Ended now new → RanToEnd first new
     hand_ended r = record {
       stems = next_stems Ended r;
+      begins = next_begins Ended r;
       over = r.over tt;
       none_away = none_in (away_of new) (λ q c. no_one q (away_then None r.away q c));
       whole = r.whole;

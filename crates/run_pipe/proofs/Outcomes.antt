@@ -5,6 +5,7 @@ use Rattle.std.specs.declared.alloc.AllocError.{AllocError}
 use Rattle.pipe_types.specs.declared.numbers.Post.{Post}
 use Rattle.pipe_types.specs.declared.topology.Topology.{Topology}
 use Rattle.pipe_model.specs.History.{History}
+use Rattle.pipeline_turn.proofs.Journals.{begins_itself}
 use Rattle.pipe_laws.specs.Followed.{FollowsMoves}
 use Rattle.stage_bodies.specs.Seen.{LineSeen, BodySeen}
 use Rattle.body_laws.specs.Keeps.{has_post}
@@ -48,6 +49,7 @@ control_on (Err e) topology steps opened lines k = k
 has_ended : (opened p : PipeState) (end : Result RunEnd AllocError) → Stems opened p → IsWhole p → away_of p ≡ [] → p.end ≡ Some end → HasRun opened p end
 has_ended opened p end s w none is = record {
   topology = s.topology;
+  begins = s.begins;
   follows = subst (λ (t : Topology). FollowsMoves t p.steps) s.topology w.follows;
   keeps = s.keeps;
   stay = all_stay opened p s none;
@@ -92,6 +94,7 @@ short_ran p error w none = record {
     clock = clock_partly p.end p.steps opened.clock p.clock s.clock;
     control = control_partly p.end opened.topology p.steps opened.control p.control s.control;
   };
+  begins = begins_itself p.steps;
   over = refl;
   none_away = none;
   whole = short_whole p error w;

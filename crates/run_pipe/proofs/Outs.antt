@@ -25,14 +25,14 @@ pub no_truth : {A : Type 0} (b : Bool) → b ≡ true → b ≡ false → A
 no_truth true e f = cc
 no_truth false e f = cc
 
-second_false : (a b c : Bool) → (a && (not b && c)) ≡ true → b ≡ false
+pub second_false : (a b c : Bool) → (a && (not b && c)) ≡ true → b ≡ false
 second_false true false c h = refl
 second_false true true c h = cc
 second_false false b c h = cc
 
 -- no job is out at the end
 none_out_at : (topology : Topology) (h : History) (end : RunEnd) → HasEnded topology h end → jobs_out topology h ≡ false
-none_out_at topology h Drained e = second_false (happened is_drain h) (jobs_out topology h) _ e
+none_out_at topology h Drained e = second_false (happened is_drain h) (jobs_out topology h) _ e.0
 none_out_at topology h Halted e = e.1
 
 -- where no job is out, this post is not

@@ -8,9 +8,10 @@ use Rattle.pipe_model.specs.Moves.{is_drained, jobs_out}
 use Rattle.run_pipe.specs.declared.ends.RunEnd.{RunEnd}
 use Rattle.run_pipe.specs.declared.ends.RunEnd.TheVariants.{Drained, Halted}
 
--- how the run ended: every accepted message is acknowledged or lost and no job is out, or the pipeline halted and no job is out
+-- how the run ended: every accepted message is acknowledged or lost, no job is out and the pipeline has not halted; or it halted, and
+-- no job is out
 abbrev pub HasEnded : Topology → History → RunEnd → Type 0
-HasEnded topology before Drained = IsTrue (is_drained topology before)
+HasEnded topology before Drained = IsTrue (is_drained topology before) × (happened is_halt before ≡ false)
 HasEnded topology before Halted = (happened is_halt before ≡ true) × (jobs_out topology before ≡ false)
 
 -- it has not ended for want of memory

@@ -33,6 +33,10 @@ abbrev pub IsWaiting : {L : Type 0} → Round L → Type 0
 IsWaiting Waits = Unit {0}
 IsWaiting _ = ⊥
 
+abbrev pub HasPaused : {L : Type 0} → Round L → Type 0
+HasPaused Again = Unit {0}
+HasPaused _ = ⊥
+
 abbrev pub begins_job : {L : Type 0} → Round L → Bool
 begins_job (Job load) = true
 begins_job _ = false

@@ -1,6 +1,7 @@
 -- What a run of a pipe comes to.
 use Rattle.std.specs.Prelude.{◌≡◌, ℕ, [], IsSome, IfOk, Result}
 use Rattle.std.specs.declared.alloc.AllocError.{AllocError}
+use Rattle.pipe_model.specs.Begins.{BeginsWith}
 use Rattle.pipe_laws.specs.Followed.{FollowsMoves}
 use Rattle.body_laws.specs.Keeps.{Keeps}
 use Rattle.stage_moves.specs.Keeping.{KeepsControlOn}
@@ -11,17 +12,19 @@ use Rattle.run_pipe.specs.Seen.{PipeState, away_of}
 use Rattle.run_pipe.specs.Stems.{Stems}
 use Rattle.run_pipe.specs.Whole.{IsWhole}
 
--- the pipe comes from each start still that it came from, it has ended, and each body is at home
+-- the pipe comes from each start still that it came from, with steps added; it has ended, and each body is at home
 pub record RanToEnd (old new : PipeState) : Type 0 where
   pub stems : (opened : PipeState) → Stems opened old → Stems opened new
+  pub begins : BeginsWith new.steps old.steps
   pub over : IsSome new.end
   pub none_away : away_of new ≡ []
   pub whole : IsWhole new
 
--- each step of the pipeline's own was the next move when it came; the bodies, the control source and the clock stand where the
+-- steps were added, each of the pipeline's own as the next move when it came; the bodies, the control source and the clock stand where the
 -- journal leaves them; each body that was at home is; and the run ended as it says
 pub record HasRun (opened final : PipeState) (end : Result RunEnd AllocError) : Type 0 where
   pub topology : final.topology ≡ opened.topology
+  pub begins : BeginsWith final.steps opened.steps
   pub follows : FollowsMoves opened.topology final.steps
   pub keeps : Keeps opened.topology final.steps opened.home final.home
   pub stay : (at : ℕ) → IsSome (opened.home at) → IsSome (final.home at)

@@ -49,7 +49,7 @@ answers_one p h step only = one_hold (Some p) h step (λ q other. unless (answer
 abbrev pub Table : (p : Post) (body : BodySeen) (home back : ℕ → Option BodySeen) → Type 0
 Table p body home back = (s : ℕ) → back s ≡ (if place_at p == s then Some body else home s)
 
-pub record Comes {E : Type 0} (topology : Topology) (h : History) (home : ℕ → Option BodySeen) (p : Post) (answer : Result Answer E) (body : BodySeen) (after : History) (back : ℕ → Option BodySeen) : Type 0 where
+pub record Returned {E : Type 0} (topology : Topology) (h : History) (home : ℕ → Option BodySeen) (p : Post) (answer : Result Answer E) (body : BodySeen) (after : History) (back : ℕ → Option BodySeen) : Type 0 where
   pub follows : FollowsMoves topology h → FollowsMoves topology after
   pub ready : Ready topology after back
   pub keeps : (opened : ℕ → Option BodySeen) → Keeps topology h opened home → IsBack topology h (opened (place_at p)) p answer body → Keeps topology after opened back
@@ -68,7 +68,7 @@ no_answer topology h = record { same_time = refl; same_jobs = refl; same_control
 
 -- no step was added
 pub unrecorded : {E : Type 0} (topology : Topology) (h : History) (home back : ℕ → Option BodySeen) (p : Post) (answer : Result Answer E) (body : BodySeen) (opened : Option BodySeen)
-    → IsSound topology → Ready topology h home → IsBack topology h opened p answer body → Table p body home back → Comes topology h home p answer body h back
+    → IsSound topology → Ready topology h home → IsBack topology h opened p answer body → Table p body home back → Returned topology h home p answer body h back
 unrecorded {E = E} topology h home back p answer body opened sound ready b table = record {
   follows = λ f. f;
   ready = home_ready topology h opened b.job b.old body home back sound b.away (table_at home back body p b.job b.post table) ready;
@@ -85,7 +85,7 @@ unrecorded {E = E} topology h home back p answer body opened sound ready b table
 
 owed_too : {E : Type 0} (topology : Topology) (h : History) (home back : ℕ → Option BodySeen) (p : Post) (answer : Result Answer E) (body : BodySeen) (step : Step) (after : History) → IsSound topology → is_legal topology (step ∷ after) ≡ true
     → is_silent step ≡ true → ((q : Post) → (puts_out step q ≡ false) × (answers step q ≡ false)) → IsOther step → now (step ∷ after) ≡ now after → jobs_begun (step ∷ after) ≡ jobs_begun after → IsNextMove topology after step
-    → Comes topology h home p answer body after back → Comes topology h home p answer body (step ∷ after) back
+    → Returned topology h home p answer body after back → Returned topology h home p answer body (step ∷ after) back
 owed_too topology h home back p answer body step after sound legal silent posts other time jobs next c = record {
   follows = λ f. (c.follows f, next);
   ready = silent_ready topology after step back sound legal silent c.ready;
@@ -109,7 +109,7 @@ in_time topology h job answer a = ap (λ q. is_live topology h q.stage && incarn
 
 live_first : {E : Type 0} (topology : Topology) (h : History) (home back : ℕ → Option BodySeen) (p : Post) (answer : Answer) (body : BodySeen) (opened : Option BodySeen)
     → IsSound topology → is_legal topology h ≡ true → Ready topology h home → IsBack {E = E} topology h opened p (Ok answer) body → Table p body home back → is_in_time topology h answer ≡ true
-    → is_legal topology (step_of answer.post answer.outcome ∷ h) ≡ true → Comes {E = E} topology h home p (Ok answer) body (step_of answer.post answer.outcome ∷ h) back
+    → is_legal topology (step_of answer.post answer.outcome ∷ h) ≡ true → Returned {E = E} topology h home p (Ok answer) body (step_of answer.post answer.outcome ∷ h) back
 live_first {E = E} topology h home back p answer body opened sound before ready b table live legal = record {
   follows = λ f. (f, answer_next topology h answer.post answer.outcome);
   ready = live_home_ready topology h opened b.job answer b.old body home back sound legal b.away (sym (in_time topology h b.job answer b.outcome.0) ∙ live) b.outcome.0 b.outcome.1 (table_at home back body p b.job b.post table) ready;
@@ -144,7 +144,7 @@ late_other p i (came.Reply reply) low = record { control = refl; ends = refl; jo
 
 late_first : {E : Type 0} (topology : Topology) (h : History) (home back : ℕ → Option BodySeen) (p : Post) (answer : Answer) (body : BodySeen) (opened : Option BodySeen)
     → IsSound topology → is_legal topology h ≡ true → Ready topology h home → IsBack {E = E} topology h opened p (Ok answer) body → Table p body home back
-    → is_legal topology (late_step answer.post answer.incarnation answer.outcome ∷ h) ≡ true → Comes {E = E} topology h home p (Ok answer) body (late_step answer.post answer.incarnation answer.outcome ∷ h) back
+    → is_legal topology (late_step answer.post answer.incarnation answer.outcome ∷ h) ≡ true → Returned {E = E} topology h home p (Ok answer) body (late_step answer.post answer.incarnation answer.outcome ∷ h) back
 late_first {E = E} topology h home back p answer body opened sound before ready b table legal = record {
   follows = λ f. (f, tt);
   ready = late_home_ready topology h opened b.job answer b.old body home back sound legal b.away b.outcome.0 b.outcome.1 (table_at home back body p b.job b.post table) ready;
@@ -168,11 +168,11 @@ late_first {E = E} topology h home back p answer body opened sound before ready 
 
 recorded : {E : Type 0} (topology : Topology) (h : History) (home back : ℕ → Option BodySeen) (p : Post) (answer : Answer) (body : BodySeen) (opened : Option BodySeen)
     → IsSound topology → is_legal topology h ≡ true → Ready topology h home → IsBack {E = E} topology h opened p (Ok answer) body → Table p body home back
-    → is_legal topology (with_answered topology h answer) ≡ true → Comes {E = E} topology h home p (Ok answer) body (with_answered topology h answer) back
+    → is_legal topology (with_answered topology h answer) ≡ true → Returned {E = E} topology h home p (Ok answer) body (with_answered topology h answer) back
 recorded {E = E} topology h home back p answer body opened sound before ready b table legal = by_time (is_in_time topology h answer) refl legal
   where
     goal : History → Type 0
-    goal after = Comes {E = E} topology h home p (Ok answer) body after back
+    goal after = Returned {E = E} topology h home p (Ok answer) body after back
 
     by_time : (live : Bool) → is_in_time topology h answer ≡ live
         → is_legal topology (if live then with_answer topology h answer.post answer.outcome else late_step answer.post answer.incarnation answer.outcome ∷ h) ≡ true
@@ -186,12 +186,12 @@ recorded {E = E} topology h home back p answer body opened sound before ready b 
 
 pub comes_home : {T E F : Type 0} (topology other : Topology) (h after : History) (home back : ℕ → Option BodySeen) (p : Post) (answer : Answer) (body : BodySeen) (opened : Option BodySeen) (r : Result T F)
     → IsSound topology → is_legal topology h ≡ true → Ready topology h home → IsBack {E = E} topology h opened p (Ok answer) body → Table p body home back → other ≡ topology → is_legal other after ≡ true
-    → OnOk r (after ≡ with_answered topology h answer) → OnErr r (after ≡ h) → Comes {E = E} topology h home p (Ok answer) body after back
+    → OnOk r (after ≡ with_answered topology h answer) → OnErr r (after ≡ h) → Returned {E = E} topology h home p (Ok answer) body after back
 comes_home {E = E} topology other h after home back p answer body opened r sound before ready b table same legal ok err =
-    by_result (Comes {E = E} topology h home p (Ok answer) body after back) (after ≡ with_answered topology h answer) (after ≡ h) r ok err
-    (λ e. subst (λ x. Comes {E = E} topology h home p (Ok answer) body x back) (sym e)
+    by_result (Returned {E = E} topology h home p (Ok answer) body after back) (after ≡ with_answered topology h answer) (after ≡ h) r ok err
+    (λ e. subst (λ x. Returned {E = E} topology h home p (Ok answer) body x back) (sym e)
     (recorded topology h home back p answer body opened sound before ready b table (subst (λ x. is_legal topology x ≡ true) e (subst (λ o. is_legal o after ≡ true) same legal))))
-    (λ e. subst (λ x. Comes {E = E} topology h home p (Ok answer) body x back) (sym e) (unrecorded topology h home back p (Ok answer) body opened sound ready b table))
+    (λ e. subst (λ x. Returned {E = E} topology h home p (Ok answer) body x back) (sym e) (unrecorded topology h home back p (Ok answer) body opened sound ready b table))
 
 -- the answer may be recorded
 pub may_record : {E : Type 0} (topology : Topology) (h : History) (p : Post) (answer : Answer) (body : BodySeen) (opened : Option BodySeen) → IsSound topology → is_legal topology h ≡ true → owed topology h ≡ None

@@ -31,7 +31,10 @@ use Rattle.job_laws.proofs.Outs.{put_out_once}
 use Rattle.stage_moves.specs.Going.{Within}
 use Rattle.stage_moves.proofs.Controls.{job_count}
 use Rattle.stage_moves.proofs.Working.{Began, began, put_only}
-use Rattle.stage_holds.specs.Holds.{AddsHold, AreHome, OutsAre}
+use Rattle.std.specs.Prelude.{Result, Ok, Err}
+use Rattle.std.specs.Result.{IsErr}
+use Rattle.stage_holds.specs.declared.loads.Load.{Load}
+use Rattle.stage_holds.specs.Holds.{AddsHold, AreHome, OutsAre, Leaves, LeavesOn}
 use Rattle.stage_holds.proofs.Outing.{begun_outs}
 
 pub record Gone (topology : Topology) (before after : History) (home away : ℕ → Option BodySeen) (job : Job) (body : BodySeen) : Type 0 where
@@ -229,3 +232,23 @@ same_homes home back same = λ at. (λ e. inr (empty (back at) (home at) (sym (s
     by : (at : ℕ) → (None ≡ Some at) ⊎ ((home at ≡ None) × (None ≢ Some at)) → back at ≡ None
     by at (inl e) = absurd (none_is at e)
     by at (inr h) = empty (home at) (back at) (same at) h.0
+
+-- ---- all of it
+
+pub leaves_by : {B : Type 0} (look : B → BodySeen) (load : Load B) (topology : Topology) (before after : History) (home away : ℕ → Option BodySeen) → Gone topology before after home away load.job (look load.body) → Leaves look load topology before home after away
+leaves_by look load topology before after home away g = record {
+  follows = goes_follows g;
+  ready = goes_ready g;
+  keeps = goes_keeps g;
+  load = goes_away g;
+  fits = goes_fit g;
+  adds = goes_adds g;
+  within = goes_within g;
+  outs = goes_outs g;
+  row = goes_row g;
+  homes = leaves_home load.job.post home away g.gone;
+}
+
+pub leaves_none : {B E : Type 0} (look : B → BodySeen) (r : Result (Load B) E) (topology : Topology) (before after : History) (home : ℕ → Option BodySeen) → IsErr r → after ≡ before → LeavesOn look r topology before home after home
+leaves_none look (Ok load) topology before after home fails same = let y : false ≡ true = fails in cc
+leaves_none look (Err e) topology before after home fails same = (same, refl)

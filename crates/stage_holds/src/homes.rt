@@ -1,17 +1,13 @@
 //! What comes home: the body to its place, and the answer into the journal.
 
-ghost use Rattle.std.specs.Prelude.{◌≡◌, ◌<◌, None, Some, ℕ, length, Option, IfOk, IsTrue, IsErr, OnOk, OnErr};
+ghost use Rattle.std.specs.Prelude.{◌≡◌, length, IsTrue, OnOk, OnErr};
 ghost use Rattle.pipe_model.specs.Legal.{allows};
 ghost use Rattle.core_state.specs.Stands.{Stands};
-ghost use Rattle.pipe_laws.specs.Followed.{FollowsMoves};
-ghost use Rattle.stage_bodies.specs.Seen.{BodySeen, body_at};
-ghost use Rattle.stage_bodies.specs.Posts.{place_at};
-ghost use Rattle.body_laws.specs.Keeps.{Keeps};
+ghost use Rattle.stage_bodies.specs.Seen.{body_at};
 ghost use Rattle.body_laws.specs.Lates.{late_of};
 ghost use Rattle.body_laws.specs.Ready.{Ready};
 ghost use Rattle.stage_holds.specs.Answers.{is_in_time, answer_step, with_answered};
-ghost use Rattle.stage_holds.specs.Homes.{IsBack};
-ghost use Rattle.stage_holds.specs.Holds.{AddsHold, AreHome, OutsAre, AddsAnswer};
+ghost use Rattle.stage_holds.specs.Holds.{Comes, IsHome};
 
 use crate::loads::Home;
 use core_jobs::record_answer;
@@ -30,22 +26,11 @@ pub(crate) fn come_home<B: Works>(
 ) -> Result<(), AllocError>
     requires stands { Stands core.old }
     requires ready { Ready core.old.topology core.old.journal.steps (body_at B.look bodies.old.items) }
-    requires within { place_at home.post < length bodies.old.items }
-    requires back { (opened : Option BodySeen) × IsBack core.old.topology core.old.journal.steps opened home.post home.answer (B.look home.body) }
+    requires back { IsHome B.look core.old.topology core.old.journal.steps (length bodies.old.items) home }
     ensures stands { Stands core.new }
     ensures topology { core.new.topology ≡ core.old.topology }
     ensures len { length bodies.new.items ≡ length bodies.old.items }
-    ensures follows { FollowsMoves core.old.topology core.old.journal.steps → FollowsMoves core.old.topology core.new.journal.steps }
-    ensures ready { Ready core.old.topology core.new.journal.steps (body_at B.look bodies.new.items) }
-    ensures keeps { (opened : ℕ → Option BodySeen) → Keeps core.old.topology core.old.journal.steps opened (body_at B.look bodies.old.items)
-        → IsBack core.old.topology core.old.journal.steps (opened (place_at home.post)) home.post home.answer (B.look home.body)
-        → Keeps core.old.topology core.new.journal.steps opened (body_at B.look bodies.new.items) }
-    ensures adds { AddsHold (Some home.post) None core.old.journal.steps core.new.journal.steps }
-    ensures answer { AddsAnswer core.old.topology core.old.journal.steps core.new.journal.steps }
-    ensures recorded { OnOk result (IfOk home.answer (λ answer. core.new.journal.steps ≡ with_answered core.old.topology core.old.journal.steps answer)) }
-    ensures cut_off { IsErr home.answer → IsErr result }
-    ensures outs { OnOk result (OutsAre (Some home.post) None core.old.journal.steps core.new.journal.steps) }
-    ensures homes { AreHome (Some home.post) None (body_at B.look bodies.old.items) (body_at B.look bodies.new.items) }
+    ensures comes { Comes result home.post home.answer (B.look home.body) core.old.topology core.old.journal.steps (body_at B.look bodies.old.items) core.new.journal.steps (body_at B.look bodies.new.items) }
 {
     let Home { post, answer, body } = home;
     let at = place_of(post);
