@@ -16,7 +16,7 @@ use Rattle.config_table.specs.declared.fault.ConfigFault.{ConfigFault}
 use Rattle.config_flow.specs.Flow.{flow_topology_of}
 use Rattle.pipe_config.specs.File.{topology_of_file}
 use Rattle.pipe_top.specs.Cases.{Case, NoCommand, NoTopology as BadTopology, TooFew, Checks, Runs, case_of, run_case, unless_short, for_topology, report_alone}
-use Rattle.run_verdicts.specs.Verdicts.{Adds, AddsPrefix, out_text_of, err_text_of, status_in, FaultBy, QuietBy}
+use Rattle.run_verdicts.specs.Verdicts.{Adds, AddsPrefix, out_text_of, err_text_of, status_in, FaultBy, QuietBy, UnlessNine}
 use Rattle.pipe_top.specs.Runs.{OutsideSeen, IsRunOrNone, IsEndOf, IsOwnTopology, IsStatusOf, IsReportOf, IsRefusal, IsRefused, Lost, IsUntouched, HasUsed, HasNotBegun, HasRunOrNot, IsGivenUp, IsOutsideOf, IsRefusalStatus, IsUnopenedStatus, IsOr, Asks, FailsAt, NamesFault, IsEdgeLine, BeginsLine, out_text, text_of_call, case_line, error_text}
 use Rattle.pipe_top.specs.Flows.{Outcome, IsEarly, AskedBy}
 use Rattle.run_verdicts.specs.declared.verdict.Refusal.{Refusal}
@@ -196,6 +196,19 @@ unwritten_out case fails topology before verdict status held held' o is refusal 
     no_text : status ≡ status_in verdict → 4 < status → (status_in verdict ≤ 4) ⊎ (out_text_of verdict ≡ []) → out_text_of verdict ≡ []
     no_text s more (inl few) = absurd (omega (arith, s, more, few))
     no_text s more (inr none) = none
+
+-- under 9 nothing is written to the output
+pub unwritten_nine : (case : Case) (fails : List ℕ → Type 0) (topology : Option Topology) (before : History) (verdict : Verdict) (status : ℕ) (held held' : List ℕ) → Outcome case fails topology before verdict
+    → status ≡ 9 → (status ≢ 8 → Adds held held' (out_text_of verdict)) → UnlessNine verdict (held' ≡ held) → held' ≡ held
+unwritten_nine case fails topology before verdict status held held' o nine adds nothing = by_text (texts_small case fails topology before verdict o)
+  where
+    small : (v : Verdict) → status_in v ≤ 4 → UnlessNine v (held' ≡ held) → held' ≡ held
+    small (Done texts s) few unless = unless (λ at. omega (arith, few, at))
+    small (Refused refusal) few unless = unless
+
+    by_text : (status_in verdict ≤ 4) ⊎ (out_text_of verdict ≡ []) → held' ≡ held
+    by_text (inl few) = small verdict few nothing
+    by_text (inr none) = adds (λ eight. omega (arith, nine, eight)) ∙ ap (λ text. held ++ text) none ∙ append-nil held
 
 -- ---- statuses and lines
 

@@ -9,14 +9,14 @@ use Rattle.program_words.specs.Words.{Command}
 use Rattle.stage_bodies.specs.Seen.{SinkSeen}
 use Rattle.topology_needs.specs.declared.stock.Boxes.{Boxes}
 use Rattle.pipe_top.specs.Cases.{Case, InCase, case_of, calls_of}
-use Rattle.run_verdicts.specs.Verdicts.{Adds, AddsPrefix, out_text_of, err_text_of, status_in, FaultBy, QuietBy}
+use Rattle.run_verdicts.specs.Verdicts.{Adds, AddsPrefix, out_text_of, err_text_of, status_in, FaultBy, QuietBy, UnlessNine}
 use Rattle.pipe_top.specs.Runs.{OutsideSeen, IsRunOrNone, IsCall, IsUntouched, IsRefusalStatus, IsUnopenedStatus, IsOr, FailsAt}
 use Rattle.pipe_top.specs.Flows.{ComesBy, Came}
 use Rattle.run_verdicts.specs.declared.verdict.Refusal.TheVariants.{Memory}
 use Rattle.run_verdicts.specs.declared.verdict.Verdict.{Verdict}
 use Rattle.run_verdicts.specs.declared.verdict.Verdict.TheVariants.{Refused, Done}
 use Rattle.pipe_top.proofs.Outcomes.{settled, is_status, not_small, not_both, within, refusal_as, unopened_as}
-use Rattle.pipe_top.proofs.Clauses.{known, never_eight, own, run, ended, reported, begun, unwritten_out, statuses, lines, line_begun, named_fault, usage_by, of_status_seven, no_command_by, none_ran, not_opened, outside_as, lost_by, asks, asks_all, fault_by}
+use Rattle.pipe_top.proofs.Clauses.{known, never_eight, own, run, ended, reported, begun, unwritten_nine, unwritten_out, statuses, lines, line_begun, named_fault, usage_by, of_status_seven, no_command_by, none_ran, not_opened, outside_as, lost_by, asks, asks_all, fault_by}
 use Rattle.pipe_top.proofs.Completes.{complete_by, unwritten}
 
 -- what the writing of a verdict comes to
@@ -89,6 +89,12 @@ pub unwritten_in : {old new : OutsideSeen} {command : Option Command} {boxes : B
     → Came old new command boxes topology before verdict → (status ≡ status_in verdict) ⊎ ((status ≡ 8) ⊎ (status ≡ 9)) → IsRefusalStatus status → (status ≢ 8 → Adds held held' (out_text_of verdict)) → held' ≡ held
 unwritten_in {old} {new} {command} {boxes} {topology} {before} {verdict} status held held' c is refusal adds =
     unwritten_out (case_of command c.file boxes) (Failing (calls_of command (case_of command c.file boxes)) old new) topology before verdict status held held' c.comes.outcome is refusal adds
+
+-- nor does want of memory
+pub unwritten_nine_in : {old new : OutsideSeen} {command : Option Command} {boxes : Boxes} {topology : Option Topology} {before : History} {verdict : Verdict} (status : ℕ) (held held' : List ℕ)
+    → Came old new command boxes topology before verdict → status ≡ 9 → (status ≢ 8 → Adds held held' (out_text_of verdict)) → UnlessNine verdict (held' ≡ held) → held' ≡ held
+unwritten_nine_in {old} {new} {command} {boxes} {topology} {before} {verdict} status held held' c nine adds nothing =
+    unwritten_nine (case_of command c.file boxes) (Failing (calls_of command (case_of command c.file boxes)) old new) topology before verdict status held held' c.comes.outcome nine adds nothing
 
 -- 7 comes where the words are no command
 pub usage_in : {old new : OutsideSeen} {command : Option Command} {boxes : Boxes} {topology : Option Topology} {before : History} {verdict : Verdict} (status : ℕ)

@@ -68,11 +68,12 @@ pub fn run_program<
         (⟦<E::Out as SeenSink>⟧.seen out.old) (⟦<E::Out as SeenSink>⟧.seen out.new) (⟦<E::Out as SeenSink>⟧.seen err.old) (⟦<E::Out as SeenSink>⟧.seen err.new)
         (command_of (texts_of words.now.items)) result.topology result.journal.steps result.status) }
     // 7 comes only where the words are no command, which come to it unless a write failed or memory was wanting; 8 comes only
-    // where a write failed; 9 is want of memory.
+    // where a write failed; 9 is want of memory, and nothing was written to the output.
     ensures usage { result.status ≡ 7 → command_of (texts_of words.now.items) ≡ None }
     ensures no_command { command_of (texts_of words.now.items) ≡ None → IsOr 7 result.status }
     ensures output_fault { result.status ≡ 8 → Rose (E.Out.faults out.old) (E.Out.faults out.new) ⊎ Rose (E.Out.faults err.old) (E.Out.faults err.new) }
     ensures memory { result.status ≡ 9 → IsTrue (E.Out.told err.old) → AddsPrefix (E.Out.held err.old) (E.Out.held err.new) memory_line }
+    ensures memory_out { result.status ≡ 9 → IsTrue (E.Out.told out.old) → E.Out.held out.new ≡ E.Out.held out.old }
     // Under 5, 6 and 7 there is no run, and nothing was written to the output; but for 5 nothing was opened.
     ensures no_run { IsRefusalStatus result.status → (result.topology ≡ None) × (result.journal.steps ≡ []) }
     ensures not_opened { IsUnopenedStatus result.status → ((⟦<E as SeenEdges>⟧.seen edges.new).sources_back ≡ (⟦<E as SeenEdges>⟧.seen edges.old).sources_back)

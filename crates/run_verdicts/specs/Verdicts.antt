@@ -1,5 +1,5 @@
 -- What is written, and with which status.
-use Rattle.std.specs.Prelude.{◌≡◌, ℕ, List, [], ◌++◌, take, Option, Some, None}
+use Rattle.std.specs.Prelude.{◌≡◌, ◌≢◌, ℕ, List, [], ◌++◌, take, Option, Some, None}
 use Rattle.config_table.specs.declared.fault.ConfigFault.{ConfigFault}
 use Rattle.config_table.specs.declared.fault.ConfigFault.TheVariants.{NotToml, Version, UnknownKey, Missing, WrongType, OutOfRange, DuplicateName, UnknownBatcher, NoStage, TooManyStages, BadDispatch, Unreachable, OutOfMemory}
 use Rattle.config_table.specs.Fault.{number_of}
@@ -79,3 +79,8 @@ FaultBy (Refused refusal) out err = err
 abbrev pub QuietBy : Verdict → (quiet : Type 0) → Type 0
 QuietBy (Done texts status) quiet = quiet
 QuietBy (Refused refusal) quiet = Unit {0}
+
+-- what comes of a refusal, and of a report whose own status is not 9
+abbrev pub UnlessNine : Verdict → (holds : Type 0) → Type 0
+UnlessNine (Done texts status) holds = status ≢ 9 → holds
+UnlessNine (Refused refusal) holds = holds

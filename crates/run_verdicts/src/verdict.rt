@@ -2,7 +2,7 @@
 
 ghost use Rattle.std.specs.Prelude.{◌≡◌, ◌≢◌, ◌⊎◌, ◌≤◌, ◌++◌, true, false, IsTrue, IfOk, option_map};
 ghost use Rattle.pipe_types.specs.Counts.{Rose};
-ghost use Rattle.run_verdicts.specs.Verdicts.{path_of, refusal_text, refusal_status, or_nothing, whole_text, out_text_of, err_text_of, status_in, Adds, AddsPrefix, FaultBy, QuietBy};
+ghost use Rattle.run_verdicts.specs.Verdicts.{path_of, refusal_text, refusal_status, or_nothing, whole_text, out_text_of, err_text_of, status_in, Adds, AddsPrefix, FaultBy, QuietBy, UnlessNine};
 ghost use Rattle.program_words.specs.Refusals.{memory_line as memory_text};
 
 use pipe_config::{ConfigFault, fault_number};
@@ -58,6 +58,7 @@ pub fn write_verdict<K: ByteSink>(alloc: Global, verdict: &Verdict, out: &mut K,
     ensures fault { result ≡ 8 → status_in verdict.now ≢ 8 → FaultBy verdict.now (Rose (K.faults out.old) (K.faults out.new)) (Rose (K.faults err.old) (K.faults err.new)) }
     ensures out { result ≢ 8 → IsTrue (K.told out.old) → Adds (K.held out.old) (K.held out.new) (out_text_of verdict.now) }
     ensures out_begun { IsTrue (K.told out.old) → AddsPrefix (K.held out.old) (K.held out.new) (out_text_of verdict.now) }
+    ensures nothing { result ≡ 9 → IsTrue (K.told out.old) → UnlessNine verdict.now (K.held out.new ≡ K.held out.old) }
     ensures err { result ≢ 8 → result ≢ 9 → IsTrue (K.told err.old) → Adds (K.held err.old) (K.held err.new) (err_text_of verdict.now) }
     ensures err_begun { IsTrue (K.told err.old) → AddsPrefix (K.held err.old) (K.held err.new) (err_text_of verdict.now) }
     ensures memory { result ≡ 9 → IsTrue (K.told err.old) → AddsPrefix (K.held err.old) (K.held err.new) memory_text }

@@ -1,5 +1,5 @@
 use Rattle.pipe_top.proofs.Clauses.{fault_by}
-use Rattle.pipe_top.proofs.Promises.{call_in, run_in, known_in, unwritten_in, usage_in, no_command_in, eight_in, none_ran_in, not_opened_in}
+use Rattle.pipe_top.proofs.Promises.{call_in, run_in, known_in, unwritten_in, unwritten_nine_in, usage_in, no_command_in, eight_in, none_ran_in, not_opened_in}
 use Rattle.pipe_top.proofs.program.run_program.Goals as goal
 
 pub returns-clause-known : goal.returns-clause-known
@@ -38,6 +38,11 @@ returns-clause-no_run g c refusal = none_ran_in c.write_verdict-status.result c.
 pub returns-clause-no_output : goal.returns-clause-no_output
 returns-clause-no_output g c refusal told =
     unwritten_in c.write_verdict-status.result _ _ c.run_words-verdict.ensures.came c.write_verdict-status.ensures.status refusal (λ eight. c.write_verdict-status.ensures.out eight told)
+
+pub returns-clause-memory_out : goal.returns-clause-memory_out
+returns-clause-memory_out g c nine told =
+    let w = c.write_verdict-status.ensures in
+    unwritten_nine_in c.write_verdict-status.result _ _ c.run_words-verdict.ensures.came nine (λ eight. w.out eight told) (w.nothing nine told)
 
 pub returns-clause-not_opened : goal.returns-clause-not_opened
 returns-clause-not_opened g c unopened =
