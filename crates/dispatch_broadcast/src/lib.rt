@@ -5,12 +5,11 @@
 #![tactic(auto)]
 
 ghost use Rattle.std.specs.Prelude.{◌≡◌, ◌++◌, OnOk, IfOk, replicate};
-ghost use Rattle.pipe_types.specs.Dispatchers.{on_each, sends_by_place};
+ghost use Rattle.pipe_types.specs.Dispatchers.{ByBroadcast, picks_all, on_each, sends_by_place};
 ghost use Rattle.pipe_types.specs.Rooms.{AreAscending};
 ghost use Rattle.dispatch_broadcast.specs.Least.{least_left};
 
 use pipe_types::room::{Room, Sent, SentList};
-use pipe_types::topology::Dispatch;
 use std::alloc::{AllocError, Global};
 
 /// Sends every unit to every subscription.
@@ -31,7 +30,7 @@ impl BroadcastDispatch {
     pub fn deliver(&mut self, waiting: u32, room: &[Room]) -> Result<SentList, AllocError>
         requires { AreAscending room.now }
         // exactly what the broadcast rule sends of the waiting units
-        ensures { IfOk result (λ sent. sent ≡ sends_by_place Dispatch.Broadcast room.now (replicate waiting 0)) }
+        ensures { IfOk result (λ sent. sent ≡ sends_by_place (ByBroadcast picks_all) room.now (replicate waiting 0)) }
     {
         let count = least_open_demand(room).min(waiting);
         let mut sent = Vec::new(self.alloc);
