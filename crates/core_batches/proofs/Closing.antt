@@ -642,7 +642,7 @@ found_closing core s first trigger dry found key numbers stands allowed dries cl
       same = f.same;
     }
 
-pub closed_small : (core : Core) → Stands core → closed core.journal.steps ≤ 200000
+pub closed_small : (core : Core) → Stands core → closed core.journal.steps ≤ 2000000
 closed_small core stands =
     omega (arith, closed_law core.topology core.journal.steps stands.holds.legal, small_law core.topology core.journal.steps stands.holds.sound stands.holds.legal)
 

@@ -6,6 +6,7 @@
 //! messages and of a batcher, which sends closed batches and notes a leg for each subscription on which it sends one.
 #![tactic(auto)]
 
+mod alone;
 mod batches;
 mod counting;
 mod deliveries;

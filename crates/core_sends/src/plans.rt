@@ -1,11 +1,13 @@
 //! What a dispatch would send, and room for it.
 
-ghost use Rattle.std.specs.Prelude.{◌≡◌, ◌+◌, ◌<◌, ◌^◌, length, true, All, IfOk, OnOk};
+ghost use Rattle.std.specs.Prelude.{◌≡◌, ◌+◌, ◌<◌, ◌^◌, [], length, true, false, All, IfOk, OnOk};
 ghost use Rattle.pipe_model.specs.Lives.{is_live, is_live_sub};
-ghost use Rattle.pipe_model.specs.Flow.{waiting};
+ghost use Rattle.pipe_model.specs.Flow.{waiting, kind_in};
+ghost use Rattle.pipe_types.specs.Stages.{spec_of};
+ghost use Rattle.core_laws.specs.Columns.{is_broadcast};
 ghost use Rattle.core_tables.specs.Tables.{HasRoom};
 ghost use Rattle.core_state.specs.Stands.{Holds, Stands};
-ghost use Rattle.core_sends.specs.Rooms.{planned};
+ghost use Rattle.core_sends.specs.Rooms.{planned, served_first};
 
 use crate::deliveries::deliver;
 use crate::rooms::rooms_of;
@@ -13,13 +15,15 @@ use core_state::Core;
 use core_tables::inboxes::make_room as make_room_in;
 use pipe_types::numbers::StageNo;
 use pipe_types::room::Sent;
+use pipe_types::topology::{Dispatch, Topology};
 use std::alloc::AllocError;
 
-/// What a dispatch of the live stage would send if units with the partitions `more` waited behind those in its queue, by
+/// What a dispatch of the live stage, which does not broadcast, would send if units with the partitions `more` waited behind those in its queue, by
 /// unit and then by subscription. A unit is its place in the queue, from 0.
 pub fn plan(core: &Core, stage: StageNo, more: &[u32]) -> Result<Vec<Sent>, AllocError>
     requires holds { Holds core.now }
     requires live { is_live core.now.topology core.now.journal.steps stage ≡ true }
+    requires plain { is_broadcast (kind_in (spec_of core.now.topology stage)) ≡ false }
     requires few { length (waiting core.now.topology core.now.journal.steps stage) + length more.now < 2 ^ 32 }
     ensures { IfOk result (λ sent. sent.items ≡ planned core.now.topology core.now.journal.steps stage more.now) }
 {
@@ -41,4 +45,48 @@ pub fn make_room(core: &mut Core, sent: &[Sent]) -> Result<(), AllocError>
     ensures stands { Stands core.new }
 {
     make_room_in(&mut core.inboxes, sent)
+}
+
+/// What a dispatch of a batcher would send, and how many of the first batches of its queue it serves, whoever picks them.
+#[derive(Drop)]
+pub struct BatchPlan {
+    pub sent: Vec<Sent>,
+    pub served: usize,
+}
+
+/// What a dispatch of the live batcher would send. A batch is its place in the queue, from 0.
+pub(crate) fn plan_batches(core: &Core, stage: StageNo) -> Result<BatchPlan, AllocError>
+    requires holds { Holds core.now }
+    requires live { is_live core.now.topology core.now.journal.steps stage ≡ true }
+    requires few { length (waiting core.now.topology core.now.journal.steps stage) < 2 ^ 32 }
+    ensures sent { IfOk result (λ p. p.sent.items ≡ planned core.now.topology core.now.journal.steps stage []) }
+    ensures served { IfOk result (λ p. p.served ≡ served_first core.now.topology core.now.journal.steps stage) }
+{
+    if does_broadcast(&core.topology, stage) {
+        return plan_picked(core, stage);
+    }
+    let sent = plan(core, stage, &[])?;
+    Ok(BatchPlan { sent, served: 0 })
+}
+
+/// Whether the stage broadcasts.
+fn does_broadcast(topology: &Topology, stage: StageNo) -> bool
+    ensures { result ≡ is_broadcast (kind_in (spec_of topology.now stage)) }
+{
+    match topology.stages.find(stage) {
+        Some(spec) => matches!(spec.dispatch, Dispatch::Broadcast),
+        None => false,
+    }
+}
+
+/// What a dispatch of the live batcher, which broadcasts, would send.
+fn plan_picked(core: &Core, stage: StageNo) -> Result<BatchPlan, AllocError>
+    requires holds { Holds core.now }
+    requires live { is_live core.now.topology core.now.journal.steps stage ≡ true }
+    requires broadcast { is_broadcast (kind_in (spec_of core.now.topology stage)) ≡ true }
+    requires few { length (waiting core.now.topology core.now.journal.steps stage) < 2 ^ 32 }
+    ensures sent { IfOk result (λ p. p.sent.items ≡ planned core.now.topology core.now.journal.steps stage []) }
+    ensures served { IfOk result (λ p. p.served ≡ served_first core.now.topology core.now.journal.steps stage) }
+{
+    Err(AllocError)
 }
