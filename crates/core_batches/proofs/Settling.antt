@@ -21,7 +21,7 @@ use Rattle.message_ack.specs.declared.legs.Settled.{Settled}
 use Rattle.message_ack.specs.declared.legs.Settled.TheVariants.{Outcomes, Lost as LostBatch}
 use Rattle.message_ack.specs.Ends.{IsSettledBy}
 use Rattle.core_tables.proofs.Running.{pass_step, listed_step}
-use Rattle.core_batches.specs.Writes.{end_at, ended_from, ended_by, marked}
+use Rattle.core_batches.specs.Writes.{end_at, ended_from, ended_by}
 
 ended_none : (f : ℕ → Place) (k : ℕ) (ns : List ℕ) (n : ℕ) (p : Place) → All (λ m. n ≢ m) ns → ended_from f k ns n p ≡ p
 ended_none f k [] n p h = refl
@@ -49,16 +49,6 @@ settled_step places f ns k e q p below pairs is least within was i =
   where
     both : (n : ℕ) (x : Place) → ended_from f k (drop k ns) n x ≡ (if get_or ns k e == n then f k else ended_from f (k + 1) (drop (k + 1) ns) n x)
     both n x = at_drop_more (λ ms. ended_from f k ms n x) ns k e below
-
-pub marked_step : (marks : List ℕ) (ns : List ℕ) (k e mark p : ℕ) → k < length ns → 1 ≤ get_or ns k e → get_or ns k e - 1 < length marks → slice_get marks (get_or ns k e - 1) ≡ Some p
-    → (i : ℕ) → option_map (marked (drop (k + 1) ns) mark (suc i)) (slice_get (set marks (get_or ns k e - 1) mark) i) ≡ option_map (marked (drop k ns) mark (suc i)) (slice_get marks i)
-marked_step marks ns k e mark p below least within was i =
-    listed_step {A = ℕ} (λ xs n x. marked xs mark n x) (λ x. mark) (λ n xs x. either (among xs n) ∙ sym (ap (λ c. if c || among xs n then mark else x) (eq-eqb n n refl)))
-    (λ m n xs x other. ap (λ c. if c || among xs n then mark else x) (sym other)) marks ns k e p mark below least within was refl i
-  where
-    either : (c : Bool) → (if c then mark else mark) ≡ mark
-    either true = refl
-    either false = refl
 
 -- What the passes come to
 

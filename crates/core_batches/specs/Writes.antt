@@ -9,9 +9,9 @@ use Rattle.pipe_types.specs.declared.message.Outcome.TheVariants.{Successful}
 use Rattle.pipe_types.specs.declared.message.BatchEnd.{BatchEnd}
 use Rattle.pipe_types.specs.declared.message.BatchEnd.TheVariants.{Outcomes}
 use Rattle.pipe_types.specs.Numbers.{same_sub}
-use Rattle.pipe_model.specs.Flow.{among}
 use Rattle.message_ack.specs.declared.legs.Settled.{Settled}
 use Rattle.message_ack.specs.Ends.{place_in}
+use Rattle.core_tables.specs.Marks.{marked}
 
 -- how many subscriptions stand before this one
 abbrev pub leg_place : SubNo → List SubNo → ℕ
@@ -26,10 +26,6 @@ end_at settled k = unwrap_or (place_in settled k) (Acked Successful)
 abbrev pub ended_from : (ℕ → Place) → (k : ℕ) → List ℕ → ℕ → Place → Place
 ended_from ends k [] n place = place
 ended_from ends k (m ∷ numbers) n place = if m == n then ends k else ended_from ends (k + 1) numbers n place
-
--- these messages have the mark
-abbrev pub marked : List ℕ → (mark : ℕ) → ℕ → ℕ → ℕ
-marked numbers mark n old = if among numbers n then mark else old
 
 -- where the messages of a batch stand that ended so, or goes on
 abbrev pub ended_by : Option Settled → List ℕ → ℕ → Place → Place

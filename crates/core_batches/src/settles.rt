@@ -3,8 +3,9 @@
 ghost use Rattle.std.specs.Prelude.{◌≡◌, ◌≢◌, ℕ, suc, ◌<◌, ◌≤◌, length, All, IfSome, slice_get, option_map, unwrap_or};
 ghost use Rattle.pipe_types.specs.declared.message.Outcome.TheVariants.{Successful};
 ghost use Rattle.std.specs.List.{AllPairs};
-ghost use Rattle.core_batches.specs.Writes.{leg_place, end_at, ended_from, marked, ended_by, marked_by, AreNumbers};
+ghost use Rattle.core_batches.specs.Writes.{leg_place, end_at, ended_from, ended_by, marked_by, AreNumbers};
 
+use core_tables::marks::mark_all;
 use core_tables::rows::BatchRow;
 use message_ack::Settled;
 use pipe_types::message::{Outcome, OutcomeList, Place};
@@ -107,16 +108,4 @@ fn outcome_at(outcomes: &OutcomeList, at: usize) -> Outcome
         .get(at)
         .copied()
         .unwrap_or(Outcome::Successful)
-}
-
-/// Notes the step that settled each message of the batch.
-pub fn mark_all(marks: &mut Vec<u64>, numbers: &[u32], mark: u64)
-    requires within { All (λ n. (1 ≤ n) × (n ≤ length marks.old.items)) numbers.now }
-    ensures len { length marks.new.items ≡ length marks.old.items }
-    ensures marked { (i : ℕ) → slice_get marks.new.items i ≡ option_map (marked numbers.now mark (suc i)) (slice_get marks.old.items i) }
-{
-    for no in numbers {
-        let at = (*no - 1) as usize;
-        marks[at] = mark;
-    }
 }

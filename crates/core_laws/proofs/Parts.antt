@@ -2,7 +2,7 @@
 use Rattle.std.proofs.Common.{subst, ◌≡◌, ◌≢◌, ℕ, suc, ◌+◌, ◌-◌, ◌<◌, List, [], ◌∷◌, ◌++◌, map, length, Bool, true, false, refl, ap, sym, ◌∙◌, Some, None, Option, arith}
 use Rattle.std.specs.Prelude.{if◌then◌else◌, ◌==◌, ◌&&◌, ◌||◌, option_map, filter, nat_le, nat_lt}
 use Rattle.std.specs.List.{enumerate_from}
-use Rattle.std.proofs.lemmas.Bool.{eqb-true}
+use Rattle.std.proofs.lemmas.Bool.{eqb-true, eq-eqb}
 use Rattle.std.proofs.lemmas.List.Kept.{AllPairs-cons}
 use Rattle.pipe_types.specs.declared.numbers.StageNo.{StageNo}
 use Rattle.pipe_types.specs.declared.numbers.SubNo.{SubNo}
@@ -13,9 +13,11 @@ use Rattle.pipe_types.specs.declared.topology.Role.TheVariants.{Producer, Proces
 use Rattle.pipe_types.specs.declared.topology.Dispatch.{Dispatch as DispatchKind}
 use Rattle.pipe_types.specs.declared.topology.Dispatch.TheVariants.{Demand, Broadcast, Partition}
 use Rattle.pipe_types.specs.declared.message.BatchEnd.TheVariants.{Outcomes}
+use Rattle.pipe_types.specs.declared.message.Place.TheVariants.{InBatch}
 use Rattle.pipe_types.specs.declared.room.Room.{Room}
 use Rattle.pipe_types.specs.declared.step.Step.TheVariants.{Dispatch, Take, Close, Wrote, Kill, Halt}
 use Rattle.pipe_types.specs.Dispatchers.{ByDemand, served_as, mark_of, goes, ahead, on_each, sends_from, sends_by_place, partition_of}
+use Rattle.pipe_types.specs.Numbers.{batch_no}
 use Rattle.pipe_types.specs.Rooms.{PartsDiffer}
 use Rattle.pipe_types.specs.Sound.{IsSound, is_ordered, may_begin, may_go_on, may_follow, is_next, batchers}
 use Rattle.pipe_types.specs.Stages.{spec_of, feeds, option_feeds, role_feeds}
@@ -23,12 +25,15 @@ use Rattle.pipe_model.specs.Batches.{Batch, BatchPlace, batch_sent, leg_taken, l
 use Rattle.pipe_model.specs.Content.{content, key_in}
 use Rattle.pipe_model.specs.History.{History, closed, asked, incarnation}
 use Rattle.pipe_model.specs.Lives.{is_live, current_sub, live_subs_from, kill_set}
-use Rattle.pipe_model.specs.Flow.{batch, sent, view_of, waiting, numbers_in, first_in, among, closing, new_batch, next_units, change_place, deliveries, subs_of, partition_in, mark_in, serving_by, picks_by, alone, rooms_by, index_in, kind_in}
+use Rattle.pipe_model.specs.Flow.{place, batch_waits_in, is_empty, batch, sent, view_of, waiting, numbers_in, first_in, among, closing, new_batch, next_units, change_place, deliveries, subs_of, partition_in, mark_in, serving_by, picks_by, alone, rooms_by, index_in, kind_in}
+use Rattle.pipe_model.specs.Legal.{is_legal}
 use Rattle.pipe_model.specs.Taken.{closed_as}
 use Rattle.pipe_laws.proofs.Levels.{rank, rank_of, rank_in, feeds_down}
 use Rattle.pipe_laws.proofs.Lists.{Each, each_weaker, each_map}
 use Rattle.pipe_laws.proofs.Sounds.{sound_ascends}
 use Rattle.pipe_laws.proofs.Tests.{and_left, and_right}
+use Rattle.queue_laws.proofs.Drained.{waits_going}
+use Rattle.queue_laws.proofs.Laws.{holds_law}
 use Rattle.queue_laws.proofs.Sounds.{found_self}
 use Rattle.core_laws.specs.Columns.{closed_numbers, part_of, part_by, is_by_partition, is_broadcast}
 use Rattle.core_laws.proofs.Lawful.{each_all}
@@ -64,6 +69,19 @@ closed_is topology (Kill s why ∷ before) b =
 closed_is topology (Halt ∷ before) b =
     closed_is topology before b ∙ same_numbers (λ x. batch_killed (kill_set topology before Halt) (incarnation before) x.place) (batch topology before b)
 closed_is topology (step ∷ before) b = closed_is topology before b
+
+first_among : (ns : List ℕ) → is_empty ns ≡ false → among ns (first_in ns) ≡ true
+first_among [] h = cc
+first_among (n ∷ ns) h = ap (λ b. b || among ns n) (eq-eqb n n refl)
+
+-- the first message of a batch that waits stands in it
+pub first_stands : (topology : Topology) (before : History) (t : StageNo) (b : ℕ) → is_legal topology before ≡ true → batch_waits_in t (batch topology before b) ≡ true
+    → place topology before (first_in (closed_numbers (closed_as topology before b))) ≡ Some (InBatch (batch_no b))
+first_stands topology before t b legal waits =
+    let going = waits_going t (batch topology before b) waits in
+    let law = holds_law topology before b legal in
+    ap (λ ns. place topology before (first_in ns)) (closed_is topology before b)
+    ∙ law.each going (first_in (numbers_in (batch topology before b))) (first_among (numbers_in (batch topology before b)) (law.some going))
 
 -- Partitions
 

@@ -56,7 +56,7 @@ serves_alike p q k rooms earlier (u ∷ units) same low below =
 
 -- The places of what waits
 
-low_places : (n k : ℕ) → n ≤ k → Each (λ m. m < k) (places n)
+pub low_places : (n k : ℕ) → n ≤ k → Each (λ m. m < k) (places n)
 low_places zero k h = tt
 low_places (suc n) k h = behind (places n) (low_places n k (omega (arith, h)))
   where
@@ -64,7 +64,7 @@ low_places (suc n) k h = behind (places n) (low_places n k (omega (arith, h)))
     behind [] e = (omega (arith, h), tt)
     behind (m ∷ ns) e = (e.0, behind ns e.1)
 
-low_units : (k from : ℕ) (ns : List ℕ) → Each (λ m. m < k) ns → Each (λ (u : ℕ × ℕ). u.1 < k) (enumerate_from from ns)
+pub low_units : (k from : ℕ) (ns : List ℕ) → Each (λ m. m < k) ns → Each (λ (u : ℕ × ℕ). u.1 < k) (enumerate_from from ns)
 low_units k from [] h = tt
 low_units k from (n ∷ ns) h = (h.0, low_units k (from + 1) ns h.1)
 

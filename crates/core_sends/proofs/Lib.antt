@@ -17,6 +17,7 @@ pub mod Lone
 pub mod Front
 pub mod Picked
 pub mod Joined
+pub mod Looking
 pub mod Begun
 pub mod BatchesSent
 pub mod Served

@@ -4,6 +4,7 @@
 //! journal comes to. A core without a step has it, and every call of the crates above has it as a condition and keeps it.
 #![tactic(auto)]
 
+pub mod contents;
 mod new;
 mod places;
 mod readers;
