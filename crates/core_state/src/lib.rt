@@ -5,6 +5,7 @@
 #![tactic(auto)]
 
 pub mod contents;
+pub mod limits;
 mod new;
 mod places;
 mod readers;
