@@ -10,7 +10,7 @@ use config_settings::settings::{
     BatcherSettings, ProcessorSettings, ProducerSettings, SupervisorSettings, TextList,
 };
 use config_table::fault::{at_place, copied};
-use pipe_types::bytes::Text;
+use pipe_types::bytes::{Bytes, Text};
 use pipe_types::numbers::StageNo;
 use pipe_types::topology::{
     CancelMode, ChildMode, Dispatch, Keep, Kind, Role, Rule, RuleList, StageSpec,
@@ -44,6 +44,8 @@ fn blank_stage(alloc: Global, no: u16, name: Text, role: Role, index: u16) -> St
         batch_timeout: 0,
         child: ChildMode::Temporary,
         batchers: 0,
+        select: Bytes::from_vec(Vec::new(alloc)),
+        limit: 0,
     }
 }
 

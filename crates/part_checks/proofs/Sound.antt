@@ -9,7 +9,7 @@ use Rattle.part_checks.specs.Samples.{source, supervisor, worker, gatherer, writ
 
 pub supervised_is_sound : (mode : CancelMode) (max_restarts : ℕ) → max_restarts ≤ 1000 → IsSound (topology_of (source ∷ supervisor mode ∷ []) max_restarts)
 unfolding digits
-supervised_is_sound mode max_restarts few = record { few = lit≤ tt; ordered = refl; named = refl; distinct = refl; in_range = refl; reached = refl; settings = ap (λ b. (b && true) && true) (le-leb max_restarts 1000 few) }
+supervised_is_sound mode max_restarts few = record { few = lit≤ tt; ordered = refl; named = refl; distinct = refl; in_range = refl; reached = refl; settings = ap (λ b. (((b && true) && true) && true) && true) (le-leb max_restarts 1000 few) }
 
 pub batched_is_sound : IsSound (topology_of (source ∷ worker ∷ gatherer ∷ writer ∷ []) 3)
 unfolding digits

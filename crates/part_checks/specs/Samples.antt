@@ -15,7 +15,7 @@ use Rattle.pipe_types.specs.Numbers.{stage}
 -- a stage that uses no field of its role
 abbrev pub blank : ℕ → List ℕ → Role → StageSpec
 blank n name role =
-    record { no = stage n; name = name; role = role; index = 0; batcher = 0; dispatch = Demand; parts = 0; field = 0; size = None; keep = Last; push = false; mode = cancel.Temporary; min = 0; max = 0; kind = Steps; rules = []; failed = None; edge = None; batch_size = 0; batch_timeout = 0; child = child.Temporary; batchers = 0 }
+    record { no = stage n; name = name; role = role; index = 0; batcher = 0; dispatch = Demand; parts = 0; field = 0; size = None; keep = Last; push = false; mode = cancel.Temporary; min = 0; max = 0; kind = Steps; rules = []; failed = None; edge = None; batch_size = 0; batch_timeout = 0; child = child.Temporary; batchers = 0; select = []; limit = 0 }
 
 abbrev pub source : StageSpec
 source = record (blank 1 (codes "p") Producer) { size = Some 10000; edge = Some (codes "mem:a") }
@@ -35,4 +35,4 @@ abbrev pub writer : StageSpec
 writer = record (blank 4 (codes "hot.0") BatchProcessor) { max = 1 }
 
 abbrev pub topology_of : List StageSpec → ℕ → Topology
-topology_of stages max_restarts = record { stages = stages; max_restarts = max_restarts; window_ms = 5000; idle_limit = 0; record_limit = 200000; byte_limit = 67108864; control = None }
+topology_of stages max_restarts = record { stages = stages; limits = record { max_restarts = max_restarts; window_ms = 5000 } ∷ []; idle_limit = 0; record_limit = 200000; byte_limit = 67108864; control = None; rate = None }

@@ -4,10 +4,11 @@ ghost use Rattle.std.specs.Prelude.{◌≡◌, ◌≤◌, IfOk};
 ghost use Rattle.pipe_types.specs.Sound.{IsSound};
 ghost use Rattle.part_checks.specs.Samples as sample;
 
-use pipe_types::bytes::Text;
+use pipe_types::bytes::{Bytes, Text};
 use pipe_types::numbers::StageNo;
 use pipe_types::topology::{
-    CancelMode, ChildMode, Dispatch, Keep, Kind, Role, RuleList, StageList, StageSpec, Topology,
+    CancelMode, ChildMode, Dispatch, Keep, Kind, LimitList, RestartLimit, Role, RuleList, StageList,
+    StageSpec, Topology,
 };
 use std::alloc::{AllocError, Global};
 
@@ -44,6 +45,8 @@ fn blank(alloc: Global, no: u16, name: &str, role: Role) -> Result<StageSpec, Al
         batch_timeout: 0,
         child: ChildMode::Temporary,
         batchers: 0,
+        select: Bytes::from_vec(Vec::new(alloc)),
+        limit: 0,
     })
 }
 
@@ -104,18 +107,27 @@ fn writer(alloc: Global) -> Result<StageSpec, AllocError>
     })
 }
 
-fn topology_of(stages: Vec<StageSpec>, max_restarts: u32) -> Topology
-    ensures { result ≡ sample.topology_of stages.items max_restarts }
+fn topology_of(
+    alloc: Global,
+    stages: Vec<StageSpec>,
+    max_restarts: u32,
+) -> Result<Topology, AllocError>
+    ensures { IfOk result (λ topology. topology ≡ sample.topology_of stages.items max_restarts) }
 {
-    Topology {
-        stages: StageList::from_vec(stages),
+    let mut limits = Vec::new(alloc);
+    limits.push(RestartLimit {
         max_restarts,
         window_ms: 5000,
+    })?;
+    Ok(Topology {
+        stages: StageList::from_vec(stages),
+        limits: LimitList::from_vec(limits),
         idle_limit: 0,
         record_limit: 200_000,
         byte_limit: 67_108_864,
         control: None,
-    }
+        rate: None,
+    })
 }
 
 /// A producer, and a supervisor of at most ten children, which goes with it by this mode.
@@ -130,7 +142,7 @@ pub fn supervised(
     let producer = source(alloc)?;
     let consumer = supervisor(alloc, mode)?;
     let stages = vec![in alloc; producer, consumer]?;
-    Ok(topology_of(stages, max_restarts))
+    topology_of(alloc, stages, max_restarts)
 }
 
 /// A producer, a processor, and a batcher with one batch processor.
@@ -142,7 +154,7 @@ pub fn batched(alloc: Global) -> Result<Topology, AllocError>
     let batcher = gatherer(alloc)?;
     let sink = writer(alloc)?;
     let stages = vec![in alloc; producer, processor, batcher, sink]?;
-    Ok(topology_of(stages, 3))
+    topology_of(alloc, stages, 3)
 }
 
 /// A producer, and a processor that passes everything on and exits by this mode.
@@ -158,5 +170,5 @@ pub fn pair(alloc: Global, mode: CancelMode) -> Result<Topology, AllocError> {
         max: 10,
         ..blank(alloc, 2, "", Role::Processor)?
     };
-    Ok(topology_of(vec![in alloc; producer, consumer]?, 3))
+    topology_of(alloc, vec![in alloc; producer, consumer]?, 3)
 }

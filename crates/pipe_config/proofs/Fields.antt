@@ -173,7 +173,7 @@ batcher_fields all second i (b ∷ bs) count h =
 -- ---- batch processors
 
 one_member : (all : List StageSpec) (k : ℕ) (b : BatcherSettings) (before i : ℕ) → nat_lt i 16 ≡ true → are_rules 0 (rules_of [] b.handler.steps) ≡ true → is_reason b.handler.failed ≡ true → has_fields all (batch_processor_stage k b before i) ≡ true
-one_member all k b before i place rules failed = both (both (both place refl) (both rules failed)) refl
+one_member all k b before i place rules failed = both (both (both place refl) (both (both rules refl) failed)) refl
 
 pub member_fields : (all : List StageSpec) (before k : ℕ) (bs : List BatcherSettings) → list_all batcher_fits bs ≡ true → batcher_routes k bs ≡ [] → list_all (has_fields all) (batch_processor_stages before k bs) ≡ true
 member_fields all before k [] h routes = refl
