@@ -22,7 +22,7 @@ use Rattle.core_sends.proofs.Picked.{none_behind}
 
 -- Nothing waits before what is served
 
-no_rooms : (picks : ℕ → SubNo → Bool) (rooms : List Room) (earlier : List ℕ) (units : List (ℕ × ℕ)) → has_rooms rooms ≡ false → serves_from (ByBroadcast picks) rooms earlier units ≡ []
+pub no_rooms : (picks : ℕ → SubNo → Bool) (rooms : List Room) (earlier : List ℕ) (units : List (ℕ × ℕ)) → has_rooms rooms ≡ false → serves_from (ByBroadcast picks) rooms earlier units ≡ []
 no_rooms picks rooms earlier [] h = refl
 no_rooms picks rooms earlier (u ∷ units) h =
     ap (λ b. if b && fit_all picks rooms (u.1 ∷ earlier) then u.0 ∷ serves_from (ByBroadcast picks) rooms (u.1 ∷ earlier) units else serves_from (ByBroadcast picks) rooms (u.1 ∷ earlier) units) h

@@ -12,7 +12,7 @@ mod counting;
 mod deliveries;
 mod leaving;
 mod losing;
-mod picks;
+pub mod picks;
 pub mod plans;
 pub mod rooms;
 pub mod sending;

@@ -43,7 +43,7 @@ pub(crate) fn picks_of(
 }
 
 /// The first message of the batch that waits in the stage, where the journal passed it on with a key.
-fn first_message(core: &Core, stage: StageNo, no: u32) -> Option<&Message>
+pub fn first_message(core: &Core, stage: StageNo, no: u32) -> Option<&Message>
     requires holds { Holds core.now }
     requires least { 1 ≤ no }
     requires waits { batch_waits_in stage (batch core.now.topology core.now.journal.steps no) ≡ true }
@@ -65,7 +65,7 @@ fn first_of(batches: &[BatchRow], no: u32) -> u32
 }
 
 /// Whether the subscription picks batches of the message's key, which is empty where there is no message.
-fn does_pick(topology: &Topology, sub: SubNo, message: Option<&Message>) -> bool
+pub fn does_pick(topology: &Topology, sub: SubNo, message: Option<&Message>) -> bool
     ensures { result ≡ picks_key topology.now (key_in (option_copied message.entry)) sub }
 {
     let Some(spec) = topology.stages.find(sub.consumer) else {
