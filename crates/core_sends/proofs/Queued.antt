@@ -51,7 +51,7 @@ pub long_queue : (part : ℕ → ℕ) (ns : List ℕ) → length (map {B = ℕ �
 long_queue part [] = refl
 long_queue part (n ∷ ns) = ap (λ k. suc k) (long_queue part ns)
 
-served_plain : (kind : Kind) (p q : ℕ → SubNo → Bool) → is_broadcast kind ≡ false → served_as kind p ≡ served_as kind q
+pub served_plain : (kind : Kind) (p q : ℕ → SubNo → Bool) → is_broadcast kind ≡ false → served_as kind p ≡ served_as kind q
 served_plain Demand p q h = refl
 served_plain Partition p q h = refl
 served_plain Broadcast p q h = cc
