@@ -1,8 +1,8 @@
 -- A broadcast looks at the first batches of a queue, by picks read of a list.
 use Rattle.std.proofs.Common.{◌≡◌, ℕ, zero, suc, ◌+◌, ◌*◌, ◌-◌, ◌<◌, ◌≤◌, List, [], ◌∷◌, ◌++◌, map, length, take, drop, get_or, Bool, true, false, refl, ap, sym, ◌∙◌, subst, arith, append_assoc}
-use Rattle.std.specs.Prelude.{if◌then◌else◌, ◌||◌, ◌&&◌, slice_get, Option, Some, None, option_map}
+use Rattle.std.specs.Prelude.{if◌then◌else◌, ◌||◌, ◌&&◌, is_some}
 use Rattle.std.specs.List.{enumerate_from}
-use Rattle.std.proofs.lemmas.List.{append-nil, length-append, length-map, length-take-le, get_or-take, get_or_append_left, get_or-append-add, at_drop_more}
+use Rattle.std.proofs.lemmas.List.{length-append, length-map, length-take-le, get_or-map, get_or-take, get_or_append_left, get_or-append-add, at_drop_more}
 use Rattle.pipe_types.specs.declared.numbers.StageNo.{StageNo}
 use Rattle.pipe_types.specs.declared.numbers.SubNo.{SubNo}
 use Rattle.pipe_types.specs.declared.room.Room.{Room}
@@ -13,16 +13,28 @@ use Rattle.pipe_types.specs.Dispatchers.{Serving, ByBroadcast, fit_all, has_room
 use Rattle.pipe_types.specs.Numbers.{same_sub}
 use Rattle.pipe_types.specs.Sound.{IsSound}
 use Rattle.pipe_types.specs.Stages.{spec_of}
-use Rattle.pipe_model.specs.History.{History}
-use Rattle.pipe_model.specs.Flow.{kind_in, is_batcher, picks_by, rooms_by, view_of, waiting}
+use Rattle.pipe_model.specs.Content.{content, key_in}
+use Rattle.pipe_model.specs.History.{History, accepted}
+use Rattle.pipe_model.specs.Legal.{is_legal}
+use Rattle.pipe_model.specs.Taken.{closed_as}
+use Rattle.pipe_model.specs.Flow.{batch, batch_waits_in, first_in, kind_in, is_batcher, key_by, picks_by, rooms_by, view_of, waiting}
+use Rattle.pipe_laws.proofs.Accepted.{placed_accepted}
 use Rattle.pipe_laws.proofs.Lists.{Each, each_weaker, each_always}
 use Rattle.pipe_laws.proofs.Tests.{same_sub-true, same_sub-self}
-use Rattle.queue_laws.proofs.Sounds.{broadcast_batches}
+use Rattle.queue_laws.proofs.Sounds.{broadcast_batches, fits}
+use Rattle.stage_laws.proofs.Bounds.{waiting_within}
 use Rattle.dispatch_broadcast.specs.Picks.{place_in, picks_in, places}
 use Rattle.dispatch_broadcast.proofs.Selected.{done, length-places, serves_fit, unfit_more, stop_sends, stop_serves, no_sends, no_serves}
-use Rattle.core_laws.specs.Columns.{is_broadcast}
+use Rattle.core_laws.specs.Columns.{is_broadcast, closed_numbers}
+use Rattle.core_laws.proofs.Parts.{closed_is, first_stands}
+use Rattle.core_state.specs.declared.state.Core.{Core}
+use Rattle.core_state.specs.Stands.{Holds}
+use Rattle.core_sends.specs.Batches.{numbers_of}
 use Rattle.core_sends.specs.Picks.{picks_row, picks_list, picks_at, first_sends, first_serves}
 use Rattle.core_sends.specs.Rooms.{planned, served_first}
+use Rattle.core_sends.proofs.BatchesSent.{each_batch_waits, numbers_are}
+use Rattle.core_sends.proofs.Queued.{long_queue, numbers_in_queue}
+use Rattle.core_sends.proofs.Sent.{each_all}
 use Rattle.core_sends.proofs.Joined.{Agree, sends_alike, serves_alike, low_places, low_units, planned_joined, served_joined}
 
 -- A dispatcher that broadcasts
@@ -200,3 +212,34 @@ looked topology before s count cast within done =
     let kind = cast_is (kind_in (spec_of topology s)) cast in
     (sym all.0 ∙ planned_joined topology before s (picks_at topology before s) kind (same_picks topology before s),
     sym all.1 ∙ served_joined topology before s (picks_at topology before s) kind (same_picks topology before s))
+
+-- The keys of the batches that wait
+
+-- the number of the unit at that place of a queue
+pub number_at : (part : ℕ → ℕ) (ns : List ℕ) (items : List (ℕ × ℕ)) (k : ℕ) (u : ℕ × ℕ) → items ≡ map {B = ℕ × ℕ} (λ n. (part n, n)) ns → k < length ns → u ≡ get_or items k u → u.1 ≡ get_or ns k 0
+number_at part ns items k u is below at =
+    let low : k < length items = omega (arith, ap length is, long_queue part ns, below) in
+    ap (λ (v : ℕ × ℕ). v.1) at
+    ∙ (sym (get_or-map (λ (v : ℕ × ℕ). v.1) items k u 0 low) ∙ ap (λ (ms : List ℕ). get_or ms k 0) (ap (map {A = ℕ × ℕ} {B = ℕ} (λ v. v.1)) is ∙ numbers_in_queue part ns))
+
+-- what waits at that place is a batch
+pub batch_there : (topology : Topology) (before : History) (s : StageNo) (k : ℕ) → IsSound topology → is_legal topology before ≡ true → is_batcher (spec_of topology s) ≡ true → k < length (waiting topology before s)
+    → (1 ≤ get_or (waiting topology before s) k 0) × (batch_waits_in s (batch topology before (get_or (waiting topology before s) k 0)) ≡ true)
+batch_there topology before s k sound h batched below =
+    ((each_all (λ n. (1 ≤ n) × (n ≤ accepted before)) (waiting topology before s) (waiting_within topology before s (fits topology sound) h) k 0 below).0,
+    each_all (λ n. batch_waits_in s (batch topology before n) ≡ true) (waiting topology before s) (each_batch_waits topology before s batched) k 0 below)
+
+-- the first message of a batch that waits has a number
+pub first_least : (core : Core) → Holds core → (s : StageNo) (n : ℕ) → 1 ≤ n → batch_waits_in s (batch core.topology core.journal.steps n) ≡ true → 1 ≤ first_in (numbers_of core.batches.items n)
+first_least core x s n least waits =
+    let t = core.topology in
+    let h = core.journal.steps in
+    let same : first_in (numbers_of core.batches.items n) ≡ first_in (closed_numbers (closed_as t h n)) = ap first_in (numbers_are core t h n x.fields least ∙ sym (closed_is t h n)) in
+    let stands = first_stands t h s n x.legal waits in
+    let low = placed_accepted t h (first_in (closed_numbers (closed_as t h n))) (ap is_some stands) in
+    omega (arith, same, low.0)
+
+-- and its key is the batch's
+pub first_key : (core : Core) → Holds core → (n : ℕ) → 1 ≤ n
+    → key_in (content core.journal.steps (first_in (numbers_of core.batches.items n))) ≡ key_by core.journal.steps (view_of core.topology core.journal.steps) n
+first_key core x n least = ap (λ (ns : List ℕ). key_in (content core.journal.steps (first_in ns))) (numbers_are core core.topology core.journal.steps n x.fields least)

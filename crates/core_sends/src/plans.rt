@@ -99,11 +99,19 @@ fn plan_picked(core: &Core, stage: StageNo) -> Result<BatchPlan, AllocError>
     let waiting = core.waiting[stage.0 as usize].len();
     let mut count = FIRST_LOOK.min(waiting);
     let mut plan = plan_first(core, stage, &rooms, count)?;
-    while count < waiting && plan.served == count {
+    'look: while looks_on(&plan, count, waiting) {
         count = (count * 2).min(waiting);
         plan = plan_first(core, stage, &rooms, count)?;
     }
     Ok(plan)
+}
+
+/// Whether more batches wait than those that were looked at, and all of these are served.
+fn looks_on(plan: &BatchPlan, count: usize, waiting: usize) -> bool
+    ensures more { result ≡ true → count < waiting }
+    ensures done { result ≡ false → plan.now.served ≡ count → waiting ≤ count }
+{
+    count < waiting && plan.served == count
 }
 
 /// What the batcher, which broadcasts, would send in its rooms of the first so many batches of its queue, and how many of
