@@ -1,4 +1,4 @@
-use Rattle.std.proofs.Common.{◌≡◌, ◌≤◌, ◌++◌, ◌∙◌, ℕ, [], drop, take, length, get_or, ap, sym, subst, true, arith}
+use Rattle.std.proofs.Common.{◌≡◌, ◌≤◌, ◌++◌, ◌∙◌, ℕ, List, [], drop, take, length, get_or, ap, sym, subst, true, arith}
 use Rattle.std.proofs.lemmas.List.{append-nil, drop_all, get_or-take, length-take-le}
 use Rattle.pipe_types.specs.Stages.{spec_of}
 use Rattle.pipe_model.specs.Flow.{batch, batch_waits_in, picks_by, view_of, waiting}
@@ -78,4 +78,4 @@ returns c =
     let ws = take c.args.count (waiting t h c.args.stage) in
     let none : drop c.loop-k.k ws ≡ [] = drop_all c.loop-k.k ws (omega (arith, length-take-le c.args.count (waiting t h c.args.stage) c.requires.within)) in
     sym (append-nil c.loop-k.picks.items)
-    ∙ (ap (λ (rest : _). c.loop-k.picks.items ++ picks_list (picks_by t h (view_of t h)) c.args.rooms.now rest) (sym none) ∙ c.loop-k.invariant)
+    ∙ (ap (λ (rest : List ℕ). c.loop-k.picks.items ++ picks_list (picks_by t h (view_of t h)) c.args.rooms.now rest) (sym none) ∙ c.loop-k.invariant)
