@@ -265,7 +265,7 @@ served_is topology before s batched none = by (deliveries topology before s) ref
 sends_some : (topology : Topology) (before : History) (spec : StageSpec) → IsSound topology → spec_of topology spec.no ≡ Some spec
     → (not (is_empty (deliveries topology before spec.no)) || not (is_empty (alone topology before spec.no)))
     ≡ goes_some (served_as spec.dispatch (picks_by topology before (view_of topology before))) (rooms_by topology before (view_of topology before) spec.no) (marks_of topology before spec.no)
-sends_some topology before spec sound there = by (is_broadcast (kind_in (spec_of topology spec.no))) refl 
+sends_some topology before spec sound there = by (is_broadcast (kind_in (spec_of topology spec.no))) refl
     ∙ ap (λ o. goes_some (served_as (kind_in o) (picks_by topology before (view_of topology before))) (rooms_by topology before (view_of topology before) spec.no) (marks_of topology before spec.no)) there
   where
     is_cast : (kind : DispatchKind) → is_broadcast kind ≡ true → kind ≡ Broadcast
@@ -288,9 +288,9 @@ sends_some topology before spec sound there = by (is_broadcast (kind_in (spec_of
         let cast : serving_by topology before (view_of topology before) spec.no ≡ ByBroadcast (picks_by topology before (view_of topology before)) = ap (λ k. served_as k (picks_by topology before (view_of topology before))) kind in
         served_is topology before spec.no (broadcast_batches topology spec.no sound kind)
         (λ none.
-            ap (λ k. sends_from k (rooms_by topology before (view_of topology before) spec.no) [] (map {B = ℕ × ℕ} (λ n. (n, mark_in before (view_of topology before) (spec_of topology spec.no) n)) (waiting topology before spec.no))) cast
-            ∙ none_sent (picks_by topology before (view_of topology before)) (rooms_by topology before (view_of topology before) spec.no) [] (map {B = ℕ × ℕ} (λ n. (n, mark_in before (view_of topology before) (spec_of topology spec.no) n)) (waiting topology before spec.no))
-            (sym (ap (λ k. serves_from k (rooms_by topology before (view_of topology before) spec.no) [] (map {B = ℕ × ℕ} (λ n. (n, mark_in before (view_of topology before) (spec_of topology spec.no) n)) (waiting topology before spec.no))) cast) ∙ none))
+        ap (λ k. sends_from k (rooms_by topology before (view_of topology before) spec.no) [] (map {B = ℕ × ℕ} (λ n. (n, mark_in before (view_of topology before) (spec_of topology spec.no) n)) (waiting topology before spec.no))) cast
+        ∙ none_sent (picks_by topology before (view_of topology before)) (rooms_by topology before (view_of topology before) spec.no) [] (map {B = ℕ × ℕ} (λ n. (n, mark_in before (view_of topology before) (spec_of topology spec.no) n)) (waiting topology before spec.no))
+        (sym (ap (λ k. serves_from k (rooms_by topology before (view_of topology before) spec.no) [] (map {B = ℕ × ℕ} (λ n. (n, mark_in before (view_of topology before) (spec_of topology spec.no) n)) (waiting topology before spec.no))) cast) ∙ none))
         ∙ (ap (λ k. not (is_empty (serves_from k (rooms_by topology before (view_of topology before) spec.no) [] (map {B = ℕ × ℕ} (λ n. (n, mark_in before (view_of topology before) (spec_of topology spec.no) n)) (waiting topology before spec.no))))) cast
         ∙ (serves_is (picks_by topology before (view_of topology before)) (rooms_by topology before (view_of topology before) spec.no) (map {B = ℕ × ℕ} (λ n. (n, mark_in before (view_of topology before) (spec_of topology spec.no) n)) (waiting topology before spec.no))
         ∙ (ap (goes_some (ByBroadcast (picks_by topology before (view_of topology before))) (rooms_by topology before (view_of topology before) spec.no))

@@ -209,9 +209,10 @@ pub looked : (topology : Topology) (before : History) (s : StageNo) (count : ℕ
     → (first_sends topology before s count ≡ planned topology before s []) × (first_serves topology before s count ≡ served_first topology before s)
 looked topology before s count cast within done =
     let all = whole topology before s count within done in
-    let kind = cast_is (kind_in (spec_of topology s)) cast in
-    (sym all.0 ∙ planned_joined topology before s (picks_at topology before s) kind (same_picks topology before s),
-    sym all.1 ∙ served_joined topology before s (picks_at topology before s) kind (same_picks topology before s))
+    let kind = cast_is (kind_in (spec_of topology s)) cast in (
+      sym all.0 ∙ planned_joined topology before s (picks_at topology before s) kind (same_picks topology before s),
+      sym all.1 ∙ served_joined topology before s (picks_at topology before s) kind (same_picks topology before s),
+    )
 
 -- The keys of the batches that wait
 
@@ -225,9 +226,10 @@ number_at part ns items k u is below at =
 -- what waits at that place is a batch
 pub batch_there : (topology : Topology) (before : History) (s : StageNo) (k : ℕ) → IsSound topology → is_legal topology before ≡ true → is_batcher (spec_of topology s) ≡ true → k < length (waiting topology before s)
     → (1 ≤ get_or (waiting topology before s) k 0) × (batch_waits_in s (batch topology before (get_or (waiting topology before s) k 0)) ≡ true)
-batch_there topology before s k sound h batched below =
-    ((each_all (λ n. (1 ≤ n) × (n ≤ accepted before)) (waiting topology before s) (waiting_within topology before s (fits topology sound) h) k 0 below).0,
-    each_all (λ n. batch_waits_in s (batch topology before n) ≡ true) (waiting topology before s) (each_batch_waits topology before s batched) k 0 below)
+batch_there topology before s k sound h batched below = (
+  (each_all (λ n. (1 ≤ n) × (n ≤ accepted before)) (waiting topology before s) (waiting_within topology before s (fits topology sound) h) k 0 below).0,
+  each_all (λ n. batch_waits_in s (batch topology before n) ≡ true) (waiting topology before s) (each_batch_waits topology before s batched) k 0 below,
+)
 
 -- the first message of a batch that waits has a number
 pub first_least : (core : Core) → Holds core → (s : StageNo) (n : ℕ) → 1 ≤ n → batch_waits_in s (batch core.topology core.journal.steps n) ≡ true → 1 ≤ first_in (numbers_of core.batches.items n)

@@ -13,8 +13,8 @@ use pipe_types::topology::Dispatch;
 use std::alloc::{AllocError, Global};
 use std::collections::VecDeque;
 
-/// What a dispatcher that does not broadcast sends in these rooms of the units in the queue, and of units with the partitions `more` behind them, by their
-/// places. The rooms stand in order of their subscriptions, no two with the same partition.
+/// What a dispatcher that does not broadcast sends in these rooms of the units in the queue, and of units with the partitions
+/// `more` behind them, by their places. The rooms stand in order of their subscriptions, no two with the same partition.
 pub(crate) fn deliver(
     alloc: Global,
     kind: Dispatch,

@@ -24,8 +24,8 @@ use std::alloc::AllocError;
 /// How many batches a broadcast looks at first.
 const FIRST_LOOK: usize = 16;
 
-/// What a dispatch of the live stage, which does not broadcast, would send if units with the partitions `more` waited behind those in its queue, by
-/// unit and then by subscription. A unit is its place in the queue, from 0.
+/// What a dispatch of the live stage, which does not broadcast, would send if units with the partitions `more` waited behind
+/// those in its queue, by unit and then by subscription. A unit is its place in the queue, from 0.
 pub fn plan(core: &Core, stage: StageNo, more: &[u32]) -> Result<Vec<Sent>, AllocError>
     requires holds { Holds core.now }
     requires live { is_live core.now.topology core.now.journal.steps stage ≡ true }
@@ -132,8 +132,7 @@ fn plan_first(
     ensures served { IfOk result (λ p. p.served ≡ first_serves core.now.topology core.now.journal.steps stage count) }
 {
     let picks = picks_of(core, stage, rooms, count)?;
-    let served =
-        BroadcastDispatch::new(core.alloc).deliver_selected(count as u32, rooms, &picks)?;
+    let served = BroadcastDispatch::new(core.alloc).deliver_selected(count as u32, rooms, &picks)?;
     Ok(BatchPlan {
         sent: served.sent.into_vec(),
         served: served.units as usize,

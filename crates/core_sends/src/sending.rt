@@ -9,10 +9,10 @@ ghost use Rattle.core_state.specs.Stands.{Holds, Stands};
 ghost use Rattle.core_sends.specs.Losing.{still_waits, left_in, numbers_in, over_of, kept_of, lost_over_size, marked};
 ghost use Rattle.core_sends.specs.Rooms.{planned, served_first};
 
+use crate::alone::leave_batches;
 use crate::batches::begin_all;
 use crate::counting::count_all;
 use crate::leaving::{keep_waiting, reach};
-use crate::alone::leave_batches;
 use crate::losing::{end_over, first_over, lose_all, mark_all, take_out};
 use crate::plans::{make_room, plan, plan_batches};
 use core_state::Core;

@@ -7,8 +7,8 @@ ghost use Rattle.part_checks.specs.Samples as sample;
 use pipe_types::bytes::{Bytes, Text};
 use pipe_types::numbers::StageNo;
 use pipe_types::topology::{
-    CancelMode, ChildMode, Dispatch, Keep, Kind, LimitList, RestartLimit, Role, RuleList, StageList,
-    StageSpec, Topology,
+    CancelMode, ChildMode, Dispatch, Keep, Kind, LimitList, RestartLimit, Role, RuleList,
+    StageList, StageSpec, Topology,
 };
 use std::alloc::{AllocError, Global};
 

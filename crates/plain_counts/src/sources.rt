@@ -168,11 +168,7 @@ fn is_open(
 }
 
 /// Whether the stage's limit allows one more restart now.
-pub fn may_restart(
-    topology: &Topology,
-    steps: &[Step],
-    stage: StageNo,
-) -> Result<bool, AllocError>
+pub fn may_restart(topology: &Topology, steps: &[Step], stage: StageNo) -> Result<bool, AllocError>
     ensures { IfOk result (λ may. may ≡ may_restart_in topology.now (history steps.now) stage) }
 {
     let at = limit_of(topology, stage);

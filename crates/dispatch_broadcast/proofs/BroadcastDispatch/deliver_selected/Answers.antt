@@ -47,16 +47,16 @@ returns-clause-sent c =
     let P = picks_in c.args.room.now c.args.picks.now in
     c.from_vec.ensures
     ∙ elim c.if-not-is_empty.branch [
-      then-not-is_empty+then-loop-units-test+else-do_fit w ↦
+      | then-not-is_empty+then-loop-units-test+else-do_fit w ↦
           (let inv = w.loop-units.invariant in
           let no = w.do_fit.ensures.no w.if-do_fit.false in
           ap (λ (v : Vec Sent Global). v.items) w.sent-is ∙ (inv.sent ∙ all_sends P rooms w.loop-units.units c.args.waiting inv.few
           (unfit_at rooms c.args.picks.now w.loop-units.left.items w.deref.result.now w.loop-units.units c.requires.ascending inv.long w.deref.ensures.value inv.opens no.0 no.1 no.2 no.3)))
-    | then-not-is_empty+else-loop-units-test w ↦
+      | then-not-is_empty+else-loop-units-test w ↦
           (let inv = w.loop-units.invariant in
           let all : w.loop-units.units ≡ c.args.waiting = omega (arith, inv.few, w.loop-units-test.false) in
           ap (λ (v : Vec Sent Global). v.items) w.sent-is ∙ (inv.sent ∙ ap (λ m. sends_by_place (ByBroadcast P) rooms (places m)) all))
-    | else-not-is_empty w ↦
+      | else-not-is_empty w ↦
           (let none : length c.args.room.now ≡ 0 = grind (arith, nat_tests, c.is_empty.ensures, w.if-not-is_empty.false) in
           ap (λ (v : Vec Sent Global). v.items) w.sent-is ∙ (c.new-sent.ensures.items ∙ (sym (no_sends P c.args.waiting) ∙ ap (λ rs. sends_by_place (ByBroadcast P) rs (places c.args.waiting)) (sym (no_room rooms none)))))
     ]
@@ -66,18 +66,18 @@ returns-clause-units c =
     let rooms = c.args.room.now in
     let P = picks_in c.args.room.now c.args.picks.now in
     elim c.if-not-is_empty.branch [
-      then-not-is_empty+then-loop-units-test+else-do_fit w ↦
+      | then-not-is_empty+then-loop-units-test+else-do_fit w ↦
           (let inv = w.loop-units.invariant in
           let no = w.do_fit.ensures.no w.if-do_fit.false in
           let some : 1 ≤ length c.args.room.now = grind (arith, nat_tests, c.is_empty.ensures, w.if-not-is_empty.true) in
           w.units-is ∙ (sym (served_all P rooms w.loop-units.units (some_room rooms some) inv.fit) ∙ all_serves P rooms w.loop-units.units c.args.waiting inv.few
           (unfit_at rooms c.args.picks.now w.loop-units.left.items w.deref.result.now w.loop-units.units c.requires.ascending inv.long w.deref.ensures.value inv.opens no.0 no.1 no.2 no.3)))
-    | then-not-is_empty+else-loop-units-test w ↦
+      | then-not-is_empty+else-loop-units-test w ↦
           (let inv = w.loop-units.invariant in
           let some : 1 ≤ length c.args.room.now = grind (arith, nat_tests, c.is_empty.ensures, w.if-not-is_empty.true) in
           let all : w.loop-units.units ≡ c.args.waiting = omega (arith, inv.few, w.loop-units-test.false) in
           w.units-is ∙ (sym (served_all P rooms w.loop-units.units (some_room rooms some) inv.fit) ∙ ap (λ m. length (serves_by_place (ByBroadcast P) rooms (places m))) all))
-    | else-not-is_empty w ↦
+      | else-not-is_empty w ↦
           (let none : length c.args.room.now ≡ 0 = grind (arith, nat_tests, c.is_empty.ensures, w.if-not-is_empty.false) in
           w.units-is ∙ (ap length (sym (no_serves P c.args.waiting)) ∙ ap (λ rs. length (serves_by_place (ByBroadcast P) rs (places c.args.waiting))) (sym (no_room rooms none))))
     ]

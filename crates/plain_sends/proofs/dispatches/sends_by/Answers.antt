@@ -19,10 +19,10 @@ returns-then-is_cast c =
     let is : is_cast (kind_in (spec_of t s)) ≡ true = sym (c.is_cast.ensures ∙ ap is_cast c.kind_of.ensures) ∙ c.if-is_cast.true in
     IfOk-weaker c.cast.result _ _
     (λ got seen.
-        seen
-        ∙ (ap (λ rooms. sends (ByBroadcast (picks_by t h v)) rooms (with_selves c.as_slice-2.result.now)) (c.as_slice.ensures ∙ c.in_ok-rooms.ensures)
-        ∙ (ap (λ ns. sends (ByBroadcast (picks_by t h v)) (rooms_by t h v s) (with_selves ns)) (c.as_slice-2.ensures ∙ c.in_ok-waiting.ensures)
-        ∙ selves_sent (kind_in (spec_of t s)) (picks_by t h v) (partition_in h v (spec_of t s)) (rooms_by t h v s) (waiting_by t h v s) is)))
+    seen
+    ∙ (ap (λ rooms. sends (ByBroadcast (picks_by t h v)) rooms (with_selves c.as_slice-2.result.now)) (c.as_slice.ensures ∙ c.in_ok-rooms.ensures)
+    ∙ (ap (λ ns. sends (ByBroadcast (picks_by t h v)) (rooms_by t h v s) (with_selves ns)) (c.as_slice-2.ensures ∙ c.in_ok-waiting.ensures)
+    ∙ selves_sent (kind_in (spec_of t s)) (picks_by t h v) (partition_in h v (spec_of t s)) (rooms_by t h v s) (waiting_by t h v s) is)))
     c.cast.ensures
 
 pub returns : goal.returns
@@ -36,9 +36,9 @@ returns c =
     c.as_slice-3.ensures ∙ (c.in_ok-units.ensures ∙ ap (map (λ n. (n, partition_in h v (spec_of t s) n))) (c.as_slice.ensures ∙ c.in_ok-waiting.ensures)) in
     IfOk-weaker c.sends.result _ _
     (λ got seen.
-        seen
-        ∙ (ap (λ kind. sends (served_as kind picks_all) c.as_slice-2.result.now c.as_slice-3.result.now) c.kind_of-2.ensures
-        ∙ (ap (λ rooms. sends (served_as (kind_in (spec_of t s)) picks_all) rooms c.as_slice-3.result.now) (c.as_slice-2.ensures ∙ c.in_ok-rooms.ensures)
-        ∙ (ap (sends (served_as (kind_in (spec_of t s)) picks_all) (rooms_by t h v s)) units
-        ∙ parts_sent (kind_in (spec_of t s)) (picks_by t h v) (partition_in h v (spec_of t s)) (rooms_by t h v s) (waiting_by t h v s) is))))
+    seen
+    ∙ (ap (λ kind. sends (served_as kind picks_all) c.as_slice-2.result.now c.as_slice-3.result.now) c.kind_of-2.ensures
+    ∙ (ap (λ rooms. sends (served_as (kind_in (spec_of t s)) picks_all) rooms c.as_slice-3.result.now) (c.as_slice-2.ensures ∙ c.in_ok-rooms.ensures)
+    ∙ (ap (sends (served_as (kind_in (spec_of t s)) picks_all) (rooms_by t h v s)) units
+    ∙ parts_sent (kind_in (spec_of t s)) (picks_by t h v) (partition_in h v (spec_of t s)) (rooms_by t h v s) (waiting_by t h v s) is))))
     c.sends.ensures
