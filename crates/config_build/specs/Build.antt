@@ -99,10 +99,14 @@ batcher_stages before i (b ∷ batchers) = batcher_stage before i b ∷ batcher_
 abbrev pub sink_at : Option (List (List ℕ)) → ℕ → Option (List ℕ)
 sink_at sinks i = option_and_then (λ names. slice_get names i) sinks
 
+-- what the batches of the batch processor at a place begin with: nothing where the batcher has no selectors
+abbrev pub select_at : Option (List (List ℕ)) → ℕ → List ℕ
+select_at texts i = unwrap_or (option_and_then (λ ts. slice_get ts i) texts) []
+
 abbrev pub batch_processor_stage : (k : ℕ) → BatcherSettings → (before : ℕ) → ℕ → StageSpec
 batch_processor_stage k b before i =
     record (blank_stage (before + i + 1) (numbered_name b.name i) role.BatchProcessor i)
-    { batcher = k; mode = b.demand.mode; max = 1; kind = b.handler.kind; rules = rules_of [] b.handler.steps; failed = b.handler.failed; edge = sink_at b.sinks i }
+    { batcher = k; mode = b.demand.mode; max = 1; kind = b.handler.kind; rules = rules_of [] b.handler.steps; failed = b.handler.failed; edge = sink_at b.sinks i; select = select_at b.select i }
 
 abbrev pub batch_processor_stages : (before : ℕ) → (k : ℕ) → List BatcherSettings → List StageSpec
 batch_processor_stages before k [] = []

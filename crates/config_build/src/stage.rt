@@ -232,6 +232,19 @@ fn sink_at(alloc: Global, sinks: &Option<TextList>, index: u16) -> Result<Option
     }
 }
 
+/// What the batches of the batch processor at a place begin with: nothing where the batcher has no selectors.
+fn select_at(alloc: Global, select: &Option<TextList>, index: u16) -> Result<Bytes, AllocError>
+    ensures { IfOk result (λ text. text ≡ build.select_at select.now index) }
+{
+    match select {
+        None => Ok(Bytes::from_vec(Vec::new(alloc))),
+        Some(texts) => match texts.as_slice().get(index as usize) {
+            Some(text) => Ok(Bytes::from_vec(Vec::from_slice(alloc, text.as_str().as_bytes())?)),
+            None => Ok(Bytes::from_vec(Vec::new(alloc))),
+        },
+    }
+}
+
 /// The batch processor at a place of its batcher's group, behind as many stages.
 pub fn batch_processor_stage(
     alloc: Global,
@@ -246,6 +259,7 @@ pub fn batch_processor_stage(
     let name = member_name(alloc, batcher.name.as_str(), index)?;
     let rules = rules_of(alloc, &[], batcher.handler.steps.as_slice())?;
     let edge = sink_at(alloc, &batcher.sinks, index)?;
+    let select = select_at(alloc, &batcher.select, index)?;
     let mut stage = blank_stage(alloc, before + index + 1, name, Role::BatchProcessor, index);
     stage.batcher = number;
     stage.mode = batcher.demand.mode;
@@ -254,5 +268,6 @@ pub fn batch_processor_stage(
     stage.rules = rules;
     stage.failed = batcher.handler.failed;
     stage.edge = edge;
+    stage.select = select;
     Ok(stage)
 }
