@@ -1,5 +1,5 @@
-//! The broadcast dispatcher: each waiting unit goes to every live subscription, as far as the least open demand
-//! among them goes. With no live subscription nothing is sent.
+//! The broadcast dispatcher: each waiting unit goes to every live subscription that picks it, as long as none of them
+//! would get more than it asked for. With no live subscription nothing is sent.
 //!
 //! It promises exactly the sends of the broadcast rule, by unit and then by subscription, or want of memory.
 #![tactic(auto)]
