@@ -20,7 +20,7 @@ use Rattle.stage_laws.proofs.Settling.{settled_by}
 use Rattle.message_ack.specs.declared.legs.Settled.{Settled}
 use Rattle.message_ack.specs.declared.legs.Settled.TheVariants.{Outcomes, Lost as LostBatch}
 use Rattle.message_ack.specs.Ends.{IsSettledBy}
-use Rattle.core_tables.proofs.Running.{pass_step, listed_step}
+use Rattle.core_tables.proofs.Running.{pass_step}
 use Rattle.core_batches.specs.Writes.{end_at, ended_from, ended_by}
 
 ended_none : (f : ℕ → Place) (k : ℕ) (ns : List ℕ) (n : ℕ) (p : Place) → All (λ m. n ≢ m) ns → ended_from f k ns n p ≡ p

@@ -1,6 +1,6 @@
 -- The subscriptions on which the legs of a batch are.
-use Rattle.std.proofs.Common.{◌≡◌, ℕ, set, ◌+◌, ◌≤◌, List, [], ◌∷◌, ◌++◌, map, Bool, true, false, refl, ap, sym, ◌∙◌, subst, Some, None, Option, arith, ◌-◌, ◌<◌}
-use Rattle.std.specs.Prelude.{option_map, ◌&&◌, if◌then◌else◌, ◌==◌, not, is_some}
+use Rattle.std.proofs.Common.{◌≡◌, ℕ, set, ◌+◌, ◌≤◌, List, [], ◌∷◌, ◌++◌, map, Bool, true, false, refl, ap, sym, ◌∙◌, subst, Some, None, Option, arith, ◌<◌}
+use Rattle.std.specs.Prelude.{option_map, ◌&&◌, if◌then◌else◌, ◌==◌, is_some}
 use Rattle.std.proofs.lemmas.Bool.{eqb-true, false_from_ne_true, ne_eqb}
 use Rattle.std.proofs.lemmas.List.{append-nil}
 use Rattle.pipe_types.specs.declared.numbers.StageNo.{StageNo}

@@ -5,16 +5,15 @@ use Rattle.pipe_types.specs.declared.topology.Topology.{Topology}
 use Rattle.pipe_types.specs.declared.topology.Rule.TheVariants.{Key}
 use Rattle.pipe_types.specs.declared.topology.Dispatch.TheVariants.{Broadcast}
 use Rattle.pipe_types.specs.declared.message.Outcome.TheVariants.{Successful}
-use Rattle.pipe_types.specs.declared.message.BatchEnd.TheVariants.{Outcomes}
 use Rattle.pipe_types.specs.declared.message.Reply.TheVariants.{Pass}
 use Rattle.pipe_types.specs.declared.message.Trigger.TheVariants.{Size}
 use Rattle.pipe_types.specs.declared.message.Why.TheVariants.{Kill as ByKill}
 use Rattle.pipe_types.specs.declared.message.Place.TheVariants.{InBatch, Acked}
 use Rattle.pipe_types.specs.declared.step.Step.{Step}
-use Rattle.pipe_types.specs.declared.step.Step.TheVariants.{Ask, Fetch, Accept, Dispatch, Take, Done, Gather, Close, Wrote, Kill}
+use Rattle.pipe_types.specs.declared.step.Step.TheVariants.{Ask, Fetch, Accept, Dispatch, Take, Done, Gather, Close, Kill}
 use Rattle.pipe_types.specs.Numbers.{stage, message_no, batch_no}
 use Rattle.pipe_model.specs.History.{history}
-use Rattle.pipe_model.specs.Flow.{place, alone, open_demand}
+use Rattle.pipe_model.specs.Flow.{place, alone}
 use Rattle.pipe_model.specs.Acknowledgements.{acknowledgements}
 use Rattle.model_checks.proofs.Base.{is_run, is_refused_after, producer, processor, with_stages, sub, keyed, feeding, batcher, batch_processor}
 

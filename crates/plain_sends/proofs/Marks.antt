@@ -1,14 +1,14 @@
 -- Units judged by their partitions, and by their own numbers.
 use Rattle.std.proofs.Common.{◌≡◌, ℕ, ◌+◌, ◌<◌, List, [], ◌∷◌, ◌++◌, length, take, drop, get_or, map, Bool, true, false, refl, ap, sym, ◌∙◌, append_assoc, arith}
 use Rattle.std.specs.Prelude.{filter, reverse, count_by, cond, nat_le, ◌&&◌, if◌then◌else◌}
-use Rattle.std.proofs.lemmas.List.{append-nil, reverse-append, at_drop_more, take_more}
+use Rattle.std.proofs.lemmas.List.{reverse-append, at_drop_more, take_more}
 use Rattle.std.proofs.lemmas.List.Sums.{sum_by-cons, sum_by_push}
 use Rattle.pipe_types.specs.declared.numbers.SubNo.{SubNo}
 use Rattle.pipe_types.specs.declared.room.Room.{Room}
 use Rattle.pipe_types.specs.declared.room.Sent.{Sent}
 use Rattle.pipe_types.specs.declared.topology.Dispatch.{Dispatch}
 use Rattle.pipe_types.specs.declared.topology.Dispatch.TheVariants.{Demand, Broadcast, Partition}
-use Rattle.pipe_types.specs.Dispatchers.{Serving, ByBroadcast, served_as, picks_all, mark_of, fit_all, has_rooms, goes, on_each, sends, sends_from, serves, serves_from}
+use Rattle.pipe_types.specs.Dispatchers.{ByBroadcast, served_as, picks_all, mark_of, fit_all, has_rooms, on_each, sends, sends_from, serves, serves_from}
 use Rattle.plain_sends.specs.Casts.{is_cast, with_selves}
 
 -- what does not broadcast judges units by their partitions, whoever picks them

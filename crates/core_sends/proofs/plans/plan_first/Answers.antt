@@ -1,4 +1,4 @@
-use Rattle.std.proofs.Common.{◌≡◌, ◌*◌, ◌∙◌, length, take, ap, sym, subst}
+use Rattle.std.proofs.Common.{◌*◌, ◌∙◌, length, take, ap, sym, subst}
 use Rattle.std.proofs.lemmas.List.{length-take-le}
 use Rattle.pipe_types.specs.Rooms.{AreAscending}
 use Rattle.pipe_model.specs.Flow.{picks_by, view_of, waiting}
