@@ -6,5 +6,4 @@ pub mod Removing
 pub mod Closing
 mod Outcomes
 pub mod Writing
-pub mod Settling
 mod Written

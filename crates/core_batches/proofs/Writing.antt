@@ -58,6 +58,7 @@ use Rattle.core_laws.proofs.Lawful.{legal_after}
 use Rattle.core_laws.proofs.Parts.{closed_is}
 use Rattle.core_laws.proofs.Past.{known_within, live_known}
 use Rattle.core_laws.proofs.LegsOn.{IsOnSubs, legs_are_on}
+use Rattle.core_state.proofs.Settling.{numbers_once}
 use Rattle.core_batches.specs.Writes.{leg_place}
 use Rattle.core_batches.proofs.Outcomes.{ends_count, messages_count}
 
@@ -156,18 +157,6 @@ index_is u (leg ∷ legs) (suc i) apart e =
     at [] j h f = cc
     at (x ∷ xs) zero h f = let is : x ≡ record { sub = u; place = AtWork } = cc in ap (λ (y : Leg). leg_to leg == leg_to y) (sym is) ∙ h.0
     at (x ∷ xs) (suc j) h f = at xs j h.1 f
-
--- The numbers of a batch
-
-pub numbers_once : (topology : Topology) (before : History) (b : ℕ) → is_legal topology before ≡ true → Apart itself (closed_numbers (closed_as topology before b))
-numbers_once topology [] b h = tt
-numbers_once topology (Close s first trigger ∷ before) b h = by (b == closed before + 1) (numbers_once topology before b (legal_before topology before (Close s first trigger) h))
-  where
-    by : (c : Bool) → Apart itself (closed_numbers (closed_as topology before b))
-        → Apart itself (closed_numbers (if c then Some (record { numbers = closing before (view_of topology before) s first.0; trigger = trigger }) else closed_as topology before b))
-    by true old = apart_kept itself (λ n. is_gathered_in s (place topology before n) && bytes_eq (key_in (content before n)) (key_in (content before first.0))) (gathers before s) (gathers_once topology before s (legal_before topology before (Close s first trigger) h))
-    by false old = old
-numbers_once topology (step ∷ before) b h = numbers_once topology before b (legal_before topology before step h)
 
 -- All together
 

@@ -59,11 +59,12 @@ use Rattle.core_state.specs.declared.state.Core.{Core}
 use Rattle.core_state.specs.Stands.{Fields, Stands, closed_seen}
 use Rattle.core_state.proofs.Reading.{some_at}
 use Rattle.core_batches.specs.Rows.{handled_on}
-use Rattle.core_batches.specs.Writes.{leg_place, ended_by, marked_by, AreNumbers}
+use Rattle.core_state.specs.Settles.{ended_by, marked_by, AreNumbers}
+use Rattle.core_batches.specs.Writes.{leg_place}
 use Rattle.core_batches.proofs.Limits.{flip}
 use Rattle.core_batches.proofs.Opens.{each_same, without}
 use Rattle.core_batches.proofs.Writing.{IsWriting, Written, writing, ends_put, end_none, in_progress_as, open_at, took_before, write_within}
-use Rattle.core_batches.proofs.Settling.{ended_is, pairs_apart}
+use Rattle.core_state.proofs.Settling.{ended_is, pairs_apart}
 
 -- Open batches
 

@@ -8,5 +8,5 @@ mod batches;
 pub mod closes;
 pub mod gathers;
 mod rows;
-pub mod settles;
+mod settles;
 pub mod writes;

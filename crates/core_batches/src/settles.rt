@@ -1,14 +1,13 @@
 //! How the messages of a batch end.
 
-ghost use Rattle.std.specs.Prelude.{◌≡◌, ◌≢◌, ℕ, suc, ◌<◌, ◌≤◌, length, All, IfSome, slice_get, option_map, unwrap_or};
-ghost use Rattle.pipe_types.specs.declared.message.Outcome.TheVariants.{Successful};
-ghost use Rattle.std.specs.List.{AllPairs};
-ghost use Rattle.core_batches.specs.Writes.{leg_place, end_at, ended_from, ended_by, marked_by, AreNumbers};
+ghost use Rattle.std.specs.Prelude.{◌≡◌, ℕ, suc, ◌<◌, ◌≤◌, length, IfSome, slice_get, option_map};
+ghost use Rattle.core_state.specs.Settles.{ended_by, marked_by, AreNumbers};
+ghost use Rattle.core_batches.specs.Writes.{leg_place};
 
-use core_tables::marks::mark_all;
+use core_state::settles::{mark_all, settle_all};
 use core_tables::rows::BatchRow;
 use message_ack::Settled;
-use pipe_types::message::{Outcome, OutcomeList, Place};
+use pipe_types::message::Place;
 use pipe_types::numbers::SubNo;
 
 /// How many legs of the batch in the row stand before the one on this subscription.
@@ -74,38 +73,4 @@ fn end_all(
         settle_all(places, numbers, &settled);
         mark_all(marks, numbers, mark);
     }
-}
-
-/// Notes how each message of the batch ended.
-pub fn settle_all(places: &mut Vec<Place>, numbers: &[u32], settled: &Settled)
-    requires within { All (λ n. (1 ≤ n) × (n ≤ length places.old.items)) numbers.now }
-    requires apart { AllPairs (λ a b. a ≢ b) numbers.now }
-    ensures len { length places.new.items ≡ length places.old.items }
-    ensures placed { (i : ℕ) → slice_get places.new.items i ≡ option_map (ended_from (end_at settled.now) 0 numbers.now (suc i)) (slice_get places.old.items i) }
-{
-    for k in 0..numbers.len() {
-        let at = (numbers[k] - 1) as usize;
-        places[at] = end_of(settled, k);
-    }
-}
-
-/// Where the batch leaves the message at that place of it.
-fn end_of(settled: &Settled, at: usize) -> Place
-    ensures { result ≡ end_at settled.now at }
-{
-    match settled {
-        Settled::Outcomes(outcomes) => Place::Acked(outcome_at(outcomes, at)),
-        Settled::Lost(loss) => Place::Lost(*loss),
-    }
-}
-
-/// The outcome at that place, and a success past the end.
-fn outcome_at(outcomes: &OutcomeList, at: usize) -> Outcome
-    ensures { result ≡ unwrap_or (slice_get outcomes.now at) Successful }
-{
-    outcomes
-        .as_slice()
-        .get(at)
-        .copied()
-        .unwrap_or(Outcome::Successful)
 }

@@ -19,7 +19,7 @@ use Rattle.core_tables.specs.declared.rows.BatchRow.{BatchRow}
 use Rattle.core_tables.proofs.Tables.{same_or_other}
 use Rattle.core_laws.specs.Columns.{ends_on, ends_in_progress}
 use Rattle.core_losses.specs.Legs.{AreDue, leg_loss}
-use Rattle.core_batches.specs.Writes.{AreNumbers}
+use Rattle.core_state.specs.Settles.{AreNumbers}
 use Rattle.core_losses.specs.Batches.{SeenBatch, AreSeen, batch_lost, lost_batch, after_kill, left_batch, fate_legs, ended_in, marked_in}
 use Rattle.core_losses.proofs.Dropping.{fate_place}
 

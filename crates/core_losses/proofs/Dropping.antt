@@ -13,8 +13,8 @@ use Rattle.pipe_model.specs.Flow.{among}
 use Rattle.pipe_model.specs.Standing.{going}
 use Rattle.message_ack.specs.declared.legs.Settled.{Settled}
 use Rattle.message_ack.specs.Ends.{IsSettledBy}
-use Rattle.core_batches.specs.Writes.{ended_by, marked_by, AreNumbers}
-use Rattle.core_batches.proofs.Settling.{ended_is}
+use Rattle.core_state.specs.Settles.{ended_by, marked_by, AreNumbers}
+use Rattle.core_state.proofs.Settling.{ended_is}
 use Rattle.core_losses.specs.Losses.{loss_in}
 use Rattle.core_losses.specs.Legs.{AreDue, SettledAs, legs_after, leg_loss}
 use Rattle.core_losses.specs.Batches.{drop_of, batch_lost, fate_legs, ended_in, ended_with, marked_in}

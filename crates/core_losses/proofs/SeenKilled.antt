@@ -39,9 +39,9 @@ use Rattle.stage_laws.proofs.Bounds.{batch_least}
 use Rattle.stage_laws.proofs.Settling.{in_numbers}
 use Rattle.core_tables.specs.declared.rows.BatchRow.{BatchRow}
 use Rattle.core_tables.specs.Tables.{queue_at}
-use Rattle.core_batches.proofs.Writing.{numbers_once}
+use Rattle.core_state.proofs.Settling.{numbers_once}
 use Rattle.core_laws.proofs.LegsOn.{IsOnSubs, PlaceOn, legs_are_on, sent_waits}
-use Rattle.core_batches.proofs.Settling.{pairs_apart}
+use Rattle.core_state.proofs.Settling.{pairs_apart}
 use Rattle.core_laws.specs.Columns.{closed_numbers, sent_on, part_of}
 use Rattle.core_laws.proofs.Lawful.{each_all}
 use Rattle.core_laws.proofs.Parts.{closed_is}

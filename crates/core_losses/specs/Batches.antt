@@ -21,7 +21,7 @@ use Rattle.core_tables.specs.declared.rows.StageRow.{StageRow}
 use Rattle.core_tables.specs.declared.rows.PostRow.{PostRow}
 use Rattle.core_tables.specs.declared.rows.BatchRow.{BatchRow}
 use Rattle.core_tables.specs.Tables.{queue_at}
-use Rattle.core_batches.specs.Writes.{AreNumbers}
+use Rattle.core_state.specs.Settles.{AreNumbers}
 use Rattle.core_laws.specs.Columns.{ends_in_progress}
 use Rattle.core_deaths.specs.Reasons.{reason_at}
 use Rattle.core_losses.specs.Losses.{incarnation_at, loss_in}

@@ -1,10 +1,9 @@
 //! How the messages of a batch end.
 
 ghost use Rattle.std.specs.Prelude.{◌≡◌, ℕ, suc, length, IfSome, slice_get, option_map};
-ghost use Rattle.core_batches.specs.Writes.{ended_by, marked_by, AreNumbers};
+ghost use Rattle.core_state.specs.Settles.{ended_by, marked_by, AreNumbers};
 
-use core_batches::settles::settle_all;
-use core_tables::marks::mark_all;
+use core_state::settles::{mark_all, settle_all};
 use message_ack::Settled;
 use pipe_types::message::Place;
 

@@ -5,7 +5,7 @@ ghost use Rattle.core_sends.specs.Losing.{marked};
 ghost use Rattle.core_sends.specs.Batches.{not_sent, numbers_of, succeeded, all_succeeded, all_marked, lone_of, IsEndable};
 
 use crate::leaving::keep_unsent;
-use core_tables::marks::mark_all;
+use core_state::settles::mark_all;
 use core_tables::rows::BatchRow;
 use message_ack::Legs;
 use pipe_types::message::{Outcome, Place};

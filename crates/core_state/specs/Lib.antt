@@ -2,3 +2,4 @@ pub mod Stands
 pub mod Readings
 pub mod Begun
 pub mod AreNew
+pub mod Settles

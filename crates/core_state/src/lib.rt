@@ -9,6 +9,7 @@ pub mod limits;
 mod new;
 mod places;
 mod readers;
+pub mod settles;
 pub mod state;
 mod subscribing;
 mod tables;

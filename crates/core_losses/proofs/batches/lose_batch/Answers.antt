@@ -3,7 +3,7 @@ use Rattle.std.specs.Prelude.{slice_get, option_map, is_some, not, ◌&&◌, IfS
 use Rattle.pipe_types.specs.declared.numbers.SubNo.{SubNo}
 use Rattle.pipe_model.specs.Standing.{going}
 use Rattle.message_ack.specs.Ends.{sent_in, IsSettledBy}
-use Rattle.core_batches.specs.Writes.{AreNumbers, ended_by, marked_by}
+use Rattle.core_state.specs.Settles.{AreNumbers, ended_by, marked_by}
 use Rattle.core_laws.specs.Columns.{ends_on}
 use Rattle.core_deaths.specs.Reasons.{reason_at}
 use Rattle.core_losses.specs.Losses.{incarnation_at}

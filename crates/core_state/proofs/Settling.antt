@@ -1,6 +1,6 @@
 -- Passes over the messages of a batch that ends.
 use Rattle.std.proofs.Common.{◌≡◌, ◌≢◌, ℕ, zero, suc, ◌+◌, ◌-◌, ◌<◌, ◌≤◌, List, [], ◌∷◌, length, drop, set, Bool, true, false, refl, ap, sym, ◌∙◌, Some, None, Option, arith, get_or, All, subst, cond}
-use Rattle.std.specs.Prelude.{slice_get, option_map, if◌then◌else◌, ◌==◌, ◌&&◌, ◌||◌, not, nat_lt, unwrap_or, position, is_some}
+use Rattle.std.specs.Prelude.{slice_get, option_map, if◌then◌else◌, ◌==◌, ◌&&◌, ◌||◌, not, nat_lt, unwrap_or, position, is_some, bytes_eq}
 use Rattle.std.specs.List.{AllPairs, prefix_len}
 use Rattle.std.proofs.lemmas.Bool.{eq-eqb, ne_eqb}
 use Rattle.std.proofs.lemmas.Bool.Decides.{nat_tests}
@@ -8,20 +8,29 @@ use Rattle.std.proofs.lemmas.List.{at_drop_more}
 use Rattle.pipe_types.specs.declared.message.Place.{Place}
 use Rattle.pipe_types.specs.declared.message.Place.TheVariants.{Acked}
 use Rattle.pipe_types.specs.declared.message.Outcome.TheVariants.{Successful}
-use Rattle.pipe_model.specs.Flow.{among}
 use Rattle.pipe_model.specs.Batches.{Leg, is_settled, settled_as, lost_leg, failed_leg}
 use Rattle.std.proofs.lemmas.List.Kept.{AllPairs-cons}
 use Rattle.pipe_laws.proofs.Lists.{each_weaker}
 use Rattle.pipe_laws.proofs.Tests.{clash}
 use Rattle.core_laws.proofs.Lawful.{each_all}
-use Rattle.queue_laws.proofs.Apart.{Apart}
 use Rattle.queue_laws.proofs.Distinct.{itself}
 use Rattle.stage_laws.proofs.Settling.{settled_by}
 use Rattle.message_ack.specs.declared.legs.Settled.{Settled}
 use Rattle.message_ack.specs.declared.legs.Settled.TheVariants.{Outcomes, Lost as LostBatch}
 use Rattle.message_ack.specs.Ends.{IsSettledBy}
-use Rattle.core_tables.proofs.Running.{pass_step}
-use Rattle.core_batches.specs.Writes.{end_at, ended_from, ended_by}
+use Rattle.core_tables.proofs.Running.{pass_step, listed_step}
+use Rattle.pipe_types.specs.declared.topology.Topology.{Topology}
+use Rattle.pipe_types.specs.declared.step.Step.TheVariants.{Close}
+use Rattle.pipe_model.specs.History.{History, closed}
+use Rattle.pipe_model.specs.Content.{content, gathers, key_in}
+use Rattle.pipe_model.specs.Flow.{place, view_of, closing, is_gathered_in, among}
+use Rattle.pipe_model.specs.Legal.{is_legal}
+use Rattle.pipe_model.specs.Taken.{closed_as}
+use Rattle.pipe_laws.proofs.Allowed.{legal_before}
+use Rattle.queue_laws.proofs.Apart.{Apart, apart_kept}
+use Rattle.queue_laws.proofs.Gathering.{gathers_once}
+use Rattle.core_laws.specs.Columns.{closed_numbers}
+use Rattle.core_state.specs.Settles.{end_at, ended_from, ended_by, marked}
 
 ended_none : (f : ℕ → Place) (k : ℕ) (ns : List ℕ) (n : ℕ) (p : Place) → All (λ m. n ≢ m) ns → ended_from f k ns n p ≡ p
 ended_none f k [] n p h = refl
@@ -49,6 +58,16 @@ settled_step places f ns k e q p below pairs is least within was i =
   where
     both : (n : ℕ) (x : Place) → ended_from f k (drop k ns) n x ≡ (if get_or ns k e == n then f k else ended_from f (k + 1) (drop (k + 1) ns) n x)
     both n x = at_drop_more (λ ms. ended_from f k ms n x) ns k e below
+
+pub marked_step : (marks : List ℕ) (ns : List ℕ) (k e mark p : ℕ) → k < length ns → 1 ≤ get_or ns k e → get_or ns k e - 1 < length marks → slice_get marks (get_or ns k e - 1) ≡ Some p
+    → (i : ℕ) → option_map (marked (drop (k + 1) ns) mark (suc i)) (slice_get (set marks (get_or ns k e - 1) mark) i) ≡ option_map (marked (drop k ns) mark (suc i)) (slice_get marks i)
+marked_step marks ns k e mark p below least within was i =
+    listed_step {A = ℕ} (λ xs n x. marked xs mark n x) (λ x. mark) (λ n xs x. either (among xs n) ∙ sym (ap (λ c. if c || among xs n then mark else x) (eq-eqb n n refl)))
+    (λ m n xs x other. ap (λ c. if c || among xs n then mark else x) (sym other)) marks ns k e p mark below least within was refl i
+  where
+    either : (c : Bool) → (if c then mark else mark) ≡ mark
+    either true = refl
+    either false = refl
 
 -- What the passes come to
 
@@ -115,3 +134,15 @@ ended_is ms legs (Some x) n p last each =
 pub pairs_apart : (ns : List ℕ) → Apart itself ns → AllPairs (λ a b. a ≢ b) ns
 pairs_apart [] h = λ i j d lt below. absurd (omega (arith, lt, below))
 pairs_apart (n ∷ ns) h = AllPairs-cons (λ a b. a ≢ b) n ns (each_all (λ m. n ≢ m) ns (each_weaker (λ m. (n == m) ≡ false) (λ m. n ≢ m) (λ m p same. clash (n == m) (eq-eqb n m same) p) ns h.0)) (pairs_apart ns h.1)
+
+-- The numbers of a batch
+
+pub numbers_once : (topology : Topology) (before : History) (b : ℕ) → is_legal topology before ≡ true → Apart itself (closed_numbers (closed_as topology before b))
+numbers_once topology [] b h = tt
+numbers_once topology (Close s first trigger ∷ before) b h = by (b == closed before + 1) (numbers_once topology before b (legal_before topology before (Close s first trigger) h))
+  where
+    by : (c : Bool) → Apart itself (closed_numbers (closed_as topology before b))
+        → Apart itself (closed_numbers (if c then Some (record { numbers = closing before (view_of topology before) s first.0; trigger = trigger }) else closed_as topology before b))
+    by true old = apart_kept itself (λ n. is_gathered_in s (place topology before n) && bytes_eq (key_in (content before n)) (key_in (content before first.0))) (gathers before s) (gathers_once topology before s (legal_before topology before (Close s first trigger) h))
+    by false old = old
+numbers_once topology (step ∷ before) b h = numbers_once topology before b (legal_before topology before step h)

@@ -1,7 +1,7 @@
 use Rattle.std.proofs.Common.{◌≡◌, ℕ, suc, length, drop}
 use Rattle.std.specs.Prelude.{option_map, slice_get}
-use Rattle.core_tables.specs.Marks.{marked}
-use Rattle.core_tables.proofs.marks.mark_all.Given as goal
+use Rattle.core_state.specs.Settles.{marked}
+use Rattle.core_state.proofs.settles.mark_all.Given as goal
 
 abbrev pub invariant-loop-no : goal.invariant-loop-no
 invariant-loop-no l =

@@ -1,8 +1,8 @@
 use Rattle.std.proofs.Common.{rules, ℕ, ◌-◌, ◌<◌, length, ◌∙◌, arith, get_or}
 use Rattle.std.proofs.lemmas.Option.{slice_get-get_or}
-use Rattle.core_batches.specs.Writes.{end_at}
-use Rattle.core_batches.proofs.Settling.{settled_step}
-use Rattle.core_batches.proofs.settles.settle_all.Goals as goal
+use Rattle.core_state.specs.Settles.{end_at}
+use Rattle.core_state.proofs.Settling.{settled_step}
+use Rattle.core_state.proofs.settles.settle_all.Goals as goal
 
 pub loop-k-preserved : goal.loop-k-preserved
 loop-k-preserved c =

@@ -1,7 +1,7 @@
 use Rattle.std.proofs.Common.{◌≡◌, ℕ, suc, length, drop}
 use Rattle.std.specs.Prelude.{option_map, slice_get}
-use Rattle.core_batches.specs.Writes.{end_at, ended_from}
-use Rattle.core_batches.proofs.settles.settle_all.Given as goal
+use Rattle.core_state.specs.Settles.{end_at, ended_from}
+use Rattle.core_state.proofs.settles.settle_all.Given as goal
 
 abbrev pub invariant-loop-k : goal.invariant-loop-k
 invariant-loop-k l =

@@ -1,7 +1,7 @@
 use Rattle.std.proofs.Common.{rules, ℕ, ◌-◌, ◌<◌, length, ◌∙◌, arith, get_or}
 use Rattle.std.proofs.lemmas.Option.{slice_get-get_or}
-use Rattle.core_tables.proofs.Marking.{marked_step}
-use Rattle.core_tables.proofs.marks.mark_all.Goals as goal
+use Rattle.core_state.proofs.Settling.{marked_step}
+use Rattle.core_state.proofs.settles.mark_all.Goals as goal
 
 pub loop-no-preserved : goal.loop-no-preserved
 loop-no-preserved c =
