@@ -22,8 +22,8 @@ index-requires c =
     let read = ap length (waiting_read core t h c.requires.holds.fields c.args.stage c.index-queue.result.now w.1 c.index-queue.ensures) in
     omega (arith, read, long_queue (part_of t h (spec_of t c.args.stage)) (waiting t h c.args.stage), c.requires.within)
 
-pub first_message-requires-clause-least : goal.first_message-requires-clause-least
-first_message-requires-clause-least c =
+pub first_message-message-requires-clause-least : goal.first_message-message-requires-clause-least
+first_message-message-requires-clause-least c =
     let core = c.args.core.now in
     let t = core.topology in
     let h = core.journal.steps in
@@ -35,8 +35,8 @@ first_message-requires-clause-least c =
     number_at (part_of t h (spec_of t s)) (waiting t h s) c.index-queue.result.now.items c.loop-k.k c.index.result.now read (omega (arith, c.requires.within)) c.index.ensures in
     omega (arith, number, (batch_there t h s c.loop-k.k x.sound x.legal c.requires.batches (omega (arith, c.requires.within))).0)
 
-pub first_message-requires-clause-waits : goal.first_message-requires-clause-waits
-first_message-requires-clause-waits c =
+pub first_message-message-requires-clause-waits : goal.first_message-message-requires-clause-waits
+first_message-message-requires-clause-waits c =
     let core = c.args.core.now in
     let t = core.topology in
     let h = core.journal.steps in
