@@ -1,6 +1,7 @@
 -- A broadcast looks at the first batches of a queue, by picks read of a list.
-use Rattle.std.proofs.Common.{◌≡◌, ℕ, zero, suc, ◌+◌, ◌*◌, ◌-◌, ◌<◌, ◌≤◌, List, [], ◌∷◌, ◌++◌, map, length, take, drop, get_or, Bool, true, false, refl, ap, sym, ◌∙◌, subst, arith, append_assoc}
-use Rattle.std.specs.Prelude.{if◌then◌else◌, ◌||◌, is_some}
+use Rattle.std.proofs.Common.{◌≡◌, ℕ, zero, suc, ◌+◌, ◌*◌, ◌-◌, ◌<◌, ◌≤◌, List, [], ◌∷◌, ◌++◌, map, length, take, drop, get_or, Bool, true, false, refl, ap, sym, ◌∙◌, subst, arith, append_assoc, ◌≢◌, inl, inr}
+use Rattle.std.specs.Prelude.{if◌then◌else◌, ◌||◌, ◌==◌, ◌⊎◌, is_some}
+use Rattle.core_tables.proofs.Tables.{same_or_other}
 use Rattle.std.specs.List.{enumerate_from}
 use Rattle.std.proofs.lemmas.List.{length-append, length-map, length-take-le, get_or-map, get_or-take, get_or_append_left, get_or-append-add, at_drop_more}
 use Rattle.pipe_types.specs.declared.numbers.StageNo.{StageNo}
@@ -89,7 +90,7 @@ in_list p rooms (n ∷ ns) (suc j) i h k =
     ∙ (get_or-append-add (picks_row (p n) rooms) (picks_list p rooms ns) (j * length rooms + i) false ∙ in_list p rooms ns j i (omega arith) k)
 
 pub long_picks : (p : ℕ → SubNo → Bool) (rooms : List Room) (ns : List ℕ) → length (picks_list p rooms ns) ≡ length ns * length rooms
-long_picks p rooms [] = refl
+long_picks p rooms [] = omega arith
 long_picks p rooms (n ∷ ns) =
     length-append (picks_row (p n) rooms) (picks_list p rooms ns) ∙ omega (arith, length-map rooms (λ (r : Room). p n r.sub), long_picks p rooms ns)
 
@@ -176,12 +177,19 @@ pub serves_few : (topology : Topology) (before : History) (s : StageNo) (count :
 serves_few topology before s count =
     omega (arith, few_serves (ByBroadcast (picks_at topology before s)) (rooms_by topology before (view_of topology before) s) [] 0 (places count), length-places count)
 
+fewer_than : (served count waiting : ℕ) → served ≤ count → (served ≡ count → waiting ≤ count) → count < waiting → served < count
+fewer_than served count waiting most full more = cases (same_or_other served count)
+  where
+    cases : (((served == count) ≡ true) × (served ≡ count)) ⊎ (((served == count) ≡ false) × (served ≢ count)) → served < count
+    cases (inl same) = let low : waiting ≤ count = full same.1 in absurd (omega (arith, low, more))
+    cases (inr other) = let apart : served ≢ count = other.1 in omega (arith, apart, most)
+
 -- what is sent and served of the first so many is what is sent and served of all, where they are all or not all of them are served
 whole : (topology : Topology) (before : History) (s : StageNo) (count : ℕ) → count ≤ length (waiting topology before s)
     → (first_serves topology before s count ≡ count → length (waiting topology before s) ≤ count)
     → (first_sends topology before s (length (waiting topology before s)) ≡ first_sends topology before s count)
     × (first_serves topology before s (length (waiting topology before s)) ≡ first_serves topology before s count)
-whole topology before s count within done = by (length (waiting topology before s) - count) (omega arith)
+whole topology before s count within full = by (length (waiting topology before s) - count) (omega arith)
   where
     by : (k : ℕ) → length (waiting topology before s) ≡ count + k
         → (first_sends topology before s (length (waiting topology before s)) ≡ first_sends topology before s count)
@@ -191,12 +199,9 @@ whole topology before s count within done = by (length (waiting topology before 
         (ap (first_sends topology before s) same, ap (first_serves topology before s) same)
     by (suc k) e =
         let most = serves_few topology before s count in
-        let few : first_serves topology before s count < count = less (first_serves topology before s count) most (λ all. done all) (omega (arith, e)) in
+        let few : first_serves topology before s count < count = fewer_than (first_serves topology before s count) count (length (waiting topology before s)) most full (omega (arith, e)) in
         let rest = stops (picks_at topology before s) (rooms_by topology before (view_of topology before) s) count (suc k) few in
         (ap (first_sends topology before s) e ∙ rest.0, ap (first_serves topology before s) e ∙ rest.1)
-      where
-        less : (served : ℕ) → served ≤ count → (served ≡ count → length (waiting topology before s) ≤ count) → count < length (waiting topology before s) → served < count
-        less served most all more = omega arith
 
 same_picks : (topology : Topology) (before : History) (s : StageNo) → Agree (picks_at topology before s) (λ j u. picks_by topology before (view_of topology before) (get_or (waiting topology before s) j 0) u) (length (waiting topology before s)) (rooms_by topology before (view_of topology before) s)
 same_picks topology before s =
@@ -207,8 +212,8 @@ same_picks topology before s =
 pub looked : (topology : Topology) (before : History) (s : StageNo) (count : ℕ) → is_broadcast (kind_in (spec_of topology s)) ≡ true → count ≤ length (waiting topology before s)
     → (first_serves topology before s count ≡ count → length (waiting topology before s) ≤ count)
     → (first_sends topology before s count ≡ planned topology before s []) × (first_serves topology before s count ≡ served_first topology before s)
-looked topology before s count cast within done =
-    let all = whole topology before s count within done in
+looked topology before s count cast within full =
+    let all = whole topology before s count within full in
     let kind = cast_is (kind_in (spec_of topology s)) cast in (
       sym all.0 ∙ planned_joined topology before s (picks_at topology before s) kind (same_picks topology before s),
       sym all.1 ∙ served_joined topology before s (picks_at topology before s) kind (same_picks topology before s),
