@@ -1,5 +1,5 @@
 -- Stages and topologies as the cases name them.
-use Rattle.std.specs.Prelude.{codes, ℕ, false, List, [], Some, None}
+use Rattle.std.specs.Prelude.{codes, ℕ, false, List, [], ◌∷◌, Some, None}
 use Rattle.pipe_types.specs.declared.topology.Topology.{Topology}
 use Rattle.pipe_types.specs.declared.topology.StageSpec.{StageSpec}
 use Rattle.pipe_types.specs.declared.topology.Role.{Role}

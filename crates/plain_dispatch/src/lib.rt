@@ -7,7 +7,7 @@
 ghost use Rattle.std.specs.Prelude.{◌≡◌, ◌++◌, IfOk, List, ℕ, map, filter, reverse, length, count_by, fold, ◌+◌, ◌*◌, ◌%◌, ◌^◌, ◌==◌, nat_lt, if◌then◌else◌, cond, not, ◌&&◌};
 ghost use Rattle.std.specs.List.{list_all, list_any};
 ghost use Rattle.pipe_types.specs.Numbers.{sub_before as sub_before_in};
-ghost use Rattle.pipe_types.specs.Dispatchers.{is_served_before as is_served_before_in, ahead as ahead_in, served_as, picks_all, goes as goes_in, is_served as is_served_in, on_each, sends as sends_in, serves as serves_in, partition_of as partition_of_in};
+ghost use Rattle.pipe_types.specs.Dispatchers.{is_served_before as is_served_before_in, ahead as ahead_in, served_as, picks_all, goes as goes_in, has_rooms as has_rooms_in, is_served as is_served_in, on_each, sends as sends_in, serves as serves_in, partition_of as partition_of_in};
 
 use pipe_types::numbers::SubNo;
 use pipe_types::room::{Room, Sent};
@@ -158,8 +158,24 @@ fn goes_somewhere(
     Ok(false)
 }
 
+/// Whether there is a room.
+fn has_rooms(rooms: &[Room]) -> bool
+    ensures { result ≡ has_rooms_in rooms.now }
+{
+    match rooms.first() {
+        Some(_room) => true,
+        None => false,
+    }
+}
+
+/// Whether there is a room, and every room has more open demand than so many units.
+fn some_above(rooms: &[Room], units: usize) -> bool
+    ensures { result ≡ (has_rooms_in rooms.now && list_all (λ v. nat_lt units v.left) rooms.now) }
+{
+    has_rooms(rooms) && all_above(rooms, units)
+}
+
 /// Whether a unit of this partition is served, where these units wait before it.
-#[tactic(auto, using(crate::proofs::Turned::length_turned))]
 fn is_served(
     kind: Dispatch,
     rooms: &[Room],
@@ -170,7 +186,7 @@ fn is_served(
 {
     match kind {
         Dispatch::Demand => goes_somewhere(Dispatch::Demand, rooms, before, part),
-        Dispatch::Broadcast => Ok(!rooms.is_empty() && all_above(rooms, before.len())),
+        Dispatch::Broadcast => Ok(some_above(rooms, before.len())),
         Dispatch::Partition => goes_somewhere(Dispatch::Partition, rooms, before, part),
     }
 }

@@ -91,9 +91,9 @@ served_step p rooms xs i old new below is =
     ap (λ ys. ys ++ serves_from (ByBroadcast p) rooms (reverse (take (i + 1) xs)) (with_selves (drop (i + 1) xs))) is
     ∙ (ap (λ ys. (old ++ (if has_rooms rooms && fit_all p rooms (take (i + 1) xs) then x ∷ [] else [])) ++ serves_from (ByBroadcast p) rooms ys (with_selves (drop (i + 1) xs))) (turned_more xs i below)
     ∙ (append_assoc old (if has_rooms rooms && fit_all p rooms (take (i + 1) xs) then x ∷ [] else []) rest
-    ∙ (ap (λ ys. old ++ ys) (by (has_rooms rooms && fit_all p rooms (take (i + 1) xs)) ∙ ap (λ b. if has_rooms rooms && b then x ∷ rest else rest) (fit_here p rooms xs i below))
+    ∙ (ap (λ ys. old ++ ys) (by (has_rooms rooms && fit_all p rooms (take (i + 1) xs)) rest ∙ ap (λ b. if has_rooms rooms && b then x ∷ rest else rest) (fit_here p rooms xs i below))
     ∙ sym (ap (λ ys. old ++ ys) (at_drop_more (λ ys. serves_from (ByBroadcast p) rooms (reverse (take i xs)) (with_selves ys)) xs i 0 below)))))
   where
-    by : (b : Bool) {zs : List ℕ} → (if b then get_or xs i 0 ∷ [] else []) ++ zs ≡ (if b then get_or xs i 0 ∷ zs else zs)
-    by true = refl
-    by false = refl
+    by : (b : Bool) (zs : List ℕ) → (if b then get_or xs i 0 ∷ [] else []) ++ zs ≡ (if b then get_or xs i 0 ∷ zs else zs)
+    by true zs = refl
+    by false zs = refl

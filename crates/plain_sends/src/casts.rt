@@ -1,8 +1,8 @@
 //! What a batcher that broadcasts sends and serves.
 
-ghost use Rattle.std.specs.Prelude.{◌≡◌, ◌++◌, IfOk, map, filter, count_by};
+ghost use Rattle.std.specs.Prelude.{◌≡◌, ◌++◌, ◌∷◌, [], ◌&&◌, if◌then◌else◌, IfOk, map, filter, count_by};
 ghost use Rattle.pipe_types.specs.Handlers.{begins_with};
-ghost use Rattle.pipe_types.specs.Dispatchers.{ByBroadcast, fit_all as fit_all_in, on_each, sends as sends_in, serves as serves_in};
+ghost use Rattle.pipe_types.specs.Dispatchers.{ByBroadcast, fit_all as fit_all_in, has_rooms as has_rooms_in, on_each, sends as sends_in, serves as serves_in};
 ghost use Rattle.pipe_model.specs.History.{history};
 ghost use Rattle.pipe_model.specs.Content.{content as content_in, key_in};
 ghost use Rattle.pipe_model.specs.Flow.{picks_by};
@@ -110,6 +110,25 @@ fn push_picked(
     Ok(more)
 }
 
+/// Puts the last of these batches behind the others, on the subscription of each room that picks it, where they fit.
+fn cast_last(
+    sent: Vec<Sent>,
+    past: &Past<'_>,
+    tables: &Tables,
+    rooms: &[Room],
+    batches: &[u32],
+    last: u32,
+) -> Result<Vec<Sent>, AllocError>
+    ensures { IfOk result (λ more. more.items ≡ sent.items ++ (if fit_all_in (picks_by past.now.topology.now (history past.now.steps.now) (view_in tables.now)) rooms.now batches.now then on_each last (filter (λ r. picks_by past.now.topology.now (history past.now.steps.now) (view_in tables.now) last r.sub) rooms.now) else [])) }
+{
+    let fit = do_fit(past, tables, rooms, batches)?;
+    if !fit {
+        return Ok(sent);
+    }
+    let more = push_picked(sent, past, tables, rooms, last)?;
+    Ok(more)
+}
+
 /// What a broadcast sends of these batches, by batch and then by room.
 pub(crate) fn cast(
     alloc: Global,
@@ -122,12 +141,53 @@ pub(crate) fn cast(
 {
     let mut sent = Vec::new(alloc);
     for i in 0..batches.len() {
-        let is_next = do_fit(past, tables, rooms, &batches[..i + 1])?;
-        if is_next {
-            sent = push_picked(sent, past, tables, rooms, batches[i])?;
-        }
+        let more = cast_last(sent, past, tables, rooms, &batches[..i + 1], batches[i])?;
+        sent = more;
     }
     Ok(sent)
+}
+
+/// Whether there is a room.
+fn has_rooms(rooms: &[Room]) -> bool
+    ensures { result ≡ has_rooms_in rooms.now }
+{
+    match rooms.first() {
+        Some(_room) => true,
+        None => false,
+    }
+}
+
+/// Whether a broadcast serves the last of these batches.
+fn is_last_served(
+    past: &Past<'_>,
+    tables: &Tables,
+    rooms: &[Room],
+    batches: &[u32],
+) -> Result<bool, AllocError>
+    ensures { IfOk result (λ served. served ≡ (has_rooms_in rooms.now && fit_all_in (picks_by past.now.topology.now (history past.now.steps.now) (view_in tables.now)) rooms.now batches.now)) }
+{
+    let fit = do_fit(past, tables, rooms, batches)?;
+    Ok(has_rooms(rooms) && fit)
+}
+
+/// Puts the last of these batches behind the others, if a broadcast serves it.
+fn serve_last(
+    served: Vec<u32>,
+    past: &Past<'_>,
+    tables: &Tables,
+    rooms: &[Room],
+    batches: &[u32],
+    last: u32,
+) -> Result<Vec<u32>, AllocError>
+    ensures { IfOk result (λ more. more.items ≡ served.items ++ (if has_rooms_in rooms.now && fit_all_in (picks_by past.now.topology.now (history past.now.steps.now) (view_in tables.now)) rooms.now batches.now then last ∷ [] else [])) }
+{
+    let mut more = served;
+    let is_last = is_last_served(past, tables, rooms, batches)?;
+    if !is_last {
+        return Ok(more);
+    }
+    more.push(last)?;
+    Ok(more)
 }
 
 /// Those of these batches that a broadcast in at least one room serves, in order.
@@ -141,12 +201,9 @@ pub(crate) fn served_in(
     ensures { IfOk result (λ served. served.items ≡ serves_in (ByBroadcast (picks_by past.now.topology.now (history past.now.steps.now) (view_in tables.now))) rooms.now (with_selves batches.now)) }
 {
     let mut served = Vec::new(alloc);
-    let has_rooms = !rooms.is_empty();
     for i in 0..batches.len() {
-        let is_next = do_fit(past, tables, rooms, &batches[..i + 1])?;
-        if has_rooms && is_next {
-            served.push(batches[i])?;
-        }
+        let more = serve_last(served, past, tables, rooms, &batches[..i + 1], batches[i])?;
+        served = more;
     }
     Ok(served)
 }

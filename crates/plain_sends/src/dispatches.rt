@@ -59,16 +59,15 @@ pub fn sends_by(
 {
     let rooms = rooms(alloc, past, tables, stage)?;
     let waiting = waiting(alloc, past.topology, past.steps, tables, stage)?;
-    if is_cast(kind_of(past.topology, stage)) {
-        return cast(alloc, past, tables, rooms.as_slice(), waiting.as_slice());
+    let here = rooms.as_slice();
+    let units = waiting.as_slice();
+    let kind = kind_of(past.topology, stage);
+    if is_cast(kind) {
+        return cast(alloc, past, tables, here, units);
     }
-    let units = with_parts(alloc, past, tables, stage, waiting.as_slice())?;
-    sends(
-        alloc,
-        kind_of(past.topology, stage),
-        rooms.as_slice(),
-        units.as_slice(),
-    )
+    let marked = with_parts(alloc, past, tables, stage, units)?;
+    let marks = marked.as_slice();
+    sends(alloc, kind, here, marks)
 }
 
 /// The waiting units that a dispatch of the stage serves.
@@ -83,16 +82,15 @@ fn served_by(
 {
     let rooms = rooms(alloc, past, tables, stage)?;
     let waiting = waiting(alloc, past.topology, past.steps, tables, stage)?;
-    if is_cast(kind_of(past.topology, stage)) {
-        return served_in(alloc, past, tables, rooms.as_slice(), waiting.as_slice());
+    let here = rooms.as_slice();
+    let units = waiting.as_slice();
+    let kind = kind_of(past.topology, stage);
+    if is_cast(kind) {
+        return served_in(alloc, past, tables, here, units);
     }
-    let units = with_parts(alloc, past, tables, stage, waiting.as_slice())?;
-    serves(
-        alloc,
-        kind_of(past.topology, stage),
-        rooms.as_slice(),
-        units.as_slice(),
-    )
+    let marked = with_parts(alloc, past, tables, stage, units)?;
+    let marks = marked.as_slice();
+    serves(alloc, kind, here, marks)
 }
 
 fn is_cast(kind: Dispatch) -> bool
