@@ -232,6 +232,13 @@ fn sink_at(alloc: Global, sinks: &Option<TextList>, index: u16) -> Result<Option
     }
 }
 
+/// The bytes of a text.
+fn bytes_of(alloc: Global, text: &str) -> Result<Bytes, AllocError>
+    ensures { IfOk result (λ bytes. bytes ≡ text.now) }
+{
+    Ok(Bytes::from_vec(Vec::from_slice(alloc, text.as_bytes())?))
+}
+
 /// What the batches of the batch processor at a place begin with: nothing where the batcher has no selectors.
 fn select_at(alloc: Global, select: &Option<TextList>, index: u16) -> Result<Bytes, AllocError>
     ensures { IfOk result (λ text. text ≡ build.select_at select.now index) }
@@ -239,7 +246,7 @@ fn select_at(alloc: Global, select: &Option<TextList>, index: u16) -> Result<Byt
     match select {
         None => Ok(Bytes::from_vec(Vec::new(alloc))),
         Some(texts) => match texts.as_slice().get(index as usize) {
-            Some(text) => Ok(Bytes::from_vec(Vec::from_slice(alloc, text.as_str().as_bytes())?)),
+            Some(text) => Ok(bytes_of(alloc, text.as_str())?),
             None => Ok(Bytes::from_vec(Vec::new(alloc))),
         },
     }

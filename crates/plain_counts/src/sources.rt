@@ -1,7 +1,7 @@
 //! Sources, fetches, restarts and the drain.
 
 ghost use Rattle.std.specs.Prelude.{◌≡◌, ◌+◌, ◌∷◌, ◌&&◌, ◌||◌, not, Bool, true, false, nat_le, if◌then◌else◌, IfOk};
-ghost use Rattle.pipe_types.specs.Restarts.{limit_at as limit_at_in, may_restart_at};
+ghost use Rattle.pipe_types.specs.Restarts.{limit_at as limit_at_in, restarts_counted, may_restart_at};
 ghost use Rattle.pipe_types.specs.Numbers.{stage as stage_in};
 ghost use Rattle.pipe_types.specs.declared.topology.Role.{Role};
 ghost use Rattle.pipe_model.specs.History.{History, history, now as now_in};
@@ -130,7 +130,8 @@ fn is_under(topology: &Topology, step: &Step, limit: usize) -> bool
     }
 }
 
-fn counted_after(
+/// The count after one more step, where it counts if it is such a restart and its window has not passed.
+fn counted_if(
     before: &[Step],
     is_restart: bool,
     window_ms: u64,
@@ -149,6 +150,24 @@ fn counted_after(
     }
 }
 
+/// How many restarts under the limit at that place count at that time, after one more step.
+fn counted_after(
+    topology: &Topology,
+    before: &[Step],
+    step: &Step,
+    at: usize,
+    window_ms: u64,
+    time: u64,
+    old: u64,
+) -> Result<u64, AllocError>
+    requires { old ≡ restarts_counted window_ms time (restart_times topology.now (history before.now) at) }
+    ensures { IfOk result (λ n. n ≡ restarts_counted window_ms time (restart_times topology.now (step.now ∷ history before.now) at)) }
+{
+    let is_restart = is_under(topology, step, at);
+    let count = counted_if(before, is_restart, window_ms, time, old)?;
+    Ok(count)
+}
+
 /// Whether fewer restarts than the limit at that place allows count now.
 fn is_open(
     topology: &Topology,
@@ -161,8 +180,15 @@ fn is_open(
     let time = now(steps);
     let mut count = 0;
     for i in 0..steps.len() {
-        let is_restart = is_under(topology, &steps[i], at);
-        count = counted_after(&steps[..i], is_restart, limit.window_ms, time, count)?;
+        count = counted_after(
+            topology,
+            &steps[..i],
+            &steps[i],
+            at,
+            limit.window_ms,
+            time,
+            count,
+        )?;
     }
     Ok(count < u64::from(limit.max_restarts))
 }

@@ -1,11 +1,11 @@
 //! What a batcher that broadcasts sends and serves.
 
-ghost use Rattle.std.specs.Prelude.{◌≡◌, ◌++◌, ◌∷◌, [], ◌&&◌, if◌then◌else◌, IfOk, map, filter, count_by};
+ghost use Rattle.std.specs.Prelude.{◌≡◌, ◌++◌, ◌∷◌, [], ◌&&◌, if◌then◌else◌, IfOk, map, filter, count_by, option_copied};
 ghost use Rattle.pipe_types.specs.Handlers.{begins_with};
 ghost use Rattle.pipe_types.specs.Dispatchers.{ByBroadcast, fit_all as fit_all_in, has_rooms as has_rooms_in, on_each, sends as sends_in, serves as serves_in};
 ghost use Rattle.pipe_model.specs.History.{history};
 ghost use Rattle.pipe_model.specs.Content.{content as content_in, key_in};
-ghost use Rattle.pipe_model.specs.Flow.{picks_by};
+ghost use Rattle.pipe_model.specs.Flow.{select_in, key_by, picks_by};
 ghost use Rattle.plain_queues.specs.Views.{view_in};
 ghost use Rattle.plain_sends.specs.Casts.{with_selves};
 
@@ -13,6 +13,7 @@ use crate::partitions::first_of_batch;
 use pipe_types::numbers::SubNo;
 use pipe_types::room::{Room, Sent};
 use pipe_types::step::Step;
+use pipe_types::topology::StageSpec;
 use plain_counts::{Seen, content};
 use plain_lives::Past;
 use plain_queues::Tables;
@@ -36,18 +37,27 @@ fn begins(key: &[u8], text: &[u8]) -> bool
     key.starts_with(text)
 }
 
+/// Whether the key of the batch begins with the text of the stage, and so where there is no stage.
+fn selects(
+    steps: &[Step],
+    tables: &Tables,
+    spec: Option<&StageSpec>,
+    batch: u32,
+) -> Result<bool, AllocError>
+    ensures { IfOk result (λ picks. picks ≡ begins_with (select_in (option_copied spec.entry)) (key_by (history steps.now) (view_in tables.now) batch)) }
+{
+    let none: [u8; 0] = [];
+    match spec {
+        Some(spec) => does_begin(steps, first_of_batch(tables, batch), spec.select.as_slice()),
+        None => does_begin(steps, first_of_batch(tables, batch), none.as_slice()),
+    }
+}
+
 /// Whether the subscription picks the batch: its key begins with the consumer's text.
 fn picks(past: &Past<'_>, tables: &Tables, batch: u32, sub: SubNo) -> Result<bool, AllocError>
     ensures { IfOk result (λ picks. picks ≡ picks_by past.now.topology.now (history past.now.steps.now) (view_in tables.now) batch sub) }
 {
-    match past.topology.stages.find(sub.consumer) {
-        Some(spec) => does_begin(
-            past.steps,
-            first_of_batch(tables, batch),
-            spec.select.as_slice(),
-        ),
-        None => Ok(true),
-    }
+    selects(past.steps, tables, past.topology.stages.find(sub.consumer), batch)
 }
 
 /// How many of these batches the subscription picks.

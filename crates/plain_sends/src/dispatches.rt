@@ -4,7 +4,7 @@ ghost use Rattle.std.specs.Prelude.{◌≡◌, ◌&&◌, ◌||◌, not, IfOk, So
 ghost use Rattle.pipe_types.specs.Stages.{spec_of};
 ghost use Rattle.pipe_model.specs.History.{history};
 ghost use Rattle.pipe_model.specs.Lives.{is_live as is_live_in};
-ghost use Rattle.pipe_model.specs.Flow.{is_empty, kind_in, partition_in, is_batcher as is_batcher_in, sends_by as sends_by_in, served_by as served_by_in, alone_by, subs_of, unsent as unsent_in, over_in, lost_over as lost_over_in};
+ghost use Rattle.pipe_model.specs.Flow.{is_empty, kind_in, partition_in, sends_by as sends_by_in, served_by as served_by_in, alone_by, subs_of, unsent as unsent_in, over_in, lost_over as lost_over_in};
 ghost use Rattle.plain_lives.specs.Lives.{LivesStand};
 ghost use Rattle.plain_queues.specs.Views.{view_in};
 ghost use Rattle.plain_sends.specs.Casts.{is_cast as is_cast_in};
@@ -14,10 +14,10 @@ use crate::demand::rooms;
 use crate::partitions::partition;
 use pipe_types::numbers::StageNo;
 use pipe_types::room::Sent;
-use pipe_types::topology::{Dispatch, Keep, Role, StageSpec, Topology};
+use pipe_types::topology::{Dispatch, Keep, StageSpec, Topology};
 use plain_dispatch::{sends, serves};
 use plain_lives::Past;
-use plain_queues::{Tables, waiting};
+use plain_queues::{Tables, is_batcher_stage, waiting};
 use std::alloc::{AllocError, Global};
 
 fn kind_of(topology: &Topology, stage: StageNo) -> Dispatch
@@ -99,15 +99,6 @@ fn is_cast(kind: Dispatch) -> bool
     matches!(kind, Dispatch::Broadcast)
 }
 
-fn is_batcher(topology: &Topology, stage: StageNo) -> bool
-    ensures { result ≡ is_batcher_in (spec_of topology.now stage) }
-{
-    match topology.stages.find(stage) {
-        Some(spec) => spec.role == Role::Batcher,
-        None => false,
-    }
-}
-
 /// The batches that a dispatch of the stage serves without a leg.
 pub fn alone(
     alloc: Global,
@@ -118,7 +109,7 @@ pub fn alone(
     requires { LivesStand past.now.topology.now (history past.now.steps.now) past.now.lives.now }
     ensures { IfOk result (λ alone. alone.items ≡ alone_by past.now.topology.now (history past.now.steps.now) (view_in tables.now) stage) }
 {
-    if !is_batcher(past.topology, stage) {
+    if !is_batcher_stage(past.topology, stage) {
         return Ok(Vec::new(alloc));
     }
     let sent = sends_by(alloc, past, tables, stage)?;
