@@ -57,7 +57,12 @@ fn selects(
 fn picks(past: &Past<'_>, tables: &Tables, batch: u32, sub: SubNo) -> Result<bool, AllocError>
     ensures { IfOk result (λ picks. picks ≡ picks_by past.now.topology.now (history past.now.steps.now) (view_in tables.now) batch sub) }
 {
-    selects(past.steps, tables, past.topology.stages.find(sub.consumer), batch)
+    selects(
+        past.steps,
+        tables,
+        past.topology.stages.find(sub.consumer),
+        batch,
+    )
 }
 
 /// How many of these batches the subscription picks.
