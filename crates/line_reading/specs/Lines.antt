@@ -246,8 +246,14 @@ kill_in _ = Err Word
 abbrev pub late_by : (s slot i : List ℕ) → Result LateAnswer Fault → Result Step Fault
 late_by s slot i answer = stage_in s >>= λ s. short_number slot >>= λ slot. number i >>= λ i. answer >>= λ answer. Ok (Late s slot i answer)
 
+abbrev pub records_answer_in : List ℕ → Result LateAnswer Fault
+records_answer_in records = list_in record_in records >>= λ records. Ok (Records records)
+
+abbrev pub wrote_answer_in : (n ends : List ℕ) → Result LateAnswer Fault
+wrote_answer_in n ends = long_number n >>= λ n. ends_in ends >>= λ ends. Ok (LateWrote n ends)
+
 abbrev pub late_records_in : (s slot i : List ℕ) → List (List ℕ) → Result Step Fault
-late_records_in s slot i (records ∷ []) = late_by s slot i (list_in record_in records >>= λ records. Ok (Records records))
+late_records_in s slot i (records ∷ []) = late_by s slot i (records_answer_in records)
 late_records_in s slot i _ = Err Word
 
 abbrev pub late_alone_in : LateAnswer → (s slot i : List ℕ) → List (List ℕ) → Result Step Fault
@@ -259,7 +265,7 @@ late_source_in s slot i (how ∷ []) = how_in how >>= λ how. late_by s slot i (
 late_source_in s slot i _ = Err Word
 
 abbrev pub late_wrote_in : (s slot i : List ℕ) → List (List ℕ) → Result Step Fault
-late_wrote_in s slot i (n ∷ ends ∷ []) = late_by s slot i (long_number n >>= λ n. ends_in ends >>= λ ends. Ok (LateWrote n ends))
+late_wrote_in s slot i (n ∷ ends ∷ []) = late_by s slot i (wrote_answer_in n ends)
 late_wrote_in s slot i _ = Err Word
 
 abbrev pub late_rows : (s slot i : List ℕ) → List (Row Step)

@@ -6,7 +6,7 @@ ghost use Rattle.line_reading.specs.declared.fault.ReadError.TheVariants.{Memory
 use std::alloc::{AllocError, AllocFailed};
 
 /// What is wrong with a line: the first of these that is met.
-#[derive(Clone, Copy, PartialEq, Eq)]
+#[derive(Clone, Copy)]
 pub enum Fault {
     /// Not one of the known words, or the wrong number of them.
     Word,

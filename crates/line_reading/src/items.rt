@@ -4,7 +4,6 @@ ghost use Rattle.std.specs.Prelude.{◌≡◌, ℕ, if◌then◌else◌, ◌^◌
 ghost use Rattle.std.specs.List.{slice_split};
 ghost use Rattle.pipe_types.specs.Sound.{is_reason as is_reason_in};
 ghost use Rattle.line_reading.specs.declared.fault.Fault.{Fault as FaultOf};
-ghost use Rattle.line_reading.specs.declared.fault.Fault.TheVariants.{Bytes};
 ghost use Rattle.line_reading.specs.Reading.{Gives, Fails, texts_of, is_at};
 ghost use Rattle.line_reading.specs.Lines.{so_far, joined, before, record_in, items_from, list_in, reason_in, reason_alone, by_rows, outcome_rows, successful_in, outcome_in, ends_in};
 
@@ -105,7 +104,7 @@ fn successful(words: &[&[u8]]) -> Result<Outcome, ReadError>
 /// `s`, or `f:BYTES`, by the first part and the others.
 #[tactic(auto, using(crate::proofs::Loops::fails_bind))]
 fn outcome_of(alloc: Global, word: &[u8], words: &[&[u8]]) -> Result<Outcome, ReadError>
-    ensures { Gives (λ o. o) result (by_rows Bytes outcome_rows word.now (texts_of words.now)) }
+    ensures { Gives (λ o. o) result (by_rows Fault.Bytes outcome_rows word.now (texts_of words.now)) }
 {
     if is_word(word, b"s") {
         successful(words)

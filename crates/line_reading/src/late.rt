@@ -1,12 +1,10 @@
 //! The words behind `late`.
 
-ghost use Rattle.std.specs.Prelude.{◌≡◌, Result, Ok, bytes_eq, codes};
+ghost use Rattle.std.specs.Prelude.{◌≡◌, Result};
 ghost use Rattle.pipe_types.specs.declared.step.LateAnswer.{LateAnswer as AnswerOf};
-ghost use Rattle.pipe_types.specs.declared.step.LateAnswer.TheVariants.{Records, Wrote};
 ghost use Rattle.line_reading.specs.declared.fault.Fault.{Fault as FaultOf};
-ghost use Rattle.line_reading.specs.declared.fault.Fault.TheVariants.{Word};
-ghost use Rattle.line_reading.specs.Reading.{◌>>=◌, Gives, texts_of};
-ghost use Rattle.line_reading.specs.Lines.{long_number, list_in, record_in, ends_in, by_rows, late_by, late_records_in, late_alone_in, late_source_in, late_wrote_in, late_rows, late_in};
+ghost use Rattle.line_reading.specs.Reading.{Gives, texts_of};
+ghost use Rattle.line_reading.specs.Lines.{by_rows, records_answer_in, wrote_answer_in, late_by, late_records_in, late_alone_in, late_source_in, late_wrote_in, late_rows, late_in};
 
 use crate::fault::{Fault, ReadError};
 use crate::fields::{long, number32, short, stage};
@@ -55,7 +53,7 @@ fn late_alone(
 
 #[tactic(auto, using(crate::proofs::Loops::fails_bind))]
 fn records_answer(alloc: Global, texts: &[u8]) -> Result<LateAnswer, ReadError>
-    ensures { Gives (λ a. a) result (list_in record_in texts.now >>= λ records. Ok (Records records)) }
+    ensures { Gives (λ a. a) result (records_answer_in texts.now) }
 {
     let records = records(alloc, texts)?;
     Ok(LateAnswer::Records(records))
@@ -98,7 +96,7 @@ fn late_source(
 
 #[tactic(auto, using(crate::proofs::Loops::fails_bind))]
 fn wrote_answer(alloc: Global, n: &[u8], texts: &[u8]) -> Result<LateAnswer, ReadError>
-    ensures { Gives (λ a. a) result (long_number n.now >>= λ n. ends_in texts.now >>= λ ends. Ok (Wrote n ends)) }
+    ensures { Gives (λ a. a) result (wrote_answer_in n.now texts.now) }
 {
     let bytes = long(n)?;
     let end = ends(alloc, texts)?;
@@ -130,7 +128,7 @@ fn late_by_word(
     word: &[u8],
     words: &[&[u8]],
 ) -> Result<Step, ReadError>
-    ensures { Gives (λ s. s) result (by_rows Word (late_rows at.now slot.now incarnation.now) word.now (texts_of words.now)) }
+    ensures { Gives (λ s. s) result (by_rows Fault.Word (late_rows at.now slot.now incarnation.now) word.now (texts_of words.now)) }
 {
     if is_word(word, b"records") {
         late_records(alloc, at, slot, incarnation, words)

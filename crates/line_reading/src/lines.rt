@@ -2,7 +2,6 @@
 
 ghost use Rattle.std.specs.Prelude.{◌≡◌, bytes_eq, codes};
 ghost use Rattle.std.specs.List.{slice_split};
-ghost use Rattle.line_reading.specs.declared.fault.Fault.TheVariants.{Word};
 ghost use Rattle.line_reading.specs.Reading.{Gives, texts_of, is_at};
 ghost use Rattle.line_reading.specs.Lines.{rows, rows_of_numbers, rows_of_one, rows_of_words, rows_of_lists, by_rows, by_first, step_in};
 
@@ -23,7 +22,7 @@ fn read_lists<J: JobMessages>(
     word: &[u8],
     words: &[&[u8]],
 ) -> Result<Step, ReadError>
-    ensures { Gives (λ s. s) result (by_rows Word (rows_of_lists (J.jobs run.now)) word.now (texts_of words.now)) }
+    ensures { Gives (λ s. s) result (by_rows Fault.Word (rows_of_lists (J.jobs run.now)) word.now (texts_of words.now)) }
 {
     if is_word(word, b"accept") {
         kinds::accept(alloc, words)
@@ -48,7 +47,7 @@ fn read_words<J: JobMessages>(
     word: &[u8],
     words: &[&[u8]],
 ) -> Result<Step, ReadError>
-    ensures { Gives (λ s. s) result (by_rows Word (rows_of_words (rows_of_lists (J.jobs run.now))) word.now (texts_of words.now)) }
+    ensures { Gives (λ s. s) result (by_rows Fault.Word (rows_of_words (rows_of_lists (J.jobs run.now))) word.now (texts_of words.now)) }
 {
     if is_word(word, b"source") {
         kinds::source_end(words)
@@ -73,7 +72,7 @@ fn read_one<J: JobMessages>(
     word: &[u8],
     words: &[&[u8]],
 ) -> Result<Step, ReadError>
-    ensures { Gives (λ s. s) result (by_rows Word (rows_of_one (rows_of_words (rows_of_lists (J.jobs run.now)))) word.now (texts_of words.now)) }
+    ensures { Gives (λ s. s) result (by_rows Fault.Word (rows_of_one (rows_of_words (rows_of_lists (J.jobs run.now)))) word.now (texts_of words.now)) }
 {
     if is_word(word, b"quiet") {
         kinds::quiet(words)
@@ -98,7 +97,7 @@ fn read_numbers<J: JobMessages>(
     word: &[u8],
     words: &[&[u8]],
 ) -> Result<Step, ReadError>
-    ensures { Gives (λ s. s) result (by_rows Word (rows (J.jobs run.now)) word.now (texts_of words.now)) }
+    ensures { Gives (λ s. s) result (by_rows Fault.Word (rows (J.jobs run.now)) word.now (texts_of words.now)) }
 {
     if is_word(word, b"ask") {
         kinds::ask(words)

@@ -2,7 +2,6 @@
 
 ghost use Rattle.std.specs.Prelude.{◌≡◌, ◌≤◌, ◌<◌, length, nat_le, List, Result, Option, Some, None, Ok, Err, bytes_eq, codes};
 ghost use Rattle.std.specs.List.{slice_split};
-ghost use Rattle.line_reading.specs.declared.fault.Fault.TheVariants.{Bytes};
 ghost use Rattle.line_reading.specs.Reading.{Gives, texts_of, is_at};
 ghost use Rattle.line_reading.specs.Lines.{items_from, list_in, limited_in, flag_in, named_in, by_rows, passed_in, failed_in, raised_in, crashed_in, reply_rows, reply_in, reply_at};
 
@@ -113,7 +112,7 @@ fn reply_of(
     word: &[u8],
     words: &[&[u8]],
 ) -> Result<Reply, ReadError>
-    ensures { Gives (λ r. r) result (by_rows Bytes (reply_rows message) word.now (texts_of words.now)) }
+    ensures { Gives (λ r. r) result (by_rows Fault.Bytes (reply_rows message) word.now (texts_of words.now)) }
 {
     if is_word(word, b"p") {
         passed(alloc, message, words)
