@@ -56,7 +56,10 @@ fn tell_messages(rt: &HostRuntime, step: &Step) -> io::Result<()> {
 fn tell_message(rt: &HostRuntime, reply: &Reply) -> io::Result<()> {
     match reply {
         Reply::Pass(message) => {
-            println!(rt; "  message {} of producer {}", message.no.0, message.producer.0)
+            println!(rt;
+                "  message {} of producer {}",
+                message.no.0, message.producer.0
+            )
         }
         _ => Ok(()),
     }

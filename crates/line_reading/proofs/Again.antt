@@ -156,9 +156,9 @@ step_again jobs (Dispatch s) h =
 step_again jobs (Take s u k) h =
     let c : IsStage u.consumer = rw h.1 h.0 in
     rw (← h.1) (
-      by_words jobs (codes "take") (u.consumer.0 ∷ (u.producer.0 ∷ (u.generation ∷ (k ∷ [])))) take_in (Take u.consumer u k) (lacks 32 (codes "take") refl)
-      (short_small u.consumer.0 c, (short_small _ h.2, (number_small _ h.3, (number_small _ h.4, tt)))) (λ ws. refl)
-      (rw (stage_again u.consumer c, stage_again u.producer h.2, number_fits u.generation h.3, number_fits k h.4) refl)
+    by_words jobs (codes "take") (u.consumer.0 ∷ (u.producer.0 ∷ (u.generation ∷ (k ∷ [])))) take_in (Take u.consumer u k) (lacks 32 (codes "take") refl)
+    (short_small u.consumer.0 c, (short_small _ h.2, (number_small _ h.3, (number_small _ h.4, tt)))) (λ ws. refl)
+    (rw (stage_again u.consumer c, stage_again u.producer h.2, number_fits u.generation h.3, number_fits k h.4) refl)
     )
 step_again jobs (Done s replies) h =
     let r = replies_again (jobs (post s 0)) replies h.1 in

@@ -347,9 +347,50 @@ restart_is jobs s h = h
 pub step_spelt : (jobs : Jobs) (line : List ℕ) (step : Step) → step_in jobs line ≡ Ok step → (line ≡ step_text step) × IsSpelt jobs step
 unfolding rows rows_of_numbers rows_of_one rows_of_words rows_of_lists
 step_spelt jobs line step e =
-    text_spells 32 step_text (IsSpelt jobs) Word (rows jobs)
-    (ask_spells jobs, (fetch_spells jobs, (take_spells jobs, (gather_spells jobs, (child_spells jobs,
-    (stage_spells jobs (codes "quiet") Quiet (λ s. refl) (quiet_is jobs), (stage_spells jobs (codes "dispatch") Dispatch (λ s. refl) (dispatch_is jobs), (stage_spells jobs (codes "restart") Restart (λ s. refl) (restart_is jobs), (tick_spells jobs, (refuse_spells jobs,
-    (source_spells jobs, (close_spells jobs, (kill_spells jobs, (drain_spells jobs, (halt_spells jobs,
-    (accept_spells jobs, (done_spells jobs, (wrote_spells jobs, (child_end_spells jobs, (late_spells jobs, tt))))))))))))))))))))
+    text_spells 32 step_text (IsSpelt jobs) Word (rows jobs) (
+      ask_spells jobs,
+      (
+        fetch_spells jobs,
+        (
+          take_spells jobs,
+          (
+            gather_spells jobs,
+            (
+              child_spells jobs,
+              (
+                stage_spells jobs (codes "quiet") Quiet (λ s. refl) (quiet_is jobs),
+                (
+                  stage_spells jobs (codes "dispatch") Dispatch (λ s. refl) (dispatch_is jobs),
+                  (
+                    stage_spells jobs (codes "restart") Restart (λ s. refl) (restart_is jobs),
+                    (
+                      tick_spells jobs,
+                      (
+                        refuse_spells jobs,
+                        (
+                          source_spells jobs,
+                          (
+                            close_spells jobs,
+                            (
+                              kill_spells jobs,
+                              (
+                                drain_spells jobs,
+                                (
+                                  halt_spells jobs,
+                                  (accept_spells jobs, (done_spells jobs, (wrote_spells jobs, (child_end_spells jobs, (late_spells jobs, tt))))),
+                                ),
+                              ),
+                            ),
+                          ),
+                        ),
+                      ),
+                    ),
+                  ),
+                ),
+              ),
+            ),
+          ),
+        ),
+      ),
+    )
     line step e
