@@ -14,7 +14,7 @@ use crate::words::is_word;
 use pipe_types::step::Step;
 use std::alloc::Global;
 
-/// Reads a line of lists and replies, by its first word and the others.
+/// The step of a line of lists or replies, by its first word and the others.
 #[tactic(auto, unfolding(crate::specs::Lines::rows_of_lists))]
 fn read_lists<J: JobMessages>(
     alloc: Global,
@@ -39,7 +39,7 @@ fn read_lists<J: JobMessages>(
     }
 }
 
-/// Reads a line of a word of few, or one of the lines above.
+/// The step of a line of a word of few; another kind is read by `read_lists`.
 #[tactic(auto, unfolding(crate::specs::Lines::rows_of_words))]
 fn read_words<J: JobMessages>(
     alloc: Global,
@@ -64,7 +64,7 @@ fn read_words<J: JobMessages>(
     }
 }
 
-/// Reads a line of one number, or one of the lines above.
+/// The step of a line of one number; another kind is read by `read_words`.
 #[tactic(auto, unfolding(crate::specs::Lines::rows_of_one), using(crate::proofs::Loops::fails_bind))]
 fn read_one<J: JobMessages>(
     alloc: Global,
@@ -89,7 +89,7 @@ fn read_one<J: JobMessages>(
     }
 }
 
-/// Reads a line of several numbers, or one of the lines above.
+/// The step of a line of several numbers; another kind is read by `read_one`.
 #[tactic(auto, unfolding(crate::specs::Lines::rows, crate::specs::Lines::rows_of_numbers))]
 fn read_numbers<J: JobMessages>(
     alloc: Global,
