@@ -17,7 +17,7 @@ use Rattle.pipe_types.specs.Lines.{max_bytes}
 use Rattle.line_reading.specs.declared.fault.Fault.{Fault}
 use Rattle.line_reading.specs.declared.fault.Fault.TheVariants.{Word, Number, Bytes}
 use Rattle.line_reading.specs.Reading.{◌>>=◌, is_at, number_in, bytes_in}
-use Rattle.line_reading.specs.Lines.{short_number, number, long_number, stage_in, before, items_from, list_in, record_in, reason_in, limited_in, flag_in, reason_alone, Named, named_in, passed_in, by_first, reply_rows, reply_in, reply_at, outcome_rows, outcome_in, ends_in}
+use Rattle.line_reading.specs.Lines.{short_number, number, long_number, stage_in, before, items_from, list_in, record_in, reason_in, limited_in, contents, contents_in, flag_in, reason_alone, Named, named_in, passed_in, by_first, reply_rows, reply_in, reply_at, outcome_rows, outcome_in, ends_in}
 use Rattle.line_reading.specs.Spelling.{Each, EachFrom, IsByte, IsShort, IsNumber, IsLong, IsStage, IsRecord, IsLimited, IsWhy, IsReply, IsReplyAt, IsOutcome, AreItems, IsEnd}
 use Rattle.journal_texts.specs.Words.{bytes_text, next_text, more_text, list_text}
 use Rattle.journal_texts.specs.Steps.{reply_text, outcome_text, ends_text, flag_text}
@@ -174,9 +174,13 @@ pass_text m = regrouped (decimal m.batcher) (flag_text m.flush) (bytes_text m.ke
     regrouped : (b f k p : List ℕ) → codes "p:" ++ b ++ codes ":" ++ f ++ codes ":" ++ k ++ codes ":" ++ p ≡ codes "p:" ++ (b ++ (codes ":" ++ (f ++ (codes ":" ++ (k ++ (codes ":" ++ p))))))
     regrouped b f k p = simp append_assoc
 
+contents_again : (key payload : List ℕ) → IsLimited key → IsLimited payload → contents_in (bytes_text key) (bytes_text payload) ≡ Ok (contents key payload)
+unfolding contents_in
+contents_again key payload k p = rw (limited_again key k, limited_again payload p) refl
+
 pass_again : (named : Option Named) (m : Message) → named ≡ Some (m.no, m.producer) → IsShort m.batcher → IsLimited m.key → IsLimited m.payload
     → passed_in named (decimal m.batcher ∷ (flag_text m.flush ∷ (bytes_text m.key ∷ (bytes_text m.payload ∷ [])))) ≡ Ok (Pass m)
-pass_again named m is batcher key payload = rw (short_again m.batcher batcher, flag_again m.flush, is, limited_again m.key key, limited_again m.payload payload) refl
+pass_again named m is batcher key payload = rw (short_again m.batcher batcher, flag_again m.flush, is, contents_again m.key m.payload key payload) refl
 
 pub reply_again : (named : Option Named) (reply : Reply) → IsReply named reply → reply_in named (reply_text reply) ≡ Ok reply
 unfolding IsReply reply_in

@@ -20,12 +20,12 @@ use Rattle.pipe_types.specs.Sound.{is_reason}
 use Rattle.line_reading.specs.declared.fault.Fault.{Fault}
 use Rattle.line_reading.specs.declared.fault.Fault.TheVariants.{Word, Number, Bytes}
 use Rattle.line_reading.specs.Reading.{◌>>=◌, is_at, bytes_in}
-use Rattle.line_reading.specs.Lines.{short_number, number, long_number, stage_in, before, items_from, list_in, record_in, reason_in, limited_in, flag_in, reason_alone, Named, named_in, passed_in, failed_in, raised_in, crashed_in, reply_rows, reply_in, reply_at, successful_in, unsuccessful_in, outcome_rows, outcome_in, ends_in}
+use Rattle.line_reading.specs.Lines.{short_number, number, long_number, stage_in, before, items_from, list_in, record_in, reason_in, limited_in, Contents, contents, contents_in, flag_in, reason_alone, Named, named_in, passed_in, failed_in, raised_in, crashed_in, reply_rows, reply_in, reply_at, successful_in, unsuccessful_in, outcome_rows, outcome_in, ends_in}
 use Rattle.line_reading.specs.Spelling.{Each, EachFrom, IsByte, IsShort, IsNumber, IsLong, IsStage, IsRecord, IsLimited, IsWhy, IsReply, IsReplyAt, IsOutcome, AreItems, IsEnd}
 use Rattle.journal_texts.specs.Words.{bytes_text, next_text, more_text, list_text}
 use Rattle.journal_texts.specs.Steps.{reply_text, outcome_text, ends_text, flag_text}
 use Rattle.line_reading.proofs.Spelt.{bind_ok, ok_is, number_spelt, bytes_spelt}
-use Rattle.line_reading.proofs.Chains.{one, tested, chosen, word_spelt, Spells, text_spells, moved, cons_is}
+use Rattle.line_reading.proofs.Chains.{one, Two, two, tested, chosen, word_spelt, Spells, text_spells, moved, cons_is}
 use Rattle.line_reading.proofs.ItemsAgain.{pass_text}
 
 -- ---- numbers
@@ -163,23 +163,27 @@ record PassRead (named : Option Named) (b f k p : List ℕ) (reply : Reply) : Ty
   key : (k ≡ bytes_text m.key) × IsLimited m.key
   payload : (p ≡ bytes_text m.payload) × IsLimited m.payload
 
+contents_read : (k p : List ℕ) (c : Contents) → contents_in k p ≡ Ok c → Two (limited_in k) (limited_in p) contents c
+unfolding contents_in
+contents_read k p c e = two (limited_in k) (limited_in p) contents c e
+
 passed_read : (named : Option Named) (b f k p : List ℕ) (reply : Reply) → passed_in named (b ∷ (f ∷ (k ∷ (p ∷ [])))) ≡ Ok reply → PassRead named b f k p reply
 passed_read named b f k p reply e =
     let x = bind_ok (short_number b)
-    (λ b. flag_in f >>= λ f. named_in named >>= λ m. limited_in k >>= λ k. limited_in p >>= λ p. Ok (Pass (record { no = m.0; producer = m.1; payload = p; batcher = b; key = k; flush = f }))) reply e in
+    (λ b. flag_in f >>= λ f. named_in named >>= λ m. contents_in k p >>= λ c. Ok (Pass (record { no = m.0; producer = m.1; payload = c.1; batcher = b; key = c.0; flush = f }))) reply e in
     let y = bind_ok (flag_in f)
-    (λ f. named_in named >>= λ m. limited_in k >>= λ k. limited_in p >>= λ p. Ok (Pass (record { no = m.0; producer = m.1; payload = p; batcher = x.0; key = k; flush = f }))) reply x.2 in
-    let z = bind_ok (named_in named) (λ m. limited_in k >>= λ k. limited_in p >>= λ p. Ok (Pass (record { no = m.0; producer = m.1; payload = p; batcher = x.0; key = k; flush = y.0 }))) reply y.2 in
-    let v = bind_ok (limited_in k) (λ k. limited_in p >>= λ p. Ok (Pass (record { no = z.0.0; producer = z.0.1; payload = p; batcher = x.0; key = k; flush = y.0 }))) reply z.2 in
-    let w = bind_ok (limited_in p) (λ p. Ok (Pass (record { no = z.0.0; producer = z.0.1; payload = p; batcher = x.0; key = v.0; flush = y.0 }))) reply v.2 in
+    (λ f. named_in named >>= λ m. contents_in k p >>= λ c. Ok (Pass (record { no = m.0; producer = m.1; payload = c.1; batcher = x.0; key = c.0; flush = f }))) reply x.2 in
+    let z = bind_ok (named_in named) (λ m. contents_in k p >>= λ c. Ok (Pass (record { no = m.0; producer = m.1; payload = c.1; batcher = x.0; key = c.0; flush = y.0 }))) reply y.2 in
+    let v = one (contents_in k p) (λ (c : Contents). Pass (record { no = z.0.0; producer = z.0.1; payload = c.1; batcher = x.0; key = c.0; flush = y.0 })) reply z.2 in
+    let w = contents_read k p v.a v.a_is in
     record {
-      m = record { no = z.0.0; producer = z.0.1; payload = w.0; batcher = x.0; key = v.0; flush = y.0 };
-      all = ok_is _ _ w.2;
+      m = record { no = z.0.0; producer = z.0.1; payload = w.b; batcher = x.0; key = w.a; flush = y.0 };
+      all = ap (λ (c : Contents). Pass (record { no = z.0.0; producer = z.0.1; payload = c.1; batcher = x.0; key = c.0; flush = y.0 })) w.all ∙ v.all;
       batcher = short_spelt b x.0 x.1;
       flush = flag_spelt f y.0 y.1;
       name = named_spelt named z.0 z.1;
-      key = limited_spelt k v.0 v.1;
-      payload = limited_spelt p w.0 w.1;
+      key = limited_spelt k w.a w.a_is;
+      payload = limited_spelt p w.b w.b_is;
     }
 
 pass_joined : (b f k p b' f' k' p' : List ℕ) → b ≡ b' → f ≡ f' → k ≡ k' → p ≡ p'

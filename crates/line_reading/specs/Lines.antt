@@ -141,10 +141,20 @@ abbrev pub named_in : Option Named → Result Named Fault
 named_in None = Err Number
 named_in (Some named) = Ok named
 
+-- a key and a payload
+abbrev pub Contents : Type 0
+Contents = List ℕ × List ℕ
+
+abbrev pub contents : (key payload : List ℕ) → Contents
+contents key payload = (key, payload)
+
+unfoldable pub contents_in : (key payload : List ℕ) → Result Contents Fault
+contents_in key payload = limited_in key >>= λ k. limited_in payload >>= λ p. Ok (contents k p)
+
 abbrev pub passed_in : Option Named → List (List ℕ) → Result Reply Fault
 passed_in named (batcher ∷ flush ∷ key ∷ payload ∷ []) =
-    short_number batcher >>= λ b. flag_in flush >>= λ f. named_in named >>= λ m. limited_in key >>= λ k. limited_in payload >>= λ p.
-    Ok (Pass (record { no = m.0; producer = m.1; payload = p; batcher = b; key = k; flush = f }))
+    short_number batcher >>= λ b. flag_in flush >>= λ f. named_in named >>= λ m. contents_in key payload >>= λ c.
+    Ok (Pass (record { no = m.0; producer = m.1; payload = c.1; batcher = b; key = c.0; flush = f }))
 passed_in named _ = Err Bytes
 
 abbrev pub failed_in : List (List ℕ) → Result Reply Fault

@@ -3,7 +3,7 @@
 ghost use Rattle.std.specs.Prelude.{◌≡◌, ◌≤◌, ◌<◌, length, nat_le, List, Result, Option, Some, None, Ok, Err, bytes_eq, codes};
 ghost use Rattle.std.specs.List.{slice_split};
 ghost use Rattle.line_reading.specs.Reading.{Gives, texts_of, is_at};
-ghost use Rattle.line_reading.specs.Lines.{items_from, list_in, limited_in, flag_in, named_in, by_rows, passed_in, failed_in, raised_in, crashed_in, reply_rows, reply_in, reply_at};
+ghost use Rattle.line_reading.specs.Lines.{items_from, list_in, limited_in, flag_in, named_in, by_rows, contents_in, passed_in, failed_in, raised_in, crashed_in, reply_rows, reply_in, reply_at};
 
 use crate::fault::{Fault, ReadError};
 use crate::fields::{bytes, parts, short};
@@ -51,6 +51,16 @@ fn known(message: Option<(MsgNo, StageNo)>) -> Result<(MsgNo, StageNo), ReadErro
     }
 }
 
+/// `KEY:PAYLOAD`
+#[tactic(auto, unfolding(crate::specs::Lines::contents_in), using(crate::proofs::Loops::fails_bind))]
+fn contents(alloc: Global, key: &[u8], payload: &[u8]) -> Result<(Bytes, Bytes), ReadError>
+    ensures { Gives (λ c. c) result (contents_in key.now payload.now) }
+{
+    let key = limited(alloc, key)?;
+    let payload = limited(alloc, payload)?;
+    Ok((key, payload))
+}
+
 /// `BATCHER:FLUSH:KEY:PAYLOAD`, of this message.
 #[tactic(auto, using(crate::proofs::Loops::fails_bind))]
 fn passed(
@@ -65,11 +75,10 @@ fn passed(
             let batcher = short(batcher)?;
             let flush = flag(flush)?;
             let message = known(message)?;
-            let key = limited(alloc, key)?;
-            let payload = limited(alloc, payload)?;
+            let contents = contents(alloc, key, payload)?;
             Ok(Reply::Pass(Message {
-                payload,
-                key,
+                payload: contents.1,
+                key: contents.0,
                 no: message.0,
                 producer: message.1,
                 batcher,
