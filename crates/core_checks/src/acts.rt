@@ -24,7 +24,7 @@ use pipe_types::numbers::StageNo;
 use pipe_types::step::{DrainCause, LateAnswer, Step};
 use stage_bodies::Job;
 use std::alloc::{AllocError, Global};
-use std::io;
+use told_text::Told;
 
 /// What stands beside the core of a case.
 #[derive(Drop)]
@@ -34,22 +34,26 @@ struct Beside {
 }
 
 /// Runs the case, and writes what it asks for.
-pub fn run_case(rt: &HostRuntime, case: &Case) -> io::Result<()> {
-    let title = case.title.as_str();
-    println!(rt; "== {title}")?;
-    match core_of(rt.alloc(), case.file.as_str())? {
-        Some(core) => run_acts(rt, case, core),
-        None => println!(rt; "the file is refused"),
+pub fn run_case(told: &mut Told, case: &Case) -> Result<(), AllocError> {
+    told.add("== ");
+    told.add(case.title.as_str());
+    told.add("\n");
+    match core_of(told.alloc, case.file.as_str())? {
+        Some(core) => run_acts(told, case, core),
+        None => {
+            told.add("the file is refused\n");
+            Ok(())
+        }
     }
 }
 
-fn run_acts(rt: &HostRuntime, case: &Case, mut core: Core) -> io::Result<()>
+fn run_acts(told: &mut Told, case: &Case, mut core: Core) -> Result<(), AllocError>
     requires stands { Stands core }
 {
-    let control = Some(lines_of(rt.alloc(), case)?);
+    let control = Some(lines_of(told.alloc, case)?);
     let mut beside = Beside { out: None, control };
     for act in case.acts.as_str().lines() {
-        act_on(rt, case, &mut core, &mut beside, act)?;
+        act_on(told, case, &mut core, &mut beside, act)?;
     }
     Ok(())
 }
@@ -87,31 +91,31 @@ fn source_act(word: &str) -> SourceAct {
 
 /// Does the act.
 fn act_on(
-    rt: &HostRuntime,
+    told: &mut Told,
     case: &Case,
     core: &mut Core,
     beside: &mut Beside,
     act: &str,
-) -> io::Result<()>
+) -> Result<(), AllocError>
     requires stands { Stands core.old }
     ensures stands { Stands core.new }
 {
     let (word, rest) = halves(act);
     if word == "bring" {
-        bring(rt, core, &mut beside.out, rest)
+        bring(told, core, &mut beside.out, rest)
     } else if word == "go" {
-        drive(rt, core, &mut beside.out, None, moves_in(rest))
+        drive(told, core, &mut beside.out, None, moves_in(rest))
     } else if word == "drive" {
         let (moves, texts) = halves(rest);
-        drive(rt, core, &mut beside.out, Some(texts), number(moves))
+        drive(told, core, &mut beside.out, Some(texts), number(moves))
     } else if word == "read" {
-        Ok(read_often(core, &mut beside.control, number(rest))?)
+        read_often(core, &mut beside.control, number(rest))
     } else if word == "kills" || word == "drains" {
-        tell_kills(rt, case.file.as_str(), word == "drains", rest)
+        tell_kills(told, case.file.as_str(), word == "drains", rest)
     } else {
         match step_in(word, rest) {
-            Some(step) => force(rt, core, step, act),
-            None => tell(rt, core, word, rest),
+            Some(step) => force(told, core, step, act),
+            None => tell(told, core, word, rest),
         }
     }
 }
@@ -186,12 +190,15 @@ fn late_in(rest: &str) -> Step {
 }
 
 /// Makes the step where it may come.
-fn force(rt: &HostRuntime, core: &mut Core, step: Step, act: &str) -> io::Result<()>
+fn force(told: &mut Told, core: &mut Core, step: Step, act: &str) -> Result<(), AllocError>
     requires stands { Stands core.old }
     ensures stands { Stands core.new }
 {
-    if try_step(rt.alloc(), core, step)? {
+    if try_step(told.alloc, core, step)? {
         return Ok(());
     }
-    println!(rt; "not legal: {act}")
+    told.add("not legal: ");
+    told.add(act);
+    told.add("\n");
+    Ok(())
 }

@@ -4,6 +4,7 @@
 //! control source has, where `\n` and `\r` are a line feed and a carriage return; `reads WORDS` says how it is read: a number
 //! gives so many bytes, `wait` nothing yet, another word fails. Any other line is an act.
 
+use pipe_types::numbers::StageNo;
 use std::alloc::{AllocError, Global};
 
 /// What a case gives.
@@ -97,4 +98,13 @@ pub fn number(text: &str) -> u64 {
 /// The small number that the text is, or 0.
 pub fn small(text: &str) -> u16 {
     text.parse::<u16>().unwrap_or(0)
+}
+
+/// The item at this place, from 0, of those between colons.
+pub fn item(text: &str, at: usize) -> &str {
+    text.split(':').nth(at).unwrap_or("")
+}
+
+pub fn stage(text: &str) -> StageNo {
+    StageNo(small(text))
 }

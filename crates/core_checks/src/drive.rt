@@ -24,7 +24,7 @@ use pipe_types::step::{LateAnswer, Step};
 use pipe_types::topology::Topology;
 use stage_bodies::{Answer, Job, Work};
 use std::alloc::{AllocError, Global};
-use std::io;
+use told_text::Told;
 
 /// The most moves where no number is given.
 pub const MOVES: u64 = 200;
@@ -55,18 +55,18 @@ fn new_core(alloc: Global, topology: Topology) -> Result<Option<Core>, AllocErro
 /// Makes so many moves, as far as there are any. A fetch brings the text of its number, from 1 on; where there are no texts,
 /// it stays out.
 pub fn drive(
-    rt: &HostRuntime,
+    told: &mut Told,
     core: &mut Core,
     out: &mut Option<Job>,
     texts: Option<&str>,
     moves: u64,
-) -> io::Result<()>
+) -> Result<(), AllocError>
     requires stands { Stands core.old }
     ensures stands { Stands core.new }
 {
     for _ in 0..moves {
         let text = text_now(core, texts);
-        move_on(rt, core, out, text)?;
+        move_on(told, core, out, text)?;
     }
     Ok(())
 }
@@ -103,23 +103,31 @@ fn count_fetches(core: &Core) -> usize {
 }
 
 /// Goes on until a fetch is out, which brings the text.
-pub fn bring(rt: &HostRuntime, core: &mut Core, out: &mut Option<Job>, text: &str) -> io::Result<()>
+pub fn bring(
+    told: &mut Told,
+    core: &mut Core,
+    out: &mut Option<Job>,
+    text: &str,
+) -> Result<(), AllocError>
     requires stands { Stands core.old }
     ensures stands { Stands core.new }
 {
-    drive_to_fetch(rt, core, out)?;
+    drive_to_fetch(told, core, out)?;
     if !is_fetch(out) {
-        return println!(rt; "no fetch for: {text}");
+        told.add("no fetch for: ");
+        told.add(text);
+        told.add("\n");
+        return Ok(());
     }
-    move_on(rt, core, out, Some(text))
+    move_on(told, core, out, Some(text))
 }
 
-fn drive_to_fetch(rt: &HostRuntime, core: &mut Core, out: &mut Option<Job>) -> io::Result<()>
+fn drive_to_fetch(told: &mut Told, core: &mut Core, out: &mut Option<Job>) -> Result<(), AllocError>
     requires stands { Stands core.old }
     ensures stands { Stands core.new }
 {
     for _ in 0..MOVES {
-        move_on(rt, core, out, None)?;
+        move_on(told, core, out, None)?;
     }
     Ok(())
 }
@@ -134,11 +142,11 @@ fn is_fetch(out: &Option<Job>) -> bool {
 
 /// Answers the job that is out, or makes the move that comes next. A fetch for which there is no text stays out.
 fn move_on(
-    rt: &HostRuntime,
+    told: &mut Told,
     core: &mut Core,
     out: &mut Option<Job>,
     text: Option<&str>,
-) -> io::Result<()>
+) -> Result<(), AllocError>
     requires stands { Stands core.old }
     ensures stands { Stands core.new }
 {
@@ -146,7 +154,7 @@ fn move_on(
         return Ok(());
     }
     match out.take() {
-        Some(job) => come_home(rt, core, job, text.unwrap_or("")),
+        Some(job) => come_home(told, core, job, text.unwrap_or("")),
         None => {
             *out = go_on(core)?;
             Ok(())
@@ -234,7 +242,7 @@ fn nap(core: &mut Core) -> Result<(), AllocError>
 }
 
 /// Brings the job's answer home, late where its incarnation was killed.
-fn come_home(rt: &HostRuntime, core: &mut Core, job: Job, text: &str) -> io::Result<()>
+fn come_home(told: &mut Told, core: &mut Core, job: Job, text: &str) -> Result<(), AllocError>
     requires stands { Stands core.old }
     ensures stands { Stands core.new }
 {
@@ -244,16 +252,16 @@ fn come_home(rt: &HostRuntime, core: &mut Core, job: Job, text: &str) -> io::Res
         work,
     } = job;
     let keyed = is_keyed(core.topology(), post.stage);
-    let outcome = outcome_of(rt.alloc(), work, keyed, text)?;
+    let outcome = outcome_of(told.alloc, work, keyed, text)?;
     let answer = Answer {
         post,
         incarnation,
         outcome,
     };
     if is_in_time(core, &answer) {
-        return record(rt, core, answer);
+        return record(told, core, answer);
     }
-    come_late(rt, core, answer)
+    come_late(told, core, answer)
 }
 
 /// Whether the incarnation that the job left from is live.
@@ -264,21 +272,22 @@ fn is_in_time(core: &Core, answer: &Answer) -> bool
 }
 
 /// Records the answer, where it may come.
-fn record(rt: &HostRuntime, core: &mut Core, answer: Answer) -> io::Result<()>
+fn record(told: &mut Told, core: &mut Core, answer: Answer) -> Result<(), AllocError>
     requires stands { Stands core.old }
     ensures stands { Stands core.new }
 {
     let step = step_of(answer.post, &answer.outcome)?;
-    if may_come(rt.alloc(), core, &step)? {
+    if may_come(told.alloc, core, &step)? {
         record_answer(core, answer)?;
         return Ok(());
     }
-    let stage = answer.post.stage.0;
-    println!(rt; "not legal: an answer of {stage}")
+    told.behind("not legal: an answer of ", u64::from(answer.post.stage.0));
+    told.add("\n");
+    Ok(())
 }
 
 /// Records what of the answer is late.
-fn come_late(rt: &HostRuntime, core: &mut Core, answer: Answer) -> io::Result<()>
+fn come_late(told: &mut Told, core: &mut Core, answer: Answer) -> Result<(), AllocError>
     requires stands { Stands core.old }
     ensures stands { Stands core.new }
 {
@@ -293,11 +302,12 @@ fn come_late(rt: &HostRuntime, core: &mut Core, answer: Answer) -> io::Result<()
         incarnation,
         answer: late_of(outcome),
     };
-    if try_step(rt.alloc(), core, step)? {
+    if try_step(told.alloc, core, step)? {
         return Ok(());
     }
-    let stage = post.stage.0;
-    println!(rt; "not legal: a late answer of {stage}")
+    told.behind("not legal: a late answer of ", u64::from(post.stage.0));
+    told.add("\n");
+    Ok(())
 }
 
 /// Makes the step where it may come, and says whether it could. It is no begin of a job, and no answer in time.

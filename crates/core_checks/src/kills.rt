@@ -13,7 +13,8 @@ use core_state::Core;
 use pipe_types::message::Why;
 use pipe_types::numbers::StageNo;
 use pipe_types::step::{DrainCause, Step};
-use std::io;
+use std::alloc::AllocError;
+use told_text::Told;
 
 /// The most moves of a run behind a kill.
 const MOVES: u64 = 80;
@@ -29,7 +30,7 @@ struct Kill<'a> {
 }
 
 /// Runs with a kill after each number of moves.
-pub fn tell_kills(rt: &HostRuntime, file: &str, drains: bool, rest: &str) -> io::Result<()> {
+pub fn tell_kills(told: &mut Told, file: &str, drains: bool, rest: &str) -> Result<(), AllocError> {
     let (stage, rest) = halves(rest);
     let (from, rest) = halves(rest);
     let (to, texts) = halves(rest);
@@ -41,51 +42,55 @@ pub fn tell_kills(rt: &HostRuntime, file: &str, drains: bool, rest: &str) -> io:
             drains,
             texts,
         };
-        tell_kill(rt, file, kill)?;
+        tell_kill(told, file, kill)?;
     }
     Ok(())
 }
 
-fn tell_kill(rt: &HostRuntime, file: &str, kill: Kill<'_>) -> io::Result<()> {
-    let (stage, moves) = (kill.stage.0, kill.moves);
-    print!(rt; "{stage} killed after {moves}: ")?;
-    match core_of(rt.alloc(), file)? {
-        Some(core) => run_kill(rt, core, kill),
-        None => println!(rt; "the file is refused"),
+fn tell_kill(told: &mut Told, file: &str, kill: Kill<'_>) -> Result<(), AllocError> {
+    told.number(u64::from(kill.stage.0));
+    told.behind(" killed after ", kill.moves);
+    told.add(": ");
+    match core_of(told.alloc, file)? {
+        Some(core) => run_kill(told, core, kill),
+        None => {
+            told.add("the file is refused\n");
+            Ok(())
+        }
     }
 }
 
-fn run_kill(rt: &HostRuntime, mut core: Core, kill: Kill<'_>) -> io::Result<()>
+fn run_kill(told: &mut Told, mut core: Core, kill: Kill<'_>) -> Result<(), AllocError>
     requires stands { Stands core }
 {
-    go_through(rt, &mut core, kill)?;
-    tell_verdict(rt, &core, kill.stage)
+    go_through(told, &mut core, kill)?;
+    tell_verdict(told, &core, kill.stage)
 }
 
 /// Drives the core up to the kill and from there to its end.
-fn go_through(rt: &HostRuntime, core: &mut Core, kill: Kill<'_>) -> io::Result<()>
+fn go_through(told: &mut Told, core: &mut Core, kill: Kill<'_>) -> Result<(), AllocError>
     requires stands { Stands core.old }
     ensures stands { Stands core.new }
 {
     let mut out = None;
-    drive(rt, core, &mut out, Some(kill.texts), kill.moves)?;
-    stop(rt, core, kill)?;
-    drive(rt, core, &mut out, Some(kill.texts), MOVES)
+    drive(told, core, &mut out, Some(kill.texts), kill.moves)?;
+    stop(told, core, kill)?;
+    drive(told, core, &mut out, Some(kill.texts), MOVES)
 }
 
 /// Kills the stage, and begins the drain where it is to begin and may.
-fn stop(rt: &HostRuntime, core: &mut Core, kill: Kill<'_>) -> io::Result<()>
+fn stop(told: &mut Told, core: &mut Core, kill: Kill<'_>) -> Result<(), AllocError>
     requires stands { Stands core.old }
     ensures stands { Stands core.new }
 {
     let stage = kill.stage;
     let why = Why::Kill;
-    if !try_step(rt.alloc(), core, Step::Kill { stage, why })? {
-        print!(rt; "not legal, ")?;
+    if !try_step(told.alloc, core, Step::Kill { stage, why })? {
+        told.add("not legal, ");
     }
     if kill.drains {
         let cause = DrainCause::Control;
-        try_step(rt.alloc(), core, Step::Drain { cause })?;
+        try_step(told.alloc, core, Step::Drain { cause })?;
     }
     Ok(())
 }

@@ -11,22 +11,27 @@ mod case;
 mod drive;
 mod judge;
 mod kills;
+mod pasts;
+mod sees;
+mod steps;
 mod tell;
 
 use acts::run_case;
 use case::Case;
 use std::io;
+use told_text::Told;
 
 fn main(rt: HostRuntime) -> io::Result<()> {
+    let mut told = Told::new(rt.alloc());
     let mut case = Case::new(rt.alloc());
     for line in rt.lines(rt.alloc()) {
         let line = line?;
         if line.as_str() == "run" {
-            run_case(&rt, &case)?;
+            run_case(&mut told, &case)?;
             case = Case::new(rt.alloc());
         } else {
             case.read(line.as_str())?;
         }
     }
-    Ok(())
+    told.print(&rt)
 }

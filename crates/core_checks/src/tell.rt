@@ -3,51 +3,68 @@
 //! `journal` writes the journal's text, and `tail N` its last N lines. `next` tells the next move. `judge S` tells what the
 //! slow machine says of the journal: `not legal`, or whether all is drained and the places are those of the core, how many
 //! messages were accepted, lost with the first incarnation of the stage by a control line, and successful, and the
-//! incarnation of each stage, with `-` where it is dead.
+//! incarnation of each stage, with `-` where it is dead. `see ASKS` tells what the core says of itself (`sees.rt`), and
+//! `past WORDS` what the slow machine makes of steps by hand (`pasts.rt`).
 
 ghost use Rattle.core_state.specs.Stands.{Stands};
 
 use super::case::{number, small};
 use super::drive::next;
 use super::judge::replayed;
+use super::pasts::tell_past;
+use super::sees::see;
 use core_moves::Move;
 use core_state::Core;
 use journal_texts::lines::journal_text;
 use pipe_types::message::{Loss, Outcome, Place, Why};
 use pipe_types::numbers::StageNo;
 use pipe_types::state::{Life, PlaceRow, PlainState};
-use std::io;
+use std::alloc::AllocError;
+use told_text::Told;
 
 /// Tells what the words ask for.
-pub fn tell(rt: &HostRuntime, core: &Core, word: &str, rest: &str) -> io::Result<()>
+pub fn tell(told: &mut Told, core: &Core, word: &str, rest: &str) -> Result<(), AllocError>
     requires stands { Stands core.now }
 {
     if word == "journal" {
-        tell_tail(rt, core, u64::MAX)
+        tell_tail(told, core, u64::MAX)
     } else if word == "tail" {
-        tell_tail(rt, core, number(rest))
+        tell_tail(told, core, number(rest))
     } else if word == "next" {
-        let move_on = named(core);
-        println!(rt; "{move_on}")
+        told.add(named(core));
+        told.add("\n");
+        Ok(())
     } else if word == "judge" {
-        tell_verdict(rt, core, StageNo(small(rest)))
+        tell_verdict(told, core, StageNo(small(rest)))
+    } else if word == "see" {
+        see(told, core, rest)
+    } else if word == "past" {
+        tell_past(told, core.topology(), rest)
     } else {
-        println!(rt; "no act: {word}")
+        told.add("no act: ");
+        told.add(word);
+        told.add("\n");
+        Ok(())
     }
 }
 
 /// So many last lines of the journal's text.
-fn tell_tail(rt: &HostRuntime, core: &Core, many: u64) -> io::Result<()> {
-    let text = journal_text(rt.alloc(), core.journal())?;
+fn tell_tail(told: &mut Told, core: &Core, many: u64) -> Result<(), AllocError> {
+    let text = journal_text(told.alloc, core.journal())?;
     let shown = str::from_utf8(text.as_slice()).unwrap_or("no text");
-    let mut left = lines_in(shown);
-    for line in shown.lines() {
+    add_tail(told, shown, many);
+    Ok(())
+}
+
+fn add_tail(told: &mut Told, text: &str, many: u64) {
+    let mut left = lines_in(text);
+    for line in text.lines() {
         if left <= many {
-            println!(rt; "{line}")?;
+            told.add(line);
+            told.add("\n");
         }
         left = left.saturating_sub(1);
     }
-    Ok(())
 }
 
 /// How many lines the text has.
@@ -75,38 +92,49 @@ fn named(core: &Core) -> &'static str
 }
 
 /// What the slow machine says.
-pub fn tell_verdict(rt: &HostRuntime, core: &Core, stage: StageNo) -> io::Result<()>
+pub fn tell_verdict(told: &mut Told, core: &Core, stage: StageNo) -> Result<(), AllocError>
     requires stands { Stands core.now }
 {
-    match replayed(rt.alloc(), core)? {
-        Some(state) => tell_state(rt, core, stage, &state),
-        None => println!(rt; "not legal"),
+    match replayed(told.alloc, core)? {
+        Some(state) => tell_state(told, core, stage, &state),
+        None => {
+            told.add("not legal\n");
+            Ok(())
+        }
     }
 }
 
-fn tell_state(rt: &HostRuntime, core: &Core, stage: StageNo, state: &PlainState) -> io::Result<()>
+fn tell_state(
+    told: &mut Told,
+    core: &Core,
+    stage: StageNo,
+    state: &PlainState,
+) -> Result<(), AllocError>
     requires stands { Stands core.now }
 {
-    let end = named(core);
     let seen = core.places()?;
     let places = state.places.as_slice();
-    let same = places == seen.as_slice();
-    let accepted = places.len();
-    let lost = count_lost(places, stage);
-    let successful = count_successful(places);
-    print!(rt;
-        "{end}, same places {same}, accepted {accepted}, lost {lost}, successful {successful}, lives"
-    )?;
-    tell_lives(rt, state.lives.as_slice())
+    told.add(named(core));
+    told.add(", same places");
+    told.flag(places == seen.as_slice());
+    tell_counts(told, places, stage);
+    tell_lives(told, state.lives.as_slice());
+    Ok(())
 }
 
-fn tell_lives(rt: &HostRuntime, lives: &[Life]) -> io::Result<()> {
+fn tell_counts(told: &mut Told, places: &[PlaceRow], stage: StageNo) {
+    told.behind(", accepted ", places.len() as u64);
+    told.behind(", lost ", count_lost(places, stage) as u64);
+    told.behind(", successful ", count_successful(places) as u64);
+}
+
+fn tell_lives(told: &mut Told, lives: &[Life]) {
+    told.add(", lives");
     for life in lives {
-        let dead = if life.live { "" } else { "-" };
-        let incarnation = life.incarnation;
-        print!(rt; " {incarnation}{dead}")?;
+        told.count(u64::from(life.incarnation));
+        told.add(if life.live { "" } else { "-" });
     }
-    println!(rt; "")
+    told.add("\n");
 }
 
 /// How many messages are lost with the first incarnation of the stage.

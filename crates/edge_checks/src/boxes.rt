@@ -1,6 +1,6 @@
 //! Callbacks in their boxes: rules on messages, on batches and on chunks.
 
-use super::texts::{bytes_of, halves, shown, spelled};
+use super::texts::{bytes_of, halves, name_of, spelled};
 use config_rule::form::parse;
 use pipe_types::bytes::{Bytes, Text};
 use pipe_types::message::{Batch, Message, MessageList, Outcome, Reply, Trigger};
@@ -12,7 +12,7 @@ use stage_callback::{
 };
 use stage_job::{boxes_of, never_crashes, run_chunk};
 use std::alloc::{AllocError, Global};
-use std::io;
+use told_text::Told;
 
 /// A callback in its box.
 pub type Handler = Box<dyn Callback + Send>;
@@ -24,7 +24,7 @@ const MOST_NAMES: usize = 65_535;
 fn names_of(alloc: Global) -> Result<Vec<Text>, AllocError> {
     let mut names = Vec::new(alloc);
     for name in "a b c d".split(' ') {
-        names.push(Text::from_string(String::from_str(alloc, name)?))?;
+        names.push(name_of(alloc, name)?)?;
     }
     Ok(names)
 }
@@ -37,20 +37,46 @@ fn rule_of(alloc: Global, names: &[Text], text: &str) -> Result<Option<Rule>, Al
     }
 }
 
+// The names of the batchers, and what the words before spell.
+#[derive(Drop)]
+struct Settings {
+    names: Vec<Text>,
+    rules: Vec<Rule>,
+    failed: Option<Reason>,
+}
+
+fn add_word(alloc: Global, settings: &mut Settings, word: &str) -> Result<(), AllocError> {
+    let text = spelled(alloc, word)?;
+    match rule_of(alloc, settings.names.as_slice(), text.as_str())? {
+        Some(rule) => settings.rules.push(rule)?,
+        None => settings.failed = Reason::new(text.as_str().as_bytes()),
+    }
+    Ok(())
+}
+
+fn settings_of(alloc: Global, words: &str) -> Result<Settings, AllocError> {
+    let mut settings = Settings {
+        names: names_of(alloc)?,
+        rules: Vec::new(alloc),
+        failed: None,
+    };
+    for word in words.split_whitespace() {
+        add_word(alloc, &mut settings, word)?;
+    }
+    Ok(settings)
+}
+
 /// The spec of this kind with these rules, of a stage before four batchers. A word that is no rule is the reason that it
 /// gives messages that failed.
 pub fn spec_of(alloc: Global, kind: Kind, words: &str) -> Result<StageSpec, AllocError> {
-    let names = names_of(alloc)?;
+    let Settings {
+        names: _names,
+        rules,
+        failed,
+    } = settings_of(alloc, words)?;
     let mut spec = unarmed(alloc, kind);
-    let mut rules = Vec::new(alloc);
-    for word in words.split_whitespace() {
-        let text = spelled(alloc, word)?;
-        match rule_of(alloc, names.as_slice(), text.as_str())? {
-            Some(rule) => rules.push(rule)?,
-            None => spec.failed = Reason::new(text.as_str().as_bytes()),
-        }
-    }
     spec.rules = RuleList::from_vec(rules);
+    spec.failed = failed;
     spec.batchers = 4;
     Ok(spec)
 }
@@ -74,50 +100,54 @@ pub fn arm(
 }
 
 /// `callback KIND RULES.. : ACTS..`: what a box of the kind `lines` or `steps` answers that is armed with these rules.
-pub fn callback(rt: &HostRuntime, text: &str) -> io::Result<()> {
+pub fn callback(told: &mut Told, text: &str) -> Result<(), AllocError> {
     let (kind, rest) = halves(text);
     if kind == "lines" {
-        let mut lines: Handler = Box::new(rt.alloc(), LinesBox::new(rt.alloc()))?;
-        play(rt, &mut lines, Kind::Lines, rest)
+        let mut lines: Handler = Box::new(told.alloc, LinesBox::new(told.alloc))?;
+        play(told, &mut lines, Kind::Lines, rest)
     } else {
-        let mut steps: Handler = Box::new(rt.alloc(), StepsBox::new(rt.alloc()))?;
-        play(rt, &mut steps, Kind::Steps, rest)
+        let mut steps: Handler = Box::new(told.alloc, StepsBox::new(told.alloc))?;
+        play(told, &mut steps, Kind::Steps, rest)
     }
 }
 
-fn play(rt: &HostRuntime, callback: &mut Handler, kind: Kind, text: &str) -> io::Result<()> {
+fn play(told: &mut Told, callback: &mut Handler, kind: Kind, text: &str) -> Result<(), AllocError> {
     let (rules, acts) = text.split_once(':').unwrap_or((text, ""));
-    if !arm(rt.alloc(), callback, kind, rules)? {
-        return print!(rt; " not allowed");
-    }
-    for act in acts.split_whitespace() {
-        act_on(rt, callback, act)?;
+    if arm(told.alloc, callback, kind, rules)? {
+        for act in acts.split_whitespace() {
+            act_on(told, callback, act)?;
+        }
+    } else {
+        told.add(" not allowed");
     }
     Ok(())
 }
 
 // `[A|B..` is a batch, and another word is one of the calls below or a message's payload.
-fn act_on(rt: &HostRuntime, callback: &mut Handler, act: &str) -> io::Result<()> {
+fn act_on(told: &mut Told, callback: &mut Handler, act: &str) -> Result<(), AllocError> {
     match act {
-        "reset" => {
-            callback.reset();
-            Ok(())
-        }
-        "failed" => tell_failed(rt, callback),
-        "prepare" => tell_prepared(rt, callback),
-        "kind" => tell_kind(rt, callback.kind()),
-        _ => match act.strip_prefix('[') {
-            Some(list) => tell_batch(rt, callback, list),
-            None => tell_message(rt, callback, act),
-        },
+        "reset" => callback.reset(),
+        "failed" => tell_failed(told, callback),
+        "prepare" => tell_prepared(told, callback),
+        "kind" => tell_kind(told, callback.kind()),
+        _ => return tell_answer(told, callback, act),
+    }
+    Ok(())
+}
+
+fn tell_answer(told: &mut Told, callback: &mut Handler, act: &str) -> Result<(), AllocError> {
+    match act.strip_prefix('[') {
+        Some(list) => tell_batch(told, callback, list),
+        None => tell_message(told, callback, act),
     }
 }
 
 pub fn message_of(alloc: Global, no: u32, payload: &str) -> Result<Message, AllocError> {
+    let payload = bytes_of(alloc, payload)?;
     Ok(Message {
         no: MsgNo(no),
         producer: StageNo(1),
-        payload: bytes_of(alloc, payload)?,
+        payload,
         batcher: 0,
         key: Bytes::from_vec(Vec::new(alloc)),
         flush: false,
@@ -136,124 +166,141 @@ pub fn messages_of(alloc: Global, list: &str) -> Result<MessageList, AllocError>
 }
 
 pub fn batch_of(alloc: Global, list: &str) -> Result<Batch, AllocError> {
+    let messages = messages_of(alloc, list)?;
     Ok(Batch {
         no: BatchNo(1),
         key: Bytes::from_vec(Vec::new(alloc)),
         trigger: Trigger::Size,
-        messages: messages_of(alloc, list)?,
+        messages,
     })
 }
 
-fn tell_message(rt: &HostRuntime, callback: &mut Handler, payload: &str) -> io::Result<()> {
-    let reply = callback.message(message_of(rt.alloc(), 7, payload)?)?;
-    tell_reply(rt, &reply)
+fn tell_message(told: &mut Told, callback: &mut Handler, payload: &str) -> Result<(), AllocError> {
+    let message = message_of(told.alloc, 7, payload)?;
+    tell_reply(told, &callback.message(message)?);
+    Ok(())
 }
 
 // Of a pass `pass`, the batcher and `!` in flush mode, then the key and the payload, each behind a bar.
-fn tell_reply(rt: &HostRuntime, reply: &Reply) -> io::Result<()> {
+fn tell_reply(told: &mut Told, reply: &Reply) {
     match reply {
-        Reply::Pass(message) => {
-            let mode = if message.flush { "!" } else { "" };
-            print!(rt; " pass{}{mode}|", message.batcher)?;
-            print!(rt; "{}|", shown(rt.alloc(), message.key.as_slice())?)?;
-            print!(rt; "{}", shown(rt.alloc(), message.payload.as_slice())?)
-        }
-        Reply::Failed(why) => print!(rt; " fail:{}", word_of(why)),
-        Reply::Raised(why) => print!(rt; " raise:{}", word_of(why)),
-        Reply::Crashed => print!(rt; " crash"),
+        Reply::Pass(message) => tell_pass(told, message),
+        Reply::Failed(why) => tell_why(told, " fail:", why),
+        Reply::Raised(why) => tell_why(told, " raise:", why),
+        Reply::Crashed => told.add(" crash"),
     }
+}
+
+fn tell_pass(told: &mut Told, message: &Message) {
+    told.add(" pass");
+    told.number(u64::from(message.batcher));
+    told.add(if message.flush { "!|" } else { "|" });
+    told.spelled(message.key.as_slice());
+    told.add("|");
+    told.spelled(message.payload.as_slice());
+}
+
+/// Tells what came, and the text of its reason.
+pub fn tell_why(told: &mut Told, what: &str, reason: &Reason) {
+    told.add(what);
+    told.add(str::from_utf8(reason.as_bytes()).unwrap_or("no text"));
 }
 
 /// Of a pass the message's number, and of another reply what it is.
-pub fn tell_number(rt: &HostRuntime, reply: &Reply) -> io::Result<()> {
+pub fn tell_number(told: &mut Told, reply: &Reply) {
     match reply {
-        Reply::Pass(message) => print!(rt; " {}", message.no.0),
-        _ => tell_reply(rt, reply),
+        Reply::Pass(message) => told.count(u64::from(message.no.0)),
+        _ => tell_reply(told, reply),
     }
 }
 
-pub fn tell_numbers(rt: &HostRuntime, replies: &[Reply]) -> io::Result<()> {
+pub fn tell_numbers(told: &mut Told, replies: &[Reply]) {
     for reply in replies {
-        tell_number(rt, reply)?;
+        tell_number(told, reply);
     }
-    Ok(())
 }
 
-pub fn word_of(reason: &Reason) -> &str {
-    str::from_utf8(reason.as_bytes()).unwrap_or("no text")
-}
-
-fn tell_batch(rt: &HostRuntime, callback: &mut Handler, list: &str) -> io::Result<()> {
-    let batch = batch_of(rt.alloc(), list)?;
+fn tell_batch(told: &mut Told, callback: &mut Handler, list: &str) -> Result<(), AllocError> {
+    let batch = batch_of(told.alloc, list)?;
     match &callback.batch(&batch)? {
         BatchReply::Answered(outcomes, text) => {
-            print!(rt; " ")?;
-            tell_outcomes(rt, outcomes.as_slice())?;
-            print!(rt; "|{}", shown(rt.alloc(), text.as_slice())?)
+            told.add(" ");
+            tell_outcomes(told, outcomes.as_slice());
+            told.add("|");
+            told.spelled(text.as_slice());
         }
-        BatchReply::Raised(why) => print!(rt; " raise:{}", word_of(why)),
-        BatchReply::Crashed => print!(rt; " crash"),
+        BatchReply::Raised(why) => tell_why(told, " raise:", why),
+        BatchReply::Crashed => told.add(" crash"),
     }
+    Ok(())
 }
 
 // A letter for each outcome.
-fn tell_outcomes(rt: &HostRuntime, outcomes: &[Outcome]) -> io::Result<()> {
+fn tell_outcomes(told: &mut Told, outcomes: &[Outcome]) {
     for outcome in outcomes {
-        match outcome {
-            Outcome::Successful => print!(rt; "s")?,
-            Outcome::Failed(_) => print!(rt; "f")?,
-        }
+        told.add(match outcome {
+            Outcome::Successful => "s",
+            Outcome::Failed(_) => "f",
+        });
     }
-    Ok(())
 }
 
-pub fn tell_failed(rt: &HostRuntime, callback: &mut Handler) -> io::Result<()> {
+pub fn tell_failed(told: &mut Told, callback: &mut Handler) {
     let Some(old) = Reason::new(b"old") else {
-        return Ok(());
+        return;
     };
-    match callback.failed(MsgNo(1), &old)? {
-        FailedReply::Keep => print!(rt; " keep"),
-        FailedReply::Replace(why) => print!(rt; " replace:{}", word_of(&why)),
-        FailedReply::Raised => print!(rt; " raised"),
+    match callback.failed(MsgNo(1), &old) {
+        Ok(FailedReply::Keep) => told.add(" keep"),
+        Ok(FailedReply::Replace(why)) => tell_why(told, " replace:", &why),
+        Ok(FailedReply::Raised) => told.add(" raised"),
+        Err(_) => told.cut(),
     }
 }
 
-pub fn tell_prepared(rt: &HostRuntime, callback: &mut Handler) -> io::Result<()> {
-    match callback.prepare(&[])? {
-        Prepared::Ready => print!(rt; " ready"),
-        Prepared::Raised(_) => print!(rt; " raised"),
-        Prepared::Crashed => print!(rt; " crash"),
+pub fn tell_prepared(told: &mut Told, callback: &mut Handler) {
+    match callback.prepare(&[]) {
+        Ok(Prepared::Ready) => told.add(" ready"),
+        Ok(Prepared::Raised(_)) => told.add(" raised"),
+        Ok(Prepared::Crashed) => told.add(" crash"),
+        Err(_) => told.cut(),
     }
 }
 
-pub fn tell_kind(rt: &HostRuntime, kind: Kind) -> io::Result<()> {
-    match kind {
-        Kind::Steps => print!(rt; " steps"),
-        Kind::Lines => print!(rt; " lines"),
-        Kind::Own => print!(rt; " own"),
-    }
+pub fn tell_kind(told: &mut Told, kind: Kind) {
+    told.add(match kind {
+        Kind::Steps => " steps",
+        Kind::Lines => " lines",
+        Kind::Own => " own",
+    });
 }
 
 /// `stock`: how many of a stock of two boxes are of the kind `steps` and of a user's own; whether the rule may be armed and
 /// never crashes; and the replies to a chunk of the first.
-pub fn stock(rt: &HostRuntime) -> io::Result<()> {
-    let alloc = rt.alloc();
+pub fn stock(told: &mut Told) -> Result<(), AllocError> {
+    let alloc = told.alloc;
     let mut stock: Vec<Handler> = Vec::new(alloc);
     stock.push(Box::new(alloc, LinesBox::new(alloc))?)?;
     stock.push(Box::new(alloc, StepsBox::new(alloc))?)?;
-    print!(rt; " {}", boxes_of(stock.as_slice(), Kind::Steps))?;
-    print!(rt; " {}", boxes_of(stock.as_slice(), Kind::Own))?;
-    let spec = spec_of(alloc, Kind::Steps, "require^a")?;
-    let is_calm = never_crashes(spec.rules.as_slice());
-    let Some(steps) = stock.last_mut() else {
-        return Ok(());
-    };
-    if !may_arm(&spec) {
-        return print!(rt; " not allowed");
+    told.count(boxes_of(stock.as_slice(), Kind::Steps) as u64);
+    told.count(boxes_of(stock.as_slice(), Kind::Own) as u64);
+    match stock.last_mut() {
+        Some(steps) => tell_chunk(told, steps, "require^a"),
+        None => Ok(()),
     }
-    steps.arm(&spec)?;
-    let messages = messages_of(alloc, "a1|b|a2")?;
-    let replies = run_chunk(alloc, steps, messages)?;
-    print!(rt; " {is_calm}")?;
-    tell_numbers(rt, replies.as_slice())
+}
+
+fn tell_chunk(told: &mut Told, steps: &mut Handler, rules: &str) -> Result<(), AllocError> {
+    if !arm(told.alloc, steps, Kind::Steps, rules)? {
+        told.add(" not allowed");
+        return Ok(());
+    }
+    told.flag(is_calm(told.alloc, rules)?);
+    let messages = messages_of(told.alloc, "a1|b|a2")?;
+    tell_numbers(told, run_chunk(told.alloc, steps, messages)?.as_slice());
+    Ok(())
+}
+
+fn is_calm(alloc: Global, rules: &str) -> Result<bool, AllocError> {
+    let spec = spec_of(alloc, Kind::Steps, rules)?;
+    Ok(never_crashes(spec.rules.as_slice()))
 }

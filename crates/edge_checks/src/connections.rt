@@ -1,9 +1,8 @@
 //! Connections over loopback. The system picks each port.
 
-use super::devices::read_lines;
-use super::names::word_of;
+use super::devices::{tell_sink, tell_source};
 use super::stories::story;
-use super::texts::{halves, name_of};
+use super::texts::halves;
 use file_socket_sinks::{RealEdges, RealSource};
 use pipe_edges::{Edges, PutEnd, put_all};
 use pipe_types::bytes::{Bytes, Text};
@@ -13,6 +12,7 @@ use std::rt::Clock as SystemClock;
 use std::thread::Threads;
 use std::time::Duration;
 use std::{io, thread};
+use told_text::Told;
 
 /// How many bytes are more than the system keeps for a peer that reads none.
 const MANY: usize = 33_554_432;
@@ -43,33 +43,41 @@ fn send(rt: &HostRuntime, port: u16, bytes: &[u8]) -> bool {
 }
 
 /// `listen`: what a source reads that listens for one peer, whether the port is closed again, and whether the peer sent all.
-pub fn listen<R: Threads + Sync>(rt: &HostRuntime, threads: &R) -> io::Result<()> {
+pub fn listen<R: Threads + Sync>(rt: &HostRuntime, threads: &R, told: &mut Told) -> io::Result<()> {
     let own = *rt;
     let port = free_port(rt)?;
-    let peer = thread::spawn(threads, move || send(&own, port, b"one\ntwo\n\nhalf"))?;
     let name = edge_at(rt, "listen", "127.0.0.1", port)?;
+    let peer = thread::spawn(threads, move || send(&own, port, b"one\ntwo\n\nhalf"))?;
     let opened = RealEdges::new(rt).open_source(&name);
-    let is_closed = TcpStream::connect(rt, ("127.0.0.1", port)).is_err();
-    print!(rt; " {is_closed}")?;
+    told.flag(TcpStream::connect(rt, ("127.0.0.1", port)).is_err());
     if let Ok(source) = opened {
-        story(rt, source, 2)?;
+        story(told, source, 2);
     }
-    print!(rt; " {}", peer.join(threads))
+    told.flag(peer.join(threads));
+    Ok(())
+}
+
+// A listener on loopback, and the name of a connection to it.
+fn listening(rt: &HostRuntime, own: &str, host: &str) -> io::Result<(TcpListener, Text)> {
+    let listener = TcpListener::bind(rt, own)?;
+    let port = port_of(&listener)?;
+    Ok((listener, edge_at(rt, "connect", host, port)?))
 }
 
 /// `connect OWN HOST`: what a source reads that connects to this host, where the listener is bound to `OWN`.
-pub fn connect(rt: &HostRuntime, acts: &str) -> io::Result<()> {
+pub fn connect(rt: &HostRuntime, told: &mut Told, acts: &str) -> io::Result<()> {
     let (own, host) = halves(acts);
-    let mut edges = RealEdges::new(rt);
-    let listener = TcpListener::bind(rt, own)?;
-    let name = edge_at(rt, "connect", host, port_of(&listener)?)?;
-    let Ok(source) = edges.open_source(&name) else {
-        return print!(rt; " no source");
-    };
-    let (mut peer, _) = listener.accept()?;
-    peer.write_all(b"a\nb")?;
-    drop(peer);
-    story(rt, source, 2)
+    let (listener, name) = listening(rt, own, host)?;
+    match RealEdges::new(rt).open_source(&name) {
+        Ok(source) => {
+            if !accept_and_send(listener, b"a\nb") {
+                told.add(" no peer");
+            }
+            story(told, source, 2);
+        }
+        Err(_) => told.add(" no source"),
+    }
+    Ok(())
 }
 
 // Accepts one connection, sends the bytes over it, and closes. Whether it did.
@@ -81,31 +89,43 @@ fn accept_and_send(listener: TcpListener, bytes: &[u8]) -> bool {
 }
 
 /// `early`: what a source reads that was opened before a second thread accepts and sends, and whether that did.
-pub fn early<R: Threads + Sync>(rt: &HostRuntime, threads: &R) -> io::Result<()> {
-    let mut edges = RealEdges::new(rt);
-    let listener = TcpListener::bind(rt, "127.0.0.1:0")?;
-    let name = edge_at(rt, "connect", "127.0.0.1", port_of(&listener)?)?;
+pub fn early<R: Threads + Sync>(rt: &HostRuntime, threads: &R, told: &mut Told) -> io::Result<()> {
+    let (listener, name) = listening(rt, "127.0.0.1:0", "127.0.0.1")?;
     // The system makes the connection before anyone accepts it, and no byte of it is there yet.
-    let Ok(source) = edges.open_source(&name) else {
-        return print!(rt; " no source");
-    };
+    let opened = RealEdges::new(rt).open_source(&name);
     let peer = thread::spawn(threads, move || accept_and_send(listener, b"one\ntwo\n"))?;
-    story(rt, source, 2)?;
-    print!(rt; " {}", peer.join(threads))
+    match opened {
+        Ok(source) => story(told, source, 2),
+        Err(_) => told.add(" no source"),
+    }
+    told.flag(peer.join(threads));
+    Ok(())
 }
 
 /// `reset`: what a source reads of a peer that closes with bytes unread, which resets the connection.
-pub fn reset(rt: &HostRuntime) -> io::Result<()> {
-    let listener = TcpListener::bind(rt, "127.0.0.1:0")?;
-    let mut near = TcpStream::connect(rt, ("127.0.0.1", port_of(&listener)?))?;
-    let (mut far, _) = listener.accept()?;
+pub fn reset(rt: &HostRuntime, told: &mut Told) -> io::Result<()> {
+    let (near, far) = two_ends(rt)?;
     let source = RealSource::new(near.try_clone()?);
+    leave_unread(told, near, far)?;
+    story(told, source, 2);
+    Ok(())
+}
+
+// The two ends of a connection.
+fn two_ends(rt: &HostRuntime) -> io::Result<(TcpStream, TcpStream)> {
+    let listener = TcpListener::bind(rt, "127.0.0.1:0")?;
+    let near = TcpStream::connect(rt, ("127.0.0.1", port_of(&listener)?))?;
+    let (far, _) = listener.accept()?;
+    Ok((near, far))
+}
+
+// Sends some bytes each way, tells whether those to the far end are there, and closes it.
+fn leave_unread(told: &mut Told, mut near: TcpStream, mut far: TcpStream) -> io::Result<()> {
     far.write_all(b"one\nha")?;
     near.write_all(b"unread")?;
     let mut piece = [0; 8];
-    print!(rt; " {}", far.peek(&mut piece)? > 0)?;
-    drop(far);
-    story(rt, source, 2)
+    told.flag(far.peek(&mut piece)? > 0);
+    Ok(())
 }
 
 // Takes one connection, reads nothing of it, and closes it after a while.
@@ -116,28 +136,27 @@ fn take_and_close(rt: &HostRuntime, listener: TcpListener) -> bool {
 }
 
 /// `hang_up`: whether a put to a peer that reads nothing and closes fails after some bytes, and whether the peer accepted.
-pub fn hang_up<R: Threads + Sync>(rt: &HostRuntime, threads: &R) -> io::Result<()> {
+pub fn hang_up<R: Threads + Sync>(
+    rt: &HostRuntime,
+    threads: &R,
+    told: &mut Told,
+) -> io::Result<()> {
     let own = *rt;
-    let listener = TcpListener::bind(rt, "127.0.0.1:0")?;
-    let name = edge_at(rt, "connect", "127.0.0.1", port_of(&listener)?)?;
-    let peer = thread::spawn(threads, move || take_and_close(&own, listener))?;
-    put_many(rt, &name)?;
-    print!(rt; " {}", peer.join(threads))
-}
-
-fn put_many(rt: &HostRuntime, name: &Text) -> io::Result<()> {
+    let (listener, name) = listening(rt, "127.0.0.1:0", "127.0.0.1")?;
     let many = Bytes::from_vec(vec![in rt.alloc(); b'x'; MANY]?);
-    let Ok(mut sink) = RealEdges::new(rt).open_sink(name) else {
-        return print!(rt; " no sink");
-    };
-    let is_cut = matches!(put_all(&mut sink, &many), PutEnd::Failed(n) if 0 < n);
-    print!(rt; " {is_cut}")
+    let peer = thread::spawn(threads, move || take_and_close(&own, listener))?;
+    match RealEdges::new(rt).open_sink(&name) {
+        Ok(mut sink) => told.flag(matches!(put_all(&mut sink, &many), PutEnd::Failed(n) if 0 < n)),
+        Err(_) => told.add(" no sink"),
+    }
+    told.flag(peer.join(threads));
+    Ok(())
 }
 
 /// `refused`: how the opening of a source and of a sink ends at a port where no one listens.
-pub fn refused(rt: &HostRuntime) -> io::Result<()> {
+pub fn refused(rt: &HostRuntime, told: &mut Told) -> io::Result<()> {
     let name = edge_at(rt, "connect", "127.0.0.1", free_port(rt)?)?;
-    let mut edges = RealEdges::new(rt);
-    print!(rt; " {}", word_of(&edges.open_source(&name)))?;
-    print!(rt; " {}", word_of(&edges.open_sink(&name)))
+    tell_source(rt, told, &name);
+    tell_sink(rt, told, &name);
+    Ok(())
 }

@@ -1,67 +1,79 @@
 //! Files and the clock of the system.
 
-use super::names::word_of;
+use super::names::tell_end;
 use super::stories::{story, tell_read, tell_wrote};
 use super::texts::{bytes_of, halves, name_of};
 use file_socket_sinks::{RealClock, RealEdges};
 use pipe_edges::{ByteSink, ByteSource, Clock, Edges, PutEnd, put_all};
 use pipe_types::bytes::Text;
+use std::alloc::AllocError;
 use std::fs::Permissions;
 use std::os::unix::fs::PermissionsExt;
 use std::{fs, io};
+use told_text::Told;
 
 /// `device source NAME` or `device sink NAME`: what a read or a write of 8 bytes comes to. It is given back then.
-pub fn device(rt: &HostRuntime, acts: &str) -> io::Result<()> {
+pub fn device(rt: &HostRuntime, told: &mut Told, acts: &str) -> Result<(), AllocError> {
     let (kind, word) = halves(acts);
-    let name = name_of(rt.alloc(), word)?;
+    let name = name_of(told.alloc, word)?;
+    let mut edges = RealEdges::new(rt);
     if kind == "source" {
-        read(rt, &name)
+        read(told, &mut edges, &name)
     } else {
-        write(rt, &name)
+        write(told, &mut edges, &name)
     }
 }
 
-fn read(rt: &HostRuntime, name: &Text) -> io::Result<()> {
-    let mut edges = RealEdges::new(rt);
+fn read(told: &mut Told, edges: &mut RealEdges, name: &Text) -> Result<(), AllocError> {
     let Ok(mut source) = edges.open_source(name) else {
-        return print!(rt; " no source");
+        told.add(" no source");
+        return Ok(());
     };
     let mut piece = [0; 8];
-    tell_read(rt, source.read(&mut piece))?;
-    edges.back_source(name, source)?;
-    Ok(())
+    tell_read(told, source.read(&mut piece));
+    edges.back_source(name, source)
 }
 
-fn write(rt: &HostRuntime, name: &Text) -> io::Result<()> {
-    let mut edges = RealEdges::new(rt);
+fn write(told: &mut Told, edges: &mut RealEdges, name: &Text) -> Result<(), AllocError> {
     let Ok(mut sink) = edges.open_sink(name) else {
-        return print!(rt; " no sink");
+        told.add(" no sink");
+        return Ok(());
     };
-    tell_wrote(rt, sink.write(b"abcdefgh"))?;
-    edges.back_sink(name, sink)?;
-    Ok(())
+    tell_wrote(told, sink.write(b"abcdefgh"));
+    edges.back_sink(name, sink)
 }
 
 /// `open source NAME` or `open sink NAME`: how that ends.
-pub fn open(rt: &HostRuntime, acts: &str) -> io::Result<()> {
+pub fn open(rt: &HostRuntime, told: &mut Told, acts: &str) -> Result<(), AllocError> {
     let (kind, word) = halves(acts);
-    let name = name_of(rt.alloc(), word)?;
-    let mut edges = RealEdges::new(rt);
+    let name = name_of(told.alloc, word)?;
     if kind == "source" {
-        print!(rt; " {}", word_of(&edges.open_source(&name)))
+        tell_source(rt, told, &name);
     } else {
-        print!(rt; " {}", word_of(&edges.open_sink(&name)))
+        tell_sink(rt, told, &name);
     }
+    Ok(())
+}
+
+/// Tells how the opening of the source ends.
+pub fn tell_source(rt: &HostRuntime, told: &mut Told, name: &Text) {
+    tell_end(told, &RealEdges::new(rt).open_source(name));
+}
+
+/// Tells how the opening of the sink ends.
+pub fn tell_sink(rt: &HostRuntime, told: &mut Told, name: &Text) {
+    tell_end(told, &RealEdges::new(rt).open_sink(name));
 }
 
 /// `whole PATH`: how many bytes are read of the file there.
-pub fn whole(rt: &HostRuntime, word: &str) -> io::Result<()> {
-    let name = name_of(rt.alloc(), word)?;
+pub fn whole(rt: &HostRuntime, told: &mut Told, word: &str) -> Result<(), AllocError> {
+    let name = name_of(told.alloc, word)?;
     let read = RealEdges::new(rt).read_file(&name);
     match &read {
-        Ok(bytes) => print!(rt; " {}", bytes.len()),
-        Err(_) => print!(rt; " {}", word_of(&read)),
+        Ok(bytes) => told.count(bytes.len() as u64),
+        Err(_) => tell_end(told, &read),
     }
+    Ok(())
 }
 
 // Root may open every file.
@@ -71,46 +83,43 @@ fn is_root(rt: &HostRuntime) -> io::Result<bool> {
 }
 
 /// `locked`: whether a file that no one may open is opened for root alone, as a source and as a sink.
-pub fn locked(rt: &HostRuntime) -> io::Result<()> {
+pub fn locked(rt: &HostRuntime, told: &mut Told) -> io::Result<()> {
     fs::write(rt, "locked", "x\n")?;
     fs::set_permissions(rt, "locked", Permissions::from_mode(0))?;
     let opens = is_root(rt)?;
-    let name = name_of(rt.alloc(), "file:locked")?;
-    let is_read = RealEdges::new(rt).open_source(&name).is_ok();
-    let is_written = RealEdges::new(rt).open_sink(&name).is_ok();
-    print!(rt; " {} {}", is_read == opens, is_written == opens)
+    let name = name_of(told.alloc, "file:locked")?;
+    told.flag(RealEdges::new(rt).open_source(&name).is_ok() == opens);
+    told.flag(RealEdges::new(rt).open_sink(&name).is_ok() == opens);
+    Ok(())
 }
 
 /// `kept`: what a file held is gone once it is opened as a sink, and each source reads it from the start.
-pub fn kept(rt: &HostRuntime) -> io::Result<()> {
+pub fn kept(rt: &HostRuntime, told: &mut Told) -> io::Result<()> {
     fs::write(rt, "kept", "old lines\nof more bytes\n")?;
-    let name = name_of(rt.alloc(), "file:kept")?;
-    let Ok(mut sink) = RealEdges::new(rt).open_sink(&name) else {
-        return print!(rt; " no sink");
-    };
-    let bytes = bytes_of(rt.alloc(), "one$two$$half")?;
-    let is_all = put_all(&mut sink, &bytes) == PutEnd::All;
-    print!(rt; " {is_all}")?;
-    let mut edges = RealEdges::new(rt);
-    read_lines(rt, &mut edges, &name)?;
-    let mut others = RealEdges::new(rt);
-    read_lines(rt, &mut others, &name)
+    let name = name_of(told.alloc, "file:kept")?;
+    let bytes = bytes_of(told.alloc, "one$two$$half")?;
+    match RealEdges::new(rt).open_sink(&name) {
+        Ok(mut sink) => told.flag(put_all(&mut sink, &bytes) == PutEnd::All),
+        Err(_) => told.add(" no sink"),
+    }
+    read_lines(rt, told, &name);
+    read_lines(rt, told, &name);
+    Ok(())
 }
 
-/// Opens the source and writes its story.
-pub fn read_lines(rt: &HostRuntime, edges: &mut RealEdges, name: &Text) -> io::Result<()> {
-    match edges.open_source(name) {
-        Ok(source) => story(rt, source, 2),
-        Err(_) => print!(rt; " no source"),
+/// Opens the source and tells its story.
+pub fn read_lines(rt: &HostRuntime, told: &mut Told, name: &Text) {
+    match RealEdges::new(rt).open_source(name) {
+        Ok(source) => story(told, source, 2),
+        Err(_) => told.add(" no source"),
     }
 }
 
 /// `ticks`: whether the clock is later after two pauses.
-pub fn ticks(rt: &HostRuntime) -> io::Result<()> {
+pub fn ticks(rt: &HostRuntime, told: &mut Told) {
     let mut clock = RealClock::new(rt);
     let before = clock.now();
     clock.pause();
     clock.pause();
-    let is_later = clock.now() > before;
-    print!(rt; " {is_later}")
+    told.flag(clock.now() > before);
 }

@@ -10,7 +10,7 @@ use pipe_types::message::{Message, Reply};
 use pipe_types::topology::Kind;
 use stage_callback::{Callback, LinesBox, StepsBox, unarmed};
 use std::alloc::AllocError;
-use std::io;
+use told_text::Told;
 
 #[derive(Drop)]
 struct Body {
@@ -81,11 +81,13 @@ fn run(body: &mut Body, message: Message) -> Result<Option<Reply>, AllocError>
     }
 }
 
-/// Runs a message on the body, and says whether it has a box, whether there is a reply, and how often it ran.
-fn tell_run(rt: &HostRuntime, body: &mut Body) -> io::Result<()> {
-    let had = body.callback.is_some();
-    let reply = run(body, message_of(rt.alloc(), 7, "a")?)?;
-    print!(rt; " {} {} {}", had, reply.is_some(), body.runs)
+/// Runs a message on the body, and tells whether it has a box, whether there is a reply, and how often it ran.
+fn tell_run(told: &mut Told, body: &mut Body) -> Result<(), AllocError> {
+    let message = message_of(told.alloc, 7, "a")?;
+    told.flag(body.callback.is_some());
+    told.flag(run(body, message)?.is_some());
+    told.count(body.runs);
+    Ok(())
 }
 
 fn add(items: &mut Vec<Body>, callback: Option<Handler>) -> Result<(), AllocError> {
@@ -95,22 +97,22 @@ fn add(items: &mut Vec<Body>, callback: Option<Handler>) -> Result<(), AllocErro
 
 /// `handed`: how many bodies are handed over, and a run of each: one with an armed box, one with none, and one with a box
 /// that was never armed.
-pub fn over(rt: &HostRuntime) -> io::Result<()> {
-    let mut items = Vec::new(rt.alloc());
-    let mut steps: Handler = Box::new(rt.alloc(), StepsBox::new(rt.alloc()))?;
-    steps.arm(&unarmed(rt.alloc(), Kind::Steps))?;
+pub fn over(told: &mut Told) -> Result<(), AllocError> {
+    let mut steps: Handler = Box::new(told.alloc, StepsBox::new(told.alloc))?;
+    steps.arm(&unarmed(told.alloc, Kind::Steps))?;
+    let mut items = Vec::new(told.alloc);
     add(&mut items, Some(steps))?;
     add(&mut items, None)?;
-    let lines: Handler = Box::new(rt.alloc(), LinesBox::new(rt.alloc()))?;
+    let lines: Handler = Box::new(told.alloc, LinesBox::new(told.alloc))?;
     add(&mut items, Some(lines))?;
-    tell_all(rt, Bodies { items })
+    tell_all(told, Bodies { items })
 }
 
-fn tell_all(rt: &HostRuntime, bodies: Bodies) -> io::Result<()> {
+fn tell_all(told: &mut Told, bodies: Bodies) -> Result<(), AllocError> {
     let (mut bodies, posts) = hand_over_bodies(bodies);
-    print!(rt; " {posts}")?;
+    told.count(posts as u64);
     for body in bodies.items.iter_mut() {
-        tell_run(rt, body)?;
+        tell_run(told, body)?;
     }
     Ok(())
 }

@@ -5,24 +5,28 @@ ghost use Rattle.mem_edges.specs.MemSource.{IsUnread};
 ghost use Rattle.mem_edges.specs.MemSink.{IsUnwritten};
 
 use super::stories::{story, tell_read};
-use super::texts::{bytes_of, count, halves, number, shown};
+use super::texts::{bytes_of, count, halves, number};
 use mem_edges::{MemClock, MemSink, MemSource, SinkAct, SinkScript, SourceAct, SourceScript};
 use pipe_edges::{
     ByteSink, ByteSource, Clock, Fetched, LineSource, PutEnd, ReadEnd, WriteEnd, put_all,
 };
 use std::alloc::{AllocError, Global};
-use std::io;
+use told_text::Told;
 
 /// The source of these bytes, with a script: a number gives so many bytes, `wait` nothing yet, `fail` fails.
 pub fn source_of(alloc: Global, bytes: &str, acts: &str) -> Result<MemSource, AllocError>
     ensures { IfOk result IsUnread }
 {
+    let script = source_script(alloc, acts)?;
+    Ok(MemSource::new(bytes_of(alloc, bytes)?, script))
+}
+
+fn source_script(alloc: Global, acts: &str) -> Result<SourceScript, AllocError> {
     let mut script = Vec::new(alloc);
     for word in acts.split_whitespace() {
         script.push(source_act(word))?;
     }
-    let bytes = bytes_of(alloc, bytes)?;
-    Ok(MemSource::new(bytes, SourceScript::from_vec(script)))
+    Ok(SourceScript::from_vec(script))
 }
 
 fn source_act(word: &str) -> SourceAct {
@@ -37,12 +41,16 @@ fn source_act(word: &str) -> SourceAct {
 pub fn sink_of(alloc: Global, held: &str, room: usize, acts: &str) -> Result<MemSink, AllocError>
     ensures { IfOk result IsUnwritten }
 {
+    let script = sink_script(alloc, acts)?;
+    MemSink::new(alloc, bytes_of(alloc, held)?, room, script)
+}
+
+fn sink_script(alloc: Global, acts: &str) -> Result<SinkScript, AllocError> {
     let mut script = Vec::new(alloc);
     for word in acts.split_whitespace() {
         script.push(sink_act(word))?;
     }
-    let held = bytes_of(alloc, held)?;
-    MemSink::new(alloc, held, room, SinkScript::from_vec(script))
+    Ok(SinkScript::from_vec(script))
 }
 
 fn sink_act(word: &str) -> SinkAct {
@@ -53,31 +61,43 @@ fn sink_act(word: &str) -> SinkAct {
 }
 
 /// `lines MOST BYTES ACTS..`: what fetches of at most so many records come to.
-pub fn lines(rt: &HostRuntime, acts: &str) -> io::Result<()> {
+pub fn lines(told: &mut Told, acts: &str) -> Result<(), AllocError> {
     let (most, rest) = halves(acts);
     let (bytes, acts) = halves(rest);
-    let source = source_of(rt.alloc(), bytes, acts)?;
-    story(rt, source, count(most))
+    let source = source_of(told.alloc, bytes, acts)?;
+    story(told, source, count(most));
+    Ok(())
 }
 
 /// `put ROOM ACTS..`: what comes of `hello` at a sink that holds `> `, and what it holds then.
-pub fn put(rt: &HostRuntime, acts: &str) -> io::Result<()> {
+pub fn put(told: &mut Told, acts: &str) -> Result<(), AllocError> {
     let (room, acts) = halves(acts);
-    let mut sink = sink_of(rt.alloc(), ">^", number(room), acts)?;
-    let hello = bytes_of(rt.alloc(), "hello")?;
-    tell_put(rt, put_all(&mut sink, &hello))?;
-    print!(rt; " {}", shown(rt.alloc(), sink.held().as_slice())?)
+    let mut sink = sink_of(told.alloc, ">^", number(room), acts)?;
+    put_hello(told, &mut sink)?;
+    tell_held(told, &sink);
+    Ok(())
 }
 
-fn tell_put(rt: &HostRuntime, put: PutEnd) -> io::Result<()> {
-    match put {
-        PutEnd::All => print!(rt; " all"),
-        PutEnd::Failed(n) => print!(rt; " failed:{n}"),
+fn put_hello<K: ByteSink>(told: &mut Told, sink: &mut K) -> Result<(), AllocError> {
+    let hello = bytes_of(told.alloc, "hello")?;
+    match put_all(sink, &hello) {
+        PutEnd::All => told.add(" all"),
+        PutEnd::Failed(n) => {
+            told.add(" failed:");
+            told.number(n as u64);
+        }
     }
+    Ok(())
+}
+
+/// Tells what the sink holds.
+pub fn tell_held(told: &mut Told, sink: &MemSink) {
+    told.add(" ");
+    told.spelled(sink.held().as_slice());
 }
 
 /// `clock AT STEP NAP ACTS..`: the readings, `now`, of a clock that is paused between them; the latest and their number.
-pub fn clock(rt: &HostRuntime, acts: &str) -> io::Result<()> {
+pub fn clock(told: &mut Told, acts: &str) {
     let (at, rest) = halves(acts);
     let (step, rest) = halves(rest);
     let (nap, acts) = halves(rest);
@@ -90,12 +110,15 @@ pub fn clock(rt: &HostRuntime, acts: &str) -> io::Result<()> {
     };
     for act in acts.split_whitespace() {
         if act == "now" {
-            print!(rt; " {}", clock.now())?;
+            told.count(clock.now());
         } else {
             clock.pause();
         }
     }
-    print!(rt; " latest:{} readings:{}", clock.latest, clock.readings)
+    told.add(" latest:");
+    told.number(clock.latest);
+    told.add(" readings:");
+    told.number(clock.readings);
 }
 
 fn millis(word: &str) -> u64 {
@@ -103,19 +126,28 @@ fn millis(word: &str) -> u64 {
 }
 
 /// `again`: two fetches of a source whose first read fails, and two reads of the source itself.
-pub fn again(rt: &HostRuntime) -> io::Result<()> {
-    let source = source_of(rt.alloc(), "a", "fail")?;
-    let Ok(mut lines) = LineSource::new(rt.alloc(), source) else {
-        return print!(rt; " no memory");
-    };
-    for _ in 0..2 {
-        let is_fault = matches!(lines.fetch(1)?, Fetched::Fault);
-        print!(rt; " {is_fault}")?;
+pub fn again(told: &mut Told) -> Result<(), AllocError> {
+    let source = source_of(told.alloc, "a", "fail")?;
+    match LineSource::new(told.alloc, source) {
+        Ok(mut lines) => {
+            tell_fault(told, &mut lines);
+            tell_fault(told, &mut lines);
+            read_twice(told, &mut lines.into_inner());
+        }
+        Err(_) => told.add(" no memory"),
     }
-    let mut source = lines.into_inner();
+    Ok(())
+}
+
+fn tell_fault<B: ByteSource>(told: &mut Told, lines: &mut LineSource<B>) {
+    told.flag(matches!(lines.fetch(1), Ok(Fetched::Fault)));
+}
+
+/// Tells two reads of at most four bytes.
+pub fn read_twice<B: ByteSource>(told: &mut Told, source: &mut B) {
     let mut piece = [0; 4];
-    tell_read(rt, source.read(&mut piece))?;
-    tell_read(rt, source.read(&mut piece))
+    tell_read(told, source.read(&mut piece));
+    tell_read(told, source.read(&mut piece));
 }
 
 // Notes how many bytes each call is offered: a source of three bytes, and a sink that takes two at most.
@@ -162,35 +194,28 @@ impl ByteSink for Offers {
 }
 
 /// `offers`: what each read of a fetch is offered, and each write of `hello`.
-pub fn each_offer(rt: &HostRuntime) -> io::Result<()> {
-    read_offers(rt)?;
-    write_offers(rt)
-}
-
-fn read_offers(rt: &HostRuntime) -> io::Result<()> {
-    let offers = Offers {
-        offers: Vec::new(rt.alloc()),
-    };
-    let Ok(mut lines) = LineSource::new(rt.alloc(), offers) else {
-        return print!(rt; " no memory");
-    };
-    let are_records = matches!(lines.fetch(1)?, Fetched::Records(_));
-    print!(rt; " {are_records}")?;
-    tell_offers(rt, &lines.into_inner())
-}
-
-fn write_offers(rt: &HostRuntime) -> io::Result<()> {
-    let hello = bytes_of(rt.alloc(), "hello")?;
-    let mut sink = Offers {
-        offers: Vec::new(rt.alloc()),
-    };
-    tell_put(rt, put_all(&mut sink, &hello))?;
-    tell_offers(rt, &sink)
-}
-
-fn tell_offers(rt: &HostRuntime, noted: &Offers) -> io::Result<()> {
-    for offer in &noted.offers {
-        print!(rt; " {offer}")?;
+pub fn each_offer(told: &mut Told) -> Result<(), AllocError> {
+    match LineSource::new(told.alloc, no_offers(told.alloc)) {
+        Ok(mut lines) => {
+            told.flag(matches!(lines.fetch(1), Ok(Fetched::Records(_))));
+            tell_offers(told, &lines.into_inner());
+        }
+        Err(_) => told.add(" no memory"),
     }
+    let mut sink = no_offers(told.alloc);
+    put_hello(told, &mut sink)?;
+    tell_offers(told, &sink);
     Ok(())
+}
+
+fn no_offers(alloc: Global) -> Offers {
+    Offers {
+        offers: Vec::new(alloc),
+    }
+}
+
+fn tell_offers(told: &mut Told, noted: &Offers) {
+    for offer in &noted.offers {
+        told.count(*offer as u64);
+    }
 }

@@ -16,7 +16,7 @@ use stage_callback::{
     BatchReply, Callback, FailedReply, Prepared, Said, copy_message, copy_spec, unarmed,
 };
 use std::alloc::{AllocError, Global};
-use std::io;
+use told_text::Told;
 
 /// Fails each message that begins with `!`, and tells its answers.
 #[derive(Drop)]
@@ -122,30 +122,34 @@ fn watching(alloc: Global) -> Watcher {
 }
 
 /// `own`: the kind of the box, and its answers to a chunk, to messages that pass and that fail, and to one that failed.
-pub fn through_its_box(rt: &HostRuntime) -> io::Result<()> {
-    let alloc = rt.alloc();
-    let mut callback: Handler = Box::new(alloc, watching(alloc))?;
-    callback.arm(&unarmed(alloc, Kind::Own))?;
-    tell_kind(rt, callback.kind())?;
-    tell_prepared(rt, &mut callback)?;
-    tell_asked(rt, &mut callback, "a")?;
-    tell_asked(rt, &mut callback, "!b")?;
-    tell_failed(rt, &mut callback)?;
+pub fn through_its_box(told: &mut Told) -> Result<(), AllocError> {
+    let mut callback: Handler = Box::new(told.alloc, watching(told.alloc))?;
+    callback.arm(&unarmed(told.alloc, Kind::Own))?;
+    tell_kind(told, callback.kind());
+    tell_prepared(told, &mut callback);
+    tell_asked(told, &mut callback)?;
+    tell_failed(told, &mut callback);
     callback.reset();
     Ok(())
 }
 
-fn tell_asked(rt: &HostRuntime, callback: &mut Handler, payload: &str) -> io::Result<()> {
-    let reply = ask(callback, message_of(rt.alloc(), 7, payload)?)?;
-    tell_number(rt, &reply)
+fn tell_asked(told: &mut Told, callback: &mut Handler) -> Result<(), AllocError> {
+    for payload in "a !b".split(' ') {
+        let message = message_of(told.alloc, 7, payload)?;
+        tell_number(told, &ask(callback, message)?);
+    }
+    Ok(())
 }
 
 /// `answers`: the calls that it counts over three messages, those that were no success, and how many answers it tells.
-pub fn answers(rt: &HostRuntime) -> io::Result<()> {
-    let mut watcher = watching(rt.alloc());
+pub fn answers(told: &mut Told) -> Result<(), AllocError> {
+    let mut watcher = watching(told.alloc);
     for payload in "a !b c".split(' ') {
-        let message = message_of(rt.alloc(), 7, payload)?;
+        let message = message_of(told.alloc, 7, payload)?;
         watcher.message(message)?;
     }
-    print!(rt; " {} {} {}", watcher.calls, watcher.bad, watcher.said.len())
+    told.count(watcher.calls);
+    told.count(watcher.bad);
+    told.count(watcher.said.len() as u64);
+    Ok(())
 }

@@ -9,6 +9,7 @@ use pipe_edges::{ByteSink, ByteSource};
 use std::alloc::{AllocError, Global};
 use std::io;
 use std::io::{ErrorKind, Read, Write};
+use told_text::Told;
 
 /// What one call answers: so many bytes, or an error of this kind.
 #[derive(Clone, Copy)]
@@ -75,14 +76,16 @@ impl Write for Player {
 }
 
 /// `read ACTS..`: what a read of 8 bytes comes to.
-pub fn read(rt: &HostRuntime, acts: &str) -> io::Result<()> {
-    let mut source = RealSource::new(playing(rt.alloc(), acts)?);
+pub fn read(told: &mut Told, acts: &str) -> Result<(), AllocError> {
+    let mut source = RealSource::new(playing(told.alloc, acts)?);
     let mut piece = [0; 8];
-    tell_read(rt, source.read(&mut piece))
+    tell_read(told, source.read(&mut piece));
+    Ok(())
 }
 
 /// `write ACTS..`: what a write of 8 bytes comes to.
-pub fn write(rt: &HostRuntime, acts: &str) -> io::Result<()> {
-    let mut sink = RealOut::new(rt, playing(rt.alloc(), acts)?);
-    tell_wrote(rt, sink.write(b"abcdefgh"))
+pub fn write(rt: &HostRuntime, told: &mut Told, acts: &str) -> Result<(), AllocError> {
+    let mut sink = RealOut::new(rt, playing(told.alloc, acts)?);
+    tell_wrote(told, sink.write(b"abcdefgh"));
+    Ok(())
 }

@@ -4,68 +4,72 @@ ghost use Rattle.std.specs.Prelude.{◌<◌};
 
 use pipe_edges::{ByteSource, Fetched, LineSource, ReadEnd, WriteEnd};
 use pipe_types::bytes::BytesList;
-use std::alloc::{AllocError, Global};
-use std::io;
+use told_text::Told;
 
-/// Writes what fetches of at most so many records come to, until an end: each record with a bar, where a read would wait a
+/// Tells what fetches of at most so many records come to, until an end: each record with a bar, where a read would wait a
 /// question mark, and the end.
-pub fn story<B: ByteSource + Drop>(rt: &HostRuntime, source: B, most: u32) -> io::Result<()>
+pub fn story<B: ByteSource + Drop>(told: &mut Told, source: B, most: u32)
     requires { 0 < most }
 {
-    match LineSource::new(rt.alloc(), source) {
+    match LineSource::new(told.alloc, source) {
         Ok(mut lines) => {
-            let told = told(rt.alloc(), &mut lines, most)?;
-            print!(rt; " {told}")
+            told.add(" ");
+            tell_lines(told, &mut lines, most);
         }
-        Err(_) => print!(rt; " no memory"),
+        Err(_) => told.add(" no memory"),
     }
 }
 
-fn told<B: ByteSource>(
-    alloc: Global,
-    lines: &mut LineSource<B>,
-    most: u32,
-) -> Result<String, AllocError>
+fn tell_lines<B: ByteSource>(told: &mut Told, lines: &mut LineSource<B>, most: u32)
     requires { 0 < most }
 {
-    let mut story = String::new(alloc);
     for _ in 0..1000 {
-        let fetched = lines.fetch(most)?;
-        if !goes_on(&mut story, &fetched)? {
+        if !tell_fetch(told, lines, most) {
             break;
         }
     }
-    Ok(story)
 }
 
-fn goes_on(story: &mut String, fetched: &Fetched) -> Result<bool, AllocError> {
+// Tells a fetch, and says whether others follow.
+fn tell_fetch<B: ByteSource>(told: &mut Told, lines: &mut LineSource<B>, most: u32) -> bool
+    requires { 0 < most }
+{
+    match lines.fetch(most) {
+        Ok(fetched) => goes_on(told, &fetched),
+        Err(_) => {
+            told.cut();
+            false
+        }
+    }
+}
+
+fn goes_on(told: &mut Told, fetched: &Fetched) -> bool {
     match fetched {
-        Fetched::Records(records) => add_records(story, records)?,
-        Fetched::NotYet => story.push_str("?")?,
-        Fetched::End => story.push_str("end")?,
-        Fetched::Fault => story.push_str("fault")?,
-        Fetched::TooLong => story.push_str("long")?,
+        Fetched::Records(records) => tell_records(told, records),
+        Fetched::NotYet => told.add("?"),
+        Fetched::End => told.add("end"),
+        Fetched::Fault => told.add("fault"),
+        Fetched::TooLong => told.add("long"),
     }
-    Ok(matches!(fetched, Fetched::Records(_) | Fetched::NotYet))
+    matches!(fetched, Fetched::Records(_) | Fetched::NotYet)
 }
 
-fn add_records(story: &mut String, records: &BytesList) -> Result<(), AllocError> {
+fn tell_records(told: &mut Told, records: &BytesList) {
     for record in records.as_slice() {
-        add_record(story, record.as_slice())?;
+        tell_record(told, record.as_slice());
     }
-    Ok(())
 }
 
 // A short record as it stands with a CR as `r`, a long one as the word, and a bar.
-fn add_record(story: &mut String, record: &[u8]) -> Result<(), AllocError> {
+fn tell_record(told: &mut Told, record: &[u8]) {
     if record.len() > 9 {
-        story.push_str("long")?;
+        told.add("long");
     } else {
         for byte in record {
-            story.push(letter_of(*byte))?;
+            told.letter(letter_of(*byte));
         }
     }
-    story.push_str("|")
+    told.add("|");
 }
 
 fn letter_of(byte: u8) -> char {
@@ -76,18 +80,24 @@ fn letter_of(byte: u8) -> char {
     }
 }
 
-pub fn tell_read(rt: &HostRuntime, read: ReadEnd) -> io::Result<()> {
+pub fn tell_read(told: &mut Told, read: ReadEnd) {
     match read {
-        ReadEnd::Got(n) => print!(rt; " got:{n}"),
-        ReadEnd::End => print!(rt; " end"),
-        ReadEnd::Failed => print!(rt; " failed"),
-        ReadEnd::Empty => print!(rt; " empty"),
+        ReadEnd::Got(n) => {
+            told.add(" got:");
+            told.number(n as u64);
+        }
+        ReadEnd::End => told.add(" end"),
+        ReadEnd::Failed => told.add(" failed"),
+        ReadEnd::Empty => told.add(" empty"),
     }
 }
 
-pub fn tell_wrote(rt: &HostRuntime, wrote: WriteEnd) -> io::Result<()> {
+pub fn tell_wrote(told: &mut Told, wrote: WriteEnd) {
     match wrote {
-        WriteEnd::Took(n) => print!(rt; " took:{n}"),
-        WriteEnd::Failed => print!(rt; " failed"),
+        WriteEnd::Took(n) => {
+            told.add(" took:");
+            told.number(n as u64);
+        }
+        WriteEnd::Failed => told.add(" failed"),
     }
 }

@@ -8,9 +8,6 @@ ghost use Rattle.std.specs.Prelude.{◌<◌};
 use pipe_types::bytes::{Bytes, Text};
 use std::alloc::{AllocError, Global};
 
-/// How many bytes of a text are written out.
-const MOST: usize = 99;
-
 /// What stands before the first space, and behind it.
 pub fn halves(line: &str) -> (&str, &str) {
     line.split_once(' ').unwrap_or((line, ""))
@@ -76,25 +73,4 @@ pub fn bytes_of(alloc: Global, word: &str) -> Result<Bytes, AllocError> {
 
 pub fn name_of(alloc: Global, word: &str) -> Result<Text, AllocError> {
     Ok(Text::from_string(spelled(alloc, word)?))
-}
-
-/// The word that spells the bytes, but that the empty text is none. Of many bytes their number stands there.
-pub fn shown(alloc: Global, bytes: &[u8]) -> Result<String, AllocError> {
-    let mut word = String::new(alloc);
-    if bytes.len() > MOST {
-        return format!(in alloc; "<{}>", bytes.len());
-    }
-    for byte in bytes {
-        word.push(letter_of(*byte))?;
-    }
-    Ok(word)
-}
-
-fn letter_of(byte: u8) -> char {
-    match byte {
-        b' ' => '^',
-        b'\r' => '~',
-        b'\n' => '$',
-        _ => byte as char,
-    }
 }

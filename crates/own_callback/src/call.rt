@@ -7,7 +7,7 @@ ghost use Rattle.pipe_types.specs.Stages.{spec_of};
 ghost use Rattle.pipe_model.specs.Outside.{fed};
 ghost use Rattle.pipe_edges.specs.declared.edges.EdgeKind.{EdgeKind};
 ghost use Rattle.mem_edges.specs.MemEdges.{named_in};
-ghost use Rattle.mem_edges.specs.MemSink.{held_by};
+ghost use Rattle.mem_edges.specs.MemSink.{held_by, IsUnwritten};
 ghost use Rattle.source_lines.specs.Cut.{AreFirstLines};
 ghost use Rattle.edge_names.specs.Opened.{call_in};
 ghost use Rattle.box_stock.specs.Lends.{kinds_of};
@@ -128,8 +128,9 @@ fn edges_of(alloc: Global, file: &str, lines: &str) -> Result<MemEdges, AllocErr
 }
 
 /// An output that holds nothing.
-fn output(alloc: Global) -> Result<MemSink, AllocError>
-    ensures { IfOk result (λ sink. held_by sink ≡ []) }
+pub(crate) fn output(alloc: Global) -> Result<MemSink, AllocError>
+    ensures held { IfOk result (λ sink. held_by sink ≡ []) }
+    ensures unwritten { IfOk result IsUnwritten }
 {
     MemSink::new(
         alloc,
@@ -139,13 +140,13 @@ fn output(alloc: Global) -> Result<MemSink, AllocError>
     )
 }
 
-fn text(alloc: Global, text: &str) -> Result<Text, AllocError>
+pub(crate) fn text(alloc: Global, text: &str) -> Result<Text, AllocError>
     ensures { IfOk result (λ copy. copy ≡ text.now) }
 {
     Ok(Text::from_string(String::from_str(alloc, text)?))
 }
 
-fn bytes(alloc: Global, text: &str) -> Result<Bytes, AllocError>
+pub(crate) fn bytes(alloc: Global, text: &str) -> Result<Bytes, AllocError>
     ensures { IfOk result (λ copy. copy ≡ text.now) }
 {
     Ok(Bytes::from_vec(Vec::from_slice(alloc, text.as_bytes())?))

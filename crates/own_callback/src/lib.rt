@@ -2,11 +2,13 @@
 //!
 //! `ThirdCrashes` passes each message and crashes at its third one. `run_with` hands callbacks to `run_program`, with the
 //! words `run t --workers N --steps --acks`, a topology file and lines, and its contract says what comes of it. docs/USING.md
-//! shows both.
+//! shows both. `run_lines` is for tests of one's own: it runs a topology over lines, and answers the texts of the run.
 #![tactic(auto)]
 
 mod call;
+mod lines;
 mod third;
 
 pub use call::{Came, run_with};
+pub use lines::{LinesEnd, run_lines};
 pub use third::ThirdCrashes;

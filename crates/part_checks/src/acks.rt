@@ -13,16 +13,16 @@ use pipe_types::message::{Loss, MsgList, Outcome, OutcomeList, Why};
 use pipe_types::numbers::{BatchNo, MsgNo, StageNo};
 use pipe_types::reason::Reason;
 use std::alloc::{AllocError, Global};
-use std::io;
+use told_text::Told;
 
-pub fn run_legs(rt: &HostRuntime, case: &Case<'_>) -> io::Result<()> {
+pub fn run_legs(told: &mut Told, case: &Case<'_>) -> Result<(), AllocError> {
     for act in case.acts.split_whitespace() {
         let settled = if act == "none" {
-            end_of_none(rt.alloc())?
+            end_of_none(told.alloc)?
         } else {
-            end_of_two(rt.alloc(), item(act, 0), item(act, 1))?
+            end_of_two(told.alloc, item(act, 0), item(act, 1))?
         };
-        tell_settled(rt, settled)?;
+        tell_settled(told, settled);
     }
     Ok(())
 }
@@ -61,20 +61,20 @@ fn end_of_none(alloc: Global) -> Result<Option<Settled>, AllocError> {
     legs.begin(BatchNo(1), 0, 1)
 }
 
-fn tell_settled(rt: &HostRuntime, settled: Option<Settled>) -> io::Result<()> {
+fn tell_settled(told: &mut Told, settled: Option<Settled>) {
     match settled {
-        Some(Settled::Outcomes(outcomes)) => tell_outcomes(rt, outcomes.as_slice()),
-        Some(Settled::Lost(loss)) => tell_loss(rt, loss),
-        None => print!(rt; " none"),
+        Some(Settled::Outcomes(outcomes)) => tell_outcomes(told, outcomes.as_slice()),
+        Some(Settled::Lost(loss)) => tell_loss(told, loss),
+        None => told.add(" none"),
     }
 }
 
-fn tell_outcomes(rt: &HostRuntime, outcomes: &[Outcome]) -> io::Result<()> {
-    print!(rt; " {}", outcomes.len())?;
+fn tell_outcomes(told: &mut Told, outcomes: &[Outcome]) {
+    told.count(outcomes.len() as u64);
     for outcome in outcomes {
-        print!(rt; ",{}", word_of(outcome))?;
+        told.add(",");
+        told.add(word_of(outcome));
     }
-    Ok(())
 }
 
 fn word_of(outcome: &Outcome) -> &str {
@@ -85,20 +85,19 @@ fn word_of(outcome: &Outcome) -> &str {
 }
 
 /// The stage and the incarnation with which it was lost, where that was killed.
-fn tell_loss(rt: &HostRuntime, loss: Loss) -> io::Result<()> {
-    match loss {
-        Loss::Killed(stage, incarnation, Why::Kill) => {
-            print!(rt; " lost:{}:{incarnation}", stage.0)
-        }
-        _ => print!(rt; " lost"),
+fn tell_loss(told: &mut Told, loss: Loss) {
+    told.add(" lost");
+    if let Loss::Killed(stage, incarnation, Why::Kill) = loss {
+        told.behind(":", u64::from(stage.0));
+        told.behind(":", u64::from(incarnation));
     }
 }
 
-pub fn run_verdicts(rt: &HostRuntime, case: &Case<'_>) -> io::Result<()> {
-    let verdicts = verdicts_of(rt.alloc(), case.acts)?;
-    let acks = group(rt.alloc(), &verdicts)?;
+pub fn run_verdicts(told: &mut Told, case: &Case<'_>) -> Result<(), AllocError> {
+    let verdicts = verdicts_of(told.alloc, case.acts)?;
+    let acks = group(told.alloc, &verdicts)?;
     for ack in acks.as_slice() {
-        tell_ack(rt, ack)?;
+        tell_ack(told, ack);
     }
     Ok(())
 }
@@ -123,16 +122,17 @@ fn verdict_of(act: &str) -> Verdict {
 }
 
 /// The producer, its successful and its failed messages.
-fn tell_ack(rt: &HostRuntime, ack: &Ack) -> io::Result<()> {
-    print!(rt; " {}:", ack.producer.0)?;
-    tell_messages(rt, &ack.successful)?;
-    print!(rt; ":")?;
-    tell_messages(rt, &ack.failed)
+fn tell_ack(told: &mut Told, ack: &Ack) {
+    told.count(u64::from(ack.producer.0));
+    told.add(":");
+    tell_messages(told, &ack.successful);
+    told.add(":");
+    tell_messages(told, &ack.failed);
 }
 
-fn tell_messages(rt: &HostRuntime, messages: &MsgList) -> io::Result<()> {
+fn tell_messages(told: &mut Told, messages: &MsgList) {
     for no in messages.as_slice() {
-        print!(rt; "{},", no.0)?;
+        told.number(u64::from(no.0));
+        told.add(",");
     }
-    Ok(())
 }

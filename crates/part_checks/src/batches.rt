@@ -6,42 +6,48 @@
 //! of the first that begins with that message; `close=BATCH:NOW` and `drain=BATCH:NOW`, the batch that closes; `fits=KEY`; and
 //! `dump`. An empty key is an empty text.
 
-use crate::words::{Case, cut, item, long, number, tell_number, tell_refusal};
+use crate::words::{Case, cut, item, long, number, refuse};
 use batcher::{Batcher, Closable, ClosedBatch};
 use pipe_types::message::Trigger;
 use pipe_types::numbers::{BatchNo, MsgNo};
 use std::alloc::AllocError;
-use std::io;
+use told_text::Told;
 
-pub fn run(rt: &HostRuntime, case: &Case<'_>) -> io::Result<()> {
+pub fn run(told: &mut Told, case: &Case<'_>) -> Result<(), AllocError> {
     let size = number(item(case.begun, 0));
-    let mut batcher = Batcher::new(rt.alloc(), size, long(item(case.begun, 1)));
+    let mut batcher = Batcher::new(told.alloc, size, long(item(case.begun, 1)));
     for act in case.acts.split_whitespace() {
         let (verb, rest) = cut(act, '=');
-        act_on(rt, &mut batcher, verb, rest)?;
+        act_on(told, &mut batcher, verb, rest)?;
     }
     Ok(())
 }
 
-fn act_on(rt: &HostRuntime, batcher: &mut Batcher, verb: &str, rest: &str) -> io::Result<()> {
+fn act_on(
+    told: &mut Told,
+    batcher: &mut Batcher,
+    verb: &str,
+    rest: &str,
+) -> Result<(), AllocError> {
     match verb {
-        "gather" => print!(rt; " {}", gather(batcher, rest, false)?),
-        "flush" => print!(rt; " {}", gather(batcher, rest, true)?),
-        "close" => close(rt, batcher, rest, false),
-        "drain" => close(rt, batcher, rest, true),
-        "dump" => tell_number(rt, batcher.dump().map(|no| no.0)),
-        _ => ask(rt, batcher, verb, rest),
+        "gather" => told.flag(gather(batcher, rest, false)?),
+        "flush" => told.flag(gather(batcher, rest, true)?),
+        "close" => close(told, batcher, rest, false),
+        "drain" => close(told, batcher, rest, true),
+        "dump" => told.found(batcher.dump().map(|no| no.0)),
+        _ => ask(told, batcher, verb, rest),
     }
+    Ok(())
 }
 
-fn ask(rt: &HostRuntime, batcher: &Batcher, verb: &str, rest: &str) -> io::Result<()> {
+fn ask(told: &mut Told, batcher: &Batcher, verb: &str, rest: &str) {
     match verb {
-        "fits" => print!(rt; " {}", batcher.fits(rest.as_bytes())),
-        "closable" => tell_closable(rt, batcher.closable(long(rest), false)),
-        "dry" => tell_closable(rt, batcher.closable(long(rest), true)),
-        "closable_at" => tell_closable(rt, closable_at(batcher, rest, false)),
-        "dry_at" => tell_closable(rt, closable_at(batcher, rest, true)),
-        _ => tell_refusal(rt),
+        "fits" => told.flag(batcher.fits(rest.as_bytes())),
+        "closable" => tell_closable(told, batcher.closable(long(rest), false)),
+        "dry" => tell_closable(told, batcher.closable(long(rest), true)),
+        "closable_at" => tell_closable(told, closable_at(batcher, rest, false)),
+        "dry_at" => tell_closable(told, closable_at(batcher, rest, true)),
+        _ => refuse(told),
     }
 }
 
@@ -65,17 +71,15 @@ fn closable_at(batcher: &Batcher, rest: &str, dry: bool) -> Option<Closable> {
     batcher.closable_at(first, long(item(rest, 1)), dry)
 }
 
-fn tell_closable(rt: &HostRuntime, found: Option<Closable>) -> io::Result<()> {
+fn tell_closable(told: &mut Told, found: Option<Closable>) {
     match found {
         Some(batch) => {
-            print!(rt;
-                " {}:{}:{}",
-                batch.at,
-                batch.first.0,
-                word_of(batch.trigger)
-            )
+            told.count(batch.at as u64);
+            told.behind(":", u64::from(batch.first.0));
+            told.add(":");
+            told.add(word_of(batch.trigger));
         }
-        None => print!(rt; " none"),
+        None => told.add(" none"),
     }
 }
 
@@ -87,11 +91,11 @@ fn word_of(trigger: Trigger) -> &'static str {
     }
 }
 
-fn close(rt: &HostRuntime, batcher: &mut Batcher, rest: &str, dry: bool) -> io::Result<()> {
+fn close(told: &mut Told, batcher: &mut Batcher, rest: &str, dry: bool) {
     let no = BatchNo(number(item(rest, 0)));
     match close_next(batcher, no, long(item(rest, 1)), dry) {
-        Some(batch) => tell_batch(rt, &batch),
-        None => print!(rt; " none"),
+        Some(batch) => tell_batch(told, &batch),
+        None => told.add(" none"),
     }
 }
 
@@ -103,11 +107,13 @@ fn close_next(batcher: &mut Batcher, no: BatchNo, now: u64, dry: bool) -> Option
 }
 
 /// The number of the batch, its key, its trigger and its messages.
-fn tell_batch(rt: &HostRuntime, batch: &ClosedBatch) -> io::Result<()> {
-    let key = str::from_utf8(batch.key.as_slice()).unwrap_or("no text");
-    print!(rt; " {}:{key}:{}", batch.no.0, word_of(batch.trigger))?;
+fn tell_batch(told: &mut Told, batch: &ClosedBatch) {
+    told.count(u64::from(batch.no.0));
+    told.add(":");
+    told.add(str::from_utf8(batch.key.as_slice()).unwrap_or("no text"));
+    told.add(":");
+    told.add(word_of(batch.trigger));
     for no in &batch.numbers {
-        print!(rt; ",{no}")?;
+        told.behind(",", u64::from(*no));
     }
-    Ok(())
 }

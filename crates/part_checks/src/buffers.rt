@@ -5,11 +5,11 @@
 
 ghost use Rattle.std.specs.Prelude.{◌≡◌};
 
-use crate::words::{Case, cut, item, number, tell_number, tell_refusal};
+use crate::words::{Case, cut, item, number, refuse};
 use pipe_types::topology::Keep;
 use stage_buffer::Buffer;
-use std::alloc::Global;
-use std::io;
+use std::alloc::{AllocError, Global};
+use told_text::Told;
 
 /// No case has more units.
 const MOST: u64 = 1_000_000;
@@ -24,20 +24,20 @@ struct Held {
     ghost all_arrived: { buffer.arrived ≡ arrived },
 }
 
-pub fn run(rt: &HostRuntime, case: &Case<'_>) -> io::Result<()> {
-    let mut held = begin(rt.alloc(), case.begun)?;
+pub fn run(told: &mut Told, case: &Case<'_>) -> Result<(), AllocError> {
+    let mut held = begin(told.alloc, case.begun)?;
     for act in case.acts.split_whitespace() {
         let (verb, rest) = cut(act, '=');
         if verb == "push" {
-            held = push(rt, held, number(item(rest, 0)), number(item(rest, 1)))?;
+            held = push(told, held, number(item(rest, 0)), number(item(rest, 1)))?;
         } else {
-            ask(rt, &mut held, verb, number(rest))?;
+            ask(told, &mut held, verb, number(rest))?;
         }
     }
     Ok(())
 }
 
-fn begin(alloc: Global, begun: &str) -> io::Result<Held> {
+fn begin(alloc: Global, begun: &str) -> Result<Held, AllocError> {
     let parts = number(item(begun, 0));
     let keep = if item(begun, 2) == "first" {
         Keep::First
@@ -52,14 +52,14 @@ fn begin(alloc: Global, begun: &str) -> io::Result<Held> {
     })
 }
 
-fn push(rt: &HostRuntime, held: Held, part: u32, unit: u32) -> io::Result<Held> {
+fn push(told: &mut Told, held: Held, part: u32, unit: u32) -> Result<Held, AllocError> {
     let Held {
         mut buffer,
         parts,
         arrived,
     } = held;
     if part >= parts || arrived >= MOST || u64::from(buffer.len()) >= MOST {
-        tell_refusal(rt)?;
+        refuse(told);
         return Ok(Held {
             buffer,
             parts,
@@ -75,22 +75,23 @@ fn push(rt: &HostRuntime, held: Held, part: u32, unit: u32) -> io::Result<Held> 
     })
 }
 
-fn ask(rt: &HostRuntime, held: &mut Held, verb: &str, part: u32) -> io::Result<()> {
+fn ask(told: &mut Told, held: &mut Held, verb: &str, part: u32) -> Result<(), AllocError> {
     match verb {
-        "over" => tell_number(rt, held.buffer.over()),
-        "take" => tell_number(rt, held.buffer.take(part)),
-        "front" => tell_number(rt, held.buffer.front(part).copied()),
-        "len" => print!(rt; " {}", held.buffer.len()),
-        "parts" => tell_parts(rt, &held.buffer),
-        _ => tell_refusal(rt),
+        "over" => told.found(held.buffer.over()),
+        "take" => told.found(held.buffer.take(part)),
+        "front" => told.found(held.buffer.front(part).copied()),
+        "len" => told.count(u64::from(held.buffer.len())),
+        "parts" => tell_parts(told, &held.buffer)?,
+        _ => refuse(told),
     }
+    Ok(())
 }
 
-fn tell_parts(rt: &HostRuntime, buffer: &Buffer<u32>) -> io::Result<()> {
+fn tell_parts(told: &mut Told, buffer: &Buffer<u32>) -> Result<(), AllocError> {
     let parts = buffer.parts()?;
-    print!(rt; " parts")?;
+    told.add(" parts");
     for part in parts.as_slice() {
-        print!(rt; ",{part}")?;
+        told.behind(",", u64::from(*part));
     }
     Ok(())
 }

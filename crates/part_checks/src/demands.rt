@@ -6,9 +6,9 @@ ghost use Rattle.std.specs.Prelude.{◌≡◌, ◌≤◌, ◌*◌};
 ghost use Rattle.stage_demand.specs.Demand.{counts_of};
 ghost use Rattle.part_checks.specs.declared.demands.TheConstants.{MOST};
 
-use crate::words::{Case, cut, item, number, tell_refusal};
+use crate::words::{Case, cut, item, number, refuse};
 use stage_demand::{Demand, MAX_DEMAND};
-use std::io;
+use told_text::Told;
 
 /// No case asks for more than twice as many.
 const MOST: u64 = 10_000_000_000;
@@ -30,19 +30,19 @@ struct Tally {
     ghost few_asked: { asked ≤ 2 * MOST },
 }
 
-pub fn run(rt: &HostRuntime, case: &Case<'_>) -> io::Result<()> {
+pub fn run(told: &mut Told, case: &Case<'_>) {
     let Some(mut tally) = begin(number(item(case.begun, 0)), number(item(case.begun, 1))) else {
-        return tell_refusal(rt);
+        return refuse(told);
     };
     for act in case.acts.split_whitespace() {
         let (verb, count) = cut(act, '=');
         if verb == "see" {
-            print!(rt; " {}/{}", tally.demand.due(), tally.demand.left())?;
+            told.count(u64::from(tally.demand.due()));
+            told.behind("/", u64::from(tally.demand.left()));
         } else if !count_more(&mut tally, verb, number(count)) {
-            tell_refusal(rt)?;
+            refuse(told);
         }
     }
-    Ok(())
 }
 
 fn begin(min: u32, max: u32) -> Option<Tally> {

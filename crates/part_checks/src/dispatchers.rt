@@ -5,78 +5,80 @@
 //! of a case go to one dispatcher. Of `keys` an act is `part=KEY:PARTS`, or `plain=KEY:PARTS` of the slow machine.
 
 use crate::rooms::rooms;
-use crate::words::{Case, cut, item, number, numbers, tell_refusal};
+use crate::words::{Case, cut, item, number, numbers, refuse};
 use dispatch_broadcast::BroadcastDispatch;
 use dispatch_demand::DemandDispatch;
 use dispatch_partition::PartitionDispatch;
 use pipe_types::room::Sent;
 use pipe_types::topology::Dispatch;
 use std::alloc::{AllocError, Global};
-use std::io;
+use told_text::Told;
 
-pub fn by_demand(rt: &HostRuntime, case: &Case<'_>) -> io::Result<()> {
-    let mut dispatch = DemandDispatch::new(rt.alloc());
+pub fn by_demand(told: &mut Told, case: &Case<'_>) -> Result<(), AllocError> {
+    let mut dispatch = DemandDispatch::new(told.alloc);
     for act in case.acts.split_whitespace() {
         let (open, waiting) = cut(act, '=');
-        let open = numbers(rt.alloc(), open)?;
-        let rooms = rooms(rt.alloc(), &open)?;
+        let open = numbers(told.alloc, open)?;
+        let rooms = rooms(told.alloc, &open)?;
         let sent = dispatch.deliver(number(waiting), &rooms)?;
-        tell_sent(rt, sent.as_slice())?;
+        tell_sent(told, sent.as_slice());
     }
     Ok(())
 }
 
-pub fn by_broadcast(rt: &HostRuntime, case: &Case<'_>) -> io::Result<()> {
-    let mut dispatch = BroadcastDispatch::new(rt.alloc());
+pub fn by_broadcast(told: &mut Told, case: &Case<'_>) -> Result<(), AllocError> {
+    let mut dispatch = BroadcastDispatch::new(told.alloc);
     for act in case.acts.split_whitespace() {
         let (open, waiting) = cut(act, '=');
-        let open = numbers(rt.alloc(), open)?;
-        let rooms = rooms(rt.alloc(), &open)?;
+        let open = numbers(told.alloc, open)?;
+        let rooms = rooms(told.alloc, &open)?;
         let sent = dispatch.deliver(number(waiting), &rooms)?;
-        tell_sent(rt, sent.as_slice())?;
+        tell_sent(told, sent.as_slice());
     }
     Ok(())
 }
 
-pub fn by_partition(rt: &HostRuntime, case: &Case<'_>) -> io::Result<()> {
-    let mut dispatch = PartitionDispatch::new(rt.alloc());
+pub fn by_partition(told: &mut Told, case: &Case<'_>) -> Result<(), AllocError> {
+    let mut dispatch = PartitionDispatch::new(told.alloc);
     for act in case.acts.split_whitespace() {
         let (open, waiting) = cut(act, '=');
-        let parts = numbers(rt.alloc(), waiting)?;
-        let open = numbers(rt.alloc(), open)?;
-        send_parts(rt, &mut dispatch, &open, &parts)?;
+        let parts = numbers(told.alloc, waiting)?;
+        let open = numbers(told.alloc, open)?;
+        send_parts(told, &mut dispatch, &open, &parts)?;
     }
     Ok(())
 }
 
 fn send_parts(
-    rt: &HostRuntime,
+    told: &mut Told,
     dispatch: &mut PartitionDispatch,
     open: &[u32],
     parts: &[u32],
-) -> io::Result<()> {
+) -> Result<(), AllocError> {
     if parts.len() > 1_000 {
-        return tell_refusal(rt);
+        refuse(told);
+        return Ok(());
     }
-    let rooms = rooms(rt.alloc(), open)?;
+    let rooms = rooms(told.alloc, open)?;
     let sent = dispatch.deliver(parts, &rooms)?;
-    tell_sent(rt, sent.as_slice())
-}
-
-/// Unit and consumer of each send, in a line.
-fn tell_sent(rt: &HostRuntime, sent: &[Sent]) -> io::Result<()> {
-    print!(rt; "\n ")?;
-    for one in sent {
-        print!(rt; " {}:{}", one.unit, one.sub.consumer.0)?;
-    }
+    tell_sent(told, sent.as_slice());
     Ok(())
 }
 
-pub fn by_rule(rt: &HostRuntime, case: &Case<'_>) -> io::Result<()> {
+/// Unit and consumer of each send, in a line.
+fn tell_sent(told: &mut Told, sent: &[Sent]) {
+    told.add("\n ");
+    for one in sent {
+        told.count(u64::from(one.unit));
+        told.behind(":", u64::from(one.sub.consumer.0));
+    }
+}
+
+pub fn by_rule(told: &mut Told, case: &Case<'_>) -> Result<(), AllocError> {
     for act in case.acts.split_whitespace() {
         let (how, waiting) = cut(act, '=');
-        let sent = sent_by(rt.alloc(), kind_of(item(how, 0)), item(how, 1), waiting)?;
-        tell_sent(rt, &sent)?;
+        let sent = sent_by(told.alloc, kind_of(item(how, 0)), item(how, 1), waiting)?;
+        tell_sent(told, &sent);
     }
     Ok(())
 }
@@ -111,23 +113,19 @@ fn units_of(alloc: Global, waiting: &str) -> Result<Vec<(u32, u32)>, AllocError>
     Ok(units)
 }
 
-pub fn keys(rt: &HostRuntime, case: &Case<'_>) -> io::Result<()> {
+pub fn keys(told: &mut Told, case: &Case<'_>) {
     for act in case.acts.split_whitespace() {
         let (verb, rest) = cut(act, '=');
-        tell_part(rt, verb, item(rest, 0), number(item(rest, 1)))?;
+        tell_part(told, verb, item(rest, 0), number(item(rest, 1)));
     }
-    Ok(())
 }
 
-fn tell_part(rt: &HostRuntime, verb: &str, key: &str, parts: u32) -> io::Result<()> {
+fn tell_part(told: &mut Told, verb: &str, key: &str, parts: u32) {
     if verb == "plain" {
-        return print!(rt; " {}", plain_dispatch::partition_of(key.as_bytes(), parts));
+        told.count(plain_dispatch::partition_of(key.as_bytes(), parts));
+    } else if parts == 0 {
+        refuse(told);
+    } else {
+        told.count(u64::from(dispatch_partition::partition_of(key.as_bytes(), parts)));
     }
-    if parts == 0 {
-        return tell_refusal(rt);
-    }
-    print!(rt;
-        " {}",
-        dispatch_partition::partition_of(key.as_bytes(), parts)
-    )
 }

@@ -4,9 +4,10 @@
 
 ghost use Rattle.std.specs.Prelude.{◌≡◌, ◌≤◌, All};
 
-use crate::words::{Case, cut, item, long, number, tell_refusal};
+use crate::words::{Case, cut, item, long, number, refuse};
 use restart_core::Restarts;
-use std::io;
+use std::alloc::AllocError;
+use told_text::Told;
 
 /// A limit, how many restarts it allows, and the time of the last one.
 #[derive(Drop)]
@@ -18,19 +19,19 @@ struct Limit {
     ghost latest: { All (λ t. t ≤ last) restarts.times },
 }
 
-pub fn run(rt: &HostRuntime, case: &Case<'_>) -> io::Result<()> {
+pub fn run(told: &mut Told, case: &Case<'_>) -> Result<(), AllocError> {
     let max = number(item(case.begun, 0));
     let mut limit = Limit {
-        restarts: Restarts::new(rt.alloc(), max, long(item(case.begun, 1)))?,
+        restarts: Restarts::new(told.alloc, max, long(item(case.begun, 1)))?,
         max,
         last: 0,
     };
     for act in case.acts.split_whitespace() {
         let (verb, time) = cut(act, '=');
         if verb == "may" {
-            print!(rt; " {}", limit.restarts.may(long(time)))?;
+            told.flag(limit.restarts.may(long(time)));
         } else if !make(&mut limit, long(time)) {
-            tell_refusal(rt)?;
+            refuse(told);
         }
     }
     Ok(())

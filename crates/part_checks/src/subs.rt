@@ -10,10 +10,10 @@ ghost use Rattle.pipe_types.specs.Numbers.{stage, subscription};
 ghost use Rattle.stage_subs.specs.Subs.{row_at};
 ghost use Rattle.stage_subs.specs.declared.TheConstants.{LAST_STAGE};
 
-use crate::words::{Case, cut, item, mode_of, number, short, tell_number, tell_refusal, why_of};
+use crate::words::{Case, cut, item, mode_of, number, refuse, short, why_of};
 use pipe_types::numbers::{StageNo, SubNo};
 use stage_subs::{Subs, SubsFault, exits};
-use std::io;
+use told_text::Told;
 
 const CONSUMER: StageNo = StageNo(2);
 
@@ -23,12 +23,10 @@ const PRODUCER: StageNo = StageNo(1);
 const MOST: u64 = 1_000_000;
 
 /// Whether a consumer goes with its producer, of each `MODE:WHY`.
-pub fn run_cancels(rt: &HostRuntime, case: &Case<'_>) -> io::Result<()> {
+pub fn run_cancels(told: &mut Told, case: &Case<'_>) {
     for act in case.acts.split_whitespace() {
-        let goes = exits(mode_of(item(act, 0)), why_of(item(act, 1)));
-        print!(rt; " {goes}")?;
+        told.flag(exits(mode_of(item(act, 0)), why_of(item(act, 1))));
     }
-    Ok(())
 }
 
 /// The subscription of the pair, its generation, whether it is live, and its counts beside it.
@@ -43,20 +41,19 @@ struct Pair {
     ghost row: { row_at subs (stage 2) (stage 1) ≡ Some (record { generation = generation; is_live = live; counts = record { min = 5; max = 10; asked = asked; arrived = sent; handled = handled } }) },
 }
 
-pub fn run(rt: &HostRuntime, case: &Case<'_>) -> io::Result<()> {
+pub fn run(told: &mut Told, case: &Case<'_>) {
     if case.begun == "many" {
-        return run_many(rt, case.acts);
+        return run_many(told, case.acts);
     }
-    let Some(mut pair) = begin(Subs::new(rt.alloc())) else {
-        return tell_refusal(rt);
+    let Some(mut pair) = begin(Subs::new(told.alloc)) else {
+        return refuse(told);
     };
     for act in case.acts.split_whitespace() {
         let (verb, rest) = cut(act, '=');
         if !change(&mut pair, verb, number(rest)) {
-            ask_pair(rt, &pair, verb, rest)?;
+            ask_pair(told, &pair, verb, rest);
         }
     }
-    Ok(())
 }
 
 fn begin(subs: Subs) -> Option<Pair>
@@ -151,42 +148,43 @@ fn renew(pair: &mut Pair) -> bool {
     true
 }
 
-fn ask_pair(rt: &HostRuntime, pair: &Pair, verb: &str, rest: &str) -> io::Result<()> {
+fn ask_pair(told: &mut Told, pair: &Pair, verb: &str, rest: &str) {
     match verb {
-        "see" => see(rt, pair),
-        "below" => print!(rt; " {}", pair.subs.room_below(StageNo(short(rest)))),
-        "last" => print!(rt; " {}", pair.subs.is_last(sub_of(number(rest)))),
-        "live" => tell_live(rt, &pair.subs, sub_of(0)),
-        _ => tell_refusal(rt),
+        "see" => see(told, pair),
+        "below" => told.count(pair.subs.room_below(StageNo(short(rest)))),
+        "last" => told.flag(pair.subs.is_last(sub_of(number(rest)))),
+        "live" => tell_live(told, &pair.subs, sub_of(0)),
+        _ => refuse(told),
     }
 }
 
 /// What is due on the last subscription, its open demand, and whether an ask is due at all.
-fn see(rt: &HostRuntime, pair: &Pair) -> io::Result<()> {
+fn see(told: &mut Told, pair: &Pair) {
     let sub = sub_of(pair.generation);
-    let due = pair.subs.due(sub);
-    let room = pair.subs.room_of(sub);
-    print!(rt; " {due}/{room}/{}", pair.subs.has_due())
+    told.count(u64::from(pair.subs.due(sub)));
+    told.behind("/", u64::from(pair.subs.room_of(sub)));
+    told.flag_behind("/", pair.subs.has_due());
 }
 
 /// The generation of the pair's live subscription.
-fn tell_live(rt: &HostRuntime, subs: &Subs, pair: SubNo) -> io::Result<()> {
-    let live = subs.live_of(pair.consumer, pair.producer);
-    tell_number(rt, live.map(|sub| sub.generation))
+fn tell_live(told: &mut Told, subs: &Subs, pair: SubNo) {
+    match subs.live_of(pair.consumer, pair.producer) {
+        Some(sub) => told.count(u64::from(sub.generation)),
+        None => told.add(" none"),
+    }
 }
 
-fn run_many(rt: &HostRuntime, acts: &str) -> io::Result<()> {
-    let mut subs = Subs::new(rt.alloc());
+fn run_many(told: &mut Told, acts: &str) {
+    let mut subs = Subs::new(told.alloc);
     for act in acts.split_whitespace() {
         let (verb, rest) = cut(act, '=');
         match verb {
-            "fill" => fill(rt, &mut subs)?,
-            "count" => print!(rt; " {}", count_new(&subs))?,
-            "live" => tell_live(rt, &subs, sub_at(short(rest)))?,
-            _ => tell_refusal(rt)?,
+            "fill" => fill(told, &mut subs),
+            "count" => told.count(u64::from(count_new(&subs))),
+            "live" => tell_live(told, &subs, sub_at(short(rest))),
+            _ => refuse(told),
         }
     }
-    Ok(())
 }
 
 /// The first subscription of a pair, by its place: 64 producers for each consumer from 1.
@@ -202,13 +200,14 @@ fn sub_at(place: u16) -> SubNo
 }
 
 /// Adds a subscription for each pair until one is refused. Answers how many were added, and why no more.
-fn fill(rt: &HostRuntime, subs: &mut Subs) -> io::Result<()> {
+fn fill(told: &mut Told, subs: &mut Subs) {
     for place in 0..4_096 {
         if let Err(fault) = add(subs, sub_at(place)) {
-            return print!(rt; " {place}/{}", fault == SubsFault::Full);
+            told.count(u64::from(place));
+            return told.flag_behind("/", fault == SubsFault::Full);
         }
     }
-    print!(rt; " 4096")
+    told.count(4_096);
 }
 
 /// Adds the pair's first subscription. A pair that had one is passed over.

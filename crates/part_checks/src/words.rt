@@ -4,7 +4,7 @@ use pipe_types::message::Why;
 use pipe_types::numbers::StageNo;
 use pipe_types::topology::CancelMode;
 use std::alloc::{AllocError, Global};
-use std::io;
+use told_text::Told;
 
 /// A case: its title, the part, how the part begins, and the acts on it.
 #[derive(Clone, Copy)]
@@ -83,14 +83,6 @@ pub fn why_of(word: &str) -> Why {
     }
 }
 
-/// Answers a number, or that there is none.
-pub fn tell_number(rt: &HostRuntime, found: Option<u32>) -> io::Result<()> {
-    match found {
-        Some(one) => print!(rt; " {one}"),
-        None => print!(rt; " none"),
-    }
-}
-
-pub fn tell_refusal(rt: &HostRuntime) -> io::Result<()> {
-    print!(rt; " not-allowed")
+pub fn refuse(told: &mut Told) {
+    told.add(" not-allowed");
 }

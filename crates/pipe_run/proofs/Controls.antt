@@ -5,8 +5,8 @@ use Rattle.pipe_types.specs.declared.topology.Topology.{Topology}
 use Rattle.pipe_model.specs.History.{History}
 use Rattle.pipe_laws.specs.Read.{HasNoControl}
 use Rattle.stage_bodies.specs.Seen.{LineSeen}
-use Rattle.stage_workers.specs.Keeping.{IsFresh, KeepsControlPartly, KeepsLinesPartly}
-use Rattle.stage_workers.proofs.Obeying.{control_read}
+use Rattle.run_pipe.specs.Keeping.{IsFresh, KeepsControlPartly, KeepsLinesPartly}
+use Rattle.run_pipe.proofs.Obeying.{control_read}
 use Rattle.edge_names.specs.Seen.{EdgesSeen}
 use Rattle.edge_names.specs.Controls.{control_call}
 use Rattle.edge_names.specs.Opened.{GivesLines, HasSource}

@@ -1,6 +1,6 @@
 -- What a run and the giving back come to.
-use Rattle.std.proofs.Common.{◌≡◌, ℕ, suc, List, ◌++◌, length, Bool, true, false, not, arith, refl, sym, subst, inl, inr, Option, Result, Ok, Err}
-use Rattle.std.specs.Prelude.{IsTrue, ◌&&◌, is_ok}
+use Rattle.std.proofs.Common.{◌≡◌, ℕ, suc, List, ◌++◌, length, Bool, true, false, not, arith, refl, sym, ◌∙◌, subst, inl, inr, Option, Some, None, Result, Ok, Err}
+use Rattle.std.specs.Prelude.{IsTrue, IsSome, IsSomeAnd, ◌&&◌, is_ok}
 use Rattle.std.specs.declared.alloc.AllocError.{AllocError}
 use Rattle.std.proofs.lemmas.List.{take_all}
 use Rattle.pipe_types.specs.declared.topology.StageSpec.{StageSpec}
@@ -9,14 +9,14 @@ use Rattle.pipe_model.specs.History.{History}
 use Rattle.pipe_model.specs.Legal.{happened, is_drain}
 use Rattle.pipe_model.specs.Moves.{jobs_out}
 use Rattle.stage_bodies.specs.Seen.{LineSeen, BodySeen}
-use Rattle.stage_workers.specs.Keeping.{KeepsControlOn, KeepsControlPartly}
-use Rattle.stage_workers.proofs.Kept.{kept_partly}
-use Rattle.stage_workers.specs.Clocks.{ClockSeen, KeepsClockOn, KeepsClockPartly}
-use Rattle.stage_workers.specs.Rounds.{HasEnded}
-use Rattle.stage_workers.specs.RunEnd.{RunEnd}
-use Rattle.stage_workers.specs.RunEnd.TheVariants.{Drained, Halted}
-use Rattle.stage_workers.specs.Seen.{PipeSeen}
-use Rattle.stage_workers.specs.Runs.{HasRun}
+use Rattle.run_pipe.specs.Keeping.{KeepsControlOn, KeepsControlPartly}
+use Rattle.run_pipe.proofs.Kept.{kept_partly}
+use Rattle.run_pipe.specs.Clocks.{ClockSeen, KeepsClockOn, KeepsClockPartly}
+use Rattle.run_pipe.specs.Ends.{HasEnded}
+use Rattle.run_pipe.specs.declared.ends.RunEnd.{RunEnd}
+use Rattle.run_pipe.specs.declared.ends.RunEnd.TheVariants.{Drained, Halted}
+use Rattle.run_pipe.specs.Seen.{PipeState}
+use Rattle.run_pipe.specs.Runs.{HasRun}
 use Rattle.edge_names.specs.Seen.{EdgesSeen}
 use Rattle.edge_names.specs.Controls.{IsGivenInPart, first_sources, first_sinks, named_control}
 use Rattle.edge_names.specs.Returned.{GivesBack, KeepsCallbacks, sources_of, sinks_of}
@@ -55,26 +55,34 @@ all_back topology control bodies old new h =
     let stages = topology.stages in
     subst (λ (xs : List StageSpec). GivesBack (named_control topology.control control ++ sources_of xs bodies) (sinks_of xs bodies) old new) (sym (take_all (length stages) stages (omega arith))) h
 
--- the same said of equal pipes
-pub ran_as : (r : Result RunEnd AllocError) (o opened p final : PipeSeen) → o ≡ opened → p ≡ final → HasRun r o p → HasRun r opened final
-ran_as r o opened p final first last ran = subst (λ (z : PipeSeen × PipeSeen). HasRun r z.0 z.1) (λ i. (first i, last i)) ran
+back_of : (topology same : Topology) (control : Option LineSeen) (bodies : ℕ → Option BodySeen) (old new : EdgesSeen) → topology ≡ same
+    → GivesBack (named_control topology.control control ++ sources_of topology.stages bodies) (sinks_of topology.stages bodies) old new
+    → GivesBack (named_control same.control control ++ sources_of same.stages bodies) (sinks_of same.stages bodies) old new
+back_of topology same control bodies old new e h = subst (λ (t : Topology). GivesBack (named_control t.control control ++ sources_of t.stages bodies) (sinks_of t.stages bodies) old new) e h
 
--- nothing that is said of a run depends on what its pipe says of the end
-pub with_parts : (r : Result RunEnd AllocError) (opened left : PipeSeen) (end : Option (Result RunEnd AllocError)) → HasRun r opened (record left { end = end }) → HasRun r opened left
-with_parts r opened left end h = record {
-  topology = h.topology;
-  follows = h.follows;
-  keeps = h.keeps;
-  stay = h.stay;
-  clock = h.clock;
-  control = h.control;
-  ended = h.ended;
-}
+-- ---- the parts of a pipe
 
-pub went : (r : Result RunEnd AllocError) (opened p : PipeSeen) (final : ℕ → Option BodySeen) (old new : EdgesSeen) → HasRun r opened p
-    → GivesBack (named_control opened.topology.control p.control ++ sources_of opened.topology.stages p.home) (sinks_of opened.topology.stages p.home) old new → KeepsCallbacks p.home final
+some_of : {A : Type 0} (P : A → Type 0) (o : Option A) → IsSomeAnd o P → IsSome o
+some_of P None h = absurd h
+some_of P (Some x) h = refl
+
+-- the pipe has ended, and so its parts say
+pub has_end : (o p final : PipeState) → p ≡ final → IsSomeAnd p.end (HasRun o p) → IsSome final.end
+has_end o p final last ran = subst (λ (z : PipeState). IsSome z.end) last (some_of (HasRun o p) p.end ran)
+
+-- what it ran to, from the parts that it was made of to those that it comes apart into
+pub ran_to : (o opened p final : PipeState) (end : Result RunEnd AllocError) → o ≡ opened → p ≡ final → final.end ≡ Some end → IsSomeAnd p.end (HasRun o p) → HasRun opened final end
+ran_to o opened p final end first last is ran =
+    subst (λ (e : Option (Result RunEnd AllocError)). IsSomeAnd e (HasRun opened final)) is
+    (subst (λ (z : PipeState × PipeState). IsSomeAnd z.1.end (HasRun z.0 z.1)) (λ i. (first i, last i)) ran)
+
+-- ---- the whole
+
+-- all was given back of the topology that stands in the core
+pub went : (r : Result RunEnd AllocError) (opened p : PipeState) (topology : Topology) (final : ℕ → Option BodySeen) (old new : EdgesSeen) → HasRun opened p r → topology ≡ p.topology
+    → GivesBack (named_control topology.control p.control ++ sources_of topology.stages p.home) (sinks_of topology.stages p.home) old new → KeepsCallbacks p.home final
     → WentOn (is_ok r) opened.topology p.steps opened.home final opened.control old new opened.clock p.clock
-went (Ok end) opened p final old new h back kept = record {
+went (Ok end) opened p topology final old new h same back kept = record {
   follows = h.follows;
   ended = λ w. has_come opened.topology p.steps end h.ended;
   time = h.clock;
@@ -86,10 +94,10 @@ went (Ok end) opened p final old new h back kept = record {
   stay = h.stay;
   parts = suc (length opened.topology.stages);
   all = λ w. refl;
-  back = all_back opened.topology p.control p.home old new back;
+  back = all_back opened.topology p.control p.home old new (back_of topology opened.topology p.control p.home old new (same ∙ h.topology) back);
   kept = kept;
 }
-went (Err e) opened p final old new h back kept = record {
+went (Err e) opened p topology final old new h same back kept = record {
   follows = h.follows;
   ended = λ w. not_whole w;
   time = h.clock;
@@ -101,25 +109,27 @@ went (Err e) opened p final old new h back kept = record {
   stay = h.stay;
   parts = suc (length opened.topology.stages);
   all = λ w. refl;
-  back = all_back opened.topology p.control p.home old new back;
+  back = all_back opened.topology p.control p.home old new (back_of topology opened.topology p.control p.home old new (same ∙ h.topology) back);
   kept = kept;
 }
 
 -- there was no memory for giving all back
-pub went_in_part : (r : Result RunEnd AllocError) (opened p : PipeSeen) (final : ℕ → Option BodySeen) (old new : EdgesSeen) → HasRun r opened p
-    → IsGivenInPart opened.topology p.control p.home old new → KeepsCallbacks p.home final → WentOn false opened.topology p.steps opened.home final opened.control old new opened.clock p.clock
-went_in_part r opened p final old new h part kept = record {
-  follows = h.follows;
-  ended = λ w. not_whole w;
-  time = partly r p.steps opened.clock p.clock h.clock;
-  control = p.control;
-  obeyed = partly_obeyed r opened.topology p.steps opened.control p.control h.control;
-  bodies = p.home;
-  keeps = h.keeps;
-  none_out = λ w. not_whole w;
-  stay = h.stay;
-  parts = part.parts;
-  all = λ w. not_whole w;
-  back = part.back;
-  kept = kept;
-}
+pub went_in_part : (r : Result RunEnd AllocError) (opened p : PipeState) (topology : Topology) (final : ℕ → Option BodySeen) (old new : EdgesSeen) → HasRun opened p r → topology ≡ p.topology
+    → IsGivenInPart topology p.control p.home old new → KeepsCallbacks p.home final → WentOn false opened.topology p.steps opened.home final opened.control old new opened.clock p.clock
+went_in_part r opened p topology final old new h same given kept =
+    let part = subst (λ (t : Topology). IsGivenInPart t p.control p.home old new) (same ∙ h.topology) given in
+    record {
+      follows = h.follows;
+      ended = λ w. not_whole w;
+      time = partly r p.steps opened.clock p.clock h.clock;
+      control = p.control;
+      obeyed = partly_obeyed r opened.topology p.steps opened.control p.control h.control;
+      bodies = p.home;
+      keeps = h.keeps;
+      none_out = λ w. not_whole w;
+      stay = h.stay;
+      parts = part.parts;
+      all = λ w. not_whole w;
+      back = part.back;
+      kept = kept;
+    }

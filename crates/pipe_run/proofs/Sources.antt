@@ -27,7 +27,7 @@ use Rattle.stage_bodies.specs.Seen.{SourceSeen, LineSeen}
 use Rattle.body_laws.specs.Keeps.{IsKnownEnd, KeepsSource}
 use Rattle.edge_names.specs.Seen.{EdgesSeen}
 use Rattle.edge_names.specs.Opened.{GivesLines}
-use Rattle.stage_workers.proofs.Obeying.{first_lines, before_long}
+use Rattle.run_pipe.proofs.Obeying.{first_lines, before_long}
 use Rattle.pipe_run.specs.Outside.{ReadsSource, IsSourceRead}
 
 -- ---- ends

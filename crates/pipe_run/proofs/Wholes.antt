@@ -6,7 +6,7 @@ use Rattle.pipe_types.specs.declared.topology.Topology.{Topology}
 use Rattle.pipe_model.specs.History.{History}
 use Rattle.pipe_model.specs.Legal.{is_legal}
 use Rattle.stage_bodies.specs.Seen.{LineSeen, BoxSeen, BodySeen}
-use Rattle.stage_workers.specs.Clocks.{ClockSeen}
+use Rattle.run_pipe.specs.Clocks.{ClockSeen}
 use Rattle.edge_names.specs.Seen.{EdgesSeen}
 use Rattle.edge_names.specs.Controls.{control_call, first_sources, first_sinks, run_calls}
 use Rattle.edge_names.specs.Opened.{AreOpened, Asks, HasSource}

@@ -19,7 +19,7 @@ use Rattle.stage_bodies.specs.Posts.{place_at}
 use Rattle.body_laws.specs.Counts.{brought, short_writes}
 use Rattle.body_laws.specs.Keeps.{AreFirstHeld}
 use Rattle.body_laws.specs.Ready.{There}
-use Rattle.stage_workers.specs.Obeyed.{IsControlRead}
+use Rattle.run_pipe.specs.Obeyed.{IsControlRead}
 use Rattle.edge_names.specs.Seen.{EdgesSeen}
 use Rattle.edge_names.specs.Named.{GivesSource, GivesSink}
 use Rattle.edge_names.specs.Opened.{AreOpened, HasSource, call_in, calls_of, edge_call, edge_calls}

@@ -6,8 +6,8 @@ use Rattle.pipe_model.specs.Moves.{jobs_out}
 use Rattle.pipe_laws.specs.Followed.{FollowsMoves}
 use Rattle.stage_bodies.specs.Seen.{LineSeen, BodySeen}
 use Rattle.body_laws.specs.Keeps.{Keeps}
-use Rattle.stage_workers.specs.Keeping.{KeepsControlPartly}
-use Rattle.stage_workers.specs.Clocks.{ClockSeen}
+use Rattle.run_pipe.specs.Keeping.{KeepsControlPartly}
+use Rattle.run_pipe.specs.Clocks.{ClockSeen}
 use Rattle.edge_names.specs.Seen.{EdgesSeen}
 use Rattle.edge_names.specs.Returned.{GivesBack, KeepsCallbacks}
 use Rattle.edge_names.specs.Controls.{first_sources, first_sinks}

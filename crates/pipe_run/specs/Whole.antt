@@ -8,7 +8,7 @@ use Rattle.pipe_model.specs.Moves.{is_drained, jobs_out}
 use Rattle.pipe_edges.specs.declared.edges.EdgeKind.{EdgeKind}
 use Rattle.pipe_laws.specs.Followed.{FollowsMoves}
 use Rattle.pipe_laws.specs.Read.{HasNoControl}
-use Rattle.stage_workers.specs.Clocks.{ClockSeen, KeepsClock, KeepsClockPartly}
+use Rattle.run_pipe.specs.Clocks.{ClockSeen, KeepsClock, KeepsClockPartly}
 use Rattle.edge_names.specs.Seen.{EdgesSeen}
 use Rattle.edge_names.specs.Controls.{run_calls}
 use Rattle.pipe_run.specs.Outside.{AreAsked, IsOutside, IsUnopened}

@@ -4,7 +4,6 @@
 //! sources and sinks back under their names, and answers the core with the journal, and the boxes in their order.
 #![tactic(auto)]
 
-mod parts;
 mod run;
 
 pub use run::{Ended, NoRun, Run, run_topology};

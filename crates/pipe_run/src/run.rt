@@ -6,9 +6,9 @@ ghost use Rattle.core_state.specs.Stands.{Stands};
 ghost use Rattle.stage_bodies.specs.Seen.{body_at, line_seen};
 ghost use Rattle.stage_bodies.specs.Jobs.{Both};
 ghost use Rattle.body_laws.specs.Ready.{IsFilled};
-ghost use Rattle.stage_workers.specs.Keeping.{IsFresh};
-ghost use Rattle.stage_workers.specs.Clocks.{clock_seen};
-ghost use Rattle.stage_workers.specs.Rounds.{HasEnded};
+ghost use Rattle.run_pipe.specs.Keeping.{IsFresh};
+ghost use Rattle.run_pipe.specs.Clocks.{clock_seen};
+ghost use Rattle.run_pipe.specs.Ends.{HasEnded};
 ghost use Rattle.edge_names.specs.Controls.{run_calls};
 ghost use Rattle.edge_names.specs.Returned.{IsAskedInPart, KeepsCallbacks};
 ghost use Rattle.box_stock.specs.Homes.{Suffices};
@@ -17,15 +17,14 @@ ghost use Rattle.pipe_run.specs.Boxes.{AreBoxesLeft, AreSameBoxes, LeavesCallbac
 ghost use Rattle.pipe_run.specs.Steps.{WentOn};
 ghost use Rattle.pipe_run.specs.Whole.{IsRunOf, HasFailed, HasCome, IfUnopened, IfWanting};
 
-use crate::parts::run_parts;
 use box_stock::{Boxed, Carries, Lent, hand_out, take_back};
 use core_state::Core;
 use edge_names::{SeenEdges, Unopened, give_back, open_or_give_back};
 use pipe_edges::{ByteSource, Clock, Edges, LineSource};
 use pipe_types::bytes::Text;
 use pipe_types::topology::Topology;
+use run_pipe::{Pipe, PipeParts, RunEnd, run_workers};
 use stage_bodies::Houses;
-use stage_workers::{PipeParts, RunEnd};
 use std::alloc::{AllocError, Global};
 use std::sync::Wait;
 use std::thread::Threads;
@@ -201,19 +200,16 @@ fn run_opened<
         (option_map (line_seen E.Source.told E.Source.taken E.Source.left E.Source.faults E.Source.waits) control)
         (⟦<E as SeenEdges>⟧.seen edges.old) (⟦<E as SeenEdges>⟧.seen edges.new) (clock_seen K.latest K.readings clock) (clock_seen K.latest K.readings result.clock) }
 {
-    let opened = PipeParts {
-        core,
-        bodies,
-        control,
-        clock,
-    };
-    let (left, end) = run_parts(rt, alloc, workers, opened);
+    let pipe = Pipe::new(core, bodies, control, clock);
+    let pipe = run_workers(rt, alloc, workers.max(1), pipe);
     let PipeParts {
         core,
         bodies,
         control,
         clock,
-    } = left;
+        end,
+    } = pipe.into_parts();
+    let end = end.unwrap();
     let mut bodies = bodies;
     match give_back(core.topology(), control, &mut bodies, edges) {
         Ok(()) => Went {

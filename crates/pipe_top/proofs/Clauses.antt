@@ -16,14 +16,14 @@ use Rattle.config_table.specs.declared.fault.ConfigFault.{ConfigFault}
 use Rattle.config_flow.specs.Flow.{flow_topology_of}
 use Rattle.pipe_config.specs.File.{topology_of_file}
 use Rattle.pipe_top.specs.Cases.{Case, NoCommand, NoTopology as BadTopology, TooFew, Checks, Runs, case_of, run_case, unless_short, for_topology, report_alone}
-use Rattle.pipe_top.specs.Verdicts.{Adds, AddsPrefix, out_text_of, err_text_of, status_in, FaultBy, QuietBy}
+use Rattle.run_verdicts.specs.Verdicts.{Adds, AddsPrefix, out_text_of, err_text_of, status_in, FaultBy, QuietBy}
 use Rattle.pipe_top.specs.Runs.{OutsideSeen, IsRunOrNone, IsEndOf, IsOwnTopology, IsStatusOf, IsReportOf, IsRefusal, IsRefused, Lost, IsUntouched, HasUsed, HasNotBegun, HasRunOrNot, IsGivenUp, IsOutsideOf, IsRefusalStatus, IsUnopenedStatus, IsOr, Asks, FailsAt, NamesFault, IsEdgeLine, BeginsLine, out_text, text_of_call, case_line, error_text}
 use Rattle.pipe_top.specs.Flows.{Outcome, IsEarly, AskedBy}
-use Rattle.pipe_top.specs.declared.verdict.Refusal.{Refusal}
-use Rattle.pipe_top.specs.declared.verdict.Refusal.TheVariants.{Usage, Topology as NoTopology, Stock, Edge, Memory}
-use Rattle.pipe_top.specs.declared.verdict.Shows.{Shows}
-use Rattle.pipe_top.specs.declared.verdict.Verdict.{Verdict}
-use Rattle.pipe_top.specs.declared.verdict.Verdict.TheVariants.{Refused, Done}
+use Rattle.run_verdicts.specs.declared.verdict.Refusal.{Refusal}
+use Rattle.run_verdicts.specs.declared.verdict.Refusal.TheVariants.{Usage, Topology as NoTopology, Stock, Edge, Memory}
+use Rattle.run_verdicts.specs.declared.verdict.Shows.{Shows}
+use Rattle.run_verdicts.specs.declared.verdict.Verdict.{Verdict}
+use Rattle.run_verdicts.specs.declared.verdict.Verdict.TheVariants.{Refused, Done}
 use Rattle.pipe_top.proofs.Outcomes.{Fails, Early, early, Reported, ran, settled, is_small, not_small, not_both, few_of}
 
 -- ---- the statuses of verdicts

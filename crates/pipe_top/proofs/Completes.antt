@@ -34,14 +34,14 @@ use Rattle.edge_names.specs.Controls.{named_control, first_sources}
 use Rattle.edge_names.specs.Returned.{named_source, source_in, sources_of, with_name}
 use Rattle.pipe_run.specs.Outside.{HasControl, IsOutside, IsSourceRead, ReadsSource}
 use Rattle.pipe_run.specs.Whole.{HasCome}
-use Rattle.pipe_top.specs.Verdicts.{status_in}
+use Rattle.run_verdicts.specs.Verdicts.{status_in}
 use Rattle.pipe_top.specs.Runs.{OutsideSeen, IsRun, IsEnded, HasUsed, IsOutsideOf, IsFaultless, AreFaultless, IsReadWhole, IsComplete, IsCompleteIn, is_limit_drain, is_control_drain, is_idle_drain}
 use Rattle.pipe_top.specs.Cases.{Case, NoCommand, NoTopology as BadTopology, TooFew, Checks, Runs}
 use Rattle.pipe_top.specs.Flows.{Outcome}
-use Rattle.pipe_top.specs.declared.verdict.Refusal.TheVariants.{Memory}
-use Rattle.pipe_top.specs.declared.verdict.Texts.{Texts}
-use Rattle.pipe_top.specs.declared.verdict.Verdict.{Verdict}
-use Rattle.pipe_top.specs.declared.verdict.Verdict.TheVariants.{Refused, Done}
+use Rattle.run_verdicts.specs.declared.verdict.Refusal.TheVariants.{Memory}
+use Rattle.run_verdicts.specs.declared.verdict.Texts.{Texts}
+use Rattle.run_verdicts.specs.declared.verdict.Verdict.{Verdict}
+use Rattle.run_verdicts.specs.declared.verdict.Verdict.TheVariants.{Refused, Done}
 use Rattle.pipe_top.proofs.Drains.{HasCause, limited, ended, controlled, rested, drain_shows}
 use Rattle.pipe_top.proofs.Ends.{ControlEndsBadly, EndsBadly, ends_limited, ended_as, faults_show, never_limited, producer_inner}
 use Rattle.pipe_top.proofs.Longs.{not_long}

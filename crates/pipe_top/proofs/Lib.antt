@@ -3,13 +3,11 @@ pub mod Clauses
 pub mod Completes
 pub mod Drains
 pub mod Ends
-pub mod Fronts
 pub mod Longs
 pub mod Openings
 pub mod Outcomes
 pub mod Promises
 pub mod Reading
 pub mod Runnables
-pub mod Standing
 pub mod Statuses
 pub mod Unused

@@ -20,11 +20,11 @@ use Rattle.pipe_run.specs.Whole.{IsRunOf, HasFailed}
 use Rattle.pipe_top.specs.Cases.{Runs, unless_short, opening_calls}
 use Rattle.pipe_top.specs.Runs.{OutsideSeen, IsUntouched, IsRun, FailsAt}
 use Rattle.pipe_top.specs.Flows.{AskedBy, ComesBy, IsJudgement, refusal_in}
-use Rattle.pipe_top.specs.declared.verdict.Refusal.{Refusal}
-use Rattle.pipe_top.specs.declared.verdict.Refusal.TheVariants.{Usage, Topology as NoTopology, Stock, Edge, Memory}
-use Rattle.pipe_top.specs.declared.verdict.Shows.{Shows}
-use Rattle.pipe_top.specs.declared.verdict.Verdict.{Verdict}
-use Rattle.pipe_top.specs.declared.verdict.Verdict.TheVariants.{Refused, Done}
+use Rattle.run_verdicts.specs.declared.verdict.Refusal.{Refusal}
+use Rattle.run_verdicts.specs.declared.verdict.Refusal.TheVariants.{Usage, Topology as NoTopology, Stock, Edge, Memory}
+use Rattle.run_verdicts.specs.declared.verdict.Shows.{Shows}
+use Rattle.run_verdicts.specs.declared.verdict.Verdict.{Verdict}
+use Rattle.run_verdicts.specs.declared.verdict.Verdict.TheVariants.{Refused, Done}
 
 -- ---- refusals of a topology
 

@@ -5,12 +5,12 @@ use Rattle.pipe_types.specs.declared.topology.Topology.{Topology}
 use Rattle.pipe_model.specs.History.{History}
 use Rattle.pipe_top.specs.Flows.{IsReport, IsJudgement, IsEarly}
 use Rattle.pipe_top.specs.Runs.{IsRefusalStatus, IsUnopenedStatus}
-use Rattle.pipe_top.specs.Verdicts.{status_in}
-use Rattle.pipe_top.specs.declared.verdict.Refusal.TheVariants.{Usage, Topology as NoTopology, Stock, Edge, Memory}
-use Rattle.pipe_top.specs.declared.verdict.Shows.{Shows}
-use Rattle.pipe_top.specs.declared.verdict.Texts.{Texts}
-use Rattle.pipe_top.specs.declared.verdict.Verdict.{Verdict}
-use Rattle.pipe_top.specs.declared.verdict.Verdict.TheVariants.{Refused, Done}
+use Rattle.run_verdicts.specs.Verdicts.{status_in}
+use Rattle.run_verdicts.specs.declared.verdict.Refusal.TheVariants.{Usage, Topology as NoTopology, Stock, Edge, Memory}
+use Rattle.run_verdicts.specs.declared.verdict.Shows.{Shows}
+use Rattle.run_verdicts.specs.declared.verdict.Texts.{Texts}
+use Rattle.run_verdicts.specs.declared.verdict.Verdict.{Verdict}
+use Rattle.run_verdicts.specs.declared.verdict.Verdict.TheVariants.{Refused, Done}
 use Rattle.pipe_top.proofs.Statuses.{ended_few}
 
 -- the call by this name failed

@@ -9,12 +9,12 @@ use Rattle.program_words.specs.Words.{Command}
 use Rattle.stage_bodies.specs.Seen.{SinkSeen}
 use Rattle.topology_needs.specs.declared.stock.Boxes.{Boxes}
 use Rattle.pipe_top.specs.Cases.{Case, InCase, case_of, calls_of}
-use Rattle.pipe_top.specs.Verdicts.{Adds, AddsPrefix, out_text_of, err_text_of, status_in, FaultBy, QuietBy}
+use Rattle.run_verdicts.specs.Verdicts.{Adds, AddsPrefix, out_text_of, err_text_of, status_in, FaultBy, QuietBy}
 use Rattle.pipe_top.specs.Runs.{OutsideSeen, IsRunOrNone, IsCall, IsUntouched, IsRefusalStatus, IsUnopenedStatus, IsOr, FailsAt}
 use Rattle.pipe_top.specs.Flows.{ComesBy, Came}
-use Rattle.pipe_top.specs.declared.verdict.Refusal.TheVariants.{Memory}
-use Rattle.pipe_top.specs.declared.verdict.Verdict.{Verdict}
-use Rattle.pipe_top.specs.declared.verdict.Verdict.TheVariants.{Refused, Done}
+use Rattle.run_verdicts.specs.declared.verdict.Refusal.TheVariants.{Memory}
+use Rattle.run_verdicts.specs.declared.verdict.Verdict.{Verdict}
+use Rattle.run_verdicts.specs.declared.verdict.Verdict.TheVariants.{Refused, Done}
 use Rattle.pipe_top.proofs.Outcomes.{settled, is_status, not_small, not_both, within, refusal_as, unopened_as}
 use Rattle.pipe_top.proofs.Clauses.{known, never_eight, own, run, ended, reported, begun, unwritten_out, statuses, lines, line_begun, named_fault, usage_by, of_status_seven, no_command_by, none_ran, not_opened, outside_as, lost_by, asks, asks_all, fault_by}
 use Rattle.pipe_top.proofs.Completes.{complete_by, unwritten}

@@ -18,10 +18,10 @@ use Rattle.topology_needs.specs.declared.stock.Boxes.{Boxes}
 use Rattle.pipe_top.specs.Cases.{Case, Checks, case_of, run_case, for_topology, report_alone, opening_calls, calls_of, file_name, IsNamedFile}
 use Rattle.pipe_top.specs.Runs.{OutsideSeen, IsUntouched, Asks, FailsAt}
 use Rattle.pipe_top.specs.Flows.{IsCheckedOrNot, ComesBy, Came, ReadsFile, ReadsTopology, AskedFile}
-use Rattle.pipe_top.specs.declared.verdict.Refusal.{Refusal}
-use Rattle.pipe_top.specs.declared.verdict.Refusal.TheVariants.{Usage, Topology as NoTopology, Stock, Edge, Memory}
-use Rattle.pipe_top.specs.declared.verdict.Verdict.{Verdict}
-use Rattle.pipe_top.specs.declared.verdict.Verdict.TheVariants.{Refused}
+use Rattle.run_verdicts.specs.declared.verdict.Refusal.{Refusal}
+use Rattle.run_verdicts.specs.declared.verdict.Refusal.TheVariants.{Usage, Topology as NoTopology, Stock, Edge, Memory}
+use Rattle.run_verdicts.specs.declared.verdict.Verdict.{Verdict}
+use Rattle.run_verdicts.specs.declared.verdict.Verdict.TheVariants.{Refused}
 use Rattle.pipe_top.proofs.Unused.{asks_none, outside_of_none, wanting}
 use Rattle.pipe_top.proofs.Called.{Called, after_call}
 

@@ -9,7 +9,7 @@ use Rattle.box_stock.specs.Homes.{Suffices}
 use Rattle.box_stock.proofs.Located.{suffices}
 use Rattle.pipe_top.specs.Cases.{Runs, run_case}
 use Rattle.pipe_top.specs.Flows.{refusal_in}
-use Rattle.pipe_top.specs.declared.verdict.Shows.{Shows}
+use Rattle.run_verdicts.specs.declared.verdict.Shows.{Shows}
 
 none_short : (short : Option Shortage) → refusal_in short ≡ None → short ≡ None
 none_short None e = refl

@@ -12,9 +12,9 @@ use Rattle.pipe_run.specs.Boxes.{AreSameBoxes}
 use Rattle.pipe_top.specs.Cases.{Case, NoCommand, NoTopology, TooFew, Checks, Runs}
 use Rattle.pipe_top.specs.Runs.{OutsideSeen, IsUntouched, IsGivenUp, IsOutsideOf, Asks}
 use Rattle.pipe_top.specs.Flows.{ComesBy}
-use Rattle.pipe_top.specs.declared.verdict.Refusal.TheVariants.{Memory}
-use Rattle.pipe_top.specs.declared.verdict.Verdict.{Verdict}
-use Rattle.pipe_top.specs.declared.verdict.Verdict.TheVariants.{Refused}
+use Rattle.run_verdicts.specs.declared.verdict.Refusal.TheVariants.{Memory}
+use Rattle.run_verdicts.specs.declared.verdict.Verdict.{Verdict}
+use Rattle.run_verdicts.specs.declared.verdict.Verdict.TheVariants.{Refused}
 
 -- no call was made
 pub asks_none : (calls asked : List (EdgeKind × List ℕ)) → Asks calls asked asked

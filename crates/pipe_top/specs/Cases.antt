@@ -11,7 +11,7 @@ use Rattle.edge_names.specs.Controls.{run_calls}
 use Rattle.topology_needs.specs.declared.stock.Boxes.{Boxes}
 use Rattle.topology_needs.specs.declared.stock.Shortage.{Shortage}
 use Rattle.topology_needs.specs.Needs.{shortage_of}
-use Rattle.pipe_top.specs.declared.verdict.Shows.{Shows}
+use Rattle.run_verdicts.specs.declared.verdict.Shows.{Shows}
 
 -- the words are no command; the file is no topology; the stock has too few boxes of a kind; the topology is only checked; or it
 -- runs, and shows these texts

@@ -14,14 +14,15 @@ use Rattle.topology_needs.specs.Needs.{subscriptions_of}
 use Rattle.topology_needs.specs.declared.stock.Boxes.{Boxes}
 use Rattle.topology_needs.specs.declared.stock.Shortage.{Shortage}
 use Rattle.pipe_top.specs.Cases.{Case, NoCommand, NoTopology as BadTopology, TooFew, Checks, Runs, case_of, calls_of, file_name, IsNamedFile}
-use Rattle.pipe_top.specs.Verdicts.{whole_text}
-use Rattle.pipe_top.specs.Runs.{OutsideSeen, IsEnded, IsRun, IsOutsideOf, Asks, FailsAt, run_text}
-use Rattle.pipe_top.specs.declared.verdict.Refusal.{Refusal}
-use Rattle.pipe_top.specs.declared.verdict.Refusal.TheVariants.{Usage, Topology as NoTopology, Stock, Edge, Memory}
-use Rattle.pipe_top.specs.declared.verdict.Shows.{Shows}
-use Rattle.pipe_top.specs.declared.verdict.Texts.{Texts}
-use Rattle.pipe_top.specs.declared.verdict.Verdict.{Verdict}
-use Rattle.pipe_top.specs.declared.verdict.Verdict.TheVariants.{Refused, Done}
+use Rattle.run_verdicts.specs.Verdicts.{whole_text}
+use Rattle.pipe_top.specs.Runs.{OutsideSeen, IsEnded, IsRun, IsOutsideOf, Asks, FailsAt}
+use Rattle.run_verdicts.specs.Texts.{run_text}
+use Rattle.run_verdicts.specs.declared.verdict.Refusal.{Refusal}
+use Rattle.run_verdicts.specs.declared.verdict.Refusal.TheVariants.{Usage, Topology as NoTopology, Stock, Edge, Memory}
+use Rattle.run_verdicts.specs.declared.verdict.Shows.{Shows}
+use Rattle.run_verdicts.specs.declared.verdict.Texts.{Texts}
+use Rattle.run_verdicts.specs.declared.verdict.Verdict.{Verdict}
+use Rattle.run_verdicts.specs.declared.verdict.Verdict.TheVariants.{Refused, Done}
 
 -- the texts are the journal's, and so is the status
 pub record IsReport (shows : Shows) (topology : Topology) (before : History) (texts : Texts) (status : ℕ) : Type 0 where

@@ -1,5 +1,4 @@
 pub mod Cases
-pub mod Verdicts
 pub mod Runs
 pub mod Flows
 pub use Rattle.pipe_run.specs.Boxes

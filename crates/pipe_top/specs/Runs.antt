@@ -32,8 +32,9 @@ use Rattle.pipe_run.specs.Boxes.{AreBoxesLeft, AreSameBoxes}
 use Rattle.pipe_run.specs.Outside.{IsOutside, IsUnopened}
 use Rattle.pipe_run.specs.Whole.{HasCome, IsTimeOf}
 use Rattle.pipe_top.specs.Cases.{calls_of, Case, NoCommand, NoTopology, TooFew, Checks, Runs}
-use Rattle.pipe_top.specs.Verdicts.{Adds, AddsPrefix, path_of}
-use Rattle.pipe_top.specs.declared.verdict.Shows.{Shows}
+use Rattle.run_verdicts.specs.Texts.{run_text}
+use Rattle.run_verdicts.specs.Verdicts.{Adds, AddsPrefix, path_of}
+use Rattle.run_verdicts.specs.declared.verdict.Shows.{Shows}
 
 -- what a call may use, as contracts see it: what is opened by name, the clock, and the boxes of the stock
 pub record OutsideSeen : Type 0 where
@@ -72,13 +73,6 @@ IsOwnTopology (Some topology) before (Checks wanted) = (topology ≡ wanted) × 
 IsOwnTopology (Some topology) before _ = ⊥
 
 -- ---- texts
-
-abbrev pub shown : Bool → List ℕ → List ℕ
-shown wanted text = if wanted then text else []
-
--- the journal and the acknowledgements, where they are shown, and then the report
-abbrev pub run_text : Shows → Topology → History → List ℕ
-run_text shows topology before = shown shows.steps (journal_text before) ++ (shown shows.acks (ack_text topology before) ++ report_text topology before)
 
 -- what is written to the output: the texts of a run, or the counts of a topology that is only checked
 abbrev pub out_text : History → Case → List ℕ

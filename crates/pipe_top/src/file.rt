@@ -7,7 +7,6 @@ ghost use Rattle.pipe_config.specs.File.{topology_of_file};
 ghost use Rattle.pipe_top.specs.Flows.{ReadsFile, ReadsTopology, IsChecked, IsCheckedOrNot};
 
 use crate::run::{Ran, refused};
-use crate::verdict::{Refusal, Texts, Verdict};
 use edge_names::SeenEdges;
 use pipe_config::{ConfigFault, read_topology};
 use pipe_edges::{EdgeEnd, Edges};
@@ -15,6 +14,7 @@ use pipe_journal::Journal;
 use pipe_types::bytes::{Bytes, Text};
 use pipe_types::topology::Topology;
 use program_words::counts_line;
+use run_verdicts::{Refusal, Texts, Verdict};
 use std::alloc::{AllocError, Global};
 use topology_needs::subscriptions;
 

@@ -9,6 +9,5 @@
 mod file;
 mod program;
 mod run;
-mod verdict;
 
 pub use program::{RunEnd, run_program};

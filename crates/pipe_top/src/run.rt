@@ -8,30 +8,21 @@ ghost use Rattle.edge_names.specs.Controls.{run_calls};
 ghost use Rattle.box_stock.specs.Homes.{Suffices};
 ghost use Rattle.box_stock.specs.Lends.{kinds_of};
 ghost use Rattle.topology_needs.specs.Needs.{boxes_in as boxes_by_kind, shortage_of};
-ghost use Rattle.journal_texts.specs.Acks.{ack_text as text_of_acks};
-ghost use Rattle.journal_texts.specs.Report.{places as places_in, report_text as text_of_report};
 ghost use Rattle.pipe_run.specs.Whole.{HasCome};
 ghost use Rattle.pipe_top.specs.Cases.{Runs, run_case, opening_calls};
-ghost use Rattle.pipe_top.specs.Verdicts.{whole_text};
-ghost use Rattle.pipe_top.specs.Runs.{run_text};
 ghost use Rattle.pipe_top.specs.Flows.{IsJudgement, ComesBy, refusal_in};
 
-use crate::verdict::{Refusal, Shows, Texts, Verdict};
-use ack_texts::ack_text;
 use box_stock::{Boxed, Carries, boxes_in};
 use core_state::Core;
 use edge_names::SeenEdges;
-use journal_texts::lines::journal_text;
-use journal_texts::report::report_text;
 use journal_texts::status::status;
 use pipe_edges::{Clock, Edges};
 use pipe_journal::Journal;
 use pipe_run::{Ended, NoRun, Run, run_topology};
-use pipe_types::bytes::Bytes;
-use pipe_types::message::Place;
 use pipe_types::topology::Topology;
+use run_verdicts::{Refusal, Shows, Verdict, places_of, texts_of};
 use stage_bodies::Houses;
-use std::alloc::{AllocError, Global};
+use std::alloc::Global;
 use std::sync::Wait;
 use std::thread::Threads;
 use topology_needs::{Boxes, shortage};
@@ -176,48 +167,4 @@ fn judge(alloc: Global, core: &Core, shows: Shows) -> Verdict
         }
         Err(_) => Verdict::Refused(Refusal::Memory),
     }
-}
-
-/// The places of the accepted messages, in order of their numbers.
-fn places_of(core: &Core) -> &[Place]
-    requires stands { Stands core.now }
-    ensures { result.now ≡ places_in core.now.topology core.now.journal.steps }
-{
-    core.places.as_slice()
-}
-
-/// The texts of a run: those that are shown, and the report.
-fn texts_of(alloc: Global, core: &Core, shows: Shows) -> Result<Texts, AllocError>
-    requires stands { Stands core.now }
-    ensures { IfOk result (λ texts. whole_text texts ≡ run_text shows core.now.topology core.now.journal.steps) }
-{
-    let steps = if shows.steps {
-        Some(journal_text(alloc, core.journal())?)
-    } else {
-        None
-    };
-    let acks = if shows.acks {
-        Some(acks_of(alloc, core)?)
-    } else {
-        None
-    };
-    let last = report_of(alloc, core)?;
-    Ok(Texts { steps, acks, last })
-}
-
-/// The acknowledgements of a run.
-fn acks_of(alloc: Global, core: &Core) -> Result<Bytes, AllocError>
-    requires stands { Stands core.now }
-    ensures { IfOk result (λ text. text ≡ text_of_acks core.now.topology core.now.journal.steps) }
-{
-    let places = core.places()?;
-    ack_text(alloc, core.topology(), core.journal(), &places)
-}
-
-/// The report of a run.
-fn report_of(alloc: Global, core: &Core) -> Result<Bytes, AllocError>
-    requires stands { Stands core.now }
-    ensures { IfOk result (λ text. text ≡ text_of_report core.now.topology core.now.journal.steps) }
-{
-    report_text(alloc, core.topology(), core.journal(), places_of(core))
 }

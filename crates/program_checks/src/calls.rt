@@ -112,7 +112,7 @@ fn sorted(alloc: Global, text: &str) -> Result<Vec<&str>, AllocError> {
 }
 
 /// Writes each line of the text behind its mark and a `|`, and a last one that has no end behind a `+`.
-fn tell(rt: &HostRuntime, mark: &str, text: &str) -> io::Result<()> {
+pub fn tell(rt: &HostRuntime, mark: &str, text: &str) -> io::Result<()> {
     let last = pieces_in(text, '\n').saturating_sub(1);
     for (at, line) in text.split('\n').enumerate() {
         if at < last {

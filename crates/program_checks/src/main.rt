@@ -1,8 +1,9 @@
 //! Calls of the program over objects in memory, as standard input lists them, and what each came to.
 //!
 //! A case begins with its title and is lines that give it texts under names (`case.rt`). A line `call WORDS` then calls
-//! the program with these words, `own N` runs callbacks of one's own on N workers, and `made N WORDS` calls the program on
-//! so many topologies that rules of the case make (`making.rt`) and has the slow machine judge them.
+//! the program with these words, `own N` runs callbacks of one's own on N workers, `handlers N` runs the lines of the case with
+//! N handlers that pass all, and `made N WORDS` calls the program on so many topologies that rules of the case make
+//! (`making.rt`) and has the slow machine judge them.
 #![tactic(auto)]
 
 mod calls;
@@ -42,6 +43,8 @@ fn obey<R: Threads + Wait + Sync>(
         calls::run_call(rt, waits, case, rest)
     } else if word == "own" {
         own::run_own(rt, waits, case, rest)
+    } else if word == "handlers" {
+        own::run_passing(rt, waits, case, rest)
     } else if word == "made" {
         made::run_made(rt, waits, case, rest)
     } else if word == "case" {

@@ -2,13 +2,15 @@
 
 ghost use Rattle.std.specs.Prelude.{◌≤◌};
 
-use super::calls::{Handler, tell_outputs};
+use super::calls::{Handler, tell, tell_outputs};
 use super::case::{Case, number};
 use super::meets::Meets;
 use super::outside::shown;
 use body_jobs::Body;
 use mem_edges::{MemSink, MemSource};
-use own_callback::{Came, ThirdCrashes, run_with};
+use own_callback::{Came, LinesEnd, ThirdCrashes, run_lines, run_with};
+use own_handler::{OwnBox, PassAll};
+use pipe_types::bytes::Bytes;
 use std::io;
 use std::sync::atomic::AtomicU64;
 use std::sync::{Arc, Wait};
@@ -89,4 +91,39 @@ fn tell_own(rt: &HostRuntime, case: &Case, count: u16, came: &Came<Handler>) -> 
     let (status, callbacks) = (came.status, came.stock.len());
     println!(rt; "{count} workers: status {status}, callbacks {callbacks}")?;
     tell_outputs(rt, case, shown(&came.out), shown(&came.err))
+}
+
+/// Runs the lines of the case with so many handlers that pass all, and writes each text that comes of it.
+pub fn run_passing<R: Threads + Wait + Sync>(
+    rt: &HostRuntime,
+    waits: &R,
+    case: &Case,
+    count: &str,
+) -> io::Result<()> {
+    let mut stock: Vec<Handler> = Vec::new(rt.alloc());
+    for _ in 0..number(count) {
+        stock.push(Box::new(rt.alloc(), OwnBox::new(rt.alloc(), PassAll))?)?;
+    }
+    let end = run_lines::<_, _, Body<MemSource, MemSink>>(
+        waits,
+        rt.alloc(),
+        case.text("file"),
+        case.text("a"),
+        stock,
+    )?;
+    tell_end(rt, &end)
+}
+
+fn tell_end(rt: &HostRuntime, end: &LinesEnd<Handler>) -> io::Result<()> {
+    let (status, callbacks) = (end.status, end.stock.len());
+    println!(rt; "lines: status {status}, callbacks {callbacks}")?;
+    tell(rt, "acknowledgements ", text_of(&end.acknowledgements))?;
+    tell(rt, "report ", text_of(&end.report))?;
+    tell(rt, "s ", text_of(&end.s))?;
+    tell(rt, "t ", text_of(&end.t))?;
+    tell(rt, "error ", text_of(&end.errors))
+}
+
+fn text_of(bytes: &Bytes) -> &str {
+    str::from_utf8(bytes.as_slice()).unwrap_or("no text")
 }

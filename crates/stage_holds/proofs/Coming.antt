@@ -101,7 +101,7 @@ owed_too topology h home back p answer body step after sound legal silent posts 
 
 -- ---- an answer in time, and a late one
 
-low_of : (topology : Topology) (h : History) (job : Job) (old : BodySeen) (opened : Option BodySeen) → IsSound topology → is_legal topology h ≡ true → IsAway topology h opened job old → 1 ≤ job.post.stage.0
+pub low_of : (topology : Topology) (h : History) (job : Job) (old : BodySeen) (opened : Option BodySeen) → IsSound topology → is_legal topology h ≡ true → IsAway topology h opened job old → 1 ≤ job.post.stage.0
 low_of topology h job old opened sound legal away = no_post_of_control topology job.post.stage job.post.slot sound (out_has_post topology h job.post.stage job.post.slot legal away.out)
 
 in_time : (topology : Topology) (h : History) (job : Job) (answer : Answer) → IsAnswerTo job answer → is_in_time topology h answer ≡ is_from_live topology h job

@@ -1,5 +1,5 @@
 -- A worker goes away with a job and the body of its post.
-use Rattle.std.proofs.Common.{◌≡◌, ℕ, ◌+◌, ◌≤◌, [], ◌∷◌, Bool, true, false, refl, ap, sym, ◌∙◌, subst, inl, inr, Some, None, Option, arith}
+use Rattle.std.proofs.Common.{◌≡◌, ℕ, ◌+◌, ◌≤◌, ◌<◌, [], ◌∷◌, Bool, true, false, refl, ap, sym, ◌∙◌, subst, inl, inr, Some, None, Option, arith}
 use Rattle.std.specs.Prelude.{◌==◌, ◌≢◌, ◌⊎◌, ◌||◌, if◌then◌else◌, option_map, is_some}
 use Rattle.std.proofs.lemmas.Bool.{eqb-true, eq-eqb}
 use Rattle.std.proofs.lemmas.List.Elements.{All-nil, All-cons}
@@ -11,7 +11,7 @@ use Rattle.pipe_types.specs.declared.topology.Topology.{Topology}
 use Rattle.pipe_types.specs.Sound.{IsSound}
 use Rattle.pipe_model.specs.History.{History}
 use Rattle.pipe_model.specs.Posts.{puts_out, answers, is_out}
-use Rattle.pipe_model.specs.Legal.{is_legal, owed}
+use Rattle.pipe_model.specs.Legal.{is_legal, owed, quiet_row}
 use Rattle.pipe_model.specs.Moves.{move, Job as JobMove}
 use Rattle.pipe_laws.specs.Followed.{FollowsMoves}
 use Rattle.stage_bodies.specs.Seen.{BodySeen}
@@ -30,8 +30,9 @@ use Rattle.job_laws.proofs.Away.{leaves}
 use Rattle.job_laws.proofs.Outs.{put_out_once}
 use Rattle.stage_moves.specs.Going.{Within}
 use Rattle.stage_moves.proofs.Controls.{job_count}
-use Rattle.stage_moves.proofs.Working.{Began, began}
-use Rattle.stage_holds.specs.Holds.{AddsHold, AreHome}
+use Rattle.stage_moves.proofs.Working.{Began, began, put_only}
+use Rattle.stage_holds.specs.Holds.{AddsHold, AreHome, OutsAre}
+use Rattle.stage_holds.proofs.Outing.{begun_outs}
 
 pub record Gone (topology : Topology) (before after : History) (home away : ℕ → Option BodySeen) (job : Job) (body : BodySeen) : Type 0 where
   pub sound : IsSound topology
@@ -121,6 +122,12 @@ module _ {topology : Topology} {before after : History} {home away : ℕ → Opt
       λ other. was_home (is_out before job.post) refl,
     );
   }
+
+  pub goes_outs : OutsAre None (Some job.post) before after
+  goes_outs = subst (λ (h : History). OutsAre None (Some job.post) before h) (sym g.began.is) (begun_outs job.post before g.began.step (λ q e. put_only job.post q g.began.step g.began.puts e))
+
+  pub goes_row : 1 ≤ topology.idle_limit → quiet_row after < topology.idle_limit
+  goes_row limit = subst (λ h. quiet_row h < topology.idle_limit) (sym g.began.is) (g.began.row limit)
 
   pub goes_within : Within topology 1 before after
   goes_within =

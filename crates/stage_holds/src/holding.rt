@@ -1,9 +1,9 @@
 //! One hold.
 
-ghost use Rattle.std.specs.Prelude.{◌≡◌, ◌≤◌, ◌<◌, ◌+◌, true, false, ℕ, length, Ok, None, IfSome, IfOk, IsTrue, IsErr, OnOk, Option, option_map};
+ghost use Rattle.std.specs.Prelude.{◌≡◌, ◌≤◌, ◌<◌, ◌+◌, ◌*◌, true, false, ℕ, length, Ok, None, IfSome, IfOk, IsTrue, IsErr, OnOk, Option, option_map};
 ghost use Rattle.pipe_model.specs.History.{controls};
 ghost use Rattle.pipe_model.specs.Begins.{BeginsWith};
-ghost use Rattle.pipe_model.specs.Legal.{happened, is_halt};
+ghost use Rattle.pipe_model.specs.Legal.{happened, is_halt, quiet_row};
 ghost use Rattle.pipe_model.specs.Moves.{is_drained, jobs_out};
 ghost use Rattle.core_state.specs.Stands.{Stands};
 ghost use Rattle.pipe_laws.specs.Followed.{FollowsMoves};
@@ -15,9 +15,11 @@ ghost use Rattle.body_laws.specs.Ready.{Ready};
 ghost use Rattle.stage_moves.specs.Keeping.{KeepsControl, KeepsControlOn};
 ghost use Rattle.job_laws.specs.Away.{IsAway};
 ghost use Rattle.stage_moves.specs.Clocks.{ClockSeen, clock_seen, KeepsClock, KeepsClockOn};
+ghost use Rattle.stage_moves.specs.Pauses.{may_pause, rounds_left};
+ghost use Rattle.work_laws.specs.Left.{work_left};
 ghost use Rattle.stage_holds.specs.Answers.{with_answered};
 ghost use Rattle.stage_holds.specs.Homes.{IsBack};
-ghost use Rattle.stage_holds.specs.Holds.{AddsHold, AreHome};
+ghost use Rattle.stage_holds.specs.Holds.{AddsHold, AreHome, OutsAre};
 ghost use Rattle.stage_holds.specs.Nexts.{IfJob, job_in, job_of, post_of};
 
 use crate::homes::come_home;
@@ -84,6 +86,10 @@ pub fn hold<B: Works, S: ByteSource, C: Clock>(
         → KeepsControl core.old.topology core.old.journal.steps 0 opened (option_map (line_seen S.told S.taken S.left S.faults S.waits) control.old)
         → KeepsControlOn result core.old.topology core.new.journal.steps 0 opened (option_map (line_seen S.told S.taken S.left S.faults S.waits) control.new) }
     ensures one_line { controls core.new.journal.steps ≤ controls core.old.journal.steps + 1 }
+    ensures outs { OnOk result (OutsAre (post_of brought) (job_of result) core.old.journal.steps core.new.journal.steps) }
+    ensures waits { result ≡ Ok Next.JobsOut → jobs_out core.new.topology core.new.journal.steps ≡ true }
+    ensures row { IfOk result (λ next. IfJob next (λ load. 1 ≤ core.old.topology.idle_limit → quiet_row core.new.journal.steps < core.old.topology.idle_limit)) }
+    ensures paused { result ≡ Ok Next.Paused → (may_pause core.new.journal.steps ≡ 0) × (brought ≡ None → 2 * work_left core.old.topology core.new.journal.steps < rounds_left core.old.topology core.old.journal.steps) }
     ensures drained { result ≡ Ok Next.Drained → IsTrue (is_drained core.new.topology core.new.journal.steps) }
     ensures halted { result ≡ Ok Next.Halted → (happened is_halt core.new.journal.steps ≡ true) × (jobs_out core.new.topology core.new.journal.steps ≡ false) }
 {
@@ -124,6 +130,10 @@ fn set_out<B: Works, S: ByteSource, C: Clock>(
         → KeepsControl core.old.topology core.old.journal.steps 0 opened (option_map (line_seen S.told S.taken S.left S.faults S.waits) control.old)
         → KeepsControlOn result core.old.topology core.new.journal.steps 0 opened (option_map (line_seen S.told S.taken S.left S.faults S.waits) control.new) }
     ensures one_line { controls core.new.journal.steps ≤ controls core.old.journal.steps + 1 }
+    ensures outs { OnOk result (OutsAre None (job_of result) core.old.journal.steps core.new.journal.steps) }
+    ensures waits { result ≡ Ok Next.JobsOut → jobs_out core.new.topology core.new.journal.steps ≡ true }
+    ensures row { IfOk result (λ next. IfJob next (λ load. 1 ≤ core.old.topology.idle_limit → quiet_row core.new.journal.steps < core.old.topology.idle_limit)) }
+    ensures paused { result ≡ Ok Next.Paused → (may_pause core.new.journal.steps ≡ 0) × (2 * work_left core.old.topology core.new.journal.steps < rounds_left core.old.topology core.old.journal.steps) }
     ensures drained { result ≡ Ok Next.Drained → IsTrue (is_drained core.new.topology core.new.journal.steps) }
     ensures halted { result ≡ Ok Next.Halted → (happened is_halt core.new.journal.steps ≡ true) × (jobs_out core.new.topology core.new.journal.steps ≡ false) }
 {
@@ -150,6 +160,8 @@ fn set_out<B: Works, S: ByteSource, C: Clock>(
 fn rest_halted<B: Works>(core: &Core) -> Next<B>
     requires stands { Stands core.now }
     ensures none { job_in result ≡ None }
+    ensures waits { result ≡ Next.JobsOut → jobs_out core.now.topology core.now.journal.steps ≡ true }
+    ensures unpaused { ¬ (result ≡ Next.Paused) }
     ensures drained { ¬ (result ≡ Next.Drained) }
     ensures halted { result ≡ Next.Halted → jobs_out core.now.topology core.now.journal.steps ≡ false }
 {

@@ -11,7 +11,7 @@ ghost use Rattle.body_laws.specs.Lates.{late_of};
 ghost use Rattle.body_laws.specs.Ready.{Ready};
 ghost use Rattle.stage_holds.specs.Answers.{is_in_time, answer_step, with_answered};
 ghost use Rattle.stage_holds.specs.Homes.{IsBack};
-ghost use Rattle.stage_holds.specs.Holds.{AddsHold, AreHome, AddsAnswer};
+ghost use Rattle.stage_holds.specs.Holds.{AddsHold, AreHome, OutsAre, AddsAnswer};
 
 use crate::loads::Home;
 use core_jobs::record_answer;
@@ -44,6 +44,7 @@ pub(crate) fn come_home<B: Works>(
     ensures answer { AddsAnswer core.old.topology core.old.journal.steps core.new.journal.steps }
     ensures recorded { OnOk result (IfOk home.answer (λ answer. core.new.journal.steps ≡ with_answered core.old.topology core.old.journal.steps answer)) }
     ensures cut_off { IsErr home.answer → IsErr result }
+    ensures outs { OnOk result (OutsAre (Some home.post) None core.old.journal.steps core.new.journal.steps) }
     ensures homes { AreHome (Some home.post) None (body_at B.look bodies.old.items) (body_at B.look bodies.new.items) }
 {
     let Home { post, answer, body } = home;

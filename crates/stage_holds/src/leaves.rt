@@ -1,6 +1,7 @@
 //! A worker goes away with a job.
 
-ghost use Rattle.std.specs.Prelude.{◌≡◌, ◌<◌, None, Some, ℕ, length, Option, IfOk, OnErr};
+ghost use Rattle.std.specs.Prelude.{◌≡◌, ◌<◌, ◌≤◌, None, Some, ℕ, length, Option, IfOk, OnOk, OnErr};
+ghost use Rattle.pipe_model.specs.Legal.{quiet_row};
 ghost use Rattle.pipe_model.specs.Moves.{move as next_move_of, Job as JobMove};
 ghost use Rattle.core_state.specs.Stands.{Stands};
 ghost use Rattle.pipe_laws.specs.Followed.{FollowsMoves};
@@ -11,7 +12,7 @@ ghost use Rattle.body_laws.specs.Keeps.{Keeps};
 ghost use Rattle.body_laws.specs.Ready.{Ready};
 ghost use Rattle.job_laws.specs.Away.{IsAway};
 ghost use Rattle.stage_moves.specs.Going.{Within};
-ghost use Rattle.stage_holds.specs.Holds.{AddsHold, AreHome};
+ghost use Rattle.stage_holds.specs.Holds.{AddsHold, AreHome, OutsAre};
 
 use crate::loads::Load;
 use core_jobs::begin_job;
@@ -42,6 +43,8 @@ pub(crate) fn leave<B: Works>(
     ensures fits { IfOk result (λ load. Fits load.job.work (B.look load.body)) }
     ensures adds { IfOk result (λ load. AddsHold None (Some load.job.post) core.old.journal.steps core.new.journal.steps) }
     ensures within { Within core.old.topology 1 core.old.journal.steps core.new.journal.steps }
+    ensures outs { IfOk result (λ load. OutsAre None (Some load.job.post) core.old.journal.steps core.new.journal.steps) }
+    ensures row { OnOk result (1 ≤ core.old.topology.idle_limit → quiet_row core.new.journal.steps < core.old.topology.idle_limit) }
     ensures homes { IfOk result (λ load. AreHome None (Some load.job.post) (body_at B.look bodies.old.items) (body_at B.look bodies.new.items)) }
     ensures unchanged { OnErr result (core.new.journal.steps ≡ core.old.journal.steps) }
     ensures same_homes { OnErr result (AreHome None None (body_at B.look bodies.old.items) (body_at B.look bodies.new.items)) }

@@ -4,9 +4,9 @@ use Rattle.std.specs.Prelude.{ℕ, Bool, IfSome}
 use Rattle.pipe_types.specs.declared.numbers.Post.{Post}
 use Rattle.pipe_model.specs.History.{History}
 use Rattle.pipeline_turn.specs.Jobs.{IsUndone, AreAway}
-use Rattle.stage_pipes.specs.Rounds.{IfJob, brought_post}
-use Rattle.stage_pipes.specs.declared.shift.Round.{Round}
-use Rattle.stage_pipes.specs.declared.shift.Round.TheVariants.{Job, Waits, Again, Ended}
+use Rattle.stage_workers.specs.Rounds.{IfJob, brought_post}
+use Rattle.stage_workers.specs.declared.shift.Round.{Round}
+use Rattle.stage_workers.specs.declared.shift.Round.TheVariants.{Job, Waits, Again, Ended}
 use Rattle.stage_workers.specs.Holds.{Comes, after_round}
 use Rattle.stage_workers.specs.declared.worker.After.{After}
 

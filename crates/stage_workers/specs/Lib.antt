@@ -1,9 +1,2 @@
+pub mod Rounds
 pub mod Holds
-pub mod Runs
-pub use Rattle.stage_pipes.specs.Clocks
-pub use Rattle.stage_pipes.specs.Keeping
-pub use Rattle.stage_pipes.specs.Obeyed
-pub use Rattle.stage_pipes.specs.Seen
-pub use Rattle.stage_pipes.specs.declared.pipe.PipeParts
-pub use Rattle.stage_rounds.specs.Rounds
-pub use Rattle.stage_rounds.specs.declared.run.RunEnd

@@ -1,17 +1,15 @@
-//! Workers that run a pipeline, each in a thread of its own.
+//! Workers over a value that they take in turn, each in a thread of its own.
 //!
-//! A worker takes the pipe, brings home what its job came to, begins the next job and gives the pipe back; then it does the job while
-//! others have the pipe. Where no job can be begun it sleeps until there is news, or for some milliseconds, more of them the longer
-//! nothing was new, behind which it takes the pipe again, so that the clock is read. `run_workers` has as many of them run a pipe
-//! until the pipeline is drained or halted.
+//! A worker takes the value, brings home what its job came to, begins the next job and gives the value back; then it does the job
+//! while others have the value. Where no job can be begun it sleeps until there is news, or for some milliseconds, more of them the
+//! longer nothing was new, behind which it takes the value again, so that the clock is read. `run_shifts` has as many of them work
+//! until the value says that there is nothing to do any more. What they need of it is `Shift`, and no more is known of it.
 #![tactic(auto)]
 
-mod run;
+mod shift;
 mod threads;
 mod worker;
 
-pub use run::run_workers;
-pub use stage_pipes::{Pipe, PipeParts};
-pub use stage_rounds::RunEnd;
+pub use shift::{Round, Shift};
 pub use threads::run_shifts;
 pub use worker::work;

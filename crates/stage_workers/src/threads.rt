@@ -4,9 +4,9 @@ ghost use Rattle.std.specs.Prelude.{◌≡◌, ◌<◌, ◌≤◌, [], IfOk, IfE
 ghost use Rattle.std.specs.Thread.{IsSend, IsSync};
 ghost use Rattle.pipeline_turn.specs.Seats.{IsIdle, IsSameSeat};
 
+use crate::shift::Shift;
 use crate::worker::work;
 use pipeline_turn::{Seat, Turn};
-use stage_pipes::Shift;
 use std::alloc::{AllocError, Global};
 use std::sync::Wait;
 use std::thread::{Threads, join};

@@ -2,12 +2,12 @@
 
 ghost use Rattle.std.specs.Prelude.{◌≡◌, ◌-◌, ◌≤◌, false, true, IfSome, nat_le};
 ghost use Rattle.pipeline_turn.specs.Seats.{IsIdle, IsSameSeat};
-ghost use Rattle.stage_pipes.specs.Rounds.{job_post, brought_post};
+ghost use Rattle.stage_workers.specs.Rounds.{job_post, brought_post};
 ghost use Rattle.stage_workers.specs.Holds.{post_after, Comes, after_round, is_news};
 
+use crate::shift::{Round, Shift};
 use pipe_types::numbers::Post;
 use pipeline_turn::{Seat, Turn};
-use stage_pipes::{Round, Shift};
 use std::alloc::Global;
 use std::sync::Wait;
 use std::time::Duration;

@@ -1,16 +1,12 @@
 use Rattle.std.proofs.Common.{◌≡◌, ◌∙◌, sym, ap}
 use Rattle.pipe_edges.specs.declared.edges.EdgeKind.TheVariants.{File, Source}
 use Rattle.mem_edges.specs.MemEdges.{named_in}
+use Rattle.own_callback.proofs.Names.{source_is_no_file, file_is_no_source}
 use Rattle.own_callback.proofs.call.edges_of.Goals as goal
 
-source_is_no_file : Source ≡ File → ⊥
-source_is_no_file h = cc
-
-file_is_no_source : File ≡ Source → ⊥
-file_is_no_source h = cc
-
 pub add_file-requires : goal.add_file-requires
-add_file-requires c = c.new-edges.ensures.empty File _
+add_file-requires c =
+    c.new-edges.ensures.empty File _
 
 pub add_source-requires-clause-new_name : goal.add_source-requires-clause-new_name
 add_source-requires-clause-new_name c =

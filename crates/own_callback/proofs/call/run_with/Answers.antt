@@ -14,7 +14,7 @@ returns-clause-ended g c =
 pub returns-clause-output : goal.returns-clause-output
 returns-clause-output g c low =
     let call = cased _ _ _ (kinds_of g.C.Boxed.seen c.args.stock.items) _ _ c.in_ok-words.ensures c.requires.least c.requires.most c.run_program-end.ensures.call c.in_ok-edges.ensures.file in
-    written_first _ _ _ c.in_ok-out.ensures (call.report low refl)
+    written_first _ _ _ c.in_ok-out.ensures.held (call.report low refl)
 
 pub returns-clause-lines : goal.returns-clause-lines
 returns-clause-lines g c low =

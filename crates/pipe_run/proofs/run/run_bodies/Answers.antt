@@ -3,8 +3,8 @@ use Rattle.std.specs.Prelude.{None, IfOk, option_map}
 use Rattle.pipe_types.specs.declared.topology.Topology.{Topology}
 use Rattle.pipe_model.specs.Legal.{is_legal}
 use Rattle.stage_bodies.specs.Seen.{body_at, line_seen, source_seen, sink_seen}
-use Rattle.stage_workers.specs.Clocks.{clock_seen}
-use Rattle.stage_workers.specs.Rounds.{HasEnded}
+use Rattle.run_pipe.specs.Clocks.{clock_seen}
+use Rattle.run_pipe.specs.Ends.{HasEnded}
 use Rattle.edge_names.specs.Seen.{edges_seen}
 use Rattle.edge_names.specs.Controls.{IsUndone, control_call, run_calls}
 use Rattle.edge_names.specs.Opened.{AreOpened, Asks, HasSource}

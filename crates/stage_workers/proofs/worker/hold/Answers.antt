@@ -1,5 +1,5 @@
 use Rattle.std.proofs.Common.{◌≡◌, ◌∙◌, sym, ap, subst}
-use Rattle.stage_pipes.specs.Rounds.{job_post, brought_post}
+use Rattle.stage_workers.specs.Rounds.{job_post, brought_post}
 use Rattle.stage_workers.proofs.Holding.{brings, away_as, comes_by}
 use Rattle.stage_workers.proofs.worker.hold.Goals as goal
 

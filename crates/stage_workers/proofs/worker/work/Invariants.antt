@@ -1,7 +1,7 @@
 use Rattle.std.proofs.Common.{◌≡◌, false}
 use Rattle.std.specs.Prelude.{IfSome}
 use Rattle.pipeline_turn.specs.Seats.{IsSameSeat}
-use Rattle.stage_pipes.specs.Rounds.{brought_post}
+use Rattle.stage_workers.specs.Rounds.{brought_post}
 use Rattle.stage_workers.proofs.worker.work.Given as goal
 
 -- the seat has no value and the job of what is brought, which is so after the steps that it has seen

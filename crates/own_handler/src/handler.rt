@@ -1,0 +1,56 @@
+//! What a user writes of a callback.
+
+ghost use Rattle.std.specs.Prelude.{IfOk};
+ghost use Rattle.pipe_types.specs.declared.message.Message.{Message};
+ghost use Rattle.pipe_types.specs.declared.message.Reply.{Reply};
+
+use pipe_types::message::{Batch, Message, Outcome, Reply};
+use pipe_types::numbers::MsgNo;
+use pipe_types::reason::Reason;
+use stage_callback::{FailedReply, Prepared};
+use std::alloc::AllocError;
+
+/// What a handler answers to a batch.
+#[derive(Drop)]
+pub enum BatchAnswer {
+    /// Every message is successful.
+    Successful,
+    /// An outcome for each message, in their order.
+    Each(Vec<Outcome>),
+    /// Every message fails with this reason.
+    Raised(Reason),
+    /// The stage is killed.
+    Crashed,
+}
+
+/// What a user writes of a callback, used in an `OwnBox`. Every error is want of memory.
+///
+/// A reply passes the message on as the same message, for one of the stage's batchers, with a payload and a key of at most
+/// 65,536 bytes each. No reason is `sink`. An answer in another shape kills the stage, as a crash does.
+pub trait Handler: Drop {
+    /// What is said of a reply: by the handler before the call, the message, the reply, and the handler after the call. An
+    /// `impl` that leaves it out says nothing, and owes nothing.
+    ghost message_gives: { Self → Message → Reply → Self → Type 0 } = { λ _ _ _ _. Unit {0} };
+
+    /// Handles one message.
+    fn message(&mut self, message: Message) -> Result<Reply, AllocError>
+        ensures { IfOk result (λ reply. message_gives self.old message reply self.new) };
+
+    /// Looks at a chunk, before its messages one by one.
+    fn prepare(&mut self, _messages: &[Message]) -> Result<Prepared, AllocError> {
+        Ok(Prepared::Ready)
+    }
+
+    /// Handles a batch. Its text is the payload and LF of each successful message.
+    fn batch(&mut self, _batch: &Batch) -> Result<BatchAnswer, AllocError> {
+        Ok(BatchAnswer::Successful)
+    }
+
+    /// Looks at a message that failed.
+    fn failed(&mut self, _no: MsgNo, _reason: &Reason) -> Result<FailedReply, AllocError> {
+        Ok(FailedReply::Keep)
+    }
+
+    /// Begins anew, when its stage is started or restarted.
+    fn reset(&mut self) {}
+}

@@ -1,7 +1,0 @@
-use Rattle.part_checks.proofs.Sound.{supervised_is_sound}
-use Rattle.part_checks.proofs.stages.supervised.Goals as goal
-
-pub returns : goal.returns
-returns c =
-    rw (c.topology_of.ensures, c.in_ok-stages.ensures.items, c.in_ok-producer.ensures, c.in_ok-consumer.ensures)
-    (supervised_is_sound c.args.mode c.args.max_restarts c.requires)

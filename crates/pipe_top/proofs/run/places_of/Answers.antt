@@ -1,6 +1,0 @@
-use Rattle.std.proofs.Common.{◌∙◌}
-use Rattle.pipe_top.proofs.Standing.{places_stand}
-use Rattle.pipe_top.proofs.run.places_of.Goals as goal
-
-pub returns : goal.returns
-returns c = c.as_slice.ensures.value ∙ places_stand c.args.core.now c.requires.stands

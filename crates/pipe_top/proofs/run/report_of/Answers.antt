@@ -1,4 +1,0 @@
-use Rattle.pipe_top.proofs.run.report_of.Goals as goal
-
-pub returns : goal.returns
-returns c = let text = c.report_text.ensures in rw (c.topology.ensures, c.journal.ensures) at text

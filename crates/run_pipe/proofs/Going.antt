@@ -1,0 +1,305 @@
+-- A round of a pipe that has not ended: one hold.
+use Rattle.std.proofs.Common.{◌≡◌, ◌≢◌, ⊎_elim, ℕ, ◌*◌, ◌<◌, ◌≤◌, true, false, refl, sym, ap, ◌∙◌, subst, Option, Some, None, Result, Ok, Err}
+use Rattle.std.specs.Prelude.{IfSome, IsSome, is_some, IfOk, OnOk, IsTrue, option_map}
+use Rattle.std.specs.Result.{IsErr}
+use Rattle.work_laws.specs.Left.{work_left}
+use Rattle.stage_moves.specs.Pauses.{may_pause, rounds_left}
+use Rattle.run_pipe.specs.Measure.{holds_left}
+use Rattle.run_pipe.proofs.Measures.{leaves_no_more, recorded_less, job_first, job_next, pause_first, pause_next}
+use Rattle.std.proofs.lemmas.Option.{none-some}
+use Rattle.std.specs.declared.alloc.AllocError.{AllocError}
+use Rattle.pipe_types.specs.declared.numbers.Post.{Post}
+use Rattle.pipe_types.specs.declared.topology.Topology.{Topology}
+use Rattle.pipe_types.specs.Sound.{IsSound}
+use Rattle.pipe_model.specs.History.{History}
+use Rattle.pipe_model.specs.Begins.{BeginsWith}
+use Rattle.pipe_model.specs.Legal.{is_legal, happened, is_halt, quiet_row}
+use Rattle.pipe_model.specs.Moves.{is_drained, jobs_out}
+use Rattle.pipeline_turn.specs.Jobs.{AreAway}
+use Rattle.pipeline_turn.proofs.Journals.{begins_through}
+use Rattle.pipe_laws.specs.Followed.{FollowsMoves}
+use Rattle.stage_bodies.specs.Seen.{LineSeen, BodySeen}
+use Rattle.stage_bodies.specs.Jobs.{Fits}
+use Rattle.stage_bodies.specs.Posts.{place_at}
+use Rattle.body_laws.specs.Keeps.{Keeps}
+use Rattle.body_laws.specs.Ready.{Ready}
+use Rattle.body_laws.proofs.Posts.{out_has_post}
+use Rattle.stage_moves.specs.Keeping.{KeepsControl, KeepsControlOn}
+use Rattle.job_laws.specs.Away.{IsAway}
+use Rattle.stage_moves.specs.Clocks.{ClockSeen, KeepsClock, KeepsClockOn}
+use Rattle.stage_holds.specs.Answers.{with_answered}
+use Rattle.stage_holds.specs.Homes.{IsBack}
+use Rattle.stage_holds.specs.Holds.{AddsHold, AreHome, OutsAre}
+use Rattle.stage_holds.specs.Nexts.{job_of, post_of}
+use Rattle.stage_holds.specs.Nexts as next_job
+use Rattle.stage_holds.specs.declared.holding.Next.{Next}
+use Rattle.stage_holds.specs.declared.holding.Next.TheVariants as next
+use Rattle.stage_holds.specs.declared.loads.Load.{Load}
+use Rattle.stage_holds.specs.declared.loads.Home.{Home}
+use Rattle.run_pipe.specs.Ends.{HasEnded, HasMemory}
+use Rattle.run_pipe.specs.declared.ends.RunEnd.{RunEnd}
+use Rattle.run_pipe.specs.Away.{away_in}
+use Rattle.run_pipe.specs.Whole.{IsWhole}
+use Rattle.run_pipe.specs.Seen.{PipeState, away_of}
+use Rattle.run_pipe.specs.Stems.{Stems, KeepsClockTo, KeepsControlTo, IsOfPost}
+use Rattle.run_pipe.specs.Jobs.{IsLoadOf, IsBrought}
+use Rattle.run_pipe.specs.Rounded.{Rounded}
+use Rattle.run_pipe.specs.Rounds.{Goes, IsOn, IsOver, IsWaiting, begins_job, round_of, end_of}
+use Rattle.stage_workers.specs.Rounds.{IfJob, job_post}
+use Rattle.stage_workers.specs.declared.shift.Round.{Round}
+use Rattle.run_pipe.proofs.Gone.{some_same, moves, IsPlaced}
+use Rattle.run_pipe.proofs.Backs.{if_some, IsBackNow}
+use Rattle.run_pipe.proofs.Outs.{outs_on}
+use Rattle.run_pipe.proofs.Homing.{Brings, backs, not_going}
+
+abbrev pub Came : Type 0 → Type 0
+Came B = Result (Next B) AllocError
+
+abbrev pub AtJob : {B : Type 0} → Came B → (Load B → Type 0) → Type 0
+AtJob {B = B} came P = IfOk came (λ (n : Next B). next_job.IfJob n P)
+
+-- ---- by how the hold came out
+
+module _ {B : Type 0} where
+  with_all : (came : Came B) (P Q R : Load B → Type 0) → ((load : Load B) → P load → Q load → R load) → AtJob came P → AtJob came Q → AtJob came R
+  with_all (Ok (next.Job load)) P Q R f p q = f load p q
+  with_all (Ok next.JobsOut) P Q R f p q = tt
+  with_all (Ok next.Paused) P Q R f p q = tt
+  with_all (Ok next.Drained) P Q R f p q = tt
+  with_all (Ok next.Halted) P Q R f p q = tt
+  with_all (Err e) P Q R f p q = tt
+
+  to_round : (came : Came B) (P : Load B → Type 0) → AtJob came P → IfJob (round_of came) P
+  to_round (Ok (next.Job load)) P p = p
+  to_round (Ok next.JobsOut) P p = tt
+  to_round (Ok next.Paused) P p = tt
+  to_round (Ok next.Drained) P p = tt
+  to_round (Ok next.Halted) P p = tt
+  to_round (Err e) P p = tt
+
+  to_job : (came : Came B) (P : Post → Type 0) → AtJob came (λ load. P load.job.post) → IfSome (job_of came) P
+  to_job (Ok (next.Job load)) P p = p
+  to_job (Ok next.JobsOut) P p = tt
+  to_job (Ok next.Paused) P p = tt
+  to_job (Ok next.Drained) P p = tt
+  to_job (Ok next.Halted) P p = tt
+  to_job (Err e) P p = tt
+
+  same_job : (came : Came B) → job_of came ≡ job_post (λ (load : Load B). load.job.post) (round_of came)
+  same_job (Ok (next.Job load)) = refl
+  same_job (Ok next.JobsOut) = refl
+  same_job (Ok next.Paused) = refl
+  same_job (Ok next.Drained) = refl
+  same_job (Ok next.Halted) = refl
+  same_job (Err e) = refl
+
+  clock_to : (came : Came B) (steps : History) (opened clock : ClockSeen) → KeepsClockOn came steps opened clock → KeepsClockTo (end_of came) steps opened clock
+  clock_to (Ok (next.Job load)) steps opened clock k = k
+  clock_to (Ok next.JobsOut) steps opened clock k = k
+  clock_to (Ok next.Paused) steps opened clock k = k
+  clock_to (Ok next.Drained) steps opened clock k = k
+  clock_to (Ok next.Halted) steps opened clock k = k
+  clock_to (Err e) steps opened clock k = k
+
+  control_to : (came : Came B) (topology : Topology) (steps : History) (opened lines : Option LineSeen) → KeepsControlOn came topology steps 0 opened lines → KeepsControlTo (end_of came) topology steps opened lines
+  control_to (Ok (next.Job load)) topology steps opened lines k = k
+  control_to (Ok next.JobsOut) topology steps opened lines k = k
+  control_to (Ok next.Paused) topology steps opened lines k = k
+  control_to (Ok next.Drained) topology steps opened lines k = k
+  control_to (Ok next.Halted) topology steps opened lines k = k
+  control_to (Err e) topology steps opened lines k = k
+
+  ended_by : (came : Came B) (topology : Topology) (steps : History) → (came ≡ Ok next.Drained → IsTrue (is_drained topology steps)) → (came ≡ Ok next.Halted → (happened is_halt steps ≡ true) × (jobs_out topology steps ≡ false))
+      → IfSome (end_of came) (λ end. IfOk end (HasEnded topology steps))
+  ended_by (Ok (next.Job load)) topology steps d h = tt
+  ended_by (Ok next.JobsOut) topology steps d h = tt
+  ended_by (Ok next.Paused) topology steps d h = tt
+  ended_by (Ok next.Drained) topology steps d h = d refl
+  ended_by (Ok next.Halted) topology steps d h = h refl
+  ended_by (Err e) topology steps d h = tt
+
+  where_held : (came : Came B) (P : Type 0) → HasMemory (end_of came) → OnOk came P → P
+  where_held (Ok (next.Job load)) P m p = p
+  where_held (Ok next.JobsOut) P m p = p
+  where_held (Ok next.Paused) P m p = p
+  where_held (Ok next.Drained) P m p = p
+  where_held (Ok next.Halted) P m p = p
+  where_held (Err e) P m p = absurd m
+
+module _ {B : Type 0} (topology : Topology) (old new : History) where
+  -- what is left is less behind a hold that begins a job or pauses
+  less_by : (brought : Option (Home B)) (came : Came B) → IsSound topology → is_legal topology new ≡ true → BeginsWith new old → IfSome brought (λ home. IsErr home.answer → IsErr came)
+      → OnOk came (IfSome brought (λ home. IfOk home.answer (λ answer. BeginsWith new (with_answered topology old answer))))
+      → (came ≡ Ok next.Paused → (may_pause new ≡ 0) × (brought ≡ None → 2 * work_left topology new < rounds_left topology old)) → (IsSome brought → quiet_row old < topology.idle_limit) → Goes (round_of came)
+      → holds_left topology new (begins_job (round_of came)) < holds_left topology old (is_some brought)
+  less_by None (Ok (next.Job load)) sound legal b cut rec paused row goes = job_first topology old new (leaves_no_more topology old new sound legal b)
+  less_by None (Ok next.Paused) sound legal b cut rec paused row goes = let p = paused refl in pause_first topology old new p.0 (p.1 refl)
+  less_by (Some home) (Ok (next.Job load)) sound legal b cut rec paused row goes =
+      job_next topology old new (recorded_less topology old new home.answer sound legal rec (λ e. let y : false ≡ true = cut e in cc) (row refl))
+  less_by (Some home) (Ok next.Paused) sound legal b cut rec paused row goes =
+      let p = paused refl in pause_next topology old new p.0 (recorded_less topology old new home.answer sound legal rec (λ e. let y : false ≡ true = cut e in cc) (row refl))
+  less_by brought (Ok next.JobsOut) sound legal b cut rec paused row goes = absurd goes
+  less_by brought (Ok next.Drained) sound legal b cut rec paused row goes = absurd goes
+  less_by brought (Ok next.Halted) sound legal b cut rec paused row goes = absurd goes
+  less_by brought (Err e) sound legal b cut rec paused row goes = absurd goes
+
+  waiting_by : (came : Came B) → (came ≡ Ok next.JobsOut → jobs_out topology new ≡ true) → IsWaiting (round_of came) → jobs_out topology new ≡ true
+  waiting_by (Ok (next.Job load)) w is = absurd is
+  waiting_by (Ok next.JobsOut) w is = w refl
+  waiting_by (Ok next.Paused) w is = absurd is
+  waiting_by (Ok next.Drained) w is = absurd is
+  waiting_by (Ok next.Halted) w is = absurd is
+  waiting_by (Err e) w is = absurd is
+
+on_by : {B : Type 0} (came : Came B) → IsOn (round_of came) → end_of came ≡ None
+on_by (Ok (next.Job load)) o = refl
+on_by (Ok next.JobsOut) o = refl
+on_by (Ok next.Paused) o = refl
+on_by (Ok next.Drained) o = absurd o
+on_by (Ok next.Halted) o = absurd o
+on_by (Err e) o = absurd o
+
+over_by : {B : Type 0} (came : Came B) → IsOver (round_of came) → IsSome (end_of came)
+over_by (Ok (next.Job load)) o = absurd o
+over_by (Ok next.JobsOut) o = absurd o
+over_by (Ok next.Paused) o = absurd o
+over_by (Ok next.Drained) o = refl
+over_by (Ok next.Halted) o = refl
+over_by (Err e) o = refl
+
+-- ---- one hold
+
+abbrev pub IsRecorded : {B : Type 0} → Topology → (old new : History) → Option (Home B) → Type 0
+IsRecorded topology old new brought = IfSome brought (λ home. IfOk home.answer (λ answer. BeginsWith new (with_answered topology old answer)))
+
+abbrev pub IsBackFrom : {B : Type 0} → (B → BodySeen) → Topology → History → (ℕ → Option BodySeen) → Option (Home B) → Type 0
+IsBackFrom look topology steps opened brought = IfSome brought (λ home. IsBack topology steps (opened (place_at home.post)) home.post home.answer (look home.body))
+
+-- what a hold says, of a pipe of this topology
+pub record Held {B : Type 0} (look : B → BodySeen) (brought : Option (Home B)) (came : Came B) (topology : Topology) (old new : PipeState) : Type 0 where
+  pub sound : IsSound topology
+  pub legal : is_legal topology new.steps ≡ true
+  pub within : AtJob came (λ load. place_at load.job.post < new.places)
+  pub follows : FollowsMoves topology old.steps → FollowsMoves topology new.steps
+  pub ready : Ready topology new.steps new.home
+  pub keeps : (opened : ℕ → Option BodySeen) → Keeps topology old.steps opened old.home → IsBackFrom look topology old.steps opened brought → Keeps topology new.steps opened new.home
+  pub load : (opened : ℕ → Option BodySeen) → Keeps topology old.steps opened old.home → IsBackFrom look topology old.steps opened brought
+      → AtJob came (λ load. IsAway topology new.steps (opened (place_at load.job.post)) load.job (look load.body))
+  pub fits : AtJob came (λ load. Fits load.job.work (look load.body))
+  pub recorded : OnOk came (IsRecorded topology old.steps new.steps brought)
+  pub cut_off : IfSome brought (λ home. IsErr home.answer → IsErr came)
+  pub outs : OnOk came (OutsAre (post_of brought) (job_of came) old.steps new.steps)
+  pub waits : came ≡ Ok next.JobsOut → jobs_out topology new.steps ≡ true
+  pub row : AtJob came (λ load. 1 ≤ topology.idle_limit → quiet_row new.steps < topology.idle_limit)
+  pub paused : came ≡ Ok next.Paused → (may_pause new.steps ≡ 0) × (brought ≡ None → 2 * work_left topology new.steps < rounds_left topology old.steps)
+  pub adds : AddsHold (post_of brought) (job_of came) old.steps new.steps
+  pub homes : AreHome (post_of brought) (job_of came) old.home new.home
+  pub clock : (opened : ClockSeen) → KeepsClock old.steps opened old.clock → KeepsClockOn came new.steps opened new.clock
+  pub control : (opened : Option LineSeen) → KeepsControl topology old.steps 0 opened old.control → KeepsControlOn came topology new.steps 0 opened new.control
+  pub drained : came ≡ Ok next.Drained → IsTrue (is_drained topology new.steps)
+  pub halted : came ≡ Ok next.Halted → (happened is_halt new.steps ≡ true) × (jobs_out topology new.steps ≡ false)
+
+-- the job that the worker goes away with is of a post of the topology
+module _ {B : Type 0} (look : B → BodySeen) (brought : Option (Home B)) (came : Came B) (opened old new : PipeState) (h : Held look brought came opened.topology old new) (s : Stems opened old) (b : IfSome brought (IsBackNow look opened old.steps)) where
+  from : IsBackFrom look opened.topology old.steps opened.home brought
+  from = if_some brought (IsBackNow look opened old.steps) (λ home. IsBack opened.topology old.steps (opened.home (place_at home.post)) home.post home.answer (look home.body)) (λ home k. k.back) b
+
+  away : AtJob came (λ load. IsAway opened.topology new.steps (opened.home (place_at load.job.post)) load.job (look load.body))
+  away = h.load opened.home s.keeps from
+
+  placed_by : (load : Load B) → IsAway opened.topology new.steps (opened.home (place_at load.job.post)) load.job (look load.body) → place_at load.job.post < new.places → IsPlaced opened.topology new.places load.job.post
+  placed_by load a low = record { post = out_has_post opened.topology new.steps load.job.post.stage load.job.post.slot h.legal a.out; slot = a.slot; within = low }
+
+  pub placed : AtJob came (λ load. IsPlaced opened.topology new.places load.job.post)
+  placed = with_all came (λ load. IsAway opened.topology new.steps (opened.home (place_at load.job.post)) load.job (look load.body)) (λ load. place_at load.job.post < new.places)
+      (λ load. IsPlaced opened.topology new.places load.job.post) placed_by away h.within
+
+  of_job : new.places ≡ opened.places → (o : Option Post) (at : ℕ) → IfSome o (IsPlaced opened.topology new.places) → option_map place_at o ≡ Some at → IsOfPost opened at
+  of_job places None at k e = absurd (none-some at e)
+  of_job places (Some p) at k e =
+      let here = some_same (place_at p) at e in
+      record { post = p; has = k.post; slot = k.slot; place = here; within = subst (λ (n : ℕ). n < opened.places) here (subst (λ (n : ℕ). place_at p < n) places k.within) }
+
+  only_posts : new.places ≡ opened.places → (at : ℕ) → IsSome (opened.home at) → new.home at ≡ None → IsOfPost opened at
+  only_posts places at was none = ⊎_elim
+      (λ (e : option_map place_at (job_of came) ≡ Some at). of_job places (job_of came) at (to_job came (IsPlaced opened.topology new.places) placed) e)
+      (λ (u : (old.home at ≡ None) × (option_map place_at (post_of brought) ≢ Some at)). s.only_posts at was u.0)
+      ((h.homes at).0 none)
+
+  pub stems_on : new.topology ≡ old.topology → new.places ≡ old.places → old.end ≡ None → new.end ≡ end_of came → Stems opened new
+  stems_on topology places going end = record {
+    topology = topology ∙ s.topology;
+    places = places ∙ s.places;
+    begins = begins_through new.steps old.steps opened.steps h.adds.begins s.begins;
+    keeps = h.keeps opened.home s.keeps from;
+    only_posts = only_posts (places ∙ s.places);
+    clock = subst (λ (e : Option (Result RunEnd AllocError)). KeepsClockTo e new.steps opened.clock new.clock) (sym end)
+        (clock_to came new.steps opened.clock new.clock (h.clock opened.clock (subst (λ (e : Option (Result RunEnd AllocError)). KeepsClockTo e old.steps opened.clock old.clock) going s.clock)));
+    control = subst (λ (e : Option (Result RunEnd AllocError)). KeepsControlTo e opened.topology new.steps opened.control new.control) (sym end)
+        (control_to came opened.topology new.steps opened.control new.control (h.control opened.control (subst (λ (e : Option (Result RunEnd AllocError)). KeepsControlTo e opened.topology old.steps opened.control old.control) going s.control)));
+  }
+
+  pub loads : new.places ≡ opened.places → IfJob (round_of came) (IsLoadOf look opened new.steps)
+  loads places = to_round came (IsLoadOf look opened new.steps)
+      (with_all came (λ load. IsAway opened.topology new.steps (opened.home (place_at load.job.post)) load.job (look load.body))
+      (λ load. Fits load.job.work (look load.body) × (place_at load.job.post < new.places)) (IsLoadOf look opened new.steps)
+      (λ load a t. record { away = a; fits = t.0; within = subst (λ (n : ℕ). place_at load.job.post < n) places t.1 })
+      away
+      (with_all came (λ load. Fits load.job.work (look load.body)) (λ load. place_at load.job.post < new.places)
+      (λ load. Fits load.job.work (look load.body) × (place_at load.job.post < new.places)) (λ load f k. (f, k)) h.fits h.within))
+
+slots_low : {B : Type 0} (look : B → BodySeen) (opened : PipeState) (steps : History) (brought : Option (Home B)) → IfSome brought (IsBackNow look opened steps) → IfSome (post_of brought) (λ q. q.slot < 16)
+slots_low look opened steps None b = tt
+slots_low look opened steps (Some home) b = b.slot
+
+module _ {B : Type 0} (look : B → BodySeen) (brought : Option (Home B)) (came : Came B) (old new : PipeState) (g : Brings look brought old) (held : Held look brought came old.topology old new) (topology : new.topology ≡ old.topology)
+    (places : new.places ≡ old.places) (going : old.end ≡ None) (end : new.end ≡ end_of came) where
+  at_opened : (opened : PipeState) → Stems opened old → Held look brought came opened.topology old new
+  at_opened opened s = subst (λ (t : Topology). Held look brought came t old new) s.topology held
+
+  back : (opened : PipeState) (seen : History) → Stems opened old → IsBrought look opened seen old.steps brought → IfSome brought (IsBackNow look opened old.steps)
+  back opened seen s b = backs look brought opened old seen g.sound g.legal s b
+
+  first : IfSome brought (IsBackNow look g.opened old.steps)
+  first = back g.opened g.seen g.stems g.is_brought
+
+  jobs : IfSome (job_of came) (IsPlaced old.topology new.places)
+  jobs = subst (λ (t : Topology). IfSome (job_of came) (IsPlaced t new.places)) (sym g.stems.topology)
+      (to_job came (IsPlaced g.opened.topology new.places) (placed look brought came g.opened old new (at_opened g.opened g.stems) g.stems first))
+
+  moved : AreAway (post_of brought) (job_of came) (away_of old) (away_of new)
+  moved = subst (λ (n : ℕ). AreAway (post_of brought) (job_of came) (away_in old.topology old.home n) (away_of new)) places
+      (subst (λ (t : Topology). AreAway (post_of brought) (job_of came) (away_in old.topology old.home new.places) (away_in t new.home new.places)) (sym topology)
+      (moves old.topology old.home new.home new.places (post_of brought) (job_of came) held.homes (slots_low look g.opened old.steps brought first) jobs))
+
+  -- the pipe is whole behind the hold
+  pub holds_whole : IsWhole old → IsWhole new
+  holds_whole w = record {
+    follows = subst (λ (t : Topology). FollowsMoves t new.steps) (sym topology) (held.follows w.follows);
+    ready = subst (λ (t : Topology). Ready t new.steps new.home) (sym topology) held.ready;
+    ended = subst (λ (e : Option (Result RunEnd AllocError)). IfSome e (λ end. IfOk end (HasEnded new.topology new.steps))) (sym end)
+        (subst (λ (t : Topology). IfSome (end_of came) (λ end. IfOk end (HasEnded t new.steps))) (sym topology) (ended_by came old.topology new.steps held.drained held.halted));
+    outs = λ memory. outs_on (post_of brought) (job_of came) old new (where_held came (OutsAre (post_of brought) (job_of came) old.steps new.steps) (subst HasMemory end memory) held.outs) moved
+        (w.outs (subst HasMemory (sym going) tt));
+  }
+
+  -- and the hold is a round
+  pub holds_round : (round : Round (Load B)) → IsWhole old → round ≡ round_of came → Rounded look brought round old new
+  holds_round round w is =
+      let same : job_of came ≡ job_post (λ (load : Load B). load.job.post) round = same_job came ∙ ap (job_post (λ (load : Load B). load.job.post)) (sym is) in
+      record {
+        stems = λ opened seen s b. stems_on look brought came opened old new (at_opened opened s) s (back opened seen s b) topology places going end;
+        load = λ opened seen s b. subst (λ (r : Round (Load B)). IfJob r (IsLoadOf look opened new.steps)) (sym is) (loads look brought came opened old new (at_opened opened s) s (back opened seen s b) (places ∙ s.places));
+        adds = subst (λ (j : Option Post). AddsHold (post_of brought) j old.steps new.steps) same held.adds;
+        recorded = λ start memory. where_held came (IsRecorded old.topology old.steps new.steps brought) (subst HasMemory end memory) held.recorded;
+        ended = λ some. not_going old.end some going;
+        on = λ o. (going, end ∙ on_by came (subst IsOn is o));
+        over = λ o. subst (λ (e : Option (Result RunEnd AllocError)). IsSome e) (sym end) (over_by came (subst IsOver is o));
+        whole = holds_whole w;
+        waits = λ start w. waiting_by old.topology old.steps new.steps came held.waits (subst IsWaiting is w);
+        row = λ start. subst (λ (r : Round (Load B)). IfJob r (λ load. 1 ≤ old.topology.idle_limit → quiet_row new.steps < old.topology.idle_limit)) (sym is)
+            (to_round came (λ load. 1 ≤ old.topology.idle_limit → quiet_row new.steps < old.topology.idle_limit) held.row);
+        lessens = λ row goes. subst (λ (r : Round (Load B)). holds_left old.topology new.steps (begins_job r) < holds_left old.topology old.steps (is_some brought)) (sym is)
+            (less_by old.topology old.steps new.steps brought came held.sound held.legal held.adds.begins held.cut_off held.recorded held.paused row (subst Goes is goes));
+        away = subst (λ (j : Option Post). AreAway (post_of brought) j (away_of old) (away_of new)) same moved;
+      }

@@ -1,0 +1,33 @@
+use Rattle.std.proofs.Common.{◌≡◌, ◌∙◌, [], sym, ap, subst, Some, Err}
+use Rattle.std.specs.Prelude.{option_map}
+use Rattle.stage_bodies.specs.Seen.{line_seen}
+use Rattle.stage_moves.specs.Clocks.{clock_seen}
+use Rattle.run_pipe.specs.Seen.{PipeState, state_of, away_of}
+use Rattle.run_pipe.proofs.Outcomes.{short_of, short_whole, short_ran, ran_at}
+use Rattle.run_pipe.proofs.Views.{fields_of, seen_of, state_is}
+use Rattle.run_pipe.proofs.pipe.Pipe.end_without_memory.Goals as goal
+
+pub invariant_of-self : goal.invariant_of-self
+invariant_of-self g c =
+    let s = g.S.ByteSource in
+    let look = g.B.Works.look in
+    let line = line_seen s.told s.taken s.left s.faults s.waits in
+    let time = clock_seen g.C.Clock.latest g.C.Clock.readings in
+    let i = c.self.inside in
+    let old = fields_of look i.core.topology i.core.journal.steps i.bodies.items (option_map line i.control) (time i.clock) i.end in
+    record { stands = c.self.invariant.stands; whole = short_whole old c.args.error c.self.invariant.whole }
+
+pub returns-clause-ran : goal.returns-clause-ran
+returns-clause-ran g c =
+    let s = g.S.ByteSource in
+    let look = g.B.Works.look in
+    let line = line_seen s.told s.taken s.left s.faults s.waits in
+    let time = clock_seen g.C.Clock.latest g.C.Clock.readings in
+    let i = c.self.inside in
+    let end = Some (Err c.args.error) in
+    let old = fields_of look i.core.topology i.core.journal.steps i.bodies.items (option_map line i.control) (time i.clock) i.end in
+    let same = sym (ap state_of c.self.view_is) ∙ state_is look i.core.topology i.core.journal.steps i.bodies.items (option_map line i.control) (time i.clock) i.end in
+    let after : PipeState = state_of (seen_of look i.core.topology i.core.journal.steps i.bodies.items (option_map line i.control) (time i.clock) end) in
+    ran_at (state_of c.args.self.now) old after (short_of old c.args.error) same
+    (state_is look i.core.topology i.core.journal.steps i.bodies.items (option_map line i.control) (time i.clock) end)
+    (short_ran old c.args.error c.self.invariant.whole (subst (λ (p : PipeState). away_of p ≡ []) same c.requires.none_away))

@@ -1,0 +1,14 @@
+pub mod Away
+pub mod Ends
+pub mod Seen
+pub mod Parts
+pub mod Whole
+pub mod Stems
+pub mod Measure
+pub mod Jobs
+pub mod Rounds
+pub mod Rounded
+pub mod Runs
+pub use Rattle.stage_moves.specs.Clocks
+pub use Rattle.stage_moves.specs.Keeping
+pub use Rattle.stage_moves.specs.Obeyed

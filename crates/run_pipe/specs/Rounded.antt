@@ -1,0 +1,40 @@
+-- What a round does to a pipe.
+use Rattle.std.specs.Prelude.{◌≡◌, ◌<◌, ◌≤◌, true, Option, None, IfSome, IfOk, IsSome, is_some}
+use Rattle.pipe_model.specs.Legal.{quiet_row}
+use Rattle.pipe_model.specs.Moves.{jobs_out}
+use Rattle.run_pipe.specs.Measure.{holds_left}
+use Rattle.pipe_model.specs.History.{History}
+use Rattle.pipe_model.specs.Begins.{BeginsWith}
+use Rattle.pipeline_turn.specs.Jobs.{AreAway}
+use Rattle.stage_bodies.specs.Seen.{BodySeen}
+use Rattle.stage_holds.specs.Answers.{with_answered}
+use Rattle.stage_holds.specs.Holds.{AddsHold}
+use Rattle.stage_holds.specs.declared.loads.Load.{Load}
+use Rattle.stage_holds.specs.declared.loads.Home.{Home}
+use Rattle.run_pipe.specs.Seen.{PipeState, away_of}
+use Rattle.run_pipe.specs.Stems.{Stems}
+use Rattle.run_pipe.specs.Jobs.{IsLoadOf, IsBrought}
+use Rattle.run_pipe.specs.Ends.{HasMemory}
+use Rattle.run_pipe.specs.Whole.{IsWhole}
+use Rattle.run_pipe.specs.Rounds.{Goes, IsOn, IsOver, IsWaiting, begins_job}
+use Rattle.stage_workers.specs.Rounds.{IfJob, job_post, brought_post}
+use Rattle.stage_workers.specs.declared.shift.Round.{Round}
+
+-- The pipe comes from the same start still, and so does the job that the worker goes away with. The journal was added to as by one
+-- hold, first by the answer that was brought, unless the pipe had ended or memory was wanting; where it had ended, it has ended so
+-- still, and no step was added. A post is away where the worker goes away with its body, or where it was away and was not brought.
+-- The pipe has ended just where there is nothing to do any more, and is whole. Where the worker waits, a job is out; where it brings
+-- an answer that is work, and begins a job or lets time pass, fewer holds are left.
+pub record Rounded {B : Type 0} (look : B → BodySeen) (brought : Option (Home B)) (round : Round (Load B)) (old new : PipeState) : Type 0 where
+  pub stems : (opened : PipeState) (seen : History) → Stems opened old → IsBrought look opened seen old.steps brought → Stems opened new
+  pub load : (opened : PipeState) (seen : History) → Stems opened old → IsBrought look opened seen old.steps brought → IfJob round (IsLoadOf look opened new.steps)
+  pub adds : AddsHold (brought_post (λ home. home.post) brought) (job_post (λ load. load.job.post) round) old.steps new.steps
+  pub recorded : old.end ≡ None → HasMemory new.end → IfSome brought (λ home. IfOk home.answer (λ answer. BeginsWith new.steps (with_answered old.topology old.steps answer)))
+  pub ended : IsSome old.end → (new.end ≡ old.end) × (new.steps ≡ old.steps)
+  pub away : AreAway (brought_post (λ home. home.post) brought) (job_post (λ load. load.job.post) round) (away_of old) (away_of new)
+  pub on : IsOn round → (old.end ≡ None) × (new.end ≡ None)
+  pub over : IsOver round → IsSome new.end
+  pub whole : IsWhole new
+  pub waits : old.end ≡ None → IsWaiting round → jobs_out old.topology new.steps ≡ true
+  pub row : old.end ≡ None → IfJob round (λ load. 1 ≤ old.topology.idle_limit → quiet_row new.steps < old.topology.idle_limit)
+  pub lessens : (IsSome brought → quiet_row old.steps < old.topology.idle_limit) → Goes round → holds_left old.topology new.steps (begins_job round) < holds_left old.topology old.steps (is_some brought)

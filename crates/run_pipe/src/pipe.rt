@@ -1,0 +1,137 @@
+//! The value that workers hand about.
+
+ghost use Rattle.std.specs.Prelude.{◌≡◌, [], None, Some, Err, IfSome, map, nat_le, option_map};
+ghost use Rattle.core_state.specs.Stands.{Stands};
+ghost use Rattle.stage_bodies.specs.Seen.{body_at, line_seen};
+ghost use Rattle.body_laws.specs.Ready.{IsFilled};
+ghost use Rattle.stage_moves.specs.Keeping.{IsFresh};
+ghost use Rattle.stage_moves.specs.Clocks.{clock_seen};
+ghost use Rattle.run_pipe.specs.Parts.{state_by};
+ghost use Rattle.run_pipe.specs.Runs.{RanToEnd};
+ghost use Rattle.run_pipe.specs.Seen.{PipeSeen, state_of, away_of};
+ghost use Rattle.run_pipe.specs.Stems.{Stems};
+ghost use Rattle.run_pipe.specs.Whole.{IsPipe, IsWhole};
+
+use crate::ends::RunEnd;
+use core_state::Core;
+use pipe_edges::{ByteSource, Clock, LineSource};
+use pipe_journal::Journal;
+use pipe_types::numbers::Post;
+use pipeline_turn::Held;
+use stage_bodies::Works;
+use std::alloc::AllocError;
+use std::marker::Model;
+
+/// A pipeline with the bodies that are at home, its control source and its clock.
+pub struct Pipe<B: Works, S: ByteSource, C: Clock> {
+    pub(crate) core: Core,
+    /// By place.
+    pub(crate) bodies: Vec<Option<B>>,
+    pub(crate) control: Option<LineSource<S>>,
+    pub(crate) clock: C,
+    /// How the run ended, once it has. The error is want of memory.
+    pub(crate) end: Option<Result<RunEnd, AllocError>>,
+}
+
+impl<B: Works, S: ByteSource, C: Clock> Model for Pipe<B, S, C> {
+    ghost Value = { PipeSeen };
+
+    ghost view = { λ p. record { topology = p.core.topology; steps = p.core.journal.steps; bodies = map (option_map B.look) p.bodies.items; control = option_map (line_seen S.told S.taken S.left S.faults S.waits) p.control; clock = clock_seen C.latest C.readings p.clock; end = p.end } };
+
+    ghost invariant = { λ p. IsPipe p.core (state_by B.look (line_seen S.told S.taken S.left S.faults S.waits) (clock_seen C.latest C.readings) p.core p.bodies.items p.control p.clock p.end) };
+}
+
+impl<B: Works, S: ByteSource, C: Clock> Held for Pipe<B, S, C> {
+    type Start = Pipe<B, S, C>;
+
+    ghost start = { λ p. p };
+
+    ghost stems = { λ o p. Stems (state_of o) (state_of p) };
+
+    ghost steps = { λ p. p.steps };
+
+    ghost away = { λ p. away_of (state_of p) };
+
+    fn journal(&self) -> &Journal {
+        self.core.journal()
+    }
+
+    fn is_out(&self, post: Post) -> bool {
+        self.core.is_out(post)
+    }
+}
+
+/// What a pipe is made of.
+pub struct PipeParts<B, S, C> {
+    pub core: Core,
+    /// By place.
+    pub bodies: Vec<Option<B>>,
+    pub control: Option<LineSource<S>>,
+    pub clock: C,
+    /// How the run ended, once it has. The error is want of memory.
+    pub end: Option<Result<RunEnd, AllocError>>,
+}
+
+impl<B: Works, S: ByteSource, C: Clock> Pipe<B, S, C> {
+    /// A pipe before its first step: the body of each post is at home, and nothing was read of the control source.
+    pub fn new(
+        core: Core,
+        bodies: Vec<Option<B>>,
+        control: Option<LineSource<S>>,
+        clock: C,
+    ) -> Pipe<B, S, C>
+        requires stands { Stands core }
+        requires empty { core.journal.steps ≡ [] }
+        requires filled { IsFilled core.topology (body_at B.look bodies.items) }
+        requires fresh { IfSome (option_map (line_seen S.told S.taken S.left S.faults S.waits) control) IsFresh }
+        ensures made { state_of result ≡ state_by B.look (line_seen S.told S.taken S.left S.faults S.waits) (clock_seen C.latest C.readings) core bodies.items control clock None }
+        ensures stems { Stems (state_of result) (state_of result) }
+        ensures none_away { away_of (state_of result) ≡ [] }
+    {
+        Pipe {
+            core,
+            bodies,
+            control,
+            clock,
+            end: None,
+        }
+    }
+
+    /// The core, the bodies, the control source and the clock, and how the run ended.
+    pub fn into_parts(self) -> PipeParts<B, S, C>
+        ensures stands { Stands result.core }
+        ensures whole { IsWhole (state_of self) }
+        ensures parts { state_of self ≡ state_by B.look (line_seen S.told S.taken S.left S.faults S.waits) (clock_seen C.latest C.readings) result.core result.bodies.items result.control result.clock result.end }
+    {
+        let Pipe {
+            core,
+            bodies,
+            control,
+            clock,
+            end,
+        } = self;
+        PipeParts {
+            core,
+            bodies,
+            control,
+            clock,
+            end,
+        }
+    }
+
+    /// Whether the run ends by itself once its sources are silent.
+    pub(crate) fn has_idle_limit(&self) -> bool
+        ensures { result ≡ nat_le 1 self.now.topology.idle_limit }
+    {
+        self.core.topology().idle_limit >= 1
+    }
+
+    /// Ends the run, since there was no memory to go on.
+    pub(crate) fn end_without_memory(&mut self, error: AllocError)
+        requires none_away { away_of (state_of self.old) ≡ [] }
+        ensures end { self.new.end ≡ Some (Err error) }
+        ensures ran { RanToEnd (state_of self.old) (state_of self.new) }
+    {
+        self.end = Some(Err(error));
+    }
+}

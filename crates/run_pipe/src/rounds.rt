@@ -1,0 +1,122 @@
+//! A hold of a pipe.
+
+ghost use Rattle.std.specs.Prelude.{◌≡◌, ◌≢◌, ◌<◌, ◌==◌, ℕ, true, Some, IfSome, length, if◌then◌else◌};
+ghost use Rattle.pipe_types.specs.declared.numbers.Post.{Post as PostSeen};
+ghost use Rattle.pipe_model.specs.Begins.{BeginsWith};
+ghost use Rattle.pipe_model.specs.Posts.{is_out};
+ghost use Rattle.pipeline_turn.specs.Jobs.{IsUndone, IsUnanswered, IsOwnJob, AreAway};
+ghost use Rattle.pipe_model.specs.History.{History};
+ghost use Rattle.stage_bodies.specs.Seen.{body_at};
+ghost use Rattle.stage_bodies.specs.Posts.{place_at};
+ghost use Rattle.run_pipe.specs.Jobs.{IsLoadOf, IsHomeOf, IsBrought};
+ghost use Rattle.run_pipe.specs.Rounded.{Rounded};
+ghost use Rattle.run_pipe.specs.Rounds.{round_of, end_of};
+ghost use Rattle.run_pipe.specs.Seen.{PipeSeen, PipeState, state_of, away_of};
+ghost use Rattle.run_pipe.specs.Stems.{Stems};
+ghost use Rattle.stage_workers.specs.Rounds.{IfJob, job_post, brought_post};
+
+use crate::ends::RunEnd;
+use crate::pipe::Pipe;
+use pipe_edges::{ByteSource, Clock};
+use pipe_types::numbers::Post;
+use stage_bodies::{Works, place_of, put_back};
+use stage_holds::{Home, Load, Next, hold};
+use stage_workers::{Round, Shift};
+use std::alloc::{AllocError, Global};
+
+impl<B: Works, S: ByteSource, C: Clock> Shift for Pipe<B, S, C> {
+    type Load = Load<B>;
+
+    type Home = Home<B>;
+
+    ghost load_post = { λ load. load.job.post };
+
+    ghost home_post = { λ home. home.post };
+
+    ghost is_load_of = { λ o steps load. IsLoadOf B.look (state_of o) steps load };
+
+    ghost is_home_of = { λ o steps home. IsHomeOf B.look (state_of o) steps home };
+
+    fn post(load: &Load<B>) -> Post {
+        load.job.post
+    }
+
+    fn round(&mut self, brought: Option<Home<B>>) -> Round<Load<B>>
+        requires home { (origin : PipeSeen) × (seen : History) × Stems (state_of origin) (state_of self.old) × IfSome brought (λ home. IsHomeOf B.look (state_of origin) seen home × IsUndone self.old.steps seen home.post) }
+        ensures rounded { Rounded B.look brought result (state_of self.old) (state_of self.new) }
+        ensures stems { (origin : PipeSeen) → (seen : History) → Stems (state_of origin) (state_of self.old) → IfSome brought (λ home. IsHomeOf B.look (state_of origin) seen home × IsUndone self.old.steps seen home.post) → Stems (state_of origin) (state_of self.new) }
+        ensures load { (origin : PipeSeen) → (seen : History) → Stems (state_of origin) (state_of self.old) → IfSome brought (λ home. IsHomeOf B.look (state_of origin) seen home × IsUndone self.old.steps seen home.post)
+            → IfJob result (IsLoadOf B.look (state_of origin) self.new.steps) }
+        ensures begins { BeginsWith self.new.steps self.old.steps }
+        ensures others_unanswered { (post : PostSeen) → is_out self.old.steps post ≡ true → brought_post (λ home. home.post) brought ≢ Some post → IsUnanswered self.new.steps self.old.steps post }
+        ensures own_job { IfSome (job_post (λ load. load.job.post) result) (λ post. IsOwnJob (brought_post (λ home. home.post) brought) self.old.steps self.new.steps post) }
+        ensures away { AreAway (brought_post (λ home. home.post) brought) (job_post (λ load. load.job.post) result) (away_of (state_of self.old)) (away_of (state_of self.new)) }
+    {
+        self.hold(brought)
+    }
+
+    fn run(alloc: Global, load: Load<B>) -> Home<B> {
+        load.work(alloc)
+    }
+}
+
+impl<B: Works, S: ByteSource, C: Clock> Pipe<B, S, C> {
+    /// All that a worker does while it has the pipe: what it brings comes home; the pipeline advances, unless it has ended; then the
+    /// next job begins, or time passes, or it is told why neither is so.
+    pub fn hold(&mut self, brought: Option<Home<B>>) -> Round<Load<B>>
+        requires home { (opened : PipeState) × (seen : History) × Stems opened (state_of self.old) × IsBrought B.look opened seen self.old.steps brought }
+        ensures rounded { Rounded B.look brought result (state_of self.old) (state_of self.new) }
+    {
+        if self.end.is_some() {
+            match brought {
+                Some(home) => {
+                    put_home(&mut self.bodies, home);
+                    return Round::Ended;
+                }
+                None => return Round::Ended,
+            }
+        }
+        let came = hold(
+            &mut self.core,
+            &mut self.bodies,
+            &mut self.control,
+            &mut self.clock,
+            brought,
+        );
+        let (round, end) = told(came);
+        self.end = end;
+        round
+    }
+}
+
+/// Puts the body of what is brought to its place. The answer is not recorded.
+fn put_home<B: Works>(bodies: &mut Vec<Option<B>>, home: Home<B>)
+    requires within { place_at home.post < length bodies.old.items }
+    ensures len { length bodies.new.items ≡ length bodies.old.items }
+    ensures table { (s : ℕ) → body_at B.look bodies.new.items s ≡ (if place_at home.post == s then Some (B.look home.body) else body_at B.look bodies.old.items s) }
+{
+    let Home {
+        post,
+        answer: _,
+        body,
+    } = home;
+    let at = place_of(post);
+    put_back(bodies, at, body);
+}
+
+/// What a worker does after a hold, and how the run has ended then, if it has.
+fn told<B>(
+    came: Result<Next<B>, AllocError>,
+) -> (Round<Load<B>>, Option<Result<RunEnd, AllocError>>)
+    ensures round { result.0 ≡ round_of came }
+    ensures end { result.1 ≡ end_of came }
+{
+    match came {
+        Ok(Next::Job(load)) => (Round::Job(load), None),
+        Ok(Next::JobsOut) => (Round::Waits, None),
+        Ok(Next::Paused) => (Round::Again, None),
+        Ok(Next::Drained) => (Round::Ended, Some(Ok(RunEnd::Drained))),
+        Ok(Next::Halted) => (Round::Ended, Some(Ok(RunEnd::Halted))),
+        Err(error) => (Round::Ended, Some(Err(error))),
+    }
+}

@@ -1,0 +1,81 @@
+-- What is written, and with which status.
+use Rattle.std.specs.Prelude.{◌≡◌, ℕ, List, [], ◌++◌, take, Option, Some, None}
+use Rattle.config_table.specs.declared.fault.ConfigFault.{ConfigFault}
+use Rattle.config_table.specs.declared.fault.ConfigFault.TheVariants.{NotToml, Version, UnknownKey, Missing, WrongType, OutOfRange, DuplicateName, UnknownBatcher, NoStage, TooManyStages, BadDispatch, Unreachable, OutOfMemory}
+use Rattle.config_table.specs.Fault.{number_of}
+use Rattle.program_words.specs.Refusals.{usage_line, topology_line, stock_line, edge_line, memory_line}
+use Rattle.run_verdicts.specs.declared.verdict.Refusal.{Refusal}
+use Rattle.run_verdicts.specs.declared.verdict.Refusal.TheVariants.{Usage, Topology as NoTopology, Stock, Edge, Memory}
+use Rattle.run_verdicts.specs.declared.verdict.Texts.{Texts}
+use Rattle.run_verdicts.specs.declared.verdict.Verdict.{Verdict}
+use Rattle.run_verdicts.specs.declared.verdict.Verdict.TheVariants.{Refused, Done}
+
+-- exactly this text was written
+abbrev pub Adds : (held held' text : List ℕ) → Type 0
+Adds held held' text = held' ≡ held ++ text
+
+-- a front of the text was written, maybe all or nothing
+pub record AddsPrefix (held held' text : List ℕ) : Type 0 where
+  pub count : ℕ
+  pub is : held' ≡ held ++ take count text
+
+-- the place in the file, where the fault names one
+abbrev pub path_of : ConfigFault → Option (List ℕ)
+path_of NotToml = None
+path_of (Version path) = Some path
+path_of (UnknownKey path) = Some path
+path_of (Missing path) = Some path
+path_of (WrongType path) = Some path
+path_of (OutOfRange path) = Some path
+path_of (DuplicateName path) = Some path
+path_of (UnknownBatcher path) = Some path
+path_of NoStage = None
+path_of TooManyStages = None
+path_of (BadDispatch path) = Some path
+path_of (Unreachable path) = Some path
+path_of OutOfMemory = None
+
+abbrev pub refusal_text : Refusal → List ℕ
+refusal_text Usage = usage_line
+refusal_text (NoTopology fault) = topology_line (number_of fault) (path_of fault)
+refusal_text (Stock shortage) = stock_line shortage.kind shortage.need shortage.have
+refusal_text (Edge name) = edge_line name
+refusal_text Memory = memory_line
+
+abbrev pub refusal_status : Refusal → ℕ
+refusal_status Usage = 7
+refusal_status (NoTopology fault) = 6
+refusal_status (Stock shortage) = 6
+refusal_status (Edge name) = 5
+refusal_status Memory = 9
+
+abbrev pub or_nothing : Option (List ℕ) → List ℕ
+or_nothing None = []
+or_nothing (Some text) = text
+
+-- the journal and the acknowledgements where they are there, and then the last text
+abbrev pub whole_text : Texts → List ℕ
+whole_text texts = or_nothing texts.steps ++ (or_nothing texts.acks ++ texts.last)
+
+-- what a verdict writes to the output and to the error output, and its status
+abbrev pub out_text_of : Verdict → List ℕ
+out_text_of (Done texts status) = whole_text texts
+out_text_of (Refused refusal) = []
+
+abbrev pub err_text_of : Verdict → List ℕ
+err_text_of (Done texts status) = []
+err_text_of (Refused refusal) = refusal_text refusal
+
+abbrev pub status_in : Verdict → ℕ
+status_in (Done texts status) = status
+status_in (Refused refusal) = refusal_status refusal
+
+-- a report fails at the output, a refusal at the error output
+abbrev pub FaultBy : Verdict → (out err : Type 0) → Type 0
+FaultBy (Done texts status) out err = out
+FaultBy (Refused refusal) out err = err
+
+-- with a report nothing is written to the error output
+abbrev pub QuietBy : Verdict → (quiet : Type 0) → Type 0
+QuietBy (Done texts status) quiet = quiet
+QuietBy (Refused refusal) quiet = Unit {0}
