@@ -2,7 +2,7 @@
 use Rattle.std.proofs.Common.{◌≡◌, ℕ, ◌+◌, ◌^◌, ◌<◌, ◌≤◌, Bool, true, false, cond, List, [], ◌∷◌, ◌++◌, map, length, Option, Some, None, Result, Ok, Err, refl, sym, ap, ◌∙◌, append_assoc, arith, lit<}
 use Rattle.std.specs.Prelude.{decimal, codes, nat_le, bytes_eq}
 use Rattle.std.specs.List.{flat_map, slice_split, onto_first, join_with_byte}
-use Rattle.std.proofs.lemmas.Bool.{leb-le}
+use Rattle.std.proofs.lemmas.Bool.{leb-true}
 use Rattle.std.proofs.lemmas.List.{append-nil}
 use Rattle.std.proofs.lemmas.List.Splits.{join_with_byte-slice_split}
 use Rattle.std.proofs.lemmas.Slice.Eq.{bytes_eq-Decides}
@@ -125,7 +125,7 @@ limited_spelt text bytes e =
     let b = bind_ok (bytes_in text) (λ bytes. cond (nat_le (length bytes) max_bytes) (Ok bytes) (Err Bytes)) bytes e in
     let t = tested (nat_le (length b.0) max_bytes) Bytes b.0 bytes b.2 in
     let s = bytes_spelt b.0 text b.1 in
-    moved text bytes_text IsLimited b.0 bytes t.1 s.0 (record { bytes = s.1; short = leb-le _ _ t.0 })
+    moved text bytes_text IsLimited b.0 bytes t.1 s.0 (record { bytes = s.1; short = leb-true _ _ t.0 })
 
 reason_spelt : (text why : List ℕ) → reason_in text ≡ Ok why → (text ≡ bytes_text why) × IsWhy why
 reason_spelt text why e =
