@@ -1,12 +1,9 @@
 -- The line of a step is read as that step.
-use Rattle.std.proofs.Common.{◌≡◌, ℕ, ◌+◌, ◌^◌, ◌<◌, ◌≤◌, Bool, true, false, List, [], ◌∷◌, ◌++◌, map, Result, Ok, Err, refl, sym, ap, ◌∙◌, append_assoc, arith, lit<}
+use Rattle.std.proofs.Common.{◌≡◌, ℕ, ◌^◌, ◌<◌, List, [], ◌∷◌, ◌++◌, map, Result, Ok, refl, ap, ◌∙◌, append_assoc, lit<}
 use Rattle.std.specs.Prelude.{decimal, codes}
 use Rattle.std.specs.List.{flat_map, slice_split}
 use Rattle.std.proofs.lemmas.List.{append-nil}
 use Rattle.pipe_types.specs.declared.numbers.StageNo.{StageNo}
-use Rattle.pipe_types.specs.declared.numbers.SubNo.{SubNo}
-use Rattle.pipe_types.specs.declared.numbers.MsgNo.{MsgNo}
-use Rattle.pipe_types.specs.declared.message.Reply.{Reply}
 use Rattle.pipe_types.specs.declared.message.BatchEnd.{BatchEnd}
 use Rattle.pipe_types.specs.declared.message.Trigger.{Trigger}
 use Rattle.pipe_types.specs.declared.message.Trigger.TheVariants.{Size, Flush, Timeout}
@@ -20,11 +17,11 @@ use Rattle.pipe_types.specs.declared.step.LateAnswer.{LateAnswer}
 use Rattle.pipe_types.specs.declared.step.LateAnswer.TheVariants.{Records, Quiet as LateQuiet, Source, Wrote as LateWrote, Nothing}
 use Rattle.pipe_types.specs.declared.step.Step.{Step}
 use Rattle.pipe_types.specs.declared.step.Step.TheVariants.{Ask, Fetch, Accept, Quiet, SourceEnd, Dispatch, Take, Done, Gather, Close, Wrote, Child, ChildEnd, Kill, Late, Restart, Tick, Drain, Halt, Refuse}
-use Rattle.pipe_types.specs.Numbers.{stage, subscription, post}
+use Rattle.pipe_types.specs.Numbers.{post}
 use Rattle.line_reading.specs.declared.fault.Fault.{Fault}
 use Rattle.line_reading.specs.declared.fault.Fault.TheVariants.{Word}
 use Rattle.line_reading.specs.Reading.{◌>>=◌, is_at}
-use Rattle.line_reading.specs.Lines.{Jobs, how_in, cause_in, trigger_in, why_in, list_in, record_in, ends_in, by_first, ask_in, fetch_in, accept_in, of_stage, source_in, take_in, done_in, gather_in, close_in, wrote_in, child_in, child_end_in, kill_in, late_by, late_rows, late_in, tick_in, drain_in, halt_in, refuse_in, rows, rows_of_numbers, rows_of_one, rows_of_words, rows_of_lists, step_in}
+use Rattle.line_reading.specs.Lines.{Jobs, how_in, cause_in, trigger_in, why_in, ends_in, by_first, ask_in, fetch_in, accept_in, of_stage, source_in, take_in, done_in, gather_in, close_in, wrote_in, child_in, child_end_in, kill_in, late_by, late_in, tick_in, refuse_in, rows, rows_of_numbers, rows_of_one, rows_of_words, rows_of_lists, step_in}
 use Rattle.line_reading.specs.Spelling.{Each, IsStage, IsShort, IsNumber, IsKillWhy, IsAnswer, IsSpelt}
 use Rattle.journal_texts.specs.Words.{bytes_text, list_text, number_word, words}
 use Rattle.journal_texts.specs.Steps.{step_text, reply_text, ends_text, answer_text, how_word, cause_word, trigger_word, why_word}

@@ -1,9 +1,8 @@
 -- A line that is read as a step is the line of that step.
-use Rattle.std.proofs.Common.{◌≡◌, ℕ, ◌+◌, ◌^◌, ◌<◌, ◌≤◌, Bool, true, false, cond, List, [], ◌∷◌, ◌++◌, map, Result, Ok, Err, refl, sym, ap, ◌∙◌, append_assoc, arith}
-use Rattle.std.specs.Prelude.{decimal, codes, bytes_eq}
-use Rattle.std.specs.List.{slice_split, join_with_byte}
+use Rattle.std.proofs.Common.{◌≡◌, ℕ, List, [], ◌∷◌, ◌++◌, map, Result, Ok, refl, sym, ap, ◌∙◌}
+use Rattle.std.specs.Prelude.{decimal, codes}
+use Rattle.std.specs.List.{join_with_byte}
 use Rattle.pipe_types.specs.declared.numbers.StageNo.{StageNo}
-use Rattle.pipe_types.specs.declared.message.BatchEnd.{BatchEnd}
 use Rattle.pipe_types.specs.declared.message.Trigger.{Trigger}
 use Rattle.pipe_types.specs.declared.message.Trigger.TheVariants.{Size, Flush, Timeout}
 use Rattle.pipe_types.specs.declared.message.Why.{Why}
@@ -16,16 +15,16 @@ use Rattle.pipe_types.specs.declared.step.LateAnswer.{LateAnswer}
 use Rattle.pipe_types.specs.declared.step.LateAnswer.TheVariants.{Records, Quiet as LateQuiet, Source, Wrote as LateWrote, Nothing}
 use Rattle.pipe_types.specs.declared.step.Step.{Step}
 use Rattle.pipe_types.specs.declared.step.Step.TheVariants.{Ask, Fetch, Accept, Quiet, SourceEnd, Dispatch, Take, Done, Gather, Close, Wrote, Child, ChildEnd, Kill, Late, Restart, Tick, Drain, Halt, Refuse}
-use Rattle.pipe_types.specs.Numbers.{stage, message_no, subscription, post}
+use Rattle.pipe_types.specs.Numbers.{message_no, subscription, post}
 use Rattle.line_reading.specs.declared.fault.Fault.{Fault}
 use Rattle.line_reading.specs.declared.fault.Fault.TheVariants.{Word}
-use Rattle.line_reading.specs.Reading.{◌>>=◌, is_at}
-use Rattle.line_reading.specs.Lines.{Row, by_rows, Jobs, short_number, number, long_number, stage_in, how_in, cause_in, trigger_in, why_in, list_in, record_in, reply_in, reply_at, ends_in, ask_in, fetch_in, accept_in, of_stage, source_in, take_in, done_in, gather_in, close_in, wrote_in, child_in, child_end_in, kill_in, late_by, late_records_in, late_alone_in, late_source_in, late_wrote_in, late_rows, late_in, tick_in, drain_in, halt_in, refuse_in, rows, rows_of_numbers, rows_of_one, rows_of_words, rows_of_lists, step_in}
-use Rattle.line_reading.specs.Spelling.{Each, IsShort, IsNumber, IsStage, IsKillWhy, IsAnswer, IsSpelt}
+use Rattle.line_reading.specs.Reading.{◌>>=◌}
+use Rattle.line_reading.specs.Lines.{Row, Jobs, short_number, number, long_number, stage_in, how_in, cause_in, trigger_in, why_in, list_in, record_in, reply_in, reply_at, ends_in, ask_in, fetch_in, accept_in, of_stage, source_in, take_in, done_in, gather_in, close_in, wrote_in, child_in, child_end_in, kill_in, late_by, late_records_in, late_alone_in, late_source_in, late_wrote_in, late_rows, late_in, tick_in, drain_in, halt_in, refuse_in, rows, rows_of_numbers, rows_of_one, rows_of_words, rows_of_lists, step_in}
+use Rattle.line_reading.specs.Spelling.{IsShort, IsNumber, IsStage, IsKillWhy, IsAnswer, IsSpelt}
 use Rattle.journal_texts.specs.Words.{bytes_text, list_text, words}
 use Rattle.journal_texts.specs.Steps.{step_text, how_word, cause_word, trigger_word, why_word, reply_text, ends_text, answer_text}
 use Rattle.line_reading.proofs.Spelt.{bind_ok, ok_is}
-use Rattle.line_reading.proofs.Chains.{one, two, three, four, chosen, word_spelt, SpellsIn, Spells, rows_spell, text_spells, moved, cons_is, join_words, join_words_and}
+use Rattle.line_reading.proofs.Chains.{one, two, three, four, word_spelt, SpellsIn, Spells, rows_spell, text_spells, moved, cons_is, join_words, join_words_and}
 use Rattle.line_reading.proofs.ItemsSpelt.{short_spelt, word_spelt32, long_spelt, stage_spelt, records_spelt, reply_spelt, replies_spelt, end_spelt}
 
 -- ---- words of which there are few

@@ -10,7 +10,7 @@ use Rattle.line_reading.specs.declared.fault.Fault.{Fault}
 use Rattle.line_reading.specs.Reading.{◌>>=◌, is_at}
 use Rattle.line_reading.specs.Lines.{Row, by_rows, by_first, word_in}
 use Rattle.line_reading.specs.Spelling.{Each}
-use Rattle.line_reading.proofs.Spelt.{ok_is, bind_ok}
+use Rattle.line_reading.proofs.Spelt.{ok_is}
 
 -- ---- readings that do not need each other
 

@@ -1,7 +1,7 @@
 -- The texts of fields, of replies, of outcomes and of lists are read again, and what stands in them.
-use Rattle.std.proofs.Common.{◌≡◌, ◌≢◌, ℕ, ◌+◌, ◌^◌, ◌<◌, ◌≤◌, Bool, true, false, List, [], ◌∷◌, ◌++◌, map, length, Option, Some, None, Result, Ok, Err, refl, sym, ap, subst, ◌∙◌, append_assoc, arith, lit<, lit≤}
+use Rattle.std.proofs.Common.{◌≡◌, ℕ, ◌+◌, ◌^◌, ◌<◌, ◌≤◌, Bool, true, false, List, [], ◌∷◌, ◌++◌, length, Option, Some, Result, Ok, refl, sym, ap, subst, ◌∙◌, append_assoc, arith, lit<, lit≤}
 use Rattle.std.specs.Prelude.{decimal, codes, nat_le, ◌==◌}
-use Rattle.std.specs.List.{flat_map, slice_split}
+use Rattle.std.specs.List.{slice_split}
 use Rattle.std.proofs.lemmas.Bool.{le-leb}
 use Rattle.std.proofs.lemmas.Bool.Decides.{nat_tests}
 use Rattle.std.proofs.lemmas.List.{append-nil}
@@ -15,11 +15,11 @@ use Rattle.pipe_types.specs.declared.message.BatchEnd.{BatchEnd}
 use Rattle.pipe_types.specs.declared.message.BatchEnd.TheVariants.{Outcomes, Crashed as BatchCrashed}
 use Rattle.pipe_types.specs.Lines.{max_bytes}
 use Rattle.line_reading.specs.declared.fault.Fault.{Fault}
-use Rattle.line_reading.specs.declared.fault.Fault.TheVariants.{Word, Number, Bytes}
-use Rattle.line_reading.specs.Reading.{◌>>=◌, is_at, number_in, bytes_in}
-use Rattle.line_reading.specs.Lines.{short_number, number, long_number, stage_in, before, items_from, list_in, record_in, reason_in, limited_in, contents, contents_in, flag_in, reason_alone, Named, named_in, passed_in, by_first, reply_rows, reply_in, reply_at, outcome_rows, outcome_in, ends_in}
-use Rattle.line_reading.specs.Spelling.{Each, EachFrom, IsByte, IsShort, IsNumber, IsLong, IsStage, IsRecord, IsLimited, IsWhy, IsReply, IsReplyAt, IsOutcome, AreItems, IsEnd}
-use Rattle.journal_texts.specs.Words.{bytes_text, next_text, more_text, list_text}
+use Rattle.line_reading.specs.declared.fault.Fault.TheVariants.{Bytes}
+use Rattle.line_reading.specs.Reading.{is_at}
+use Rattle.line_reading.specs.Lines.{short_number, number, long_number, stage_in, items_from, list_in, record_in, limited_in, contents, contents_in, flag_in, reason_alone, Named, passed_in, by_first, reply_rows, reply_in, reply_at, outcome_rows, outcome_in, ends_in}
+use Rattle.line_reading.specs.Spelling.{Each, EachFrom, IsShort, IsNumber, IsLong, IsStage, IsRecord, IsLimited, IsWhy, IsReply, IsReplyAt, IsOutcome, AreItems, IsEnd}
+use Rattle.journal_texts.specs.Words.{bytes_text, more_text, list_text}
 use Rattle.journal_texts.specs.Steps.{reply_text, outcome_text, ends_text, flag_text}
 use Rattle.line_reading.proofs.Spelt.{each_append, each_weaker, Lacks, split_none, split_at, IsPlain, decimal_plain, number_again, bytes_again, bytes_plain}
 

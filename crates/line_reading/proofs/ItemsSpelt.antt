@@ -1,7 +1,7 @@
 -- What is read of a field, a reply, an outcome or a list is its text.
-use Rattle.std.proofs.Common.{◌≡◌, ℕ, ◌+◌, ◌^◌, ◌<◌, ◌≤◌, Bool, true, false, cond, List, [], ◌∷◌, ◌++◌, map, length, Option, Some, None, Result, Ok, Err, refl, sym, ap, ◌∙◌, append_assoc, arith, lit<}
+use Rattle.std.proofs.Common.{◌≡◌, ℕ, ◌+◌, ◌≤◌, Bool, true, false, cond, List, [], ◌∷◌, ◌++◌, map, length, Option, Some, None, Result, Ok, Err, refl, sym, ap, ◌∙◌, arith, lit<}
 use Rattle.std.specs.Prelude.{decimal, codes, nat_le, bytes_eq}
-use Rattle.std.specs.List.{flat_map, slice_split, onto_first, join_with_byte}
+use Rattle.std.specs.List.{slice_split, onto_first, join_with_byte}
 use Rattle.std.proofs.lemmas.Bool.{leb-true}
 use Rattle.std.proofs.lemmas.List.{append-nil}
 use Rattle.std.proofs.lemmas.List.Splits.{join_with_byte-slice_split}
@@ -10,7 +10,6 @@ use Rattle.pipe_types.specs.declared.numbers.StageNo.{StageNo}
 use Rattle.pipe_types.specs.declared.message.Message.{Message}
 use Rattle.pipe_types.specs.declared.message.Reply.{Reply}
 use Rattle.pipe_types.specs.declared.message.Reply.TheVariants.{Pass, Failed, Raised, Crashed}
-use Rattle.pipe_types.specs.declared.message.Outcome.{Outcome}
 use Rattle.pipe_types.specs.declared.message.Outcome.TheVariants.{Successful, Failed as FailedOutcome}
 use Rattle.pipe_types.specs.declared.message.BatchEnd.{BatchEnd}
 use Rattle.pipe_types.specs.declared.message.BatchEnd.TheVariants.{Outcomes, Crashed as BatchCrashed}
@@ -21,8 +20,8 @@ use Rattle.line_reading.specs.declared.fault.Fault.{Fault}
 use Rattle.line_reading.specs.declared.fault.Fault.TheVariants.{Word, Number, Bytes}
 use Rattle.line_reading.specs.Reading.{◌>>=◌, is_at, bytes_in}
 use Rattle.line_reading.specs.Lines.{short_number, number, long_number, stage_in, before, items_from, list_in, record_in, reason_in, limited_in, Contents, contents, contents_in, flag_in, reason_alone, Named, named_in, passed_in, failed_in, raised_in, crashed_in, reply_rows, reply_in, reply_at, successful_in, unsuccessful_in, outcome_rows, outcome_in, ends_in}
-use Rattle.line_reading.specs.Spelling.{Each, EachFrom, IsByte, IsShort, IsNumber, IsLong, IsStage, IsRecord, IsLimited, IsWhy, IsReply, IsReplyAt, IsOutcome, AreItems, IsEnd}
-use Rattle.journal_texts.specs.Words.{bytes_text, next_text, more_text, list_text}
+use Rattle.line_reading.specs.Spelling.{EachFrom, IsShort, IsNumber, IsLong, IsStage, IsRecord, IsLimited, IsWhy, IsReply, IsReplyAt, IsOutcome, AreItems, IsEnd}
+use Rattle.journal_texts.specs.Words.{bytes_text, list_text}
 use Rattle.journal_texts.specs.Steps.{reply_text, outcome_text, ends_text, flag_text}
 use Rattle.line_reading.proofs.Spelt.{bind_ok, ok_is, number_spelt, bytes_spelt}
 use Rattle.line_reading.proofs.Chains.{one, Two, two, tested, chosen, word_spelt, Spells, text_spells, moved, cons_is}

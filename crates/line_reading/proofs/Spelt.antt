@@ -1,7 +1,7 @@
 -- A field that is read is the text of its value, and the text of a value is read again.
-use Rattle.std.proofs.Common.{◌≡◌, ◌≢◌, ℕ, ◌+◌, ◌*◌, ◌-◌, ◌/◌, ◌%◌, ◌^◌, ◌<◌, ◌≤◌, Bool, true, false, cond, eqb, List, [], ◌∷◌, ◌++◌, length, get_or, Option, Some, None, Result, Ok, Err, refl, sym, ap, ◌∙◌, append_assoc, arith, inl, inr}
-use Rattle.std.specs.Prelude.{decimal, codes, ◌==◌, nat_le, ◌&&◌}
-use Rattle.std.specs.List.{flat_map, slice_split, onto_first}
+use Rattle.std.proofs.Common.{◌≡◌, ◌≢◌, ℕ, ◌+◌, ◌*◌, ◌-◌, ◌/◌, ◌%◌, ◌^◌, ◌<◌, ◌≤◌, Bool, true, false, cond, List, [], ◌∷◌, ◌++◌, length, get_or, Option, Some, None, Result, Ok, Err, refl, sym, ap, ◌∙◌, append_assoc, arith, inl, inr}
+use Rattle.std.specs.Prelude.{decimal, ◌==◌}
+use Rattle.std.specs.List.{flat_map, slice_split}
 use Rattle.std.specs.Str.Parse.{AllDigits, digits_value, digits_value_after}
 use Rattle.std.specs.Char.{digit_value}
 use Rattle.std.proofs.lemmas.Str.Parse.{IsNumeralModel, numerals_by_value, tells_digits}
@@ -9,10 +9,9 @@ use Rattle.std.specs.Fmt.{digit_glyph}
 use Rattle.std.proofs.lemmas.Fmt.{decimal_by_steps, decimal_nonempty, first_decimal, decimal_digit, decimal-digits_value}
 use Rattle.std.proofs.lemmas.List.{append-nil}
 use Rattle.std.proofs.lemmas.Bool.{cases_lt, false≢true}
-use Rattle.std.proofs.lemmas.Grind.{common_steps}
 use Rattle.std.proofs.lemmas.Bool.Decides.{nat_tests}
 use Rattle.line_reading.specs.declared.fault.Fault.{Fault}
-use Rattle.line_reading.specs.Reading.{◌>>=◌, is_at, is_digit, next_number, with_next, digits_after, number_in, digit_in, pair_in, pairs_in, bytes_in}
+use Rattle.line_reading.specs.Reading.{◌>>=◌, is_at, next_number, with_next, digits_after, number_in, digit_in, pair_in, pairs_in, bytes_in}
 use Rattle.line_reading.specs.Spelling.{Each, IsByte}
 use Rattle.journal_texts.specs.Words.{byte_text, bytes_text}
 

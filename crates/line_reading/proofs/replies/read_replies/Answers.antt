@@ -1,4 +1,4 @@
-use Rattle.std.proofs.Common.{[], Bor}
+use Rattle.std.proofs.Common.{[]}
 use Rattle.std.proofs.lemmas.Result.{err_from_is_err_and}
 use Rattle.line_reading.specs.Reading.{texts_of}
 use Rattle.line_reading.specs.Lines.{so_far, reply_at, items_from}
