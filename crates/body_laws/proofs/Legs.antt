@@ -18,7 +18,7 @@ use Rattle.pipe_types.specs.Numbers.{same_stage, batch_no}
 use Rattle.pipe_model.specs.History.{History, closed, incarnation}
 use Rattle.pipe_model.specs.Lives.{KillSet, kill_set, reason_in}
 use Rattle.pipe_model.specs.Batches.{Batch, BatchPlace, AtBatcher, Sent, Dropped, Leg, LegPlace, InInbox, AtWork, Answered, LegLost, is_settled, settled_as, lost_leg, failed_leg, outcome_place, place_by_batch, on_legs, leg_taken, leg_answered, leg_lost, new_legs, batch_sent, batch_on_legs, batch_killed, dropped_in}
-use Rattle.pipe_model.specs.Flow.{batch, view_of, among, sends_by, subs_of, place_in_batch, change_place, new_batch, next_units, closing}
+use Rattle.pipe_model.specs.Flow.{alone, batch, view_of, among, sends_by, subs_of, place_in_batch, change_place, new_batch, next_units, closing}
 use Rattle.pipe_model.specs.Acknowledgements.{is_acked_failed}
 use Rattle.pipe_laws.proofs.Tests.{and_left, and_right, both}
 use Rattle.body_laws.specs.Passes.{passes, all_pass}
@@ -91,15 +91,21 @@ new_pass : (subs : List SubNo) → legs_pass (new_legs subs) ≡ true
 new_pass [] = refl
 new_pass (u ∷ subs) = new_pass subs
 
-sent_passes : (s : StageNo) (subs : List SubNo) (p : BatchPlace) → place_passes p ≡ true → place_passes (batch_sent s subs p) ≡ true
-sent_passes s [] p h = h
-sent_passes s (u ∷ subs) (AtBatcher t) h = by_stage (same_stage s t)
+sent_passes : (s : StageNo) (is_alone : Bool) (subs : List SubNo) (p : BatchPlace) → place_passes p ≡ true → place_passes (batch_sent s is_alone subs p) ≡ true
+sent_passes s is_alone [] (AtBatcher t) h = by_stage (is_alone && same_stage s t)
+  where
+    by_stage : (b : Bool) → place_passes (if b then Sent [] else AtBatcher t) ≡ true
+    by_stage true = refl
+    by_stage false = refl
+sent_passes s is_alone [] (Sent legs) h = h
+sent_passes s is_alone [] (Dropped l) h = refl
+sent_passes s is_alone (u ∷ subs) (AtBatcher t) h = by_stage (same_stage s t)
   where
     by_stage : (b : Bool) → place_passes (if b then Sent (new_legs (u ∷ subs)) else AtBatcher t) ≡ true
     by_stage true = new_pass (u ∷ subs)
     by_stage false = refl
-sent_passes s (u ∷ subs) (Sent legs) h = h
-sent_passes s (u ∷ subs) (Dropped l) h = refl
+sent_passes s is_alone (u ∷ subs) (Sent legs) h = h
+sent_passes s is_alone (u ∷ subs) (Dropped l) h = refl
 
 killed_passes : (set : KillSet) (incarnation : StageNo → ℕ) (p : BatchPlace) → place_passes p ≡ true → place_passes (batch_killed set incarnation p) ≡ true
 killed_passes set incarnation (AtBatcher s) h = by_reason (reason_in set s)
@@ -125,7 +131,7 @@ batches_pass topology (Close s first trigger ∷ before) b h =
     either numbers true old = refl
     either numbers false old = old
 batches_pass topology (Dispatch s ∷ before) b h =
-    passes_mapped (batch_sent s (subs_of (sends_by topology before (view_of topology before) s) b)) (sent_passes s _) (batch topology before b) (batches_pass topology before b (pass_before before (Dispatch s) h))
+    passes_mapped (batch_sent s (among (alone topology before s) b) (subs_of (sends_by topology before (view_of topology before) s) b)) (sent_passes s _ _) (batch topology before b) (batches_pass topology before b (pass_before before (Dispatch s) h))
 batches_pass topology (Take s u k ∷ before) b h =
     either (among (next_units topology (view_of topology before) s u k) b) (batch topology before b) (batches_pass topology before b (pass_before before (Take s u k) h))
   where

@@ -6,6 +6,7 @@ use Rattle.pipe_types.specs.declared.numbers.StageNo.{StageNo}
 use Rattle.pipe_types.specs.declared.numbers.SubNo.{SubNo}
 use Rattle.pipe_types.specs.declared.topology.Topology.{Topology}
 use Rattle.pipe_types.specs.declared.message.Place.{Place}
+use Rattle.pipe_types.specs.declared.message.Outcome.TheVariants.{Successful}
 use Rattle.pipe_types.specs.declared.message.Place.TheVariants.{Waiting, Inbox, Running, Gathered, InBatch, Acked, Lost}
 use Rattle.pipe_types.specs.declared.message.Reply.{Reply}
 use Rattle.pipe_types.specs.declared.message.Reply.TheVariants.{Pass, Failed as FailedReply, Raised, Crashed}
@@ -43,20 +44,24 @@ late_fine : (s : StageNo) (i : ℕ) (why : Option Why) → is_acked_failed (Some
 late_fine s i (Some why) = refl
 late_fine s i None = refl
 
-dispatched_fine : (units : List SentUnit) (over : List ℕ) (s : StageNo) (n : ℕ) (p : Place) → is_acked_failed (Some p) ≡ false → is_acked_failed (Some (dispatched units over s n p)) ≡ false
-dispatched_fine units over s n (Waiting t) h = by_stage (same_stage s t) (subs_of units n) (among over n)
+dispatched_fine : (units : List SentUnit) (over alone : List ℕ) (s : StageNo) (n : ℕ) (p : Place) → is_acked_failed (Some p) ≡ false → is_acked_failed (Some (dispatched units over alone s n p)) ≡ false
+dispatched_fine units over alone s n (Waiting t) h = by_stage (same_stage s t) (subs_of units n) (among over n)
   where
     by_stage : (b : Bool) (subs : List SubNo) (is_over : Bool) → is_acked_failed (Some (if b then waiting_after subs is_over s else Waiting t)) ≡ false
     by_stage true [] true = refl
     by_stage true [] false = refl
     by_stage true (u ∷ subs) is_over = refl
     by_stage false subs is_over = refl
-dispatched_fine units over s n (Inbox u) h = refl
-dispatched_fine units over s n (Running t) h = refl
-dispatched_fine units over s n (Gathered t) h = refl
-dispatched_fine units over s n (InBatch b) h = refl
-dispatched_fine units over s n (Acked o) h = h
-dispatched_fine units over s n (Lost l) h = refl
+dispatched_fine units over alone s n (Inbox u) h = refl
+dispatched_fine units over alone s n (Running t) h = refl
+dispatched_fine units over alone s n (Gathered t) h = refl
+dispatched_fine units over alone s n (InBatch b) h = by_lone (among alone b.0)
+  where
+    by_lone : (a : Bool) → is_acked_failed (Some (if a then Acked Successful else InBatch b)) ≡ false
+    by_lone true = refl
+    by_lone false = refl
+dispatched_fine units over alone s n (Acked o) h = h
+dispatched_fine units over alone s n (Lost l) h = refl
 
 taken_fine : (chunk : List ℕ) (s : StageNo) (n : ℕ) (p : Place) → is_acked_failed (Some p) ≡ false → is_acked_failed (Some (taken chunk s n p)) ≡ false
 taken_fine chunk s n (Inbox u) h = either (same_stage s u.consumer && among chunk n)
@@ -180,7 +185,7 @@ none_failed topology [] n h = refl
 none_failed topology (Accept s records ∷ before) n h = accepted_fine _ _ n (Waiting s) (place topology before n) refl (none_failed topology before n (pass_before before (Accept s records) h))
 none_failed topology (Late s slot i (Records records) ∷ before) n h =
     accepted_fine _ _ n (late_place s i (death topology before s)) (place topology before n) (late_fine s i (death topology before s)) (none_failed topology before n (pass_before before (Late s slot i (Records records)) h))
-none_failed topology (Dispatch s ∷ before) n h = mapped_fine _ (dispatched_fine _ _ s n) (place topology before n) (none_failed topology before n (pass_before before (Dispatch s) h))
+none_failed topology (Dispatch s ∷ before) n h = mapped_fine _ (dispatched_fine _ _ _ s n) (place topology before n) (none_failed topology before n (pass_before before (Dispatch s) h))
 none_failed topology (Take s u k ∷ before) n h = mapped_fine _ (taken_fine _ s n) (place topology before n) (none_failed topology before n (pass_before before (Take s u k) h))
 none_failed topology (Done s replies ∷ before) n h =
     either (has_crash replies) _ (done_fine _ _ replies s n (pass_here before (Done s replies) h)) (none_failed topology before n (pass_before before (Done s replies) h))

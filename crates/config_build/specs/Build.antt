@@ -2,6 +2,7 @@
 use Rattle.std.specs.Prelude.{codes, ℕ, zero, suc, ◌+◌, ◌*◌, false, List, [], ◌∷◌, ◌++◌, length, map, Option, Some, None, unwrap_or, option_and_then, filter_map, slice_get}
 use Rattle.pipe_types.specs.declared.topology.Topology.{Topology}
 use Rattle.pipe_types.specs.declared.topology.StageSpec.{StageSpec}
+use Rattle.pipe_types.specs.declared.topology.RestartLimit.{RestartLimit}
 use Rattle.pipe_types.specs.declared.topology.Role.{Role}
 use Rattle.pipe_types.specs.declared.topology.Role.TheVariants as role
 use Rattle.pipe_types.specs.declared.topology.Dispatch.{Dispatch}
@@ -24,7 +25,7 @@ use Rattle.config_judge.specs.Judge.{batcher_names, processor_count, supervisor_
 -- a stage with its number, its name and its place in its group, and no other field
 abbrev pub blank_stage : ℕ → List ℕ → Role → ℕ → StageSpec
 blank_stage number name role index =
-    record { no = stage number; name = name; role = role; index = index; batcher = 0; dispatch = Demand; parts = 0; field = 0; size = None; keep = Last; push = false; mode = cancel.Temporary; min = 0; max = 0; kind = Steps; rules = []; failed = None; edge = None; batch_size = 0; batch_timeout = 0; child = child.Temporary; batchers = 0 }
+    record { no = stage number; name = name; role = role; index = index; batcher = 0; dispatch = Demand; parts = 0; field = 0; size = None; keep = Last; push = false; mode = cancel.Temporary; min = 0; max = 0; kind = Steps; rules = []; failed = None; edge = None; batch_size = 0; batch_timeout = 0; child = child.Temporary; batchers = 0; select = []; limit = 0 }
 
 -- the rules of texts, where these are the batchers' names
 abbrev pub rules_of : (known : List (List ℕ)) → List (List ℕ) → List Rule
@@ -98,10 +99,14 @@ batcher_stages before i (b ∷ batchers) = batcher_stage before i b ∷ batcher_
 abbrev pub sink_at : Option (List (List ℕ)) → ℕ → Option (List ℕ)
 sink_at sinks i = option_and_then (λ names. slice_get names i) sinks
 
+-- what the batches of the batch processor at a place begin with: nothing where the batcher has no selectors
+abbrev pub select_at : Option (List (List ℕ)) → ℕ → List ℕ
+select_at texts i = unwrap_or (option_and_then (λ ts. slice_get ts i) texts) []
+
 abbrev pub batch_processor_stage : (k : ℕ) → BatcherSettings → (before : ℕ) → ℕ → StageSpec
 batch_processor_stage k b before i =
     record (blank_stage (before + i + 1) (numbered_name b.name i) role.BatchProcessor i)
-    { batcher = k; mode = b.demand.mode; max = 1; kind = b.handler.kind; rules = rules_of [] b.handler.steps; failed = b.handler.failed; edge = sink_at b.sinks i }
+    { batcher = k; mode = b.demand.mode; max = 1; kind = b.handler.kind; rules = rules_of [] b.handler.steps; failed = b.handler.failed; edge = sink_at b.sinks i; select = select_at b.select i }
 
 abbrev pub batch_processor_stages : (before : ℕ) → (k : ℕ) → List BatcherSettings → List StageSpec
 batch_processor_stages before k [] = []
@@ -122,6 +127,10 @@ stages_of s =
     ++ (batcher_stages second 0 s.batchers
     ++ batch_processor_stages (second + length s.batchers) 0 s.batchers)))
 
+-- the one limit on restarts, which all stages share
+abbrev pub limits_of : Settings → List RestartLimit
+limits_of s = record { max_restarts = s.max_restarts; window_ms = s.max_seconds * 1000 } ∷ []
+
 abbrev pub topology_in : Settings → Topology
 topology_in s =
-    record { stages = stages_of s; max_restarts = s.max_restarts; window_ms = s.max_seconds * 1000; idle_limit = s.idle_limit; record_limit = 200000; byte_limit = 67108864; control = s.control }
+    record { stages = stages_of s; limits = limits_of s; idle_limit = s.idle_limit; record_limit = 200000; byte_limit = 67108864; control = s.control; rate = None }

@@ -14,7 +14,7 @@ use config_settings::settings::{
 };
 use config_table::fault::copied;
 use pipe_types::bytes::Text;
-use pipe_types::topology::{StageList, StageSpec, Topology};
+use pipe_types::topology::{LimitList, RestartLimit, StageList, StageSpec, Topology};
 use std::alloc::{AllocError, Global};
 
 fn push_producers(
@@ -204,23 +204,35 @@ fn copy_of(alloc: Global, text: &Option<Text>) -> Result<Option<Text>, AllocErro
     })
 }
 
+/// The one limit on restarts, which all stages share.
+fn limits_of(alloc: Global, settings: &Settings) -> Result<LimitList, AllocError>
+    ensures { IfOk result (λ limits. limits ≡ build.limits_of settings.now) }
+{
+    let window_ms = u64::from(settings.max_seconds) * 1000;
+    let mut limits = Vec::new(alloc);
+    limits.push(RestartLimit {
+        max_restarts: settings.max_restarts,
+        window_ms,
+    })?;
+    Ok(LimitList::from_vec(limits))
+}
+
 /// The topology of settings of at most 64 stages.
 pub fn build_topology(alloc: Global, settings: &Settings) -> Result<Topology, AllocError>
     requires few { judge.stage_count settings.now ≤ 64 }
     requires field { ForSome (build.partition_field settings.now.processors) (λ n. n < 2 ^ 16) }
     ensures { IfOk result (λ topology. topology ≡ build.topology_in settings.now) }
 {
-    let seconds = settings.max_seconds;
-    let window_ms = u64::from(seconds) * 1000;
     let stages = stages_of(alloc, settings)?;
+    let limits = limits_of(alloc, settings)?;
     let control = copy_of(alloc, &settings.control)?;
     Ok(Topology {
         stages,
-        max_restarts: settings.max_restarts,
-        window_ms,
+        limits,
         idle_limit: settings.idle_limit,
         record_limit: 200_000,
         byte_limit: 67_108_864,
         control,
+        rate: None,
     })
 }

@@ -10,7 +10,7 @@ use config_settings::settings::{
     BatcherSettings, ProcessorSettings, ProducerSettings, SupervisorSettings, TextList,
 };
 use config_table::fault::{at_place, copied};
-use pipe_types::bytes::Text;
+use pipe_types::bytes::{Bytes, Text};
 use pipe_types::numbers::StageNo;
 use pipe_types::topology::{
     CancelMode, ChildMode, Dispatch, Keep, Kind, Role, Rule, RuleList, StageSpec,
@@ -44,6 +44,8 @@ fn blank_stage(alloc: Global, no: u16, name: Text, role: Role, index: u16) -> St
         batch_timeout: 0,
         child: ChildMode::Temporary,
         batchers: 0,
+        select: Bytes::from_vec(Vec::new(alloc)),
+        limit: 0,
     }
 }
 
@@ -230,6 +232,26 @@ fn sink_at(alloc: Global, sinks: &Option<TextList>, index: u16) -> Result<Option
     }
 }
 
+/// The bytes of a text.
+fn bytes_of(alloc: Global, text: &str) -> Result<Bytes, AllocError>
+    ensures { IfOk result (λ bytes. bytes ≡ text.now) }
+{
+    Ok(Bytes::from_vec(Vec::from_slice(alloc, text.as_bytes())?))
+}
+
+/// What the batches of the batch processor at a place begin with: nothing where the batcher has no selectors.
+fn select_at(alloc: Global, select: &Option<TextList>, index: u16) -> Result<Bytes, AllocError>
+    ensures { IfOk result (λ text. text ≡ build.select_at select.now index) }
+{
+    match select {
+        None => Ok(Bytes::from_vec(Vec::new(alloc))),
+        Some(texts) => match texts.as_slice().get(index as usize) {
+            Some(text) => Ok(bytes_of(alloc, text.as_str())?),
+            None => Ok(Bytes::from_vec(Vec::new(alloc))),
+        },
+    }
+}
+
 /// The batch processor at a place of its batcher's group, behind as many stages.
 pub fn batch_processor_stage(
     alloc: Global,
@@ -244,6 +266,7 @@ pub fn batch_processor_stage(
     let name = member_name(alloc, batcher.name.as_str(), index)?;
     let rules = rules_of(alloc, &[], batcher.handler.steps.as_slice())?;
     let edge = sink_at(alloc, &batcher.sinks, index)?;
+    let select = select_at(alloc, &batcher.select, index)?;
     let mut stage = blank_stage(alloc, before + index + 1, name, Role::BatchProcessor, index);
     stage.batcher = number;
     stage.mode = batcher.demand.mode;
@@ -252,5 +275,6 @@ pub fn batch_processor_stage(
     stage.rules = rules;
     stage.failed = batcher.handler.failed;
     stage.edge = edge;
+    stage.select = select;
     Ok(stage)
 }

@@ -18,17 +18,17 @@ use Rattle.toml.specs.Data.{Members, no_members, member, no_items, item, string,
 -- a pull producer named `source` that reads SOURCE
 abbrev pub source_stage : (source : List ℕ) → StageSpec
 source_stage source =
-    record { no = stage 1; name = codes "source"; role = Producer; index = 0; batcher = 0; dispatch = Demand; parts = 0; field = 0; size = Some 10000; keep = Last; push = false; mode = cancel.Temporary; min = 0; max = 0; kind = Steps; rules = []; failed = None; edge = Some source; batch_size = 0; batch_timeout = 0; child = child.Temporary; batchers = 0 }
+    record { no = stage 1; name = codes "source"; role = Producer; index = 0; batcher = 0; dispatch = Demand; parts = 0; field = 0; size = Some 10000; keep = Last; push = false; mode = cancel.Temporary; min = 0; max = 0; kind = Steps; rules = []; failed = None; edge = Some source; batch_size = 0; batch_timeout = 0; child = child.Temporary; batchers = 0; select = []; limit = 0 }
 
 -- the only processor, which fails each message that does not begin with PREFIX
 abbrev pub require_stage : (prefix : List ℕ) → StageSpec
 require_stage prefix =
-    record { no = stage 2; name = codes "processors.0"; role = Processor; index = 0; batcher = 0; dispatch = Demand; parts = 0; field = 0; size = None; keep = Last; push = false; mode = cancel.Temporary; min = 5; max = 10; kind = Steps; rules = Require prefix ∷ []; failed = None; edge = None; batch_size = 0; batch_timeout = 0; child = child.Temporary; batchers = 0 }
+    record { no = stage 2; name = codes "processors.0"; role = Processor; index = 0; batcher = 0; dispatch = Demand; parts = 0; field = 0; size = None; keep = Last; push = false; mode = cancel.Temporary; min = 5; max = 10; kind = Steps; rules = Require prefix ∷ []; failed = None; edge = None; batch_size = 0; batch_timeout = 0; child = child.Temporary; batchers = 0; select = []; limit = 0 }
 
 -- the two stages, with at most 3 restarts in 5 seconds and no control source
 abbrev pub flow_topology_of : (source prefix : List ℕ) → Topology
 flow_topology_of source prefix =
-    record { stages = source_stage source ∷ require_stage prefix ∷ []; max_restarts = 3; window_ms = 5000; idle_limit = 0; record_limit = 200000; byte_limit = 67108864; control = None }
+    record { stages = source_stage source ∷ require_stage prefix ∷ []; limits = record { max_restarts = 3; window_ms = 5000 } ∷ []; idle_limit = 0; record_limit = 200000; byte_limit = 67108864; control = None; rate = None }
 
 -- ---- the file: `version = 1`, a producer and the processors
 

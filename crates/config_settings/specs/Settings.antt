@@ -13,7 +13,7 @@ use Rattle.pipe_types.specs.declared.topology.Dispatch.{Dispatch}
 use Rattle.pipe_types.specs.declared.topology.Dispatch.TheVariants as dispatch
 use Rattle.toml.specs.Data.{Items, no_items, item, Members, as_str, as_array, as_table}
 use Rattle.config_table.specs.declared.format.Key.{Key}
-use Rattle.config_table.specs.declared.format.Key.TheVariants.{Pipeline, Producer, Processors, Supervisor, Batcher, MaxRestarts, MaxSeconds, IdleLimit, Control, Name, Source, Mode, BufferSize, BufferKeep, Concurrency, MaxDemand, MinDemand, Cancel, PartitionBy, Kind as KindKey, Steps, Failed, Restart, BatchSize, BatchTimeout, Dispatch as DispatchKey, Sinks}
+use Rattle.config_table.specs.declared.format.Key.TheVariants.{Pipeline, Producer, Processors, Supervisor, Batcher, MaxRestarts, MaxSeconds, IdleLimit, Control, Name, Source, Mode, BufferSize, BufferKeep, Concurrency, MaxDemand, MinDemand, Cancel, PartitionBy, Kind as KindKey, Steps, Failed, Restart, BatchSize, BatchTimeout, Dispatch as DispatchKey, Select, Sinks}
 use Rattle.config_table.specs.declared.format.Shape.{Shape}
 use Rattle.config_table.specs.declared.format.Shape.TheVariants as shape
 use Rattle.config_table.specs.declared.format.Range.{Range}
@@ -147,6 +147,7 @@ batcher_of table =
       demand = demand_of (format.batcher_max table) table;
       dispatch = given_dispatch (text_at DispatchKey table);
       handler = handler_of (batch_kind (word shape.BatchKind KindKey table)) table;
+      select = texts_at Select table;
       sinks = texts_at Sinks table;
     }
 

@@ -267,6 +267,7 @@ fn batcher_of(alloc: Global, table: &Table) -> Result<BatcherSettings, AllocErro
     let name = text(alloc, table, Key::Name)?;
     let kind = batch_kind(word(table, Shape::BatchKind, Key::Kind));
     let handler = handler_of(alloc, kind, table)?;
+    let select = texts_at(alloc, table, Key::Select)?;
     let sinks = texts_at(alloc, table, Key::Sinks)?;
     let concurrency = number(table, Key::Concurrency, Range::BATCHER_CONCURRENCY);
     let batch_size = number(table, Key::BatchSize, Range::BATCH_SIZE);
@@ -281,6 +282,7 @@ fn batcher_of(alloc: Global, table: &Table) -> Result<BatcherSettings, AllocErro
         demand,
         dispatch,
         handler,
+        select,
         sinks,
     })
 }

@@ -85,6 +85,7 @@ pub struct BatcherSettings {
     pub demand: Demand,
     pub dispatch: Option<Dispatch>,
     pub handler: Handler,
+    pub select: Option<TextList>,
     pub sinks: Option<TextList>,
 }
 

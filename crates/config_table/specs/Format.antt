@@ -1,13 +1,13 @@
 -- The tables of a topology file: for each key its type, its range and its default. Rows stand in byte order of their keys.
-use Rattle.std.specs.Prelude.{codes, ℕ, ◌-◌, ◌/◌, Bool, true, false, List, [], ◌∷◌, Option, Some, None, if◌then◌else◌, ℤ, pos, negsuc, option_and_then}
+use Rattle.std.specs.Prelude.{codes, ℕ, ◌-◌, ◌/◌, Bool, true, false, List, [], ◌∷◌, Option, Some, None, if◌then◌else◌, ℤ, pos, negsuc, option_and_then, bytes_eq}
 use Rattle.pipe_types.specs.Sound.{is_between}
-use Rattle.toml.specs.Data.{Data, Members, get_member, as_integer}
+use Rattle.toml.specs.Data.{Data, Members, get_member, as_integer, as_str}
 use Rattle.config_table.specs.declared.format.Key.{Key}
-use Rattle.config_table.specs.declared.format.Key.TheVariants.{Version, Pipeline, Producer, Processors, Supervisor, Batcher, MaxRestarts, MaxSeconds, IdleLimit, Control, Name, Source, Mode, BufferSize, BufferKeep, Concurrency, MaxDemand, MinDemand, Cancel, PartitionBy, Kind, Steps, Failed, Restart, BatchSize, BatchTimeout, Dispatch, Sinks}
+use Rattle.config_table.specs.declared.format.Key.TheVariants.{Version, Pipeline, Producer, Processors, Supervisor, Batcher, MaxRestarts, MaxSeconds, IdleLimit, Control, Name, Source, Mode, BufferSize, BufferKeep, Concurrency, MaxDemand, MinDemand, Cancel, PartitionBy, Kind, Steps, Failed, Restart, BatchSize, BatchTimeout, Dispatch, Select, Sinks}
 use Rattle.config_table.specs.declared.format.Range.{Range}
 use Rattle.config_table.specs.declared.format.Shape.TheVariants as shape
 use Rattle.config_table.specs.declared.format.Form.{Form}
-use Rattle.config_table.specs.declared.format.Form.TheVariants.{Whole, Text, RuleTexts, SinkTexts}
+use Rattle.config_table.specs.declared.format.Form.TheVariants.{Whole, Text, RuleTexts, SinkTexts, SelectTexts}
 use Rattle.config_table.specs.declared.format.Row.{Row}
 use Rattle.config_table.specs.declared.format.Section.{Section}
 use Rattle.config_table.specs.declared.format.Section.TheVariants as section
@@ -40,6 +40,7 @@ key_name Restart = codes "restart"
 key_name BatchSize = codes "batch_size"
 key_name BatchTimeout = codes "batch_timeout"
 key_name Dispatch = codes "dispatch"
+key_name Select = codes "select"
 key_name Sinks = codes "sinks"
 
 -- what a table holds at a key
@@ -116,6 +117,16 @@ batcher_max table = range 1 10000 (number batch_size BatchSize table)
 abbrev pub min_demand : (max : ℕ) → Range
 min_demand max = range 0 (max - 1) (max / 2)
 
+-- ---- the dispatcher
+
+abbrev pub is_broadcast_word : Option (List ℕ) → Bool
+is_broadcast_word None = false
+is_broadcast_word (Some word) = bytes_eq word (codes "broadcast")
+
+-- the dispatcher of the batcher's table is the one that broadcasts
+abbrev pub does_broadcast : Members → Bool
+does_broadcast table = is_broadcast_word (option_and_then as_str (value_at Dispatch table))
+
 -- ---- the tables
 
 abbrev pub row : Key → Form → Row
@@ -164,8 +175,8 @@ supervisor_rows max =
     ∷ row Steps RuleTexts
     ∷ []
 
-abbrev pub batcher_rows : (max_range : Range) → (max concurrency : ℕ) → List Row
-batcher_rows max_range max concurrency =
+abbrev pub batcher_rows : (max_range : Range) → (max concurrency : ℕ) → (is_broadcast : Bool) → List Row
+batcher_rows max_range max concurrency is_broadcast =
     row BatchSize (Whole batch_size)
     ∷ row BatchTimeout (Whole batch_timeout)
     ∷ row Cancel (Text shape.Cancel)
@@ -176,6 +187,7 @@ batcher_rows max_range max concurrency =
     ∷ row MaxDemand (Whole max_range)
     ∷ row MinDemand (Whole (min_demand max))
     ∷ required_row Name (Text shape.Name)
+    ∷ row Select (SelectTexts concurrency is_broadcast)
     ∷ row Sinks (SinkTexts concurrency)
     ∷ row Steps RuleTexts
     ∷ []
@@ -185,4 +197,4 @@ rows section.Pipeline table = pipeline_rows
 rows section.Producer table = producer_rows
 rows section.Processors table = processors_rows (number processors_max MaxDemand table)
 rows section.Supervisor table = supervisor_rows (number supervisor_max MaxDemand table)
-rows section.Batcher table = batcher_rows (batcher_max table) (number (batcher_max table) MaxDemand table) (number batcher_concurrency Concurrency table)
+rows section.Batcher table = batcher_rows (batcher_max table) (number (batcher_max table) MaxDemand table) (number batcher_concurrency Concurrency table) (does_broadcast table)

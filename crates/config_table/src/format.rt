@@ -36,6 +36,7 @@ pub enum Key {
     BatchSize,
     BatchTimeout,
     Dispatch,
+    Select,
     Sinks,
 }
 
@@ -54,6 +55,7 @@ pub enum Shape {
     Edge,
     Reason,
     Rule,
+    Selector,
     Any,
     Mode,
     Keep,
@@ -63,13 +65,15 @@ pub enum Shape {
     BatchKind,
 }
 
-/// What a key may hold: a whole number, a text, at most 64 rules, or as many sinks as this.
+/// What a key may hold: a whole number, a text, at most 64 rules, as many sinks as this, or as many selectors where the
+/// dispatcher broadcasts.
 #[derive(Clone, Copy)]
 pub enum Form {
     Whole(Range),
     Text(Shape),
     RuleTexts,
     SinkTexts(u32),
+    SelectTexts(u32, bool),
 }
 
 /// A key of a table.
@@ -123,6 +127,7 @@ impl Key {
             Key::BatchSize => "batch_size",
             Key::BatchTimeout => "batch_timeout",
             Key::Dispatch => "dispatch",
+            Key::Select => "select",
             Key::Sinks => "sinks",
         }
     }

@@ -4,7 +4,7 @@ ghost use Rattle.std.specs.Prelude.{◌≡◌, IfOk};
 ghost use Rattle.toml.specs.View.{table_view};
 ghost use Rattle.config_table.specs.Format as format;
 
-use crate::format::{Form, Key, Range, Row, Section, Shape, number};
+use crate::format::{Form, Key, Range, Row, Section, Shape, number, value_at};
 use std::alloc::{AllocError, Global};
 use toml::Table;
 
@@ -177,8 +177,9 @@ fn batcher_rows(
     max_range: Range,
     max: u32,
     concurrency: u32,
+    is_broadcast: bool,
 ) -> Result<Vec<Row>, AllocError>
-    ensures { IfOk result (λ rows. rows.items ≡ format.batcher_rows max_range max concurrency) }
+    ensures { IfOk result (λ rows. rows.items ≡ format.batcher_rows max_range max concurrency is_broadcast) }
 {
     let rows = [
         row(Key::BatchSize, Form::Whole(Range::BATCH_SIZE)),
@@ -191,10 +192,24 @@ fn batcher_rows(
         row(Key::MaxDemand, Form::Whole(max_range)),
         row(Key::MinDemand, Form::Whole(Range::min_demand(max))),
         required_row(Key::Name, Form::Text(Shape::Name)),
+        row(Key::Select, Form::SelectTexts(concurrency, is_broadcast)),
         row(Key::Sinks, Form::SinkTexts(concurrency)),
         row(Key::Steps, Form::RuleTexts),
     ];
     Ok(Vec::from_array(alloc, rows)?)
+}
+
+/// Whether the dispatcher of the batcher's table is the one that broadcasts.
+fn does_broadcast(table: &Table) -> bool
+    ensures { result ≡ format.does_broadcast (table_view table.now) }
+{
+    match value_at(table, Key::Dispatch) {
+        Some(value) => match value.as_str() {
+            Some(word) => word == "broadcast",
+            None => false,
+        },
+        None => false,
+    }
 }
 
 /// The rows of a table of this section; some ranges depend on the values of the table.
@@ -216,7 +231,7 @@ pub fn rows(alloc: Global, section: Section, table: &Table) -> Result<Vec<Row>, 
             let max_range = Range::batcher_max(table);
             let max = number(table, Key::MaxDemand, max_range);
             let concurrency = number(table, Key::Concurrency, Range::BATCHER_CONCURRENCY);
-            batcher_rows(alloc, max_range, max, concurrency)
+            batcher_rows(alloc, max_range, max, concurrency, does_broadcast(table))
         }
     }
 }

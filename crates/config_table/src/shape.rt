@@ -49,7 +49,12 @@ impl Shape {
             Shape::Restart => of_two(text, "temporary", "transient"),
             Shape::Kind => of_two(text, "steps", "own"),
             Shape::BatchKind => of_three(text, "lines", "steps", "own"),
-            Shape::Name | Shape::Edge | Shape::Reason | Shape::Rule | Shape::Any => None,
+            Shape::Name
+            | Shape::Edge
+            | Shape::Reason
+            | Shape::Rule
+            | Shape::Selector
+            | Shape::Any => None,
         }
     }
 
@@ -62,6 +67,7 @@ impl Shape {
             Shape::Edge => !text.is_empty() && text.len() <= 4096,
             Shape::Reason => is_reason_text(text.as_bytes()),
             Shape::Rule => is_rule_text(text.as_bytes()),
+            Shape::Selector => text.len() <= 4096,
             Shape::Any => true,
             Shape::Mode => self.word_place(text).is_some(),
             Shape::Keep => self.word_place(text).is_some(),

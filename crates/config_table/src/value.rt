@@ -77,6 +77,22 @@ fn sinks_flaw(count: u32, value: &Value) -> Option<Flaw>
     }
 }
 
+#[tactic(auto, using(crate::proofs::Items::count_lemma))]
+fn select_flaw(count: u32, is_broadcast: bool, value: &Value) -> Option<Flaw>
+    ensures { result ≡ values.select_flaw count is_broadcast (as_array (view value.now)) }
+{
+    match value.as_array() {
+        None => Some(Flaw::WrongType),
+        Some(items) => {
+            if items.len() == count as usize && is_broadcast {
+                None
+            } else {
+                Some(Flaw::OutOfRange)
+            }
+        }
+    }
+}
+
 /// What is wrong with the value itself.
 fn flaw_of(form: Form, value: &Value) -> Option<Flaw>
     ensures { result ≡ values.flaw_of form (view value.now) }
@@ -86,6 +102,7 @@ fn flaw_of(form: Form, value: &Value) -> Option<Flaw>
         Form::Text(shape) => text_flaw(shape, value),
         Form::RuleTexts => rules_flaw(value),
         Form::SinkTexts(count) => sinks_flaw(count, value),
+        Form::SelectTexts(count, is_broadcast) => select_flaw(count, is_broadcast, value),
     }
 }
 
@@ -164,6 +181,7 @@ fn inner_fault(
         Form::Text(_) => Ok(None),
         Form::RuleTexts => items_fault(alloc, path, Shape::Rule, value),
         Form::SinkTexts(_) => items_fault(alloc, path, Shape::Any, value),
+        Form::SelectTexts(_, _) => items_fault(alloc, path, Shape::Selector, value),
     }
 }
 

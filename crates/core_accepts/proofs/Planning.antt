@@ -7,25 +7,28 @@ use Rattle.pipe_types.specs.declared.numbers.StageNo.{StageNo}
 use Rattle.pipe_types.specs.declared.numbers.SubNo.{SubNo}
 use Rattle.pipe_types.specs.declared.topology.Topology.{Topology}
 use Rattle.pipe_types.specs.declared.topology.StageSpec.{StageSpec}
-use Rattle.pipe_types.specs.declared.topology.Role.TheVariants.{Producer}
+use Rattle.pipe_types.specs.declared.topology.Role.{Role}
+use Rattle.pipe_types.specs.declared.topology.Role.TheVariants.{Producer, Processor, Supervisor, Batcher, BatchProcessor}
 use Rattle.pipe_types.specs.declared.topology.Keep.{Keep}
 use Rattle.pipe_types.specs.declared.topology.Keep.TheVariants.{Last, First}
 use Rattle.pipe_types.specs.declared.room.Room.{Room}
 use Rattle.pipe_types.specs.declared.room.Sent.{Sent}
 use Rattle.pipe_types.specs.declared.step.Step.TheVariants.{Accept}
-use Rattle.pipe_types.specs.Dispatchers.{sends_by_place}
+use Rattle.pipe_types.specs.Dispatchers.{Serving, sends_by_place}
 use Rattle.pipe_types.specs.Sound.{IsSound}
 use Rattle.pipe_types.specs.Stages.{spec_of, feeds}
 use Rattle.pipe_model.specs.History.{History, accepted, asked}
 use Rattle.pipe_model.specs.Lives.{is_live, current_sub, live_subs_from}
-use Rattle.pipe_model.specs.Flow.{waiting, deliveries, lost_over, over_in, over_size, unsent, rooms_by, view_of, kind_in, index_in, sent, is_empty}
+use Rattle.pipe_model.specs.Flow.{waiting, deliveries, alone, lost_over, over_in, over_size, unsent, rooms_by, view_of, kind_in, index_in, sent, is_empty, is_batcher, picks_by, serving_by}
 use Rattle.pipe_model.specs.Legal.{is_legal, may_dispatch}
+use Rattle.queue_laws.proofs.Alone.{none_alone}
 use Rattle.core_tables.specs.Tables.{named}
-use Rattle.core_laws.specs.Columns.{part_of, waiting_parts}
+use Rattle.core_laws.specs.Columns.{part_of, waiting_parts, is_broadcast}
 use Rattle.core_laws.specs.Enrolled.{record_part, queued}
 use Rattle.core_laws.specs.Laws.{AcceptLaws}
 use Rattle.core_laws.proofs.Parts.{sends_by_parts}
-use Rattle.core_sends.specs.Rooms.{planned, parts_of}
+use Rattle.core_sends.specs.Rooms.{planned, marks_of}
+use Rattle.core_sends.proofs.Queued.{served_plain, plain_cast}
 use Rattle.core_sends.proofs.Sent.{deliveries_named}
 use Rattle.core_accepts.specs.Records.{is_over}
 use Rattle.core_accepts.proofs.Enrolling.{parts_accepted}
@@ -68,17 +71,32 @@ new_parts topology before s spec records sound legal law found role =
     ∙ (ap (λ ps. ps ++ map fst (queued spec (accepted before + 1) records)) (firsts (part_of topology before (spec_of topology s)) (waiting topology before s))
     ∙ ap (λ ps. map (part_of topology before (spec_of topology s)) (waiting topology before s) ++ ps) (first_parts spec (accepted before + 1) records)))))
 
+-- a producer is no batcher
+pub no_batcher : (topology : Topology) (s : StageNo) (spec : StageSpec) → spec_of topology s ≡ Some spec → spec.role ≡ Producer → is_batcher (spec_of topology s) ≡ false
+no_batcher topology s spec found role = ap is_batcher found ∙ by spec.role role
+  where
+    by : (r : Role) → r ≡ Producer → is_batcher (Some (record spec { role = r })) ≡ false
+    by Producer h = refl
+    by Processor h = cc
+    by Supervisor h = cc
+    by Batcher h = cc
+    by BatchProcessor h = cc
+
 -- what a dispatch sends after the accept was planned before it
 pub planned_accepted : (topology : Topology) (before : History) (s : StageNo) (spec : StageSpec) (records : List (List ℕ)) → IsSound topology → is_legal topology before ≡ true → AcceptLaws topology before s records
     → spec_of topology s ≡ Some spec → spec.role ≡ Producer
     → planned topology (Accept s records ∷ before) s [] ≡ planned topology before s (map (record_part spec) records)
 planned_accepted topology before s spec records sound legal law found role =
-    let kind = kind_in (spec_of topology s) in
+    let old : Serving = serving_by topology before (view_of topology before) s in
+    let new : Serving = serving_by topology (Accept s records ∷ before) (view_of topology (Accept s records ∷ before)) s in
     let rooms : List Room = rooms_by topology before (view_of topology before) s in
-    ap (λ rs. sends_by_place kind rs (parts_of topology (Accept s records ∷ before) s ++ [])) (rooms_accepted topology before s records s)
-    ∙ (sym (sends_by_parts topology (Accept s records ∷ before) s rooms [])
-    ∙ (ap (sends_by_place kind rooms) (new_parts topology before s spec records sound legal law found role)
-    ∙ sends_by_parts topology before s rooms (map (record_part spec) records)))
+    let plain : is_broadcast (kind_in (spec_of topology s)) ≡ false = plain_cast topology s sound (no_batcher topology s spec found role) in
+    ap (λ rs. sends_by_place new rs (marks_of topology (Accept s records ∷ before) s ++ [])) (rooms_accepted topology before s records s)
+    ∙ (sym (sends_by_parts topology (Accept s records ∷ before) s rooms [] plain)
+    ∙ (ap (λ (k : Serving). sends_by_place k rooms (map (part_of topology (Accept s records ∷ before) (spec_of topology s)) (waiting topology (Accept s records ∷ before) s) ++ []))
+    (served_plain (kind_in (spec_of topology s)) (picks_by topology (Accept s records ∷ before) (view_of topology (Accept s records ∷ before))) (picks_by topology before (view_of topology before)) plain)
+    ∙ (ap (sends_by_place old rooms) (new_parts topology before s spec records sound legal law found role)
+    ∙ sends_by_parts topology before s rooms (map (record_part spec) records) plain)))
 
 -- Whether one is owed
 
@@ -126,11 +144,12 @@ no_length [] = refl
 no_length (n ∷ ns) = grind (arith, nat_tests)
 
 -- a dispatch sends what is planned, or loses what is over the size where nothing is sent
-pub may_by : (topology : Topology) (before : History) (s : StageNo) (spec : StageSpec) → spec_of topology s ≡ Some spec → is_live topology before s ≡ true
+pub may_by : (topology : Topology) (before : History) (s : StageNo) (spec : StageSpec) → is_batcher (spec_of topology s) ≡ false → spec_of topology s ≡ Some spec → is_live topology before s ≡ true
     → may_dispatch topology before s ≡ (not (is_empty (planned topology before s [])) || is_over spec.size (length (waiting topology before s)))
-may_by topology before s spec found live =
-    ap (λ b. b && (not (is_empty (deliveries topology before s)) || not (is_empty (lost_over topology before (view_of topology before) s)))) live
-    ∙ by (planned topology before s []) (deliveries topology before s) refl (deliveries_named topology before s)
+may_by topology before s spec messages found live =
+    ap (λ b. b && (not (is_empty (deliveries topology before s)) || (not (is_empty (alone topology before s)) || not (is_empty (lost_over topology before (view_of topology before) s))))) live
+    ∙ (ap (λ (ns : List ℕ). not (is_empty (deliveries topology before s)) || (not (is_empty ns) || not (is_empty (lost_over topology before (view_of topology before) s)))) (none_alone topology before s messages)
+    ∙ by (planned topology before s []) (deliveries topology before s) refl (deliveries_named topology before s))
   where
     by : (plan sends : List Sent) → deliveries topology before s ≡ sends → sends ≡ map (named (waiting topology before s)) plan
         → (not (is_empty (deliveries topology before s)) || not (is_empty (over_in (spec_of topology s) (unsent (deliveries topology before s) (waiting topology before s)))))
@@ -144,10 +163,10 @@ may_by topology before s spec found live =
         ∙ over_some spec.size spec.keep (waiting topology before s)))
 
 -- as the queue and the plan show it
-pub due_by : (topology : Topology) (before : History) (s : StageNo) (spec : StageSpec) (plan : List Sent) (units : ℕ) → spec_of topology s ≡ Some spec → is_live topology before s ≡ true
+pub due_by : (topology : Topology) (before : History) (s : StageNo) (spec : StageSpec) (plan : List Sent) (units : ℕ) → is_batcher (spec_of topology s) ≡ false → spec_of topology s ≡ Some spec → is_live topology before s ≡ true
     → plan ≡ planned topology before s [] → units ≡ length (waiting topology before s) → (not (length plan == 0) || is_over spec.size units) ≡ may_dispatch topology before s
-due_by topology before s spec plan units found live is many =
+due_by topology before s spec plan units messages found live is many =
     ap (λ b. not b || is_over spec.size units) (no_length plan)
     ∙ (ap (λ ds. not (is_empty ds) || is_over spec.size units) is
     ∙ (ap (λ n. not (is_empty (planned topology before s [])) || is_over spec.size n) many
-    ∙ sym (may_by topology before s spec found live)))
+    ∙ sym (may_by topology before s spec messages found live)))

@@ -100,10 +100,11 @@ fn parts_in(alloc: Global, spec: &StageSpec, records: &[Bytes]) -> Result<Vec<u3
     Ok(parts)
 }
 
-/// Whether a dispatch of the live stage sends something, of which this was planned, or loses what is over the size.
+/// Whether a dispatch of the live stage of messages sends something, of which this was planned, or loses what is over the size.
 fn is_due(core: &Core, stage: StageNo, sent: &[Sent]) -> bool
     requires holds { Holds core.now }
     requires live { is_live core.now.topology core.now.journal.steps stage ≡ true }
+    requires messages { is_batcher (spec_of core.now.topology stage) ≡ false }
     requires planned { sent.now ≡ planned core.now.topology core.now.journal.steps stage [] }
     ensures { result ≡ may_dispatch core.now.topology core.now.journal.steps stage }
 {

@@ -9,7 +9,7 @@ use Rattle.pipe_types.specs.Stages.{spec_of}
 use Rattle.pipe_model.specs.History.{History, accepted_bytes}
 use Rattle.pipe_model.specs.Posts.{is_out}
 use Rattle.pipe_model.specs.Lives.{is_live, death}
-use Rattle.pipe_model.specs.Flow.{is_empty, deliveries, lost_over, view_of}
+use Rattle.pipe_model.specs.Flow.{is_empty, deliveries, alone, lost_over, view_of}
 use Rattle.pipe_model.specs.Legal.{may_come, may_dispatch, bound, has_role, is_producer_role, has_ended, rests, happened, is_drain}
 
 pub unfound : (topology : Topology) (before : History) (s : StageNo) → spec_of topology s ≡ None → is_live topology before s ≡ false
@@ -17,7 +17,7 @@ unfound topology before s none = ap (λ o. is_some o && is_none (death topology 
 
 pub unfound_dispatch : (topology : Topology) (before : History) (s : StageNo) → spec_of topology s ≡ None → false ≡ may_dispatch topology before s
 unfound_dispatch topology before s none =
-    sym (ap (λ b. b && (not (is_empty (deliveries topology before s)) || not (is_empty (lost_over topology before (view_of topology before) s)))) (unfound topology before s none))
+    sym (ap (λ b. b && (not (is_empty (deliveries topology before s)) || (not (is_empty (alone topology before s)) || not (is_empty (lost_over topology before (view_of topology before) s))))) (unfound topology before s none))
 
 -- a fetch of another count may not come
 pub other_count : (topology : Topology) (before : History) (s : StageNo) (n : ℕ) → (n == bound topology before s) ≡ false → false ≡ may_come topology before (Fetch s n)

@@ -1,17 +1,18 @@
 //! Kills by control lines, restarts, and the halt.
 
-ghost use Rattle.std.specs.Prelude.{◌≡◌, ◌&&◌, Some};
-ghost use Rattle.std.specs.List.{list_any};
+ghost use Rattle.std.specs.Prelude.{◌≡◌, Some};
 ghost use Rattle.pipe_types.specs.declared.step.Step.TheVariants.{Kill, Restart, Halt};
 ghost use Rattle.pipe_types.specs.Stages.{spec_of};
-ghost use Rattle.pipe_model.specs.Legal.{may_come, needs_restart, no_post_out};
+ghost use Rattle.pipe_model.specs.Legal.{may_come};
 ghost use Rattle.core_state.specs.Stands.{Stands};
+ghost use Rattle.core_allows.specs.Lives.{does_halt};
 
 use crate::rows::may_control;
 use core_rows::rows::{is_ready_to_restart, may_restart as is_below_limit};
 use core_state::Core;
 use pipe_types::message::Why;
 use pipe_types::numbers::StageNo;
+use pipe_types::topology::StageSpec;
 
 /// Whether a control line may kill the stage so.
 pub fn may_kill(core: &Core, stage: StageNo, why: Why) -> bool
@@ -24,34 +25,35 @@ pub fn may_kill(core: &Core, stage: StageNo, why: Why) -> bool
     }
 }
 
-/// Whether the stage may be restarted: it needs it, no job of it is out, and fewer restarts than the limit count now.
+/// Whether the stage may be restarted: it needs it, no job of it is out, and its limit allows one more now.
 pub fn may_restart(core: &Core, stage: StageNo) -> bool
     requires stands { Stands core.now }
     ensures { result ≡ may_come core.now.topology core.now.journal.steps (Restart stage) }
 {
     match core.topology.stages.find(stage) {
-        Some(spec) => is_ready_to_restart(core, spec) && is_below_limit(core),
+        Some(spec) => is_ready_to_restart(core, spec) && is_below_limit(core, stage),
         None => false,
     }
 }
 
-/// Whether the pipeline may halt: a stage is ready to be restarted, and too many restarts count now.
+/// Whether the pipeline may halt: a stage is ready to be restarted, and its limit is met.
 pub fn may_halt(core: &Core) -> bool
     requires stands { Stands core.now }
     ensures { result ≡ may_come core.now.topology core.now.journal.steps Halt }
 {
-    !is_below_limit(core) && is_any_ready(core)
-}
-
-/// Whether a stage needs a restart and no job of it is out.
-fn is_any_ready(core: &Core) -> bool
-    requires stands { Stands core.now }
-    ensures { result ≡ list_any (λ spec. needs_restart core.now.topology core.now.journal.steps spec.no && no_post_out core.now.topology core.now.journal.steps spec.no) core.now.topology.stages }
-{
     for spec in core.topology.stages.as_slice() {
-        if is_ready_to_restart(core, spec) {
+        if is_over_limit(core, spec) {
             return true;
         }
     }
     false
+}
+
+/// Whether the stage is ready to be restarted, and its limit is met.
+fn is_over_limit(core: &Core, spec: &StageSpec) -> bool
+    requires stands { Stands core.now }
+    requires there { spec_of core.now.topology spec.now.no ≡ Some spec.now }
+    ensures { result ≡ does_halt core.now.topology core.now.journal.steps spec.now }
+{
+    is_ready_to_restart(core, spec) && !is_below_limit(core, spec.no)
 }

@@ -1,6 +1,6 @@
 -- The fields after a close.
 use Rattle.std.proofs.Common.{◌≡◌, ◌≢◌, ℕ, zero, suc, ◌+◌, ◌-◌, ◌<◌, ◌≤◌, List, [], ◌∷◌, ◌++◌, map, length, Bool, true, false, refl, ap, sym, ◌∙◌, Some, None, Option, arith, subst, inl, inr, All}
-use Rattle.std.specs.Prelude.{slice_get, option_map, if◌then◌else◌, ◌==◌, ◌&&◌, ◌||◌, ◌⊎◌, is_some, nat_le, not, filter, IfSome, IsTrue, remove, slice_index_or, bytes_eq}
+use Rattle.std.specs.Prelude.{slice_get, option_map, if◌then◌else◌, ◌==◌, ◌&&◌, ◌||◌, ◌⊎◌, is_some, nat_le, not, filter, IfSome, remove, bytes_eq}
 use Rattle.std.proofs.lemmas.Bool.{eq-eqb, eqb-true, ne_eqb, leb-true, false_from_ne_true}
 use Rattle.std.proofs.lemmas.List.{length-append, map-append}
 use Rattle.std.proofs.lemmas.Option.{slice_get_within}
@@ -27,7 +27,7 @@ use Rattle.pipe_types.specs.Dispatchers.{partition_of}
 use Rattle.pipe_model.specs.History.{History, now, accepted, closed}
 use Rattle.pipe_model.specs.Batches.{Batch}
 use Rattle.pipe_model.specs.Content.{content, key_in, gathers}
-use Rattle.pipe_model.specs.Flow.{place, batch, waiting, view_of, closing, is_gathered_in, put_in_batch, new_batch, first_in, is_batcher, among, is_empty, batch_waits_in, waits_in, subs_of, deliveries}
+use Rattle.pipe_model.specs.Flow.{place, batch, waiting, view_of, closing, is_gathered_in, put_in_batch, new_batch, first_in, is_batcher, among, is_empty}
 use Rattle.pipe_model.specs.Legal.{allows, is_legal, owed, is_batcher_role, has_role, trigger_of, same_trigger, is_dry, batch_size_in, batch_timeout_in, gathered_at, ends_in_flush}
 use Rattle.pipe_model.specs.Lives.{is_live as is_live_stage}
 use Rattle.pipe_model.specs.Standing.{gathered_in, of_key}
@@ -37,7 +37,6 @@ use Rattle.pipe_laws.proofs.Lists.{Each, each_always, each_weaker, each_filter, 
 use Rattle.pipe_laws.proofs.Allowed.{unowed}
 use Rattle.pipe_laws.proofs.Accepted.{placed_accepted}
 use Rattle.pipe_laws.proofs.Entries.{is_waiting, waiting_each}
-use Rattle.pipe_laws.proofs.Places.{IsOn, sends_on}
 use Rattle.pipe_laws.proofs.Settled.{batch_closed}
 use Rattle.queue_laws.proofs.Filters.{filter_each}
 use Rattle.queue_laws.proofs.Gathering.{gathered_here}
@@ -642,7 +641,7 @@ found_closing core s first trigger dry found key numbers stands allowed dries cl
       same = f.same;
     }
 
-pub closed_small : (core : Core) → Stands core → closed core.journal.steps ≤ 200000
+pub closed_small : (core : Core) → Stands core → closed core.journal.steps ≤ 2000000
 closed_small core stands =
     omega (arith, closed_law core.topology core.journal.steps stands.holds.legal, small_law core.topology core.journal.steps stands.holds.sound stands.holds.legal)
 

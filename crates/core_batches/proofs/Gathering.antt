@@ -43,7 +43,7 @@ use Rattle.pipe_journal.specs.Recorded.{Recorded}
 use Rattle.pipe_journal.specs.Readers.{reply_at}
 use Rattle.core_tables.specs.declared.rows.ContentRow.{ContentRow}
 use Rattle.core_laws.specs.Contents.{passed_in}
-use Rattle.core_batches.proofs.Passing.{key_read, flush_read}
+use Rattle.core_laws.proofs.Passing.{key_read, flush_read}
 use Rattle.core_tables.specs.declared.rows.Totals.{Totals}
 use Rattle.core_tables.specs.Tables.{queue_at}
 use Rattle.core_tables.proofs.Tables.{same_or_other}

@@ -1,5 +1,4 @@
 pub mod Opens
-pub mod Passing
 mod Limits
 mod Gathering
 mod Joining

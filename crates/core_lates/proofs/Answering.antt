@@ -74,7 +74,7 @@ late_leaves topology before s slot i answer sound after =
       closes = λ b. refl;
       subs = λ b. refl;
       count = refl;
-      restarts = refl;
+      restarts = λ l. refl;
     }
 
 -- the posts after it

@@ -70,7 +70,7 @@ crash_leaves topology before s replies sound after crash =
       closes = λ b. refl;
       subs = λ b. refl;
       count = refl;
-      restarts = refl;
+      restarts = λ l. refl;
     }
 
 crash_stays : (topology : Topology) (before : History) (s : StageNo) (replies : List Reply) → has_crash replies ≡ true → Stays topology before (Done s replies)
@@ -120,7 +120,7 @@ write_leaves topology before s sound after =
       closes = λ b. refl;
       subs = λ b. refl;
       count = refl;
-      restarts = refl;
+      restarts = λ l. refl;
     }
 
 -- a message of a batch stands in it while the batch is in progress

@@ -51,7 +51,7 @@ pub record Leaves (topology : Topology) (before : History) (step : Step) : Type 
   pub closes : (b : ℕ) → closed_as topology (step ∷ before) b ≡ closed_as topology before b
   pub subs : (b : ℕ) → sent_on topology (step ∷ before) b ≡ sent_on topology before b
   pub count : closed (step ∷ before) ≡ closed before
-  pub restarts : restart_times (step ∷ before) ≡ restart_times before
+  pub restarts : (l : ℕ) → restart_times topology (step ∷ before) l ≡ restart_times topology before l
 
 -- Partitions and open batches
 
@@ -159,7 +159,7 @@ left_fields core topology before step j rows posts places settled producers cont
       batches = λ i. x.batches i ∙ sym (left.closes (suc i));
       sent_on = λ i row at. x.sent_on i row at ∙ sym (left.subs (suc i));
       legs = λ i. x.legs i ∙ ap ends_in_progress (sym (left.batches (suc i)));
-      restarts = subst (λ (times : List ℕ). Remembers core.restarts times) (sym left.restarts) x.restarts;
+      restarts = λ l limit at. subst (λ (times : List ℕ). Remembers limit times) (sym (left.restarts l)) (x.restarts l limit at);
       totals = new.totals-are;
     }
 

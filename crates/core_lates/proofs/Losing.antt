@@ -45,15 +45,15 @@ use Rattle.core_lates.proofs.Answering.{IsLate, post_of, late_leaves, late_posts
 pub record IsLosing (topology : Topology) (before : History) (s : StageNo) (slot i : ℕ) (records : List (List ℕ)) : Type 0 where
   pub late : IsLate topology before s slot i (Records records)
   pub dead : is_some (death topology before s) ≡ true
-  pub fits : accepted before + length records ≤ 200000
-  pub bytes : accepted_bytes before + bytes_in records ≤ 200000 * 65536
+  pub fits : accepted before + length records ≤ 2000000
+  pub bytes : accepted_bytes before + bytes_in records ≤ 2000000 * 65536
 
 pub losing : (topology : Topology) (before : History) (s : StageNo) (slot i : ℕ) (records : List (List ℕ)) → IsSound topology → is_legal topology before ≡ true
     → allows topology before (Late s slot i (Records records)) ≡ true → IsLosing topology before s slot i records
 losing topology before s slot i records sound legal h =
     let known : IsLate topology before s slot i (Records records) = post_of topology before s slot i (Records records) sound legal h in
     let role : has_role topology s is_producer_role ≡ true = and_left (has_role topology s is_producer_role) _ (late_facts topology before s slot i (Records records) h).fits in
-    let few : accepted before + length records ≤ 200000 = accepted_small topology (Late s slot i (Records records) ∷ before) sound known.after in
+    let few : accepted before + length records ≤ 2000000 = accepted_small topology (Late s slot i (Records records) ∷ before) sound known.after in
     let small : accepted_bytes before + bytes_in records ≤ (accepted before + length records) * 65536 = bytes_few topology (Late s slot i (Records records) ∷ before) known.after in
     record {
       late = known;

@@ -21,7 +21,7 @@ use Rattle.pipe_model.specs.History.{History, incarnation, accepted, closed}
 use Rattle.pipe_model.specs.Posts.{in_slot, crashes, crashed_as}
 use Rattle.pipe_model.specs.Lives.{KillSet, reason_in, kill_set, death}
 use Rattle.pipe_model.specs.Content.{has_crash}
-use Rattle.pipe_model.specs.Flow.{place, runs_in, taken, dispatched, gathered, put_in_batch, by_batch, killed, lost_with, done, answered, reply_to, child_place, runs_again, deliveries, lost_over, view_of, next_units, closing, has_batchers_in, chunk_by, batch_after, child_ended, is_number, accepted_to, late_place}
+use Rattle.pipe_model.specs.Flow.{place, runs_in, taken, dispatched, gathered, put_in_batch, by_batch, killed, lost_with, done, answered, reply_to, child_place, runs_again, deliveries, alone, lost_over, view_of, next_units, closing, has_batchers_in, chunk_by, batch_after, child_ended, is_number, accepted_to, late_place}
 use Rattle.pipe_model.specs.Legal.{is_legal, has_role, is_supervisor_role, is_processor_role}
 use Rattle.pipe_laws.proofs.Tests.{clash, both, and_left, and_right, same_stage-true, same_stage-self}
 use Rattle.pipe_laws.proofs.Allowed.{legal_before, legal_step, child_facts, child_end_facts, done_facts}
@@ -165,7 +165,7 @@ child_step topology before (Late t k i (Records records)) s slot h old =
 child_step topology before (Dispatch t) s slot h old =
     old s slot
     ∙ child_alike topology before (Dispatch t) s slot
-    (λ n e. runs_alike topology before (Dispatch t) s slot n (legal_before topology before (Dispatch t) h) e (λ ran. ap (option_map (dispatched (deliveries topology before t) (lost_over topology before (view_of topology before) t) t n)) ran)) (λ n e f. refl)
+    (λ n e. runs_alike topology before (Dispatch t) s slot n (legal_before topology before (Dispatch t) h) e (λ ran. ap (option_map (dispatched (deliveries topology before t) (lost_over topology before (view_of topology before) t) (alone topology before t) t n)) ran)) (λ n e f. refl)
 child_step topology before (Take t u k) s slot h old =
     old s slot
     ∙ child_alike topology before (Take t u k) s slot

@@ -9,7 +9,6 @@ use Rattle.std.proofs.lemmas.Bool.Decides.{nat_tests}
 use Rattle.pipe_types.specs.declared.numbers.SubNo.{SubNo}
 use Rattle.pipe_types.specs.declared.numbers.StageNo.{StageNo}
 use Rattle.pipe_types.specs.declared.topology.Topology.{Topology}
-use Rattle.pipe_types.specs.declared.topology.Dispatch.TheVariants.{Demand}
 use Rattle.pipe_types.specs.declared.room.Room.{Room}
 use Rattle.pipe_types.specs.declared.room.Sent.{Sent}
 use Rattle.pipe_types.specs.declared.step.Step.{Step}
@@ -19,11 +18,11 @@ use Rattle.pipe_types.specs.Numbers.{same_stage, same_sub, sub_before}
 use Rattle.pipe_types.specs.Stages.{spec_of, feeds}
 use Rattle.pipe_types.specs.Sound.{IsSound}
 use Rattle.pipe_types.specs.Rooms.{AreAscending}
-use Rattle.pipe_types.specs.Dispatchers.{sends_by_place, sends_from, sends}
+use Rattle.pipe_types.specs.Dispatchers.{ByDemand, served_as, sends_by_place, sends_from, sends}
 use Rattle.pipe_model.specs.History.{History, accepted, asked}
 use Rattle.pipe_model.specs.Lives.{is_live, current_sub, live_subs}
 use Rattle.pipe_model.specs.Content.{numbers_from, has_crash}
-use Rattle.pipe_model.specs.Flow.{waiting, inbox, sent, view_of, rooms_by, deliveries, lost_over, units_on, subs_of, is_empty, among, partition_in, index_in, sent_to}
+use Rattle.pipe_model.specs.Flow.{waiting, inbox, sent, view_of, rooms_by, deliveries, lost_over, units_on, subs_of, is_empty, among, mark_in, picks_by, alone, index_in, sent_to}
 use Rattle.pipe_model.specs.Legal.{is_legal, allows, may_dispatch, has_role, is_processor_role, passes, owed, is_dispatch_of, is_crash_of, happened, is_halt}
 use Rattle.pipe_laws.proofs.Tests.{clash, both, and_left, and_right, same_stage-true, same_stage-self, same_stage-flip, same_sub-self}
 use Rattle.pipe_laws.proofs.Lists.{Each, each_weaker, each_map, each_always}
@@ -36,6 +35,7 @@ use Rattle.pipe_laws.proofs.Allowed.{accept_live, take_facts}
 use Rattle.pipe_laws.proofs.Entries.{EntryFits, entries_fit}
 use Rattle.queue_laws.specs.Queues.{left_over}
 use Rattle.queue_laws.specs.Queues.{without_first as law_without_first}
+use Rattle.queue_laws.proofs.Alone.{none_alone}
 use Rattle.queue_laws.proofs.Laws.{waiting_law, inbox_law, gathered_law}
 use Rattle.queue_laws.proofs.Sounds.{fits}
 use Rattle.queue_laws.proofs.Apart.{Apart, each_kept, each_mapped}
@@ -118,18 +118,19 @@ units_apart part [] a = tt
 units_apart part (n ∷ ns) a = (each_map (λ (u : ℕ × ℕ). (n == u.0) ≡ false) (λ m. (m, part m)) ns a.0, units_apart part ns a.1)
 
 dropped : (topology : Topology) (before : History) (s : StageNo) → IsSound topology → is_legal topology before ≡ true → IsByDemand topology before s
-    → left_over (deliveries topology before s) (lost_over topology before (view_of topology before) s) (waiting topology before s) ≡ drop (length (deliveries topology before s)) (waiting topology before s)
+    → left_over (deliveries topology before s) (lost_over topology before (view_of topology before) s) (alone topology before s) (waiting topology before s) ≡ drop (length (deliveries topology before s)) (waiting topology before s)
 dropped topology before s sound h by =
     let fit = fits topology sound in
-    let part : ℕ → ℕ = partition_in before (view_of topology before) (spec_of topology s) in
+    let part : ℕ → ℕ = mark_in before (view_of topology before) (spec_of topology s) in
     let rooms : List Room = rooms_by topology before (view_of topology before) s in
     let ns : List ℕ = waiting topology before s in
-    let ds : deliveries topology before s ≡ sends_from Demand rooms [] (map {B = ℕ × ℕ} (λ n. (n, part n)) ns) = ap (λ k. sends k rooms (map {B = ℕ × ℕ} (λ n. (n, part n)) ns)) by.kind in
+    let ds : deliveries topology before s ≡ sends_from ByDemand rooms [] (map {B = ℕ × ℕ} (λ n. (n, part n)) ns) = ap (λ k. sends (served_as k (picks_by topology before (view_of topology before))) rooms (map {B = ℕ × ℕ} (λ n. (n, part n)) ns)) by.kind in
     let known = sends_first rooms (demand_single rooms (rooms_apart topology before s fit.ascend)) [] (map {B = ℕ × ℕ} (λ n. (n, part n)) ns) (units_apart part ns (waiting_apart topology before s fit h)) in
-    ap (λ over. left_over (deliveries topology before s) over (waiting topology before s)) by.fits
-    ∙ (filter_alike (λ n. is_empty (subs_of (deliveries topology before s) n)) (λ n. is_empty (subs_of (deliveries topology before s) n) && not (among [] n)) (λ n. and_same (is_empty (subs_of (deliveries topology before s) n))) (waiting topology before s)
+    ap (λ over. left_over (deliveries topology before s) over (alone topology before s) (waiting topology before s)) by.fits
+    ∙ ap (λ lone. left_over (deliveries topology before s) [] lone (waiting topology before s)) (none_alone topology before s by.messages)
+    ∙ (filter_alike (λ n. is_empty (subs_of (deliveries topology before s) n)) (λ n. is_empty (subs_of (deliveries topology before s) n) && (not (among [] n) && not (among [] n))) (λ n. and_same (is_empty (subs_of (deliveries topology before s) n))) (waiting topology before s)
     ∙ subst (λ (xs : List Sent). filter (λ n. is_empty (subs_of xs n)) (waiting topology before s) ≡ drop (length xs) (waiting topology before s)) (sym ds)
-    (subst (λ (ms : List ℕ). filter (λ n. is_empty (subs_of (sends_from Demand rooms [] (map {B = ℕ × ℕ} (λ n. (n, part n)) ns)) n)) ms ≡ drop (length (sends_from Demand rooms [] (map {B = ℕ × ℕ} (λ n. (n, part n)) ns))) ms) (firsts_of part ns) known))
+    (subst (λ (ms : List ℕ). filter (λ n. is_empty (subs_of (sends_from ByDemand rooms [] (map {B = ℕ × ℕ} (λ n. (n, part n)) ns)) n)) ms ≡ drop (length (sends_from ByDemand rooms [] (map {B = ℕ × ℕ} (λ n. (n, part n)) ns))) ms) (firsts_of part ns) known))
   where
     and_same : (b : Bool) → (b && true) ≡ b
     and_same true = refl
@@ -156,11 +157,11 @@ dispatch_laws topology before s sound h allowed =
       inbox = λ c. inbox_law topology before (Dispatch s) c sound after;
       waiting_here = λ by.
           waiting_law topology before (Dispatch s) s sound after
-          ∙ (ap (λ b. if b then left_over (deliveries topology before s) (lost_over topology before (view_of topology before) s) (waiting topology before s) else waiting topology before s) (same_stage-self s)
+          ∙ (ap (λ b. if b then left_over (deliveries topology before s) (lost_over topology before (view_of topology before) s) (alone topology before s) (waiting topology before s) else waiting topology before s) (same_stage-self s)
           ∙ dropped topology before s sound h by);
       waiting_else = λ t other.
           waiting_law topology before (Dispatch s) t sound after
-          ∙ ap (λ b. if b then left_over (deliveries topology before s) (lost_over topology before (view_of topology before) s) (waiting topology before t) else waiting topology before t) (turned s t other);
+          ∙ ap (λ b. if b then left_over (deliveries topology before s) (lost_over topology before (view_of topology before) s) (alone topology before s) (waiting topology before t) else waiting topology before t) (turned s t other);
       running = λ t. runs_dispatched topology before s t fit h;
       gathered = λ t. gathered_law topology before (Dispatch s) t after;
       well = each_all (IsSentWell topology before) (deliveries topology before s)
@@ -168,9 +169,9 @@ dispatch_laws topology before s sound h allowed =
           (sends_on topology before s (λ n. (1 ≤ n) × (n ≤ accepted before)) (waiting_within topology before s fit h)));
       asked_for = λ u. sent_within topology (Dispatch s ∷ before) u fit.ascend;
       live = live;
-      places = each_all (λ d. d.unit < length (waiting topology before s)) (sends_by_place Demand (rooms_by topology before (view_of topology before) s) (replicate (length (waiting topology before s)) 0))
-          (each_weaker (λ (d : Sent). Unit {0} × (d.unit < length (waiting topology before s))) (λ (d : Sent). d.unit < length (waiting topology before s)) (λ d p. p.1) (sends_by_place Demand (rooms_by topology before (view_of topology before) s) (replicate (length (waiting topology before s)) 0))
-          (sends_each (λ u. Unit {0}) (λ n. n < length (waiting topology before s)) Demand (rooms_by topology before (view_of topology before) s) [] (enumerate_from 0 (replicate (length (waiting topology before s)) 0))
+      places = each_all (λ d. d.unit < length (waiting topology before s)) (sends_by_place ByDemand (rooms_by topology before (view_of topology before) s) (replicate (length (waiting topology before s)) 0))
+          (each_weaker (λ (d : Sent). Unit {0} × (d.unit < length (waiting topology before s))) (λ (d : Sent). d.unit < length (waiting topology before s)) (λ d p. p.1) (sends_by_place ByDemand (rooms_by topology before (view_of topology before) s) (replicate (length (waiting topology before s)) 0))
+          (sends_each (λ u. Unit {0}) (λ n. n < length (waiting topology before s)) ByDemand (rooms_by topology before (view_of topology before) s) [] (enumerate_from 0 (replicate (length (waiting topology before s)) 0))
           (each_always (λ r. Unit {0}) (λ r. tt) (rooms_by topology before (view_of topology before) s))
           (each_weaker (λ (u : ℕ × ℕ). u.0 < 0 + length (waiting topology before s)) (λ (u : ℕ × ℕ). u.0 < length (waiting topology before s)) (λ u p. omega (arith, p)) (enumerate_from 0 (replicate (length (waiting topology before s)) 0)) (places_below 0 (length (waiting topology before s))))));
     }

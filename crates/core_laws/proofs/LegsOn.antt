@@ -1,6 +1,6 @@
 -- The subscriptions on which the legs of a batch are.
-use Rattle.std.proofs.Common.{◌≡◌, ℕ, set, ◌+◌, ◌≤◌, List, [], ◌∷◌, ◌++◌, map, Bool, true, false, refl, ap, sym, ◌∙◌, subst, Some, None, Option, arith, ◌-◌, ◌<◌}
-use Rattle.std.specs.Prelude.{option_map, if◌then◌else◌, ◌==◌, not, is_some}
+use Rattle.std.proofs.Common.{◌≡◌, ℕ, set, ◌+◌, ◌≤◌, List, [], ◌∷◌, ◌++◌, map, Bool, true, false, refl, ap, sym, ◌∙◌, subst, Some, None, Option, arith, ◌<◌}
+use Rattle.std.specs.Prelude.{option_map, ◌&&◌, if◌then◌else◌, ◌==◌, is_some}
 use Rattle.std.proofs.lemmas.Bool.{eqb-true, false_from_ne_true, ne_eqb}
 use Rattle.std.proofs.lemmas.List.{append-nil}
 use Rattle.pipe_types.specs.declared.numbers.StageNo.{StageNo}
@@ -14,7 +14,7 @@ use Rattle.pipe_types.specs.Numbers.{same_stage}
 use Rattle.pipe_types.specs.Stages.{spec_of}
 use Rattle.pipe_model.specs.History.{History, closed, incarnation}
 use Rattle.pipe_model.specs.Lives.{KillSet, reason_in, kill_set}
-use Rattle.pipe_model.specs.Flow.{place, batch, view_of, is_batcher, among, closing, subs_of, deliveries, next_units, change_place, new_batch, batch_waits_in, waits_in, waiting}
+use Rattle.pipe_model.specs.Flow.{place, batch, view_of, is_batcher, among, closing, subs_of, deliveries, alone, next_units, change_place, new_batch, batch_waits_in, waits_in, waiting}
 use Rattle.pipe_model.specs.Batches.{Batch, BatchPlace, AtBatcher, Sent, Dropped, Leg, LegPlace, on_legs, leg_taken, leg_answered, leg_lost, batch_on_legs, batch_sent, batch_killed, new_legs, dropped_in}
 use Rattle.pipe_model.specs.Legal.{is_legal}
 use Rattle.pipe_laws.proofs.Tests.{clash, same_stage-true}
@@ -107,12 +107,17 @@ sent_waits topology before s b batcher none =
     (sends_on topology before s (λ n. is_waiting topology before s n ≡ true) (waiting_each topology before s)))
 
 dispatched_on : (topology : Topology) (before : History) (s : StageNo) (b : ℕ) (o : Option Batch) → batch topology before b ≡ o → BatchListed topology before b o → IsOnSubs (sent_on topology before b) o
-    → IsOnSubs (if is_batcher (spec_of topology s) then sent_on topology before b ++ subs_of (deliveries topology before s) b else sent_on topology before b) (option_map (λ x. change_place x (batch_sent s (subs_of (deliveries topology before s) b) x.place)) o)
+    → IsOnSubs (if is_batcher (spec_of topology s) then sent_on topology before b ++ subs_of (deliveries topology before s) b else sent_on topology before b) (option_map (λ x. change_place x (batch_sent s (among (alone topology before s) b) (subs_of (deliveries topology before s) b) x.place)) o)
 dispatched_on topology before s b None e listed h = tt
 dispatched_on topology before s b (Some x) e listed h = by x.place refl listed h
   where
-    us : List SubNo
-    us = subs_of (deliveries topology before s) b
+    al : Bool
+    al = among (alone topology before s) b
+
+    -- a batch without a leg is on no subscription, served alone or not
+    on_none : (t : StageNo) (c : Bool) {subs : List SubNo} → subs ≡ [] → PlaceOn subs (if c then Sent [] else AtBatcher t)
+    on_none t true e = sym e
+    on_none t false e = e
 
     at : (p : BatchPlace) → x.place ≡ p → batch topology before b ≡ Some (record { numbers = x.numbers; place = p })
     at p f = e ∙ (let is : x ≡ record { numbers = x.numbers; place = p } = λ i. record { numbers = x.numbers; place = f i } in ap Some is)
@@ -124,10 +129,10 @@ dispatched_on topology before s b (Some x) e listed h = by x.place refl listed h
     unsent true f none = ap (λ vs. sent_on topology before b ++ vs) (sent_waits topology before s b f none) ∙ append-nil (sent_on topology before b)
 
     by : (p : BatchPlace) → x.place ≡ p → PlaceListed topology before b p → PlaceOn (sent_on topology before b) p
-        → PlaceOn (if is_batcher (spec_of topology s) then sent_on topology before b ++ subs_of (deliveries topology before s) b else sent_on topology before b) (batch_sent s (subs_of (deliveries topology before s) b) p)
+        → PlaceOn (if is_batcher (spec_of topology s) then sent_on topology before b ++ subs_of (deliveries topology before s) b else sent_on topology before b) (batch_sent s al (subs_of (deliveries topology before s) b) p)
     by (Dropped l) f listed h = dropped_still (subs_of (deliveries topology before s) b)
       where
-        dropped_still : (vs : List SubNo) → PlaceOn (if is_batcher (spec_of topology s) then sent_on topology before b ++ subs_of (deliveries topology before s) b else sent_on topology before b) (batch_sent s vs (Dropped l))
+        dropped_still : (vs : List SubNo) → PlaceOn (if is_batcher (spec_of topology s) then sent_on topology before b ++ subs_of (deliveries topology before s) b else sent_on topology before b) (batch_sent s al vs (Dropped l))
         dropped_still [] = tt
         dropped_still (v ∷ vs) = tt
     by (Sent legs) f listed h = sent_still (subs_of (deliveries topology before s) b)
@@ -135,20 +140,21 @@ dispatched_on topology before s b (Some x) e listed h = by x.place refl listed h
         kept : map (λ (leg : Leg). leg.sub) legs ≡ (if is_batcher (spec_of topology s) then sent_on topology before b ++ subs_of (deliveries topology before s) b else sent_on topology before b)
         kept = h ∙ sym (unsent (is_batcher (spec_of topology s)) refl (ap (batch_waits_in s) (at (Sent legs) f)))
 
-        sent_still : (vs : List SubNo) → PlaceOn (if is_batcher (spec_of topology s) then sent_on topology before b ++ subs_of (deliveries topology before s) b else sent_on topology before b) (batch_sent s vs (Sent legs))
+        sent_still : (vs : List SubNo) → PlaceOn (if is_batcher (spec_of topology s) then sent_on topology before b ++ subs_of (deliveries topology before s) b else sent_on topology before b) (batch_sent s al vs (Sent legs))
         sent_still [] = kept
         sent_still (v ∷ vs) = kept
     by (AtBatcher t) f listed h = either (same_stage s t) refl (subs_of (deliveries topology before s) b) refl
       where
         either : (c : Bool) → same_stage s t ≡ c → (vs : List SubNo) → subs_of (deliveries topology before s) b ≡ vs
-            → PlaceOn (if is_batcher (spec_of topology s) then sent_on topology before b ++ subs_of (deliveries topology before s) b else sent_on topology before b) (batch_sent s vs (AtBatcher t))
-        either false k [] g = unsent (is_batcher (spec_of topology s)) refl (ap (batch_waits_in s) (at (AtBatcher t) f) ∙ k) ∙ h
+            → PlaceOn (if is_batcher (spec_of topology s) then sent_on topology before b ++ subs_of (deliveries topology before s) b else sent_on topology before b) (batch_sent s al vs (AtBatcher t))
+        either false k [] g = on_none t (al && same_stage s t) (unsent (is_batcher (spec_of topology s)) refl (ap (batch_waits_in s) (at (AtBatcher t) f) ∙ k) ∙ h)
         either false k (v ∷ vs) g =
             subst (PlaceOn (if is_batcher (spec_of topology s) then sent_on topology before b ++ subs_of (deliveries topology before s) b else sent_on topology before b)) (ap (λ c. if c then Sent (new_legs (v ∷ vs)) else AtBatcher t) (sym k))
             (unsent (is_batcher (spec_of topology s)) refl (ap (batch_waits_in s) (at (AtBatcher t) f) ∙ k) ∙ h)
         either true k [] g =
-            ap (λ c. if c then sent_on topology before b ++ subs_of (deliveries topology before s) b else sent_on topology before b) (ap (λ y. is_batcher (spec_of topology y)) (same_stage-true s t k) ∙ listed.0)
-            ∙ (ap (λ vs. sent_on topology before b ++ vs) g ∙ (append-nil (sent_on topology before b) ∙ h))
+            on_none t (al && same_stage s t)
+            (ap (λ c. if c then sent_on topology before b ++ subs_of (deliveries topology before s) b else sent_on topology before b) (ap (λ y. is_batcher (spec_of topology y)) (same_stage-true s t k) ∙ listed.0)
+            ∙ (ap (λ vs. sent_on topology before b ++ vs) g ∙ (append-nil (sent_on topology before b) ∙ h)))
         either true k (v ∷ vs) g =
             subst (PlaceOn (if is_batcher (spec_of topology s) then sent_on topology before b ++ subs_of (deliveries topology before s) b else sent_on topology before b)) (ap (λ c. if c then Sent (new_legs (v ∷ vs)) else AtBatcher t) (sym k))
             (new_subs (v ∷ vs)

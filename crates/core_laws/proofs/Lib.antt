@@ -11,3 +11,4 @@ pub mod Alike
 pub mod Accepting
 pub mod Came
 pub mod LegsOn
+pub mod Passing

@@ -8,7 +8,7 @@ use Rattle.pipe_types.specs.declared.topology.StageSpec.{StageSpec}
 use Rattle.pipe_types.specs.declared.topology.Role.{Role}
 use Rattle.pipe_types.specs.declared.topology.Role.TheVariants.{Producer, Processor, Supervisor, Batcher, BatchProcessor}
 use Rattle.pipe_types.specs.Stages.{spec_of}
-use Rattle.pipe_types.specs.Sound.{IsSound, batchers, has_fields_of, asks_up_to, by_demand, by_partition, by_broadcast, processors, batch_processors, is_size, no_batcher, no_demand, never_cancels, is_lines, are_rules, is_reason, is_between}
+use Rattle.pipe_types.specs.Sound.{IsSound, batchers, has_fields_of, is_select_in, asks_up_to, by_demand, by_partition, by_broadcast, processors, batch_processors, is_size, no_batcher, no_demand, never_cancels, is_lines, are_rules, is_reason, is_between}
 use Rattle.pipe_model.specs.Legal.{is_producer_role}
 use Rattle.pipe_laws.proofs.Tests.{and_left, and_right}
 use Rattle.queue_laws.proofs.Sounds.{sound_fields}
@@ -44,7 +44,7 @@ demand_of stages spec role h = by_role role h
         let second = and_right (spec.batcher == spec.index && ((by_demand spec spec.dispatch || by_broadcast spec spec.dispatch) || (by_partition (length (batch_processors spec.index stages)) spec spec.dispatch && spec.field == 0))) _ first in
         asks Batcher 10000 (omega arith) (and_left (asks_up_to 10000 spec) _ second)
     by_role BatchProcessor h =
-        let first = and_left ((nat_lt spec.index 16 && (spec.min == 0 && spec.max == 1)) && (are_rules 0 spec.rules && is_reason spec.failed)) _ h in
+        let first = and_left ((nat_lt spec.index 16 && (spec.min == 0 && spec.max == 1)) && ((are_rules 0 spec.rules && is_select_in stages spec) && is_reason spec.failed)) _ h in
         let one = and_right (nat_lt spec.index 16) _ (and_left (nat_lt spec.index 16 && (spec.min == 0 && spec.max == 1)) _ first) in
         let zero_min = eqb-true spec.min 0 (and_left (spec.min == 0) _ one) in
         let one_max = eqb-true spec.max 1 (and_right (spec.min == 0) _ one) in

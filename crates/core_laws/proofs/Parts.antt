@@ -1,8 +1,8 @@
 -- The partitions of the units that wait are those by which a stage dispatches, and no two of its consumers have the same.
-use Rattle.std.proofs.Common.{◌≡◌, ◌≢◌, ℕ, suc, ◌+◌, ◌-◌, ◌<◌, List, [], ◌∷◌, ◌++◌, map, length, Bool, true, false, refl, ap, sym, ◌∙◌, Some, None, Option, arith}
+use Rattle.std.proofs.Common.{subst, ◌≡◌, ◌≢◌, ℕ, suc, ◌+◌, ◌-◌, ◌<◌, List, [], ◌∷◌, ◌++◌, map, length, Bool, true, false, refl, ap, sym, ◌∙◌, Some, None, Option, arith}
 use Rattle.std.specs.Prelude.{if◌then◌else◌, ◌==◌, ◌&&◌, ◌||◌, option_map, filter, nat_le, nat_lt}
-use Rattle.std.specs.List.{enumerate_from, list_all}
-use Rattle.std.proofs.lemmas.Bool.{eqb-true}
+use Rattle.std.specs.List.{enumerate_from}
+use Rattle.std.proofs.lemmas.Bool.{eqb-true, eq-eqb}
 use Rattle.std.proofs.lemmas.List.Kept.{AllPairs-cons}
 use Rattle.pipe_types.specs.declared.numbers.StageNo.{StageNo}
 use Rattle.pipe_types.specs.declared.numbers.SubNo.{SubNo}
@@ -13,9 +13,11 @@ use Rattle.pipe_types.specs.declared.topology.Role.TheVariants.{Producer, Proces
 use Rattle.pipe_types.specs.declared.topology.Dispatch.{Dispatch as DispatchKind}
 use Rattle.pipe_types.specs.declared.topology.Dispatch.TheVariants.{Demand, Broadcast, Partition}
 use Rattle.pipe_types.specs.declared.message.BatchEnd.TheVariants.{Outcomes}
+use Rattle.pipe_types.specs.declared.message.Place.TheVariants.{InBatch}
 use Rattle.pipe_types.specs.declared.room.Room.{Room}
 use Rattle.pipe_types.specs.declared.step.Step.TheVariants.{Dispatch, Take, Close, Wrote, Kill, Halt}
-use Rattle.pipe_types.specs.Dispatchers.{goes, ahead, on_each, sends_from, sends_by_place, partition_of}
+use Rattle.pipe_types.specs.Dispatchers.{ByDemand, served_as, mark_of, goes, ahead, on_each, sends_from, sends_by_place, partition_of}
+use Rattle.pipe_types.specs.Numbers.{batch_no}
 use Rattle.pipe_types.specs.Rooms.{PartsDiffer}
 use Rattle.pipe_types.specs.Sound.{IsSound, is_ordered, may_begin, may_go_on, may_follow, is_next, batchers}
 use Rattle.pipe_types.specs.Stages.{spec_of, feeds, option_feeds, role_feeds}
@@ -23,14 +25,17 @@ use Rattle.pipe_model.specs.Batches.{Batch, BatchPlace, batch_sent, leg_taken, l
 use Rattle.pipe_model.specs.Content.{content, key_in}
 use Rattle.pipe_model.specs.History.{History, closed, asked, incarnation}
 use Rattle.pipe_model.specs.Lives.{is_live, current_sub, live_subs_from, kill_set}
-use Rattle.pipe_model.specs.Flow.{batch, sent, view_of, waiting, numbers_in, first_in, among, closing, new_batch, next_units, change_place, deliveries, subs_of, partition_in, rooms_by, index_in, kind_in}
+use Rattle.pipe_model.specs.Flow.{place, batch_waits_in, is_empty, batch, sent, view_of, waiting, numbers_in, first_in, among, closing, new_batch, next_units, change_place, deliveries, subs_of, partition_in, mark_in, serving_by, picks_by, alone, rooms_by, index_in, kind_in}
+use Rattle.pipe_model.specs.Legal.{is_legal}
 use Rattle.pipe_model.specs.Taken.{closed_as}
 use Rattle.pipe_laws.proofs.Levels.{rank, rank_of, rank_in, feeds_down}
 use Rattle.pipe_laws.proofs.Lists.{Each, each_weaker, each_map}
 use Rattle.pipe_laws.proofs.Sounds.{sound_ascends}
 use Rattle.pipe_laws.proofs.Tests.{and_left, and_right}
+use Rattle.queue_laws.proofs.Drained.{waits_going}
+use Rattle.queue_laws.proofs.Laws.{holds_law}
 use Rattle.queue_laws.proofs.Sounds.{found_self}
-use Rattle.core_laws.specs.Columns.{closed_numbers, part_of, part_by, is_by_partition}
+use Rattle.core_laws.specs.Columns.{closed_numbers, part_of, part_by, is_by_partition, is_broadcast}
 use Rattle.core_laws.proofs.Lawful.{each_all}
 
 -- The messages of a closed batch
@@ -50,7 +55,7 @@ closed_is topology (Close s first trigger ∷ before) b = either (b == closed be
     either true known = refl
     either false known = known
 closed_is topology (Dispatch s ∷ before) b =
-    closed_is topology before b ∙ same_numbers (λ x. batch_sent s (subs_of (deliveries topology before s) b) x.place) (batch topology before b)
+    closed_is topology before b ∙ same_numbers (λ x. batch_sent s (among (alone topology before s) b) (subs_of (deliveries topology before s) b) x.place) (batch topology before b)
 closed_is topology (Take s u k ∷ before) b = closed_is topology before b ∙ either (among (next_units topology (view_of topology before) s u k) b)
   where
     either : (is : Bool) → numbers_in (batch topology before b)
@@ -64,6 +69,19 @@ closed_is topology (Kill s why ∷ before) b =
 closed_is topology (Halt ∷ before) b =
     closed_is topology before b ∙ same_numbers (λ x. batch_killed (kill_set topology before Halt) (incarnation before) x.place) (batch topology before b)
 closed_is topology (step ∷ before) b = closed_is topology before b
+
+first_among : (ns : List ℕ) → is_empty ns ≡ false → among ns (first_in ns) ≡ true
+first_among [] h = cc
+first_among (n ∷ ns) h = ap (λ b. b || among ns n) (eq-eqb n n refl)
+
+-- the first message of a batch that waits stands in it
+pub first_stands : (topology : Topology) (before : History) (t : StageNo) (b : ℕ) → is_legal topology before ≡ true → batch_waits_in t (batch topology before b) ≡ true
+    → place topology before (first_in (closed_numbers (closed_as topology before b))) ≡ Some (InBatch (batch_no b))
+first_stands topology before t b legal waits =
+    let going = waits_going t (batch topology before b) waits in
+    let law = holds_law topology before b legal in
+    ap (λ ns. place topology before (first_in ns)) (closed_is topology before b)
+    ∙ law.each going (first_in (numbers_in (batch topology before b))) (first_among (numbers_in (batch topology before b)) (law.some going))
 
 -- Partitions
 
@@ -82,45 +100,45 @@ part_is topology before None n h = refl
 part_is topology before (Some spec) n h =
     ap (λ b. if b then part_by topology before spec n else 0) h ∙ by_role topology before spec n spec.role refl
 
--- where it does not, the partitions do not matter
-free_from : (kind : DispatchKind) → is_by_partition kind ≡ false → (rooms : List Room) (k : ℕ) (earlier others parts qarts : List ℕ)
+-- by demand the partitions do not matter
+free_from : (rooms : List Room) (k : ℕ) (earlier others parts qarts : List ℕ)
     → length earlier ≡ length others → length parts ≡ length qarts
-    → sends_from kind rooms earlier (enumerate_from k parts) ≡ sends_from kind rooms others (enumerate_from k qarts)
-free_from kind h rooms k earlier others [] [] e f = refl
-free_from kind h rooms k earlier others [] (q ∷ qarts) e f = absurd (omega arith)
-free_from kind h rooms k earlier others (p ∷ parts) [] e f = absurd (omega arith)
-free_from Demand h rooms k earlier others (p ∷ parts) (q ∷ qarts) e f =
-    ap (λ n. on_each k (filter (λ u. nat_le (ahead rooms u) n && nat_lt n (ahead rooms u + u.left)) rooms) ++ sends_from Demand rooms (p ∷ earlier) (enumerate_from (k + 1) parts)) e
-    ∙ ap (λ ds. on_each k (filter (goes Demand rooms others q) rooms) ++ ds) (free_from Demand h rooms (k + 1) (p ∷ earlier) (q ∷ others) parts qarts (omega arith) (omega arith))
-free_from Broadcast h rooms k earlier others (p ∷ parts) (q ∷ qarts) e f =
-    ap (λ n. on_each k (filter (λ u. list_all (λ v. nat_lt n v.left) rooms) rooms) ++ sends_from Broadcast rooms (p ∷ earlier) (enumerate_from (k + 1) parts)) e
-    ∙ ap (λ ds. on_each k (filter (goes Broadcast rooms others q) rooms) ++ ds) (free_from Broadcast h rooms (k + 1) (p ∷ earlier) (q ∷ others) parts qarts (omega arith) (omega arith))
-free_from Partition h rooms k earlier others (p ∷ parts) (q ∷ qarts) e f = cc
+    → sends_from ByDemand rooms earlier (enumerate_from k parts) ≡ sends_from ByDemand rooms others (enumerate_from k qarts)
+free_from rooms k earlier others [] [] e f = refl
+free_from rooms k earlier others [] (q ∷ qarts) e f = absurd (omega arith)
+free_from rooms k earlier others (p ∷ parts) [] e f = absurd (omega arith)
+free_from rooms k earlier others (p ∷ parts) (q ∷ qarts) e f =
+    ap (λ n. on_each k (filter (λ u. nat_le (ahead rooms u) n && nat_lt n (ahead rooms u + u.left)) rooms) ++ sends_from ByDemand rooms (p ∷ earlier) (enumerate_from (k + 1) parts)) e
+    ∙ ap (λ ds. on_each k (filter (goes ByDemand rooms others q) rooms) ++ ds) (free_from rooms (k + 1) (p ∷ earlier) (q ∷ others) parts qarts (omega arith) (omega arith))
 
-pub parts_free : (kind : DispatchKind) → is_by_partition kind ≡ false → (rooms : List Room) (parts qarts : List ℕ) → length parts ≡ length qarts
-    → sends_by_place kind rooms parts ≡ sends_by_place kind rooms qarts
-parts_free kind h rooms parts qarts f = free_from kind h rooms 0 [] [] parts qarts refl f
+pub parts_free : (rooms : List Room) (parts qarts : List ℕ) → length parts ≡ length qarts → sends_by_place ByDemand rooms parts ≡ sends_by_place ByDemand rooms qarts
+parts_free rooms parts qarts f = free_from rooms 0 [] [] parts qarts refl f
 
--- what a dispatch sends by places, from the partitions of the units that wait
-pub sends_by_parts : (topology : Topology) (before : History) (s : StageNo) (rooms : List Room) (more : List ℕ)
-    → sends_by_place (kind_in (spec_of topology s)) rooms (map (part_of topology before (spec_of topology s)) (waiting topology before s) ++ more)
-    ≡ sends_by_place (kind_in (spec_of topology s)) rooms (map (λ n. partition_in before (view_of topology before) (spec_of topology s) n) (waiting topology before s) ++ more)
-sends_by_parts topology before s rooms more = cases (is_by_partition (kind_in (spec_of topology s))) refl
+-- what a dispatch sends by places, from the partitions of the units that wait; a broadcaster judges them otherwise
+pub sends_by_parts : (topology : Topology) (before : History) (s : StageNo) (rooms : List Room) (more : List ℕ) → is_broadcast (kind_in (spec_of topology s)) ≡ false
+    → sends_by_place (serving_by topology before (view_of topology before) s) rooms (map (part_of topology before (spec_of topology s)) (waiting topology before s) ++ more)
+    ≡ sends_by_place (serving_by topology before (view_of topology before) s) rooms (map (λ n. mark_in before (view_of topology before) (spec_of topology s) n) (waiting topology before s) ++ more)
+sends_by_parts topology before s rooms more plain = by_kind (kind_in (spec_of topology s)) refl plain
   where
-    same : is_by_partition (kind_in (spec_of topology s)) ≡ true → (ns : List ℕ)
-        → map (part_of topology before (spec_of topology s)) ns ≡ map (λ n. partition_in before (view_of topology before) (spec_of topology s) n) ns
-    same h [] = refl
-    same h (n ∷ ns) = λ i. part_is topology before (spec_of topology s) n h i ∷ same h ns i
+    same : kind_in (spec_of topology s) ≡ Partition → (ns : List ℕ)
+        → map (part_of topology before (spec_of topology s)) ns ≡ map (λ n. mark_in before (view_of topology before) (spec_of topology s) n) ns
+    same e [] = refl
+    same e (n ∷ ns) =
+        λ i. (part_is topology before (spec_of topology s) n (ap is_by_partition e) ∙ sym (ap (λ k. mark_of k n (partition_in before (view_of topology before) (spec_of topology s) n)) e)) i ∷ same e ns i
 
-    long : (ns more : List ℕ) → length (map (part_of topology before (spec_of topology s)) ns ++ more) ≡ length (map (λ n. partition_in before (view_of topology before) (spec_of topology s) n) ns ++ more)
+    long : (ns more : List ℕ) → length (map (part_of topology before (spec_of topology s)) ns ++ more) ≡ length (map (λ n. mark_in before (view_of topology before) (spec_of topology s) n) ns ++ more)
     long [] more = refl
     long (n ∷ ns) more = ap suc (long ns more)
 
-    cases : (b : Bool) → is_by_partition (kind_in (spec_of topology s)) ≡ b
-        → sends_by_place (kind_in (spec_of topology s)) rooms (map (part_of topology before (spec_of topology s)) (waiting topology before s) ++ more)
-        ≡ sends_by_place (kind_in (spec_of topology s)) rooms (map (λ n. partition_in before (view_of topology before) (spec_of topology s) n) (waiting topology before s) ++ more)
-    cases true h = ap (λ ps. sends_by_place (kind_in (spec_of topology s)) rooms (ps ++ more)) (same h (waiting topology before s))
-    cases false h = parts_free (kind_in (spec_of topology s)) h rooms _ _ (long (waiting topology before s) more)
+    by_kind : (kind : DispatchKind) → kind_in (spec_of topology s) ≡ kind → is_broadcast kind ≡ false
+        → sends_by_place (serving_by topology before (view_of topology before) s) rooms (map (part_of topology before (spec_of topology s)) (waiting topology before s) ++ more)
+        ≡ sends_by_place (serving_by topology before (view_of topology before) s) rooms (map (λ n. mark_in before (view_of topology before) (spec_of topology s) n) (waiting topology before s) ++ more)
+    by_kind Broadcast e h = cc
+    by_kind Partition e h = ap (λ ps. sends_by_place (serving_by topology before (view_of topology before) s) rooms (ps ++ more)) (same e (waiting topology before s))
+    by_kind Demand e h =
+        subst (λ v. sends_by_place v rooms (map (part_of topology before (spec_of topology s)) (waiting topology before s) ++ more) ≡ sends_by_place v rooms (map (λ n. mark_in before (view_of topology before) (spec_of topology s) n) (waiting topology before s) ++ more))
+        (sym (ap (λ k. served_as k (picks_by topology before (view_of topology before))) e))
+        (parts_free rooms (map (part_of topology before (spec_of topology s)) (waiting topology before s) ++ more) (map (λ n. mark_in before (view_of topology before) (spec_of topology s) n) (waiting topology before s) ++ more) (long (waiting topology before s) more))
 
 -- The order of stages
 

@@ -8,7 +8,7 @@ use Rattle.pipe_types.specs.declared.topology.StageSpec.{StageSpec}
 use Rattle.pipe_types.specs.declared.topology.Role.{Role}
 use Rattle.pipe_types.specs.declared.topology.Role.TheVariants.{Producer, Batcher}
 use Rattle.pipe_types.specs.declared.topology.Dispatch.{Dispatch as DispatchKind}
-use Rattle.pipe_types.specs.declared.topology.Dispatch.TheVariants.{Partition}
+use Rattle.pipe_types.specs.declared.topology.Dispatch.TheVariants.{Broadcast, Partition}
 use Rattle.pipe_types.specs.declared.message.Reply.{Reply}
 use Rattle.pipe_types.specs.declared.message.Reply.TheVariants.{Pass}
 use Rattle.pipe_types.specs.declared.step.Step.{Step}
@@ -165,6 +165,10 @@ ends_in_progress (Some b) = ends_on (length b.numbers) b.place
 abbrev pub is_by_partition : DispatchKind → Bool
 is_by_partition Partition = true
 is_by_partition _ = false
+
+abbrev pub is_broadcast : DispatchKind → Bool
+is_broadcast Broadcast = true
+is_broadcast _ = false
 
 -- the partition of a unit that waits in such a stage: by a field for a producer, the key for a batcher, the batcher for a processor
 abbrev pub part_by : Topology → History → StageSpec → ℕ → ℕ

@@ -15,6 +15,11 @@ abbrev pub passed_in : Option Reply → Option Message
 passed_in (Some (Pass m)) = Some m
 passed_in _ = None
 
+-- the message that the reply at the row's place of the journal passes on
+abbrev pub passed_by : History → Option ContentRow → Option Message
+passed_by steps None = None
+passed_by steps (Some row) = passed_in (reply_at steps row.entry row.item)
+
 -- message n of the producer, where there is such a record, and else the message that the reply passes on
 abbrev pub message_in : StageNo → ℕ → Option (List ℕ) → Option Reply → Option Message
 message_in s n (Some bytes) reply = Some (new_message s n bytes)

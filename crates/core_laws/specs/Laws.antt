@@ -9,7 +9,7 @@ use Rattle.pipe_types.specs.declared.step.Step.TheVariants.{Dispatch, Take, Acce
 use Rattle.pipe_types.specs.Sound.{IsSound}
 use Rattle.pipe_types.specs.Stages.{spec_of}
 use Rattle.pipe_types.specs.Rooms.{AreAscending}
-use Rattle.pipe_types.specs.Dispatchers.{sends_by_place}
+use Rattle.pipe_types.specs.Dispatchers.{ByDemand, sends_by_place}
 use Rattle.pipe_model.specs.Content.{numbers_from}
 use Rattle.pipe_model.specs.History.{History, accepted, asked}
 use Rattle.pipe_model.specs.Lives.{is_live, is_live_sub}
@@ -44,7 +44,7 @@ pub record DispatchLaws (topology : Topology) (before : History) (s : StageNo) :
   pub well : All (IsSentWell topology before) (deliveries topology before s)
   pub asked_for : (u : SubNo) → sent topology before u + count_on (deliveries topology before s) u ≤ asked before u
   pub live : is_live topology before s ≡ true
-  pub places : All (λ d. d.unit < length (waiting topology before s)) (sends_by_place Demand (rooms_by topology before (view_of topology before) s) (replicate (length (waiting topology before s)) 0))
+  pub places : All (λ d. d.unit < length (waiting topology before s)) (sends_by_place ByDemand (rooms_by topology before (view_of topology before) s) (replicate (length (waiting topology before s)) 0))
 
 -- what a take of a processor comes to; a batch processor takes batches, and no message runs in it
 pub record TakeLaws (topology : Topology) (before : History) (s : StageNo) (u : SubNo) (k : ℕ) : Type 0 where
@@ -66,7 +66,7 @@ pub record AcceptLaws (topology : Topology) (before : History) (s : StageNo) (re
   pub inbox : (t : StageNo) → inbox topology (Accept s records ∷ before) t ≡ inbox topology before t
   pub running : (t : StageNo) → running topology (Accept s records ∷ before) t ≡ running topology before t
   pub gathered : (t : StageNo) → gathered_in topology (Accept s records ∷ before) t ≡ gathered_in topology before t
-  pub fits : accepted before + length records ≤ 200000
+  pub fits : accepted before + length records ≤ 2000000
 
 pub record Laws : Type 0 where
   pub accept : (topology : Topology) (before : History) (s : StageNo) (records : List (List ℕ)) → IsSound topology → is_legal topology before ≡ true
@@ -74,7 +74,7 @@ pub record Laws : Type 0 where
   pub handled : (topology : Topology) (before : History) (u : SubNo) → IsSound topology → is_legal topology before ≡ true → handled topology before u ≤ accepted before
   pub take : (topology : Topology) (before : History) (s : StageNo) (u : SubNo) (k : ℕ) → IsSound topology → is_legal topology before ≡ true
       → has_role topology s is_processor_role ≡ true → allows topology before (Take s u k) ≡ true → TakeLaws topology before s u k
-  pub small : (topology : Topology) (before : History) → IsSound topology → is_legal topology before ≡ true → accepted before ≤ 200000
+  pub small : (topology : Topology) (before : History) → IsSound topology → is_legal topology before ≡ true → accepted before ≤ 2000000
   pub few : (topology : Topology) (before : History) (s : StageNo) → IsSound topology → is_legal topology before ≡ true → length (waiting topology before s) ≤ accepted before
   pub ascending : (topology : Topology) (before : History) (s : StageNo) → IsSound topology → AreAscending (rooms_by topology before (view_of topology before) s)
   pub numbered : (topology : Topology) → IsSound topology → IsNumberedTopology topology

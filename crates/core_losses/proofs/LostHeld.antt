@@ -17,7 +17,7 @@ use Rattle.core_tables.specs.declared.rows.BatchRow.{BatchRow}
 use Rattle.core_laws.specs.Columns.{ends_in_progress}
 use Rattle.stage_laws.proofs.Numbering.{numbered_topology}
 use Rattle.stage_laws.proofs.Bounds.{closed_few}
-use Rattle.stage_laws.proofs.Records.{accepted_within, limit_is}
+use Rattle.stage_laws.proofs.Records.{accepted_within, limit_within}
 use Rattle.core_state.specs.declared.state.Core.{Core}
 use Rattle.core_state.specs.Stands.{Holds}
 use Rattle.core_losses.specs.Losses.{incarnation_at}
@@ -61,5 +61,5 @@ pub batches_few : (core : Core) → Holds core → length core.batches.items < 2
 batches_few core x =
     let few = closed_few core.topology core.journal.steps x.legal in
     let within = accepted_within core.topology core.journal.steps x.sound x.legal in
-    let limit = limit_is core.topology x.sound in
+    let limit = limit_within core.topology x.sound in
     omega (arith, few, within, limit, x.fields.sized.batches)

@@ -19,7 +19,7 @@ use Rattle.pipe_model.specs.History.{History, closed, incarnation}
 use Rattle.pipe_model.specs.Lives.{KillSet, reason_in, kill_set}
 use Rattle.pipe_model.specs.Content.{arrivals}
 use Rattle.pipe_model.specs.Batches.{Batch, BatchPlace, AtBatcher, Sent, Dropped, Leg, LegPlace, new_legs, leg_taken, leg_answered, batch_on_legs, batch_sent, batch_killed, dropped_in}
-use Rattle.pipe_model.specs.Flow.{place, batch, waiting, among, view_of, subs_of, deliveries, closing, next_units, new_batch, change_place, numbers_in, is_batcher, batch_waits_in, waits_in, at_batcher}
+use Rattle.pipe_model.specs.Flow.{place, batch, waiting, among, view_of, subs_of, deliveries, closing, next_units, new_batch, change_place, numbers_in, is_batcher, batch_waits_in, waits_in, at_batcher, alone}
 use Rattle.pipe_model.specs.Legal.{is_legal, is_batcher_role}
 use Rattle.pipe_model.specs.Taken.{closed_as}
 use Rattle.pipe_laws.proofs.Tests.{same_stage-true}
@@ -86,7 +86,7 @@ killed_drop subs set i (Some x) on h = by x.place on h
     by (Dropped l) on h = h
 
 sent_drop : (topology : Topology) (before : History) (s : StageNo) (b : ℕ) (o : Option Batch) → batch topology before b ≡ o → DroppedOn (sent_on topology before b) o
-    → DroppedOn (if is_batcher (spec_of topology s) then sent_on topology before b ++ subs_of (deliveries topology before s) b else sent_on topology before b) (option_map (λ x. change_place x (batch_sent s (subs_of (deliveries topology before s) b) x.place)) o)
+    → DroppedOn (if is_batcher (spec_of topology s) then sent_on topology before b ++ subs_of (deliveries topology before s) b else sent_on topology before b) (option_map (λ x. change_place x (batch_sent s (among (alone topology before s) b) (subs_of (deliveries topology before s) b) x.place)) o)
 sent_drop topology before s b None e h = tt
 sent_drop topology before s b (Some x) e h = by x.place refl h
   where
@@ -98,20 +98,27 @@ sent_drop topology before s b (Some x) e h = by x.place refl h
     unsent false f none = refl
     unsent true f none = ap (λ vs. sent_on topology before b ++ vs) (sent_waits topology before s b f none) ∙ append-nil (sent_on topology before b)
 
-    moved : (vs : List SubNo) (c : Bool) (t : StageNo) → same_stage s t ≡ c → DroppedAt more (batch_sent s vs (AtBatcher t))
-    moved [] c t f = tt
+    lone : Bool
+    lone = among (alone topology before s) b
+
+    nowhere : (c : Bool) (t : StageNo) → DroppedAt more (if c then Sent [] else AtBatcher t)
+    nowhere true t = tt
+    nowhere false t = tt
+
+    moved : (vs : List SubNo) (c : Bool) (t : StageNo) → same_stage s t ≡ c → DroppedAt more (batch_sent s lone vs (AtBatcher t))
+    moved [] c t f = nowhere (lone && same_stage s t) t
     moved (v ∷ vs) true t f = subst (λ (k : Bool). DroppedAt more (if k then Sent (new_legs (v ∷ vs)) else AtBatcher t)) (sym f) tt
     moved (v ∷ vs) false t f = subst (λ (k : Bool). DroppedAt more (if k then Sent (new_legs (v ∷ vs)) else AtBatcher t)) (sym f) tt
 
-    stays : (vs : List SubNo) (legs : List Leg) → DroppedAt more (batch_sent s vs (Sent legs))
+    stays : (vs : List SubNo) (legs : List Leg) → DroppedAt more (batch_sent s lone vs (Sent legs))
     stays [] legs = tt
     stays (v ∷ vs) legs = tt
 
-    gone : (vs : List SubNo) (l : Loss) → more ≡ [] → DroppedAt more (batch_sent s vs (Dropped l))
+    gone : (vs : List SubNo) (l : Loss) → more ≡ [] → DroppedAt more (batch_sent s lone vs (Dropped l))
     gone [] l f = f
     gone (v ∷ vs) l f = f
 
-    by : (p : BatchPlace) → x.place ≡ p → DroppedAt (sent_on topology before b) p → DroppedAt more (batch_sent s (subs_of (deliveries topology before s) b) p)
+    by : (p : BatchPlace) → x.place ≡ p → DroppedAt (sent_on topology before b) p → DroppedAt more (batch_sent s lone (subs_of (deliveries topology before s) b) p)
     by (AtBatcher t) f h = moved (subs_of (deliveries topology before s) b) (same_stage s t) t refl
     by (Sent legs) f h = stays (subs_of (deliveries topology before s) b) legs
     by (Dropped l) f h =
@@ -160,7 +167,7 @@ closed_there topology (Close s first trigger ∷ before) b = either (b == closed
     either true known = refl
     either false known = known
 closed_there topology (Dispatch s ∷ before) b =
-    closed_there topology before b ∙ same_some (λ x. change_place x (batch_sent s (subs_of (deliveries topology before s) b) x.place)) (batch topology before b)
+    closed_there topology before b ∙ same_some (λ x. change_place x (batch_sent s (among (alone topology before s) b) (subs_of (deliveries topology before s) b) x.place)) (batch topology before b)
 closed_there topology (Take s u k ∷ before) b = closed_there topology before b ∙ either (among (next_units topology (view_of topology before) s u k) b)
   where
     either : (is : Bool) → is_some (batch topology before b) ≡ is_some (if is then option_map (λ x. change_place x (batch_on_legs (leg_taken s) x.place)) (batch topology before b) else batch topology before b)

@@ -1,5 +1,5 @@
 -- What a batcher may gather.
-use Rattle.std.proofs.Common.{◌≡◌, ℕ, suc, ◌-◌, ◌≤◌, List, length, refl, ap, sym, Bool, true, Option, None, Some, ◌∙◌, arith, get_or}
+use Rattle.std.proofs.Common.{◌≡◌, ℕ, List, length, refl, ap, sym, Bool, true, Some, ◌∙◌, arith, get_or}
 use Rattle.std.specs.Prelude.{◌&&◌, ◌==◌, not, nat_lt, nat_le, slice_get}
 use Rattle.std.proofs.lemmas.Bool.Decides.{nat_tests}
 use Rattle.std.proofs.lemmas.Option.{slice_get_read}
@@ -7,34 +7,19 @@ use Rattle.pipe_types.specs.declared.topology.Topology.{Topology}
 use Rattle.pipe_types.specs.declared.topology.StageSpec.{StageSpec}
 use Rattle.pipe_types.specs.Stages.{spec_of}
 use Rattle.pipe_model.specs.History.{History}
-use Rattle.pipe_model.specs.Content.{key_in, content, producer_of}
+use Rattle.pipe_model.specs.Content.{key_in, content}
 use Rattle.pipe_model.specs.Lives.{is_live}
 use Rattle.pipe_model.specs.Flow.{open_batch_by, view_of, inbox}
 use Rattle.pipe_model.specs.Legal.{has_room, has_role, lets_in, may_gather, is_batcher_role, batch_size_in, ends_in_flush, first_unit}
 use Rattle.pipe_model.specs.Standing.{gathered_in}
 use Rattle.queue_laws.proofs.Laws.{open_law}
 use Rattle.batcher.specs.Batches.{Batches, fits}
-use Rattle.core_tables.specs.declared.rows.ContentRow.{ContentRow}
-use Rattle.core_laws.specs.Columns.{content_row, open_batches}
-use Rattle.core_laws.specs.Contents.{message_by}
-use Rattle.core_laws.proofs.Contents.{content_is}
+use Rattle.core_laws.specs.Columns.{open_batches}
 use Rattle.core_batches.proofs.Opens.{fits_open}
-use Rattle.core_batches.proofs.Passing.{key_read}
 use Rattle.core_state.specs.declared.state.Core.{Core}
 use Rattle.core_state.specs.Stands.{Holds, opens_in}
-use Rattle.core_moves.specs.Gathers.{may_gather_now, passed_by}
+use Rattle.core_moves.specs.Gathers.{may_gather_now}
 use Rattle.core_rows.proofs.Known.{row_within}
-
--- the key of a message by its content row
-pub key_by : (before : History) (n : ℕ) (o : Option ContentRow) → content_row before n ≡ o → key_in (passed_by before o) ≡ key_in (content before n)
-key_by before n None e = ap key_in (ap (message_by before (producer_of before n) n) (sym e) ∙ content_is before n)
-key_by before n (Some row) e = key_read before n row e
-
--- the key of a message whose row was read of the table
-pub key_at : (core : Core) (n : ℕ) (o : Option ContentRow) → Holds core → 1 ≤ n → o ≡ slice_get core.contents.items (n - 1) → key_in (passed_by core.journal.steps o) ≡ key_in (content core.journal.steps n)
-key_at core n o x least read =
-    let number : suc (n - 1) ≡ n = omega (arith, least) in
-    key_by core.journal.steps n o (ap (content_row core.journal.steps) (sym number) ∙ (sym (x.fields.contents (n - 1)) ∙ sym read))
 
 -- the open batch of a key takes one more where the batcher's does
 pub fits_is : (core : Core) (spec : StageSpec) (held : Batches) (key : List ℕ) → Holds core → spec_of core.topology spec.no ≡ Some spec → held ≡ get_or core.batchers.items spec.no.0 held

@@ -1,7 +1,6 @@
 -- What a batcher may gather, as the rows give it.
-use Rattle.std.specs.Prelude.{ℕ, Bool, ◌&&◌, nat_le, List, [], ◌∷◌, Option, Some, None}
+use Rattle.std.specs.Prelude.{ℕ, Bool, ◌&&◌, nat_le, List, [], ◌∷◌}
 use Rattle.pipe_types.specs.declared.numbers.SubNo.{SubNo}
-use Rattle.pipe_types.specs.declared.message.Message.{Message}
 use Rattle.pipe_types.specs.declared.topology.Topology.{Topology}
 use Rattle.pipe_types.specs.declared.topology.StageSpec.{StageSpec}
 use Rattle.pipe_model.specs.History.{History}
@@ -9,9 +8,6 @@ use Rattle.pipe_model.specs.Content.{key_in, content}
 use Rattle.pipe_model.specs.Lives.{is_live}
 use Rattle.pipe_model.specs.Flow.{open_batch_by, view_of}
 use Rattle.pipe_model.specs.Legal.{has_room, lets_in, is_batcher_role}
-use Rattle.pipe_journal.specs.Readers.{reply_at}
-use Rattle.core_tables.specs.declared.rows.ContentRow.{ContentRow}
-use Rattle.core_laws.specs.Contents.{passed_in}
 
 -- a live batcher with room may gather the message, where the open batch of its key takes one more
 abbrev pub may_gather_now : Topology → History → StageSpec → ℕ → Bool
@@ -20,11 +16,6 @@ may_gather_now topology before spec n =
     && (is_batcher_role spec.role
     && (nat_le 1 n
     && (has_room topology before spec.no && lets_in topology before spec.no (open_batch_by before (view_of topology before) spec.no (key_in (content before n))))))
-
--- the message that the reply where the row points passes on
-abbrev pub passed_by : History → Option ContentRow → Option Message
-passed_by steps None = None
-passed_by steps (Some row) = passed_in (reply_at steps row.entry row.item)
 
 -- the first unit, or 0
 abbrev pub first_by : List (SubNo × ℕ) → ℕ

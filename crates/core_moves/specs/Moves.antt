@@ -67,5 +67,5 @@ abbrev pub from_restarts : Topology → History → Option model.Move
 from_restarts topology before =
     model.or_else
     (model.when (λ spec. needs_restart topology before spec.no && no_post_out topology before spec.no)
-    (λ spec. model.StepMove (if may_restart topology before then Restart spec.no else Halt)) topology.stages)
+    (λ spec. model.StepMove (if may_restart topology before spec.no then Restart spec.no else Halt)) topology.stages)
     (from_drains topology before)

@@ -1,28 +1,34 @@
-//! Whether a dispatch of a stage sends or loses anything.
+//! Whether a dispatch of a stage sends, serves or loses anything.
 
-ghost use Rattle.std.specs.Prelude.{◌≡◌, ◌&&◌, ◌||◌, ◌==◌, not, Some, true, length, map, slice_get, is_some};
+ghost use Rattle.std.specs.Prelude.{◌≡◌, ◌&&◌, ◌||◌, ◌==◌, not, Some, true, length, map, slice_get, is_some, option_copied, ◌≤◌};
 ghost use Rattle.std.specs.List.{list_any, list_all};
-ghost use Rattle.pipe_types.specs.declared.topology.Dispatch.TheVariants.{Demand, Broadcast, Partition};
+ghost use Rattle.pipe_types.specs.declared.topology.Dispatch.TheVariants.{Broadcast, Partition};
+ghost use Rattle.pipe_types.specs.Dispatchers.{ByDemand, ByBroadcast, ByPartition, served_as};
 ghost use Rattle.pipe_types.specs.Stages.{spec_of};
 ghost use Rattle.pipe_model.specs.Lives.{is_live};
-ghost use Rattle.pipe_model.specs.Flow.{is_empty, waiting, rooms_by, view_of};
+ghost use Rattle.pipe_model.specs.Content.{key_in};
+ghost use Rattle.pipe_model.specs.Flow.{is_empty, batch, batch_waits_in, waiting, rooms_by, picks_by, view_of};
 ghost use Rattle.pipe_model.specs.Legal.{may_dispatch};
 ghost use Rattle.core_tables.specs.Tables.{items_in};
 ghost use Rattle.core_laws.specs.Columns.{waiting_parts};
 ghost use Rattle.core_state.specs.Stands.{Stands};
-ghost use Rattle.core_sends.specs.Rooms.{room_between, parts_of};
-ghost use Rattle.core_moves.specs.Sends.{goes_some, is_over, is_open_in, is_shut_in, wants_in};
+ghost use Rattle.core_sends.specs.Rooms.{room_between, marks_of};
+ghost use Rattle.core_sends.specs.Picks.{picks_key};
+ghost use Rattle.core_moves.specs.Sends.{goes_some, is_over, is_open_in, is_held_in, is_let_in, wants_in, first_number};
 
 use core_rows::rests::is_waiting_empty;
 use core_rows::rooms::waiting_len;
+use core_sends::picks::{does_pick, first_message};
 use core_sends::rooms::room;
 use core_state::Core;
+use pipe_types::message::Message;
 use pipe_types::numbers::StageNo;
 use pipe_types::room::Room;
-use pipe_types::topology::{Dispatch, StageSpec};
+use pipe_types::topology::{Dispatch, StageSpec, Topology};
 use std::collections::VecDeque;
 
-/// Whether the stage is live, and its dispatch sends something or loses what is over the size of its buffer.
+/// Whether the stage is live, and its dispatch sends something, serves a batch that nobody picks, or loses what is over the
+/// size of its buffer.
 pub fn may_dispatch(core: &Core, spec: &StageSpec) -> bool
     requires stands { Stands core.now }
     requires there { spec_of core.now.topology spec.now.no ≡ Some spec.now }
@@ -39,7 +45,7 @@ fn is_dispatch_next(core: &Core, spec: &StageSpec) -> bool
     requires there { spec_of core.now.topology spec.now.no ≡ Some spec.now }
     requires live { is_live core.now.topology core.now.journal.steps spec.now.no ≡ true }
     ensures { result ≡ (is_over spec.now.size (length (waiting core.now.topology core.now.journal.steps spec.now.no))
-        || goes_some spec.now.dispatch (rooms_by core.now.topology core.now.journal.steps (view_of core.now.topology core.now.journal.steps) spec.now.no) (parts_of core.now.topology core.now.journal.steps spec.now.no)) }
+        || goes_some (served_as spec.now.dispatch (picks_by core.now.topology core.now.journal.steps (view_of core.now.topology core.now.journal.steps))) (rooms_by core.now.topology core.now.journal.steps (view_of core.now.topology core.now.journal.steps) spec.now.no) (marks_of core.now.topology core.now.journal.steps spec.now.no)) }
 {
     is_over_size(core, spec) || sends_some(core, spec)
 }
@@ -55,16 +61,16 @@ fn is_over_size(core: &Core, spec: &StageSpec) -> bool
     }
 }
 
-/// Whether a dispatch of the live stage sends something.
+/// Whether a dispatch of the live stage sends or serves something.
 fn sends_some(core: &Core, spec: &StageSpec) -> bool
     requires stands { Stands core.now }
     requires there { spec_of core.now.topology spec.now.no ≡ Some spec.now }
     requires live { is_live core.now.topology core.now.journal.steps spec.now.no ≡ true }
-    ensures { result ≡ goes_some spec.now.dispatch (rooms_by core.now.topology core.now.journal.steps (view_of core.now.topology core.now.journal.steps) spec.now.no) (parts_of core.now.topology core.now.journal.steps spec.now.no) }
+    ensures { result ≡ goes_some (served_as spec.now.dispatch (picks_by core.now.topology core.now.journal.steps (view_of core.now.topology core.now.journal.steps))) (rooms_by core.now.topology core.now.journal.steps (view_of core.now.topology core.now.journal.steps) spec.now.no) (marks_of core.now.topology core.now.journal.steps spec.now.no) }
 {
     match spec.dispatch {
         Dispatch::Demand => sends_by_demand(core, spec),
-        Dispatch::Broadcast => sends_to_all(core, spec),
+        Dispatch::Broadcast => serves_first(core, spec),
         Dispatch::Partition => sends_by_part(core, spec),
     }
 }
@@ -73,7 +79,7 @@ fn sends_by_demand(core: &Core, spec: &StageSpec) -> bool
     requires stands { Stands core.now }
     requires there { spec_of core.now.topology spec.now.no ≡ Some spec.now }
     requires live { is_live core.now.topology core.now.journal.steps spec.now.no ≡ true }
-    ensures { result ≡ goes_some Demand (rooms_by core.now.topology core.now.journal.steps (view_of core.now.topology core.now.journal.steps) spec.now.no) (parts_of core.now.topology core.now.journal.steps spec.now.no) }
+    ensures { result ≡ goes_some ByDemand (rooms_by core.now.topology core.now.journal.steps (view_of core.now.topology core.now.journal.steps) spec.now.no) (marks_of core.now.topology core.now.journal.steps spec.now.no) }
 {
     if is_waiting_empty(core, spec.no) {
         return false;
@@ -81,27 +87,64 @@ fn sends_by_demand(core: &Core, spec: &StageSpec) -> bool
     is_any_open(core, spec)
 }
 
-fn sends_to_all(core: &Core, spec: &StageSpec) -> bool
+/// Whether the first batch that waits in the stage is served: there are subscribers, and those that pick it have open demand.
+fn serves_first(core: &Core, spec: &StageSpec) -> bool
     requires stands { Stands core.now }
     requires there { spec_of core.now.topology spec.now.no ≡ Some spec.now }
     requires live { is_live core.now.topology core.now.journal.steps spec.now.no ≡ true }
-    ensures { result ≡ goes_some Broadcast (rooms_by core.now.topology core.now.journal.steps (view_of core.now.topology core.now.journal.steps) spec.now.no) (parts_of core.now.topology core.now.journal.steps spec.now.no) }
+    requires kind { spec.now.dispatch ≡ Broadcast }
+    ensures { result ≡ goes_some (ByBroadcast (picks_by core.now.topology core.now.journal.steps (view_of core.now.topology core.now.journal.steps))) (rooms_by core.now.topology core.now.journal.steps (view_of core.now.topology core.now.journal.steps) spec.now.no) (marks_of core.now.topology core.now.journal.steps spec.now.no) }
 {
-    if is_waiting_empty(core, spec.no) {
-        return false;
+    match first_waiting(core, spec.no) {
+        Some(first) => is_served(core, spec, first),
+        None => false,
     }
-    has_every_open(core, spec)
 }
 
-/// Whether the stage has live subscribers and each has open demand.
-fn has_every_open(core: &Core, spec: &StageSpec) -> bool
+/// Whether the stage has live subscribers, and each that picks the batch has open demand.
+fn is_served(core: &Core, spec: &StageSpec, first: u32) -> bool
+    requires stands { Stands core.now }
+    requires there { spec_of core.now.topology spec.now.no ≡ Some spec.now }
+    requires live { is_live core.now.topology core.now.journal.steps spec.now.no ≡ true }
+    requires least { 1 ≤ first }
+    requires waits { batch_waits_in spec.now.no (batch core.now.topology core.now.journal.steps first) ≡ true }
+    ensures { result ≡ (not (is_empty (rooms_by core.now.topology core.now.journal.steps (view_of core.now.topology core.now.journal.steps) spec.now.no))
+        && is_let_in (picks_by core.now.topology core.now.journal.steps (view_of core.now.topology core.now.journal.steps)) (rooms_by core.now.topology core.now.journal.steps (view_of core.now.topology core.now.journal.steps) spec.now.no) first) }
+{
+    let message = first_message(core, spec.no, first);
+    lets_in_all(core, spec, message)
+}
+
+/// The first unit that waits in the stage.
+fn first_waiting(core: &Core, stage: StageNo) -> Option<u32>
+    requires stands { Stands core.now }
+    ensures { result ≡ slice_get (waiting core.now.topology core.now.journal.steps stage) 0 }
+{
+    first_of(&core.waiting, stage.0 as usize)
+}
+
+/// The first unit of the queue at that place.
+fn first_of(queues: &[VecDeque<(u32, u32)>], at: usize) -> Option<u32>
+    ensures { result ≡ first_number (items_in (slice_get queues.now at)) }
+{
+    match queues.get(at) {
+        Some(queue) => match queue.front() {
+            Some(unit) => Some(unit.1),
+            None => None,
+        },
+        None => None,
+    }
+}
+
+/// Whether the stage has live subscribers, and each that picks batches of the message's key has open demand.
+fn lets_in_all(core: &Core, spec: &StageSpec, message: Option<&Message>) -> bool
     requires stands { Stands core.now }
     requires there { spec_of core.now.topology spec.now.no ≡ Some spec.now }
     requires live { is_live core.now.topology core.now.journal.steps spec.now.no ≡ true }
     ensures { result ≡ (list_any (λ c. is_some (room_between core.now.topology core.now.journal.steps spec.now.no c.no)) core.now.topology.stages
-        && list_all (λ c. not (is_shut_in (room_between core.now.topology core.now.journal.steps spec.now.no c.no))) core.now.topology.stages) }
+        && list_all (λ c. not (is_held_in (picks_key core.now.topology (key_in (option_copied message.entry))) (room_between core.now.topology core.now.journal.steps spec.now.no c.no))) core.now.topology.stages) }
 {
-    has_subscriber(core, spec) && is_none_shut(core, spec)
+    has_subscriber(core, spec) && is_none_held(core, spec, message)
 }
 
 /// Whether a unit waits in the stage for whose partition a subscriber has open demand.
@@ -110,7 +153,7 @@ fn sends_by_part(core: &Core, producer: &StageSpec) -> bool
     requires there { spec_of core.now.topology producer.now.no ≡ Some producer.now }
     requires live { is_live core.now.topology core.now.journal.steps producer.now.no ≡ true }
     requires kind { producer.now.dispatch ≡ Partition }
-    ensures { result ≡ goes_some Partition (rooms_by core.now.topology core.now.journal.steps (view_of core.now.topology core.now.journal.steps) producer.now.no) (parts_of core.now.topology core.now.journal.steps producer.now.no) }
+    ensures { result ≡ goes_some ByPartition (rooms_by core.now.topology core.now.journal.steps (view_of core.now.topology core.now.journal.steps) producer.now.no) (marks_of core.now.topology core.now.journal.steps producer.now.no) }
 {
     if is_waiting_empty(core, producer.no) {
         return false;
@@ -146,14 +189,14 @@ fn has_subscriber(core: &Core, producer: &StageSpec) -> bool
     false
 }
 
-fn is_none_shut(core: &Core, producer: &StageSpec) -> bool
+fn is_none_held(core: &Core, producer: &StageSpec, message: Option<&Message>) -> bool
     requires stands { Stands core.now }
     requires from { spec_of core.now.topology producer.now.no ≡ Some producer.now }
     requires live { is_live core.now.topology core.now.journal.steps producer.now.no ≡ true }
-    ensures { result ≡ list_all (λ c. not (is_shut_in (room_between core.now.topology core.now.journal.steps producer.now.no c.no))) core.now.topology.stages }
+    ensures { result ≡ list_all (λ c. not (is_held_in (picks_key core.now.topology (key_in (option_copied message.entry))) (room_between core.now.topology core.now.journal.steps producer.now.no c.no))) core.now.topology.stages }
 {
     for spec in core.topology.stages.as_slice() {
-        if is_shut(room(core, producer, spec)) {
+        if is_held(&core.topology, room(core, producer, spec), message) {
             return false;
         }
     }
@@ -213,12 +256,12 @@ fn is_open(room: Option<Room>) -> bool
     }
 }
 
-/// Whether there is a room and nothing was asked for there that is not sent.
-fn is_shut(room: Option<Room>) -> bool
-    ensures { result ≡ is_shut_in room }
+/// Whether there is a room that picks batches of the message's key, and nothing was asked for there that is not sent.
+fn is_held(topology: &Topology, room: Option<Room>, message: Option<&Message>) -> bool
+    ensures { result ≡ is_held_in (picks_key topology.now (key_in (option_copied message.entry))) room }
 {
     match room {
-        Some(room) => room.left == 0,
+        Some(room) => does_pick(topology, room.sub, message) && room.left == 0,
         None => false,
     }
 }

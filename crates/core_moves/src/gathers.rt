@@ -9,14 +9,15 @@ ghost use Rattle.pipe_model.specs.Legal.{may_gather, lets_in, first_unit as firs
 ghost use Rattle.batcher.specs.Batches.{fits as key_fits};
 ghost use Rattle.core_tables.specs.Tables.{items_in};
 ghost use Rattle.core_state.specs.Stands.{Stands};
-ghost use Rattle.core_moves.specs.Gathers.{may_gather_now, passed_by, first_by};
+ghost use Rattle.core_laws.specs.Contents.{passed_by};
+ghost use Rattle.core_moves.specs.Gathers.{may_gather_now, first_by};
 
 use batcher::Batcher;
 use core_rows::rooms::has_room;
 use core_state::Core;
+use core_state::contents::{content_at, message_at};
 use core_tables::rows::ContentRow;
 use pipe_journal::Journal;
-use pipe_types::message::{Message, Reply};
 use pipe_types::numbers::{StageNo, SubNo};
 use pipe_types::topology::{Role, StageSpec};
 use std::collections::VecDeque;
@@ -75,14 +76,6 @@ pub fn lets_in(core: &Core, spec: &StageSpec, no: u32) -> bool
     fits(&core.batchers[spec.no.0 as usize], &core.journal, row)
 }
 
-/// The row of the message with that number.
-fn content_at(contents: &[ContentRow], no: u32) -> Option<ContentRow>
-    requires least { 1 ≤ no }
-    ensures { result ≡ slice_get contents.now (no - 1) }
-{
-    contents.get(no as usize - 1).copied()
-}
-
 /// Whether the message that the journal has at that place fits in the batcher's open batch of its key.
 fn fits(held: &Batcher, journal: &Journal, row: Option<ContentRow>) -> bool
     ensures { result ≡ key_fits held.now.batch_size (key_in (passed_by journal.now.steps row)) held.now.batches }
@@ -90,16 +83,5 @@ fn fits(held: &Batcher, journal: &Journal, row: Option<ContentRow>) -> bool
     match message_at(journal, row) {
         Some(message) => held.fits(message.key.as_slice()),
         None => held.fits(&[]),
-    }
-}
-
-/// The message that the reply at that place of the journal passes on.
-fn message_at(journal: &Journal, row: Option<ContentRow>) -> Option<&Message>
-    ensures { option_copied result ≡ passed_by journal.now.steps row }
-{
-    let row = row?;
-    match journal.reply_at(row.entry, row.item) {
-        Some(Reply::Pass(message)) => Some(message),
-        _ => None,
     }
 }

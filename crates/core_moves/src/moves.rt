@@ -73,12 +73,12 @@ fn restart_first(core: &Core) -> Move
     }
 }
 
-/// A restart of the stage, or a halt where there were too many.
+/// A restart of the stage, or a halt where its limit is met.
 fn restart_or_halt(core: &Core, stage: StageNo) -> Move
     requires stands { Stands core.now }
-    ensures { seen_as result ≡ StepMove (if may_restart core.now.topology core.now.journal.steps then Restart stage else Halt) }
+    ensures { seen_as result ≡ StepMove (if may_restart core.now.topology core.now.journal.steps stage then Restart stage else Halt) }
 {
-    if may_restart(core) {
+    if may_restart(core, stage) {
         Move::Step(Step::Restart { stage })
     } else {
         Move::Step(Step::Halt)

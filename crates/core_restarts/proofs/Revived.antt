@@ -15,7 +15,7 @@ use Rattle.pipe_model.specs.History.{History, asked, incarnation}
 use Rattle.pipe_model.specs.Lives.{death, death_after, is_live, generation, current_sub, renews, one_more}
 use Rattle.pipe_model.specs.Flow.{sent}
 use Rattle.pipe_model.specs.Ledger.{handled, min_in, max_in}
-use Rattle.pipe_model.specs.Legal.{is_legal, restart_times}
+use Rattle.pipe_model.specs.Legal.{is_legal, limit_of, restart_times}
 use Rattle.pipe_laws.proofs.Tests.{and_left, and_right, both, same_stage-true, same_stage-self, same_sub-self}
 use Rattle.pipe_journal.specs.Recorded.{Recorded}
 use Rattle.restart_core.specs.Restarts.{RestartLimit, Remembers}
@@ -29,7 +29,7 @@ use Rattle.core_laws.specs.Columns.{stage_row}
 use Rattle.core_laws.proofs.Past.{known_within, live_known}
 use Rattle.core_laws.proofs.Came.{flip}
 use Rattle.core_state.specs.declared.state.Core.{Core}
-use Rattle.core_state.specs.Stands.{Fields, Holds}
+use Rattle.core_state.specs.Stands.{Fields, Holds, limit_seen}
 use Rattle.core_state.proofs.Reading.{live_by}
 use Rattle.core_state.proofs.FirstPairs.{feeding}
 use Rattle.core_state.proofs.Ending.{row_changed}
@@ -233,13 +233,14 @@ pairs_after core s c p subs x known dead are fed =
 
 -- The fields
 
-pub restarted_fields : (core : Core) (topology : Topology) (before : History) (s : StageNo) (j : Recorded) (rows : Vec StageRow Global) (subs : List (Option PairRow)) (limit : RestartLimit)
+pub restarted_fields : (core : Core) (topology : Topology) (before : History) (s : StageNo) (j : Recorded) (rows : Vec StageRow Global) (subs : List (Option PairRow)) (limits : Vec RestartLimit Global)
     → Fields core topology before
     → ((i : ℕ) → slice_get rows.items i ≡ (if s.0 == i then option_map restarted (slice_get core.stages.items i) else slice_get core.stages.items i)) → length rows.items ≡ length core.stages.items
     → ((c p : StageNo) → feeds topology p c ≡ true → row_at subs c p ≡ Some (ledger_row topology (Restart s ∷ before) c p))
-    → (limit.max ≡ core.restarts.max) × (limit.window ≡ core.restarts.window) → Remembers limit (core.totals.now ∷ restart_times before)
-    → Fields (record core { journal = j; stages = rows; subs = subs; restarts = limit; totals = record core.totals { quiet = 0 } }) topology (Restart s ∷ before)
-restarted_fields core topology before s j rows subs limit x changed len pairs same known =
+    → ((l : ℕ) → option_map limit_seen (slice_get limits.items l) ≡ option_map limit_seen (slice_get core.restarts.items l))
+    → ((l : ℕ) (limit : RestartLimit) → slice_get limits.items l ≡ Some limit → Remembers limit (if limit_of topology s == l then core.totals.now ∷ restart_times topology before l else restart_times topology before l))
+    → Fields (record core { journal = j; stages = rows; subs = subs; restarts = limits; totals = record core.totals { quiet = 0 } }) topology (Restart s ∷ before)
+restarted_fields core topology before s j rows subs limits x changed len pairs same known =
     record {
       sized =
           record {
@@ -258,7 +259,7 @@ restarted_fields core topology before s j rows subs limit x changed len pairs sa
             contents = x.sized.contents;
             batches = x.sized.batches;
           };
-      set = record { batchers = x.set.batchers; children = x.set.children; restarts = (same.0 ∙ x.set.restarts.0, same.1 ∙ x.set.restarts.1) };
+      set = record { batchers = x.set.batchers; children = x.set.children; restarts = λ l. same l ∙ x.set.restarts l };
       stages = λ t within. changed t.0 ∙ (row_changed restarted core.stages.items s t (stage_row topology before t) (x.stages t within) ∙ ap Some (by (s.0 == t.0) t (flip t.0 s.0)));
       posts = x.posts;
       came = x.came;
@@ -275,7 +276,8 @@ restarted_fields core topology before s j rows subs limit x changed len pairs sa
       batches = x.batches;
       sent_on = x.sent_on;
       legs = x.legs;
-      restarts = subst (λ (n : ℕ). Remembers limit (n ∷ restart_times before)) (ap (λ (y : Totals). y.now) x.totals) known;
+      restarts = λ l limit at. subst (λ (n : ℕ). Remembers limit (if limit_of topology s == l then n ∷ restart_times topology before l else restart_times topology before l))
+          (ap (λ (y : Totals). y.now) x.totals) (known l limit at);
       totals = ap (λ (y : Totals). record y { quiet = 0 }) x.totals;
     }
   where

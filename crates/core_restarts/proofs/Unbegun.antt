@@ -1,6 +1,7 @@
 -- On a generation of a pair that has not begun nothing was asked, sent or handled; and generations have room.
 use Rattle.std.proofs.Common.{◌≡◌, ℕ, ◌+◌, ◌*◌, ◌-◌, ◌^◌, ◌<◌, ◌≤◌, [], ◌∷◌, length, Bool, true, false, refl, ap, sym, ◌∙◌, subst, arith}
 use Rattle.std.specs.Prelude.{if◌then◌else◌, nat_le}
+use Rattle.std.proofs.Math.Nat.{mul-le-mul_right}
 use Rattle.std.proofs.lemmas.Bool.{eqb-true}
 use Rattle.pipe_types.specs.declared.numbers.StageNo.{StageNo}
 use Rattle.pipe_types.specs.declared.numbers.SubNo.{SubNo}
@@ -19,7 +20,7 @@ use Rattle.pipe_laws.proofs.Allowed.{legal_before, legal_step, unowed}
 use Rattle.pipe_laws.proofs.Demand.{sent_within}
 use Rattle.pipe_laws.proofs.Handled.{handled_within}
 use Rattle.pipe_laws.proofs.Sounds.{sound_ascends}
-use Rattle.stage_laws.proofs.Records.{limit_is}
+use Rattle.stage_laws.proofs.Records.{limit_within}
 use Rattle.count_laws.proofs.Bounds.{generations_within}
 use Rattle.work_laws.specs.Limits.{most_lives}
 use Rattle.work_laws.proofs.Lives.{lives_few}
@@ -65,11 +66,11 @@ unhandled topology before c p g sound h far = omega (arith, unsent topology befo
 
 -- Room for one more
 
-few_takes : (stages limit : ℕ) → stages ≤ 64 → limit ≡ 200000 → stages * (21 * limit + 1) ≤ 268800064
-few_takes stages limit few is = subst (λ n. stages * (21 * n + 1) ≤ 268800064) (sym is) (omega (arith, few))
+few_takes : (stages limit : ℕ) → stages ≤ 64 → limit ≤ 2000000 → stages * (limit + 1) ≤ 128000064
+few_takes stages limit few small = omega (arith, mul-le-mul_right (limit + 1) few)
 
-lives_small : (topology : Topology) → IsSound topology → most_lives topology ≤ 268810066
-lives_small topology sound = omega (arith, few_takes (length topology.stages) topology.record_limit sound.few (limit_is topology sound))
+lives_small : (topology : Topology) → IsSound topology → most_lives topology ≤ 130010066
+lives_small topology sound = omega (arith, few_takes (length topology.stages) topology.record_limit sound.few (limit_within topology sound))
 
 pub incarnation_room : (topology : Topology) (before : History) (s : StageNo) → IsSound topology → is_legal topology before ≡ true → incarnation before s < 2 ^ 32 - 1
 incarnation_room topology before s sound h = omega (arith, lives_few topology before s sound h, lives_small topology sound)

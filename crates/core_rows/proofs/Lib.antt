@@ -5,3 +5,4 @@ pub mod Totals
 pub mod Known
 pub mod Roomy
 pub mod Fetched
+pub mod Allowed

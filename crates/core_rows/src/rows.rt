@@ -9,6 +9,7 @@ ghost use Rattle.core_rows.specs.Rows.{needs_by};
 
 use crate::posts::has_job_out;
 use core_state::Core;
+use core_state::limits::limit_of;
 use core_tables::rows::{StageRow, Totals};
 use pipe_types::numbers::StageNo;
 use pipe_types::topology::{Role, StageSpec};
@@ -40,12 +41,16 @@ pub fn is_ready_to_restart(core: &Core, spec: &StageSpec) -> bool
     needs_restart(core, spec) && !has_job_out(core, spec.no)
 }
 
-/// Whether fewer restarts than the limit count now.
-pub fn may_restart(core: &Core) -> bool
+/// Whether the stage's limit allows one more restart now.
+pub fn may_restart(core: &Core, stage: StageNo) -> bool
     requires stands { Stands core.now }
-    ensures { result ≡ may_restart core.now.topology core.now.journal.steps }
+    ensures { result ≡ may_restart core.now.topology core.now.journal.steps stage }
 {
-    core.restarts.may(core.totals.now)
+    let at = limit_of(&core.topology, stage);
+    match core.restarts.get(at) {
+        Some(limit) => limit.may(core.totals.now),
+        None => false,
+    }
 }
 
 /// Whether the stage is no producer, or its source has ended.

@@ -1,6 +1,6 @@
 -- The fields after a dispatch of a batcher.
 use Rattle.std.proofs.Common.{◌≡◌, ◌≢◌, ℕ, suc, ◌≤◌, List, ◌∷◌, ◌++◌, length, set, map, true, false, ap, sym, ◌∙◌, Some, Option, arith, inl, inr}
-use Rattle.std.specs.Prelude.{option_map, if◌then◌else◌, ◌==◌, ◌⊎◌, filter}
+use Rattle.std.specs.Prelude.{option_map, if◌then◌else◌, ◌==◌, ◌⊎◌, filter, slice_get, not, ◌&&◌}
 use Rattle.std.specs.declared.alloc.Global.{Global}
 use Rattle.std.specs.declared.vec.Vec.{Vec}
 use Rattle.std.specs.declared.collections.VecDeque.{VecDeque}
@@ -12,11 +12,11 @@ use Rattle.pipe_types.specs.declared.room.Sent.{Sent}
 use Rattle.pipe_types.specs.declared.step.Step.TheVariants.{Dispatch}
 use Rattle.pipe_types.specs.Sound.{IsSound}
 use Rattle.pipe_types.specs.Stages.{spec_of, feeds}
-use Rattle.queue_laws.proofs.Sounds.{fits}
 use Rattle.pipe_model.specs.History.{History}
 use Rattle.pipe_model.specs.Lives.{current_sub}
 use Rattle.pipe_model.specs.Legal.{is_legal, allows}
-use Rattle.pipe_model.specs.Flow.{inbox, deliveries, delivered_to, count_on, is_batcher, subs_of}
+use Rattle.pipe_model.specs.Flow.{inbox, deliveries, delivered_to, count_on, is_batcher, subs_of, alone, among}
+use Rattle.pipe_types.specs.declared.message.Place.{Place}
 use Rattle.pipe_journal.specs.Recorded.{Recorded}
 use Rattle.stage_subs.specs.Pairs.{PairRow}
 use Rattle.stage_subs.specs.Subs.{row_at, sent_more}
@@ -30,18 +30,21 @@ use Rattle.core_laws.specs.Columns.{waiting_parts, open_batches, sent_on}
 use Rattle.core_laws.specs.Laws.{DispatchLaws}
 use Rattle.core_state.specs.declared.state.Core.{Core}
 use Rattle.core_state.specs.Stands.{Fields, Stands}
-use Rattle.core_sends.specs.Batches.{closed_at, subs_at, messages_of, with_legs, not_sent}
+use Rattle.core_sends.specs.Batches.{closed_at, subs_at, messages_of, with_legs, not_sent, numbers_of, all_succeeded, all_marked}
 use Rattle.core_sends.proofs.AfterSending.{counts_are}
-use Rattle.core_sends.proofs.BatchesSent.{AreBegun, legs_now, unsent_queue, row_subs, row_subs_same}
-use Rattle.core_sends.proofs.Early.{same_place, same_mark}
+use Rattle.core_sends.proofs.BatchesSent.{AreBegun, legs_now, unsent_queue, places_now, marks_now, row_subs, row_subs_same}
 use Rattle.core_sends.proofs.Sent.{pair}
 
 -- what the passes make of the tables
-pub record BatchPasses (core : Core) (s : StageNo) (units : List Sent) (old : List (ℕ × ℕ)) (subs : List (Option PairRow))
-    (queues : Vec (VecDeque (ℕ × ℕ) Global) Global) (inboxes : Vec (VecDeque (SubNo × ℕ) Global) Global) (batches : Vec BatchRow Global) (legs : List (ℕ × Ends)) (q : VecDeque (ℕ × ℕ) Global) : Type 0 where
+pub record BatchPasses (core : Core) (s : StageNo) (units : List Sent) (lone : List ℕ) (tick : ℕ) (old : List (ℕ × ℕ)) (subs : List (Option PairRow))
+    (queues : Vec (VecDeque (ℕ × ℕ) Global) Global) (inboxes : Vec (VecDeque (SubNo × ℕ) Global) Global) (batches : Vec BatchRow Global) (legs : List (ℕ × Ends)) (places : Vec Place Global) (settled : Vec ℕ Global) (q : VecDeque (ℕ × ℕ) Global) : Type 0 where
   pub counted : (c p : StageNo) → row_at subs c p ≡ option_map (sent_more (count_between units c p)) (row_at core.subs c p)
   pub queue : queues.items ≡ set core.waiting.items s.0 q
-  pub kept : q.items ≡ filter (λ unit. not_sent legs unit.1) old
+  pub kept : q.items ≡ filter (λ unit. not_sent legs unit.1 && not (among lone unit.1)) old
+  pub placed : (i : ℕ) → slice_get places.items i ≡ option_map (all_succeeded (numbers_of core.batches.items) lone (suc i)) (slice_get core.places.items i)
+  pub all_places : length places.items ≡ length core.places.items
+  pub marks : (i : ℕ) → slice_get settled.items i ≡ option_map (all_marked (numbers_of core.batches.items) lone tick (suc i)) (slice_get core.settled.items i)
+  pub all_settled : length settled.items ≡ length core.settled.items
   pub came : (c : StageNo) → queue_at inboxes.items c ≡ queue_at core.inboxes.items c ++ delivered_to units c
   pub all_inboxes : length inboxes.items ≡ length core.inboxes.items
   pub begun : (i : ℕ) → sent_in legs (suc i) ≡ with_legs (messages_of core.batches.items (suc i)) (subs_of units (suc i)) (sent_in core.legs (suc i))
@@ -55,13 +58,13 @@ pub are_begun : (core : Core) (topology : Topology) (before : History) (s : Stag
 are_begun core topology before s units legs is begun =
     record { begun = λ i. begun i ∙ ap (λ us. with_legs (messages_of core.batches.items (suc i)) (subs_of us (suc i)) (sent_in core.legs (suc i))) is }
 
-pub batch_fields : (core : Core) (topology : Topology) (before : History) (s : StageNo) (units : List Sent) (old : List (ℕ × ℕ)) (j : Recorded)
-    (subs : List (Option PairRow)) (queues : Vec (VecDeque (ℕ × ℕ) Global) Global) (inboxes : Vec (VecDeque (SubNo × ℕ) Global) Global) (batches : Vec BatchRow Global) (legs : List (ℕ × Ends)) (q : VecDeque (ℕ × ℕ) Global)
+pub batch_fields : (core : Core) (topology : Topology) (before : History) (s : StageNo) (units : List Sent) (lone : List ℕ) (tick : ℕ) (old : List (ℕ × ℕ)) (j : Recorded)
+    (subs : List (Option PairRow)) (queues : Vec (VecDeque (ℕ × ℕ) Global) Global) (inboxes : Vec (VecDeque (SubNo × ℕ) Global) Global) (batches : Vec BatchRow Global) (legs : List (ℕ × Ends)) (places : Vec Place Global) (settled : Vec ℕ Global) (q : VecDeque (ℕ × ℕ) Global)
     → Fields core topology before → IsSound topology → is_legal topology before ≡ true → allows topology before (Dispatch s) ≡ true → is_batcher (spec_of topology s) ≡ true
-    → DispatchLaws topology before s → s.0 ≤ length topology.stages → units ≡ deliveries topology before s → old ≡ waiting_parts topology before s
-    → BatchPasses core s units old subs queues inboxes batches legs q
-    → Fields (record core { journal = j; subs = subs; waiting = queues; inboxes = inboxes; batches = batches; legs = legs; totals = record core.totals { quiet = 0 } }) topology (Dispatch s ∷ before)
-batch_fields core topology before s units old j subs queues inboxes batches legs q x sound h allowed batched law within is was done =
+    → DispatchLaws topology before s → s.0 ≤ length topology.stages → units ≡ deliveries topology before s → lone ≡ alone topology before s → tick ≡ length before → old ≡ waiting_parts topology before s
+    → BatchPasses core s units lone tick old subs queues inboxes batches legs places settled q
+    → Fields (record core { journal = j; subs = subs; waiting = queues; inboxes = inboxes; places = places; settled = settled; batches = batches; legs = legs; totals = record core.totals { quiet = 0 } }) topology (Dispatch s ∷ before)
+batch_fields core topology before s units lone tick old j subs queues inboxes batches legs places settled q x sound h allowed batched law within is those now was done =
     record {
       sized =
           record {
@@ -74,8 +77,8 @@ batch_fields core topology before s units old j subs queues inboxes batches legs
             chunks = x.sized.chunks;
             batchers = x.sized.batchers;
             children = x.sized.children;
-            places = x.sized.places;
-            settled = x.sized.settled;
+            places = done.all_places ∙ x.sized.places;
+            settled = done.all_settled ∙ x.sized.settled;
             producers = x.sized.producers;
             contents = x.sized.contents;
             batches = done.all_batches ∙ x.sized.batches;
@@ -90,8 +93,13 @@ batch_fields core topology before s units old j subs queues inboxes batches legs
       chunks = λ t. x.chunks t ∙ sym (law.running t);
       opens = λ t. x.opens t ∙ ap (open_batches before) (sym (law.gathered t));
       children = x.children;
-      places = λ i. x.places i ∙ sym (same_place topology before s (suc i) (fits topology sound) h batched);
-      settled = λ i below. x.settled i below ∙ ap Some (sym (same_mark topology before s (suc i) (fits topology sound) h batched));
+      places = λ i. done.placed i
+          ∙ (ap (λ bs. option_map (all_succeeded (numbers_of core.batches.items) bs (suc i)) (slice_get core.places.items i)) those
+          ∙ (ap (option_map (all_succeeded (numbers_of core.batches.items) (alone topology before s) (suc i))) (x.places i) ∙ places_now core topology before s (suc i) x sound h batched));
+      settled = λ i below. done.marks i
+          ∙ (ap (λ bs. option_map (all_marked (numbers_of core.batches.items) bs tick (suc i)) (slice_get core.settled.items i)) those
+          ∙ (ap (λ k. option_map (all_marked (numbers_of core.batches.items) (alone topology before s) k (suc i)) (slice_get core.settled.items i)) now
+          ∙ (ap (option_map (all_marked (numbers_of core.batches.items) (alone topology before s) (length before) (suc i))) (x.settled i below) ∙ ap Some (marks_now core topology before s (suc i) x sound h batched))));
       producers = x.producers;
       contents = x.contents;
       batches = λ i. done.closed i ∙ x.batches i;
@@ -114,8 +122,8 @@ batch_fields core topology before s units old j subs queues inboxes batches legs
         let one : s ≡ t = ap (λ n. record { 0 = n }) same.1 in
         ap (λ qs. queue_at qs t) done.queue
         ∙ (queue-set_same core.waiting.items s.0 q t (omega (arith, x.sized.waiting, within)) (sym same.1)
-        ∙ (done.kept ∙ (ap (filter (λ (unit : ℕ × ℕ). not_sent legs unit.1)) was
-        ∙ (unsent_queue core topology before s legs x sound h allowed batched (are_begun core topology before s units legs is done.begun) ∙ ap (waiting_parts topology (Dispatch s ∷ before)) one))))
+        ∙ (done.kept ∙ (ap (λ bs. filter (λ (unit : ℕ × ℕ). not_sent legs unit.1 && not (among bs unit.1)) old) those ∙ (ap (filter (λ (unit : ℕ × ℕ). not_sent legs unit.1 && not (among (alone topology before s) unit.1))) was
+        ∙ (unsent_queue core topology before s legs x sound h allowed batched (are_begun core topology before s units legs is done.begun) ∙ ap (waiting_parts topology (Dispatch s ∷ before)) one)))))
     waits t (inr other) =
         ap (λ qs. queue_at qs t) done.queue
         ∙ (queue-set_other core.waiting.items s.0 q t (λ e. other.1 (sym e))

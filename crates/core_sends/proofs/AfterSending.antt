@@ -18,7 +18,7 @@ use Rattle.pipe_types.specs.Stages.{spec_of, feeds}
 use Rattle.pipe_model.specs.History.{History}
 use Rattle.pipe_model.specs.Lives.{current_sub}
 use Rattle.pipe_model.specs.Legal.{is_legal, allows}
-use Rattle.pipe_model.specs.Flow.{place, waiting, inbox, deliveries, delivered_to, dispatched, count_on, unsent, is_batcher, subs_of}
+use Rattle.pipe_model.specs.Flow.{place, waiting, inbox, deliveries, alone, delivered_to, dispatched, count_on, unsent, is_batcher, subs_of}
 use Rattle.pipe_journal.specs.Recorded.{Recorded}
 use Rattle.stage_subs.specs.Pairs.{PairRow}
 use Rattle.stage_subs.specs.Subs.{row_at, sent_more}
@@ -29,6 +29,7 @@ use Rattle.core_tables.proofs.Tables.{same_or_other, queue-set_same, queue-set_o
 use Rattle.core_laws.specs.Columns.{waiting_parts, mark, open_batches, ends_in_progress, sent_on}
 use Rattle.core_laws.specs.Laws.{IsSentWell, DispatchLaws}
 use Rattle.core_state.proofs.Asking.{pair_is}
+use Rattle.queue_laws.proofs.Alone.{none_alone}
 use Rattle.core_state.specs.declared.state.Core.{Core}
 use Rattle.core_state.specs.Stands.{Fields}
 use Rattle.core_sends.specs.Losing.{left_in, numbers_in, over_of, kept_of, lost_over_size, marked}
@@ -55,7 +56,7 @@ pub record Passes (core : Core) (s : StageNo) (spec : StageSpec) (units : List S
   pub kept : q.items ≡ kept_of spec.size spec.keep (left_in moved s old)
   pub came : (c : StageNo) → queue_at inboxes.items c ≡ queue_at core.inboxes.items c ++ delivered_to units c
   pub all_inboxes : length inboxes.items ≡ length core.inboxes.items
-  pub moves : (i : ℕ) → slice_get moved i ≡ option_map (dispatched units [] s (suc i)) (slice_get core.places.items i)
+  pub moves : (i : ℕ) → slice_get moved i ≡ option_map (dispatched units [] [] s (suc i)) (slice_get core.places.items i)
   pub placed : (i : ℕ) → slice_get places.items i ≡ option_map (lost_over_size (numbers_in (over_of spec.size spec.keep (left_in moved s old))) s (suc i)) (slice_get moved i)
   pub all_places : length places.items ≡ length core.places.items
   pub marks : (i : ℕ) → slice_get settled.items i ≡ option_map (marked (numbers_in (over_of spec.size spec.keep (left_in moved s old))) mark (suc i)) (slice_get core.settled.items i)
@@ -63,10 +64,10 @@ pub record Passes (core : Core) (s : StageNo) (spec : StageSpec) (units : List S
 
 -- where the messages stand once they are moved
 pub are_moved : (core : Core) (topology : Topology) (before : History) (s : StageNo) (units : List Sent) (places : List Place) → Fields core topology before → units ≡ deliveries topology before s
-    → ((i : ℕ) → slice_get places i ≡ option_map (dispatched units [] s (suc i)) (slice_get core.places.items i)) → AreMoved topology before s places
+    → ((i : ℕ) → slice_get places i ≡ option_map (dispatched units [] [] s (suc i)) (slice_get core.places.items i)) → AreMoved topology before s places
 are_moved core topology before s units places x is moves =
     record {
-      placed = λ i. moves i ∙ (ap (option_map (dispatched units [] s (suc i))) (x.places i) ∙ ap (λ us. option_map (dispatched us [] s (suc i)) (place topology before (suc i))) is);
+      placed = λ i. moves i ∙ (ap (option_map (dispatched units [] [] s (suc i))) (x.places i) ∙ ap (λ us. option_map (dispatched us [] [] s (suc i)) (place topology before (suc i))) is);
     }
 
 pub sent_fields : (core : Core) (topology : Topology) (before : History) (s : StageNo) (spec : StageSpec) (units : List Sent) (old : List (ℕ × ℕ)) (m : ℕ) (j : Recorded)
@@ -107,12 +108,13 @@ sent_fields core topology before s spec units old m j subs queues inboxes moved 
       places = λ i. done.placed i
           ∙ (ap (λ ns. option_map (lost_over_size ns s (suc i)) (slice_get moved i)) lost
           ∙ (ap (option_map (lost_over_size (over topology before s) s (suc i))) (here.placed i)
-          ∙ lost_after_all (deliveries topology before s) (over topology before s) s (suc i) (place topology before (suc i))));
+          ∙ (lost_after_all (deliveries topology before s) (over topology before s) s (suc i) (place topology before (suc i))
+          ∙ ap (λ lone. option_map (dispatched (deliveries topology before s) (over topology before s) lone s (suc i)) (place topology before (suc i))) (sym none))));
       settled = λ i below. done.marks i
           ∙ (ap (λ ns. option_map (marked ns m (suc i)) (slice_get core.settled.items i)) lost
           ∙ (ap (option_map (marked (over topology before s) m (suc i))) (x.settled i below)
           ∙ (ap (λ k. Some (marked (over topology before s) k (suc i) (mark topology before (suc i)))) now
-          ∙ ap Some (marked_after topology before s (over topology before s) (suc i) refl (over_waits topology before s (suc i) sound h plain)))));
+          ∙ ap Some (marked_after topology before s (over topology before s) (suc i) refl none (over_waits topology before s (suc i) sound h plain)))));
       producers = x.producers;
       contents = x.contents;
       batches = x.batches;
@@ -122,6 +124,9 @@ sent_fields core topology before s spec units old m j subs queues inboxes moved 
       totals = ap (λ (y : Totals). record y { quiet = 0 }) x.totals;
     }
   where
+    none : alone topology before s ≡ []
+    none = none_alone topology before s plain
+
     here : AreMoved topology before s moved
     here = are_moved core topology before s units moved x is done.moves
 
@@ -142,7 +147,7 @@ sent_fields core topology before s spec units old m j subs queues inboxes moved 
         let one : s ≡ t = ap (λ n. record { 0 = n }) same.1 in
         ap (λ qs. queue_at qs t) done.queue
         ∙ (queue-set_same core.waiting.items s.0 q t (omega (arith, x.sized.waiting, within)) (sym same.1)
-        ∙ (done.kept ∙ (kept_queue topology before s spec (left_in moved s old) sound h allowed there left ∙ ap (waiting_parts topology (Dispatch s ∷ before)) one)))
+        ∙ (done.kept ∙ (kept_queue topology before s spec (left_in moved s old) sound h allowed plain there left ∙ ap (waiting_parts topology (Dispatch s ∷ before)) one)))
     waits t (inr other) =
         ap (λ qs. queue_at qs t) done.queue
         ∙ (queue-set_other core.waiting.items s.0 q t (λ e. other.1 (sym e))

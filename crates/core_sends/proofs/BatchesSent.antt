@@ -16,7 +16,12 @@ use Rattle.pipe_model.specs.Batches.{Batch, BatchPlace, AtBatcher, Sent, Dropped
 use Rattle.pipe_model.specs.Content.{arrivals}
 use Rattle.pipe_model.specs.History.{History, accepted, closed}
 use Rattle.pipe_model.specs.Legal.{is_legal, allows}
-use Rattle.pipe_model.specs.Flow.{place, batch, waiting, deliveries, is_batcher, is_empty, subs_of, batch_waits_in, waits_in, at_batcher, numbers_in}
+use Rattle.pipe_model.specs.Flow.{place, batch, waiting, deliveries, is_batcher, is_empty, subs_of, batch_waits_in, waits_in, at_batcher, numbers_in, alone, among, served_by, serving_by, rooms_by, mark_in, view_of}
+use Rattle.pipe_types.specs.declared.message.Place.{Place}
+use Rattle.pipe_model.specs.Taken.{closed_as}
+use Rattle.queue_laws.proofs.Alone.{serves_each, alone_each}
+use Rattle.core_sends.proofs.Lone.{numbers_by, lone_places, lone_marks, succeeded_alike, marked_alike}
+use Rattle.core_sends.proofs.Early.{lone_place}
 use Rattle.queue_laws.specs.Queues.{left_over}
 use Rattle.queue_laws.proofs.Filters.{filter_each}
 use Rattle.queue_laws.proofs.Laws.{waiting_law}
@@ -26,13 +31,13 @@ use Rattle.message_ack.specs.Ends.{Ends, sent_in}
 use Rattle.message_ack.specs.declared.legs.LegEnd.{LegEnd}
 use Rattle.core_tables.specs.Tables.{IsNumbered}
 use Rattle.core_tables.specs.declared.rows.BatchRow.{BatchRow}
-use Rattle.core_laws.specs.Columns.{waiting_parts, closed_numbers, ends_in_progress, ends_on, sent_on}
+use Rattle.core_laws.specs.Columns.{waiting_parts, closed_numbers, ends_in_progress, ends_on, sent_on, mark}
 use Rattle.core_laws.specs.Laws.{IsSentWell}
 use Rattle.core_laws.proofs.Parts.{closed_is}
 use Rattle.core_state.specs.declared.state.Core.{Core}
 use Rattle.core_state.specs.Stands.{Fields, closed_seen}
 use Rattle.core_laws.proofs.LegsOn.{IsOnSubs, PlaceOn, legs_are_on}
-use Rattle.core_sends.specs.Batches.{with_legs, subs_at, subs_seen, messages_of, messages_in, not_sent}
+use Rattle.core_sends.specs.Batches.{with_legs, subs_at, subs_seen, messages_of, messages_in, not_sent, numbers_at, numbers_of, all_succeeded, all_marked}
 use Rattle.core_sends.specs.Rooms.{planned}
 use Rattle.core_sends.proofs.BatchLegs.{sent_waits, legs_after}
 use Rattle.core_sends.proofs.Begun.{some_sub}
@@ -183,47 +188,44 @@ still_unsent core topology before s legs x are n least waits =
     ∙ (open_again (messages_of core.batches.items (suc (n - 1))) (subs_of (deliveries topology before s) (suc (n - 1)))
     ∙ ap (λ m. is_empty (subs_of (deliveries topology before s) m)) number)))
 
-each_unsent : (core : Core) (topology : Topology) (before : History) (s : StageNo) (legs : List (ℕ × Ends)) → Fields core topology before → IsSound topology → is_legal topology before ≡ true
+-- what waits in a batcher are batches that wait there
+pub each_batch_waits : (topology : Topology) (before : History) (s : StageNo) → is_batcher (spec_of topology s) ≡ true → Each (λ n. batch_waits_in s (batch topology before n) ≡ true) (waiting topology before s)
+each_batch_waits topology before s batched =
+    each_weaker (λ n. Unit {0} × ((if is_batcher (spec_of topology s) then batch_waits_in s (batch topology before n) else waits_in s (place topology before n)) ≡ true))
+    (λ n. batch_waits_in s (batch topology before n) ≡ true)
+    (λ n p. ap (λ c. if c then batch_waits_in s (batch topology before n) else waits_in s (place topology before n)) (sym batched) ∙ p.1)
+    (waiting topology before s)
+    (each_filter (λ n. Unit {0}) (λ n. if is_batcher (spec_of topology s) then batch_waits_in s (batch topology before n) else waits_in s (place topology before n)) (arrivals before s)
+    (each_always (λ n. Unit {0}) (λ n. tt) (arrivals before s)))
+
+pub each_unsent : (core : Core) (topology : Topology) (before : History) (s : StageNo) (legs : List (ℕ × Ends)) → Fields core topology before → IsSound topology → is_legal topology before ≡ true
     → is_batcher (spec_of topology s) ≡ true → AreBegun core topology before s legs → Each (λ n. not_sent legs n ≡ is_empty (subs_of (deliveries topology before s) n)) (waiting topology before s)
 each_unsent core topology before s legs x sound h batched are =
     each_weaker (λ n. ((1 ≤ n) × (n ≤ accepted before)) × (batch_waits_in s (batch topology before n) ≡ true)) (λ n. not_sent legs n ≡ is_empty (subs_of (deliveries topology before s) n))
     (λ n p. still_unsent core topology before s legs x are n p.0.0 p.1) (waiting topology before s)
-    (each_both (λ n. (1 ≤ n) × (n ≤ accepted before)) (λ n. batch_waits_in s (batch topology before n) ≡ true) (waiting topology before s) (waiting_within topology before s (fits topology sound) h) tests)
-  where
-    tests : Each (λ n. batch_waits_in s (batch topology before n) ≡ true) (waiting topology before s)
-    tests =
-        each_weaker (λ n. Unit {0} × ((if is_batcher (spec_of topology s) then batch_waits_in s (batch topology before n) else waits_in s (place topology before n)) ≡ true))
-        (λ n. batch_waits_in s (batch topology before n) ≡ true)
-        (λ n p. ap (λ c. if c then batch_waits_in s (batch topology before n) else waits_in s (place topology before n)) (sym batched) ∙ p.1)
-        (waiting topology before s)
-        (each_filter (λ n. Unit {0}) (λ n. if is_batcher (spec_of topology s) then batch_waits_in s (batch topology before n) else waits_in s (place topology before n)) (arrivals before s)
-        (each_always (λ n. Unit {0}) (λ n. tt) (arrivals before s)))
+    (each_both (λ n. (1 ≤ n) × (n ≤ accepted before)) (λ n. batch_waits_in s (batch topology before n) ≡ true) (waiting topology before s) (waiting_within topology before s (fits topology sound) h) (each_batch_waits topology before s batched))
 
 -- the queue after the dispatch
 pub unsent_queue : (core : Core) (topology : Topology) (before : History) (s : StageNo) (legs : List (ℕ × Ends)) → Fields core topology before → IsSound topology → is_legal topology before ≡ true
     → allows topology before (Dispatch s) ≡ true → is_batcher (spec_of topology s) ≡ true → AreBegun core topology before s legs
-    → filter (λ (unit : ℕ × ℕ). not_sent legs unit.1) (waiting_parts topology before s) ≡ waiting_parts topology (Dispatch s ∷ before) s
+    → filter (λ (unit : ℕ × ℕ). not_sent legs unit.1 && not (among (alone topology before s) unit.1)) (waiting_parts topology before s) ≡ waiting_parts topology (Dispatch s ∷ before) s
 unsent_queue core topology before s legs x sound h allowed batched are =
-    filter_map (λ (unit : ℕ × ℕ). not_sent legs unit.1) (pair topology before s) (waiting topology before s)
+    filter_map (λ (unit : ℕ × ℕ). not_sent legs unit.1 && not (among (alone topology before s) unit.1)) (pair topology before s) (waiting topology before s)
     ∙ ap (map (pair topology before s))
-    (filter_each (λ n. is_empty (subs_of (deliveries topology before s) n)) (λ n. not_sent legs n) (waiting topology before s) (each_unsent core topology before s legs x sound h batched are)
+    (filter_each (λ n. is_empty (subs_of (deliveries topology before s) n) && not (among (alone topology before s) n)) (λ n. not_sent legs n && not (among (alone topology before s) n)) (waiting topology before s)
+    (each_weaker (λ n. not_sent legs n ≡ is_empty (subs_of (deliveries topology before s) n)) (λ n. (not_sent legs n && not (among (alone topology before s) n)) ≡ (is_empty (subs_of (deliveries topology before s) n) && not (among (alone topology before s) n)))
+    (λ n e. ap (λ b. b && not (among (alone topology before s) n)) e) (waiting topology before s) (each_unsent core topology before s legs x sound h batched are))
     ∙ sym now)
   where
     both : (a b : Bool) → a ≡ true → b ≡ true → (a && b) ≡ true
     both true b e f = f
     both false b e f = e
 
-    whole : (b : Bool) → (b && true) ≡ b
-    whole true = refl
-    whole false = refl
-
-    now : waiting topology (Dispatch s ∷ before) s ≡ filter (λ n. is_empty (subs_of (deliveries topology before s) n)) (waiting topology before s)
+    now : waiting topology (Dispatch s ∷ before) s ≡ filter (λ n. is_empty (subs_of (deliveries topology before s) n) && not (among (alone topology before s) n)) (waiting topology before s)
     now =
         waiting_law topology before (Dispatch s) s sound (both (is_legal topology before) (allows topology before (Dispatch s)) h allowed)
-        ∙ (ap (λ b. if b then left_over (deliveries topology before s) (over topology before s) (waiting topology before s) else waiting topology before s) (same_stage-self s)
-        ∙ (ap (λ os. left_over (deliveries topology before s) os (waiting topology before s)) ((fits topology sound).unlimited before s batched)
-        ∙ filter_each (λ n. is_empty (subs_of (deliveries topology before s) n)) (λ n. is_empty (subs_of (deliveries topology before s) n) && true) (waiting topology before s)
-        (each_always (λ n. (is_empty (subs_of (deliveries topology before s) n) && true) ≡ is_empty (subs_of (deliveries topology before s) n)) (λ n. whole (is_empty (subs_of (deliveries topology before s) n))) (waiting topology before s))))
+        ∙ (ap (λ b. if b then left_over (deliveries topology before s) (over topology before s) (alone topology before s) (waiting topology before s) else waiting topology before s) (same_stage-self s)
+        ∙ ap (λ os. left_over (deliveries topology before s) os (alone topology before s) (waiting topology before s)) ((fits topology sound).unlimited before s batched))
 
 -- the batches past the first so many are not sent
 pub rest_unsent : (core : Core) (topology : Topology) (before : History) (s : StageNo) (first : ℕ) (legs : List (ℕ × Ends)) → Fields core topology before → IsSound topology → is_legal topology before ≡ true
@@ -238,6 +240,60 @@ rest_unsent core topology before s first legs x sound h batched are above =
     (each_both (λ n. not_sent legs n ≡ is_empty (subs_of (deliveries topology before s) n)) (λ n. subs_of (deliveries topology before s) n ≡ []) (drop first (waiting topology before s))
     (each_drop (λ n. not_sent legs n ≡ is_empty (subs_of (deliveries topology before s) n)) first (waiting topology before s) (each_unsent core topology before s legs x sound h batched are))
     (unreached topology before s first sound h above)))))
+
+-- The batches alone
+
+pub numbers_seen : (o : Option BatchRow) → numbers_at o ≡ closed_numbers (option_map closed_seen o)
+numbers_seen None = refl
+numbers_seen (Some row) = refl
+
+-- the messages of a batch, as its row has them
+pub numbers_are : (core : Core) (topology : Topology) (before : History) (b : ℕ) → Fields core topology before → 1 ≤ b → numbers_of core.batches.items b ≡ numbers_in (batch topology before b)
+numbers_are core topology before b x low =
+    let at : suc (b - 1) ≡ b = omega (arith, low) in
+    numbers_seen (slice_get core.batches.items (b - 1))
+    ∙ (ap closed_numbers (x.batches (b - 1)) ∙ (ap (λ k. closed_numbers (closed_as topology before k)) at ∙ closed_is topology before b))
+
+-- each of them has a number from 1
+pub alone_low : (topology : Topology) (before : History) (s : StageNo) → IsSound topology → is_legal topology before ≡ true → Each (λ b. 1 ≤ b) (alone topology before s)
+alone_low topology before s sound h = either (is_batcher (spec_of topology s))
+  where
+    served : Each (λ b. 1 ≤ b) (served_by topology before (view_of topology before) s)
+    served =
+        serves_each (λ n. 1 ≤ n) (serving_by topology before (view_of topology before) s) (rooms_by topology before (view_of topology before) s) []
+        (map {B = ℕ × ℕ} (λ n. (n, mark_in before (view_of topology before) (spec_of topology s) n)) (waiting topology before s))
+        (each_map (λ (unit : ℕ × ℕ). 1 ≤ unit.0) (λ n. (n, mark_in before (view_of topology before) (spec_of topology s) n)) (waiting topology before s)
+        (each_weaker (λ n. (1 ≤ n) × (n ≤ accepted before)) (λ n. 1 ≤ n) (λ n p. p.0) (waiting topology before s) (waiting_within topology before s (fits topology sound) h)))
+
+    either : (c : Bool) → Each (λ b. 1 ≤ b) (if c then filter (λ b. is_empty (subs_of (deliveries topology before s) b)) (served_by topology before (view_of topology before) s) else [])
+    either false = tt
+    either true =
+        each_weaker (λ b. (1 ≤ b) × (is_empty (subs_of (deliveries topology before s) b) ≡ true)) (λ b. 1 ≤ b) (λ b p. p.0)
+        (filter (λ b. is_empty (subs_of (deliveries topology before s) b)) (served_by topology before (view_of topology before) s))
+        (each_filter (λ b. 1 ≤ b) (λ b. is_empty (subs_of (deliveries topology before s) b)) (served_by topology before (view_of topology before) s) served)
+
+alone_numbers : (core : Core) (topology : Topology) (before : History) (s : StageNo) → Fields core topology before → IsSound topology → is_legal topology before ≡ true
+    → Each (λ b. numbers_of core.batches.items b ≡ numbers_by topology before b) (alone topology before s)
+alone_numbers core topology before s x sound h =
+    each_weaker (λ b. 1 ≤ b) (λ b. numbers_of core.batches.items b ≡ numbers_by topology before b) (λ b low. numbers_are core topology before b x low) (alone topology before s) (alone_low topology before s sound h)
+
+-- the places that the passes over them leave
+pub places_now : (core : Core) (topology : Topology) (before : History) (s : StageNo) (n : ℕ) → Fields core topology before → IsSound topology → is_legal topology before ≡ true → is_batcher (spec_of topology s) ≡ true
+    → option_map (all_succeeded (numbers_of core.batches.items) (alone topology before s) n) (place topology before n) ≡ place topology (Dispatch s ∷ before) n
+places_now core topology before s n x sound h batched =
+    alike (place topology before n)
+    ∙ (lone_places topology before s (alone topology before s) n h (alone_each topology before s) ∙ sym (lone_place topology before s n (fits topology sound) h batched))
+  where
+    alike : (o : Option Place) → option_map (all_succeeded (numbers_of core.batches.items) (alone topology before s) n) o ≡ option_map (all_succeeded (numbers_by topology before) (alone topology before s) n) o
+    alike None = refl
+    alike (Some p) = ap Some (succeeded_alike (numbers_of core.batches.items) (numbers_by topology before) (alone topology before s) n p (alone_numbers core topology before s x sound h))
+
+-- and the marks
+pub marks_now : (core : Core) (topology : Topology) (before : History) (s : StageNo) (n : ℕ) → Fields core topology before → IsSound topology → is_legal topology before ≡ true → is_batcher (spec_of topology s) ≡ true
+    → all_marked (numbers_of core.batches.items) (alone topology before s) (length before) n (mark topology before n) ≡ mark topology (Dispatch s ∷ before) n
+marks_now core topology before s n x sound h batched =
+    marked_alike (numbers_of core.batches.items) (numbers_by topology before) (alone topology before s) (length before) n (mark topology before n) (alone_numbers core topology before s x sound h)
+    ∙ lone_marks topology before s n h (lone_place topology before s n (fits topology sound) h batched)
 
 -- The rows
 

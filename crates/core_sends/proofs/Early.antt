@@ -1,5 +1,5 @@
 -- No message waits in a batcher.
-use Rattle.std.proofs.Common.{◌≡◌, ℕ, List, [], ◌∷◌, length, Bool, true, false, refl, ap, sym, ◌∙◌, subst, Some, None, Option, arith}
+use Rattle.std.proofs.Common.{◌≡◌, ℕ, [], ◌∷◌, length, Bool, true, false, refl, ap, ◌∙◌, subst, Some, None, Option, arith}
 use Rattle.std.specs.Prelude.{if◌then◌else◌, option_map}
 use Rattle.std.proofs.lemmas.Bool.{false_from_ne_true}
 use Rattle.pipe_types.specs.declared.numbers.StageNo.{StageNo}
@@ -7,7 +7,6 @@ use Rattle.pipe_types.specs.declared.topology.Topology.{Topology}
 use Rattle.pipe_types.specs.declared.message.Place.{Place}
 use Rattle.pipe_types.specs.declared.message.Place.TheVariants.{Waiting, Inbox, Running, Gathered, InBatch, Acked, Lost}
 use Rattle.pipe_types.specs.declared.message.Why.{Why}
-use Rattle.pipe_types.specs.declared.room.Sent.{Sent as SentUnit}
 use Rattle.pipe_types.specs.declared.step.Step.{Step}
 use Rattle.pipe_types.specs.declared.step.Step.TheVariants.{Accept, Dispatch, Done, Late}
 use Rattle.pipe_types.specs.declared.step.LateAnswer.TheVariants.{Records}
@@ -20,13 +19,12 @@ use Rattle.pipe_model.specs.Content.{is_among_next, has_crash}
 use Rattle.pipe_model.specs.History.{History, accepted}
 use Rattle.pipe_model.specs.Legal.{is_legal, allows, has_role, is_producer_role}
 use Rattle.pipe_model.specs.Lives.{death}
-use Rattle.pipe_model.specs.Flow.{place, view_of, deliveries, lost_over, dispatched, waiting_after, subs_of, among, is_batcher, waits_in, late_place}
+use Rattle.pipe_model.specs.Flow.{place, view_of, deliveries, alone, lost_over, is_batcher, waits_in, late_place}
 use Rattle.pipe_model.specs.Moves.{is_final}
 use Rattle.queue_laws.proofs.Fits.{Fits}
 use Rattle.queue_laws.proofs.Roles.{role_plain, batcher_rank}
 use Rattle.stage_laws.proofs.Plain.{runs_low}
-use Rattle.core_laws.specs.Columns.{mark}
-use Rattle.core_laws.proofs.Marks.{mark_is, open_unsettled}
+use Rattle.core_sends.proofs.Lone.{lone_in, still}
 
 abbrev Early : Topology → Option Place → Type 0
 Early topology p = (s : StageNo) → p ≡ Some (Waiting s) → is_batcher (spec_of topology s) ≡ false
@@ -101,29 +99,8 @@ no_message_waits topology before s n fit h batched = by (place topology before n
     by (Some (Acked o)) e = refl
     by (Some (Lost l)) e = refl
 
--- so a batcher's dispatch moves no message
-still : (units : List SentUnit) (over : List ℕ) (s : StageNo) (n : ℕ) (o : Option Place) → waits_in s o ≡ false → option_map (dispatched units over s n) o ≡ o
-still units over s n None h = refl
-still units over s n (Some (Waiting t)) h = ap (λ b. Some (if b then waiting_after (subs_of units n) (among over n) s else Waiting t)) h
-still units over s n (Some (Inbox u)) h = refl
-still units over s n (Some (Running t)) h = refl
-still units over s n (Some (Gathered t)) h = refl
-still units over s n (Some (InBatch b)) h = refl
-still units over s n (Some (Acked o)) h = refl
-still units over s n (Some (Lost l)) h = refl
-
-pub same_place : (topology : Topology) (before : History) (s : StageNo) (n : ℕ) → Fits topology → is_legal topology before ≡ true → is_batcher (spec_of topology s) ≡ true
-    → place topology (Dispatch s ∷ before) n ≡ place topology before n
-same_place topology before s n fit h batched =
-    still (deliveries topology before s) (lost_over topology before (view_of topology before) s) s n (place topology before n) (no_message_waits topology before s n fit h batched)
-
--- nor settles one
-pub same_mark : (topology : Topology) (before : History) (s : StageNo) (n : ℕ) → Fits topology → is_legal topology before ≡ true → is_batcher (spec_of topology s) ≡ true
-    → mark topology (Dispatch s ∷ before) n ≡ mark topology before n
-same_mark topology before s n fit h batched =
-    ap (λ p. if is_final (place topology before n) then mark topology before n else (if is_final p then length before else 0)) (same_place topology before s n fit h batched)
-    ∙ by (is_final (place topology before n)) refl
-  where
-    by : (b : Bool) → is_final (place topology before n) ≡ b → (if b then mark topology before n else (if b then length before else 0)) ≡ mark topology before n
-    by true e = refl
-    by false e = sym (mark_is topology before n ∙ open_unsettled topology before n e)
+-- so a batcher's dispatch settles the messages of the batches that it serves alone, and moves no other
+pub lone_place : (topology : Topology) (before : History) (s : StageNo) (n : ℕ) → Fits topology → is_legal topology before ≡ true → is_batcher (spec_of topology s) ≡ true
+    → place topology (Dispatch s ∷ before) n ≡ option_map (lone_in (alone topology before s)) (place topology before n)
+lone_place topology before s n fit h batched =
+    still (deliveries topology before s) (lost_over topology before (view_of topology before) s) (alone topology before s) s n (place topology before n) (no_message_waits topology before s n fit h batched)

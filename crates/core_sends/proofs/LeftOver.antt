@@ -107,7 +107,7 @@ kept_is (Some size) First ns h =
 abbrev pub paired : (ℕ → ℕ) → ℕ → ℕ × ℕ
 paired part n = (part n, n)
 
-take_map : {A B : Type 0} (f : A → B) (k : ℕ) (xs : List A) → take k (map f xs) ≡ map f (take k xs)
+pub take_map : {A B : Type 0} (f : A → B) (k : ℕ) (xs : List A) → take k (map f xs) ≡ map f (take k xs)
 take_map f zero xs = refl
 take_map f (suc k) [] = refl
 take_map f (suc k) (x ∷ xs) = ap (λ ys. f x ∷ ys) (take_map f k xs)

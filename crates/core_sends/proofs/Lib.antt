@@ -13,6 +13,13 @@ pub mod Sendable
 pub mod Roomy
 pub mod BatchLegs
 pub mod Early
+pub mod Lone
+pub mod Front
+pub mod Picked
+pub mod Joined
+pub mod Looking
 pub mod Begun
 pub mod BatchesSent
+pub mod Served
+pub mod Turns
 pub mod AfterBatches

@@ -12,7 +12,7 @@ use Rattle.pipe_model.specs.Batches.{Batch, BatchPlace, AtBatcher, Sent, Dropped
 use Rattle.pipe_model.specs.History.{History, closed, incarnation}
 use Rattle.pipe_model.specs.Lives.{kill_set}
 use Rattle.pipe_model.specs.Legal.{is_legal}
-use Rattle.pipe_model.specs.Flow.{batch, view_of, among, closing, new_batch, next_units, change_place, deliveries, subs_of, is_batcher, batch_waits_in, at_batcher}
+use Rattle.pipe_model.specs.Flow.{batch, view_of, among, closing, new_batch, next_units, change_place, deliveries, alone, subs_of, is_batcher, batch_waits_in, at_batcher}
 use Rattle.pipe_laws.proofs.Allowed.{legal_before, legal_step}
 use Rattle.pipe_laws.proofs.Tests.{clash, same_stage-true}
 use Rattle.queue_laws.proofs.Roles.{role_batched}
@@ -39,11 +39,11 @@ none_waits topology (Dispatch t ∷ before) s b h plain =
     either (same_stage s t) refl (none_waits topology before s b (legal_before topology before (Dispatch t) h) plain)
   where
     either : (same : Bool) → same_stage s t ≡ same → batch_waits_in s (batch topology before b) ≡ false
-        → batch_waits_in s (option_map (λ x. change_place x (batch_sent t (subs_of (deliveries topology before t) b) x.place)) (batch topology before b)) ≡ false
-    either false e rest = batch_waits_dispatched_other (subs_of (deliveries topology before t) b) t s (batch topology before b) e ∙ rest
+        → batch_waits_in s (option_map (λ x. change_place x (batch_sent t (among (alone topology before t) b) (subs_of (deliveries topology before t) b) x.place)) (batch topology before b)) ≡ false
+    either false e rest = batch_waits_dispatched_other (among (alone topology before t) b) (subs_of (deliveries topology before t) b) t s (batch topology before b) e ∙ rest
     either true e rest =
-        ap (λ w. batch_waits_in w (option_map (λ x. change_place x (batch_sent t (subs_of (deliveries topology before t) b) x.place)) (batch topology before b))) (same_stage-true s t e)
-        ∙ (batch_waits_dispatched (subs_of (deliveries topology before t) b) t (batch topology before b)
+        ap (λ w. batch_waits_in w (option_map (λ x. change_place x (batch_sent t (among (alone topology before t) b) (subs_of (deliveries topology before t) b) x.place)) (batch topology before b))) (same_stage-true s t e)
+        ∙ (batch_waits_dispatched (among (alone topology before t) b) (subs_of (deliveries topology before t) b) t (batch topology before b)
         ∙ none_and (batch_waits_in t (batch topology before b)) _ (ap (λ w. batch_waits_in w (batch topology before b)) (sym (same_stage-true s t e)) ∙ rest))
 none_waits topology (Take t u k ∷ before) s b h plain =
     either (among (next_units topology (view_of topology before) t u k) b) (none_waits topology before s b (legal_before topology before (Take t u k) h) plain)
@@ -62,17 +62,23 @@ none_waits topology (Halt ∷ before) s b h plain =
     ∙ none_and (batch_waits_in s (batch topology before b)) _ (none_waits topology before s b (legal_before topology before Halt h) plain)
 none_waits topology (step ∷ before) s b h plain = none_waits topology before s b (legal_before topology before step h) plain
 
-unsent_place : (s : StageNo) (subs : List SubNo) (p : BatchPlace) → at_batcher s p ≡ false → batch_sent s subs p ≡ p
-unsent_place s [] p h = refl
-unsent_place s (u ∷ subs) (AtBatcher t) h = rw h refl
-unsent_place s (u ∷ subs) (Sent legs) h = refl
-unsent_place s (u ∷ subs) (Dropped loss) h = refl
+unsent_place : (s : StageNo) (lone : Bool) (subs : List SubNo) (p : BatchPlace) → at_batcher s p ≡ false → batch_sent s lone subs p ≡ p
+unsent_place s lone [] (AtBatcher t) h = ap (λ c. if lone && c then Sent [] else AtBatcher t) h ∙ none lone
+  where
+    none : (c : Bool) → (if c && false then Sent [] else AtBatcher t) ≡ AtBatcher t
+    none true = refl
+    none false = refl
+unsent_place s lone [] (Sent legs) h = refl
+unsent_place s lone [] (Dropped loss) h = refl
+unsent_place s lone (u ∷ subs) (AtBatcher t) h = rw h refl
+unsent_place s lone (u ∷ subs) (Sent legs) h = refl
+unsent_place s lone (u ∷ subs) (Dropped loss) h = refl
 
-unsent_batch : (s : StageNo) (subs : List SubNo) (o : Option Batch) → batch_waits_in s o ≡ false → option_map (λ x. change_place x (batch_sent s subs x.place)) o ≡ o
-unsent_batch s subs None h = refl
-unsent_batch s subs (Some x) h = ap (λ p. Some (record { numbers = x.numbers; place = p })) (unsent_place s subs x.place h)
+unsent_batch : (s : StageNo) (lone : Bool) (subs : List SubNo) (o : Option Batch) → batch_waits_in s o ≡ false → option_map (λ x. change_place x (batch_sent s lone subs x.place)) o ≡ o
+unsent_batch s lone subs None h = refl
+unsent_batch s lone subs (Some x) h = ap (λ p. Some (record { numbers = x.numbers; place = p })) (unsent_place s lone subs x.place h)
 
 -- a dispatch of a stage of messages changes no batch
 pub same_batch : (topology : Topology) (before : History) (s : StageNo) (b : ℕ) → is_legal topology before ≡ true → is_batcher (spec_of topology s) ≡ false
     → batch topology (Dispatch s ∷ before) b ≡ batch topology before b
-same_batch topology before s b h plain = unsent_batch s (subs_of (deliveries topology before s) b) (batch topology before b) (none_waits topology before s b h plain)
+same_batch topology before s b h plain = unsent_batch s (among (alone topology before s) b) (subs_of (deliveries topology before s) b) (batch topology before b) (none_waits topology before s b h plain)

@@ -1,5 +1,5 @@
 -- The queue of a stage as its table has it.
-use Rattle.std.proofs.Common.{◌≡◌, ℕ, suc, ◌≤◌, List, [], ◌∷◌, ◌++◌, map, length, refl, ap, sym, ◌∙◌, Some, true, arith, get_or}
+use Rattle.std.proofs.Common.{◌≡◌, ℕ, suc, ◌≤◌, List, [], ◌∷◌, ◌++◌, map, length, refl, ap, sym, ◌∙◌, Some, true, false, Bool, arith, get_or}
 use Rattle.std.specs.Prelude.{slice_get}
 use Rattle.std.specs.declared.alloc.Global.{Global}
 use Rattle.std.specs.declared.collections.VecDeque.{VecDeque}
@@ -8,15 +8,21 @@ use Rattle.pipe_types.specs.declared.numbers.StageNo.{StageNo}
 use Rattle.pipe_types.specs.declared.room.Room.{Room}
 use Rattle.pipe_types.specs.declared.topology.Topology.{Topology}
 use Rattle.pipe_types.specs.declared.topology.StageSpec.{StageSpec}
-use Rattle.pipe_types.specs.Dispatchers.{sends_by_place}
+use Rattle.pipe_types.specs.Dispatchers.{served_as, picks_all, sends_by_place}
+use Rattle.pipe_types.specs.declared.numbers.SubNo.{SubNo}
+use Rattle.pipe_types.specs.declared.topology.Dispatch.{Dispatch as Kind}
+use Rattle.pipe_types.specs.declared.topology.Dispatch.TheVariants.{Demand, Broadcast, Partition}
 use Rattle.pipe_types.specs.Sound.{IsSound}
 use Rattle.pipe_types.specs.Stages.{spec_of}
 use Rattle.pipe_model.specs.History.{History}
-use Rattle.pipe_model.specs.Flow.{waiting, kind_in, rooms_by, view_of}
+use Rattle.pipe_model.specs.Flow.{waiting, is_batcher, kind_in, picks_by, serving_by, rooms_by, view_of}
 use Rattle.pipe_model.specs.Lives.{is_live}
+use Rattle.std.proofs.lemmas.Bool.{false_from_ne_true}
+use Rattle.pipe_laws.proofs.Tests.{clash}
+use Rattle.queue_laws.proofs.Sounds.{broadcast_batches}
 use Rattle.stage_laws.proofs.Numbering.{numbered_topology}
 use Rattle.core_tables.specs.Tables.{items_in}
-use Rattle.core_laws.specs.Columns.{waiting_parts, part_of}
+use Rattle.core_laws.specs.Columns.{waiting_parts, part_of, is_broadcast}
 use Rattle.core_laws.proofs.Past.{known_within, live_known}
 use Rattle.core_laws.proofs.Parts.{sends_by_parts}
 use Rattle.core_state.specs.declared.state.Core.{Core}
@@ -45,12 +51,28 @@ pub long_queue : (part : ℕ → ℕ) (ns : List ℕ) → length (map {B = ℕ �
 long_queue part [] = refl
 long_queue part (n ∷ ns) = ap (λ k. suc k) (long_queue part ns)
 
+pub served_plain : (kind : Kind) (p q : ℕ → SubNo → Bool) → is_broadcast kind ≡ false → served_as kind p ≡ served_as kind q
+served_plain Demand p q h = refl
+served_plain Partition p q h = refl
+served_plain Broadcast p q h = cc
+
 -- what is delivered of the queue in the rooms is what is planned
 pub plan_is : (topology : Topology) (before : History) (s : StageNo) (spec : StageSpec) (queue : List (ℕ × ℕ)) (rooms : List Room) (more : List ℕ)
     → spec_of topology s ≡ Some spec → queue ≡ waiting_parts topology before s → rooms ≡ rooms_by topology before (view_of topology before) s
-    → sends_by_place spec.dispatch rooms (map {A = ℕ × ℕ} {B = ℕ} (λ unit. unit.0) queue ++ more) ≡ planned topology before s more
-plan_is topology before s spec queue rooms more there is seen =
-    ap (λ ps. sends_by_place spec.dispatch rooms (ps ++ more)) (ap (map {A = ℕ × ℕ} {B = ℕ} (λ unit. unit.0)) is ∙ firsts_in (part_of topology before (spec_of topology s)) (waiting topology before s))
-    ∙ (ap (λ k. sends_by_place k rooms (map (part_of topology before (spec_of topology s)) (waiting topology before s) ++ more)) (sym (ap kind_in there))
-    ∙ (ap (λ rs. sends_by_place (kind_in (spec_of topology s)) rs (map (part_of topology before (spec_of topology s)) (waiting topology before s) ++ more)) seen
-    ∙ sends_by_parts topology before s (rooms_by topology before (view_of topology before) s) more))
+    → is_broadcast spec.dispatch ≡ false
+    → sends_by_place (served_as spec.dispatch picks_all) rooms (map {A = ℕ × ℕ} {B = ℕ} (λ unit. unit.0) queue ++ more) ≡ planned topology before s more
+plan_is topology before s spec queue rooms more there is seen plain =
+    ap (λ k. sends_by_place k rooms (map {A = ℕ × ℕ} {B = ℕ} (λ unit. unit.0) queue ++ more)) (served_plain spec.dispatch picks_all (picks_by topology before (view_of topology before)) plain ∙ sym (ap (λ o. served_as (kind_in o) (picks_by topology before (view_of topology before))) there))
+    ∙ (ap (λ ps. sends_by_place (serving_by topology before (view_of topology before) s) rooms (ps ++ more)) (ap (map {A = ℕ × ℕ} {B = ℕ} (λ unit. unit.0)) is ∙ firsts_in (part_of topology before (spec_of topology s)) (waiting topology before s))
+    ∙ (ap (λ rs. sends_by_place (serving_by topology before (view_of topology before) s) rs (map (part_of topology before (spec_of topology s)) (waiting topology before s) ++ more)) seen
+    ∙ sends_by_parts topology before s (rooms_by topology before (view_of topology before) s) more (ap (λ o. is_broadcast (kind_in o)) there ∙ plain)))
+
+-- a stage of messages does not broadcast
+pub plain_cast : (topology : Topology) (s : StageNo) → IsSound topology → is_batcher (spec_of topology s) ≡ false → is_broadcast (kind_in (spec_of topology s)) ≡ false
+plain_cast topology s sound plain =
+    false_from_ne_true (is_broadcast (kind_in (spec_of topology s))) (λ h. clash (is_batcher (spec_of topology s)) (broadcast_batches topology s sound (cast (kind_in (spec_of topology s)) h)) plain)
+  where
+    cast : (kind : Kind) → is_broadcast kind ≡ true → kind ≡ Broadcast
+    cast Broadcast h = refl
+    cast Demand h = cc
+    cast Partition h = cc

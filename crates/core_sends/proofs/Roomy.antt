@@ -17,7 +17,7 @@ use Rattle.pipe_laws.proofs.Lists.{Each, each_weaker, each_always, each_map}
 use Rattle.pipe_laws.proofs.Tests.{and_left, and_right, both, same_sub-self}
 use Rattle.pipe_laws.proofs.Places.{sends_each}
 use Rattle.pipe_model.specs.History.{History, asked}
-use Rattle.pipe_model.specs.Flow.{kind_in, rooms_by, view_of, sent, index_in}
+use Rattle.pipe_model.specs.Flow.{serving_by, rooms_by, view_of, sent, index_in}
 use Rattle.pipe_model.specs.Lives.{is_live, is_live_sub, current_sub, live_subs, live_subs_from}
 use Rattle.queue_laws.proofs.Roles.{fed_spec}
 use Rattle.stage_laws.proofs.Numbering.{numbered_topology}
@@ -25,7 +25,7 @@ use Rattle.core_tables.specs.Tables.{queue_at, IsWithin}
 use Rattle.core_laws.proofs.Past.{known_within}
 use Rattle.core_state.specs.declared.state.Core.{Core}
 use Rattle.core_state.specs.Stands.{Fields, Stands}
-use Rattle.core_sends.specs.Rooms.{planned, parts_of}
+use Rattle.core_sends.specs.Rooms.{planned, marks_of}
 use Rattle.core_sends.proofs.Sent.{each_all}
 
 each_live : (topology : Topology) (before : History) (s : StageNo) → is_live topology before s ≡ true → (specs : List StageSpec) → Each (λ (u : SubNo). is_live_sub topology before u ≡ true) (live_subs_from topology before s specs)
@@ -45,10 +45,10 @@ each_live topology before s live (c ∷ specs) = either (feeds topology s c.no &
 pub planned_live : (topology : Topology) (before : History) (s : StageNo) (more : List ℕ) → is_live topology before s ≡ true
     → All (λ d. is_live_sub topology before d.sub ≡ true) (planned topology before s more)
 planned_live topology before s more live =
-    let units = enumerate_from 0 (parts_of topology before s ++ more) in
+    let units = enumerate_from 0 (marks_of topology before s ++ more) in
     each_all (λ (d : Sent). is_live_sub topology before d.sub ≡ true) (planned topology before s more)
     (each_weaker (λ (d : Sent). (is_live_sub topology before d.sub ≡ true) × Unit {0}) (λ (d : Sent). is_live_sub topology before d.sub ≡ true) (λ d p. p.0) (planned topology before s more)
-    (sends_each (λ u. is_live_sub topology before u ≡ true) (λ n. Unit {0}) (kind_in (spec_of topology s)) (rooms_by topology before (view_of topology before) s) [] units
+    (sends_each (λ u. is_live_sub topology before u ≡ true) (λ n. Unit {0}) (serving_by topology before (view_of topology before) s) (rooms_by topology before (view_of topology before) s) [] units
     (each_map (λ (r : Room). is_live_sub topology before r.sub ≡ true) (λ u. record { sub = u; part = index_in (spec_of topology u.consumer); left = asked before u - sent topology before u }) (live_subs topology before s) (subs (is_live topology before s)))
     (each_always (λ (u : ℕ × ℕ). Unit {0}) (λ u. tt) units)))
   where

@@ -18,8 +18,9 @@ use Rattle.pipe_laws.proofs.Places.{sends_each}
 use Rattle.pipe_model.specs.History.{History, accepted}
 use Rattle.pipe_model.specs.Content.{arrivals}
 use Rattle.pipe_model.specs.Legal.{is_legal, allows}
-use Rattle.pipe_model.specs.Flow.{place, batch, waiting, deliveries, dispatched, lost_over, over_size, over_in, unsent, view_of, rooms_by, kind_in, partition_in, is_batcher, is_empty, subs_of, among, waits_in, batch_waits_in}
+use Rattle.pipe_model.specs.Flow.{place, batch, waiting, deliveries, dispatched, lost_over, over_size, over_in, unsent, view_of, rooms_by, serving_by, mark_in, alone, is_batcher, is_empty, subs_of, among, waits_in, batch_waits_in}
 use Rattle.queue_laws.specs.Queues.{left_over}
+use Rattle.queue_laws.proofs.Alone.{none_alone}
 use Rattle.queue_laws.proofs.Apart.{Apart, apart_kept}
 use Rattle.queue_laws.proofs.ByPlace.{deliveries_by_place}
 use Rattle.queue_laws.proofs.Filters.{filter_each, filter_both}
@@ -30,7 +31,7 @@ use Rattle.stage_laws.proofs.Bounds.{waiting_apart, waiting_within}
 use Rattle.core_tables.specs.Tables.{named}
 use Rattle.core_laws.specs.Columns.{waiting_parts, part_of}
 use Rattle.core_sends.specs.Losing.{still_waits, left_in, numbers_in, over_of, kept_of}
-use Rattle.core_sends.specs.Rooms.{planned, parts_of}
+use Rattle.core_sends.specs.Rooms.{planned, marks_of}
 use Rattle.core_sends.proofs.LeftOver.{over_is, over_map, kept_is, kept_map, filter_map}
 use Rattle.core_sends.proofs.Queued.{numbers_in_queue}
 
@@ -39,7 +40,7 @@ use Rattle.core_sends.proofs.Queued.{numbers_in_queue}
 pub deliveries_named : (topology : Topology) (before : History) (s : StageNo) → deliveries topology before s ≡ map (named (waiting topology before s)) (planned topology before s [])
 deliveries_named topology before s =
     deliveries_by_place topology before s
-    ∙ ap (λ ps. map (named (waiting topology before s)) (sends_by_place (kind_in (spec_of topology s)) (rooms_by topology before (view_of topology before) s) ps)) (sym (append-nil (parts_of topology before s)))
+    ∙ ap (λ ps. map (named (waiting topology before s)) (sends_by_place (serving_by topology before (view_of topology before) s) (rooms_by topology before (view_of topology before) s) ps)) (sym (append-nil (marks_of topology before s)))
 
 places_below : (k : ℕ) (ps : List ℕ) → Each (λ (u : ℕ × ℕ). u.0 < k + length ps) (enumerate_from k ps)
 places_below k [] = tt
@@ -63,11 +64,11 @@ long_parts f (n ∷ ns) more = let rest = long_parts f ns more in omega arith
 pub planned_below : (topology : Topology) (before : History) (s : StageNo) → All (λ d. d.unit < length (waiting topology before s)) (planned topology before s [])
 planned_below topology before s =
     let rooms = rooms_by topology before (view_of topology before) s in
-    let ps = parts_of topology before s ++ [] in
-    let long : length (parts_of topology before s ++ []) ≡ length (waiting topology before s) + 0 = long_parts (λ n. partition_in before (view_of topology before) (spec_of topology s) n) (waiting topology before s) [] in
+    let ps = marks_of topology before s ++ [] in
+    let long : length (marks_of topology before s ++ []) ≡ length (waiting topology before s) + 0 = long_parts (λ n. mark_in before (view_of topology before) (spec_of topology s) n) (waiting topology before s) [] in
     each_all (λ d. d.unit < length (waiting topology before s)) (planned topology before s [])
     (each_weaker (λ (d : Sent). Unit {0} × (d.unit < length (waiting topology before s))) (λ (d : Sent). d.unit < length (waiting topology before s)) (λ d p. p.1) (planned topology before s [])
-    (sends_each (λ u. Unit {0}) (λ n. n < length (waiting topology before s)) (kind_in (spec_of topology s)) rooms [] (enumerate_from 0 ps) (each_always (λ r. Unit {0}) (λ r. tt) rooms)
+    (sends_each (λ u. Unit {0}) (λ n. n < length (waiting topology before s)) (serving_by topology before (view_of topology before) s) rooms [] (enumerate_from 0 ps) (each_always (λ r. Unit {0}) (λ r. tt) rooms)
     (each_weaker (λ (u : ℕ × ℕ). u.0 < 0 + length ps) (λ (u : ℕ × ℕ). u.0 < length (waiting topology before s)) (λ u p. omega (arith, p, long)) (enumerate_from 0 ps) (places_below 0 ps))))
 
 -- What waits
@@ -94,15 +95,15 @@ each_waits topology before s sound h plain = both (waiting topology before s) (w
 
 -- the places after the units were moved
 pub record AreMoved (topology : Topology) (before : History) (s : StageNo) (places : List Place) : Type 0 where
-  pub placed : (i : ℕ) → slice_get places i ≡ option_map (dispatched (deliveries topology before s) [] s (suc i)) (place topology before (suc i))
+  pub placed : (i : ℕ) → slice_get places i ≡ option_map (dispatched (deliveries topology before s) [] [] s (suc i)) (place topology before (suc i))
 
 -- a unit of the queue still waits where it was not sent
 pub still_is : (topology : Topology) (before : History) (s : StageNo) (places : List Place) → AreMoved topology before s places → (n : ℕ) → Waits topology before s n
     → still_waits places s n ≡ is_empty (subs_of (deliveries topology before s) n)
 still_is topology before s places moved n w =
     let number : suc (n - 1) ≡ n = omega (arith, w.0.0) in
-    ap (waits_in s) (moved.placed (n - 1) ∙ ap (λ m. option_map (dispatched (deliveries topology before s) [] s m) (place topology before m)) number)
-    ∙ (waits_dispatched (deliveries topology before s) [] s n (place topology before n)
+    ap (waits_in s) (moved.placed (n - 1) ∙ ap (λ m. option_map (dispatched (deliveries topology before s) [] [] s m) (place topology before m)) number)
+    ∙ (waits_dispatched (deliveries topology before s) [] [] s n (place topology before n)
     ∙ (ap (λ b. b && (is_empty (subs_of (deliveries topology before s) n) && true)) w.1 ∙ whole (is_empty (subs_of (deliveries topology before s) n))))
   where
     whole : (b : Bool) → (b && true) ≡ b
@@ -138,25 +139,30 @@ over_numbers topology before s spec left there is =
 
 -- the queue after the dispatch
 pub kept_queue : (topology : Topology) (before : History) (s : StageNo) (spec : StageSpec) (left : List (ℕ × ℕ)) → IsSound topology → is_legal topology before ≡ true
-    → allows topology before (Dispatch s) ≡ true → spec_of topology s ≡ Some spec
+    → allows topology before (Dispatch s) ≡ true → is_batcher (spec_of topology s) ≡ false → spec_of topology s ≡ Some spec
     → left ≡ map (pair topology before s) (unsent (deliveries topology before s) (waiting topology before s))
     → kept_of spec.size spec.keep left ≡ waiting_parts topology (Dispatch s ∷ before) s
-kept_queue topology before s spec left sound h allowed there is =
+kept_queue topology before s spec left sound h allowed plain there is =
     let ns = unsent (deliveries topology before s) (waiting topology before s) in
     let apart : Apart (λ n. n) (waiting topology before s) = waiting_apart topology before s (fits topology sound) h in
     let lost : over_size spec.size spec.keep ns ≡ over topology before s = ap (λ o. over_in o ns) (sym there) in
-    let rest : left_over (deliveries topology before s) (over topology before s) (waiting topology before s) ≡ filter (λ n. not (among (over topology before s) n)) ns =
-    filter_both (λ n. is_empty (subs_of (deliveries topology before s) n)) (λ n. is_empty (subs_of (deliveries topology before s) n) && not (among (over topology before s) n)) (λ n. not (among (over topology before s) n)) (waiting topology before s)
-    (each_always (λ n. (is_empty (subs_of (deliveries topology before s) n) && not (among (over topology before s) n)) ≡ (is_empty (subs_of (deliveries topology before s) n) && not (among (over topology before s) n))) (λ n. refl) (waiting topology before s)) in
-    let now : waiting topology (Dispatch s ∷ before) s ≡ left_over (deliveries topology before s) (over topology before s) (waiting topology before s) =
+    let rest : left_over (deliveries topology before s) (over topology before s) [] (waiting topology before s) ≡ filter (λ n. not (among (over topology before s) n)) ns =
+    filter_both (λ n. is_empty (subs_of (deliveries topology before s) n)) (λ n. is_empty (subs_of (deliveries topology before s) n) && (not (among (over topology before s) n) && true)) (λ n. not (among (over topology before s) n)) (waiting topology before s)
+    (each_always (λ n. (is_empty (subs_of (deliveries topology before s) n) && (not (among (over topology before s) n) && true)) ≡ (is_empty (subs_of (deliveries topology before s) n) && not (among (over topology before s) n))) (λ n. ap (λ b. is_empty (subs_of (deliveries topology before s) n) && b) (whole (not (among (over topology before s) n)))) (waiting topology before s)) in
+    let now : waiting topology (Dispatch s ∷ before) s ≡ left_over (deliveries topology before s) (over topology before s) [] (waiting topology before s) =
     waiting_law topology before (Dispatch s) s sound (both (is_legal topology before) (allows topology before (Dispatch s)) h allowed)
-    ∙ ap (λ b. if b then left_over (deliveries topology before s) (over topology before s) (waiting topology before s) else waiting topology before s) (same_stage-self s) in
+    ∙ (ap (λ b. if b then left_over (deliveries topology before s) (over topology before s) (alone topology before s) (waiting topology before s) else waiting topology before s) (same_stage-self s)
+    ∙ ap (λ lone. left_over (deliveries topology before s) (over topology before s) lone (waiting topology before s)) (none_alone topology before s plain)) in
     ap (kept_of spec.size spec.keep) is
     ∙ (kept_map (pair topology before s) spec.size spec.keep ns
     ∙ ap (map (pair topology before s))
     (kept_is spec.size spec.keep ns (apart_kept (λ n. n) (λ n. is_empty (subs_of (deliveries topology before s) n)) (waiting topology before s) apart)
     ∙ (ap (λ os. filter (λ n. not (among os n)) ns) lost ∙ (sym rest ∙ sym now))))
   where
+    whole : (b : Bool) → (b && true) ≡ b
+    whole true = refl
+    whole false = refl
+
     both : (a b : Bool) → a ≡ true → b ≡ true → (a && b) ≡ true
     both true b e f = f
     both false b e f = e

@@ -1,10 +1,15 @@
 -- What a dispatch of a batcher notes of the batches that it sends.
-use Rattle.std.specs.Prelude.{ℕ, ◌-◌, Bool, not, List, [], ◌∷◌, length, Option, Some, None, option_map, is_some, slice_get}
+use Rattle.std.specs.Prelude.{ℕ, ◌≤◌, All, filter, if◌then◌else◌, ◌-◌, Bool, not, List, [], ◌∷◌, length, Option, Some, None, option_map, is_some, slice_get}
 use Rattle.pipe_types.specs.declared.numbers.SubNo.{SubNo}
 use Rattle.message_ack.specs.Ends.{Ends, sent_in, with_leg}
 use Rattle.core_tables.specs.declared.rows.BatchRow.{BatchRow}
 use Rattle.pipe_model.specs.Taken.{Closed}
 use Rattle.core_state.specs.Stands.{closed_seen}
+use Rattle.pipe_types.specs.declared.message.Place.{Place}
+use Rattle.pipe_types.specs.declared.message.Place.TheVariants.{Acked}
+use Rattle.pipe_types.specs.declared.message.Outcome.TheVariants.{Successful}
+use Rattle.pipe_model.specs.Flow.{among}
+use Rattle.core_sends.specs.Losing.{marked, numbers_in}
 
 -- a batch in a row, as it was closed
 abbrev pub closed_at : List BatchRow → ℕ → Option Closed
@@ -33,3 +38,35 @@ not_sent legs b = not (is_some (sent_in legs b))
 abbrev pub with_legs : (messages : ℕ) → List SubNo → Option Ends → Option Ends
 with_legs messages [] old = old
 with_legs messages (u ∷ subs) old = with_legs messages subs (Some (with_leg messages old))
+
+abbrev pub numbers_at : Option BatchRow → List ℕ
+numbers_at None = []
+numbers_at (Some row) = row.numbers.items
+
+-- the messages of the batch with that number
+abbrev pub numbers_of : List BatchRow → ℕ → List ℕ
+numbers_of rows b = numbers_at (slice_get rows (b - 1))
+
+-- these messages are successes
+abbrev pub succeeded : List ℕ → ℕ → Place → Place
+succeeded numbers n p = if among numbers n then Acked Successful else p
+
+-- batch after batch, each message of it is a success
+abbrev pub all_succeeded : (numbers : ℕ → List ℕ) → (bs : List ℕ) → ℕ → Place → Place
+all_succeeded numbers [] n p = p
+all_succeeded numbers (b ∷ bs) n p = all_succeeded numbers bs n (succeeded (numbers b) n p)
+
+-- and has the mark
+abbrev pub all_marked : (numbers : ℕ → List ℕ) → (bs : List ℕ) → (mark : ℕ) → ℕ → ℕ → ℕ
+all_marked numbers [] mark n old = old
+all_marked numbers (b ∷ bs) mark n old = all_marked numbers bs mark n (marked (numbers b) mark n old)
+
+-- the numbers of those of these units that were not sent
+abbrev pub lone_of : List (ℕ × Ends) → List (ℕ × ℕ) → List ℕ
+lone_of legs units = numbers_in (filter (λ unit. not_sent legs unit.1) units)
+
+-- the batch has a row, and its messages have places
+pub record IsEndable (rows : List BatchRow) (count : ℕ) (unit : ℕ × ℕ) : Type 0 where
+  pub low : 1 ≤ unit.1
+  pub there : unit.1 ≤ length rows
+  pub within : All (λ n. (1 ≤ n) × (n ≤ count)) (numbers_of rows unit.1)

@@ -1,3 +1,4 @@
 pub mod Rooms
 pub mod Losing
 pub mod Batches
+pub mod Picks

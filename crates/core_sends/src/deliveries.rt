@@ -1,11 +1,11 @@
 //! What each dispatcher sends of the units of a queue.
 
-ghost use Rattle.std.specs.Prelude.{◌≡◌, ◌+◌, ◌<◌, ◌^◌, ◌++◌, length, map, IfOk};
+ghost use Rattle.std.specs.Prelude.{◌≡◌, ◌+◌, ◌<◌, ◌^◌, ◌++◌, length, map, IfOk, false};
 ghost use Rattle.pipe_types.specs.declared.topology.Dispatch.TheVariants.{Partition};
-ghost use Rattle.pipe_types.specs.Dispatchers.{sends_by_place};
+ghost use Rattle.pipe_types.specs.Dispatchers.{served_as, picks_all, sends_by_place};
+ghost use Rattle.core_laws.specs.Columns.{is_broadcast};
 ghost use Rattle.pipe_types.specs.Rooms.{AreAscending, PartsDiffer};
 
-use dispatch_broadcast::BroadcastDispatch;
 use dispatch_demand::DemandDispatch;
 use dispatch_partition::PartitionDispatch;
 use pipe_types::room::{Room, SentList};
@@ -13,8 +13,8 @@ use pipe_types::topology::Dispatch;
 use std::alloc::{AllocError, Global};
 use std::collections::VecDeque;
 
-/// What is sent in these rooms of the units in the queue, and of units with the partitions `more` behind them, by their
-/// places. The rooms stand in order of their subscriptions, no two with the same partition.
+/// What a dispatcher that does not broadcast sends in these rooms of the units in the queue, and of units with the partitions
+/// `more` behind them, by their places. The rooms stand in order of their subscriptions, no two with the same partition.
 pub(crate) fn deliver(
     alloc: Global,
     kind: Dispatch,
@@ -24,13 +24,14 @@ pub(crate) fn deliver(
 ) -> Result<SentList, AllocError>
     requires ascending { AreAscending rooms.now }
     requires parts_differ { PartsDiffer rooms.now }
+    requires plain { is_broadcast kind ≡ false }
     requires few { length queue.now.items + length more.now < 2 ^ 32 }
-    ensures { IfOk result (λ sent. sent ≡ sends_by_place kind rooms.now (map (λ unit. unit.0) queue.now.items ++ more.now)) }
+    ensures { IfOk result (λ sent. sent ≡ sends_by_place (served_as kind picks_all) rooms.now (map (λ unit. unit.0) queue.now.items ++ more.now)) }
 {
     let count = (queue.len() + more.len()) as u32;
     match kind {
         Dispatch::Demand => DemandDispatch::new(alloc).deliver(count, rooms),
-        Dispatch::Broadcast => BroadcastDispatch::new(alloc).deliver(count, rooms),
+        Dispatch::Broadcast => unreachable!(),
         Dispatch::Partition => {
             let parts = parts_in(alloc, queue, more)?;
             PartitionDispatch::new(alloc).deliver(&parts, rooms)

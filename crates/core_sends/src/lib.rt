@@ -6,11 +6,13 @@
 //! messages and of a batcher, which sends closed batches and notes a leg for each subscription on which it sends one.
 #![tactic(auto)]
 
+mod alone;
 mod batches;
 mod counting;
 mod deliveries;
 mod leaving;
 mod losing;
+pub mod picks;
 pub mod plans;
 pub mod rooms;
 pub mod sending;

@@ -7,13 +7,14 @@ ghost use Rattle.pipe_model.specs.Legal.{allows};
 ghost use Rattle.core_tables.specs.Tables.{named, HasRoom};
 ghost use Rattle.core_state.specs.Stands.{Holds, Stands};
 ghost use Rattle.core_sends.specs.Losing.{still_waits, left_in, numbers_in, over_of, kept_of, lost_over_size, marked};
-ghost use Rattle.core_sends.specs.Rooms.{planned};
+ghost use Rattle.core_sends.specs.Rooms.{planned, served_first};
 
+use crate::alone::leave_batches;
 use crate::batches::begin_all;
 use crate::counting::count_all;
-use crate::leaving::{keep_unsent, keep_waiting, reach};
+use crate::leaving::{keep_waiting, reach};
 use crate::losing::{end_over, first_over, lose_all, mark_all, take_out};
-use crate::plans::{make_room, plan};
+use crate::plans::{make_room, plan, plan_batches};
 use core_state::Core;
 use core_tables::inboxes::deliver_all;
 use core_tables::places::place_all;
@@ -131,11 +132,17 @@ pub fn dispatch_messages(core: &mut Core, stage: StageNo) -> Result<(), AllocErr
 
 /// Appends the dispatch of a batcher, of which this was planned. There is room for it in the inboxes and the journal. Without
 /// the memory for the legs nothing is sent.
-fn send_batches(core: &mut Core, stage: StageNo, sent: Vec<Sent>) -> Result<(), AllocError>
+fn send_batches(
+    core: &mut Core,
+    stage: StageNo,
+    sent: Vec<Sent>,
+    served: usize,
+) -> Result<(), AllocError>
     requires stands { Stands core.old }
     requires batches { is_batcher (spec_of core.old.topology stage) ≡ true }
     requires legal { IsTrue (allows core.old.topology core.old.journal.steps (Step.Dispatch stage)) }
     requires planned { sent.items ≡ planned core.old.topology core.old.journal.steps stage [] }
+    requires served { served ≡ served_first core.old.topology core.old.journal.steps stage }
     requires room { All (HasRoom (length sent.items) core.old.inboxes.items) sent.items }
     requires spare { 1 ≤ core.old.journal.spare }
     ensures appended { OnOk result (core.new.journal.steps ≡ Step.Dispatch stage ∷ core.old.journal.steps) }
@@ -144,19 +151,30 @@ fn send_batches(core: &mut Core, stage: StageNo, sent: Vec<Sent>) -> Result<(), 
     ensures stands { Stands core.new }
 {
     let at = stage.0 as usize;
+    let mark = core.journal.len();
     let first = reach(&sent);
     let mut units = sent;
     name_units(&mut units, &core.waiting[at]);
     begin_all(&mut core.legs, &mut core.batches, &units)?;
     deliver_all(&mut core.inboxes, &units);
     count_all(&mut core.subs, &units);
-    keep_unsent(&mut core.waiting[at], &core.legs, first);
+    leave_batches(
+        &mut core.waiting[at],
+        &mut core.places,
+        &mut core.settled,
+        &core.batches,
+        &core.legs,
+        served,
+        first,
+        mark,
+    );
     core.totals.quiet = 0;
     core.journal.push_spare(Step::Dispatch { stage });
     Ok(())
 }
 
-/// Appends the dispatch of a batcher: sends the closed batches that its subscribers asked for.
+/// Appends the dispatch of a batcher: sends the closed batches that its subscribers asked for and pick, and settles those
+/// that are served and that nobody picks.
 fn dispatch_batches(core: &mut Core, stage: StageNo) -> Result<(), AllocError>
     requires stands { Stands core.old }
     requires batches { is_batcher (spec_of core.old.topology stage) ≡ true }
@@ -166,10 +184,10 @@ fn dispatch_batches(core: &mut Core, stage: StageNo) -> Result<(), AllocError>
     ensures topology { core.new.topology ≡ core.old.topology }
     ensures stands { Stands core.new }
 {
-    let sent = plan(core, stage, &[])?;
-    make_room(core, &sent)?;
+    let planned = plan_batches(core, stage)?;
+    make_room(core, &planned.sent)?;
     core.journal.reserve(1)?;
-    send_batches(core, stage, sent)
+    send_batches(core, stage, planned.sent, planned.served)
 }
 
 /// Whether the stage is a batcher.

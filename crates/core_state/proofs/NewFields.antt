@@ -1,6 +1,6 @@
 -- The fields of a core without a step.
 use Rattle.std.proofs.Common.{◌≡◌, ℕ, zero, suc, ◌+◌, ◌-◌, ◌*◌, ◌<◌, ◌≤◌, List, [], ◌∷◌, map, replicate, length, true, false, refl, ap, sym, ◌∙◌, subst, Some, None, Option, arith}
-use Rattle.std.specs.Prelude.{slice_get, if◌then◌else◌, ◌&&◌, min, is_some, option_map}
+use Rattle.std.specs.Prelude.{slice_get, take, if◌then◌else◌, ◌&&◌, min, is_some, option_map}
 use Rattle.std.specs.declared.alloc.Global.{Global}
 use Rattle.std.specs.declared.vec.Vec.{Vec}
 use Rattle.std.proofs.lemmas.Bool.Decides.{nat_tests}
@@ -31,8 +31,10 @@ use Rattle.core_tables.specs.Rows.{post_at}
 use Rattle.core_laws.proofs.Past.{supervisor_max}
 use Rattle.core_state.specs.declared.state.Core.{Core}
 use Rattle.core_state.specs.declared.tables.Tables.{Tables}
-use Rattle.core_state.specs.Stands.{Fields, AreSized, AreSet, Stands, opens_in, child_of, closed_seen}
-use Rattle.core_state.specs.Begun.{new_stage, new_post, no_sub, batches_of, no_batches, slots_of, children_of, no_children}
+use Rattle.core_state.specs.Stands.{Fields, AreSized, AreSet, Stands, opens_in, child_of, closed_seen, limit_seen}
+use Rattle.pipe_types.specs.declared.topology.RestartLimit.{RestartLimit as Limit}
+use Rattle.restart_core.specs.Restarts.{RestartLimit, Remembers}
+use Rattle.core_state.specs.Begun.{new_stage, new_post, no_sub, batches_of, no_batches, slots_of, children_of, no_children, unmade}
 use Rattle.core_state.specs.AreNew.{AreNew}
 use Rattle.core_state.proofs.FirstPairs.{feeding, stands_at}
 
@@ -72,6 +74,23 @@ none_run specs (suc i) slot = rest specs i
     rest [] i = refl
     rest (spec ∷ specs) zero = free (slots_of spec) slot
     rest (spec ∷ specs) (suc i) = rest specs i
+
+-- the limits on restarts, under none of which one was made
+limits_seen : (limits : List Limit) (l : ℕ) → option_map limit_seen (slice_get (map unmade limits) l) ≡ slice_get limits l
+limits_seen [] l = refl
+limits_seen (limit ∷ limits) zero = refl
+limits_seen (limit ∷ limits) (suc l) = limits_seen limits l
+
+none_made : (limits : List Limit) (l : ℕ) (held : RestartLimit) → slice_get (map unmade limits) l ≡ Some held → Remembers held []
+none_made [] l held at = cc
+none_made (limit ∷ limits) zero held at =
+    let is : unmade limit ≡ held = cc in
+    subst (λ h. Remembers h []) is (record { last = take_none limit.max_restarts; latest_first = tt })
+  where
+    take_none : (n : ℕ) → ◌≡◌ {A = List ℕ} [] (take n [])
+    take_none zero = refl
+    take_none (suc n) = refl
+none_made (limit ∷ limits) (suc l) held at = none_made limits l held at
 
 -- a supervisor has as many slots as it may run children
 slots_are : (topology : Topology) (s : StageNo) (spec : StageSpec) → IsSound topology → spec_of topology s ≡ Some spec → has_role topology s is_supervisor_role ≡ true → slots_of spec ≡ spec.max
@@ -160,7 +179,7 @@ new_settings topology tables journal places settled producers contents batches l
           let same : Some held ≡ Some (children_of spec) = sym at ∙ (ap (λ cs. slice_get cs s.0) x.children ∙ behind children_of no_children topology.stages s.0 spec (t.within s spec e).0 (stands_at topology s spec t e)) in
           let is : held ≡ children_of spec = cc in
           (ap (λ (k : Slots). k.mode) is, ap (λ (k : Slots). length k.slots) is ∙ (length-replicate (slots_of spec) _ ∙ slots_are topology s spec sound e role));
-      restarts = x.restarts;
+      restarts = λ l. ap (λ rs. option_map limit_seen (slice_get rs l)) x.restarts ∙ limits_seen topology.limits l;
     }
   where
     t : IsNumberedTopology topology
@@ -203,6 +222,6 @@ new_stands topology tables journal places settled producers contents batches leg
           batches = λ i. ap (option_map closed_seen) (nothing batches.items i no_batch);
           sent_on = λ i row at. (let wrong : None ≡ Some row = sym (nothing batches.items i no_batch) ∙ at in absurd cc);
           legs = λ i. no_leg (suc i);
-          restarts = x.restarted;
+          restarts = λ l held at. none_made topology.limits l held (sym (ap (λ rs. slice_get rs l) x.restarts) ∙ at);
           totals = refl;
         }

@@ -12,7 +12,9 @@ use Rattle.pipe_model.specs.Legal.{is_legal, owed, happened, is_halt, is_drain, 
 use Rattle.pipe_model.specs.Taken.{Closed, closed_as}
 use Rattle.stage_subs.specs.Subs.{row_at}
 use Rattle.stage_subs.specs.Ledger.{ledger_row}
-use Rattle.restart_core.specs.Restarts.{Remembers}
+use Rattle.pipe_types.specs.declared.topology.RestartLimit.{RestartLimit as Limit}
+use Rattle.pipe_types.specs.Restarts.{limit_at}
+use Rattle.restart_core.specs.Restarts.{RestartLimit, Remembers}
 use Rattle.consumer_sup.specs.Children.{Slots, child_in}
 use Rattle.consumer_sup.specs.declared.Child.{Child}
 use Rattle.batcher.specs.Batches.{Batches, OpenBatch}
@@ -46,6 +48,10 @@ child_at table s slot = child_of (slice_get table s.0) slot
 abbrev pub closed_seen : BatchRow → Closed
 closed_seen row = record { numbers = row.numbers.items; trigger = row.trigger }
 
+-- a limit on restarts, as the topology has it
+abbrev pub limit_seen : RestartLimit → Limit
+limit_seen held = record { max_restarts = held.max; window_ms = held.window }
+
 abbrev pub totals_of : Topology → History → Totals
 totals_of topology before =
     record {
@@ -75,13 +81,13 @@ pub record AreSized (topology : Topology) (before : History) (core : Core) : Typ
   pub contents : length core.contents.items ≡ accepted before
   pub batches : length core.batches.items ≡ closed before
 
--- a batcher's limits, and a supervisor's mode and slots, are those of its stage
+-- a batcher's limits, and a supervisor's mode and slots, are those of its stage; the limits on restarts are the topology's
 pub record AreSet (topology : Topology) (core : Core) : Type 0 where
   pub batchers : (s : StageNo) (spec : StageSpec) (held : Batches) → spec_of topology s ≡ Some spec → slice_get core.batchers.items s.0 ≡ Some held
       → (held.batch_size ≡ spec.batch_size) × (held.batch_timeout ≡ spec.batch_timeout)
   pub children : (s : StageNo) (spec : StageSpec) (held : Slots) → spec_of topology s ≡ Some spec → has_role topology s is_supervisor_role ≡ true
       → slice_get core.children.items s.0 ≡ Some held → (held.mode ≡ spec.child) × (length held.slots ≡ spec.max)
-  pub restarts : (core.restarts.max ≡ topology.max_restarts) × (core.restarts.window ≡ topology.window_ms)
+  pub restarts : (l : ℕ) → option_map limit_seen (slice_get core.restarts.items l) ≡ limit_at topology l
 
 -- the fields are the journal's, part by part
 pub record Fields (core : Core) (topology : Topology) (before : History) : Type 0 where
@@ -103,7 +109,7 @@ pub record Fields (core : Core) (topology : Topology) (before : History) : Type 
   pub batches : (i : ℕ) → option_map closed_seen (slice_get core.batches.items i) ≡ closed_as topology before (suc i)
   pub sent_on : (i : ℕ) (row : BatchRow) → slice_get core.batches.items i ≡ Some row → row.subs.items ≡ sent_on topology before (suc i)
   pub legs : (i : ℕ) → sent_in core.legs (suc i) ≡ ends_in_progress (batch topology before (suc i))
-  pub restarts : Remembers core.restarts (restart_times before)
+  pub restarts : (l : ℕ) (held : RestartLimit) → slice_get core.restarts.items l ≡ Some held → Remembers held (restart_times topology before l)
   pub totals : core.totals ≡ totals_of topology before
 
 -- the topology is sound, the journal is legal, and the fields are the journal's; a step may be owed

@@ -4,6 +4,8 @@
 //! journal comes to. A core without a step has it, and every call of the crates above has it as a condition and keeps it.
 #![tactic(auto)]
 
+pub mod contents;
+pub mod limits;
 mod new;
 mod places;
 mod readers;

@@ -50,7 +50,8 @@ pub struct Core {
     pub batches: Vec<BatchRow>,
     /// The legs of the batches in progress; by batch number.
     pub legs: Legs,
-    pub restarts: Restarts,
+    /// By limit on restarts.
+    pub restarts: Vec<Restarts>,
     pub totals: Totals,
     pub alloc: Global,
 }

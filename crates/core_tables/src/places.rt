@@ -13,7 +13,7 @@ use pipe_types::room::Sent;
 pub fn place_all(places: &mut Vec<Place>, stage: StageNo, units: &[Sent])
     requires within { All (IsNumbered (length places.old.items)) units.now }
     ensures len { length places.new.items ≡ length places.old.items }
-    ensures placed { (i : ℕ) → slice_get places.new.items i ≡ option_map (dispatched units.now [] stage (suc i)) (slice_get places.old.items i) }
+    ensures placed { (i : ℕ) → slice_get places.new.items i ≡ option_map (dispatched units.now [] [] stage (suc i)) (slice_get places.old.items i) }
 {
     for sent in units {
         let at = (sent.unit - 1) as usize;
@@ -24,7 +24,7 @@ pub fn place_all(places: &mut Vec<Place>, stage: StageNo, units: &[Sent])
 
 /// Where a message stands once it was sent, if it waits in the stage.
 fn moved(place: Place, stage: StageNo, sent: Sent) -> Place
-    ensures { result ≡ dispatched (sent ∷ []) [] stage sent.unit place }
+    ensures { result ≡ dispatched (sent ∷ []) [] [] stage sent.unit place }
 {
     match place {
         Place::Waiting(here) if here.0 == stage.0 => Place::Inbox(sent.sub),

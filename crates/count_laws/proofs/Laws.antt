@@ -26,13 +26,13 @@ use Rattle.count_laws.proofs.Starts.{child_starts_within}
 pub movers_law : (topology : Topology) (before : History) → IsSound topology → IsTrue (is_legal topology before) → movers topology before ≤ 21 * topology.record_limit
 movers_law topology before sound h = movers_within topology before sound h
 
-pub senders_law : (topology : Topology) (before : History) → IsSound topology → IsTrue (is_legal topology before) → senders topology before ≤ length topology.stages * (21 * topology.record_limit + 1)
+pub senders_law : (topology : Topology) (before : History) → IsSound topology → IsTrue (is_legal topology before) → senders topology before ≤ length topology.stages * (topology.record_limit + 1)
 senders_law topology before sound h = senders_few topology before sound h
 
-pub takes_law : (topology : Topology) (before : History) (c : StageNo) → IsSound topology → IsTrue (is_legal topology before) → takes before c ≤ 21 * topology.record_limit + 1
+pub takes_law : (topology : Topology) (before : History) (c : StageNo) → IsSound topology → IsTrue (is_legal topology before) → takes before c ≤ topology.record_limit + 1
 takes_law topology before c sound h = takes_few topology before c sound h
 
-pub asks_law : (topology : Topology) (before : History) (u : SubNo) → IsSound topology → IsTrue (is_legal topology before) → asks before u ≤ 21 * topology.record_limit + 1 + max_in (spec_of topology u.consumer)
+pub asks_law : (topology : Topology) (before : History) (u : SubNo) → IsSound topology → IsTrue (is_legal topology before) → asks before u ≤ topology.record_limit + 1 + max_in (spec_of topology u.consumer)
 asks_law topology before u sound h = asks_few topology before u sound h
 
 pub answers_law : (topology : Topology) (before : History) (p : Post) → IsTrue (is_legal topology before) → answered before p + as_number (is_out before p) ≤ begun before p
@@ -44,7 +44,7 @@ lives_law topology before s h = omega (arith, restarts_within topology before s 
 pub generations_law : (topology : Topology) (before : History) (c p : StageNo) → generation topology before c p + 1 ≤ incarnation before c + incarnation before p
 generations_law topology before c p = generations_within topology before c p
 
-pub crash_kills_law : (topology : Topology) (before : History) (s : StageNo) → IsSound topology → IsTrue (is_legal topology before) → IsTrue (has_role topology s takes_role) → crash_kills before s ≤ 21 * topology.record_limit + 1
+pub crash_kills_law : (topology : Topology) (before : History) (s : StageNo) → IsSound topology → IsTrue (is_legal topology before) → IsTrue (has_role topology s takes_role) → crash_kills before s ≤ topology.record_limit + 1
 crash_kills_law topology before s sound h role = crash_kills_few topology before s sound h role
 
 pub controls_law : (topology : Topology) (before : History) → IsTrue (is_legal topology before) → controls before ≤ 10000

@@ -9,14 +9,19 @@ use Rattle.pipe_types.specs.declared.topology.StageSpec.{StageSpec}
 use Rattle.pipe_types.specs.declared.topology.Keep.{Keep}
 use Rattle.pipe_types.specs.declared.topology.Keep.TheVariants.{Last, First}
 use Rattle.pipe_types.specs.declared.message.Loss.TheVariants.{Overflow}
-use Rattle.pipe_types.specs.declared.message.Place.TheVariants.{Waiting, Lost}
+use Rattle.pipe_types.specs.declared.message.Outcome.TheVariants.{Successful}
+use Rattle.pipe_types.specs.declared.message.Place.TheVariants.{Waiting, InBatch, Acked, Lost}
+use Rattle.pipe_types.specs.Numbers.{batch_no}
 use Rattle.pipe_types.specs.declared.step.Step.TheVariants.{Dispatch}
 use Rattle.pipe_types.specs.Stages.{spec_of}
 use Rattle.pipe_model.specs.History.{History}
-use Rattle.pipe_model.specs.Flow.{place, batch, view_of, is_batcher, is_empty, among, waiting, waits_in, batch_waits_in, deliveries, subs_of, unsent, over_size, over_in, lost_over, dispatched, waiting_after}
+use Rattle.pipe_model.specs.Flow.{alone, place, batch, view_of, is_batcher, is_empty, among, waiting, waits_in, batch_waits_in, deliveries, subs_of, unsent, over_size, over_in, lost_over, dispatched, waiting_after}
 use Rattle.pipe_laws.proofs.Tests.{same_stage-self}
 use Rattle.pipe_laws.proofs.Lists.{Each, each_filter}
 use Rattle.pipe_laws.proofs.Entries.{is_waiting, waiting_each, waits_here}
+use Rattle.queue_laws.proofs.Alone.{IsAlone, alone_each}
+use Rattle.queue_laws.proofs.Drained.{batch_message, waits_going}
+use Rattle.pipe_model.specs.Legal.{is_legal}
 use Rattle.count_laws.proofs.Heights.{Moves}
 
 each_dropped : {A : Type 0} (P : A → Type 0) (k : ℕ) (xs : List A) → Each P xs → Each P (drop k xs)
@@ -63,6 +68,21 @@ lost_moves_one topology before t plain some = by_units (lost_over topology befor
         let in_it : among (lost_over topology before (view_of topology before) t) n ≡ true = ap (λ xs. among xs n) e ∙ ap (λ b. b || among ns n) (eq-eqb n n refl) in
         let none : subs_of (deliveries topology before t) n ≡ [] = empty (subs_of (deliveries topology before t) n) here.1 in
         let after : place topology (Dispatch t ∷ before) n ≡ Some (Lost (Overflow t)) =
-        ap (option_map (dispatched (deliveries topology before t) (lost_over topology before (view_of topology before) t) t n)) stood
+        ap (option_map (dispatched (deliveries topology before t) (lost_over topology before (view_of topology before) t) (alone topology before t) t n)) stood
         ∙ λ i. Some (if same_stage-self t i then waiting_after (none i) (in_it i) t else Waiting t) in
         record { number = n; stood = ap is_some stood; moved = λ same. let x : Some (Lost (Overflow t)) ≡ Some (Waiting t) = sym after ∙ (same ∙ stood) in cc }
+
+-- a dispatch that serves a batch without a leg settles its messages
+pub alone_moves_one : (topology : Topology) (before : History) (t : StageNo) → is_legal topology before ≡ true → is_empty (alone topology before t) ≡ false → Moves topology before (Dispatch t)
+alone_moves_one topology before t h some = by_units (alone topology before t) refl some
+  where
+    by_units : (bs : List ℕ) → alone topology before t ≡ bs → is_empty bs ≡ false → Moves topology before (Dispatch t)
+    by_units [] e some = cc
+    by_units (b ∷ bs) e some =
+        let lone : IsAlone topology before t b = (subst (Each (IsAlone topology before t)) e (alone_each topology before t)).0 in
+        let m = batch_message topology before b h (waits_going t (batch topology before b) lone.waits) in
+        let there : among (alone topology before t) b ≡ true = ap (λ xs. among xs b) e ∙ ap (λ x. x || among bs b) (eq-eqb b b refl) in
+        let after : place topology (Dispatch t ∷ before) m.0 ≡ Some (Acked Successful) =
+        ap (option_map (dispatched (deliveries topology before t) (lost_over topology before (view_of topology before) t) (alone topology before t) t m.0)) m.1
+        ∙ ap (λ a. Some (if a then Acked Successful else InBatch (batch_no b))) there in
+        record { number = m.0; stood = ap is_some m.1; moved = λ same. let x : Some (Acked Successful) ≡ Some (InBatch (batch_no b)) = sym after ∙ (same ∙ m.1) in cc }

@@ -11,18 +11,19 @@ use Rattle.pipe_types.specs.declared.message.Why.TheVariants.{Crash}
 use Rattle.pipe_model.specs.History.{History}
 use Rattle.pipe_model.specs.Counting.{as_number}
 use Rattle.pipe_model.specs.Posts.{answers, puts_out, in_slot}
-use Rattle.pipe_model.specs.Flow.{view_of, deliveries, lost_over, is_empty, is_batcher}
+use Rattle.pipe_model.specs.Flow.{view_of, deliveries, alone, lost_over, is_empty, is_batcher}
 use Rattle.pipe_model.specs.Legal.{has_role, is_processor_role, runs_number}
 use Rattle.pipe_types.specs.declared.numbers.SubNo.{SubNo}
 
--- the step takes a record in, moves a message on, or loses one
+-- the step takes a record in, moves a message on or loses one, or settles a batch that nobody picked
 abbrev pub moves_one : Topology → History → Step → Bool
 moves_one topology before (Accept s records) = true
 moves_one topology before (Gather s m) = true
 moves_one topology before (Close s first trigger) = true
 moves_one topology before (Take s u k) = has_role topology s is_processor_role
 moves_one topology before (Dispatch s) =
-    not (is_batcher (spec_of topology s)) && (not (is_empty (deliveries topology before s)) || not (is_empty (lost_over topology before (view_of topology before) s)))
+    (not (is_batcher (spec_of topology s)) && (not (is_empty (deliveries topology before s)) || not (is_empty (lost_over topology before (view_of topology before) s))))
+    || not (is_empty (alone topology before s))
 moves_one topology before (Child s m slot) = not (runs_number topology before s (in_slot before s slot))
 moves_one topology before _ = false
 

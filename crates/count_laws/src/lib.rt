@@ -32,14 +32,14 @@ pub fn moves_are_few()
 #[tactic(auto, using(crate::proofs::Laws::senders_law))]
 pub fn dispatches_are_few()
     ensures { (topology : Topology) (before : History) →
-        IsSound topology → IsTrue (is_legal topology before) → senders topology before ≤ length topology.stages * (21 * topology.record_limit + 1) }
+        IsSound topology → IsTrue (is_legal topology before) → senders topology before ≤ length topology.stages * (topology.record_limit + 1) }
 {}
 
 /// Takes of a consumer.
 #[tactic(auto, using(crate::proofs::Laws::takes_law))]
 pub fn takes_are_few()
     ensures { (topology : Topology) (before : History) (c : StageNo) →
-        IsSound topology → IsTrue (is_legal topology before) → takes before c ≤ 21 * topology.record_limit + 1 }
+        IsSound topology → IsTrue (is_legal topology before) → takes before c ≤ topology.record_limit + 1 }
 {}
 
 /// Asks on a subscription.
@@ -47,7 +47,7 @@ pub fn takes_are_few()
 pub fn asks_are_few()
     ensures { (topology : Topology) (before : History) (u : SubNo) →
         IsSound topology → IsTrue (is_legal topology before) →
-        asks before u ≤ 21 * topology.record_limit + 1 + max_in (spec_of topology u.consumer) }
+        asks before u ≤ topology.record_limit + 1 + max_in (spec_of topology u.consumer) }
 {}
 
 /// A post is answered as often as it was put out, but for once while it is out.
@@ -75,7 +75,7 @@ pub fn generations_are_few()
 pub fn crash_kills_are_few()
     ensures { (topology : Topology) (before : History) (s : StageNo) →
         IsSound topology → IsTrue (is_legal topology before) → IsTrue (has_role topology s takes_role) →
-        crash_kills before s ≤ 21 * topology.record_limit + 1 }
+        crash_kills before s ≤ topology.record_limit + 1 }
 {}
 
 /// Control steps.

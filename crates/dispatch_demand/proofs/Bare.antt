@@ -4,7 +4,7 @@ use Rattle.std.specs.Prelude.{Bool, true, false, filter, sum_by, if◌then◌els
 use Rattle.std.proofs.lemmas.List.Sums.{sum_by-cons}
 use Rattle.pipe_types.specs.declared.room.Room.{Room}
 use Rattle.pipe_types.specs.declared.room.Sent.{Sent}
-use Rattle.pipe_types.specs.declared.topology.Dispatch.TheVariants.{Demand}
+use Rattle.pipe_types.specs.Dispatchers.{ByDemand}
 use Rattle.pipe_types.specs.Dispatchers.{ahead, goes, is_served_before, on_each, sends_from}
 use Rattle.dispatch_demand.proofs.Places.{bare}
 
@@ -15,7 +15,7 @@ sum_bare f (u ∷ us) = sum_by-cons f (bare u) (map bare us) ∙ (ap (λ (n : �
 ahead_bare : (rooms : List Room) (u : Room) → ahead (map bare rooms) (bare u) ≡ ahead rooms u
 ahead_bare rooms u = sum_bare (λ v. if is_served_before v (bare u) then v.left else 0) rooms
 
-goes_bare : (rooms : List Room) (earlier : List ℕ) (part : ℕ) (u : Room) → goes Demand (map bare rooms) earlier part (bare u) ≡ goes Demand rooms earlier part u
+goes_bare : (rooms : List Room) (earlier : List ℕ) (part : ℕ) (u : Room) → goes ByDemand (map bare rooms) earlier part (bare u) ≡ goes ByDemand rooms earlier part u
 goes_bare rooms earlier part u = ap (λ (n : ℕ). nat_le n (length earlier) && nat_lt (length earlier) (n + u.left)) (ahead_bare rooms u)
 
 kept_bare : (unit : ℕ) (one other : Room → Bool) → ((u : Room) → one (bare u) ≡ other u) → (rooms : List Room) → on_each unit (filter one (map bare rooms)) ≡ on_each unit (filter other rooms)
@@ -28,7 +28,7 @@ kept_bare unit one other same (u ∷ us) =
     either true e = ap (λ (xs : List Sent). record { unit = unit; sub = u.sub } ∷ xs) e
     either false e = e
 
-pub sends_bare : (rooms : List Room) (earlier : List ℕ) (units : List (ℕ × ℕ)) → sends_from Demand (map bare rooms) earlier units ≡ sends_from Demand rooms earlier units
+pub sends_bare : (rooms : List Room) (earlier : List ℕ) (units : List (ℕ × ℕ)) → sends_from ByDemand (map bare rooms) earlier units ≡ sends_from ByDemand rooms earlier units
 sends_bare rooms earlier [] = refl
 sends_bare rooms earlier (unit ∷ units) =
-    λ i. kept_bare unit.0 (goes Demand (map bare rooms) earlier unit.1) (goes Demand rooms earlier unit.1) (goes_bare rooms earlier unit.1) rooms i ++ sends_bare rooms (unit.1 ∷ earlier) units i
+    λ i. kept_bare unit.0 (goes ByDemand (map bare rooms) earlier unit.1) (goes ByDemand rooms earlier unit.1) (goes_bare rooms earlier unit.1) rooms i ++ sends_bare rooms (unit.1 ∷ earlier) units i

@@ -9,7 +9,7 @@ use Rattle.std.proofs.lemmas.List.Sorted.{sum_by-IsPermutation, sorted_far}
 use Rattle.std.proofs.lemmas.List.Sums.{sum_by_more, sum_by-take-le}
 use Rattle.pipe_types.specs.declared.room.Room.{Room}
 use Rattle.pipe_types.specs.declared.room.Sent.{Sent}
-use Rattle.pipe_types.specs.declared.topology.Dispatch.TheVariants.{Demand}
+use Rattle.pipe_types.specs.Dispatchers.{ByDemand}
 use Rattle.pipe_types.specs.Dispatchers.{ahead, is_served_before, on_each}
 use Rattle.pipe_types.specs.Rooms.{AreAscending}
 use Rattle.pipe_types.proofs.Sends.{sends_of, sends_of_unit, sends_of_more, sends_of_stop, length-turned_places}
@@ -92,22 +92,22 @@ goes_nowhere rooms order serves j past =
         let rise : demand (take (k + 1) order) ≤ demand order = sum_by-take-le (λ u. u.left) order (k + 1) in
         omega arith
 
-sends_of_place : (rooms : List Room) (j : ℕ) → sends_of_unit Demand rooms j ≡ on_each j (filter (takes rooms j) rooms)
+sends_of_place : (rooms : List Room) (j : ℕ) → sends_of_unit ByDemand rooms j ≡ on_each j (filter (takes rooms j) rooms)
 sends_of_place rooms j = ap (λ (n : ℕ). on_each j (filter (takes rooms n) rooms)) (length-turned_places j)
 
-sends_of_run : (rooms : List Room) (x : Room) (first count : ℕ) → ((j : ℕ) → first ≤ j → j < first + count → sends_of_unit Demand rooms j ≡ on_each j (x ∷ [])) → sends_of Demand rooms (first + count) ≡ sends_of Demand rooms first ++ run first count x.sub
+sends_of_run : (rooms : List Room) (x : Room) (first count : ℕ) → ((j : ℕ) → first ≤ j → j < first + count → sends_of_unit ByDemand rooms j ≡ on_each j (x ∷ [])) → sends_of ByDemand rooms (first + count) ≡ sends_of ByDemand rooms first ++ run first count x.sub
 sends_of_run rooms x first zero each =
-    ap (λ (n : ℕ). sends_of Demand rooms n) (omega arith) ∙ sym (append-nil (sends_of Demand rooms first))
+    ap (λ (n : ℕ). sends_of ByDemand rooms n) (omega arith) ∙ sym (append-nil (sends_of ByDemand rooms first))
 sends_of_run rooms x first (suc n) each =
     let place : first + suc n ≡ (first + n) + 1 = omega arith in
-    ap (λ (m : ℕ). sends_of Demand rooms m) place
-    ∙ sends_of_more Demand rooms (first + n)
-    ∙ ap (λ (l : List Sent). sends_of Demand rooms (first + n) ++ l) (each (first + n) (omega arith) (omega arith))
+    ap (λ (m : ℕ). sends_of ByDemand rooms m) place
+    ∙ sends_of_more ByDemand rooms (first + n)
+    ∙ ap (λ (l : List Sent). sends_of ByDemand rooms (first + n) ++ l) (each (first + n) (omega arith) (omega arith))
     ∙ ap (λ (l : List Sent). l ++ on_each (first + n) (x ∷ [])) (sends_of_run rooms x first n (λ j low high. each j low (omega arith)))
-    ∙ append_assoc (sends_of Demand rooms first) (run first n x.sub) (on_each (first + n) (x ∷ []))
+    ∙ append_assoc (sends_of ByDemand rooms first) (run first n x.sub) (on_each (first + n) (x ∷ []))
 
 -- the next room in the order of serving takes as many of the rest as it asked for
-pub one_served : (rooms order : List Room) → Serves rooms order → (waiting next count i : ℕ) (e : Room) → i < length order → next ≡ min waiting (demand (take i order)) → count ≡ min (get_or order i e).left (waiting - next) → (old new : List Sent) → old ≡ sends_of Demand rooms next → new ≡ old ++ run next count (get_or order i e).sub → new ≡ sends_of Demand rooms (next + count)
+pub one_served : (rooms order : List Room) → Serves rooms order → (waiting next count i : ℕ) (e : Room) → i < length order → next ≡ min waiting (demand (take i order)) → count ≡ min (get_or order i e).left (waiting - next) → (old new : List Sent) → old ≡ sends_of ByDemand rooms next → new ≡ old ++ run next count (get_or order i e).sub → new ≡ sends_of ByDemand rooms (next + count)
 one_served rooms order serves waiting next count i e within so_far takes_now old new before now =
     now
     ∙ ap (λ (l : List Sent). l ++ run next count (get_or order i e).sub) before
@@ -121,16 +121,16 @@ demand_more order waiting next count i e within so_far takes_now =
     omega arith
 
 -- when every room is served nothing more is sent
-pub all_served : (rooms order : List Room) → Serves rooms order → (waiting next : ℕ) → next ≡ min waiting (demand order) → sends_of Demand rooms next ≡ sends_of Demand rooms waiting
+pub all_served : (rooms order : List Room) → Serves rooms order → (waiting next : ℕ) → next ≡ min waiting (demand order) → sends_of ByDemand rooms next ≡ sends_of ByDemand rooms waiting
 all_served rooms order serves waiting next so_far = ⊎_elim more done (cases_lt next waiting)
   where
-    done : waiting ≤ next → sends_of Demand rooms next ≡ sends_of Demand rooms waiting
-    done le = ap (λ (n : ℕ). sends_of Demand rooms n) (omega arith)
+    done : waiting ≤ next → sends_of ByDemand rooms next ≡ sends_of ByDemand rooms waiting
+    done le = ap (λ (n : ℕ). sends_of ByDemand rooms n) (omega arith)
 
-    more : next < waiting → sends_of Demand rooms next ≡ sends_of Demand rooms waiting
+    more : next < waiting → sends_of ByDemand rooms next ≡ sends_of ByDemand rooms waiting
     more lt =
         let rest : next + (waiting - next) ≡ waiting = omega arith in
-        sym (sends_of_stop Demand rooms next (waiting - next) none) ∙ ap (λ (n : ℕ). sends_of Demand rooms n) rest
+        sym (sends_of_stop ByDemand rooms next (waiting - next) none) ∙ ap (λ (n : ℕ). sends_of ByDemand rooms n) rest
       where
-        none : (j : ℕ) → next ≤ j → sends_of_unit Demand rooms j ≡ []
+        none : (j : ℕ) → next ≤ j → sends_of_unit ByDemand rooms j ≡ []
         none j le = sends_of_place rooms j ∙ ap (λ (l : List Room). on_each j l) (goes_nowhere rooms order serves j (omega arith))

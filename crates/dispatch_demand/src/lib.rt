@@ -8,14 +8,13 @@
 ghost use Rattle.std.specs.Prelude.{◌≡◌, ◌++◌, ◌+◌, ◌<◌, ◌^◌, OnOk, IfOk, replicate, map, true};
 ghost use Rattle.std.specs.List.Sorted.{IsPermutation};
 ghost use Rattle.std.specs.BTreeSet.{IsOrdered};
-ghost use Rattle.pipe_types.specs.Dispatchers.{sends_by_place};
+ghost use Rattle.pipe_types.specs.Dispatchers.{ByDemand, sends_by_place};
 ghost use Rattle.pipe_types.specs.Rooms.{AreAscending};
 ghost use Rattle.dispatch_demand.specs.Run.{run};
 ghost use Rattle.dispatch_demand.specs.Serving.{Has, serving_key, key_cmp, room_at};
 
 use pipe_types::numbers::SubNo;
 use pipe_types::room::{Room, Sent, SentList};
-use pipe_types::topology::Dispatch;
 use std::alloc::{AllocError, Global};
 use std::cmp::Reverse;
 use std::collections::BTreeSet;
@@ -40,7 +39,7 @@ impl DemandDispatch {
     pub fn deliver(&mut self, waiting: u32, room: &[Room]) -> Result<SentList, AllocError>
         requires { AreAscending room.now }
         // exactly what the demand rule sends of the waiting units
-        ensures { IfOk result (λ sent. sent ≡ sends_by_place Dispatch.Demand room.now (replicate waiting 0)) }
+        ensures { IfOk result (λ sent. sent ≡ sends_by_place ByDemand room.now (replicate waiting 0)) }
     {
         follow(&mut self.order, room)?;
         let order = rooms_of(self.alloc, &self.order)?;

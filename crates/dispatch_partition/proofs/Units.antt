@@ -9,7 +9,7 @@ use Rattle.std.proofs.lemmas.List.Sums.{count_by_more_yes, count_by_more_no}
 use Rattle.pipe_types.specs.declared.numbers.SubNo.{SubNo}
 use Rattle.pipe_types.specs.declared.room.Room.{Room}
 use Rattle.pipe_types.specs.declared.room.Sent.{Sent}
-use Rattle.pipe_types.specs.declared.topology.Dispatch.TheVariants.{Partition}
+use Rattle.pipe_types.specs.Dispatchers.{ByPartition}
 use Rattle.pipe_types.specs.Dispatchers.{on_each, sends_by_place}
 use Rattle.pipe_types.specs.Rooms.{PartsDiffer}
 use Rattle.pipe_types.proofs.Sends.{sends_push, sends_at, turned, count-turned}
@@ -155,24 +155,24 @@ each_sub n [] = refl
 each_sub n (u ∷ rooms) = ap (λ (l : List Sent). sent_on n u.sub ∷ l) (each_sub n rooms)
 
 -- the next unit goes to the room of its part, as long as there is something left of its open demand
-sends_more : (rooms : List Room) (parts : List ℕ) (k p : ℕ) → PartsDiffer rooms → k < length parts → p ≡ get_or parts k 0 → sends_by_place Partition rooms (take (k + 1) parts) ≡ sends_by_place Partition rooms (take k parts) ++ map (sent_on k) (option_to_list (next_sub (left_after rooms (take k parts) p)))
+sends_more : (rooms : List Room) (parts : List ℕ) (k p : ℕ) → PartsDiffer rooms → k < length parts → p ≡ get_or parts k 0 → sends_by_place ByPartition rooms (take (k + 1) parts) ≡ sends_by_place ByPartition rooms (take k parts) ++ map (sent_on k) (option_to_list (next_sub (left_after rooms (take k parts) p)))
 sends_more rooms parts k p differ within at =
     let whole : take (k + 1) parts ≡ take k parts ++ p ∷ [] = take_more parts k 0 within ∙ ap (λ (n : ℕ). take k parts ++ n ∷ []) (sym at) in
     let place : length (take k parts) ≡ k = length-take-le k parts (omega arith) in
     let before : ℕ → ℕ = λ q. units_of q (turned (take k parts) []) in
     let none : units_of p [] ≡ 0 = refl in
     let count : units_of p (turned (take k parts) []) ≡ units_of p (take k parts) = omega (arith, count-turned (λ m. m == p) (take k parts) []) in
-    ap (λ (l : List ℕ). sends_by_place Partition rooms l) whole
-    ∙ sends_push Partition rooms (take k parts) p
-    ∙ ap (λ (n : ℕ). sends_by_place Partition rooms (take k parts) ++ sends_at Partition rooms (turned (take k parts) []) n p) place
-    ∙ ap (λ (l : List Sent). sends_by_place Partition rooms (take k parts) ++ l)
+    ap (λ (l : List ℕ). sends_by_place ByPartition rooms l) whole
+    ∙ sends_push ByPartition rooms (take k parts) p
+    ∙ ap (λ (n : ℕ). sends_by_place ByPartition rooms (take k parts) ++ sends_at ByPartition rooms (turned (take k parts) []) n p) place
+    ∙ ap (λ (l : List Sent). sends_by_place ByPartition rooms (take k parts) ++ l)
     (each_sub k (filter (chosen before p) rooms)
     ∙ ap (λ (l : List SubNo). map (sent_on k) l) (chosen_room before p rooms differ)
     ∙ ap (λ (n : ℕ). map (sent_on k) (option_to_list (next_sub (option_map (spent n) (find (λ u. u.part == p) rooms))))) count)
 
-pub one_unit : (rooms : List Room) (parts : List ℕ) (k p : ℕ) → PartsDiffer rooms → k < length parts → p ≡ get_or parts k 0 → (rest : Option Room) → rest ≡ left_after rooms (take k parts) p → (taken : Option SubNo) → taken ≡ next_sub rest → (old new : List Sent) → old ≡ sends_by_place Partition rooms (take k parts) → new ≡ old ++ map (sent_on k) (option_to_list taken) → new ≡ sends_by_place Partition rooms (take (k + 1) parts)
+pub one_unit : (rooms : List Room) (parts : List ℕ) (k p : ℕ) → PartsDiffer rooms → k < length parts → p ≡ get_or parts k 0 → (rest : Option Room) → rest ≡ left_after rooms (take k parts) p → (taken : Option SubNo) → taken ≡ next_sub rest → (old new : List Sent) → old ≡ sends_by_place ByPartition rooms (take k parts) → new ≡ old ++ map (sent_on k) (option_to_list taken) → new ≡ sends_by_place ByPartition rooms (take (k + 1) parts)
 one_unit rooms parts k p differ within at rest is taken takes old new before now =
     now
     ∙ ap (λ (l : List Sent). l ++ map (sent_on k) (option_to_list taken)) before
-    ∙ ap (λ (o : Option SubNo). sends_by_place Partition rooms (take k parts) ++ map (sent_on k) (option_to_list o)) (takes ∙ ap next_sub is)
+    ∙ ap (λ (o : Option SubNo). sends_by_place ByPartition rooms (take k parts) ++ map (sent_on k) (option_to_list o)) (takes ∙ ap next_sub is)
     ∙ sym (sends_more rooms parts k p differ within at)

@@ -8,12 +8,11 @@
 mod left;
 
 ghost use Rattle.std.specs.Prelude.{◌≡◌, ◌<◌, ◌≤◌, ◌^◌, IfOk, length};
-ghost use Rattle.pipe_types.specs.Dispatchers.{sends_by_place, partition_of as partition_of_bytes};
+ghost use Rattle.pipe_types.specs.Dispatchers.{ByPartition, sends_by_place, partition_of as partition_of_bytes};
 ghost use Rattle.pipe_types.specs.Rooms.{AreAscending, PartsDiffer};
 
 use crate::left::{rooms_by_part, take_one};
 use pipe_types::room::{Room, Sent, SentList};
-use pipe_types::topology::Dispatch;
 use std::alloc::{AllocError, Global};
 
 /// Sends each unit to the subscription of its partition.
@@ -35,7 +34,7 @@ impl PartitionDispatch {
         requires parts_differ { PartsDiffer room.now }
         requires few { length parts.now < 2 ^ 32 }
         // exactly what the partition rule sends of the waiting units
-        ensures { IfOk result (λ sent. sent ≡ sends_by_place Dispatch.Partition room.now parts.now) }
+        ensures { IfOk result (λ sent. sent ≡ sends_by_place ByPartition room.now parts.now) }
     {
         let mut left = rooms_by_part(self.alloc, room)?;
         let mut sent = Vec::new(self.alloc);

@@ -4,6 +4,7 @@ use Rattle.std.specs.List.{list_all}
 use Rattle.pipe_types.specs.declared.numbers.SubNo.{SubNo}
 use Rattle.pipe_types.specs.declared.topology.Topology.{Topology}
 use Rattle.pipe_types.specs.declared.topology.StageSpec.{StageSpec}
+use Rattle.pipe_types.specs.declared.topology.RestartLimit.{RestartLimit}
 use Rattle.pipe_types.specs.declared.topology.Rule.{Rule}
 use Rattle.pipe_types.specs.declared.topology.Rule.TheVariants.{Key, Crash as CrashRule}
 use Rattle.pipe_types.specs.declared.topology.Role.{Role}
@@ -73,6 +74,8 @@ plain_stage n name role index =
       batch_timeout = 0;
       child = TemporaryChild;
       batchers = 0;
+      select = [];
+      limit = 0;
     }
 
 -- a pull producer that keeps the last 10,000
@@ -85,16 +88,20 @@ processor n name index rules = record (plain_stage n name Processor index) { min
 
 -- Topologies
 
+-- one limit, of so many restarts in a window of so many milliseconds
+abbrev pub limited : (most window : ℕ) → List RestartLimit
+limited most window = record { max_restarts = most; window_ms = window } ∷ []
+
 abbrev pub with_stages : List StageSpec → Topology
 with_stages stages =
     record {
       stages = stages;
-      max_restarts = 3;
-      window_ms = 5000;
+      limits = limited 3 5000;
       idle_limit = 0;
       record_limit = 200000;
       byte_limit = 67108864;
       control = None;
+      rate = None;
     }
 
 -- a producer and a processor, without batchers

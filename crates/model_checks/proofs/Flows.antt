@@ -24,7 +24,7 @@ use Rattle.pipe_model.specs.Ledger.{handled, due}
 use Rattle.pipe_model.specs.Legal.{bound}
 use Rattle.pipe_model.specs.Acknowledgements.{acknowledgements}
 use Rattle.pipe_model.specs.Outside.{fed}
-use Rattle.model_checks.proofs.Base.{is_run, producer, processor, with_stages, one_each, sub, msg, passes, keyed, feeding, batcher, batch_processor, two_producers, by_key}
+use Rattle.model_checks.proofs.Base.{is_run, producer, processor, with_stages, one_each, sub, msg, passes, keyed, feeding, batcher, batch_processor, two_producers, by_key, limited}
 
 -- Two producers in one batch
 
@@ -184,7 +184,7 @@ kill_loses_one = refl
 
 -- a halt loses all that is left, each with its stage
 abbrev halting : Topology
-halting = record (cascading Temporary) { max_restarts = 0 }
+halting = record (cascading Temporary) { limits = limited 0 5000 }
 
 abbrev halted_deep : List Step
 halted_deep = three_deep ++ Kill (stage 1) ByKill ∷ Halt ∷ []

@@ -19,7 +19,7 @@ use Rattle.pipe_types.specs.Numbers.{stage, message_no}
 use Rattle.pipe_model.specs.History.{history}
 use Rattle.pipe_model.specs.Flow.{place}
 use Rattle.pipe_model.specs.Moves.{Halted, JobsOut, move}
-use Rattle.model_checks.proofs.Base.{may_come_after, is_refused_after, producer, processor, with_stages, one_each, sub, keyed, feeding, batcher, batch_processor, strict, by_key, supervised}
+use Rattle.model_checks.proofs.Base.{may_come_after, is_refused_after, producer, processor, with_stages, one_each, sub, keyed, feeding, batcher, batch_processor, strict, by_key, supervised, limited}
 
 abbrev fetched : List Step
 fetched = Ask (sub 2 1 1) 10 ∷ Fetch (stage 1) 10 ∷ []
@@ -252,7 +252,7 @@ restart_a_processor_while_draining = refl
 
 -- not past the limit of restarts
 abbrev none_allowed : Topology
-none_allowed = record one_each { max_restarts = 0 }
+none_allowed = record one_each { limits = limited 0 5000 }
 
 restart_past_the_limit : is_refused_after none_allowed (Kill (stage 2) ByKill ∷ []) (Restart (stage 2)) ≡ true
 restart_past_the_limit = refl

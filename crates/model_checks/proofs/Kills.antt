@@ -20,7 +20,7 @@ use Rattle.pipe_model.specs.Flow.{place, open_demand}
 use Rattle.pipe_model.specs.Ledger.{handled}
 use Rattle.pipe_model.specs.Moves.{Halted, StepMove, move}
 use Rattle.pipe_model.specs.Acknowledgements.{acknowledgements, is_lossless}
-use Rattle.model_checks.proofs.Base.{is_run, is_sound, producer, processor, with_stages, one_each, sub, passes, feeding, batcher, batch_processor, strict}
+use Rattle.model_checks.proofs.Base.{is_run, is_sound, producer, processor, with_stages, one_each, sub, passes, feeding, batcher, batch_processor, strict, limited}
 
 -- A kill of a producer takes the processor with it
 
@@ -187,7 +187,7 @@ exits_for_a_crash = refl
 -- Past the limit of restarts the pipeline halts
 
 abbrev once_only : Topology
-once_only = record strict { max_restarts = 1 }
+once_only = record strict { limits = limited 1 5000 }
 
 abbrev halted : List Step
 halted = both_killed ++ Restart (stage 1) ∷ Halt ∷ []

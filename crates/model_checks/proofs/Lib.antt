@@ -29,3 +29,4 @@ mod TakeRows
 mod Triggers
 mod TwoProcessors
 mod QueueRows
+mod Selectors

@@ -13,7 +13,7 @@ use Rattle.pipe_types.specs.declared.step.DrainCause.TheVariants.{Sources, Contr
 use Rattle.pipe_types.specs.Numbers.{stage, message_no}
 use Rattle.pipe_model.specs.History.{history}
 use Rattle.pipe_model.specs.Moves.{Drained, StepMove, Job, JobsOut, Pause, move}
-use Rattle.model_checks.proofs.Base.{producer, processor, with_stages, one_each, sub, keyed, feeding, batcher, batch_processor, two_producers, by_key}
+use Rattle.model_checks.proofs.Base.{producer, processor, with_stages, one_each, sub, keyed, feeding, batcher, batch_processor, two_producers, by_key, limited}
 
 abbrev fetched : List Step
 fetched = Ask (sub 2 1 1) 10 ∷ Fetch (stage 1) 10 ∷ []
@@ -38,7 +38,7 @@ waits_for_a_killed_job : move one_each (history (fetched ++ Kill (stage 1) ByKil
 waits_for_a_killed_job = refl
 
 -- past the limit of restarts the halt stands in the place of the restart
-halt_in_its_place : move (record one_each { max_restarts = 0 }) (history (Kill (stage 2) ByKill ∷ [])) ≡ StepMove Halt
+halt_in_its_place : move (record one_each { limits = limited 0 5000 }) (history (Kill (stage 2) ByKill ∷ [])) ≡ StepMove Halt
 halt_in_its_place = refl
 
 -- the drain comes before an ask

@@ -1,13 +1,13 @@
 -- The ends of the window in which restarts count.
 use Rattle.std.proofs.Common.{◌≡◌, refl}
-use Rattle.std.specs.Prelude.{true, false, List, [], ◌∷◌, ◌++◌}
+use Rattle.std.specs.Prelude.{true, false, List, [], ◌∷◌, ◌++◌, codes}
 use Rattle.pipe_types.specs.declared.topology.Topology.{Topology}
 use Rattle.pipe_types.specs.declared.message.Why.TheVariants.{Kill as ByKill}
 use Rattle.pipe_types.specs.declared.step.Step.{Step}
 use Rattle.pipe_types.specs.declared.step.Step.TheVariants.{Kill, Restart, Tick, Halt}
 use Rattle.pipe_types.specs.Numbers.{stage}
 use Rattle.pipe_types.specs.Restarts.{may_restart_at}
-use Rattle.model_checks.proofs.Base.{may_come_after, is_refused_after, one_each}
+use Rattle.model_checks.proofs.Base.{may_come_after, is_refused_after, one_each, limited, with_stages, producer, processor}
 
 -- three restarts at 0, 1000 and 2000 with a window of 5000: at 5000 all three count, and at 5001 two
 at_the_end : may_restart_at 3 5000 5000 (2000 ∷ 1000 ∷ 0 ∷ []) ≡ false
@@ -26,7 +26,7 @@ first_allowed = refl
 -- In a journal
 
 abbrev once_only : Topology
-once_only = record one_each { max_restarts = 1 }
+once_only = record one_each { limits = limited 1 5000 }
 
 -- restarted at 10, and killed again
 abbrev killed_again : List Step
@@ -49,3 +49,39 @@ no_halt_past_the_end = refl
 other_stage_counts : is_refused_after once_only (Kill (stage 1) ByKill ∷ Restart (stage 1) ∷ Kill (stage 2) ByKill ∷ []) (Restart (stage 2))
     ≡ true
 other_stage_counts = refl
+
+-- Limits of their own
+
+-- the processor may be restarted once, the producer as often as the pipeline's limit allows
+abbrev of_its_own : Topology
+of_its_own =
+    record (with_stages (producer 1 (codes "p") 0 ∷ record (processor 2 (codes "processors.0") 0 []) { limit = 1 } ∷ []))
+    { limits = limited 3 5000 ++ limited 1 1000 }
+
+-- a restart of one counts for the limit of the other no more
+other_does_not_count : may_come_after of_its_own (Kill (stage 1) ByKill ∷ Restart (stage 1) ∷ Kill (stage 2) ByKill ∷ []) (Restart (stage 2)) ≡ true
+other_does_not_count = refl
+
+abbrev killed_twice : List Step
+killed_twice = Kill (stage 2) ByKill ∷ Restart (stage 2) ∷ Kill (stage 2) ByKill ∷ []
+
+own_limit_is_met : is_refused_after of_its_own killed_twice (Restart (stage 2)) ≡ true
+own_limit_is_met = refl
+
+-- then the pipeline may halt, though another stage could be restarted
+halts_by_one : may_come_after of_its_own (killed_twice ++ Kill (stage 1) ByKill ∷ []) Halt ≡ true
+halts_by_one = refl
+
+other_may_restart : may_come_after of_its_own (killed_twice ++ Kill (stage 1) ByKill ∷ []) (Restart (stage 1)) ≡ true
+other_may_restart = refl
+
+-- its own window is the shorter one
+own_window : may_come_after of_its_own (killed_twice ++ Tick 1001 ∷ []) (Restart (stage 2)) ≡ true
+own_window = refl
+
+own_window_end : is_refused_after of_its_own (killed_twice ++ Tick 1000 ∷ []) (Restart (stage 2)) ≡ true
+own_window_end = refl
+
+-- no halt where no stage's limit is met
+no_early_halt : is_refused_after of_its_own (Kill (stage 2) ByKill ∷ []) Halt ≡ true
+no_early_halt = refl

@@ -1,16 +1,17 @@
 -- Rows: which topologies are sound.
 use Rattle.std.proofs.Common.{◌≡◌, refl}
-use Rattle.std.specs.Prelude.{Bool, true, false, List, [], ◌∷◌, map, codes, replicate, Some, None}
+use Rattle.std.specs.Prelude.{ℕ, Bool, true, false, List, [], ◌∷◌, ◌++◌, map, codes, replicate, Some, None}
 use Rattle.std.specs.Fmt.{digits}
 use Rattle.pipe_types.specs.declared.topology.Topology.{Topology}
 use Rattle.pipe_types.specs.declared.topology.StageSpec.{StageSpec}
 use Rattle.pipe_types.specs.declared.topology.Rule.TheVariants.{Pass as PassRule, Route, Key, Crash as CrashRule, FailEvery}
+use Rattle.pipe_types.specs.declared.topology.Dispatch.{Dispatch}
 use Rattle.pipe_types.specs.declared.topology.Dispatch.TheVariants.{Demand, Broadcast, Partition}
 use Rattle.pipe_types.specs.declared.topology.Keep.TheVariants.{First}
 use Rattle.pipe_types.specs.declared.topology.CancelMode.TheVariants.{Transient, Permanent}
 use Rattle.pipe_types.specs.declared.topology.Kind.TheVariants.{Steps, Lines, Own}
 use Rattle.pipe_types.specs.declared.topology.ChildMode.TheVariants.{Temporary as TemporaryChild, Transient as TransientChild}
-use Rattle.model_checks.proofs.Base.{is_sound, producer, processor, with_stages, one_each, feeding, batcher, batch_processor, supervisor, one_ruled, strict, two_processors, two_producers, by_key, supervised}
+use Rattle.model_checks.proofs.Base.{is_sound, producer, processor, with_stages, one_each, feeding, batcher, batch_processor, supervisor, one_ruled, strict, two_processors, two_producers, by_key, supervised, limited}
 
 -- The small pipelines
 
@@ -237,14 +238,57 @@ reached = refl
 
 -- The pipeline's own settings
 
-settings : map is_sound (record one_each { max_restarts = 1000 } ∷ record one_each { max_restarts = 1001 }
-    ∷ record one_each { window_ms = 0 } ∷ record one_each { window_ms = 1500 } ∷ record one_each { window_ms = 3600000 }
-    ∷ record one_each { window_ms = 3601000 } ∷ record one_each { idle_limit = 1000000 } ∷ record one_each { idle_limit = 1000001 } ∷ [])
+settings : map is_sound (record one_each { limits = limited 1000 5000 } ∷ record one_each { limits = limited 1001 5000 }
+    ∷ record one_each { limits = limited 3 0 } ∷ record one_each { limits = limited 3 1500 } ∷ record one_each { limits = limited 3 3600000 }
+    ∷ record one_each { limits = limited 3 3601000 } ∷ record one_each { idle_limit = 1000000 } ∷ record one_each { idle_limit = 1000001 } ∷ [])
     ≡ true ∷ false ∷ false ∷ false ∷ true ∷ false ∷ true ∷ false ∷ []
 unfolding digits
 settings = refl
 
-limits : map is_sound (record one_each { record_limit = 199999 } ∷ record one_each { byte_limit = 1 }
-    ∷ record one_each { control = Some [] } ∷ record one_each { control = Some (codes "mem:c") } ∷ []) ≡ false ∷ false ∷ false ∷ true ∷ []
+limits : map is_sound (record one_each { record_limit = 0 } ∷ record one_each { record_limit = 1 } ∷ record one_each { record_limit = 2000000 }
+    ∷ record one_each { record_limit = 2000001 } ∷ record one_each { byte_limit = 0 } ∷ record one_each { byte_limit = 1 }
+    ∷ record one_each { byte_limit = 536870912 } ∷ record one_each { byte_limit = 536870913 }
+    ∷ record one_each { control = Some [] } ∷ record one_each { control = Some (codes "mem:c") } ∷ [])
+    ≡ false ∷ true ∷ true ∷ false ∷ false ∷ true ∷ true ∷ false ∷ false ∷ true ∷ []
 unfolding digits
 limits = refl
+
+-- each stage's limit is there, and each limit is in range
+own_limits : map is_sound (record one_each { limits = [] } ∷ record one_each { limits = limited 3 5000 ++ limited 1001 5000 }
+    ∷ record one_each { limits = limited 3 5000 ++ limited 0 1000 }
+    ∷ with_stages (producer 1 (codes "p") 0 ∷ record worker { limit = 1 } ∷ [])
+    ∷ record (with_stages (producer 1 (codes "p") 0 ∷ record worker { limit = 1 } ∷ [])) { limits = limited 3 5000 ++ limited 0 1000 } ∷ [])
+    ≡ false ∷ false ∷ true ∷ false ∷ true ∷ []
+unfolding digits
+own_limits = refl
+
+-- a rate lets each producer bring in one record at least in each interval
+abbrev rated : (allowed interval : ℕ) → Topology
+rated allowed interval = record two_producers { rate = Some (record { allowed = allowed; interval = interval }) }
+
+rates : map is_sound (rated 2 1 ∷ rated 1 1 ∷ rated 1000000 3600000 ∷ rated 1000001 1 ∷ rated 2 0 ∷ rated 2 3600001 ∷ [])
+    ≡ true ∷ false ∷ true ∷ false ∷ false ∷ false ∷ []
+unfolding digits
+rates = refl
+
+-- Selectors
+
+-- texts stand at batch processors whose batcher broadcasts, and have at most 4096 bytes
+abbrev selecting : Dispatch → (first second : List ℕ) → Topology
+selecting dispatch first second =
+    with_stages
+    (first_producer ∷ feeder ∷ record collector { dispatch = dispatch }
+    ∷ record (batch_processor 4 (codes "b.0") 0 0) { select = first } ∷ record (batch_processor 5 (codes "b.1") 0 1) { select = second } ∷ [])
+
+selects : map is_sound (selecting Broadcast (codes "a") (codes "b") ∷ selecting Broadcast (codes "a") [] ∷ selecting Broadcast (replicate 4096 97) []
+    ∷ selecting Broadcast (replicate 4097 97) [] ∷ selecting Demand [] [] ∷ selecting Demand (codes "a") [] ∷ [])
+    ≡ true ∷ true ∷ true ∷ false ∷ true ∷ false ∷ []
+unfolding digits
+selects = refl
+
+no_selects_elsewhere : map is_sound (with_stages (record first_producer { select = codes "a" } ∷ worker ∷ [])
+    ∷ with_stages (first_producer ∷ record worker { select = codes "a" } ∷ [])
+    ∷ with_stages (first_producer ∷ feeder ∷ record collector { select = codes "a" } ∷ writer ∷ [])
+    ∷ with_stages (first_producer ∷ record (supervisor 2 []) { select = codes "a" } ∷ []) ∷ []) ≡ replicate 4 false
+unfolding digits
+no_selects_elsewhere = refl

@@ -1,5 +1,5 @@
 -- The topology of settings that fit and that no fault names is sound.
-use Rattle.std.proofs.Common.{◌≡◌, ℕ, suc, ◌+◌, ◌-◌, ◌*◌, ◌%◌, ◌≤◌, Bool, true, false, not, ◌&&◌, ◌||◌, ◌==◌, nat_le, nat_lt, codes, List, [], ◌∷◌, ◌++◌, length, Option, Some, None, is_some, is_none, refl, ap, sym, ◌∙◌, arith, length-append}
+use Rattle.std.proofs.Common.{◌≡◌, ℕ, suc, ◌+◌, ◌-◌, ◌*◌, ◌%◌, ◌≤◌, Bool, true, false, not, ◌&&◌, ◌||◌, ◌==◌, nat_le, nat_lt, codes, map, List, [], ◌∷◌, ◌++◌, length, Option, Some, None, is_some, is_none, refl, ap, sym, ◌∙◌, arith, length-append}
 use Rattle.std.proofs.lemmas.Bool.{eq-eqb, and_parts, le-leb, leb-true}
 use Rattle.std.proofs.lemmas.Bool.Decides.{nat_tests}
 use Rattle.std.specs.List.{list_all}
@@ -13,11 +13,11 @@ use Rattle.config_settings.specs.declared.settings.SupervisorSettings.{Superviso
 use Rattle.config_settings.specs.declared.settings.BatcherSettings.{BatcherSettings}
 use Rattle.config_settings.specs.declared.settings.Settings.{Settings}
 use Rattle.config_judge.specs.Judge.{faults_in, duplicate_names, duplicates_with, routes_with, group_faults, bad_dispatches, unreachable_with, lacks_stage, stage_count, processor_count, supervisor_count, batcher_names, producer_names, processor_routes, supervisor_routes, batcher_routes, fault_if}
-use Rattle.config_build.specs.Build.{topology_in, stages_of, partition_field, producer_stages, processor_stages, supervisor_stages, batcher_stages, batch_processor_stages}
-use Rattle.pipe_config.specs.Fit.{IsFit, producer_fits, processors_fit, supervisor_fits, batcher_fits, demand_fits, handler_fits, field_fits}
+use Rattle.config_build.specs.Build.{topology_in, stages_of, partition_field, places, producer_stages, processor_stage, processor_stages, supervisor_stages, batcher_stages, batch_processor_stage, batch_processor_stages}
+use Rattle.pipe_config.specs.Fit.{IsFit, producer_fits, processors_fit, supervisor_fits, batches_fit, selects_fit, batcher_fits, demand_fits, handler_fits, field_fits}
 use Rattle.pipe_config.proofs.Groups.{AllRole, role_producers, role_processors, role_supervisors, role_batchers, role_batch_processors, length-producers, length-processors, length-supervisors, length-batchers, length-batch_processors, five_producers, five_processors, five_batchers}
 use Rattle.pipe_config.proofs.Order.{IsEnough, stages_are_ordered}
-use Rattle.pipe_config.proofs.Named.{both, all_append, named_producers, named_processors, named_supervisors, named_batchers, named_batch_processors, found_batchers, find_other}
+use Rattle.pipe_config.proofs.Named.{both, all_map, all_append, named_producers, named_processors, named_supervisors, named_batchers, named_batch_processors, found_batchers, find_other}
 use Rattle.pipe_config.proofs.Distinct.{no_fault, nothing_left, names_are_distinct}
 use Rattle.pipe_config.proofs.Rules.{rules_fit}
 use Rattle.pipe_config.proofs.Fields.{FieldFits, ProcessorRules, SupervisorRules, producer_fields, processor_fields, supervisor_fields, batcher_fields, member_fields, counted_batchers, none_of}
@@ -38,7 +38,7 @@ abbrev batcher_rest : BatcherSettings → Bool
 batcher_rest b = (is_between 1 10000 b.batch_size && is_between 1 3600000 b.batch_timeout) && (demand_fits 10000 b.demand && handler_fits b.handler)
 
 batcher_front : (b : BatcherSettings) → batcher_fits b ≡ true → (is_name b.name ≡ true) × (is_between 1 16 b.concurrency ≡ true)
-batcher_front b h = and_parts (is_name b.name) (is_between 1 16 b.concurrency) (and_parts (is_name b.name && is_between 1 16 b.concurrency) (batcher_rest b) h).0
+batcher_front b h = and_parts (is_name b.name) (is_between 1 16 b.concurrency) (and_parts (is_name b.name && is_between 1 16 b.concurrency) (batcher_rest b) (and_parts (batches_fit b) (selects_fit b) h).0).0
 
 batcher_names_fit : (bs : List BatcherSettings) → list_all batcher_fits bs ≡ true → list_all (λ b. is_name b.name) bs ≡ true
 batcher_names_fit [] h = refl
@@ -173,12 +173,52 @@ count_fits s few =
     )
     (omega arith)
 
+-- the one limit is each stage's
+
+abbrev has_first : StageSpec → Bool
+has_first s = nat_lt s.limit 1
+
+first_producers : (field : Option ℕ) (n i : ℕ) (ps : List ProducerSettings) → list_all has_first (producer_stages field n i ps) ≡ true
+first_producers field n i [] = refl
+first_producers field n i (p ∷ ps) = first_producers field n (i + 1) ps
+
+first_processors : (known : List (List ℕ)) (first : ℕ) (q : Option ProcessorSettings) → list_all has_first (processor_stages known first q) ≡ true
+first_processors known first None = refl
+first_processors known first (Some q) = all_map has_first (processor_stage known q first) (places 0 q.concurrency) (λ i. refl)
+
+first_supervisors : (first : ℕ) (s : Option SupervisorSettings) → list_all has_first (supervisor_stages first s) ≡ true
+first_supervisors first None = refl
+first_supervisors first (Some s) = refl
+
+first_batchers : (second i : ℕ) (bs : List BatcherSettings) → list_all has_first (batcher_stages second i bs) ≡ true
+first_batchers second i [] = refl
+first_batchers second i (b ∷ bs) = first_batchers second (i + 1) bs
+
+first_members : (before k : ℕ) (bs : List BatcherSettings) → list_all has_first (batch_processor_stages before k bs) ≡ true
+first_members before k [] = refl
+first_members before k (b ∷ bs) =
+    all_append has_first (map (batch_processor_stage k b before) (places 0 b.concurrency)) (batch_processor_stages (before + b.concurrency) (k + 1) bs)
+    (all_map has_first (batch_processor_stage k b before) (places 0 b.concurrency) (λ i. refl)) (first_members (before + b.concurrency) (k + 1) bs)
+
+first_stages : (s : Settings) → list_all has_first (stages_of s) ≡ true
+first_stages s =
+    let known : List (List ℕ) = batcher_names s.batchers in
+    let first : ℕ = length s.producers in
+    let second : ℕ = first + processor_count s.processors + supervisor_count s.supervisor in
+    let ps : List StageSpec = producer_stages (partition_field s.processors) (processor_count s.processors) 0 s.producers in
+    let cs : List StageSpec = processor_stages known first s.processors in
+    let ss : List StageSpec = supervisor_stages first s.supervisor in
+    let bs : List StageSpec = batcher_stages second 0 s.batchers in
+    let ds : List StageSpec = batch_processor_stages (second + length s.batchers) 0 s.batchers in
+    five_all has_first ps cs ss bs ds (first_producers (partition_field s.processors) (processor_count s.processors) 0 s.producers) (first_processors known first s.processors)
+    (first_supervisors first s.supervisor) (first_batchers second 0 s.batchers) (first_members (second + length s.batchers) 0 s.batchers)
+
 settings_fit : (s : Settings) → IsFit s → are_settings (topology_in s) ≡ true
 settings_fit s fit =
     let (restarts, others) = and_parts (nat_le s.max_restarts 1000 && is_between 1 3600 s.max_seconds) (nat_le s.idle_limit 1000000 && is_control s.control) fit.pipeline in
     let (most, seconds) = and_parts (nat_le s.max_restarts 1000) (is_between 1 3600 s.max_seconds) restarts in
     let (idle, control) = and_parts (nat_le s.idle_limit 1000000) (is_control s.control) others in
-    both (both most (window_fits s.max_seconds seconds)) (both (both idle control) refl)
+    both (both (both (both most (window_fits s.max_seconds seconds)) refl) (first_stages s)) (both (both idle control) refl)
 
 pub built_is_sound : (s : Settings) → IsFit s → faults_in s ≡ [] → IsSound (topology_in s)
 built_is_sound s fit h =
@@ -226,7 +266,7 @@ built_is_sound s fit h =
       in_range = five_all (has_fields all) ps cs ss bs ds (producer_fields all field n 0 s.producers processors_count (partition_fits s.processors fit.processors) fit.producers)
           (processor_fields all known first s.processors known_count fit.processors (processor_rules known s.processors fit.processors processor_straight))
           (supervisor_fields all first s.supervisor fit.supervisor (supervisor_rules s.supervisor fit.supervisor supervisor_straight))
-          (batcher_fields all second 0 s.batchers counted fit.batchers) (member_fields all third 0 s.batchers fit.batchers batcher_straight);
+          (batcher_fields all second 0 s.batchers counted fit.batchers) (member_fields all second third 0 s.batchers found fit.batchers batcher_straight);
       reached = rw batchers_are (reached all known first second s.processors s.supervisor s.batchers is_enough processors_are unreached);
       settings = settings_fit s fit;
     }

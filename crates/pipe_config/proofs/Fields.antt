@@ -4,21 +4,22 @@ use Rattle.std.proofs.lemmas.Bool.{eq-eqb, and_parts, le-leb, leb-true}
 use Rattle.std.proofs.lemmas.Bool.Decides.{nat_tests}
 use Rattle.std.proofs.lemmas.List.Elements.{filter-append}
 use Rattle.std.specs.List.{list_all}
+use Rattle.std.specs.Prelude.{slice_get, is_none}
 use Rattle.pipe_types.specs.declared.topology.StageSpec.{StageSpec}
 use Rattle.pipe_types.specs.declared.topology.Role.{Role}
 use Rattle.pipe_types.specs.declared.topology.Dispatch.{Dispatch}
 use Rattle.pipe_types.specs.declared.topology.Dispatch.TheVariants.{Demand, Broadcast, Partition}
-use Rattle.pipe_types.specs.Sound.{has_fields, is_name, processors, batchers, batch_processors, is_batch_processor, by_demand, by_broadcast, by_partition, is_between, are_rules, is_reason, is_lines}
+use Rattle.pipe_types.specs.Sound.{has_fields, is_name, processors, batchers, batch_processors, is_batch_processor, batcher_at, is_broadcaster, by_demand, by_broadcast, by_partition, is_between, are_rules, is_reason, is_lines}
 use Rattle.config_settings.specs.declared.settings.ProducerSettings.{ProducerSettings}
 use Rattle.config_settings.specs.declared.settings.ProcessorSettings.{ProcessorSettings}
 use Rattle.config_settings.specs.declared.settings.SupervisorSettings.{SupervisorSettings}
 use Rattle.config_settings.specs.declared.settings.BatcherSettings.{BatcherSettings}
 use Rattle.config_judge.specs.Judge.{batcher_route, batcher_routes}
-use Rattle.config_build.specs.Build.{producer_stage, producer_stages, places, processor_stage, processor_stages, supervisor_stages, batcher_stage, batcher_stages, batch_processor_stage, batch_processor_stages, dispatch_to, rules_of}
+use Rattle.config_build.specs.Build.{producer_stage, producer_stages, places, processor_stage, processor_stages, supervisor_stages, batcher_stage, batcher_stages, batch_processor_stage, batch_processor_stages, dispatch_to, rules_of, select_at}
 use Rattle.config_table.specs.Fault.{under, at_place}
-use Rattle.pipe_config.specs.Fit.{demand_fits, handler_fits, producer_fits, field_fits, processors_fit, supervisor_fits, batcher_fits}
+use Rattle.pipe_config.specs.Fit.{demand_fits, handler_fits, producer_fits, field_fits, processors_fit, supervisor_fits, are_selectors, is_broadcast, selects_fit, batches_fit, batcher_fits}
 use Rattle.pipe_config.proofs.Groups.{AllRole, length-places}
-use Rattle.pipe_config.proofs.Named.{both, all_append}
+use Rattle.pipe_config.proofs.Named.{both, all_append, AllFound}
 use Rattle.pipe_config.proofs.Rules.{rules_fit}
 use Rattle.pipe_config.proofs.Distinct.{nothing_left}
 
@@ -157,7 +158,7 @@ dispatches_well all second i b (Some Partition) e count some = rw (e, count, som
 
 one_batcher : (all : List StageSpec) (second i : ℕ) (b : BatcherSettings) → length (batch_processors i all) ≡ b.concurrency → batcher_fits b ≡ true → has_fields all (batcher_stage second i b) ≡ true
 one_batcher all second i b count h =
-    let (first, others) = and_parts (is_name b.name && is_between 1 16 b.concurrency) ((is_between 1 10000 b.batch_size && is_between 1 3600000 b.batch_timeout) && (demand_fits 10000 b.demand && handler_fits b.handler)) h in
+    let (first, others) = and_parts (is_name b.name && is_between 1 16 b.concurrency) ((is_between 1 10000 b.batch_size && is_between 1 3600000 b.batch_timeout) && (demand_fits 10000 b.demand && handler_fits b.handler)) (and_parts (batches_fit b) (selects_fit b) h).0 in
     let (name, size) = and_parts (is_name b.name) (is_between 1 16 b.concurrency) first in
     let (batching, rest) = and_parts (is_between 1 10000 b.batch_size && is_between 1 3600000 b.batch_timeout) (demand_fits 10000 b.demand && handler_fits b.handler) others in
     let (demand, handler) = and_parts (demand_fits 10000 b.demand) (handler_fits b.handler) rest in
@@ -172,15 +173,43 @@ batcher_fields all second i (b ∷ bs) count h =
 
 -- ---- batch processors
 
-one_member : (all : List StageSpec) (k : ℕ) (b : BatcherSettings) (before i : ℕ) → nat_lt i 16 ≡ true → are_rules 0 (rules_of [] b.handler.steps) ≡ true → is_reason b.handler.failed ≡ true → has_fields all (batch_processor_stage k b before i) ≡ true
-one_member all k b before i place rules failed = both (both (both place refl) (both rules failed)) refl
+short_at : (texts : List (List ℕ)) (i : ℕ) → list_all (λ text. nat_le (length text) 4096) texts ≡ true → nat_le (length (unwrap_or (slice_get texts i) [])) 4096 ≡ true
+short_at [] i h = refl
+short_at (text ∷ texts) zero h = (and_parts (nat_le (length text) 4096) (list_all (λ t. nat_le (length t) 4096) texts) h).0
+short_at (text ∷ texts) (suc i) h = short_at texts i (and_parts (nat_le (length text) 4096) (list_all (λ t. nat_le (length t) 4096) texts) h).1
 
-pub member_fields : (all : List StageSpec) (before k : ℕ) (bs : List BatcherSettings) → list_all batcher_fits bs ≡ true → batcher_routes k bs ≡ [] → list_all (has_fields all) (batch_processor_stages before k bs) ≡ true
-member_fields all before k [] h routes = refl
-member_fields all before k (b ∷ bs) h routes =
+either_true : (a : Bool) {b : Bool} → b ≡ true → (a || b) ≡ true
+either_true true h = refl
+either_true false h = h
+
+-- the batcher broadcasts where its settings say so
+casts : (second k : ℕ) (b : BatcherSettings) (d : Option Dispatch) → b.dispatch ≡ d → is_broadcast d ≡ true → is_broadcaster (Some (batcher_stage second k b)) ≡ true
+casts second k b None e h = cc
+casts second k b (Some Demand) e h = cc
+casts second k b (Some Broadcast) e h = rw e refl
+casts second k b (Some Partition) e h = cc
+
+-- what its batch processors select
+selects_well : (all : List StageSpec) (second k : ℕ) (b : BatcherSettings) (texts : Option (List (List ℕ))) (i : ℕ) → b.select ≡ texts → batcher_at all k ≡ Some (batcher_stage second k b)
+    → are_selectors texts ≡ true → (is_none texts || is_broadcast b.dispatch) ≡ true
+    → (nat_le (length (select_at texts i)) 4096 && ((length (select_at texts i) == 0) || is_broadcaster (batcher_at all k))) ≡ true
+selects_well all second k b None i e found short where_cast = refl
+selects_well all second k b (Some texts) i e found short where_cast =
+    both (short_at texts i short)
+    (either_true (length (select_at (Some texts) i) == 0) (ap is_broadcaster found ∙ casts second k b b.dispatch refl where_cast))
+
+one_member : (all : List StageSpec) (second k : ℕ) (b : BatcherSettings) (before i : ℕ) → batcher_at all k ≡ Some (batcher_stage second k b) → selects_fit b ≡ true → nat_lt i 16 ≡ true → are_rules 0 (rules_of [] b.handler.steps) ≡ true → is_reason b.handler.failed ≡ true
+    → has_fields all (batch_processor_stage k b before i) ≡ true
+one_member all second k b before i found select place rules failed =
+    let (short, cast) = and_parts (are_selectors b.select) (is_none b.select || is_broadcast b.dispatch) select in
+    both (both (both place refl) (both (both rules (selects_well all second k b b.select i refl found short cast)) failed)) refl
+
+pub member_fields : (all : List StageSpec) (second before k : ℕ) (bs : List BatcherSettings) → AllFound all second k bs → list_all batcher_fits bs ≡ true → batcher_routes k bs ≡ [] → list_all (has_fields all) (batch_processor_stages before k bs) ≡ true
+member_fields all second before k [] found h routes = refl
+member_fields all second before k (b ∷ bs) found h routes =
     let (here, more) = and_parts (batcher_fits b) (list_all batcher_fits bs) h in
     let (straight, later) = nothing_left (batcher_route k b) (batcher_routes (k + 1) bs) routes in
-    let (first, others) = and_parts (is_name b.name && is_between 1 16 b.concurrency) ((is_between 1 10000 b.batch_size && is_between 1 3600000 b.batch_timeout) && (demand_fits 10000 b.demand && handler_fits b.handler)) here in
+    let (first, others) = and_parts (is_name b.name && is_between 1 16 b.concurrency) ((is_between 1 10000 b.batch_size && is_between 1 3600000 b.batch_timeout) && (demand_fits 10000 b.demand && handler_fits b.handler)) (and_parts (batches_fit b) (selects_fit b) here).0 in
     let (name, size) = and_parts (is_name b.name) (is_between 1 16 b.concurrency) first in
     let (batching, rest) = and_parts (is_between 1 10000 b.batch_size && is_between 1 3600000 b.batch_timeout) (demand_fits 10000 b.demand && handler_fits b.handler) others in
     let (demand, handler) = and_parts (demand_fits 10000 b.demand) (handler_fits b.handler) rest in
@@ -188,5 +217,5 @@ member_fields all before k (b ∷ bs) h routes =
     let most : b.concurrency ≤ 16 = leb-true b.concurrency 16 (and_parts (nat_le 1 b.concurrency) (nat_le b.concurrency 16) size).1 in
     let rules : are_rules 0 (rules_of [] b.handler.steps) ≡ true = rules_fit (under (at_place (codes "batcher") k) (codes "steps")) [] b.handler.steps straight few in
     all_append (has_fields all) (map (batch_processor_stage k b before) (places 0 b.concurrency)) (batch_processor_stages (before + b.concurrency) (k + 1) bs)
-    (all_places (has_fields all) (batch_processor_stage k b before) b.concurrency 0 16 (omega arith) (λ i below. one_member all k b before i (lt_true i 16 below) rules failed))
-    (member_fields all (before + b.concurrency) (k + 1) bs more later)
+    (all_places (has_fields all) (batch_processor_stage k b before) b.concurrency 0 16 (omega arith) (λ i below. one_member all second k b before i found.0 (and_parts (batches_fit b) (selects_fit b) here).1 (lt_true i 16 below) rules failed))
+    (member_fields all second (before + b.concurrency) (k + 1) bs found.1 more later)

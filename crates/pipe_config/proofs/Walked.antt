@@ -1,5 +1,5 @@
 -- What the walk of a file without faults says of its values.
-use Rattle.std.proofs.Common.{◌≡◌, ℕ, zero, suc, ◌+◌, ◌-◌, ◌/◌, ◌<◌, ◌≤◌, ℤ, pos, negsuc, Bool, true, false, not, cond, nat_le, nat_lt, List, [], ◌∷◌, ◌++◌, length, flat_map, Option, Some, None, option_map, option_and_then, unwrap_or, Ordering, Less, Equal, Greater, nat_cmp, refl, ap, sym, ◌∙◌, subst, arith}
+use Rattle.std.proofs.Common.{◌≡◌, ℕ, zero, suc, ◌+◌, ◌-◌, ◌/◌, ◌<◌, ◌≤◌, ℤ, pos, negsuc, Bool, true, false, not, cond, nat_le, nat_lt, List, [], ◌∷◌, ◌++◌, length, flat_map, Option, Some, None, option_map, option_and_then, unwrap_or, Ordering, Less, Equal, Greater, nat_cmp, refl, ap, sym, ◌∙◌, subst, arith, ◌&&◌, ◌||◌, ◌==◌, codes, is_none}
 use Rattle.std.proofs.lemmas.Bool.{and_parts, le-leb, leb-true}
 use Rattle.std.proofs.lemmas.Bool.Decides.{nat_tests}
 use Rattle.std.proofs.lemmas.Map.Text.{is_eq-slice_cmp}
@@ -14,21 +14,21 @@ use Rattle.config_table.specs.declared.format.Key.{Key}
 use Rattle.config_table.specs.declared.format.Key.TheVariants as key
 use Rattle.config_table.specs.declared.format.Range.{Range}
 use Rattle.config_table.specs.declared.format.Row.{Row}
-use Rattle.config_table.specs.declared.format.Form.TheVariants.{Text, RuleTexts}
+use Rattle.config_table.specs.declared.format.Form.TheVariants.{Text, RuleTexts, SelectTexts}
 use Rattle.config_table.specs.declared.format.Shape.TheVariants as shape
 use Rattle.config_table.specs.declared.format.Section.{Section}
 use Rattle.config_table.specs.declared.format.Section.TheVariants as section
 use Rattle.config_table.specs.Fault.{least, sooner, at_place, number_of}
 use Rattle.config_table.specs.Format as format
 use Rattle.config_table.specs.Format.{key_name, value_at, number, given, given_number, or_default, rows, row, required_row}
-use Rattle.config_table.specs.Values.{item_count, flaw_faults, text_flaw, rules_flaw, inner_faults}
+use Rattle.config_table.specs.Values.{item_count, item_faults, items_faults, flaw_faults, text_flaw, rules_flaw, select_flaw, inner_faults}
 use Rattle.config_table.specs.Shape.{fits}
 use Rattle.config_table.specs.declared.format.Shape.{Shape}
 use Rattle.config_table.specs.declared.value.Flaw.TheVariants.{OutOfRange}
 use Rattle.config_table.specs.Walk.{held_faults, row_faults, rows_faults, unknown_keys, table_faults, each_faults, array_faults, top_faults, faults_of}
 use Rattle.config_settings.specs.Settings as settings
 use Rattle.config_settings.specs.Settings.{texts_in, text_before, table_at, array_at, settings_of, producers_in, producers_at, batchers_in, batchers_at, producer_of, processors_of, supervisor_of, batcher_of, reason_of, kind_of, demand_of, pipeline_number}
-use Rattle.pipe_config.specs.Fit.{IsFit, demand_fits, producer_fits, field_fits, processors_fit, supervisor_fits, batcher_fits}
+use Rattle.pipe_config.specs.Fit.{IsFit, demand_fits, producer_fits, field_fits, processors_fit, supervisor_fits, are_selectors, is_broadcast, selects_fit, batcher_fits}
 use Rattle.pipe_config.proofs.Named.{both}
 use Rattle.pipe_config.proofs.Distinct.{nothing_left}
 
@@ -199,14 +199,57 @@ supervisor_clear path t h =
 wider : (n : ℕ) → is_between 1 10000 n ≡ true → is_between (format.range 1 10000 n).low (format.range 1 10000 n).high (format.range 1 10000 n).default ≡ true
 wider n h = h
 
+-- selectors
+
+short_items : (path : List ℕ) (i : ℕ) (items : Items) → item_faults path shape.Selector i items ≡ [] → list_all (λ text. nat_le (length text) 4096) (texts_in items) ≡ true
+short_items path i no_items h = refl
+short_items path i (item d ds) h =
+    let (here, more) = nothing_left (flaw_faults (at_place path i) (text_flaw shape.Selector (as_str d))) (item_faults path shape.Selector (i + 1) ds) h in
+    one (as_str d) here (short_items path (i + 1) ds more)
+  where
+    one : (o : Option (List ℕ)) → flaw_faults (at_place path i) (text_flaw shape.Selector o) ≡ [] → list_all (λ text. nat_le (length text) 4096) (texts_in ds) ≡ true
+        → list_all (λ text. nat_le (length text) 4096) (text_before o (texts_in ds)) ≡ true
+    one None h rest = rest
+    one (Some text) h rest = fitting (nat_le (length text) 4096) refl h
+      where
+        fitting : (b : Bool) → nat_le (length text) 4096 ≡ b → flaw_faults (at_place path i) (cond b None (Some OutOfRange)) ≡ [] → (nat_le (length text) 4096 && list_all (λ t. nat_le (length t) 4096) (texts_in ds)) ≡ true
+        fitting true e k = both e rest
+        fitting false e k = cc
+
+cast_given : (o : Option (List ℕ)) → format.is_broadcast_word o ≡ true → is_broadcast (settings.given_dispatch o) ≡ true
+cast_given None h = cc
+cast_given (Some word) h = (let same : word ≡ codes "broadcast" = (bytes_eq-Decides word (codes "broadcast")).0 h in rw same refl)
+
+selects_clear : (path : List ℕ) (n : ℕ) (t : Members) (o : Option Data) → value_at key.Select t ≡ o → held_faults path (row key.Select (SelectTexts n (format.does_broadcast t))) o ≡ [] → selects_fit (batcher_of t) ≡ true
+selects_clear path n t None e h = rw e refl
+selects_clear path n t (Some d) e h =
+    let (own, inner) = nothing_left (flaw_faults path (select_flaw n (format.does_broadcast t) (as_array d))) (items_faults path shape.Selector (as_array d)) h in
+    by (as_array d) refl own inner
+  where
+    by : (u : Option Items) → as_array d ≡ u → flaw_faults path (select_flaw n (format.does_broadcast t) u) ≡ [] → items_faults path shape.Selector u ≡ [] → selects_fit (batcher_of t) ≡ true
+    by None f own inner = cc
+    by (Some items) f own inner = fitting (item_count items == n && format.does_broadcast t) refl own
+      where
+        is : settings.texts_at key.Select t ≡ Some (texts_in items)
+        is = ap (λ (x : Option Data). option_map texts_in (option_and_then as_array x)) e ∙ ap (option_map texts_in) f
+
+        fitting : (b : Bool) → (item_count items == n && format.does_broadcast t) ≡ b → flaw_faults path (cond b None (Some OutOfRange)) ≡ [] → selects_fit (batcher_of t) ≡ true
+        fitting true k clear =
+            let cast : format.does_broadcast t ≡ true = (and_parts (item_count items == n) (format.does_broadcast t) k).1 in
+            subst (λ (ts : Option (List (List ℕ))). (are_selectors ts && (is_none ts || is_broadcast (settings.given_dispatch (settings.text_at key.Dispatch t)))) ≡ true) (sym is)
+            (both (short_items path 0 items inner) (cast_given (settings.text_at key.Dispatch t) cast))
+        fitting false k clear = cc
+
 batcher_clear : (path : List ℕ) (t : Members) → rows_faults path (rows section.Batcher t) t ≡ [] → batcher_fits (batcher_of t) ≡ true
 batcher_clear path t h =
     let clear : RowsClear path t (rows section.Batcher t) = table_clear path t (rows section.Batcher t) h in
     let size : is_between 1 10000 (number format.batch_size key.BatchSize t) ≡ true = number_between format.batch_size key.BatchSize t refl in
-    both (both (name_clear _ (value_at key.Name t) clear.1.1.1.1.1.1.1.1.1.0) (number_between format.batcher_concurrency key.Concurrency t refl))
+    both
+    (both (both (name_clear _ (value_at key.Name t) clear.1.1.1.1.1.1.1.1.1.0) (number_between format.batcher_concurrency key.Concurrency t refl))
     (both (both size (number_between format.batch_timeout key.BatchTimeout t refl))
     (both (demand_given (format.batcher_max t) 10000 t refl refl (wider (number format.batch_size key.BatchSize t) size))
-    (both (steps_clear _ (value_at key.Steps t) clear.1.1.1.1.1.1.1.1.1.1.1.0) (reason_given (settings.text_at key.Failed t)))))
+    (both (steps_clear _ (value_at key.Steps t) clear.1.1.1.1.1.1.1.1.1.1.1.1.0) (reason_given (settings.text_at key.Failed t))))))
+    (selects_clear _ (number format.batcher_concurrency key.Concurrency t) t (value_at key.Select t) refl clear.1.1.1.1.1.1.1.1.1.1.0)
 
 producers_clear : (path : List ℕ) (i : ℕ) (items : Items) → each_faults section.Producer path i items ≡ [] → list_all producer_fits (producers_in items) ≡ true
 producers_clear path i no_items h = refl

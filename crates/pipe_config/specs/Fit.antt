@@ -1,6 +1,8 @@
 -- Settings in the ranges of the format.
-use Rattle.std.specs.Prelude.{ℕ, Bool, true, not, ◌&&◌, nat_le, nat_lt, IsTrue, length, Option, Some, None}
+use Rattle.std.specs.Prelude.{ℕ, Bool, true, false, not, ◌&&◌, ◌||◌, nat_le, nat_lt, IsTrue, length, List, Option, Some, None, is_none}
 use Rattle.std.specs.List.{list_all}
+use Rattle.pipe_types.specs.declared.topology.Dispatch.{Dispatch}
+use Rattle.pipe_types.specs.declared.topology.Dispatch.TheVariants.{Broadcast}
 use Rattle.pipe_types.specs.Sound.{is_between, is_name, is_reason, is_lines, is_control}
 use Rattle.config_settings.specs.declared.settings.Demand.{Demand}
 use Rattle.config_settings.specs.declared.settings.Handler.{Handler}
@@ -31,8 +33,25 @@ abbrev pub supervisor_fits : Option SupervisorSettings → Bool
 supervisor_fits None = true
 supervisor_fits (Some s) = demand_fits 16 s.demand && (not (is_lines s.handler.kind) && handler_fits s.handler)
 
+-- selectors of at most 4096 bytes
+abbrev pub are_selectors : Option (List (List ℕ)) → Bool
+are_selectors None = true
+are_selectors (Some texts) = list_all (λ text. nat_le (length text) 4096) texts
+
+abbrev pub is_broadcast : Option Dispatch → Bool
+is_broadcast (Some Broadcast) = true
+is_broadcast _ = false
+
+-- and none where the batcher does not broadcast
+abbrev pub selects_fit : BatcherSettings → Bool
+selects_fit b = are_selectors b.select && (is_none b.select || is_broadcast b.dispatch)
+
+-- what a batcher has besides its selectors
+abbrev pub batches_fit : BatcherSettings → Bool
+batches_fit b = (is_name b.name && is_between 1 16 b.concurrency) && ((is_between 1 10000 b.batch_size && is_between 1 3600000 b.batch_timeout) && (demand_fits 10000 b.demand && handler_fits b.handler))
+
 abbrev pub batcher_fits : BatcherSettings → Bool
-batcher_fits b = (is_name b.name && is_between 1 16 b.concurrency) && ((is_between 1 10000 b.batch_size && is_between 1 3600000 b.batch_timeout) && (demand_fits 10000 b.demand && handler_fits b.handler))
+batcher_fits b = batches_fit b && selects_fit b
 
 abbrev pub pipeline_fits : Settings → Bool
 pipeline_fits s = (nat_le s.max_restarts 1000 && is_between 1 3600 s.max_seconds) && (nat_le s.idle_limit 1000000 && is_control s.control)

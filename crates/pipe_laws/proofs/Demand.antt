@@ -11,12 +11,10 @@ use Rattle.pipe_types.specs.declared.numbers.SubNo.{SubNo}
 use Rattle.pipe_types.specs.declared.room.Room.{Room}
 use Rattle.pipe_types.specs.declared.room.Sent.{Sent as SentUnit}
 use Rattle.pipe_types.specs.declared.topology.Topology.{Topology}
-use Rattle.pipe_types.specs.declared.topology.Dispatch.{Dispatch as DispatchKind}
-use Rattle.pipe_types.specs.declared.topology.Dispatch.TheVariants.{Demand, Broadcast, Partition}
 use Rattle.pipe_types.specs.declared.step.Step.{Step}
 use Rattle.pipe_types.specs.declared.step.Step.TheVariants.{Ask, Dispatch}
 use Rattle.pipe_types.specs.Numbers.{same_sub}
-use Rattle.pipe_types.specs.Dispatchers.{ahead, goes, on_each, sends_from, sends}
+use Rattle.pipe_types.specs.Dispatchers.{Serving, ByDemand, ByBroadcast, ByPartition, ahead, fit_all, goes, on_each, sends_from, sends}
 use Rattle.pipe_types.specs.Stages.{spec_of}
 use Rattle.pipe_model.specs.History.{History, asked, asked_after}
 use Rattle.pipe_model.specs.Lives.{live_subs}
@@ -89,7 +87,7 @@ pub record Counts (rule : List ℕ → ℕ → Bool) (count : List ℕ → ℕ) 
   pub one_more : (earlier : List ℕ) (part : ℕ) → rule earlier part ≡ true → count earlier + 1 ≤ count (part ∷ earlier)
 
 -- where the rule counts up to a cap, no more than that is sent on the room's subscription
-sends_within : (kind : DispatchKind) (low : ℕ) (rooms : List Room) (u : SubNo) (r : Room) (count : List ℕ → ℕ) (cap : ℕ) → RoomsAscendFrom low rooms → room_of rooms u ≡ Some r → Counts (λ earlier part. goes kind rooms earlier part r) count cap → (earlier : List ℕ) (units : List (ℕ × ℕ)) → count_on (sends_from kind rooms earlier units) u ≤ cap - count earlier
+sends_within : (kind : Serving) (low : ℕ) (rooms : List Room) (u : SubNo) (r : Room) (count : List ℕ → ℕ) (cap : ℕ) → RoomsAscendFrom low rooms → room_of rooms u ≡ Some r → Counts (λ earlier part. goes kind rooms earlier part r) count cap → (earlier : List ℕ) (units : List (ℕ × ℕ)) → count_on (sends_from kind rooms earlier units) u ≤ cap - count earlier
 sends_within kind low rooms u r count cap ascend is counts earlier [] = omega arith
 sends_within kind low rooms u r count cap ascend is counts earlier (unit ∷ units) =
     let each : count_on (on_each unit.0 (filter (goes kind rooms earlier unit.1) rooms)) u ≡ as_number (goes kind rooms earlier unit.1 r) =
@@ -102,7 +100,7 @@ sends_within kind low rooms u r count cap ascend is counts earlier (unit ∷ uni
     either true sends each sum rest = omega (arith, counts.below earlier unit.1 sends, counts.one_more earlier unit.1 sends)
     either false stays each sum rest = omega (arith, counts.grows earlier unit.1)
 
-sends_none : (kind : DispatchKind) (low : ℕ) (rooms : List Room) (u : SubNo) → RoomsAscendFrom low rooms → room_of rooms u ≡ None → (earlier : List ℕ) (units : List (ℕ × ℕ)) → count_on (sends_from kind rooms earlier units) u ≡ 0
+sends_none : (kind : Serving) (low : ℕ) (rooms : List Room) (u : SubNo) → RoomsAscendFrom low rooms → room_of rooms u ≡ None → (earlier : List ℕ) (units : List (ℕ × ℕ)) → count_on (sends_from kind rooms earlier units) u ≡ 0
 sends_none kind low rooms u ascend is earlier [] = refl
 sends_none kind low rooms u ascend is earlier (unit ∷ units) =
     let each : count_on (on_each unit.0 (filter (goes kind rooms earlier unit.1) rooms)) u ≡ 0 =
@@ -112,7 +110,7 @@ sends_none kind low rooms u ascend is earlier (unit ∷ units) =
     count_on-append _ (sends_from kind rooms (unit.1 ∷ earlier) units) u in
     omega arith
 
-demand_counts : (rooms : List Room) (r : Room) → Counts (λ earlier part. goes Demand rooms earlier part r) (λ earlier. length earlier - ahead rooms r) r.left
+demand_counts : (rooms : List Room) (r : Room) → Counts (λ earlier part. goes ByDemand rooms earlier part r) (λ earlier. length earlier - ahead rooms r) r.left
 demand_counts rooms r = window (ahead rooms r) r.left
   where
     window : (a left : ℕ) → Counts (λ earlier part. nat_le a (length earlier) && nat_lt (length earlier) (a + left)) (λ earlier. length earlier - a) left
@@ -123,50 +121,59 @@ demand_counts rooms r = window (ahead rooms r) r.left
           one_more = λ earlier n h. grind (arith, nat_tests);
         }
 
-every_room : (rooms : List Room) (u : SubNo) (r : Room) (j : ℕ) → room_of rooms u ≡ Some r → list_all (λ v. nat_lt j v.left) rooms ≡ true → nat_lt j r.left ≡ true
-every_room [] u r j is every = cc
-every_room (v ∷ rooms) u r j is every =
-    either (same_sub v.sub u) is (and_left (nat_lt j v.left) _ every) (λ later. every_room rooms u r j later (and_right (nat_lt j v.left) _ every))
+-- what every room of the list passes, the subscription's own room passes
+every_room : (test : Room → Bool) (rooms : List Room) (u : SubNo) (r : Room) → room_of rooms u ≡ Some r → list_all test rooms ≡ true → test r ≡ true
+every_room test [] u r is every = cc
+every_room test (v ∷ rooms) u r is every =
+    either (same_sub v.sub u) is (and_left (test v) _ every) (λ later. every_room test rooms u r later (and_right (test v) _ every))
   where
-    either : (b : Bool) → (if b then Some v else room_of rooms u) ≡ Some r → nat_lt j v.left ≡ true → (room_of rooms u ≡ Some r → nat_lt j r.left ≡ true) → nat_lt j r.left ≡ true
-    either true is here rest = let same : v ≡ r = cc in subst (λ w. nat_lt j w.left ≡ true) same here
+    either : (b : Bool) → (if b then Some v else room_of rooms u) ≡ Some r → test v ≡ true → (room_of rooms u ≡ Some r → test r ≡ true) → test r ≡ true
+    either true is here rest = let same : v ≡ r = cc in subst (λ w. test w ≡ true) same here
     either false is here rest = rest is
 
 lt_by : (j r : ℕ) → nat_lt j r ≡ true → j < r
 lt_by j r h = grind (arith, nat_tests)
 
-broadcast_counts : (rooms : List Room) (u : SubNo) (r : Room) → room_of rooms u ≡ Some r → Counts (λ earlier part. goes Broadcast rooms earlier part r) length r.left
-broadcast_counts rooms u r is =
-    record {
-      grows = λ earlier n. omega arith;
-      below = λ earlier n h. lt_by (length earlier) r.left (every_room rooms u r (length earlier) is h);
-      one_more = λ earlier n h. omega arith;
-    }
+counted_grows : (b : Bool) (k : ℕ) → k ≤ cond b 1 0 + k
+counted_grows true k = omega arith
+counted_grows false k = omega arith
 
-partition_counts : (rooms : List Room) (r : Room) → Counts (λ earlier part. goes Partition rooms earlier part r) (count_by (λ p. p == r.part)) r.left
+counted_more : (b : Bool) (k : ℕ) → b ≡ true → k + 1 ≤ cond b 1 0 + k
+counted_more true k h = omega arith
+counted_more false k h = cc
+
+-- the units that the room's subscription picks, of which no more are served than it asked for
+broadcast_counts : (picks : ℕ → SubNo → Bool) (rooms : List Room) (u : SubNo) (r : Room) → room_of rooms u ≡ Some r → Counts (λ earlier part. goes (ByBroadcast picks) rooms earlier part r) (count_by (λ m. picks m r.sub)) r.left
+broadcast_counts picks rooms u r is =
+    record {
+      grows = λ earlier n. rw sum_by-cons (counted_grows (picks n r.sub) (count_by (λ m. picks m r.sub) earlier));
+      below = λ earlier n h.
+      le_one (picks n r.sub) (count_by (λ m. picks m r.sub) earlier) r.left (and_right (fit_all picks rooms (n ∷ earlier)) _ h)
+      (let fits : nat_le (count_by (λ m. picks m r.sub) (n ∷ earlier)) r.left ≡ true = every_room (λ v. nat_le (count_by (λ m. picks m v.sub) (n ∷ earlier)) v.left) rooms u r is (and_left (fit_all picks rooms (n ∷ earlier)) _ h) in
+      ap (λ k. nat_le k r.left) (sym (sum_by-cons (λ m. cond (picks m r.sub) 1 0) n earlier)) ∙ fits);
+      one_more = λ earlier n h. rw sum_by-cons (counted_more (picks n r.sub) (count_by (λ m. picks m r.sub) earlier) (and_right (fit_all picks rooms (n ∷ earlier)) _ h));
+    }
+  where
+    le_one : (b : Bool) (k left : ℕ) → b ≡ true → nat_le (cond b 1 0 + k) left ≡ true → k < left
+    le_one true k left e h = grind (arith, nat_tests)
+    le_one false k left e h = cc
+
+partition_counts : (rooms : List Room) (r : Room) → Counts (λ earlier part. goes ByPartition rooms earlier part r) (count_by (λ p. p == r.part)) r.left
 partition_counts rooms r =
     record {
       grows = λ earlier n. rw sum_by-cons (counted_grows (n == r.part) (count_by (λ p. p == r.part) earlier));
       below = λ earlier n h. lt_by (count_by (λ p. p == r.part) earlier) r.left (and_right (n == r.part) _ h);
       one_more = λ earlier n h. rw sum_by-cons (counted_more (n == r.part) (count_by (λ p. p == r.part) earlier) (and_left (n == r.part) _ h));
     }
-  where
-    counted_grows : (b : Bool) (k : ℕ) → k ≤ cond b 1 0 + k
-    counted_grows true k = omega arith
-    counted_grows false k = omega arith
-
-    counted_more : (b : Bool) (k : ℕ) → b ≡ true → k + 1 ≤ cond b 1 0 + k
-    counted_more true k h = omega arith
-    counted_more false k h = cc
 
 -- whichever the rule, no more than the room's open demand
-room_bound : (kind : DispatchKind) (low : ℕ) (rooms : List Room) (u : SubNo) (r : Room) (units : List (ℕ × ℕ)) → RoomsAscendFrom low rooms → room_of rooms u ≡ Some r → count_on (sends kind rooms units) u ≤ r.left
-room_bound Demand low rooms u r units ascend is = omega (arith, sends_within Demand low rooms u r _ r.left ascend is (demand_counts rooms r) [] units)
-room_bound Broadcast low rooms u r units ascend is = omega (arith, sends_within Broadcast low rooms u r _ r.left ascend is (broadcast_counts rooms u r is) [] units)
-room_bound Partition low rooms u r units ascend is = omega (arith, sends_within Partition low rooms u r _ r.left ascend is (partition_counts rooms r) [] units)
+room_bound : (kind : Serving) (low : ℕ) (rooms : List Room) (u : SubNo) (r : Room) (units : List (ℕ × ℕ)) → RoomsAscendFrom low rooms → room_of rooms u ≡ Some r → count_on (sends kind rooms units) u ≤ r.left
+room_bound ByDemand low rooms u r units ascend is = omega (arith, sends_within ByDemand low rooms u r _ r.left ascend is (demand_counts rooms r) [] units)
+room_bound (ByBroadcast picks) low rooms u r units ascend is = omega (arith, sends_within (ByBroadcast picks) low rooms u r _ r.left ascend is (broadcast_counts picks rooms u r is) [] units)
+room_bound ByPartition low rooms u r units ascend is = omega (arith, sends_within ByPartition low rooms u r _ r.left ascend is (partition_counts rooms r) [] units)
 
 -- a bound on the open demand of the subscription's room bounds what is sent on it
-pub sends_bound : (kind : DispatchKind) (low : ℕ) (rooms : List Room) (u : SubNo) (units : List (ℕ × ℕ)) (bound : ℕ) → RoomsAscendFrom low rooms → ((r : Room) → room_of rooms u ≡ Some r → r.left ≡ bound) → count_on (sends kind rooms units) u ≤ bound
+pub sends_bound : (kind : Serving) (low : ℕ) (rooms : List Room) (u : SubNo) (units : List (ℕ × ℕ)) (bound : ℕ) → RoomsAscendFrom low rooms → ((r : Room) → room_of rooms u ≡ Some r → r.left ≡ bound) → count_on (sends kind rooms units) u ≤ bound
 sends_bound kind low rooms u units bound ascend left = either (room_of rooms u) refl
   where
     either : (o : Option Room) → room_of rooms u ≡ o → count_on (sends kind rooms units) u ≤ bound

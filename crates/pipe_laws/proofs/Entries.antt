@@ -16,7 +16,7 @@ use Rattle.pipe_types.specs.Stages.{feeds, spec_of}
 use Rattle.pipe_model.specs.History.{History, closed}
 use Rattle.pipe_model.specs.Batches.{Batch, BatchPlace, AtBatcher, Sent, Dropped, Leg, batch_sent, batch_on_legs, leg_taken}
 use Rattle.pipe_model.specs.Lives.{current_sub}
-use Rattle.pipe_model.specs.Flow.{place, view_of, batch, among, is_empty, is_batcher, waits_in, batch_waits_in, sends_by, waiting_by, subs_of, dispatched, waiting_after, lost_over, delivered_to, sent_to, change_place, new_batch, next_units, closing}
+use Rattle.pipe_model.specs.Flow.{place, view_of, batch, among, is_empty, is_batcher, waits_in, batch_waits_in, alone, sends_by, waiting_by, subs_of, dispatched, waiting_after, lost_over, delivered_to, sent_to, change_place, new_batch, next_units, closing}
 use Rattle.pipe_model.specs.Content.{arrivals}
 use Rattle.pipe_model.specs.Moves.{is_final}
 use Rattle.pipe_laws.proofs.Tests.{same_stage-true, same_stage-self}
@@ -102,9 +102,9 @@ pub sent_exists : (o : Option Batch) → is_sent_batch o ≡ true → is_some o 
 sent_exists None h = h
 sent_exists (Some x) h = refl
 
-sent_again : (s : StageNo) (subs : List SubNo) (legs : List Leg) → is_sent_batch (Some (record { numbers = []; place = batch_sent s subs (Sent legs) })) ≡ true
-sent_again s [] legs = refl
-sent_again s (u ∷ subs) legs = refl
+sent_again : (s : StageNo) (is_alone : Bool) (subs : List SubNo) (legs : List Leg) → is_sent_batch (Some (record { numbers = []; place = batch_sent s is_alone subs (Sent legs) })) ≡ true
+sent_again s is_alone [] legs = refl
+sent_again s is_alone (u ∷ subs) legs = refl
 
 -- a batch that was sent stays a sent one
 pub sent_batch_after : (topology : Topology) (before : History) (step : Step) (b : ℕ) → is_sent_batch (batch topology before b) ≡ true → is_sent_batch (batch topology (step ∷ before) b) ≡ true
@@ -114,7 +114,7 @@ sent_batch_after topology before (Close s first trigger) b h =
     either : (numbers : List ℕ) (t : Bool) → (b == closed before + 1) ≡ t → b ≤ closed before → is_sent_batch (new_batch t numbers s (batch topology before b)) ≡ true
     either numbers true e below = absurd (let is : b ≡ closed before + 1 = eqb-true b _ e in omega arith)
     either numbers false e below = h
-sent_batch_after topology before (Dispatch s) b h = sent_mapped _ (sent_again s _) (batch topology before b) h
+sent_batch_after topology before (Dispatch s) b h = sent_mapped _ (sent_again s _ _) (batch topology before b) h
 sent_batch_after topology before (Take s u k) b h =
     either (among (next_units topology (view_of topology before) s u k) b) (batch topology before b) h
   where
@@ -190,7 +190,7 @@ dispatched_there topology before s n waiting somewhere =
 
     moved : (subs : List SubNo) → subs_of (sends_by topology before (view_of topology before) s) n ≡ subs → place topology (Dispatch s ∷ before) n ≡ Some (if same_stage s s then waiting_after subs (among (lost_over topology before (view_of topology before) s) n) s else Waiting s)
     moved subs e =
-        ap (option_map (dispatched (sends_by topology before (view_of topology before) s) (lost_over topology before (view_of topology before) s) s n)) (waits_here s (place topology before n) waiting)
+        ap (option_map (dispatched (sends_by topology before (view_of topology before) s) (lost_over topology before (view_of topology before) s) (alone topology before s) s n)) (waits_here s (place topology before n) waiting)
         ∙ ap (λ x. Some (if same_stage s s then waiting_after x (among (lost_over topology before (view_of topology before) s) n) s else Waiting s)) e
 
     by_subs : (subs : List SubNo) → subs_of (sends_by topology before (view_of topology before) s) n ≡ subs → Each (IsOn topology before s) subs → is_empty subs ≡ false → (u : SubNo) × IsOn topology before s u × (place topology (Dispatch s ∷ before) n ≡ Some (Inbox u))
@@ -203,12 +203,12 @@ dispatched_batch : (topology : Topology) (before : History) (s : StageNo) (n : �
 dispatched_batch topology before s n waiting somewhere =
     by_subs (subs_of (sends_by topology before (view_of topology before) s) n) (batch topology before n) somewhere waiting
   where
-    by_place : (u : SubNo) (subs : List SubNo) (numbers : List ℕ) (p : BatchPlace) → batch_waits_in s (Some (record { numbers = numbers; place = p })) ≡ true → is_sent_batch (Some (record { numbers = numbers; place = batch_sent s (u ∷ subs) p })) ≡ true
+    by_place : (u : SubNo) (subs : List SubNo) (numbers : List ℕ) (p : BatchPlace) → batch_waits_in s (Some (record { numbers = numbers; place = p })) ≡ true → is_sent_batch (Some (record { numbers = numbers; place = batch_sent s (among (alone topology before s) n) (u ∷ subs) p })) ≡ true
     by_place u subs numbers (AtBatcher t) h = rw h refl
     by_place u subs numbers (Sent legs) h = cc
     by_place u subs numbers (Dropped l) h = cc
 
-    by_subs : (subs : List SubNo) (o : Option Batch) → is_empty subs ≡ false → batch_waits_in s o ≡ true → is_sent_batch (option_map (λ x. change_place x (batch_sent s subs x.place)) o) ≡ true
+    by_subs : (subs : List SubNo) (o : Option Batch) → is_empty subs ≡ false → batch_waits_in s o ≡ true → is_sent_batch (option_map (λ x. change_place x (batch_sent s (among (alone topology before s) n) subs x.place)) o) ≡ true
     by_subs [] o h w = cc
     by_subs (u ∷ subs) None h w = cc
     by_subs (u ∷ subs) (Some x) h w = by_place u subs x.numbers x.place w

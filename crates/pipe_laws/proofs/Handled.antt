@@ -112,12 +112,16 @@ new_legs_idle u (v ∷ subs) = by_bool (same_sub u v) (new_legs_idle u subs)
     by_bool false h = h
 
 -- a batch that waited is not at work after a dispatch
-waited_idle : (s : StageNo) (subs : List SubNo) (u : SubNo) (o : Option Batch) → batch_waits_in s o ≡ true → leg_works_in u (option_map (λ x. change_place x (batch_sent s subs x.place)) o) ≡ false
-waited_idle s subs u None h = refl
-waited_idle s subs u (Some x) h = by_place subs x.place h
+waited_idle : (s : StageNo) (is_alone : Bool) (subs : List SubNo) (u : SubNo) (o : Option Batch) → batch_waits_in s o ≡ true → leg_works_in u (option_map (λ x. change_place x (batch_sent s is_alone subs x.place)) o) ≡ false
+waited_idle s is_alone subs u None h = refl
+waited_idle s is_alone subs u (Some x) h = by_place subs x.place h
   where
-    by_place : (subs : List SubNo) (p : BatchPlace) → batch_waits_in s (Some (record { numbers = []; place = p })) ≡ true → works_at u (batch_sent s subs p) ≡ false
-    by_place [] (AtBatcher t) h = refl
+    by_place : (subs : List SubNo) (p : BatchPlace) → batch_waits_in s (Some (record { numbers = []; place = p })) ≡ true → works_at u (batch_sent s is_alone subs p) ≡ false
+    by_place [] (AtBatcher t) h = by_stage (is_alone && same_stage s t)
+      where
+        by_stage : (b : Bool) → works_at u (if b then Sent [] else AtBatcher t) ≡ false
+        by_stage true = refl
+        by_stage false = refl
     by_place (v ∷ subs) (AtBatcher t) h = rw h (new_legs_idle u (v ∷ subs))
     by_place subs (Sent legs) h = cc
     by_place subs (Dropped l) h = cc
@@ -137,7 +141,7 @@ new_weight topology before s u d on waiting = either (same_sub d.sub u) refl
         let batched : is_batcher (spec_of topology s) ≡ true = ap (λ x. is_batcher (spec_of topology x)) from ∙ e in
         let waits_there : batch_waits_in s (batch topology before d.unit) ≡ true = subst (λ b. (if b then batch_waits_in s (batch topology before d.unit) else waits_in s (place topology before d.unit)) ≡ true) batched waiting in
         rw (batch_hand topology (Dispatch s ∷ before) u d.unit e)
-        (at_most_one (leg_waits_in u (batch topology (Dispatch s ∷ before) d.unit)) (leg_works_in u (batch topology (Dispatch s ∷ before) d.unit)) (waited_idle s _ u (batch topology before d.unit) waits_there))
+        (at_most_one (leg_waits_in u (batch topology (Dispatch s ∷ before) d.unit)) (leg_works_in u (batch topology (Dispatch s ∷ before) d.unit)) (waited_idle s _ _ u (batch topology before d.unit) waits_there))
 
     either : (b : Bool) → same_sub d.sub u ≡ b → (if b then in_hand topology (Dispatch s ∷ before) u d.unit else 0) ≤ (if b then 1 else 0)
     either true e = by_kind (same_sub-true d.sub u e) (is_batcher (spec_of topology u.producer)) refl

@@ -136,11 +136,11 @@ leg_works_kept topology before (Close s first trigger) u b other live h =
     either : (numbers : List ℕ) (t : Bool) → (b == closed before + 1) ≡ t → b ≤ closed before → leg_works_in u (new_batch t numbers s (batch topology before b)) ≡ true
     either numbers true e below = absurd (let is : b ≡ closed before + 1 = eqb-true b _ e in omega arith)
     either numbers false e below = h
-leg_works_kept topology before (Dispatch s) u b other live h = works_mapped u (batch_sent s _) (sent_works _) (batch topology before b) h
+leg_works_kept topology before (Dispatch s) u b other live h = works_mapped u (batch_sent s _ _) (sent_works _ _) (batch topology before b) h
   where
-    sent_works : (subs : List SubNo) (legs : List Leg) → leg_works u legs ≡ true → works_at u (batch_sent s subs (Sent legs)) ≡ true
-    sent_works [] legs h = h
-    sent_works (v ∷ subs) legs h = h
+    sent_works : (is_alone : Bool) (subs : List SubNo) (legs : List Leg) → leg_works u legs ≡ true → works_at u (batch_sent s is_alone subs (Sent legs)) ≡ true
+    sent_works is_alone [] legs h = h
+    sent_works is_alone (v ∷ subs) legs h = h
 leg_works_kept topology before (Take s v k) u b other live h =
     either (among (next_units topology (view_of topology before) s v k) b) (batch topology before b) h
   where

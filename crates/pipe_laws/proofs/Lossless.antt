@@ -23,7 +23,7 @@ use Rattle.pipe_model.specs.Posts.{in_slot, crashes}
 use Rattle.pipe_model.specs.Content.{has_crash, is_among_next}
 use Rattle.pipe_model.specs.Lives.{death, death_after, restarts}
 use Rattle.pipe_model.specs.Batches.{Batch, BatchPlace, AtBatcher, Sent, Dropped, Leg, LegPlace, InInbox, AtWork, Answered, LegLost, is_settled, settled_as, lost_leg, failed_leg, place_by_batch, on_legs, leg_taken, leg_answered, new_legs, batch_sent, batch_on_legs}
-use Rattle.pipe_model.specs.Flow.{place, batch, view_of, among, is_empty, sends_by, subs_of, lost_over, dispatched, waiting_after, taken, done, answered, reply_to, gathered, put_in_batch, by_batch, place_in_batch, child_ended, child_place, runs_again, is_number, accepted_to, late_place, change_place, new_batch, next_units, closing}
+use Rattle.pipe_model.specs.Flow.{place, batch, view_of, among, alone, is_empty, sends_by, subs_of, lost_over, dispatched, waiting_after, taken, done, answered, reply_to, gathered, put_in_batch, by_batch, place_in_batch, child_ended, child_place, runs_again, is_number, accepted_to, late_place, change_place, new_batch, next_units, closing}
 use Rattle.pipe_model.specs.Ledger.{crashed_reply, crashes_of}
 use Rattle.pipe_model.specs.Legal.{is_legal, happened, is_halt}
 use Rattle.pipe_model.specs.Moves.{is_final}
@@ -108,15 +108,21 @@ new_kept : (subs : List SubNo) → legs_kept (new_legs subs) ≡ true
 new_kept [] = refl
 new_kept (u ∷ subs) = new_kept subs
 
-sent_keeps : (s : StageNo) (subs : List SubNo) (p : BatchPlace) → place_kept p ≡ true → place_kept (batch_sent s subs p) ≡ true
-sent_keeps s [] p h = h
-sent_keeps s (u ∷ subs) (AtBatcher t) h = by_stage (same_stage s t)
+sent_keeps : (s : StageNo) (is_alone : Bool) (subs : List SubNo) (p : BatchPlace) → place_kept p ≡ true → place_kept (batch_sent s is_alone subs p) ≡ true
+sent_keeps s is_alone [] (AtBatcher t) h = by_stage (is_alone && same_stage s t)
+  where
+    by_stage : (b : Bool) → place_kept (if b then Sent [] else AtBatcher t) ≡ true
+    by_stage true = refl
+    by_stage false = refl
+sent_keeps s is_alone [] (Sent legs) h = h
+sent_keeps s is_alone [] (Dropped l) h = h
+sent_keeps s is_alone (u ∷ subs) (AtBatcher t) h = by_stage (same_stage s t)
   where
     by_stage : (b : Bool) → place_kept (if b then Sent (new_legs (u ∷ subs)) else AtBatcher t) ≡ true
     by_stage true = new_kept (u ∷ subs)
     by_stage false = refl
-sent_keeps s (u ∷ subs) (Sent legs) h = h
-sent_keeps s (u ∷ subs) (Dropped l) h = h
+sent_keeps s is_alone (u ∷ subs) (Sent legs) h = h
+sent_keeps s is_alone (u ∷ subs) (Dropped l) h = h
 
 kept_mapped : (change : BatchPlace → BatchPlace) → ((p : BatchPlace) → place_kept p ≡ true → place_kept (change p) ≡ true) → (o : Option Batch) → batch_kept o ≡ true → batch_kept (option_map (λ x. change_place x (change x.place)) o) ≡ true
 kept_mapped change keeps None h = refl
@@ -134,7 +140,7 @@ batches_kept topology (Close s first trigger ∷ before) b h =
     either numbers true old = refl
     either numbers false old = old
 batches_kept topology (Dispatch s ∷ before) b h =
-    kept_mapped (batch_sent s (subs_of (sends_by topology before (view_of topology before) s) b)) (sent_keeps s _) (batch topology before b) (batches_kept topology before b (lossless_before topology before (Dispatch s) h))
+    kept_mapped (batch_sent s (among (alone topology before s) b) (subs_of (sends_by topology before (view_of topology before) s) b)) (sent_keeps s _ _) (batch topology before b) (batches_kept topology before b (lossless_before topology before (Dispatch s) h))
 batches_kept topology (Take s u k ∷ before) b h =
     either (among (next_units topology (view_of topology before) s u k) b) (batch topology before b) (batches_kept topology before b (lossless_before topology before (Take s u k) h))
   where
@@ -197,20 +203,24 @@ accepted_kept from count n p None new h = either (is_among_next from count n)
     either true = new
     either false = refl
 
-dispatched_kept : (units : List SentUnit) (over : List ℕ) (s : StageNo) (n : ℕ) → is_empty over ≡ true → (p : Place) → is_lost (Some p) ≡ false → is_lost (Some (dispatched units over s n p)) ≡ false
-dispatched_kept units [] s n empty (Waiting t) h = by_stage (same_stage s t) (subs_of units n)
+dispatched_kept : (units : List SentUnit) (over alone : List ℕ) (s : StageNo) (n : ℕ) → is_empty over ≡ true → (p : Place) → is_lost (Some p) ≡ false → is_lost (Some (dispatched units over alone s n p)) ≡ false
+dispatched_kept units [] alone s n empty (Waiting t) h = by_stage (same_stage s t) (subs_of units n)
   where
     by_stage : (b : Bool) (subs : List SubNo) → is_lost (Some (if b then waiting_after subs false s else Waiting t)) ≡ false
     by_stage true [] = refl
     by_stage true (u ∷ subs) = refl
     by_stage false subs = refl
-dispatched_kept units (m ∷ over) s n empty p h = cc
-dispatched_kept units [] s n empty (Inbox u) h = refl
-dispatched_kept units [] s n empty (Running t) h = refl
-dispatched_kept units [] s n empty (Gathered t) h = refl
-dispatched_kept units [] s n empty (InBatch b) h = refl
-dispatched_kept units [] s n empty (Acked o) h = refl
-dispatched_kept units [] s n empty (Lost l) h = h
+dispatched_kept units (m ∷ over) alone s n empty p h = cc
+dispatched_kept units [] alone s n empty (Inbox u) h = refl
+dispatched_kept units [] alone s n empty (Running t) h = refl
+dispatched_kept units [] alone s n empty (Gathered t) h = refl
+dispatched_kept units [] alone s n empty (InBatch b) h = either (among alone b.0)
+  where
+    either : (a : Bool) → is_lost (Some (if a then Acked Successful else InBatch b)) ≡ false
+    either true = refl
+    either false = refl
+dispatched_kept units [] alone s n empty (Acked o) h = refl
+dispatched_kept units [] alone s n empty (Lost l) h = h
 
 taken_kept : (chunk : List ℕ) (s : StageNo) (n : ℕ) (p : Place) → is_lost (Some p) ≡ false → is_lost (Some (taken chunk s n p)) ≡ false
 taken_kept chunk s n (Inbox u) h = either (same_stage s u.consumer && among chunk n)
@@ -316,7 +326,7 @@ none_lost topology (Late s slot i (Records records) ∷ before) n h =
     accepted_kept _ _ n (late_place s i (death topology before s)) (place topology before n) (ap (λ w. is_lost (Some (late_place s i w))) (no_death topology before s (lossless_before topology before (Late s slot i (Records records)) h)))
     (none_lost topology before n (lossless_before topology before (Late s slot i (Records records)) h))
 none_lost topology (Dispatch s ∷ before) n h =
-    mapped_kept _ (dispatched_kept _ (lost_over topology before (view_of topology before) s) s n (not_not (is_empty (lost_over topology before (view_of topology before) s)) (keeps_all topology before (Dispatch s) h))) (place topology before n) (none_lost topology before n (lossless_before topology before (Dispatch s) h))
+    mapped_kept _ (dispatched_kept _ (lost_over topology before (view_of topology before) s) _ s n (not_not (is_empty (lost_over topology before (view_of topology before) s)) (keeps_all topology before (Dispatch s) h))) (place topology before n) (none_lost topology before n (lossless_before topology before (Dispatch s) h))
   where
     not_not : (b : Bool) → not b ≡ false → b ≡ true
     not_not true e = refl

@@ -17,11 +17,10 @@ use Rattle.pipe_types.specs.declared.message.Reply.{Reply}
 use Rattle.pipe_types.specs.declared.message.Reply.TheVariants.{Pass, Failed as FailedReply, Raised, Crashed}
 use Rattle.pipe_types.specs.declared.room.Room.{Room}
 use Rattle.pipe_types.specs.declared.room.Sent.{Sent as SentUnit}
-use Rattle.pipe_types.specs.declared.topology.Dispatch.{Dispatch as DispatchKind}
 use Rattle.pipe_types.specs.declared.step.Step.{Step}
 use Rattle.pipe_types.specs.declared.step.Step.TheVariants.{Accept, Dispatch, Take, Done, Gather, Close, Wrote, Child, ChildEnd, Kill, Late, Halt}
 use Rattle.pipe_types.specs.declared.step.LateAnswer.TheVariants.{Records}
-use Rattle.pipe_types.specs.Dispatchers.{goes, on_each, sends_from}
+use Rattle.pipe_types.specs.Dispatchers.{Serving, goes, on_each, sends_from}
 use Rattle.pipe_types.specs.Numbers.{same_stage, batch_no}
 use Rattle.pipe_types.specs.Stages.{feeds}
 use Rattle.pipe_model.specs.History.{History}
@@ -60,7 +59,7 @@ on_each_rooms : (P : SubNo → Type 0) (Q : ℕ → Type 0) (unit : ℕ) (rooms 
 on_each_rooms P Q unit [] q h = tt
 on_each_rooms P Q unit (r ∷ rooms) q h = ((h.0, q), on_each_rooms P Q unit rooms q h.1)
 
-pub sends_each : (P : SubNo → Type 0) (Q : ℕ → Type 0) (kind : DispatchKind) (rooms : List Room) (earlier : List ℕ) (units : List (ℕ × ℕ)) → Each (λ r. P r.sub) rooms → Each (λ unit. Q unit.0) units → Each (λ d. P d.sub × Q d.unit) (sends_from kind rooms earlier units)
+pub sends_each : (P : SubNo → Type 0) (Q : ℕ → Type 0) (kind : Serving) (rooms : List Room) (earlier : List ℕ) (units : List (ℕ × ℕ)) → Each (λ r. P r.sub) rooms → Each (λ unit. Q unit.0) units → Each (λ d. P d.sub × Q d.unit) (sends_from kind rooms earlier units)
 sends_each P Q kind rooms earlier [] h q = tt
 sends_each P Q kind rooms earlier (unit ∷ units) h q =
     each-append (λ d. P d.sub × Q d.unit) (on_each unit.0 (filter (goes kind rooms earlier unit.1) rooms)) (sends_from kind rooms (unit.1 ∷ earlier) units)
@@ -161,9 +160,9 @@ module _ (topology : Topology) (before : History) (step : Step) where
       either true = comes_lost _
       either false = stays
 
-  move_dispatched : (units : List SentUnit) (over : List ℕ) (s : StageNo) (n : ℕ) → Each (IsOn topology before s) (subs_of units n) → (old : Option Place) → Move topology before step old (option_map (dispatched units over s n) old)
-  move_dispatched units over s n on None = stays
-  move_dispatched units over s n on (Some (Waiting t)) = either (same_stage s t) refl
+  move_dispatched : (units : List SentUnit) (over alone : List ℕ) (s : StageNo) (n : ℕ) → Each (IsOn topology before s) (subs_of units n) → (old : Option Place) → Move topology before step old (option_map (dispatched units over alone s n) old)
+  move_dispatched units over alone s n on None = stays
+  move_dispatched units over alone s n on (Some (Waiting t)) = either (same_stage s t) refl
     where
       lost_or_not : (b : Bool) → Move topology before step (Some (Waiting s)) (Some (if b then Lost (Overflow s) else Waiting s))
       lost_or_not true = ends _ _ refl
@@ -176,12 +175,16 @@ module _ (topology : Topology) (before : History) (step : Step) where
       either : (b : Bool) → same_stage s t ≡ b → Move topology before step (Some (Waiting t)) (Some (if b then waiting_after (subs_of units n) (among over n) s else Waiting t))
       either true e = subst (λ x. Move topology before step (Some (Waiting x)) (Some (waiting_after (subs_of units n) (among over n) s))) (same_stage-true s t e) (here (subs_of units n) on)
       either false e = stays
-  move_dispatched units over s n on (Some (Inbox u)) = stays
-  move_dispatched units over s n on (Some (Running t)) = stays
-  move_dispatched units over s n on (Some (Gathered t)) = stays
-  move_dispatched units over s n on (Some (InBatch b)) = stays
-  move_dispatched units over s n on (Some (Acked o)) = stays
-  move_dispatched units over s n on (Some (Lost l)) = stays
+  move_dispatched units over alone s n on (Some (Inbox u)) = stays
+  move_dispatched units over alone s n on (Some (Running t)) = stays
+  move_dispatched units over alone s n on (Some (Gathered t)) = stays
+  move_dispatched units over alone s n on (Some (InBatch b)) = either (among alone b.0)
+    where
+      either : (a : Bool) → Move topology before step (Some (InBatch b)) (Some (if a then Acked Successful else InBatch b))
+      either true = ends _ _ refl
+      either false = stays
+  move_dispatched units over alone s n on (Some (Acked o)) = stays
+  move_dispatched units over alone s n on (Some (Lost l)) = stays
 
   move_taken : (chunk : List ℕ) (s : StageNo) (n : ℕ) → starts step s ≡ true → (old : Option Place) → Move topology before step old (option_map (taken chunk s n) old)
   move_taken chunk s n from None = stays
@@ -316,7 +319,7 @@ module _ (topology : Topology) (before : History) (step : Step) where
 pub move_by : (topology : Topology) (before : History) (step : Step) (n : ℕ) → Move topology before step (place topology before n) (place topology (step ∷ before) n)
 move_by topology before (Accept s records) n = move_accepted topology before (Accept s records) _ _ n s (place topology before n)
 move_by topology before (Late s slot i (Records records)) n = move_late topology before (Late s slot i (Records records)) _ _ n s i (death topology before s) (place topology before n)
-move_by topology before (Dispatch s) n = move_dispatched topology before (Dispatch s) _ _ s n (dispatch_on topology before s n) (place topology before n)
+move_by topology before (Dispatch s) n = move_dispatched topology before (Dispatch s) _ _ _ s n (dispatch_on topology before s n) (place topology before n)
 move_by topology before (Take s u k) n = move_taken topology before (Take s u k) _ s n (same_stage-self s) (place topology before n)
 move_by topology before (Done s replies) n = either (has_crash replies) (move_done topology before (Done s replies) _ _ replies s n (place topology before n))
   where

@@ -19,7 +19,8 @@ use Rattle.pipe_types.specs.Numbers.{same_stage, batch_no}
 use Rattle.pipe_model.specs.History.{History, closed, incarnation}
 use Rattle.pipe_model.specs.Batches.{Batch, BatchPlace, AtBatcher, Sent, Dropped, Leg, LegPlace, InInbox, AtWork, Answered, LegLost, is_leg_open, is_settled, settled_as, lost_leg, failed_leg, place_by_batch, on_legs, leg_taken, leg_answered, leg_lost, new_legs, batch_sent, batch_on_legs, batch_killed, dropped_in}
 use Rattle.pipe_model.specs.Lives.{KillSet, reason_in, is_live, death, kill_set}
-use Rattle.pipe_model.specs.Flow.{place, batch, view_of, among, sends_by, subs_of, by_batch, place_in_batch, killed, change_place, new_batch, next_units, closing, put_in_batch}
+use Rattle.pipe_types.specs.declared.message.Outcome.TheVariants.{Successful}
+use Rattle.pipe_model.specs.Flow.{place, batch, view_of, among, alone, deliveries, dispatched, lost_over, sends_by, subs_of, by_batch, place_in_batch, killed, change_place, new_batch, next_units, closing, put_in_batch}
 use Rattle.pipe_model.specs.Legal.{is_legal, allows}
 use Rattle.pipe_model.specs.Moves.{is_final}
 use Rattle.pipe_model.specs.Claims.{HasOnePlaceEach, has_live_leg, batch_in_progress, is_held_at}
@@ -66,15 +67,19 @@ going_taken s (AtBatcher t) h = refl
 going_taken s (Sent legs) h = ap not (settled_taken s legs) ∙ h
 going_taken s (Dropped l) h = h
 
-going_sent : (s : StageNo) (subs : List SubNo) (p : BatchPlace) → going p ≡ true → going (batch_sent s subs p) ≡ true
-going_sent s [] p h = h
-going_sent s (u ∷ subs) (AtBatcher t) h = by_stage (same_stage s t)
+-- a batch that a dispatch does not serve without a leg goes on
+going_sent : (s : StageNo) (is_alone : Bool) (subs : List SubNo) → is_alone ≡ false → (p : BatchPlace) → going p ≡ true → going (batch_sent s is_alone subs p) ≡ true
+going_sent s false [] no_one (AtBatcher t) h = refl
+going_sent s false [] no_one (Sent legs) h = h
+going_sent s false [] no_one (Dropped l) h = h
+going_sent s true subs no_one p h = cc
+going_sent s false (u ∷ subs) no_one (AtBatcher t) h = by_stage (same_stage s t)
   where
     by_stage : (b : Bool) → going (if b then Sent (new_legs (u ∷ subs)) else AtBatcher t) ≡ true
     by_stage true = refl
     by_stage false = refl
-going_sent s (u ∷ subs) (Sent legs) h = h
-going_sent s (u ∷ subs) (Dropped l) h = h
+going_sent s false (u ∷ subs) no_one (Sent legs) h = h
+going_sent s false (u ∷ subs) no_one (Dropped l) h = h
 
 progress_mapped : (change : BatchPlace → BatchPlace) → ((p : BatchPlace) → going p ≡ true → going (change p) ≡ true) → (o : Option Batch) → in_progress o ≡ true → in_progress (option_map (λ x. change_place x (change x.place)) o) ≡ true
 progress_mapped change keeps None h = h
@@ -160,14 +165,23 @@ joined topology before numbers s n b p old e = by_place p old e
             made (b.0 == closed before + 1) (eq-eqb b.0 (closed before + 1) (sym (ap (λ x. x.0) is)))
         either false e = cc
 
+-- a message that a dispatch leaves in its batch is of none that is served without a leg
+left_in_batch : (is_alone : Bool) (b : BatchNo) → Some (if is_alone then Acked Successful else InBatch b) ≡ Some (InBatch b) → is_alone ≡ false
+left_in_batch true b e = cc
+left_in_batch false b e = refl
+
 -- the batch of a message in it is in progress
 pub in_batch_going : (topology : Topology) (before : History) (n : ℕ) (b : BatchNo) → place topology before n ≡ Some (InBatch b) → in_progress (batch topology before b.0) ≡ true
 in_batch_going topology [] n b e = cc
 in_batch_going topology (Close s first trigger ∷ before) n b e =
     joined topology before (closing before (view_of topology before) s first.0) s n b (place topology before n) (in_batch_going topology before n b) e
 in_batch_going topology (Dispatch s ∷ before) n b e =
-    progress_mapped (batch_sent s (subs_of (sends_by topology before (view_of topology before) s) b.0)) (going_sent s _) (batch topology before b.0)
-    (in_batch_going topology before n b (in_batch_before topology before (Dispatch s) b _ _ (move_by topology before (Dispatch s) n) refl e))
+    let was : place topology before n ≡ Some (InBatch b) = in_batch_before topology before (Dispatch s) b _ _ (move_by topology before (Dispatch s) n) refl e in
+    let kept : among (alone topology before s) b.0 ≡ false =
+    left_in_batch (among (alone topology before s) b.0) b
+    (ap (option_map (dispatched (deliveries topology before s) (lost_over topology before (view_of topology before) s) (alone topology before s) s n)) (sym was) ∙ e) in
+    progress_mapped (batch_sent s (among (alone topology before s) b.0) (subs_of (deliveries topology before s) b.0)) (going_sent s _ _ kept) (batch topology before b.0)
+    (in_batch_going topology before n b was)
 in_batch_going topology (Take s u k ∷ before) n b e =
     either (among (next_units topology (view_of topology before) s u k) b.0) (batch topology before b.0)
     (in_batch_going topology before n b (in_batch_before topology before (Take s u k) b _ _ (move_by topology before (Take s u k) n) refl e))
@@ -253,9 +267,15 @@ lost_opens (Some why) i u AtWork h = cc
 lost_opens (Some why) i u (Answered o) h = cc
 lost_opens (Some why) i u (LegLost l) h = cc
 
-live_sent : (topology : Topology) (before : History) (s : StageNo) (subs : List SubNo) → Each (IsOn topology before s) subs → (p : BatchPlace) → goes_live (is_live topology before) p ≡ true → goes_live (is_live topology before) (batch_sent s subs p) ≡ true
-live_sent topology before s [] on p h = h
-live_sent topology before s (u ∷ subs) on (AtBatcher t) h = by_stage (same_stage s t)
+live_sent : (topology : Topology) (before : History) (s : StageNo) (is_alone : Bool) (subs : List SubNo) → Each (IsOn topology before s) subs → (p : BatchPlace) → goes_live (is_live topology before) p ≡ true → goes_live (is_live topology before) (batch_sent s is_alone subs p) ≡ true
+live_sent topology before s is_alone [] on (AtBatcher t) h = by_stage (is_alone && same_stage s t)
+  where
+    by_stage : (b : Bool) → goes_live (is_live topology before) (if b then Sent [] else AtBatcher t) ≡ true
+    by_stage true = refl
+    by_stage false = h
+live_sent topology before s is_alone [] on (Sent legs) h = h
+live_sent topology before s is_alone [] on (Dropped l) h = h
+live_sent topology before s is_alone (u ∷ subs) on (AtBatcher t) h = by_stage (same_stage s t)
   where
     new_live : (subs : List SubNo) → Each (IsOn topology before s) subs → legs_live (is_live topology before) (new_legs subs) ≡ true
     new_live [] on = refl
@@ -264,8 +284,8 @@ live_sent topology before s (u ∷ subs) on (AtBatcher t) h = by_stage (same_sta
     by_stage : (b : Bool) → goes_live (is_live topology before) (if b then Sent (new_legs (u ∷ subs)) else AtBatcher t) ≡ true
     by_stage true = new_live (u ∷ subs) on
     by_stage false = h
-live_sent topology before s (u ∷ subs) on (Sent legs) h = h
-live_sent topology before s (u ∷ subs) on (Dropped l) h = h
+live_sent topology before s is_alone (u ∷ subs) on (Sent legs) h = h
+live_sent topology before s is_alone (u ∷ subs) on (Dropped l) h = h
 
 live_killed : (live other : StageNo → Bool) (set : KillSet) (incarnation : StageNo → ℕ) → ((s : StageNo) → reason_in set s ≡ None → live s ≡ true → other s ≡ true) → (p : BatchPlace) → goes_live live p ≡ true → goes_live other (batch_killed set incarnation p) ≡ true
 live_killed live other set incarnation spares (AtBatcher s) h = either (reason_in set s) refl
@@ -292,7 +312,7 @@ batches_live topology (Close s first trigger ∷ before) b h =
     either numbers true old = close_live topology before s first trigger (legal_step topology before (Close s first trigger) h)
     either numbers false old = old
 batches_live topology (Dispatch s ∷ before) b h =
-    live_mapped (is_live topology before) (is_live topology before) (batch_sent s (subs_of (sends_by topology before (view_of topology before) s) b)) (live_sent topology before s _ (dispatch_on topology before s b)) (batch topology before b)
+    live_mapped (is_live topology before) (is_live topology before) (batch_sent s (among (alone topology before s) b) (subs_of (sends_by topology before (view_of topology before) s) b)) (live_sent topology before s _ _ (dispatch_on topology before s b)) (batch topology before b)
     (batches_live topology before b (legal_before topology before (Dispatch s) h))
 batches_live topology (Take s u k ∷ before) b h =
     either (among (next_units topology (view_of topology before) s u k) b) (batch topology before b) (batches_live topology before b (legal_before topology before (Take s u k) h))

@@ -119,12 +119,14 @@ on_legs_keeps change spares i numbers (AtBatcher s) h = cc
 on_legs_keeps change spares i numbers (Sent legs) h = leg_kept change spares legs i h
 on_legs_keeps change spares i numbers (Dropped loss) h = cc
 
-sent_keeps : (s : StageNo) (subs : List SubNo) (i : ℕ) → Keeps (batch_sent s subs) i
+sent_keeps : (s : StageNo) (is_alone : Bool) (subs : List SubNo) (i : ℕ) → Keeps (batch_sent s is_alone subs) i
 unfolding Keeps
-sent_keeps s [] i numbers place h = refl
-sent_keeps s (u ∷ subs) i numbers (AtBatcher t) h = cc
-sent_keeps s (u ∷ subs) i numbers (Sent legs) h = refl
-sent_keeps s (u ∷ subs) i numbers (Dropped loss) h = cc
+sent_keeps s is_alone [] i numbers (AtBatcher t) h = cc
+sent_keeps s is_alone [] i numbers (Sent legs) h = refl
+sent_keeps s is_alone [] i numbers (Dropped loss) h = cc
+sent_keeps s is_alone (u ∷ subs) i numbers (AtBatcher t) h = cc
+sent_keeps s is_alone (u ∷ subs) i numbers (Sent legs) h = refl
+sent_keeps s is_alone (u ∷ subs) i numbers (Dropped loss) h = cc
 
 taken_spares : (s : StageNo) → Spares (leg_taken s)
 taken_spares s = record { answered = λ u o. refl; lost = λ u l. refl }
@@ -195,7 +197,7 @@ leg_after topology before (Close s first trigger) b i h =
     either : (numbers : List ℕ) (t : Bool) → (b == closed before + 1) ≡ t → b ≤ closed before → leg_at (new_batch t numbers s (batch topology before b)) i ≡ leg_at (batch topology before b) i
     either numbers true e below = absurd (let is : b ≡ closed before + 1 = eqb-true b _ e in omega arith)
     either numbers false e below = refl
-leg_after topology before (Dispatch s) b i h = maybe_kept _ i (sent_keeps s _ i) (batch topology before b) h
+leg_after topology before (Dispatch s) b i h = maybe_kept _ i (sent_keeps s _ _ i) (batch topology before b) h
 leg_after topology before (Take s u k) b i h =
     either (among (next_units topology (view_of topology before) s u k) b) (batch topology before b) h
   where

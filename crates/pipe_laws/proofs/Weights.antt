@@ -311,13 +311,15 @@ hand_mapped u change legs_change is weighs (Some x) h = by_place x.numbers x.pla
     by_place numbers (AtBatcher s) h = cc
     by_place numbers (Dropped l) h = cc
 
-sent_same : (s : StageNo) (subs : List SubNo) (u : SubNo) (o : Option Batch) → is_sent_batch o ≡ true → batch_in_hand u (option_map (λ x. change_place x (batch_sent s subs x.place)) o) ≤ batch_in_hand u o
+sent_same : (s : StageNo) (is_alone : Bool) (subs : List SubNo) (u : SubNo) (o : Option Batch) → is_sent_batch o ≡ true → batch_in_hand u (option_map (λ x. change_place x (batch_sent s is_alone subs x.place)) o) ≤ batch_in_hand u o
 unfolding batch_in_hand
-sent_same s subs u None h = omega arith
-sent_same s subs u (Some x) h = by_place subs x.numbers x.place h
+sent_same s is_alone subs u None h = omega arith
+sent_same s is_alone subs u (Some x) h = by_place subs x.numbers x.place h
   where
-    by_place : (subs : List SubNo) (numbers : List ℕ) (p : BatchPlace) → is_sent_batch (Some (record { numbers = numbers; place = p })) ≡ true → batch_in_hand u (Some (record { numbers = numbers; place = batch_sent s subs p })) ≤ batch_in_hand u (Some (record { numbers = numbers; place = p }))
-    by_place [] numbers p h = omega arith
+    by_place : (subs : List SubNo) (numbers : List ℕ) (p : BatchPlace) → is_sent_batch (Some (record { numbers = numbers; place = p })) ≡ true → batch_in_hand u (Some (record { numbers = numbers; place = batch_sent s is_alone subs p })) ≤ batch_in_hand u (Some (record { numbers = numbers; place = p }))
+    by_place [] numbers (Sent legs) h = omega arith
+    by_place [] numbers (AtBatcher t) h = cc
+    by_place [] numbers (Dropped l) h = cc
     by_place (v ∷ subs) numbers (Sent legs) h = omega arith
     by_place (v ∷ subs) numbers (AtBatcher t) h = cc
     by_place (v ∷ subs) numbers (Dropped l) h = cc
@@ -331,7 +333,7 @@ batch_step topology before (Close s first trigger) u b h =
     either : (numbers : List ℕ) (t : Bool) → (b == closed before + 1) ≡ t → b ≤ closed before → batch_in_hand u (new_batch t numbers s (batch topology before b)) ≤ batch_in_hand u (batch topology before b)
     either numbers true e below = absurd (let is : b ≡ closed before + 1 = eqb-true b _ e in omega arith)
     either numbers false e below = omega arith
-batch_step topology before (Dispatch s) u b h = sent_same s _ u (batch topology before b) h
+batch_step topology before (Dispatch s) u b h = sent_same s _ _ u (batch topology before b) h
 batch_step topology before (Take s v k) u b h =
     either (among (next_units topology (view_of topology before) s v k) b) (batch topology before b) h
   where

@@ -1,6 +1,6 @@
 //! What steps do to legs.
 
-ghost use Rattle.std.specs.Prelude.{◌≡◌, IfOk, map};
+ghost use Rattle.std.specs.Prelude.{◌≡◌, [], IfOk, map};
 ghost use Rattle.pipe_model.specs.Batches as model;
 ghost use Rattle.pipe_model.specs.History.{history, incarnation as incarnation_in};
 ghost use Rattle.pipe_model.specs.Lives.{reason_in};
@@ -153,21 +153,39 @@ pub fn copy_batch_place(alloc: Global, place: &BatchPlace) -> Result<BatchPlace,
     }
 }
 
-/// A batch that waits in the stage is sent on these subscriptions.
+/// A batch that waits in the stage is sent on these subscriptions, or has no leg where it is served alone.
 pub fn batch_sent(
     alloc: Global,
     stage: StageNo,
+    is_alone: bool,
     subs: &[SubNo],
     place: &BatchPlace,
 ) -> Result<BatchPlace, AllocError>
-    ensures { IfOk result (λ new. batch_place_of new ≡ model.batch_sent stage subs.now (batch_place_of place.now)) }
+    ensures { IfOk result (λ new. batch_place_of new ≡ model.batch_sent stage is_alone subs.now (batch_place_of place.now)) }
 {
     if subs.is_empty() {
-        return copy_batch_place(alloc, place);
+        return batch_unsent(alloc, stage, is_alone, place);
     }
     match place {
         BatchPlace::AtBatcher(at) if stage.0 == at.0 => {
             Ok(BatchPlace::Sent(new_legs(alloc, subs)?))
+        }
+        place => copy_batch_place(alloc, place),
+    }
+}
+
+/// A batch that waits in the stage and is sent on no subscription.
+fn batch_unsent(
+    alloc: Global,
+    stage: StageNo,
+    is_alone: bool,
+    place: &BatchPlace,
+) -> Result<BatchPlace, AllocError>
+    ensures { IfOk result (λ new. batch_place_of new ≡ model.batch_sent stage is_alone [] (batch_place_of place.now)) }
+{
+    match place {
+        BatchPlace::AtBatcher(at) if is_alone && stage.0 == at.0 => {
+            Ok(BatchPlace::Sent(Vec::new(alloc)))
         }
         place => copy_batch_place(alloc, place),
     }

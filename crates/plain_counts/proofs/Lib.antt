@@ -3,3 +3,4 @@ pub mod Sums
 pub mod Fetches
 pub mod Folds
 pub mod Replies
+pub mod Restarted

@@ -1,18 +1,19 @@
 //! Sources, fetches, restarts and the drain.
 
-ghost use Rattle.std.specs.Prelude.{◌≡◌, ◌+◌, ◌∷◌, ◌&&◌, ◌||◌, not, Bool, true, false, IfOk};
-ghost use Rattle.pipe_types.specs.Restarts.{restarts_counted};
+ghost use Rattle.std.specs.Prelude.{◌≡◌, ◌+◌, ◌∷◌, ◌&&◌, ◌||◌, not, Bool, true, false, nat_le, if◌then◌else◌, IfOk};
+ghost use Rattle.pipe_types.specs.Restarts.{limit_at as limit_at_in, restarts_counted, may_restart_at};
 ghost use Rattle.pipe_types.specs.Numbers.{stage as stage_in};
 ghost use Rattle.pipe_types.specs.declared.topology.Role.{Role};
 ghost use Rattle.pipe_model.specs.History.{History, history, now as now_in};
-ghost use Rattle.pipe_model.specs.Legal.{happened, is_drain as is_drain_in, is_halt as is_halt_in, ends_source as ends_source_in, has_ended as has_ended_in, rests as rests_in, restart_times, may_restart as may_restart_in, has_role, is_producer_role as is_producer_role_in, is_processor_role as is_processor_role_in, is_batcher_role as is_batcher_role_in, is_batch_processor_role as is_batch_processor_role_in, is_supervisor_role as is_supervisor_role_in, takes_role as takes_role_in, is_early_role as is_early_role_in, fetch_out as fetch_out_in, fetches_out as fetches_out_in, is_no_fetch_out as is_no_fetch_out_in, is_current as is_current_in, gathered_at as gathered_at_in, quiet_row as quiet_row_in, may_control as may_control_in, all_ended as all_ended_in};
+ghost use Rattle.pipe_model.specs.Legal.{happened, is_drain as is_drain_in, is_halt as is_halt_in, ends_source as ends_source_in, has_ended as has_ended_in, rests as rests_in, restart_times, limit_of as limit_of_in, may_restart as may_restart_in, has_role, is_producer_role as is_producer_role_in, is_processor_role as is_processor_role_in, is_batcher_role as is_batcher_role_in, is_batch_processor_role as is_batch_processor_role_in, is_supervisor_role as is_supervisor_role_in, takes_role as takes_role_in, is_early_role as is_early_role_in, fetch_out as fetch_out_in, fetches_out as fetches_out_in, is_no_fetch_out as is_no_fetch_out_in, is_current as is_current_in, gathered_at as gathered_at_in, quiet_row as quiet_row_in, may_control as may_control_in, all_ended as all_ended_in};
+ghost use Rattle.plain_counts.specs.Limits.{is_under as is_under_in};
 ghost use Rattle.plain_counts.specs.Fetches.{last_fetch as last_fetch_in, out_of as out_of_in, role_passes};
 
 use crate::counts::{controls, incarnation, now, plus};
 use crate::posts::{is_out, out_from};
 use pipe_types::numbers::{Post, StageNo};
 use pipe_types::step::{LateAnswer, Step};
-use pipe_types::topology::{Role, StageSpec, Topology};
+use pipe_types::topology::{RestartLimit, Role, StageSpec, Topology};
 use std::alloc::AllocError;
 
 fn is_drain(step: &Step) -> bool
@@ -102,38 +103,105 @@ pub fn rests(steps: &[Step], stage: StageNo) -> bool
     resting
 }
 
-fn counted_after(
+/// The place of the stage's limit on restarts.
+fn limit_of(topology: &Topology, stage: StageNo) -> usize
+    ensures { result ≡ limit_of_in topology.now stage }
+{
+    match topology.stages.find(stage) {
+        Some(spec) => spec.limit as usize,
+        None => 0,
+    }
+}
+
+/// The limit at that place.
+fn limit_at(topology: &Topology, at: usize) -> Option<RestartLimit>
+    ensures { result ≡ limit_at_in topology.now at }
+{
+    topology.limits.as_slice().get(at).copied()
+}
+
+/// Whether the step is a restart of a stage of the limit at that place.
+fn is_under(topology: &Topology, step: &Step, limit: usize) -> bool
+    ensures { result ≡ is_under_in topology.now step.now limit }
+{
+    match step {
+        Step::Restart { stage } => limit_of(topology, *stage) == limit,
+        _ => false,
+    }
+}
+
+/// The count after one more step, where it counts if it is such a restart and its window has not passed.
+fn counted_if(
     before: &[Step],
-    step: &Step,
+    is_restart: bool,
     window_ms: u64,
     time: u64,
     old: u64,
 ) -> Result<u64, AllocError>
-    requires { old ≡ restarts_counted window_ms time (restart_times (history before.now)) }
-    ensures { IfOk result (λ n. n ≡ restarts_counted window_ms time (restart_times (step.now ∷ history before.now))) }
+    ensures { IfOk result (λ n. n ≡ (if is_restart then (if nat_le time (now_in (history before.now) + window_ms) then old + 1 else old) else old)) }
 {
-    match step {
-        Step::Restart { .. } => {
-            if time.saturating_sub(now(before)) <= window_ms {
-                plus(old, 1)
-            } else {
-                Ok(old)
-            }
-        }
-        _ => Ok(old),
+    if !is_restart {
+        return Ok(old);
+    }
+    if time.saturating_sub(now(before)) <= window_ms {
+        plus(old, 1)
+    } else {
+        Ok(old)
     }
 }
 
-/// Whether fewer restarts than the limit count now.
-pub fn may_restart(topology: &Topology, steps: &[Step]) -> Result<bool, AllocError>
-    ensures { IfOk result (λ may. may ≡ may_restart_in topology.now (history steps.now)) }
+/// How many restarts under the limit at that place count at that time, after one more step.
+fn counted_after(
+    topology: &Topology,
+    before: &[Step],
+    step: &Step,
+    at: usize,
+    window_ms: u64,
+    time: u64,
+    old: u64,
+) -> Result<u64, AllocError>
+    requires { old ≡ restarts_counted window_ms time (restart_times topology.now (history before.now) at) }
+    ensures { IfOk result (λ n. n ≡ restarts_counted window_ms time (restart_times topology.now (step.now ∷ history before.now) at)) }
+{
+    let is_restart = is_under(topology, step, at);
+    let count = counted_if(before, is_restart, window_ms, time, old)?;
+    Ok(count)
+}
+
+/// Whether fewer restarts than the limit at that place allows count now.
+fn is_open(
+    topology: &Topology,
+    steps: &[Step],
+    at: usize,
+    limit: RestartLimit,
+) -> Result<bool, AllocError>
+    ensures { IfOk result (λ may. may ≡ may_restart_at limit.max_restarts limit.window_ms (now_in (history steps.now)) (restart_times topology.now (history steps.now) at)) }
 {
     let time = now(steps);
     let mut count = 0;
     for i in 0..steps.len() {
-        count = counted_after(&steps[..i], &steps[i], topology.window_ms, time, count)?;
+        count = counted_after(
+            topology,
+            &steps[..i],
+            &steps[i],
+            at,
+            limit.window_ms,
+            time,
+            count,
+        )?;
     }
-    Ok(count < u64::from(topology.max_restarts))
+    Ok(count < u64::from(limit.max_restarts))
+}
+
+/// Whether the stage's limit allows one more restart now.
+pub fn may_restart(topology: &Topology, steps: &[Step], stage: StageNo) -> Result<bool, AllocError>
+    ensures { IfOk result (λ may. may ≡ may_restart_in topology.now (history steps.now) stage) }
+{
+    let at = limit_of(topology, stage);
+    match limit_at(topology, at) {
+        Some(limit) => is_open(topology, steps, at, limit),
+        None => Ok(false),
+    }
 }
 
 /// The role of the stage, and none where no such stage is.

@@ -1,12 +1,13 @@
-//! Which waiting units a dispatcher sends on which subscriptions, told unit by unit and room by room.
+//! Which waiting units a dispatcher serves, and on which subscriptions it sends them, told unit by unit and room by room.
+//! Where it broadcasts, every subscription picks every unit.
 //!
 //! Each function says its definition in `pipe_types`, of any rooms in any order.
 #![tactic(auto)]
 
-ghost use Rattle.std.specs.Prelude.{◌≡◌, ◌++◌, IfOk, List, ℕ, map, filter, reverse, length, count_by, fold, ◌+◌, ◌*◌, ◌%◌, ◌^◌, ◌==◌, nat_lt, if◌then◌else◌};
-ghost use Rattle.std.specs.List.{list_all};
+ghost use Rattle.std.specs.Prelude.{◌≡◌, ◌++◌, IfOk, List, ℕ, map, filter, reverse, length, count_by, fold, ◌+◌, ◌*◌, ◌%◌, ◌^◌, ◌==◌, nat_lt, if◌then◌else◌, cond, not, ◌&&◌};
+ghost use Rattle.std.specs.List.{list_all, list_any};
 ghost use Rattle.pipe_types.specs.Numbers.{sub_before as sub_before_in};
-ghost use Rattle.pipe_types.specs.Dispatchers.{is_served_before as is_served_before_in, ahead as ahead_in, goes as goes_in, on_each, sends as sends_in, partition_of as partition_of_in};
+ghost use Rattle.pipe_types.specs.Dispatchers.{is_served_before as is_served_before_in, ahead as ahead_in, served_as, picks_all, goes as goes_in, has_rooms as has_rooms_in, is_served as is_served_in, on_each, sends as sends_in, serves as serves_in, partition_of as partition_of_in};
 
 use pipe_types::numbers::SubNo;
 use pipe_types::room::{Room, Sent};
@@ -85,7 +86,7 @@ fn goes(
     part: u32,
     u: &Room,
 ) -> Result<bool, AllocError>
-    ensures { IfOk result (λ sent. sent ≡ goes_in kind rooms.now (reverse (map (λ d. d.1) before.now)) part u.now) }
+    ensures { IfOk result (λ sent. sent ≡ goes_in (served_as kind picks_all) rooms.now (reverse (map (λ d. d.1) before.now)) part u.now) }
 {
     match kind {
         Dispatch::Demand => {
@@ -109,7 +110,7 @@ fn push_each(
     before: &[(u32, u32)],
     unit: (u32, u32),
 ) -> Result<Vec<Sent>, AllocError>
-    ensures { IfOk result (λ more. more.items ≡ sent.items ++ on_each unit.0 (filter (goes_in kind rooms.now (reverse (map (λ d. d.1) before.now)) unit.1) rooms.now)) }
+    ensures { IfOk result (λ more. more.items ≡ sent.items ++ on_each unit.0 (filter (goes_in (served_as kind picks_all) rooms.now (reverse (map (λ d. d.1) before.now)) unit.1) rooms.now)) }
 {
     let mut more = sent;
     for u in rooms {
@@ -130,13 +131,83 @@ pub fn sends(
     rooms: &[Room],
     units: &[(u32, u32)],
 ) -> Result<Vec<Sent>, AllocError>
-    ensures { IfOk result (λ sent. sent.items ≡ sends_in kind rooms.now units.now) }
+    ensures { IfOk result (λ sent. sent.items ≡ sends_in (served_as kind picks_all) rooms.now units.now) }
 {
     let mut sent = Vec::new(alloc);
     for i in 0..units.len() {
         sent = push_each(sent, kind, rooms, &units[..i], units[i])?;
     }
     Ok(sent)
+}
+
+/// Whether a unit of this partition goes on the subscription of some room, where these units wait before it.
+fn goes_somewhere(
+    kind: Dispatch,
+    rooms: &[Room],
+    before: &[(u32, u32)],
+    part: u32,
+) -> Result<bool, AllocError>
+    ensures { IfOk result (λ goes. goes ≡ list_any (goes_in (served_as kind picks_all) rooms.now (reverse (map (λ d. d.1) before.now)) part) rooms.now) }
+{
+    for u in rooms {
+        let is_sent = goes(kind, rooms, before, part, u)?;
+        if is_sent {
+            return Ok(true);
+        }
+    }
+    Ok(false)
+}
+
+/// Whether there is a room.
+fn has_rooms(rooms: &[Room]) -> bool
+    ensures { result ≡ has_rooms_in rooms.now }
+{
+    match rooms.first() {
+        Some(_room) => true,
+        None => false,
+    }
+}
+
+/// Whether there is a room, and every room has more open demand than so many units.
+fn some_above(rooms: &[Room], units: usize) -> bool
+    ensures { result ≡ (has_rooms_in rooms.now && list_all (λ v. nat_lt units v.left) rooms.now) }
+{
+    has_rooms(rooms) && all_above(rooms, units)
+}
+
+/// Whether a unit of this partition is served, where these units wait before it.
+fn is_served(
+    kind: Dispatch,
+    rooms: &[Room],
+    before: &[(u32, u32)],
+    part: u32,
+) -> Result<bool, AllocError>
+    ensures { IfOk result (λ served. served ≡ is_served_in (served_as kind picks_all) rooms.now (reverse (map (λ d. d.1) before.now)) part) }
+{
+    match kind {
+        Dispatch::Demand => goes_somewhere(Dispatch::Demand, rooms, before, part),
+        Dispatch::Broadcast => Ok(some_above(rooms, before.len())),
+        Dispatch::Partition => goes_somewhere(Dispatch::Partition, rooms, before, part),
+    }
+}
+
+/// Those of these waiting units, each with its partition, that are served, in order.
+pub fn serves(
+    alloc: Global,
+    kind: Dispatch,
+    rooms: &[Room],
+    units: &[(u32, u32)],
+) -> Result<Vec<u32>, AllocError>
+    ensures { IfOk result (λ served. served.items ≡ serves_in (served_as kind picks_all) rooms.now units.now) }
+{
+    let mut served = Vec::new(alloc);
+    for i in 0..units.len() {
+        let is_next = is_served(kind, rooms, &units[..i], units[i].1)?;
+        if is_next {
+            served.push(units[i].0)?;
+        }
+    }
+    Ok(served)
 }
 
 /// The hash of a byte string, of 32 bits.

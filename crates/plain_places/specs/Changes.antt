@@ -19,7 +19,7 @@ use Rattle.plain_places.specs.declared.batches.RowChange.TheVariants.{Closed, Ro
 
 abbrev pub move_of : Move → model.PlaceMove
 move_of Kept = model.Kept
-move_of (Dispatched units over s) = model.Dispatched units.items over.items s
+move_of (Dispatched units over alone s) = model.Dispatched units.items over.items alone.items s
 move_of (Taken units s) = model.Taken units.items s
 move_of (Answered b chunk replies s) = model.Answered b chunk.items replies.now s
 move_of (Gathered s m) = model.Gathered s m
@@ -34,7 +34,7 @@ change_of (Moved move) = model.Moved (move_of move)
 
 abbrev pub row_move_of : RowMove → model.BatchMove
 row_move_of Stays = model.Stays
-row_move_of (SentOn units s) = model.SentOn units.items s
+row_move_of (SentOn units alone s) = model.SentOn units.items alone.items s
 row_move_of (TakenIn units s) = model.TakenIn units.items s
 row_move_of (AnsweredIn s outcomes) = model.AnsweredIn s outcomes.now
 row_move_of (KilledIn set) = model.KilledIn set.items

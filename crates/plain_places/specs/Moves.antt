@@ -17,12 +17,12 @@ use Rattle.pipe_model.specs.Posts.{in_slot, crashes}
 use Rattle.pipe_model.specs.Lives.{KillSet, death, kill_set}
 use Rattle.pipe_model.specs.Content.{has_crash}
 use Rattle.pipe_model.specs.Batches as model
-use Rattle.pipe_model.specs.Flow.{View, sends_by, lost_over, next_units, chunk_by, closing, batch_after, dispatched, taken, done, gathered, put_in_batch, by_batch, killed, child_ended, accepted_to, late_place, runs_again, has_batchers_in, subs_of, among, change_place, new_batch}
+use Rattle.pipe_model.specs.Flow.{View, sends_by, lost_over, alone_by, next_units, chunk_by, closing, batch_after, dispatched, taken, done, gathered, put_in_batch, by_batch, killed, child_ended, accepted_to, late_place, runs_again, has_batchers_in, subs_of, among, change_place, new_batch}
 
 -- where a step moves the messages that stand somewhere
 pub data PlaceMove : Type 0 where
   Kept : PlaceMove
-  Dispatched : (units : List SentUnit) → (over : List ℕ) → StageNo → PlaceMove
+  Dispatched : (units : List SentUnit) → (over alone : List ℕ) → StageNo → PlaceMove
   Taken : (units : List ℕ) → StageNo → PlaceMove
   Answered : (has_batchers : Bool) → (chunk : List ℕ) → (replies : List Reply) → StageNo → PlaceMove
   Gathered : StageNo → ℕ → PlaceMove
@@ -39,7 +39,7 @@ pub data PlaceChange : Type 0 where
 -- where a step moves the batches that stand somewhere
 pub data BatchMove : Type 0 where
   Stays : BatchMove
-  SentOn : (units : List SentUnit) → StageNo → BatchMove
+  SentOn : (units : List SentUnit) → (alone : List ℕ) → StageNo → BatchMove
   TakenIn : (units : List ℕ) → StageNo → BatchMove
   AnsweredIn : StageNo → List Outcome → BatchMove
   KilledIn : KillSet → BatchMove
@@ -68,7 +68,7 @@ child_move topology before s slot reply =
 abbrev pub place_change : Topology → History → View → Step → PlaceChange
 place_change topology before view (Accept s records) = Added (length records) (Waiting s)
 place_change topology before view (Late s slot i (Records records)) = Added (length records) (late_place s i (death topology before s))
-place_change topology before view (Dispatch s) = Moved (Dispatched (sends_by topology before view s) (lost_over topology before view s) s)
+place_change topology before view (Dispatch s) = Moved (Dispatched (sends_by topology before view s) (lost_over topology before view s) (alone_by topology before view s) s)
 place_change topology before view (Take s u k) = Moved (Taken (next_units topology view s u k) s)
 place_change topology before view (Done s replies) = Moved (done_move topology view s replies)
 place_change topology before view (Gather s m) = Moved (Gathered s m.0)
@@ -84,7 +84,7 @@ place_change topology before view _ = Moved Kept
 -- what a step does to batches
 abbrev pub batch_change : Topology → History → View → Step → BatchChange
 batch_change topology before view (Close s first trigger) = Closed (closing before view s first.0) s
-batch_change topology before view (Dispatch s) = BatchesMoved (SentOn (sends_by topology before view s) s)
+batch_change topology before view (Dispatch s) = BatchesMoved (SentOn (sends_by topology before view s) (alone_by topology before view s) s)
 batch_change topology before view (Take s u k) = BatchesMoved (TakenIn (next_units topology view s u k) s)
 batch_change topology before view (Wrote s bytes (Outcomes outcomes)) = BatchesMoved (AnsweredIn s outcomes)
 batch_change topology before view (Kill s why) = BatchesMoved (KilledIn (kill_set topology before (Kill s why)))
@@ -94,7 +94,7 @@ batch_change topology before view _ = BatchesMoved Stays
 -- where message n goes
 abbrev pub moved_by : History → PlaceMove → ℕ → Place → Place
 moved_by before Kept n place = place
-moved_by before (Dispatched units over s) n place = dispatched units over s n place
+moved_by before (Dispatched units over alone s) n place = dispatched units over alone s n place
 moved_by before (Taken units s) n place = taken units s n place
 moved_by before (Answered b chunk replies s) n place = done b chunk replies s n place
 moved_by before (Gathered s m) n place = gathered s m n place
@@ -116,7 +116,7 @@ count_changed (Moved move) old = old
 -- where batch b goes
 abbrev pub batch_place_moved : History → BatchMove → ℕ → model.BatchPlace → model.BatchPlace
 batch_place_moved before Stays b place = place
-batch_place_moved before (SentOn units s) b place = model.batch_sent s (subs_of units b) place
+batch_place_moved before (SentOn units alone s) b place = model.batch_sent s (among alone b) (subs_of units b) place
 batch_place_moved before (TakenIn units s) b place = if among units b then model.batch_on_legs (model.leg_taken s) place else place
 batch_place_moved before (AnsweredIn s outcomes) b place = model.batch_on_legs (model.leg_answered s outcomes) place
 batch_place_moved before (KilledIn set) b place = model.batch_killed set (incarnation before) place

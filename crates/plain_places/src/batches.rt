@@ -18,14 +18,14 @@ use plain_batches::{LegChange, batch_killed, batch_on_legs, batch_sent, copy_bat
 use plain_counts::{Seen, content, unit_no};
 use plain_lives::{Death, Past};
 use plain_queues::{BatchPlace, BatchRow, Tables, inbox, open_batch, units_on};
-use plain_sends::sends_by;
+use plain_sends::{alone, sends_by};
 use std::alloc::{AllocError, Global};
 
 /// Where a step moves the batches that stand somewhere: those that are sent, taken, answered, or killed.
 #[derive(Drop)]
 pub enum RowMove<'a> {
     Stays,
-    SentOn(Vec<Sent>, StageNo),
+    SentOn(Vec<Sent>, Vec<u32>, StageNo),
     TakenIn(Vec<u32>, StageNo),
     AnsweredIn(StageNo, &'a [Outcome]),
     KilledIn(Vec<Death>),
@@ -63,9 +63,10 @@ fn row_place(
 {
     match change {
         RowMove::Stays => copy_batch_place(alloc, place),
-        RowMove::SentOn(sent, stage) => {
+        RowMove::SentOn(sent, alone, stage) => {
             let subs = subs_for(alloc, sent.as_slice(), n)?;
-            batch_sent(alloc, *stage, subs.as_slice(), place)
+            let is_alone = is_among(alone.as_slice(), n);
+            batch_sent(alloc, *stage, is_alone, subs.as_slice(), place)
         }
         RowMove::TakenIn(units, stage) => {
             if is_among(units.as_slice(), n) {
@@ -178,7 +179,8 @@ fn row_change<'a>(
         }
         Step::Dispatch { stage } => {
             let sent = sends_by(alloc, past, tables, *stage)?;
-            Ok(RowChange::RowsMoved(RowMove::SentOn(sent, *stage)))
+            let alone = alone(alloc, past, tables, *stage)?;
+            Ok(RowChange::RowsMoved(RowMove::SentOn(sent, alone, *stage)))
         }
         Step::Take { stage, sub, k } => {
             let units = next_units(alloc, past, tables, *stage, *sub, *k)?;

@@ -17,12 +17,13 @@ use plain_lives::{Death, reason};
 use plain_queues::BatchRow;
 use std::alloc::AllocError;
 
-/// Where a step moves the messages that stand somewhere: what is sent of a stage and what it loses, what it takes, the
+/// Where a step moves the messages that stand somewhere: what is sent of a stage, what it loses and
+/// which batches it serves alone, what it takes, the
 /// replies to its chunk, what it gathers or closes, what its batches leave, the end of a child, and what is killed.
 #[derive(Drop)]
 pub enum Move<'a> {
     Kept,
-    Dispatched(Vec<Sent>, Vec<u32>, StageNo),
+    Dispatched(Vec<Sent>, Vec<u32>, Vec<u32>, StageNo),
     Taken(Vec<u32>, StageNo),
     Answered(bool, Vec<u32>, &'a [Reply], StageNo),
     Gathered(StageNo, u32),
@@ -60,11 +61,19 @@ fn waiting_after(sent: &[Sent], is_over: bool, stage: StageNo, n: u32) -> Place
     }
 }
 
-fn dispatched(sent: &[Sent], over: &[u32], stage: StageNo, n: u32, place: Place) -> Place
-    ensures { result ≡ dispatched_in sent.now over.now stage n place }
+fn dispatched(
+    sent: &[Sent],
+    over: &[u32],
+    alone: &[u32],
+    stage: StageNo,
+    n: u32,
+    place: Place,
+) -> Place
+    ensures { result ≡ dispatched_in sent.now over.now alone.now stage n place }
 {
     match place {
         Place::Waiting(at) if stage.0 == at.0 => waiting_after(sent, is_among(over, n), stage, n),
+        Place::InBatch(batch) if is_among(alone, batch.0) => Place::Acked(Outcome::Successful),
         place => place,
     }
 }
@@ -233,9 +242,14 @@ pub fn moved(steps: &[Step], change: &Move<'_>, n: u32, place: Place) -> Result<
 {
     match change {
         Move::Kept => Ok(place),
-        Move::Dispatched(sent, over, stage) => {
-            Ok(dispatched(sent.as_slice(), over.as_slice(), *stage, n, place))
-        }
+        Move::Dispatched(sent, over, alone, stage) => Ok(dispatched(
+            sent.as_slice(),
+            over.as_slice(),
+            alone.as_slice(),
+            *stage,
+            n,
+            place,
+        )),
         Move::Taken(units, stage) => Ok(taken(units.as_slice(), *stage, n, place)),
         Move::Answered(has_batchers, chunk, replies, stage) => {
             Ok(done(*has_batchers, chunk.as_slice(), replies, *stage, n, place))

@@ -20,7 +20,7 @@ use pipe_types::topology::Topology;
 use plain_counts::{closed, crashes, has_crash, in_slot, incarnation, plus, runs_again, unit_no};
 use plain_lives::Past;
 use plain_queues::{BatchRow, Tables, chunk};
-use plain_sends::{lost_over, sends_by};
+use plain_sends::{alone, lost_over, sends_by};
 use std::alloc::{AllocError, Global};
 
 /// What a step does to the places: so many messages are accepted to one place, or they move.
@@ -125,7 +125,8 @@ fn place_change<'a>(
         Step::Dispatch { stage } => {
             let sent = sends_by(alloc, past, tables, *stage)?;
             let over = lost_over(alloc, past, tables, *stage)?;
-            Ok(Change::Moved(Move::Dispatched(sent, over, *stage)))
+            let alone = alone(alloc, past, tables, *stage)?;
+            Ok(Change::Moved(Move::Dispatched(sent, over, alone, *stage)))
         }
         Step::Take { stage, sub, k } => {
             let units = next_units(alloc, past, tables, *stage, *sub, *k)?;

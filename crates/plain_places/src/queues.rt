@@ -103,7 +103,8 @@ pub fn lost_over_now(
     plain_sends::lost_over(alloc, past, tables, stage)
 }
 
-/// Whether the stage is live, and a dispatch of it sends something or loses what is over the size.
+/// Whether the stage is live, and a dispatch of it sends something, serves a batch that nobody picks, or loses what is over
+/// the size.
 pub fn may_dispatch_now(
     alloc: Global,
     past: &Past<'_>,

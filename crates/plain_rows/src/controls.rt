@@ -1,10 +1,10 @@
 //! Ticks, the drain, kills by control lines, restarts and the halt.
 
 ghost use Rattle.std.specs.Prelude.{◌≡◌, ◌&&◌, ◌||◌, IfOk};
-ghost use Rattle.std.specs.List.{list_any};
 ghost use Rattle.pipe_model.specs.History.{history};
-ghost use Rattle.pipe_model.specs.Legal.{may_come, happened, is_drain, has_role, is_producer_role, has_ended as has_ended_in, drains_for as drains_for_in, may_kill as may_kill_in, needs_restart as needs_restart_in, no_post_out as no_post_out_in};
+ghost use Rattle.pipe_model.specs.Legal.{may_come, happened, is_drain, has_role, is_producer_role, has_ended as has_ended_in, drains_for as drains_for_in, may_kill as may_kill_in, needs_restart as needs_restart_in};
 ghost use Rattle.plain_lives.specs.Lives.{LivesStand};
+ghost use Rattle.plain_rows.specs.Halts.{halts_at};
 
 use pipe_types::message::Why;
 use pipe_types::numbers::StageNo;
@@ -89,36 +89,24 @@ fn needs_restart(past: &Past<'_>, stage: StageNo) -> bool
     found && (!past.is_live(stage) && (!has_halted(past.steps) && !is_done(past, stage)))
 }
 
-/// Whether the stage needs a restart, and no post of it is out.
-fn waits_for_restart(past: &Past<'_>, stage: StageNo) -> bool
-    requires { LivesStand past.now.topology.now (history past.now.steps.now) past.now.lives.now }
-    ensures { result ≡ (needs_restart_in past.now.topology.now (history past.now.steps.now) stage && no_post_out_in past.now.topology.now (history past.now.steps.now) stage) }
-{
-    needs_restart(past, stage) && !has_post_out(past.steps, stage)
-}
-
 /// Whether the stage may be restarted.
 pub fn may_renew(past: &Past<'_>, stage: StageNo) -> Result<bool, AllocError>
     requires { LivesStand past.now.topology.now (history past.now.steps.now) past.now.lives.now }
     ensures { IfOk result (λ may. may ≡ may_come past.now.topology.now (history past.now.steps.now) (Step.Restart stage)) }
 {
-    let may = may_restart(past.topology, past.steps)?;
+    let may = may_restart(past.topology, past.steps, stage)?;
     let out = has_post_out(past.steps, stage);
     Ok(needs_restart(past, stage) && (!out && may))
 }
 
-/// Whether some stage needs a restart and has no post out.
-fn some_waits(past: &Past<'_>) -> bool
+/// Whether the stage needs a restart and has no post out, and its limit is met.
+fn does_halt(past: &Past<'_>, stage: StageNo) -> Result<bool, AllocError>
     requires { LivesStand past.now.topology.now (history past.now.steps.now) past.now.lives.now }
-    ensures { result ≡ list_any (λ spec. needs_restart_in past.now.topology.now (history past.now.steps.now) spec.no && no_post_out_in past.now.topology.now (history past.now.steps.now) spec.no) past.now.topology.now.stages }
+    ensures { IfOk result (λ does. does ≡ halts_at past.now.topology.now (history past.now.steps.now) stage) }
 {
-    let specs = past.topology.stages.as_slice();
-    for spec in specs {
-        if waits_for_restart(past, spec.no) {
-            return true;
-        }
-    }
-    false
+    let may = may_restart(past.topology, past.steps, stage)?;
+    let out = has_post_out(past.steps, stage);
+    Ok(needs_restart(past, stage) && (!out && !may))
 }
 
 /// Whether the pipeline may halt.
@@ -126,8 +114,14 @@ pub fn may_halt(past: &Past<'_>) -> Result<bool, AllocError>
     requires { LivesStand past.now.topology.now (history past.now.steps.now) past.now.lives.now }
     ensures { IfOk result (λ may. may ≡ may_come past.now.topology.now (history past.now.steps.now) Step.Halt) }
 {
-    let may = may_restart(past.topology, past.steps)?;
-    Ok(!may && some_waits(past))
+    let specs = past.topology.stages.as_slice();
+    for spec in specs {
+        let does = does_halt(past, spec.no)?;
+        if does {
+            return Ok(true);
+        }
+    }
+    Ok(false)
 }
 
 /// Whether control line `line` may be refused next.

@@ -4,18 +4,20 @@ ghost use Rattle.std.specs.Prelude.{◌≡◌, ◌&&◌, ◌||◌, not, IfOk, So
 ghost use Rattle.pipe_types.specs.Stages.{spec_of};
 ghost use Rattle.pipe_model.specs.History.{history};
 ghost use Rattle.pipe_model.specs.Lives.{is_live as is_live_in};
-ghost use Rattle.pipe_model.specs.Flow.{is_empty, kind_in, partition_in, sends_by as sends_by_in, subs_of, unsent as unsent_in, over_in, lost_over as lost_over_in};
+ghost use Rattle.pipe_model.specs.Flow.{is_empty, kind_in, partition_in, sends_by as sends_by_in, served_by as served_by_in, alone_by, subs_of, unsent as unsent_in, over_in, lost_over as lost_over_in};
 ghost use Rattle.plain_lives.specs.Lives.{LivesStand};
 ghost use Rattle.plain_queues.specs.Views.{view_in};
+ghost use Rattle.plain_sends.specs.Casts.{is_cast as is_cast_in};
 
+use crate::casts::{cast, served_in};
 use crate::demand::rooms;
 use crate::partitions::partition;
 use pipe_types::numbers::StageNo;
 use pipe_types::room::Sent;
 use pipe_types::topology::{Dispatch, Keep, StageSpec, Topology};
-use plain_dispatch::sends;
+use plain_dispatch::{sends, serves};
 use plain_lives::Past;
-use plain_queues::{Tables, waiting};
+use plain_queues::{Tables, is_batcher_stage, waiting};
 use std::alloc::{AllocError, Global};
 
 fn kind_of(topology: &Topology, stage: StageNo) -> Dispatch
@@ -57,13 +59,62 @@ pub fn sends_by(
 {
     let rooms = rooms(alloc, past, tables, stage)?;
     let waiting = waiting(alloc, past.topology, past.steps, tables, stage)?;
-    let units = with_parts(alloc, past, tables, stage, waiting.as_slice())?;
-    sends(
-        alloc,
-        kind_of(past.topology, stage),
-        rooms.as_slice(),
-        units.as_slice(),
-    )
+    let here = rooms.as_slice();
+    let units = waiting.as_slice();
+    let kind = kind_of(past.topology, stage);
+    if is_cast(kind) {
+        return cast(alloc, past, tables, here, units);
+    }
+    let marked = with_parts(alloc, past, tables, stage, units)?;
+    let marks = marked.as_slice();
+    sends(alloc, kind, here, marks)
+}
+
+/// The waiting units that a dispatch of the stage serves.
+fn served_by(
+    alloc: Global,
+    past: &Past<'_>,
+    tables: &Tables,
+    stage: StageNo,
+) -> Result<Vec<u32>, AllocError>
+    requires { LivesStand past.now.topology.now (history past.now.steps.now) past.now.lives.now }
+    ensures { IfOk result (λ served. served.items ≡ served_by_in past.now.topology.now (history past.now.steps.now) (view_in tables.now) stage) }
+{
+    let rooms = rooms(alloc, past, tables, stage)?;
+    let waiting = waiting(alloc, past.topology, past.steps, tables, stage)?;
+    let here = rooms.as_slice();
+    let units = waiting.as_slice();
+    let kind = kind_of(past.topology, stage);
+    if is_cast(kind) {
+        return served_in(alloc, past, tables, here, units);
+    }
+    let marked = with_parts(alloc, past, tables, stage, units)?;
+    let marks = marked.as_slice();
+    serves(alloc, kind, here, marks)
+}
+
+fn is_cast(kind: Dispatch) -> bool
+    ensures { result ≡ is_cast_in kind }
+{
+    matches!(kind, Dispatch::Broadcast)
+}
+
+/// The batches that a dispatch of the stage serves without a leg.
+pub fn alone(
+    alloc: Global,
+    past: &Past<'_>,
+    tables: &Tables,
+    stage: StageNo,
+) -> Result<Vec<u32>, AllocError>
+    requires { LivesStand past.now.topology.now (history past.now.steps.now) past.now.lives.now }
+    ensures { IfOk result (λ alone. alone.items ≡ alone_by past.now.topology.now (history past.now.steps.now) (view_in tables.now) stage) }
+{
+    if !is_batcher_stage(past.topology, stage) {
+        return Ok(Vec::new(alloc));
+    }
+    let sent = sends_by(alloc, past, tables, stage)?;
+    let served = served_by(alloc, past, tables, stage)?;
+    unsent(alloc, sent.as_slice(), served.as_slice())
 }
 
 fn is_unsent(sent: &[Sent], n: u32) -> bool
@@ -132,7 +183,7 @@ pub fn lost_over(
     over(alloc, past.topology.stages.find(stage), left.as_slice())
 }
 
-/// Whether a dispatch of the stage sends something or loses what is over the size.
+/// Whether a dispatch of the stage sends something, or serves a batch that nobody picks, or loses what is over the size.
 pub fn may_dispatch(
     alloc: Global,
     past: &Past<'_>,
@@ -142,9 +193,11 @@ pub fn may_dispatch(
     requires { LivesStand past.now.topology.now (history past.now.steps.now) past.now.lives.now }
     ensures { IfOk result (λ may. may ≡ is_live_in past.now.topology.now (history past.now.steps.now) stage
         && (not (is_empty (sends_by_in past.now.topology.now (history past.now.steps.now) (view_in tables.now) stage))
-        || not (is_empty (lost_over_in past.now.topology.now (history past.now.steps.now) (view_in tables.now) stage)))) }
+        || (not (is_empty (alone_by past.now.topology.now (history past.now.steps.now) (view_in tables.now) stage))
+        || not (is_empty (lost_over_in past.now.topology.now (history past.now.steps.now) (view_in tables.now) stage))))) }
 {
     let sent = sends_by(alloc, past, tables, stage)?;
+    let alone = alone(alloc, past, tables, stage)?;
     let lost = lost_over(alloc, past, tables, stage)?;
-    Ok(past.is_live(stage) && (!sent.is_empty() || !lost.is_empty()))
+    Ok(past.is_live(stage) && (!sent.is_empty() || (!alone.is_empty() || !lost.is_empty())))
 }

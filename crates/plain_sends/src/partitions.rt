@@ -101,7 +101,8 @@ pub fn first(numbers: &[u32]) -> u32
     }
 }
 
-fn first_of_batch(tables: &Tables, n: u32) -> u32
+/// The first message of the batch, or 0.
+pub(crate) fn first_of_batch(tables: &Tables, n: u32) -> u32
     ensures { result ≡ first_in (numbers_in (batch_at tables.now.batches.items n)) }
 {
     match batch_row(tables, n) {

@@ -1,5 +1,5 @@
 -- What a live batch processor works on is the batch that it took last, while its post is out.
-use Rattle.std.proofs.Common.{◌≡◌, ℕ, ◌+◌, ◌-◌, ◌≤◌, List, [], ◌∷◌, map, length, Bool, true, false, refl, ap, sym, ◌∙◌, subst, Some, None, Option, arith, min}
+use Rattle.std.proofs.Common.{◌≡◌, ℕ, ◌+◌, ◌≤◌, List, [], ◌∷◌, map, length, Bool, true, false, refl, ap, sym, ◌∙◌, subst, Some, None, Option, arith}
 use Rattle.std.specs.Prelude.{if◌then◌else◌, ◌==◌, ◌&&◌, filter, cond, nat_lt, ◌||◌}
 use Rattle.std.proofs.lemmas.Bool.{eqb-true, eq-eqb}
 use Rattle.pipe_types.specs.declared.numbers.SubNo.{SubNo}
@@ -12,7 +12,7 @@ use Rattle.pipe_types.specs.declared.message.BatchEnd.TheVariants.{Crashed as Ba
 use Rattle.pipe_types.specs.declared.step.Step.TheVariants.{Take, Wrote}
 use Rattle.pipe_types.specs.Numbers.{same_stage, same_sub}
 use Rattle.pipe_types.specs.Stages.{spec_of}
-use Rattle.pipe_types.specs.Sound.{IsSound, has_fields, has_fields_of, is_batch_processor_in, are_rules, is_reason}
+use Rattle.pipe_types.specs.Sound.{IsSound, has_fields, has_fields_of, is_batch_processor_in, is_select_in, are_rules, is_reason}
 use Rattle.pipe_model.specs.History.{History}
 use Rattle.pipe_model.specs.Posts.{last_take}
 use Rattle.pipe_model.specs.Lives.{is_live}
@@ -36,9 +36,9 @@ use Rattle.pipe_model.specs.Counting.{as_number}
 
 -- One batch at a time
 
-one_at_most : (spec : StageSpec) (n : ℕ) → is_batch_processor_in spec ≡ true → chunk_size (Some spec) n ≤ 1
-one_at_most spec n h =
-    let own = and_left ((nat_lt spec.index 16 && (spec.min == 0 && spec.max == 1)) && (are_rules 0 spec.rules && is_reason spec.failed)) _ h in
+one_at_most : (stages : List StageSpec) (spec : StageSpec) (n : ℕ) → is_batch_processor_in stages spec ≡ true → chunk_size (Some spec) n ≤ 1
+one_at_most stages spec n h =
+    let own = and_left ((nat_lt spec.index 16 && (spec.min == 0 && spec.max == 1)) && ((are_rules 0 spec.rules && is_select_in stages spec) && is_reason spec.failed)) _ h in
     let asks = and_left (nat_lt spec.index 16 && (spec.min == 0 && spec.max == 1)) _ own in
     let most : spec.max ≡ 1 = eqb-true spec.max 1 (and_right (spec.min == 0) _ (and_right (nat_lt spec.index 16) _ asks)) in
     omega (arith, most)
@@ -46,7 +46,7 @@ one_at_most spec n h =
 took_few : (topology : Topology) (c : StageNo) (n : ℕ) → IsSound topology → has_role topology c is_batch_processor_role ≡ true → chunk_size (spec_of topology c) n ≤ 1
 took_few topology c n sound role = by_spec (spec_of topology c) refl
   where
-    by_role : (spec : StageSpec) (r : Role) → r ≡ spec.role → is_batch_processor_role r ≡ true → has_fields topology.stages spec ≡ true → is_batch_processor_in spec ≡ true
+    by_role : (spec : StageSpec) (r : Role) → r ≡ spec.role → is_batch_processor_role r ≡ true → has_fields topology.stages spec ≡ true → is_batch_processor_in topology.stages spec ≡ true
     by_role spec BatchProcessor e h fields = ap (λ r. has_fields_of topology.stages r spec) e ∙ fields
     by_role spec Producer e h fields = let x : false ≡ true = h in cc
     by_role spec Processor e h fields = let x : false ≡ true = h in cc
@@ -57,7 +57,7 @@ took_few topology c n sound role = by_spec (spec_of topology c) refl
     by_spec None e = let none : has_role topology c is_batch_processor_role ≡ false = rw e refl in clash (has_role topology c is_batch_processor_role) role none
     by_spec (Some spec) e =
         let is : has_role topology c is_batch_processor_role ≡ is_batch_processor_role spec.role = rw e refl in
-        let few : chunk_size (Some spec) n ≤ 1 = one_at_most spec n (by_role spec spec.role refl (sym is ∙ role) (sound_fields topology c spec sound e)) in
+        let few : chunk_size (Some spec) n ≤ 1 = one_at_most topology.stages spec n (by_role spec spec.role refl (sym is ∙ role) (sound_fields topology c spec sound e)) in
         rw e few
 
 abbrev count_in : Option (SubNo × ℕ) → ℕ

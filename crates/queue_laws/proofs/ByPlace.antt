@@ -4,13 +4,12 @@ use Rattle.std.specs.Prelude.{filter}
 use Rattle.std.specs.List.{enumerate_from}
 use Rattle.pipe_types.specs.declared.numbers.StageNo.{StageNo}
 use Rattle.pipe_types.specs.declared.topology.Topology.{Topology}
-use Rattle.pipe_types.specs.declared.topology.Dispatch.{Dispatch as DispatchKind}
 use Rattle.pipe_types.specs.declared.room.Room.{Room}
 use Rattle.pipe_types.specs.declared.room.Sent.{Sent as SentUnit}
-use Rattle.pipe_types.specs.Dispatchers.{goes, on_each, sends_from, sends_by_place}
+use Rattle.pipe_types.specs.Dispatchers.{Serving, goes, on_each, sends_from, sends_by_place}
 use Rattle.pipe_types.specs.Stages.{spec_of}
 use Rattle.pipe_model.specs.History.{History}
-use Rattle.pipe_model.specs.Flow.{view_of, waiting, deliveries, rooms_by, kind_in, partition_in}
+use Rattle.pipe_model.specs.Flow.{view_of, waiting, deliveries, rooms_by, serving_by, mark_in}
 
 abbrev named : (ℕ → ℕ) → SentUnit → SentUnit
 named f d = record { unit = f d.unit; sub = d.sub }
@@ -19,7 +18,7 @@ on_each_named : (f : ℕ → ℕ) (unit : ℕ) (rooms : List Room) (rest : List 
 on_each_named f unit [] rest = refl
 on_each_named f unit (r ∷ rooms) rest = ap (λ ds. record { unit = f unit; sub = r.sub } ∷ ds) (on_each_named f unit rooms rest)
 
-sends_named : (f : ℕ → ℕ) (kind : DispatchKind) (rooms : List Room) (earlier : List ℕ) (units : List (ℕ × ℕ)) → sends_from kind rooms earlier (map (λ u. (f u.0, u.1)) units) ≡ map (named f) (sends_from kind rooms earlier units)
+sends_named : (f : ℕ → ℕ) (kind : Serving) (rooms : List Room) (earlier : List ℕ) (units : List (ℕ × ℕ)) → sends_from kind rooms earlier (map (λ u. (f u.0, u.1)) units) ≡ map (named f) (sends_from kind rooms earlier units)
 sends_named f kind rooms earlier [] = refl
 sends_named f kind rooms earlier (u ∷ units) =
     ap (λ ds. on_each (f u.0) (filter (goes kind rooms earlier u.1) rooms) ++ ds) (sends_named f kind rooms (u.1 ∷ earlier) units)
@@ -33,7 +32,7 @@ numbered p whole (x ∷ xs) k at =
     λ i. (sym here i, p x) ∷ rest i
 
 -- what a dispatch sends, from what its dispatcher sends by the places of the queue
-pub deliveries_by_place : (topology : Topology) (before : History) (s : StageNo) → deliveries topology before s ≡ map (λ d. record { unit = get_or (waiting topology before s) d.unit 0; sub = d.sub }) (sends_by_place (kind_in (spec_of topology s)) (rooms_by topology before (view_of topology before) s) (map (λ n. partition_in before (view_of topology before) (spec_of topology s) n) (waiting topology before s)))
+pub deliveries_by_place : (topology : Topology) (before : History) (s : StageNo) → deliveries topology before s ≡ map (λ d. record { unit = get_or (waiting topology before s) d.unit 0; sub = d.sub }) (sends_by_place (serving_by topology before (view_of topology before) s) (rooms_by topology before (view_of topology before) s) (map (λ n. mark_in before (view_of topology before) (spec_of topology s) n) (waiting topology before s)))
 deliveries_by_place topology before s =
-    ap (sends_from (kind_in (spec_of topology s)) (rooms_by topology before (view_of topology before) s) []) (numbered (λ n. partition_in before (view_of topology before) (spec_of topology s) n) (waiting topology before s) (waiting topology before s) 0 (λ i. ap (λ j. get_or (waiting topology before s) j 0) (omega arith)))
-    ∙ sends_named (λ i. get_or (waiting topology before s) i 0) (kind_in (spec_of topology s)) (rooms_by topology before (view_of topology before) s) [] (enumerate_from 0 (map (λ n. partition_in before (view_of topology before) (spec_of topology s) n) (waiting topology before s)))
+    ap (sends_from (serving_by topology before (view_of topology before) s) (rooms_by topology before (view_of topology before) s) []) (numbered (λ n. mark_in before (view_of topology before) (spec_of topology s) n) (waiting topology before s) (waiting topology before s) 0 (λ i. ap (λ j. get_or (waiting topology before s) j 0) (omega arith)))
+    ∙ sends_named (λ i. get_or (waiting topology before s) i 0) (serving_by topology before (view_of topology before) s) (rooms_by topology before (view_of topology before) s) [] (enumerate_from 0 (map (λ n. mark_in before (view_of topology before) (spec_of topology s) n) (waiting topology before s)))

@@ -7,7 +7,7 @@ use Rattle.pipe_types.specs.declared.numbers.StageNo.{StageNo}
 use Rattle.pipe_types.specs.declared.topology.Topology.{Topology}
 use Rattle.pipe_types.specs.declared.message.Place.{Place}
 use Rattle.pipe_types.specs.declared.message.Place.TheVariants.{Waiting, Inbox, Running, Gathered, InBatch}
-use Rattle.pipe_types.specs.Numbers.{same_stage, same_sub, batch_no}
+use Rattle.pipe_types.specs.Numbers.{same_sub, batch_no}
 use Rattle.pipe_types.specs.Stages.{spec_of}
 use Rattle.pipe_model.specs.History.{History}
 use Rattle.pipe_model.specs.Content.{gathers, arrivals}

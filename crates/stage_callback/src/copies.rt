@@ -103,6 +103,8 @@ pub fn copy_spec(alloc: Global, spec: &StageSpec) -> Result<StageSpec, AllocErro
         batch_timeout: spec.batch_timeout,
         child: spec.child,
         batchers: spec.batchers,
+        select: copy_bytes(alloc, spec.select.as_slice())?,
+        limit: spec.limit,
     })
 }
 
@@ -136,5 +138,7 @@ pub fn unarmed(alloc: Global, kind: Kind) -> StageSpec
         batch_timeout: 0,
         child: ChildMode::Temporary,
         batchers: 0,
+        select: Bytes::from_vec(Vec::new(alloc)),
+        limit: 0,
     }
 }

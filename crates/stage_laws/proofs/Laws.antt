@@ -33,7 +33,7 @@ numbered_law topology sound = numbered_topology topology sound
 pub records_law : (topology : Topology) (before : History) → IsSound topology → IsTrue (is_legal topology before) → accepted before + fetches_out topology before ≤ topology.record_limit
 records_law topology before sound h = accepted_within topology before sound h
 
-pub small_law : (topology : Topology) (before : History) → IsSound topology → IsTrue (is_legal topology before) → accepted before ≤ 200000
+pub small_law : (topology : Topology) (before : History) → IsSound topology → IsTrue (is_legal topology before) → accepted before ≤ 2000000
 small_law topology before sound h = accepted_small topology before sound h
 
 pub closed_law : (topology : Topology) (before : History) → IsTrue (is_legal topology before) → closed before ≤ accepted before

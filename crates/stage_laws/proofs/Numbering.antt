@@ -9,7 +9,7 @@ use Rattle.pipe_types.specs.declared.topology.Role.{Role}
 use Rattle.pipe_types.specs.declared.topology.Role.TheVariants.{Producer, Processor, Supervisor, Batcher, BatchProcessor}
 use Rattle.pipe_types.specs.Numbers.{same_stage}
 use Rattle.pipe_types.specs.Stages.{spec_in}
-use Rattle.pipe_types.specs.Sound.{IsSound, is_ordered, may_begin, may_go_on, may_follow, batchers, has_fields, has_fields_of, asks_up_to, by_demand, by_partition, by_broadcast, processors, batch_processors, is_size, no_batcher, no_demand, never_cancels, is_lines, are_rules, is_reason, is_between}
+use Rattle.pipe_types.specs.Sound.{IsSound, is_ordered, may_begin, may_go_on, may_follow, batchers, has_fields, has_fields_of, is_select_in, asks_up_to, by_demand, by_partition, by_broadcast, processors, batch_processors, is_size, no_batcher, no_demand, never_cancels, is_lines, are_rules, is_reason, is_between}
 use Rattle.pipe_laws.proofs.Tests.{and_left, and_right, same_stage-true}
 use Rattle.pipe_laws.proofs.Lists.{Each}
 use Rattle.pipe_laws.proofs.Sounds.{sound_ascends}
@@ -75,7 +75,7 @@ least_most stages spec h = by_role spec.role (ap (λ r. has_fields_of stages r s
         let second = and_right (spec.batcher == spec.index && ((by_demand spec spec.dispatch || by_broadcast spec spec.dispatch) || (by_partition (length (batch_processors spec.index stages)) spec spec.dispatch && spec.field == 0))) _ first in
         asks 10000 (and_left (asks_up_to 10000 spec) _ second)
     by_role BatchProcessor h =
-        let first = and_left ((nat_lt spec.index 16 && (spec.min == 0 && spec.max == 1)) && (are_rules 0 spec.rules && is_reason spec.failed)) _ h in
+        let first = and_left ((nat_lt spec.index 16 && (spec.min == 0 && spec.max == 1)) && ((are_rules 0 spec.rules && is_select_in stages spec) && is_reason spec.failed)) _ h in
         let one = and_right (nat_lt spec.index 16) _ (and_left (nat_lt spec.index 16 && (spec.min == 0 && spec.max == 1)) _ first) in
         let zero_min = eqb-true spec.min 0 (and_left (spec.min == 0) _ one) in omega arith
 

@@ -12,7 +12,7 @@ use Rattle.pipe_types.specs.declared.message.Place.{Place}
 use Rattle.pipe_types.specs.declared.message.Place.TheVariants.{Waiting, Inbox, Running, Gathered, InBatch, Acked, Lost}
 use Rattle.pipe_types.specs.declared.step.Step.{Step}
 use Rattle.pipe_types.specs.declared.step.Step.TheVariants.{Take, Child}
-use Rattle.pipe_types.specs.Numbers.{same_stage, same_sub}
+use Rattle.pipe_types.specs.Numbers.{same_sub}
 use Rattle.pipe_types.specs.Stages.{spec_of, feeds}
 use Rattle.pipe_model.specs.History.{History}
 use Rattle.pipe_model.specs.Flow.{place, sent_to, is_batcher, runs_in}

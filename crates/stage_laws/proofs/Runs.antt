@@ -7,6 +7,7 @@ use Rattle.pipe_types.specs.declared.numbers.StageNo.{StageNo}
 use Rattle.pipe_types.specs.declared.topology.Topology.{Topology}
 use Rattle.pipe_types.specs.declared.message.Why.{Why}
 use Rattle.pipe_types.specs.declared.message.Place.{Place}
+use Rattle.pipe_types.specs.declared.message.Outcome.TheVariants.{Successful}
 use Rattle.pipe_types.specs.declared.message.Place.TheVariants.{Waiting, Inbox, Running, Gathered, InBatch, Acked, Lost}
 use Rattle.pipe_types.specs.declared.message.Reply.{Reply}
 use Rattle.pipe_types.specs.declared.message.Reply.TheVariants.{Pass, Failed as FailedReply, Raised, Crashed}
@@ -22,7 +23,7 @@ use Rattle.pipe_model.specs.History.{History, accepted, closed, incarnation}
 use Rattle.pipe_model.specs.Posts.{out_from}
 use Rattle.pipe_model.specs.Lives.{KillSet, reason_in, kill_set, is_live}
 use Rattle.pipe_model.specs.Content.{has_crash, is_among_next}
-use Rattle.pipe_model.specs.Flow.{place, batch, view_of, inbox, sent_to, is_batcher, runs_in, chunk_by, deliveries, delivered_to, subs_of, lost_over, dispatched, waiting_after, taken, next_units, units_on, among, accepted_to, done, answered, reply_to, has_batchers_in, closing, batch_waits_in, waits_in}
+use Rattle.pipe_model.specs.Flow.{place, batch, view_of, inbox, sent_to, is_batcher, runs_in, chunk_by, deliveries, alone, delivered_to, subs_of, lost_over, dispatched, waiting_after, taken, next_units, units_on, among, accepted_to, done, answered, reply_to, has_batchers_in, closing, batch_waits_in, waits_in}
 use Rattle.pipe_model.specs.Work.{taken_units}
 use Rattle.pipe_model.specs.Legal.{is_legal, allows, has_role, is_processor_role, is_current}
 use Rattle.pipe_laws.proofs.Tests.{clash, same_stage-true, same_stage-self, both}
@@ -67,8 +68,8 @@ runs_accepted topology before t s records = runs_still topology before (Accept t
 
 -- Dispatch
 
-dispatched_runs : (units : List SentUnit) (over : List ℕ) (t s : StageNo) (n : ℕ) (p : Option Place) → runs_in s (option_map (dispatched units over t n) p) ≡ runs_in s p
-dispatched_runs units over t s n (Some (Waiting w)) = by (same_stage t w)
+dispatched_runs : (units : List SentUnit) (over alone : List ℕ) (t s : StageNo) (n : ℕ) (p : Option Place) → runs_in s (option_map (dispatched units over alone t n) p) ≡ runs_in s p
+dispatched_runs units over alone t s n (Some (Waiting w)) = by (same_stage t w)
   where
     after : (subs : List SubNo) (b : Bool) → runs_in s (Some (waiting_after subs b t)) ≡ false
     after (u ∷ subs) b = refl
@@ -78,7 +79,12 @@ dispatched_runs units over t s n (Some (Waiting w)) = by (same_stage t w)
     by : (b : Bool) → runs_in s (Some (if b then waiting_after (subs_of units n) (among over n) t else Waiting w)) ≡ false
     by true = after (subs_of units n) (among over n)
     by false = refl
-dispatched_runs units over t s n _ = refl
+dispatched_runs units over alone t s n (Some (InBatch b)) = by (among alone b.0)
+  where
+    by : (a : Bool) → runs_in s (Some (if a then Acked Successful else InBatch b)) ≡ false
+    by true = refl
+    by false = refl
+dispatched_runs units over alone t s n _ = refl
 
 pub runs_dispatched : (topology : Topology) (before : History) (t s : StageNo) → Fits topology → is_legal topology before ≡ true → running topology (Dispatch t ∷ before) s ≡ running topology before s
 runs_dispatched topology before t s fit h =
@@ -87,7 +93,7 @@ runs_dispatched topology before t s fit h =
     ∙ ((λ i. olds i ++ news i) ∙ append-nil (running topology before s)))
   where
     same : (n : ℕ) → runs_in s (place topology (Dispatch t ∷ before) n) ≡ runs_in s (place topology before n)
-    same n = dispatched_runs (deliveries topology before t) (lost_over topology before (view_of topology before) t) t s n (place topology before n)
+    same n = dispatched_runs (deliveries topology before t) (lost_over topology before (view_of topology before) t) (alone topology before t) t s n (place topology before n)
 
     olds : filter (λ n. runs_in s (place topology (Dispatch t ∷ before) n)) (numbers topology before s) ≡ running topology before s
     olds = filter_alike (λ n. runs_in s (place topology before n)) (λ n. runs_in s (place topology (Dispatch t ∷ before) n)) same (numbers topology before s)

@@ -1,5 +1,5 @@
 -- A batch's messages after a leg was answered.
-use Rattle.std.proofs.Common.{◌≡◌, ℕ, ◌+◌, ◌-◌, List, [], ◌∷◌, Bool, true, false, refl, ap, sym, ◌∙◌, Some, None, Option, subst}
+use Rattle.std.proofs.Common.{◌≡◌, ℕ, ◌+◌, List, [], ◌∷◌, Bool, true, false, refl, ap, sym, ◌∙◌, Some, None, Option, subst}
 use Rattle.std.specs.Prelude.{option_map, if◌then◌else◌, ◌==◌, ◌&&◌, ◌||◌, not, is_some, unwrap_or, position}
 use Rattle.std.proofs.lemmas.Bool.{eq-eqb, eqb-true, false_from_ne_true}
 use Rattle.pipe_types.specs.declared.numbers.StageNo.{StageNo}
@@ -13,7 +13,7 @@ use Rattle.pipe_types.specs.declared.step.Step.{Step}
 use Rattle.pipe_types.specs.declared.step.Step.TheVariants.{Close, Wrote}
 use Rattle.pipe_types.specs.Numbers.{same_stage, batch_no}
 use Rattle.pipe_model.specs.History.{History, closed}
-use Rattle.pipe_model.specs.Batches.{Batch, BatchPlace, AtBatcher, Sent, Dropped, Leg, is_settled, settled_as, lost_leg, failed_leg, place_by_batch, on_legs, leg_answered, batch_on_legs}
+use Rattle.pipe_model.specs.Batches.{Batch, Sent, Leg, is_settled, settled_as, lost_leg, failed_leg, on_legs, leg_answered, batch_on_legs}
 use Rattle.pipe_model.specs.Flow.{place, batch, view_of, among, closing, put_in_batch, numbers_in, by_batch, place_in_batch, new_batch, change_place}
 use Rattle.pipe_model.specs.Work.{taken_units}
 use Rattle.pipe_model.specs.Moves.{is_final}
@@ -26,7 +26,7 @@ use Rattle.pipe_laws.proofs.Allowed.{legal_before}
 use Rattle.queue_laws.proofs.Batched.{BatchHolds, batch_holds}
 use Rattle.queue_laws.proofs.Writes.{wrote_others}
 use Rattle.queue_laws.proofs.OneLeg.{numbers_kept}
-use Rattle.pipe_model.specs.Standing.{going, in_progress}
+use Rattle.pipe_model.specs.Standing.{in_progress}
 use Rattle.queue_laws.proofs.Batched.{going_in}
 
 in_progress_some : (o : Option Batch) → in_progress o ≡ true → is_some o ≡ true

@@ -17,11 +17,11 @@ use Rattle.pipe_types.specs.declared.message.Reply.{Reply}
 use Rattle.pipe_types.specs.declared.message.Reply.TheVariants.{Pass, Failed as FailedReply, Raised, Crashed}
 use Rattle.pipe_types.specs.declared.step.Step.{Step}
 use Rattle.pipe_types.specs.declared.step.Step.TheVariants.{Dispatch, Take, Gather, Child, ChildEnd, Kill, Halt}
-use Rattle.pipe_types.specs.Numbers.{same_stage, post}
+use Rattle.pipe_types.specs.Numbers.{same_stage}
 use Rattle.pipe_types.specs.Stages.{spec_of}
 use Rattle.pipe_model.specs.History.{History, incarnation}
 use Rattle.pipe_model.specs.Posts.{in_slot, crashes}
-use Rattle.pipe_model.specs.Lives.{KillSet, reason_in, kill_set}
+use Rattle.pipe_model.specs.Lives.{reason_in, kill_set}
 use Rattle.pipe_model.specs.Ledger.{crashed_reply, crashes_of}
 use Rattle.pipe_model.specs.Flow.{place, batch, inbox, sent_to, is_batcher, runs_in, runs_again, in_inbox_by, leg_waits_in, is_number, among, taken, child_ended, child_place, deliveries, delivered_to}
 use Rattle.pipe_model.specs.Legal.{is_legal, has_role, is_supervisor_role, is_batcher_role, takes_role, first_unit, runs_number}
@@ -34,7 +34,7 @@ use Rattle.pipe_laws.proofs.Idle.{fed_by_messages}
 use Rattle.pipe_laws.proofs.Kept.{runs_here}
 use Rattle.pipe_laws.proofs.Slots.{supervisor_writes, first_stands, number_is, supervisor_takes}
 use Rattle.pipe_laws.proofs.Allowed.{legal_before, legal_step, take_facts, gather_facts, ChildFacts, child_facts}
-use Rattle.queue_laws.specs.Queues.{unless_killed, without_number, inbox_after}
+use Rattle.queue_laws.specs.Queues.{without_number, inbox_after}
 use Rattle.queue_laws.proofs.Filters.{filter_alike, filter_both, filter_all}
 use Rattle.queue_laws.proofs.Fits.{Fits}
 use Rattle.queue_laws.proofs.Apart.{Apart, apart_kept}

@@ -38,10 +38,10 @@ pub fn records_are_limited()
         IsSound topology → IsTrue (is_legal topology before) → accepted before + fetches_out topology before ≤ topology.record_limit }
 {}
 
-/// So at most 200,000 records are accepted.
+/// So at most 2,000,000 records are accepted.
 #[tactic(auto, using(crate::proofs::Laws::small_law))]
 pub fn records_are_few()
-    ensures { (topology : Topology) (before : History) → IsSound topology → IsTrue (is_legal topology before) → accepted before ≤ 200000 }
+    ensures { (topology : Topology) (before : History) → IsSound topology → IsTrue (is_legal topology before) → accepted before ≤ 2000000 }
 {}
 
 /// No more batches are closed than records accepted.

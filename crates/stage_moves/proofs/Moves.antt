@@ -75,7 +75,7 @@ own_of_first : (topology : Topology) (before : History) → OfMove (first_move t
 own_of_first topology before =
     own_else _ _ (own_if (happened is_halt before && not (jobs_out topology before)) Halted tt)
     (own_else _ _ (own_if (is_drained topology before) Drained tt)
-    (own_else _ _ (own_find (λ spec. needs_restart topology before spec.no && no_post_out topology before spec.no) (λ spec. StepMove (if may_restart topology before then Restart spec.no else Halt)) topology.stages (λ spec. restart_or_halt (may_restart topology before) spec.no))
+    (own_else _ _ (own_find (λ spec. needs_restart topology before spec.no && no_post_out topology before spec.no) (λ spec. StepMove (if may_restart topology before spec.no then Restart spec.no else Halt)) topology.stages (λ spec. restart_or_halt (may_restart topology before spec.no) spec.no))
     (own_else _ _ (own_if (allows topology before (Drain Sources)) (StepMove (Drain Sources)) refl)
     (own_else _ _ (own_if (allows topology before (Drain Limit)) (StepMove (Drain Limit)) refl)
     (own_else _ _ (own_if (allows topology before (Drain Idle)) (StepMove (Drain Idle)) refl)

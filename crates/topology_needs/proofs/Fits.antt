@@ -9,14 +9,14 @@ use Rattle.pipe_types.specs.declared.topology.StageSpec.{StageSpec}
 use Rattle.pipe_types.specs.declared.topology.Role.{Role}
 use Rattle.pipe_types.specs.declared.topology.Role.TheVariants.{Producer, Processor, Supervisor, Batcher, BatchProcessor}
 use Rattle.pipe_types.specs.declared.topology.Kind.{Kind}
-use Rattle.pipe_types.specs.Sound.{IsSound, has_fields, has_fields_of, is_supervisor_in, asks_up_to, is_lines, are_rules, is_reason, no_batcher, no_dispatcher, no_buffer, no_edge, no_batching, no_batchers}
+use Rattle.pipe_types.specs.Sound.{IsSound, has_fields, has_fields_of, is_supervisor_in, asks_up_to, is_lines, are_rules, is_reason, no_batcher, no_dispatcher, no_buffer, no_edge, no_batching, no_select, no_batchers}
 use Rattle.pipe_types.specs.Stages.{spec_feeds}
 use Rattle.stage_job.specs.Boxes.{same_kind}
 use Rattle.topology_needs.specs.Needs.{posts_in, posts_of, of_kind, need_of, consumers_of, subscriptions_of}
 
 children_few : (s : StageSpec) → is_supervisor_in s ≡ true → s.max ≤ 16
 children_few s h =
-    let own = (and_parts (asks_up_to 16 s && (not (is_lines s.kind) && (are_rules 0 s.rules && is_reason s.failed))) ((no_batcher s && no_dispatcher s) && ((no_buffer s && no_edge s) && (no_batching s && no_batchers s))) h).0 in
+    let own = (and_parts (asks_up_to 16 s && (not (is_lines s.kind) && (are_rules 0 s.rules && is_reason s.failed))) ((no_batcher s && no_dispatcher s) && ((no_buffer s && no_edge s) && ((no_batching s && no_select s) && no_batchers s))) h).0 in
     let asks = (and_parts (asks_up_to 16 s) (not (is_lines s.kind) && (are_rules 0 s.rules && is_reason s.failed)) own).0 in
     leb-true s.max 16 (and_parts (nat_lt s.min s.max) (nat_le s.max 16) asks).1
 

@@ -19,7 +19,7 @@ use Rattle.pipe_types.specs.Sound.{IsSound, has_fields_of, by_demand, by_broadca
 use Rattle.pipe_model.specs.History.{History, accepted}
 use Rattle.pipe_model.specs.Posts.{puts_out, answers, in_slot}
 use Rattle.pipe_model.specs.Lives.{is_live}
-use Rattle.pipe_model.specs.Flow.{place, view_of, is_batcher, is_empty, deliveries, lost_over, over_in, over_size, unsent, waiting}
+use Rattle.pipe_model.specs.Flow.{alone, place, view_of, is_batcher, is_empty, deliveries, lost_over, over_in, over_size, unsent, waiting}
 use Rattle.pipe_model.specs.Counting.{as_number}
 use Rattle.pipe_model.specs.Legal.{is_legal, allows, has_role, takes_role, is_producer_role, is_processor_role, is_batch_processor_role, is_supervisor_role, runs_number}
 use Rattle.pipe_laws.proofs.Tests.{clash, and_left, and_right, both, same_stage-true, same_stage-self}
@@ -90,13 +90,15 @@ batcher_keeps topology before t sound h = by_spec (spec_of topology t) refl h
 -- a dispatch sends or moves a message
 dispatch_counts : (topology : Topology) (before : History) (t : StageNo) → IsSound topology → allows topology before (Dispatch t) ≡ true → 1 ≤ as_number (sends_one topology before (Dispatch t)) + as_number (moves_one topology before (Dispatch t))
 dispatch_counts topology before t sound h =
-    either (is_empty (deliveries topology before t)) (is_empty (lost_over topology before (view_of topology before) t)) (is_batcher (spec_of topology t)) (batcher_keeps topology before t sound) (and_right (is_live topology before t) _ (dispatch_may topology before t h))
+    either (is_empty (deliveries topology before t)) (is_empty (alone topology before t)) (is_empty (lost_over topology before (view_of topology before) t)) (is_batcher (spec_of topology t)) (batcher_keeps topology before t sound) (and_right (is_live topology before t) _ (dispatch_may topology before t h))
   where
-    either : (a b c : Bool) → (c ≡ true → b ≡ true) → (not a || not b) ≡ true → 1 ≤ as_number (not a) + as_number (not c && (not a || not b))
-    either false b c f k = omega arith
-    either true true c f k = let x : false ≡ true = k in cc
-    either true false false f k = omega arith
-    either true false true f k = let x : false ≡ true = f refl in cc
+    either : (a l b c : Bool) → (c ≡ true → b ≡ true) → (not a || (not l || not b)) ≡ true → 1 ≤ as_number (not a) + as_number ((not c && (not a || not b)) || not l)
+    either false l b c f k = omega arith
+    either true true true c f k = let x : false ≡ true = k in cc
+    either true false true true f k = omega arith
+    either true false true false f k = omega arith
+    either true l false false f k = omega arith
+    either true l false true f k = let x : false ≡ true = f refl in cc
 
 dispatches_within : (topology : Topology) (before : History) → IsSound topology → is_legal topology before ≡ true → how_many is_dispatch before ≤ senders topology before + movers topology before
 dispatches_within topology [] sound h = omega arith

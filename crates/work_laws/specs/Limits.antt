@@ -17,7 +17,7 @@ most_moves topology = 21 * topology.record_limit
 
 -- units that are sent to one stage, and so its takes
 abbrev pub most_units : Topology → ℕ
-most_units topology = 21 * topology.record_limit + 1
+most_units topology = topology.record_limit + 1
 
 abbrev pub most_takes : Topology → ℕ
 most_takes topology = number_of_stages topology * most_units topology

@@ -1,7 +1,7 @@
 use Rattle.std.proofs.Common.{◌≡◌, ◌++◌, take, drop, map}
 use Rattle.std.specs.Prelude.{reverse}
-use Rattle.pipe_types.specs.Dispatchers.{sends_from, sends}
+use Rattle.pipe_types.specs.Dispatchers.{served_as, picks_all, sends_from, sends}
 use Rattle.plain_dispatch.proofs.sends.Given as goal
 
 abbrev pub invariant-loop-i : goal.invariant-loop-i
-invariant-loop-i l = l.sent.items ++ sends_from l.kind l.rooms (reverse (map (λ d. d.1) (take l.i l.units))) (drop l.i l.units) ≡ sends l.kind l.rooms l.units
+invariant-loop-i l = l.sent.items ++ sends_from (served_as l.kind picks_all) l.rooms (reverse (map (λ d. d.1) (take l.i l.units))) (drop l.i l.units) ≡ sends (served_as l.kind picks_all) l.rooms l.units

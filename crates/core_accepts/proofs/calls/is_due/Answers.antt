@@ -26,4 +26,4 @@ returns c =
     let here : slice_get core.waiting.items s.0 ≡ Some q = slice_get_read core.waiting.items (length core.waiting.items) s.0 q refl (omega (arith, w.1, x.fields.sized.waiting)) c.index.ensures in
     let units : c.len-units.result ≡ length (waiting core.topology core.journal.steps s) =
     c.len-units.ensures ∙ (q.ok.0 ∙ (ap (λ o. length (items_in o)) (sym here) ∙ waiting_seen core s x)) in
-    c.is_some_due.ensures ∙ due_by core.topology core.journal.steps s c.in-Some.spec.now c.args.sent.now c.len-units.result (sym c.in-Some.ensures) c.requires.live c.requires.planned units
+    c.is_some_due.ensures ∙ due_by core.topology core.journal.steps s c.in-Some.spec.now c.args.sent.now c.len-units.result c.requires.messages (sym c.in-Some.ensures) c.requires.live c.requires.planned units

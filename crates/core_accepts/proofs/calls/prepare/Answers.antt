@@ -11,7 +11,8 @@ use Rattle.core_state.specs.declared.state.Core.{Core}
 use Rattle.core_laws.proofs.Lawful.{lawful}
 use Rattle.core_sends.specs.Rooms.{planned}
 use Rattle.core_accepts.proofs.Bringing.{bringing, there}
-use Rattle.core_accepts.proofs.Planning.{planned_accepted}
+use Rattle.core_sends.proofs.Queued.{plain_cast}
+use Rattle.core_accepts.proofs.Planning.{no_batcher, planned_accepted}
 use Rattle.core_accepts.proofs.calls.prepare.Goals as goal
 
 pub unreachable-requires : goal.unreachable-requires
@@ -37,6 +38,14 @@ plan-requires-clause-live c =
     let core = c.args.core.now in
     let x = c.requires.stands.holds in
     (bringing core.topology core.journal.steps c.args.stage c.args.records.now x.sound x.legal c.requires.legal).law.live
+
+pub plan-requires-clause-plain : goal.plan-requires-clause-plain
+plan-requires-clause-plain c =
+    let core = c.args.core.now in
+    let x = c.requires.stands.holds in
+    let b = bringing core.topology core.journal.steps c.args.stage c.args.records.now x.sound x.legal c.requires.legal in
+    let found : spec_of core.topology c.args.stage ≡ Some c.in-Some.spec.now = sym c.in-Some.ensures in
+    plain_cast core.topology c.args.stage x.sound (no_batcher core.topology c.args.stage c.in-Some.spec.now found (b.role c.in-Some.spec.now found))
 
 pub plan-requires-clause-few : goal.plan-requires-clause-few
 plan-requires-clause-few c =

@@ -17,7 +17,7 @@ returns-then-is_ready_to_restart c =
     let no : c.in-Some.spec.now.no ≡ s = found_no t s c.in-Some.spec.now (sym c.in-Some.ensures) in
     let ready : (needs_restart t h s && no_post_out t h s) ≡ true =
     ap (λ (u : StageNo). needs_restart t h u && no_post_out t h u) (sym no) ∙ (sym c.is_ready_to_restart.ensures ∙ c.if-is_ready_to_restart.true) in
-    c.may_restart.ensures ∙ (ap (λ b. b && may_restart t h) (sym ready) ∙ and_parts (needs_restart t h s) (no_post_out t h s) (may_restart t h))
+    c.may_restart.ensures ∙ (ap (λ b. b && may_restart t h s) (sym ready) ∙ and_parts (needs_restart t h s) (no_post_out t h s) (may_restart t h s))
 
 pub returns-else-is_ready_to_restart : goal.returns-else-is_ready_to_restart
 returns-else-is_ready_to_restart c =
@@ -27,4 +27,4 @@ returns-else-is_ready_to_restart c =
     let no : c.in-Some.spec.now.no ≡ s = found_no t s c.in-Some.spec.now (sym c.in-Some.ensures) in
     let ready : (needs_restart t h s && no_post_out t h s) ≡ false =
     ap (λ (u : StageNo). needs_restart t h u && no_post_out t h u) (sym no) ∙ (sym c.is_ready_to_restart.ensures ∙ c.if-is_ready_to_restart.false) in
-    c.if-is_ready_to_restart.false ∙ (ap (λ b. b && may_restart t h) (sym ready) ∙ and_parts (needs_restart t h s) (no_post_out t h s) (may_restart t h))
+    c.if-is_ready_to_restart.false ∙ (ap (λ b. b && may_restart t h s) (sym ready) ∙ and_parts (needs_restart t h s) (no_post_out t h s) (may_restart t h s))

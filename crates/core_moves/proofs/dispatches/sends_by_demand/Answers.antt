@@ -1,5 +1,5 @@
 use Rattle.std.proofs.Common.{◌∙◌, sym}
-use Rattle.pipe_types.specs.declared.topology.Dispatch.TheVariants.{Demand}
+use Rattle.pipe_types.specs.Dispatchers.{ByDemand}
 use Rattle.pipe_model.specs.Flow.{rooms_by, view_of}
 use Rattle.core_moves.proofs.Sending.{none_wait, demand_go}
 use Rattle.core_moves.proofs.dispatches.sends_by_demand.Goals as goal
@@ -8,7 +8,7 @@ pub returns-then-is_waiting_empty : goal.returns-then-is_waiting_empty
 returns-then-is_waiting_empty c =
     let core = c.args.core.now in
     let s = c.args.spec.now.no in
-    none_wait core.topology core.journal.steps s Demand (rooms_by core.topology core.journal.steps (view_of core.topology core.journal.steps) s) (sym c.is_waiting_empty.ensures ∙ c.if-is_waiting_empty.true)
+    none_wait core.topology core.journal.steps s ByDemand (rooms_by core.topology core.journal.steps (view_of core.topology core.journal.steps) s) (sym c.is_waiting_empty.ensures ∙ c.if-is_waiting_empty.true)
 
 pub returns : goal.returns
 returns c =

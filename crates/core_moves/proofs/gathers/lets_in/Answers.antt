@@ -3,7 +3,8 @@ use Rattle.std.specs.Prelude.{slice_get}
 use Rattle.pipe_model.specs.Content.{key_in, content}
 use Rattle.batcher.specs.Batches.{fits}
 use Rattle.core_rows.proofs.Known.{row_within}
-use Rattle.core_moves.proofs.Fitting.{key_at, fits_is}
+use Rattle.core_moves.proofs.Fitting.{fits_is}
+use Rattle.core_state.proofs.Keys.{key_at}
 use Rattle.core_moves.proofs.gathers.lets_in.Goals as goal
 
 pub index-requires : goal.index-requires

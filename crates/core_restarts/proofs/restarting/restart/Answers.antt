@@ -1,11 +1,12 @@
-use Rattle.std.proofs.Common.{◌∷◌, ◌∙◌, ap, sym, subst, refl, length, arith}
-use Rattle.std.specs.Prelude.{slice_get}
+use Rattle.std.proofs.Common.{◌∷◌, ◌∙◌, ◌<◌, ◌≤◌, ap, sym, subst, refl, length, arith}
+use Rattle.std.specs.Prelude.{slice_get, if◌then◌else◌, ◌==◌, All, IfSome}
+use Rattle.std.proofs.lemmas.Option.{slice_get_within}
 use Rattle.pipe_types.specs.declared.step.Step.TheVariants.{Restart}
 use Rattle.pipe_model.specs.History.{History}
-use Rattle.pipe_model.specs.Legal.{restart_times}
+use Rattle.pipe_model.specs.Legal.{limit_of, restart_times}
+use Rattle.restart_core.specs.Restarts.{Remembers}
 use Rattle.pipe_laws.proofs.Allowed.{restart_dead}
 use Rattle.stage_laws.proofs.Numbering.{numbered_topology}
-use Rattle.core_tables.specs.declared.rows.Totals.{Totals}
 use Rattle.core_laws.proofs.Past.{restart_known, known_within}
 use Rattle.core_state.specs.declared.state.Core.{Core}
 use Rattle.core_state.specs.Readings.{lives_by}
@@ -13,7 +14,7 @@ use Rattle.core_state.proofs.Reading.{live_by, incarnation_is}
 use Rattle.core_state.proofs.Steps.{holds_after, unowed_after, still_stands}
 use Rattle.core_restarts.specs.Renewals.{live_upto, begins, AreRenewed}
 use Rattle.core_restarts.proofs.Unbegun.{incarnation_room}
-use Rattle.core_restarts.proofs.Times.{remembered_past, limit_some}
+use Rattle.core_restarts.proofs.Times.{restart_allowed}
 use Rattle.core_restarts.proofs.Revived.{closed_rows, pairs_after, restarted_fields}
 use Rattle.core_restarts.proofs.restarting.restart.Goals as goal
 
@@ -53,17 +54,23 @@ note_restart-requires-clause-few c =
     let x = c.requires.stands.holds in
     omega (arith, incarnation_is core c.args.stage x, incarnation_room core.topology core.journal.steps c.args.stage x.sound x.legal)
 
-pub made-requires-clause-allowed : goal.made-requires-clause-allowed
-made-requires-clause-allowed c =
+pub note_time-requires-clause-there : goal.note_time-requires-clause-there
+note_time-requires-clause-there c =
     let core = c.args.core.now in
-    omega (arith, c.requires.stands.holds.fields.set.restarts.0, limit_some core.topology core.journal.steps c.args.stage c.requires.legal)
+    let known = restart_allowed core c.args.stage c.requires.stands.holds c.requires.legal in
+    omega (arith, c.limit_of-limit.ensures, slice_get_within core.restarts.items (limit_of core.topology c.args.stage) known.limit known.at)
 
-pub made-requires-clause-latest : goal.made-requires-clause-latest
-made-requires-clause-latest c = λ k d low.
+pub note_time-requires-clause-allowed : goal.note_time-requires-clause-allowed
+note_time-requires-clause-allowed c =
     let core = c.args.core.now in
-    let x = c.requires.stands.holds in
-    let now = ap (λ (y : Totals). y.now) x.fields.totals in
-    omega (arith, remembered_past core.topology core.journal.steps core.restarts x.legal x.fields.restarts k d low, now)
+    let known = restart_allowed core c.args.stage c.requires.stands.holds c.requires.legal in
+    subst (λ o. IfSome o (λ limit. 0 < limit.max)) (sym (ap (slice_get core.restarts.items) c.limit_of-limit.ensures ∙ known.at)) known.some
+
+pub note_time-requires-clause-latest : goal.note_time-requires-clause-latest
+note_time-requires-clause-latest c =
+    let core = c.args.core.now in
+    let known = restart_allowed core c.args.stage c.requires.stands.holds c.requires.legal in
+    subst (λ o. IfSome o (λ limit. All (λ t. t ≤ core.totals.now) limit.times)) (sym (ap (slice_get core.restarts.items) c.limit_of-limit.ensures ∙ known.at)) known.latest
 
 pub returns-clause-stands : goal.returns-clause-stands
 returns-clause-stands c =
@@ -72,12 +79,14 @@ returns-clause-stands c =
     let x = c.requires.stands.holds in
     let known = restart_known core.topology core.journal.steps s c.requires.legal in
     let dead = restart_dead core.topology core.journal.steps s c.requires.legal in
-    let core-new : Core = record core { journal = c.push_spare.new.self; stages = c.note_restart.new.rows; subs = c.renew_all.new.subs; restarts = c.made.new.self; totals = record core.totals { quiet = 0 } } in
+    let core-new : Core = record core { journal = c.push_spare.new.self; stages = c.note_restart.new.rows; subs = c.renew_all.new.subs; restarts = c.note_time.new.limits; totals = record core.totals { quiet = 0 } } in
     let written = c.push_spare.ensures.written ∙ ap (λ (h : History). Restart s ∷ h) c.in_ok-reserve.ensures.same_steps in
     let are = subst (λ xs. AreRenewed core.topology (live_upto (length core.topology.stages) xs) s core.subs c.renew_all.new.subs) c.deref.ensures.value c.renew_all.ensures in
-    let fields = restarted_fields core core.topology core.journal.steps s c.push_spare.new.self c.note_restart.new.rows c.renew_all.new.subs c.made.new.self x.fields
+    let fields = restarted_fields core core.topology core.journal.steps s c.push_spare.new.self c.note_restart.new.rows c.renew_all.new.subs c.note_time.new.limits x.fields
     c.note_restart.ensures.rows c.note_restart.ensures.len (λ d p fed. pairs_after core s d p c.renew_all.new.subs x known dead are fed)
-    c.made.ensures.limit (c.made.ensures.remembered (restart_times core.journal.steps) x.fields.restarts) in
+    c.note_time.ensures.limits
+    (λ l limit at. (let known = c.note_time.ensures.remembered l (restart_times core.topology core.journal.steps l) limit (x.fields.restarts l) at in
+    subst (λ k. Remembers limit (if k == l then core.totals.now ∷ restart_times core.topology core.journal.steps l else restart_times core.topology core.journal.steps l)) c.limit_of-limit.ensures known)) in
     let holds = holds_after core core-new (Restart s) x refl written c.requires.legal fields in
     record { holds = holds; unowed = unowed_after core-new core.topology (Restart s) core.journal.steps refl written refl }
 

@@ -1,10 +1,9 @@
-use Rattle.std.proofs.Common.{◌≡◌, ℕ, ◌+◌, ◌++◌, List, length, map, replicate, ◌∙◌, ap, sym, arith, subst, refl}
+use Rattle.std.proofs.Common.{◌≡◌, ℕ, ◌+◌, ◌++◌, List, length, map, replicate, ◌∙◌, ap, sym, arith, subst}
 use Rattle.std.specs.Prelude.{IfOk}
 use Rattle.std.proofs.lemmas.List.{length-append, length-map, length-replicate}
 use Rattle.pipe_types.specs.declared.room.Sent.{Sent}
 use Rattle.pipe_types.specs.declared.topology.Dispatch.{Dispatch as Kind}
-use Rattle.pipe_types.specs.declared.topology.Dispatch.TheVariants.{Demand, Broadcast}
-use Rattle.pipe_types.specs.Dispatchers.{sends_by_place}
+use Rattle.pipe_types.specs.Dispatchers.{ByDemand, served_as, picks_all, sends_by_place}
 use Rattle.core_laws.proofs.Parts.{parts_free}
 use Rattle.core_sends.proofs.deliveries.deliver.Goals as goal
 
@@ -19,19 +18,7 @@ returns-in-Demand c =
     let rooms = c.args.rooms.now in
     let n : ℕ = c.len.result + length c.args.more.now in
     let count : n ≡ length queue + length more = omega (arith, c.len.ensures) in
-    let same : sends_by_place Demand rooms (replicate n 0) ≡ sends_by_place c.args.kind rooms (map {A = ℕ × ℕ} {B = ℕ} (λ unit. unit.0) queue ++ more) =
-    parts_free Demand refl rooms (replicate n 0) (map {A = ℕ × ℕ} {B = ℕ} (λ unit. unit.0) queue ++ more) (long n queue more count)
-    ∙ ap (λ (k : Kind). sends_by_place k rooms (map {A = ℕ × ℕ} {B = ℕ} (λ unit. unit.0) queue ++ more)) (sym c.in-Demand.is) in
+    let same : sends_by_place ByDemand rooms (replicate n 0) ≡ sends_by_place (served_as c.args.kind picks_all) rooms (map {A = ℕ × ℕ} {B = ℕ} (λ unit. unit.0) queue ++ more) =
+    parts_free rooms (replicate n 0) (map {A = ℕ × ℕ} {B = ℕ} (λ unit. unit.0) queue ++ more) (long n queue more count)
+    ∙ ap (λ (k : Kind). sends_by_place (served_as k picks_all) rooms (map {A = ℕ × ℕ} {B = ℕ} (λ unit. unit.0) queue ++ more)) (sym c.in-Demand.is) in
     subst (λ (ds : List Sent). IfOk c.deliver.result (λ sent. sent ≡ ds)) same c.deliver.ensures
-
-pub returns-in-Broadcast : goal.returns-in-Broadcast
-returns-in-Broadcast c =
-    let queue = c.args.queue.now.items in
-    let more = c.args.more.now in
-    let rooms = c.args.rooms.now in
-    let n : ℕ = c.len.result + length c.args.more.now in
-    let count : n ≡ length queue + length more = omega (arith, c.len.ensures) in
-    let same : sends_by_place Broadcast rooms (replicate n 0) ≡ sends_by_place c.args.kind rooms (map {A = ℕ × ℕ} {B = ℕ} (λ unit. unit.0) queue ++ more) =
-    parts_free Broadcast refl rooms (replicate n 0) (map {A = ℕ × ℕ} {B = ℕ} (λ unit. unit.0) queue ++ more) (long n queue more count)
-    ∙ ap (λ (k : Kind). sends_by_place k rooms (map {A = ℕ × ℕ} {B = ℕ} (λ unit. unit.0) queue ++ more)) (sym c.in-Broadcast.is) in
-    subst (λ (ds : List Sent). IfOk c.deliver-in-Broadcast.result (λ sent. sent ≡ ds)) same c.deliver-in-Broadcast.ensures

@@ -1,12 +1,21 @@
-use Rattle.std.proofs.Common.{◌≡◌, length, ◌∙◌, ap, sym, arith, subst, Some}
+use Rattle.std.proofs.Common.{◌≡◌, length, ◌∙◌, ap, sym, arith, subst, Some, false}
 use Rattle.pipe_types.specs.Rooms.{AreAscending, PartsDiffer}
 use Rattle.pipe_types.specs.Stages.{spec_of}
-use Rattle.core_laws.specs.Columns.{part_of}
-use Rattle.pipe_model.specs.Flow.{waiting}
+use Rattle.core_laws.specs.Columns.{part_of, is_broadcast}
+use Rattle.pipe_types.specs.declared.topology.Topology.{Topology}
+use Rattle.pipe_types.specs.declared.topology.StageSpec.{StageSpec}
+use Rattle.pipe_types.specs.declared.numbers.StageNo.{StageNo}
+use Rattle.pipe_model.specs.Flow.{waiting, kind_in}
 use Rattle.core_laws.proofs.Lawful.{lawful}
 use Rattle.core_laws.proofs.Parts.{rooms_differ}
 use Rattle.core_sends.proofs.Queued.{live_within, waiting_read, long_queue, plan_is}
 use Rattle.core_sends.proofs.plans.plan.Goals as goal
+
+plain_here : (t : Topology) (s : StageNo) (spec : StageSpec) → spec_of t s ≡ Some spec → is_broadcast (kind_in (spec_of t s)) ≡ false → is_broadcast spec.dispatch ≡ false
+plain_here t s spec there plain = sym (ap (λ o. is_broadcast (kind_in o)) there) ∙ plain
+
+pub deliver-requires-clause-plain : goal.deliver-requires-clause-plain
+deliver-requires-clause-plain c = plain_here c.args.core.now.topology c.args.stage c.in-Some.spec.now (sym c.in-Some.ensures) c.requires.plain
 
 pub index-queue-requires : goal.index-queue-requires
 index-queue-requires c =
@@ -43,4 +52,4 @@ returns c =
     let there : spec_of t c.args.stage ≡ Some c.in-Some.spec.now = sym c.in-Some.ensures in
     c.into_vec.ensures
     ∙ (c.in_ok-sent.ensures
-    ∙ plan_is t before c.args.stage c.in-Some.spec.now c.index-queue.result.now.items c.deref.result.now c.args.more.now there read (c.deref.ensures.value ∙ c.in_ok-rooms.ensures))
+    ∙ plan_is t before c.args.stage c.in-Some.spec.now c.index-queue.result.now.items c.deref.result.now c.args.more.now there read (c.deref.ensures.value ∙ c.in_ok-rooms.ensures) (plain_here c.args.core.now.topology c.args.stage c.in-Some.spec.now there c.requires.plain))

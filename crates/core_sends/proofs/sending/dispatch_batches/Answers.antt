@@ -7,11 +7,11 @@ use Rattle.pipe_types.specs.declared.room.Sent.{Sent}
 use Rattle.pipe_model.specs.Lives.{is_live_sub}
 use Rattle.core_sends.proofs.sending.dispatch_batches.Goals as goal
 
-pub plan-requires-clause-live : goal.plan-requires-clause-live
-plan-requires-clause-live c = (dispatching c.args.core.now c.args.stage c.requires.stands.holds c.requires.legal).law.live
+pub plan_batches-requires-clause-live : goal.plan_batches-requires-clause-live
+plan_batches-requires-clause-live c = (dispatching c.args.core.now c.args.stage c.requires.stands.holds c.requires.legal).law.live
 
-pub plan-requires-clause-few : goal.plan-requires-clause-few
-plan-requires-clause-few c =
+pub plan_batches-requires-clause-few : goal.plan_batches-requires-clause-few
+plan_batches-requires-clause-few c =
     let core = c.args.core.now in
     let x = c.requires.stands.holds in
     let few = lawful.few core.topology core.journal.steps c.args.stage x.sound x.legal in
@@ -30,4 +30,4 @@ make_room-requires-clause-live c =
     let t = core.topology in
     let before = core.journal.steps in
     let live = (dispatching core c.args.stage c.requires.stands.holds c.requires.legal).law.live in
-    subst (All (λ (d : Sent). is_live_sub t before d.sub ≡ true)) (sym (c.deref.ensures.value ∙ c.in_ok-sent.ensures)) (planned_live t before c.args.stage [] live)
+    subst (All (λ (d : Sent). is_live_sub t before d.sub ≡ true)) (sym (c.deref.ensures.value ∙ c.in_ok-planned.ensures.sent)) (planned_live t before c.args.stage [] live)

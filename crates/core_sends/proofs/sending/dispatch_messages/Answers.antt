@@ -1,6 +1,7 @@
 use Rattle.std.proofs.Common.{◌≡◌, ◌∙◌, sym, subst, All, true, [], arith}
 use Rattle.core_laws.proofs.Lawful.{lawful}
 use Rattle.core_state.proofs.Steps.{still_stands}
+use Rattle.core_sends.proofs.Queued.{plain_cast}
 use Rattle.core_sends.proofs.Roomy.{planned_live}
 use Rattle.core_sends.proofs.Sendable.{dispatching}
 use Rattle.pipe_types.specs.declared.room.Sent.{Sent}
@@ -31,3 +32,6 @@ make_room-requires-clause-live c =
     let before = core.journal.steps in
     let live = (dispatching core c.args.stage c.requires.stands.holds c.requires.legal).law.live in
     subst (All (λ (d : Sent). is_live_sub t before d.sub ≡ true)) (sym (c.deref.ensures.value ∙ c.in_ok-sent.ensures)) (planned_live t before c.args.stage [] live)
+
+pub plan-requires-clause-plain : goal.plan-requires-clause-plain
+plan-requires-clause-plain c = plain_cast c.args.core.now.topology c.args.stage c.requires.stands.holds.sound c.requires.messages

@@ -1,26 +1,27 @@
-use Rattle.std.proofs.Common.{◌≡◌, ℕ, suc, ◌<◌, List, length, map, ◌∙◌, arith, refl, ap, sym, subst, All, drop, ◌++◌, [], ◌∷◌, true}
-use Rattle.std.specs.Prelude.{option_map}
+use Rattle.std.proofs.Common.{◌≡◌, ℕ, suc, ◌<◌, List, length, map, ◌∙◌, arith, refl, ap, sym, subst, All, drop, take, ◌++◌, [], ◌∷◌, true}
+use Rattle.std.specs.Prelude.{option_map, slice_get, filter, not, ◌&&◌}
 use Rattle.std.specs.Vec.{with_item}
 use Rattle.std.proofs.lemmas.List.{length-map}
 use Rattle.pipe_types.specs.declared.room.Sent.{Sent}
 use Rattle.pipe_types.specs.declared.step.Step.TheVariants.{Dispatch}
 use Rattle.pipe_types.specs.Stages.{spec_of}
-use Rattle.pipe_model.specs.Flow.{deliveries, waiting, delivered_to, subs_of}
+use Rattle.pipe_model.specs.Flow.{deliveries, waiting, delivered_to, subs_of, alone, among}
 use Rattle.message_ack.specs.Ends.{sent_in}
 use Rattle.stage_subs.specs.Subs.{row_at, sent_more}
 use Rattle.core_tables.specs.Tables.{named, queue_at, count_between, HasRoom}
-use Rattle.core_laws.specs.Columns.{part_of}
+use Rattle.core_laws.specs.Columns.{part_of, waiting_parts}
 use Rattle.core_laws.specs.Laws.{IsSentWell}
 use Rattle.core_state.specs.declared.state.Core.{Core}
 use Rattle.core_state.specs.Stands.{Fields}
 use Rattle.core_state.proofs.Steps.{holds_after, unowed_after}
-use Rattle.core_sends.specs.Batches.{not_sent, with_legs, messages_of, subs_at}
+use Rattle.core_sends.specs.Batches.{lone_of, IsEndable, not_sent, with_legs, messages_of, subs_at}
 use Rattle.core_sends.specs.Losing.{numbers_in}
-use Rattle.core_sends.specs.Rooms.{planned}
+use Rattle.core_sends.specs.Rooms.{planned, served_first}
 use Rattle.core_sends.proofs.AfterBatches.{are_begun, batch_fields, still_stands_with}
 use Rattle.core_sends.proofs.BatchesSent.{units_closed, none_begun, none_noted, rest_unsent}
 use Rattle.core_sends.proofs.Queued.{waiting_read, numbers_in_queue, long_queue}
 use Rattle.core_sends.proofs.Sendable.{dispatching, units_within, units_live, units_asked, room_named}
+use Rattle.core_sends.proofs.Served.{served_within, lone_is, left_queue, queue_endable, placed_alike, marked_rows}
 use Rattle.core_sends.proofs.Sent.{deliveries_named, planned_below}
 use Rattle.core_sends.proofs.sending.send_batches.Goals as goal
 
@@ -159,8 +160,8 @@ begin_all-requires-clause-not_noted c =
     let is : c.deref-2.result.now ≡ deliveries t before s = c.deref-2.ensures.value ∙ units in
     none_noted core t before s c.deref-2.result.now x.fields x.legal c.requires.batches is
 
-pub keep_unsent-requires-clause-within : goal.keep_unsent-requires-clause-within
-keep_unsent-requires-clause-within c =
+pub leave_batches-requires-clause-within : goal.leave_batches-requires-clause-within
+leave_batches-requires-clause-within c =
     let core = c.args.core.now in
     let t = core.topology in
     let before = core.journal.steps in
@@ -176,8 +177,8 @@ keep_unsent-requires-clause-within c =
     let below : All (λ (d : Sent). d.unit < length (waiting t before s)) c.deref.result.now = subst (All (λ (d : Sent). d.unit < length (waiting t before s))) (sym (c.deref.ensures.value ∙ c.requires.planned)) (planned_below t before s) in
     omega (arith, long, c.reach-first.ensures.least (length (waiting t before s)) below)
 
-pub keep_unsent-requires-clause-rest : goal.keep_unsent-requires-clause-rest
-keep_unsent-requires-clause-rest c =
+pub leave_batches-requires-clause-rest : goal.leave_batches-requires-clause-rest
+leave_batches-requires-clause-rest c =
     let core = c.args.core.now in
     let t = core.topology in
     let before = core.journal.steps in
@@ -194,6 +195,33 @@ keep_unsent-requires-clause-rest c =
     let above : All (λ (d : Sent). d.unit < c.reach-first.result) (planned t before s []) = subst (All (λ (d : Sent). d.unit < c.reach-first.result)) (c.deref.ensures.value ∙ c.requires.planned) c.reach-first.ensures.above in
     subst (λ (us : List (ℕ × ℕ)). All (λ (unit : ℕ × ℕ). not_sent c.begin_all.new.legs unit.1 ≡ true) (drop c.reach-first.result us)) (sym old)
     (rest_unsent core t before s c.reach-first.result c.begin_all.new.legs x.fields x.sound x.legal c.requires.batches begun above)
+
+pub leave_batches-requires-clause-served : goal.leave_batches-requires-clause-served
+leave_batches-requires-clause-served c =
+    let core = c.args.core.now in
+    let t = core.topology in
+    let before = core.journal.steps in
+    let s = c.args.stage in
+    let x = c.requires.stands.holds in
+    let known = dispatching core s x c.requires.legal in
+    let old = waiting_read core t before x.fields s c.index_mut.result.now known.within c.index_mut.ensures.value in
+    let long : length c.index_mut.result.now.items ≡ length (waiting t before s) = ap length old ∙ long_queue (part_of t before (spec_of t s)) (waiting t before s) in
+    omega (arith, long, served_within t before s, c.requires.served)
+
+pub leave_batches-requires-clause-endable : goal.leave_batches-requires-clause-endable
+leave_batches-requires-clause-endable c =
+    let core = c.args.core.now in
+    let t = core.topology in
+    let before = core.journal.steps in
+    let s = c.args.stage in
+    let x = c.requires.stands.holds in
+    let known = dispatching core s x c.requires.legal in
+    let old = waiting_read core t before x.fields s c.index_mut.result.now known.within c.index_mut.ensures.value in
+    subst (All (IsEndable c.begin_all.new.batches.items (length core.places.items))) (sym old)
+    (queue_endable core t before s c.begin_all.new.batches.items (length core.places.items) x.fields x.sound x.legal c.requires.batches c.begin_all.ensures.len c.begin_all.ensures.closed x.fields.sized.places)
+
+pub leave_batches-requires-clause-settled : goal.leave_batches-requires-clause-settled
+leave_batches-requires-clause-settled c = c.requires.stands.holds.fields.sized.settled ∙ sym c.requires.stands.holds.fields.sized.places
 
 pub returns-in_err-begin_all-clause-stands : goal.returns-in_err-begin_all-clause-stands
 returns-in_err-begin_all-clause-stands c =
@@ -212,15 +240,33 @@ returns-clause-stands c =
     let units : c.name_units.new.units.items ≡ deliveries t before s =
     c.name_units.ensures ∙ (ap (map (named (numbers_in c.index.result.now.items))) c.requires.planned ∙ (ap (λ ws. map (named ws) (planned t before s [])) numbers ∙ sym (deliveries_named t before s))) in
     let old = waiting_read core t before x.fields s c.index_mut.result.now known.within c.index_mut.ensures.value in
-    let core-new : Core = record core { journal = c.push_spare.new.self; subs = c.count_all.new.subs; waiting = with_item core.waiting s.0 c.keep_unsent.new.queue; inboxes = c.deliver_all.new.inboxes; batches = c.begin_all.new.batches; legs = c.begin_all.new.legs; totals = record core.totals { quiet = 0 } } in
+    let core-new : Core = record core { journal = c.push_spare.new.self; subs = c.count_all.new.subs; waiting = with_item core.waiting s.0 c.leave_batches.new.queue; inboxes = c.deliver_all.new.inboxes; places = c.leave_batches.new.places; settled = c.leave_batches.new.settled; batches = c.begin_all.new.batches; legs = c.begin_all.new.legs; totals = record core.totals { quiet = 0 } } in
+    let legs = c.begin_all.new.legs in
+    let items : List (ℕ × ℕ) = c.index_mut.result.now.items in
+    let first : ℕ = served_first t before s in
+    let lone : List ℕ = lone_of legs (take c.args.served items) in
+    let begun = are_begun core t before s c.deref-2.result.now legs (c.deref-2.ensures.value ∙ units) c.in_ok-begin_all.ensures.begun in
+    let those : lone ≡ alone t before s =
+    ap (λ k. lone_of legs (take k items)) c.requires.served ∙ (ap (λ us. lone_of legs (take first us)) old ∙ lone_is core t before s legs x.fields x.sound x.legal c.requires.batches begun) in
+    let kept : c.leave_batches.new.queue.items ≡ filter (λ (unit : ℕ × ℕ). not_sent legs unit.1 && not (among lone unit.1)) items =
+    c.leave_batches.ensures.queue
+    ∙ (ap (λ k. filter (λ (unit : ℕ × ℕ). not_sent legs unit.1) (drop k items)) c.requires.served
+    ∙ (ap (λ us. filter (λ (unit : ℕ × ℕ). not_sent legs unit.1) (drop first us)) old
+    ∙ (left_queue core t before s legs x.fields x.sound x.legal c.requires.batches begun
+    ∙ (ap (λ bs. filter (λ (unit : ℕ × ℕ). not_sent legs unit.1 && not (among bs unit.1)) (waiting_parts t before s)) (sym those)
+    ∙ ap (filter (λ (unit : ℕ × ℕ). not_sent legs unit.1 && not (among lone unit.1))) (sym old))))) in
     let value = c.deref-2.ensures.value in
     let fields : Fields core-new t (Dispatch s ∷ before) =
-    batch_fields core t before s c.name_units.new.units.items c.index_mut.result.now.items c.push_spare.new.self c.count_all.new.subs (with_item core.waiting s.0 c.keep_unsent.new.queue) c.deliver_all.new.inboxes c.begin_all.new.batches c.begin_all.new.legs c.keep_unsent.new.queue
-    x.fields x.sound x.legal c.requires.legal c.requires.batches known.law known.within units old
+    batch_fields core t before s c.name_units.new.units.items lone c.len-mark.result c.index_mut.result.now.items c.push_spare.new.self c.count_all.new.subs (with_item core.waiting s.0 c.leave_batches.new.queue) c.deliver_all.new.inboxes c.begin_all.new.batches c.begin_all.new.legs c.leave_batches.new.places c.leave_batches.new.settled c.leave_batches.new.queue
+    x.fields x.sound x.legal c.requires.legal c.requires.batches known.law known.within units those c.len-mark.ensures old
     (record {
       counted = λ d p. c.count_all.ensures d p ∙ ap (λ us. option_map (sent_more (count_between us d p)) (row_at core.subs d p)) c.deref-4.ensures.value;
       queue = refl;
-      kept = c.keep_unsent.ensures;
+      kept = kept;
+      placed = λ i. c.leave_batches.ensures.placed i ∙ placed_alike core.batches.items c.begin_all.new.batches.items c.begin_all.ensures.closed lone (suc i) (slice_get core.places.items i);
+      all_places = c.leave_batches.ensures.places_len;
+      marks = λ i. c.leave_batches.ensures.marked i ∙ marked_rows core.batches.items c.begin_all.new.batches.items c.begin_all.ensures.closed lone c.len-mark.result (suc i) (slice_get core.settled.items i);
+      all_settled = c.leave_batches.ensures.settled_len;
       came = λ d. c.deliver_all.ensures.delivered d ∙ ap (λ us. queue_at core.inboxes.items d ++ delivered_to us d) c.deref-3.ensures.value;
       all_inboxes = c.deliver_all.ensures.len;
       begun = λ i. c.in_ok-begin_all.ensures.begun i ∙ ap (λ us. with_legs (messages_of core.batches.items (suc i)) (subs_of us (suc i)) (sent_in core.legs (suc i))) value;

@@ -1,0 +1,81 @@
+use Rattle.std.proofs.Common.{◌≡◌, ◌++◌, ◌∙◌, ℕ, List, [], drop, take, length, get_or, ap, sym, subst, true, arith}
+use Rattle.std.proofs.lemmas.List.{append-nil, drop_all, get_or-take, length-take-le}
+use Rattle.pipe_types.specs.Stages.{spec_of}
+use Rattle.pipe_model.specs.Flow.{batch, batch_waits_in, picks_by, view_of, waiting}
+use Rattle.core_laws.specs.Columns.{part_of}
+use Rattle.core_sends.specs.Picks.{picks_key, picks_row, picks_list}
+use Rattle.core_sends.proofs.Looking.{number_at, batch_there, picks_step}
+use Rattle.core_sends.proofs.Queued.{live_within, waiting_read, long_queue}
+use Rattle.core_sends.proofs.picks.picks_of.Goals as goal
+
+pub index-queue-requires : goal.index-queue-requires
+index-queue-requires c =
+    let w = live_within c.args.core.now.topology c.args.core.now.journal.steps c.args.stage c.requires.holds.sound c.requires.live in
+    omega (arith, w.1, c.requires.holds.fields.sized.waiting)
+
+pub index-requires : goal.index-requires
+index-requires c =
+    let core = c.args.core.now in
+    let t = core.topology in
+    let h = core.journal.steps in
+    let w = live_within t h c.args.stage c.requires.holds.sound c.requires.live in
+    let read = ap length (waiting_read core t h c.requires.holds.fields c.args.stage c.index-queue.result.now w.1 c.index-queue.ensures) in
+    omega (arith, read, long_queue (part_of t h (spec_of t c.args.stage)) (waiting t h c.args.stage), c.requires.within)
+
+pub first_message-message-requires-clause-least : goal.first_message-message-requires-clause-least
+first_message-message-requires-clause-least c =
+    let core = c.args.core.now in
+    let t = core.topology in
+    let h = core.journal.steps in
+    let s = c.args.stage in
+    let x = c.requires.holds in
+    let w = live_within t h s x.sound c.requires.live in
+    let read = waiting_read core t h x.fields s c.index-queue.result.now w.1 c.index-queue.ensures in
+    let number : c.index.result.now.1 ≡ get_or (waiting t h s) c.loop-k.k 0 =
+    number_at (part_of t h (spec_of t s)) (waiting t h s) c.index-queue.result.now.items c.loop-k.k c.index.result.now read (omega (arith, c.requires.within)) c.index.ensures in
+    omega (arith, number, (batch_there t h s c.loop-k.k x.sound x.legal c.requires.batches (omega (arith, c.requires.within))).0)
+
+pub first_message-message-requires-clause-waits : goal.first_message-message-requires-clause-waits
+first_message-message-requires-clause-waits c =
+    let core = c.args.core.now in
+    let t = core.topology in
+    let h = core.journal.steps in
+    let s = c.args.stage in
+    let x = c.requires.holds in
+    let w = live_within t h s x.sound c.requires.live in
+    let read = waiting_read core t h x.fields s c.index-queue.result.now w.1 c.index-queue.ensures in
+    let number : c.index.result.now.1 ≡ get_or (waiting t h s) c.loop-k.k 0 =
+    number_at (part_of t h (spec_of t s)) (waiting t h s) c.index-queue.result.now.items c.loop-k.k c.index.result.now read (omega (arith, c.requires.within)) c.index.ensures in
+    subst (λ n. batch_waits_in s (batch t h n) ≡ true) (sym number) (batch_there t h s c.loop-k.k x.sound x.legal c.requires.batches (omega (arith, c.requires.within))).1
+
+pub loop-k-preserved : goal.loop-k-preserved
+loop-k-preserved c =
+    let core = c.args.core.now in
+    let t = core.topology in
+    let h = core.journal.steps in
+    let s = c.args.stage in
+    let x = c.requires.holds in
+    let rooms = c.args.rooms.now in
+    let old = c.loop-k.picks.items in
+    let k = c.loop-k.k in
+    let ws = take c.args.count (waiting t h s) in
+    let w = live_within t h s x.sound c.requires.live in
+    let read = waiting_read core t h x.fields s c.index-queue.result.now w.1 c.index-queue.ensures in
+    let number : c.index.result.now.1 ≡ get_or (waiting t h s) k 0 =
+    number_at (part_of t h (spec_of t s)) (waiting t h s) c.index-queue.result.now.items k c.index.result.now read (omega (arith, c.requires.within)) c.index.ensures in
+    let first : get_or ws k 0 ≡ get_or (waiting t h s) k 0 = get_or-take c.args.count (waiting t h s) k 0 (omega arith) in
+    let is : c.push_picks.new.picks.items ≡ old ++ picks_row (picks_by t h (view_of t h) (get_or ws k 0)) rooms =
+    c.in_ok-push_picks.ensures
+    ∙ (ap (λ key. old ++ picks_row (picks_key t key) rooms) c.first_message-message.ensures ∙ ap (λ (n : ℕ). old ++ picks_row (picks_by t h (view_of t h) n) rooms) (number ∙ sym first)) in
+    picks_step (picks_by t h (view_of t h)) rooms ws k old c.push_picks.new.picks.items (omega (arith, length-take-le c.args.count (waiting t h s) c.requires.within)) is
+    ∙ c.loop-k.invariant
+
+pub returns : goal.returns
+returns c =
+    let core = c.args.core.now in
+    let t = core.topology in
+    let h = core.journal.steps in
+    let ws = take c.args.count (waiting t h c.args.stage) in
+    let none : drop c.loop-k.k ws ≡ [] = drop_all c.loop-k.k ws (omega (arith, length-take-le c.args.count (waiting t h c.args.stage) c.requires.within)) in
+    sym (append-nil c.loop-k.picks.items)
+    ∙ (ap (λ (rest : List ℕ). c.loop-k.picks.items ++ picks_list (picks_by t h (view_of t h)) c.args.rooms.now rest) (sym none) ∙ c.loop-k.invariant)

@@ -1,0 +1,44 @@
+use Rattle.std.proofs.Common.{◌≡◌, ℕ, ◌∙◌, ap, sym, true, false}
+use Rattle.std.specs.Prelude.{map}
+use Rattle.std.proofs.lemmas.Result.{IfOk-weaker}
+use Rattle.pipe_types.specs.Stages.{spec_of}
+use Rattle.pipe_types.specs.Dispatchers.{ByBroadcast, served_as, picks_all, sends}
+use Rattle.pipe_model.specs.History.{history}
+use Rattle.pipe_model.specs.Flow.{kind_in, partition_in, picks_by, rooms_by, waiting_by}
+use Rattle.plain_queues.specs.Views.{view_in}
+use Rattle.plain_sends.specs.Casts.{is_cast, with_selves}
+use Rattle.plain_sends.proofs.Marks.{parts_sent, selves_sent}
+use Rattle.plain_sends.proofs.dispatches.sends_by.Goals as goal
+
+pub returns-then-is_cast : goal.returns-then-is_cast
+returns-then-is_cast c =
+    let t = c.args.past.now.topology.now in
+    let h = history c.args.past.now.steps.now in
+    let v = view_in c.args.tables.now in
+    let s = c.args.stage in
+    let is : is_cast (kind_in (spec_of t s)) ≡ true = sym (c.is_cast.ensures ∙ ap is_cast c.kind_of-kind.ensures) ∙ c.if-is_cast.true in
+    IfOk-weaker c.cast.result _ _
+    (λ got seen.
+    seen
+    ∙ (ap (λ rooms. sends (ByBroadcast (picks_by t h v)) rooms (with_selves c.as_slice-units.result.now)) (c.as_slice-here.ensures ∙ c.in_ok-rooms.ensures)
+    ∙ (ap (λ ns. sends (ByBroadcast (picks_by t h v)) (rooms_by t h v s) (with_selves ns)) (c.as_slice-units.ensures ∙ c.in_ok-waiting.ensures)
+    ∙ selves_sent (kind_in (spec_of t s)) (picks_by t h v) (partition_in h v (spec_of t s)) (rooms_by t h v s) (waiting_by t h v s) is)))
+    c.cast.ensures
+
+pub returns : goal.returns
+returns c =
+    let t = c.args.past.now.topology.now in
+    let h = history c.args.past.now.steps.now in
+    let v = view_in c.args.tables.now in
+    let s = c.args.stage in
+    let is : is_cast (kind_in (spec_of t s)) ≡ false = sym (c.is_cast.ensures ∙ ap is_cast c.kind_of-kind.ensures) ∙ c.if-is_cast.false in
+    let units : c.as_slice-marks.result.now ≡ map {B = ℕ × ℕ} (λ n. (n, partition_in h v (spec_of t s) n)) (waiting_by t h v s) =
+    c.as_slice-marks.ensures ∙ (c.in_ok-marked.ensures ∙ ap (map {B = ℕ × ℕ} (λ n. (n, partition_in h v (spec_of t s) n))) (c.as_slice-units.ensures ∙ c.in_ok-waiting.ensures)) in
+    IfOk-weaker c.sends.result _ _
+    (λ got seen.
+    seen
+    ∙ (ap (λ kind. sends (served_as kind picks_all) c.as_slice-here.result.now c.as_slice-marks.result.now) c.kind_of-kind.ensures
+    ∙ (ap (λ rooms. sends (served_as (kind_in (spec_of t s)) picks_all) rooms c.as_slice-marks.result.now) (c.as_slice-here.ensures ∙ c.in_ok-rooms.ensures)
+    ∙ (ap (sends (served_as (kind_in (spec_of t s)) picks_all) (rooms_by t h v s)) units
+    ∙ parts_sent (kind_in (spec_of t s)) (picks_by t h v) (partition_in h v (spec_of t s)) (rooms_by t h v s) (waiting_by t h v s) is))))
+    c.sends.ensures
