@@ -148,9 +148,9 @@ broadcast_counts picks rooms u r is =
     record {
       grows = λ earlier n. rw sum_by-cons (counted_grows (picks n r.sub) (count_by (λ m. picks m r.sub) earlier));
       below = λ earlier n h.
-      le_one (picks n r.sub) (count_by (λ m. picks m r.sub) earlier) r.left (and_right (fit_all picks rooms (n ∷ earlier)) _ h)
-      (let fits : nat_le (count_by (λ m. picks m r.sub) (n ∷ earlier)) r.left ≡ true = every_room (λ v. nat_le (count_by (λ m. picks m v.sub) (n ∷ earlier)) v.left) rooms u r is (and_left (fit_all picks rooms (n ∷ earlier)) _ h) in
-      ap (λ k. nat_le k r.left) (sym (sum_by-cons (λ m. cond (picks m r.sub) 1 0) n earlier)) ∙ fits);
+          le_one (picks n r.sub) (count_by (λ m. picks m r.sub) earlier) r.left (and_right (fit_all picks rooms (n ∷ earlier)) _ h)
+          (let fits : nat_le (count_by (λ m. picks m r.sub) (n ∷ earlier)) r.left ≡ true = every_room (λ v. nat_le (count_by (λ m. picks m v.sub) (n ∷ earlier)) v.left) rooms u r is (and_left (fit_all picks rooms (n ∷ earlier)) _ h) in
+          ap (λ k. nat_le k r.left) (sym (sum_by-cons (λ m. cond (picks m r.sub) 1 0) n earlier)) ∙ fits);
       one_more = λ earlier n h. rw sum_by-cons (counted_more (picks n r.sub) (count_by (λ m. picks m r.sub) earlier) (and_right (fit_all picks rooms (n ∷ earlier)) _ h));
     }
   where
