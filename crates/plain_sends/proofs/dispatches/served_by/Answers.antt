@@ -20,8 +20,8 @@ returns-then-is_cast c =
     IfOk-weaker c.served_in.result _ _
     (λ got seen.
     seen
-    ∙ (ap (λ rooms. serves (ByBroadcast (picks_by t h v)) rooms (with_selves c.as_slice-units.result.now)) (c.as_slice-here.ensures ∙ c.in_ok-rooms.ensures)
-    ∙ (ap (λ ns. serves (ByBroadcast (picks_by t h v)) (rooms_by t h v s) (with_selves ns)) (c.as_slice-units.ensures ∙ c.in_ok-waiting.ensures)
+    ∙ (ap (λ rooms. serves (ByBroadcast (picks_by t h v)) rooms (with_selves c.as_slice-units.result.now)) (c.as_slice-here.ensures.value ∙ c.in_ok-rooms.ensures)
+    ∙ (ap (λ ns. serves (ByBroadcast (picks_by t h v)) (rooms_by t h v s) (with_selves ns)) (c.as_slice-units.ensures.value ∙ c.in_ok-waiting.ensures)
     ∙ selves_served (kind_in (spec_of t s)) (picks_by t h v) (partition_in h v (spec_of t s)) (rooms_by t h v s) (waiting_by t h v s) is)))
     c.served_in.ensures
 
@@ -33,12 +33,12 @@ returns c =
     let s = c.args.stage in
     let is : is_cast (kind_in (spec_of t s)) ≡ false = sym (c.is_cast.ensures ∙ ap is_cast c.kind_of-kind.ensures) ∙ c.if-is_cast.false in
     let units : c.as_slice-marks.result.now ≡ map {B = ℕ × ℕ} (λ n. (n, partition_in h v (spec_of t s) n)) (waiting_by t h v s) =
-    c.as_slice-marks.ensures ∙ (c.in_ok-marked.ensures ∙ ap (map {B = ℕ × ℕ} (λ n. (n, partition_in h v (spec_of t s) n))) (c.as_slice-units.ensures ∙ c.in_ok-waiting.ensures)) in
+    c.as_slice-marks.ensures.value ∙ (c.in_ok-marked.ensures ∙ ap (map {B = ℕ × ℕ} (λ n. (n, partition_in h v (spec_of t s) n))) (c.as_slice-units.ensures.value ∙ c.in_ok-waiting.ensures)) in
     IfOk-weaker c.serves.result _ _
     (λ got seen.
     seen
     ∙ (ap (λ kind. serves (served_as kind picks_all) c.as_slice-here.result.now c.as_slice-marks.result.now) c.kind_of-kind.ensures
-    ∙ (ap (λ rooms. serves (served_as (kind_in (spec_of t s)) picks_all) rooms c.as_slice-marks.result.now) (c.as_slice-here.ensures ∙ c.in_ok-rooms.ensures)
+    ∙ (ap (λ rooms. serves (served_as (kind_in (spec_of t s)) picks_all) rooms c.as_slice-marks.result.now) (c.as_slice-here.ensures.value ∙ c.in_ok-rooms.ensures)
     ∙ (ap (serves (served_as (kind_in (spec_of t s)) picks_all) (rooms_by t h v s)) units
     ∙ parts_served (kind_in (spec_of t s)) (picks_by t h v) (partition_in h v (spec_of t s)) (rooms_by t h v s) (waiting_by t h v s) is))))
     c.serves.ensures
