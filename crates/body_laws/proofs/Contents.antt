@@ -25,7 +25,7 @@ use Rattle.pipe_types.specs.Handlers.{eval, counted, chunk_replies, replies_unti
 use Rattle.pipe_types.specs.Lines.{max_bytes}
 use Rattle.pipe_types.specs.Numbers.{same_stage}
 use Rattle.pipe_types.specs.Stages.{spec_of}
-use Rattle.pipe_types.specs.Sound.{IsSound, batchers, is_batcher, is_next, may_follow, may_go_on, may_begin, is_ordered, is_rule, are_rules, asks_up_to, is_lines, is_reason, by_demand, by_partition, no_batcher, no_dispatcher, no_buffer, no_edge, no_batching}
+use Rattle.pipe_types.specs.Sound.{IsSound, batchers, is_batcher, is_next, may_follow, may_go_on, may_begin, is_ordered, is_rule, are_rules, asks_up_to, is_lines, is_reason, by_demand, by_partition, no_batcher, no_dispatcher, no_buffer, no_edge, no_batching, no_select}
 use Rattle.pipe_model.specs.History.{History, accepted}
 use Rattle.pipe_model.specs.Content.{content, changed_by, fresh, record_as, passed_as, has_crash, new_message}
 use Rattle.pipe_model.specs.Work.{same_message, same_reply, same_replies, are_replies_by, are_handled, messages_of, chunk_of, count, taken_units}
@@ -160,7 +160,7 @@ supervisor_handles topology s spec sound e h =
     let second = and_right (asks_up_to 16 spec && (not (is_lines spec.kind) && (are_rules 0 spec.rules && is_reason spec.failed))) _ fields in
     let rest = and_right (no_batcher spec && no_dispatcher spec) _ second in
     let last = and_right (no_buffer spec && no_edge spec) _ rest in
-    let zero_batchers : spec.batchers ≡ 0 = eqb-true spec.batchers 0 (and_right (no_batching spec) _ last) in
+    let zero_batchers : spec.batchers ≡ 0 = eqb-true spec.batchers 0 (and_right (no_batching spec && no_select spec) _ last) in
     record {
       batchers = zero_batchers ∙ sym (ap (λ xs. length xs) (no_batchers_by topology.stages (λ c. same_stage c.no s) spec sound.ordered e is));
       rules = subst (λ n. are_rules n spec.rules ≡ true) (sym zero_batchers) (and_left (are_rules 0 spec.rules) _ (and_right (not (is_lines spec.kind)) _ (and_right (asks_up_to 16 spec) _ first)));

@@ -12,7 +12,7 @@ use Rattle.pipe_types.specs.declared.topology.Role.TheVariants.{Producer, Proces
 use Rattle.pipe_types.specs.declared.topology.StageSpec.{StageSpec}
 use Rattle.pipe_types.specs.declared.topology.Topology.{Topology}
 use Rattle.pipe_types.specs.Stages.{spec_of}
-use Rattle.pipe_types.specs.Sound.{IsSound, has_fields_of, is_rule, are_rules, is_between, is_empty, is_steps, is_lines, is_reason, no_handler, no_batchers, no_children, no_batching, no_batcher, no_demand, no_buffer, no_edge, no_dispatcher}
+use Rattle.pipe_types.specs.Sound.{IsSound, has_fields_of, is_rule, are_rules, is_between, is_empty, is_steps, is_lines, is_reason, no_handler, no_batchers, no_children, no_batching, no_batcher, no_demand, no_buffer, no_edge, no_dispatcher, no_select, is_select_in}
 use Rattle.pipe_laws.proofs.Tests.{and_left, and_right}
 use Rattle.queue_laws.proofs.Sounds.{sound_fields}
 use Rattle.stage_callback.specs.Callbacks.{can_arm, is_countable, routes_below}
@@ -66,22 +66,22 @@ ruled_by s e none =
 
 arms_as : (stages : List StageSpec) (r : Role) (s : StageSpec) → has_fields_of stages r s ≡ true → can_arm s ≡ true
 arms_as stages Producer s e =
-    no_rules_arm s (and_left (no_handler s) _ (and_left (no_handler s && no_batching s) _ (and_right (no_batcher s && no_demand s) _ (and_right _ ((no_batcher s && no_demand s) && ((no_handler s && no_batching s) && (no_children s && no_batchers s))) e))))
+    no_rules_arm s (and_left (no_handler s) _ (and_left (no_handler s && no_batching s) _ (and_right (no_batcher s && no_demand s) _ (and_right _ ((no_batcher s && no_demand s) && ((no_handler s && no_batching s) && ((no_children s && no_select s) && no_batchers s))) e))))
 arms_as stages Processor s e =
-    let handler = and_right _ (not (is_lines s.kind) && (are_rules s.batchers s.rules && is_reason s.failed)) (and_right _ _ (and_left _ ((no_batcher s && no_buffer s) && ((no_edge s && no_batching s) && no_children s)) e)) in
+    let handler = and_right _ (not (is_lines s.kind) && (are_rules s.batchers s.rules && is_reason s.failed)) (and_right _ _ (and_left _ ((no_batcher s && no_buffer s) && ((no_edge s && no_batching s) && (no_children s && no_select s))) e)) in
     rules_arm s (and_right _ (list_all (is_rule s.batchers) s.rules) (and_left (are_rules s.batchers s.rules) _ (and_right (not (is_lines s.kind)) _ handler)))
 arms_as stages Supervisor s e =
-    let rest : ((no_batcher s && no_dispatcher s) && ((no_buffer s && no_edge s) && (no_batching s && no_batchers s))) ≡ true = and_right _ ((no_batcher s && no_dispatcher s) && ((no_buffer s && no_edge s) && (no_batching s && no_batchers s))) e in
-    let handler = and_right _ (not (is_lines s.kind) && (are_rules 0 s.rules && is_reason s.failed)) (and_left _ ((no_batcher s && no_dispatcher s) && ((no_buffer s && no_edge s) && (no_batching s && no_batchers s))) e) in
+    let rest : ((no_batcher s && no_dispatcher s) && ((no_buffer s && no_edge s) && ((no_batching s && no_select s) && no_batchers s))) ≡ true = and_right _ ((no_batcher s && no_dispatcher s) && ((no_buffer s && no_edge s) && ((no_batching s && no_select s) && no_batchers s))) e in
+    let handler = and_right _ (not (is_lines s.kind) && (are_rules 0 s.rules && is_reason s.failed)) (and_left _ ((no_batcher s && no_dispatcher s) && ((no_buffer s && no_edge s) && ((no_batching s && no_select s) && no_batchers s))) e) in
     ruled_by s (and_left (are_rules 0 s.rules) _ (and_right (not (is_lines s.kind)) _ handler))
-    (and_right (no_batching s) (no_batchers s) (and_right (no_buffer s && no_edge s) _ (and_right (no_batcher s && no_dispatcher s) _ rest)))
+    (and_right (no_batching s && no_select s) (no_batchers s) (and_right (no_buffer s && no_edge s) _ (and_right (no_batcher s && no_dispatcher s) _ rest)))
 arms_as stages Batcher s e =
-    let rest : ((no_buffer s && no_handler s) && ((no_edge s && no_children s) && no_batchers s)) ≡ true = and_right _ ((no_buffer s && no_handler s) && ((no_edge s && no_children s) && no_batchers s)) e in
+    let rest : ((no_buffer s && no_handler s) && ((no_edge s && (no_children s && no_select s)) && no_batchers s)) ≡ true = and_right _ ((no_buffer s && no_handler s) && ((no_edge s && (no_children s && no_select s)) && no_batchers s)) e in
     no_rules_arm s (and_right (no_buffer s) (no_handler s) (and_left (no_buffer s && no_handler s) _ rest))
 arms_as stages BatchProcessor s e =
     let rest : ((no_dispatcher s && no_buffer s) && ((no_batching s && no_children s) && no_batchers s)) ≡ true = and_right _ ((no_dispatcher s && no_buffer s) && ((no_batching s && no_children s) && no_batchers s)) e in
-    let handler = and_right _ (are_rules 0 s.rules && is_reason s.failed) (and_left _ ((no_dispatcher s && no_buffer s) && ((no_batching s && no_children s) && no_batchers s)) e) in
-    ruled_by s (and_left (are_rules 0 s.rules) _ handler) (and_right (no_batching s && no_children s) (no_batchers s) (and_right (no_dispatcher s && no_buffer s) _ rest))
+    let handler = and_right _ ((are_rules 0 s.rules && is_select_in stages s) && is_reason s.failed) (and_left _ ((no_dispatcher s && no_buffer s) && ((no_batching s && no_children s) && no_batchers s)) e) in
+    ruled_by s (and_left (are_rules 0 s.rules) _ (and_left (are_rules 0 s.rules && is_select_in stages s) _ handler)) (and_right (no_batching s && no_children s) (no_batchers s) (and_right (no_dispatcher s && no_buffer s) _ rest))
 
 pub armable : (topology : Topology) (s : StageNo) (spec : StageSpec) → IsSound topology → spec_of topology s ≡ Some spec → can_arm spec ≡ true
 armable topology s spec sound e = arms_as topology.stages spec.role spec (sound_fields topology s spec sound e)
