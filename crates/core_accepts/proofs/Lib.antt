@@ -3,3 +3,4 @@ pub mod Fetching
 pub mod Enrolling
 pub mod Bringing
 pub mod Planning
+pub mod Owed
