@@ -82,12 +82,22 @@ to_whom_it_picks = refl
 serves_whom_nobody_picks : serves_by_place (ByBroadcast picks_even) (room_of 2 0 1 ∷ room_of 3 1 0 ∷ []) (0 ∷ 1 ∷ 2 ∷ []) ≡ 0 ∷ 1 ∷ []
 serves_whom_nobody_picks = refl
 
--- a unit that the room without demand picks holds back all behind it
+-- a unit that the room without demand picks holds back all behind it, whether another picks it or not
 abbrev picks_first : ℕ → SubNo → Bool
-picks_first n u = u.consumer.0 == 2 || n == 0
+picks_first n u = picks_even n u || n == 0
 
 held_back : serves_by_place (ByBroadcast picks_first) (room_of 2 0 1 ∷ room_of 3 1 0 ∷ []) (0 ∷ 1 ∷ 2 ∷ []) ≡ []
 held_back = refl
+
+abbrev picks_apart : ℕ → SubNo → Bool
+picks_apart n u = (n == 0 && u.consumer.0 == 3) || (n == 2 && u.consumer.0 == 2)
+
+held_back_apart : serves_by_place (ByBroadcast picks_apart) (room_of 2 0 1 ∷ room_of 3 1 0 ∷ []) (0 ∷ 1 ∷ 2 ∷ []) ≡ []
+held_back_apart = refl
+
+-- with more demand the last goes out too
+last_goes : sends_by_place (ByBroadcast picks_even) (room_of 2 0 2 ∷ room_of 3 1 0 ∷ []) (0 ∷ 1 ∷ 2 ∷ []) ≡ to 0 2 ∷ to 2 2 ∷ []
+last_goes = refl
 
 -- with no room nothing is served, whoever picks it
 none_served : serves_by_place (ByBroadcast picks_even) [] (0 ∷ 1 ∷ []) ≡ []

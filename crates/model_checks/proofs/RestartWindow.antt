@@ -7,6 +7,9 @@ use Rattle.pipe_types.specs.declared.step.Step.{Step}
 use Rattle.pipe_types.specs.declared.step.Step.TheVariants.{Kill, Restart, Tick, Halt}
 use Rattle.pipe_types.specs.Numbers.{stage}
 use Rattle.pipe_types.specs.Restarts.{may_restart_at}
+use Rattle.pipe_types.specs.declared.topology.CancelMode.TheVariants.{Permanent}
+use Rattle.pipe_model.specs.History.{history}
+use Rattle.pipe_model.specs.Moves.{Halted, StepMove, move}
 use Rattle.model_checks.proofs.Base.{may_come_after, is_refused_after, one_each, limited, with_stages, producer, processor}
 
 -- three restarts at 0, 1000 and 2000 with a window of 5000: at 5000 all three count, and at 5001 two
@@ -85,3 +88,31 @@ own_window_end = refl
 -- no halt where no stage's limit is met
 no_early_halt : is_refused_after of_its_own (Kill (stage 2) ByKill ∷ []) Halt ≡ true
 no_early_halt = refl
+
+-- stages that share a limit of their own count together
+abbrev shared : Topology
+shared =
+    record (with_stages (producer 1 (codes "p") 0 ∷ record (processor 2 (codes "processors.0") 0 []) { limit = 1 }
+    ∷ record (processor 3 (codes "processors.1") 1 []) { limit = 1 } ∷ []))
+    { limits = limited 3 5000 ++ limited 1 1000 }
+
+counts_together : is_refused_after shared (Kill (stage 2) ByKill ∷ Restart (stage 2) ∷ Kill (stage 3) ByKill ∷ []) (Restart (stage 3)) ≡ true
+counts_together = refl
+
+pipeline_counts_apart : may_come_after shared (Kill (stage 2) ByKill ∷ Restart (stage 2) ∷ Kill (stage 1) ByKill ∷ []) (Restart (stage 1)) ≡ true
+pipeline_counts_apart = refl
+
+-- a producer takes its processor with it: the producer is restarted, and the processor, whose limit allows none, halts the run
+abbrev none_of_its_own : Topology
+none_of_its_own =
+    record (with_stages (producer 1 (codes "p") 0 ∷ record (processor 2 (codes "processors.0") 0 []) { limit = 1; mode = Permanent } ∷ []))
+    { limits = limited 3 5000 ++ limited 0 5000 }
+
+restarts_the_producer : move none_of_its_own (history (Kill (stage 1) ByKill ∷ [])) ≡ StepMove (Restart (stage 1))
+restarts_the_producer = refl
+
+halts_at_the_processor : move none_of_its_own (history (Kill (stage 1) ByKill ∷ Restart (stage 1) ∷ [])) ≡ StepMove Halt
+halts_at_the_processor = refl
+
+is_halted : move none_of_its_own (history (Kill (stage 1) ByKill ∷ Restart (stage 1) ∷ Halt ∷ [])) ≡ Halted
+is_halted = refl

@@ -266,8 +266,8 @@ own_limits = refl
 abbrev rated : (allowed interval : ℕ) → Topology
 rated allowed interval = record two_producers { rate = Some (record { allowed = allowed; interval = interval }) }
 
-rates : map is_sound (rated 2 1 ∷ rated 1 1 ∷ rated 1000000 3600000 ∷ rated 1000001 1 ∷ rated 2 0 ∷ rated 2 3600001 ∷ [])
-    ≡ true ∷ false ∷ true ∷ false ∷ false ∷ false ∷ []
+rates : map is_sound (rated 2 1 ∷ rated 1 1 ∷ rated 1000000 3600000 ∷ rated 1000001 1 ∷ rated 2 0 ∷ rated 2 3600001 ∷ rated 0 1 ∷ [])
+    ≡ true ∷ false ∷ true ∷ false ∷ false ∷ false ∷ false ∷ []
 unfolding digits
 rates = refl
 
