@@ -187,11 +187,11 @@ fn interventions(journal: &str) -> usize {
         .saturating_add(lines_with(journal, "refuse "))
 }
 
-/// How many lines the sources of the topology have.
-fn lines_in(case: &Case) -> usize {
-    let lines = lines_with(case.text("a"), "");
+/// How many lines of the sources of the topology begin so.
+fn lines_in(case: &Case, word: &str) -> usize {
+    let lines = lines_with(case.text("a"), word);
     if case.text("file").contains("mem:b") {
-        lines.saturating_add(lines_with(case.text("b"), ""))
+        lines.saturating_add(lines_with(case.text("b"), word))
     } else {
         lines
     }
@@ -213,7 +213,7 @@ fn fault_in_lines(case: &Case, came: Came<'_>, told: Told<'_>, counts: Counts) -
     let written = came.s.len().saturating_add(came.t.len());
     let lines = lines_with(came.s, "").saturating_add(lines_with(came.t, ""));
     let copies = copies_of(case);
-    if whole && counts.accepted != lines_in(case) {
+    if whole && counts.accepted != lines_in(case, "") {
         "accepted lines"
     } else if sum_of(told.journal, "wrote ", 2) != written {
         "written bytes"
@@ -222,6 +222,22 @@ fn fault_in_lines(case: &Case, came: Came<'_>, told: Told<'_>, counts: Counts) -
             Some(copies) if lines != counts.successful.saturating_mul(copies) => "written lines",
             _ => "",
         }
+    }
+}
+
+/// What does not hold of a run without crashes and control in which every line is its key, or nothing: each line is successful,
+/// and each sink holds as many lines as there are that begin with what its case tells.
+fn fault_in_picks(case: &Case, came: Came<'_>, counts: Counts) -> &'static str {
+    let s = lines_in(case, case.text("s.picks"));
+    let t = lines_in(case, case.text("t.picks"));
+    if case.text("picked").is_empty() {
+        ""
+    } else if counts.successful != lines_in(case, "") {
+        "successful lines"
+    } else if lines_with(came.s, "") != s || lines_with(came.t, "") != t {
+        "picked lines"
+    } else {
+        ""
     }
 }
 
@@ -245,7 +261,7 @@ pub fn fault_in_texts(
     } else if calm {
         fault_in_calm(case, came, told, counts)
     } else {
-        ""
+        fault_in_picks(case, came, counts)
     }
 }
 
