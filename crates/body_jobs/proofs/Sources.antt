@@ -3,7 +3,10 @@ use Rattle.std.proofs.Common.{◌≡◌, ◌≤◌, Bool, ℕ, List, [], ◌∷�
 use Rattle.std.specs.Prelude.{Option, Some, None, Result, Ok, Err, IfSome, IsNone, All}
 use Rattle.std.proofs.lemmas.List.{append-nil}
 use Rattle.std.proofs.lemmas.List.Elements.{All-nil, All-cons, All-head, All-tail}
-use Rattle.pipe_edges.specs.LineSource.{waiting, line_end_of}
+use Rattle.pipe_edges.specs.declared.source.ByteSource.{Ghosts as SourceOf}
+use Rattle.pipe_edges.specs.LineSource.{line_source, waiting, line_end_of}
+use Rattle.pipe_edges.specs.Paces.{Pace}
+use Rattle.pipe_edges.specs.Pacing.{FetchIsPacedBy, FetchCounts as GivesBy, FetchIsHeldUp as IsHeldUpBy}
 use Rattle.pipe_edges.specs.Fetch.{answer_of, records_in, records_of, FetchHasCause, Remembers}
 use Rattle.pipe_edges.specs.declared.lines.LineSource.{LineSource}
 use Rattle.pipe_types.specs.Lines.{max_bytes}
@@ -15,7 +18,7 @@ use Rattle.pipe_edges.specs.declared.reading.Fetched.TheVariants.{Records, NotYe
 use Rattle.source_lines.specs.Read.{IsReadFrom}
 use Rattle.source_lines.proofs.Fetches.{Fetches, read_more}
 use Rattle.stage_bodies.specs.Seen.{SourceSeen, LineSeen, source_seen, line_seen}
-use Rattle.stage_bodies.specs.Jobs.{Both, ReadsOn, IsFetched, Fetches as FetchesOn, records_of as records_in_outcome}
+use Rattle.stage_bodies.specs.Jobs.{Both, ReadsOn, IsFetched, Fetches as FetchesOn, FetchGives, FetchIsHeldUp, FetchIsPaced, records_of as records_in_outcome}
 use Rattle.body_jobs.specs.Fetched.{came_of, IsUnread}
 
 -- the same line source over what is seen of its bytes
@@ -29,25 +32,21 @@ over seen lines = record {
   at_too_long = lines.at_too_long;
 }
 
-abbrev told_of : SourceSeen → Bool
-told_of s = s.told
+-- what is seen of a source, as a source
+abbrev seen_source : SourceOf SourceSeen
+seen_source = record {
+  told = λ s. s.told;
+  taken = λ s. s.taken;
+  left = λ s. s.left;
+  faults = λ s. s.faults;
+  waits = λ s. s.waits;
+  paced = λ s. s.paced;
+}
 
-abbrev taken_of : SourceSeen → List ℕ
-taken_of s = s.taken
-
-abbrev left_of : SourceSeen → List ℕ
-left_of s = s.left
-
-abbrev faults_of : SourceSeen → ℕ
-faults_of s = s.faults
-
-abbrev waits_of : SourceSeen → ℕ
-waits_of s = s.waits
-
-fetches_over : {B E : Type 0} (told : B → Bool) (taken left : B → List ℕ) (faults waits : B → ℕ) (old new : LineSource B) (max : ℕ) (result : Result Fetched E)
-    → Fetches told taken left faults waits old new max result
-    → Fetches told_of taken_of left_of faults_of waits_of (over (source_seen told taken left faults waits) old) (over (source_seen told taken left faults waits) new) max result
-fetches_over told taken left faults waits old new max result f = record {
+fetches_over : {B E : Type 0} (source : SourceOf B) (old new : LineSource B) (max : ℕ) (result : Result Fetched E)
+    → Fetches source old new max result
+    → Fetches seen_source (over (source_seen source) old) (over (source_seen source) new) max result
+fetches_over source old new max result f = record {
   handed = record {
     same_telling = f.handed.same_telling;
     part = f.handed.part;
@@ -63,20 +62,21 @@ fetches_over told taken left faults waits old new max result f = record {
   nothing_left = f.nothing_left;
   remembers = f.remembers;
   again = again (line_end_of old) f.again;
+  paced = f.paced;
 }
   where
     again : (known : Option LineEnd) → IfSome known (λ e. (result ≡ Ok (answer_of e)) × (new ≡ old))
-        → IfSome known (λ e. (result ≡ Ok (answer_of e)) × (over (source_seen told taken left faults waits) new ≡ over (source_seen told taken left faults waits) old))
+        → IfSome known (λ e. (result ≡ Ok (answer_of e)) × (over (source_seen source) new ≡ over (source_seen source) old))
     again None fact = fact
-    again (Some e) fact = (fact.0, ap (over (source_seen told taken left faults waits)) fact.1)
+    again (Some e) fact = (fact.0, ap (over (source_seen source)) fact.1)
 
 -- the records of a fetch follow those of the fetches before
-pub reads_on : {B E : Type 0} (told : B → Bool) (taken left : B → List ℕ) (faults waits : B → ℕ) (old new : LineSource B) (max : ℕ) (result : Result Fetched E)
-    → Fetches told taken left faults waits old new max result
-    → ReadsOn (records_in result) (line_seen told taken left faults waits old) (line_seen told taken left faults waits new)
-reads_on told taken left faults waits old new max result f opened earlier before =
-    let seen = source_seen told taken left faults waits in
-    let first : IsReadFrom told_of taken_of left_of faults_of waits_of opened (over seen old) earlier = record {
+pub reads_on : {B E : Type 0} (source : SourceOf B) (old new : LineSource B) (max : ℕ) (result : Result Fetched E)
+    → Fetches source old new max result
+    → ReadsOn (records_in result) (line_seen source old) (line_seen source new)
+reads_on source old new max result f opened earlier before =
+    let seen = source_seen source in
+    let first : IsReadFrom seen_source opened (over seen old) earlier = record {
       same_telling = before.same_telling;
       each_is_a_line = before.each_is_a_line;
       same_bytes = before.same_bytes;
@@ -87,7 +87,7 @@ reads_on told taken left faults waits old new max result f opened earlier before
       faults_stay = before.faults_stay;
       waits_stay = before.waits_stay;
     } in
-    let then = read_more told_of taken_of left_of faults_of waits_of opened (over seen old) (over seen new) earlier max result (line_end_of old) refl (fetches_over told taken left faults waits old new max result f) first in
+    let then = read_more seen_source opened (over seen old) (over seen new) earlier max result (line_end_of old) refl (fetches_over source old new max result f) first in
     record {
       same_telling = then.same_telling;
       each_is_a_line = then.each_is_a_line;
@@ -144,17 +144,38 @@ abbrev ok_of : {E : Type 0} → Fetched → Result Fetched E
 ok_of x = Ok x
 
 -- a fetch that answered
-pub fetched_on : {B E : Type 0} (told : B → Bool) (taken left : B → List ℕ) (faults waits : B → ℕ) (old new : LineSource B) (max : ℕ) (x : Fetched) (came : _) → came ≡ came_of x
-    → Fetches told taken left faults waits old new max (ok_of {E = E} x)
-    → FetchesOn max came (line_seen told taken left faults waits old) (line_seen told taken left faults waits new)
-fetched_on {E = E} told taken left faults waits old new max x came is f = rw is (record {
-  reads = by_records x (reads_on told taken left faults waits old new max (Ok x) f);
+pub fetched_on : {B E : Type 0} (source : SourceOf B) (old new : LineSource B) (max : ℕ) (x : Fetched) (came : _) → came ≡ came_of x
+    → Fetches source old new max (ok_of {E = E} x)
+    → FetchesOn max came (line_seen source old) (line_seen source new)
+fetched_on {E = E} source old new max x came is f = rw is (record {
+  reads = by_records x (reads_on source old new max (Ok x) f);
   end_stays = stays (λ e. ◌≡◌ {A = Result Fetched E} (Ok x) (Ok (answer_of e))) old new (line_end_of old) refl f.again;
   answer = answered E max _ _ _ _ (waiting new) (line_end_of old) (line_end_of new) x f.cause (known_answer E old new (line_end_of old) x f.again) f.remembers f.each_is_a_line;
+  paced = paced (source.paced (line_source old)).pace f.paced;
 })
   where
-    by_records : (x : Fetched) → ReadsOn (records_of x) (line_seen told taken left faults waits old) (line_seen told taken left faults waits new)
-        → ReadsOn (records_in_outcome (came_of x)) (line_seen told taken left faults waits old) (line_seen told taken left faults waits new)
+    counts : (x : Fetched) → GivesBy (source.paced (line_source old)).given (source.paced (line_source new)) (waiting new) x → FetchGives (source.paced (line_source old)).given (line_seen source new) (came_of x)
+    counts (Records rs) k = k
+    counts NotYet k = k
+    counts End k = k
+    counts Fault k = k
+    counts TooLong k = tt
+
+    held_up : (pace : Pace) (x : Fetched) → IsHeldUpBy pace (source.waits (line_source old)) (source.waits (line_source new)) (source.paced (line_source old)) (source.paced (line_source new)) x
+        → FetchIsHeldUp pace (line_seen source old) (line_seen source new) (came_of x)
+    held_up pace (Records rs) k = tt
+    held_up pace NotYet k = k
+    held_up pace End k = tt
+    held_up pace Fault k = tt
+    held_up pace TooLong k = tt
+
+    paced : (p : Option Pace) → FetchIsPacedBy {E = E} p (source.waits (line_source old)) (source.waits (line_source new)) (source.paced (line_source old)) (source.paced (line_source new)) (waiting old) (waiting new) (Ok x)
+        → FetchIsPaced p (came_of x) (line_seen source old) (line_seen source new)
+    paced None k = k
+    paced (Some pace) k = record { kept = k.kept; counted = λ step. counts x (k.counted step); held_up = held_up pace x k.held_up }
+
+    by_records : (x : Fetched) → ReadsOn (records_of x) (line_seen source old) (line_seen source new)
+        → ReadsOn (records_in_outcome (came_of x)) (line_seen source old) (line_seen source new)
     by_records (Records rs) h = h
     by_records NotYet h = h
     by_records End h = h
@@ -162,11 +183,11 @@ fetched_on {E = E} told taken left faults waits old new max x came is f = rw is 
     by_records TooLong h = h
 
 -- a fetch for which memory was wanting
-pub unread : {B E : Type 0} (told : B → Bool) (taken left : B → List ℕ) (faults waits : B → ℕ) (old new : LineSource B) (max : ℕ) (e : E)
-    → Fetches told taken left faults waits old new max (Err e)
-    → IsUnread (line_seen told taken left faults waits old) (line_seen told taken left faults waits new)
-unread told taken left faults waits old new max e f =
-    (reads_on told taken left faults waits old new max (Err e) f, stays (λ x. Err e ≡ Ok (answer_of x)) old new (line_end_of old) refl f.again)
+pub unread : {B E : Type 0} (source : SourceOf B) (old new : LineSource B) (max : ℕ) (e : E)
+    → Fetches source old new max (Err e)
+    → IsUnread (line_seen source old) (line_seen source new)
+unread source old new max e f =
+    (reads_on source old new max (Err e) f, stays (λ x. Err e ≡ Ok (answer_of x)) old new (line_end_of old) refl f.again)
 
 -- a source that no job read
 pub untouched : (now : Option LineSeen) → Both IsUnread now now

@@ -20,7 +20,7 @@ pub struct Body<S, K> {
 
 impl<S: ByteSource + Drop, K: ByteSink + Drop> Works for Body<S, K> {
     ghost look = { λ b. record {
-      source = option_map (line_seen S.told S.taken S.left S.faults S.waits) b.source;
+      source = option_map (line_seen S.ByteSource) b.source;
       sink = option_map (sink_seen K.told K.held K.faults) b.sink;
       callback = option_map (λ c. record {
         kind = (Callback-box c).kind c.value;
@@ -50,6 +50,12 @@ impl<S: ByteSource + Drop, K: ByteSink + Drop> Works for Body<S, K> {
     fn reset(&mut self) {
         if let Some(callback) = &mut self.callback {
             start_over(callback);
+        }
+    }
+
+    fn at(&mut self, now: u64) {
+        if let Some(lines) = &mut self.source {
+            lines.at(now);
         }
     }
 }
@@ -85,7 +91,7 @@ impl<S: ByteSource + Drop, K: ByteSink + Drop> Houses<S, K> for Body<S, K> {
     }
 
     fn put_source(&mut self, source: LineSource<S>)
-        ensures { ⟦<Body<S, K> as Works>⟧.look self.new ≡ with_source (line_seen S.told S.taken S.left S.faults S.waits source) (⟦<Body<S, K> as Works>⟧.look self.old) }
+        ensures { ⟦<Body<S, K> as Works>⟧.look self.new ≡ with_source (line_seen S.ByteSource source) (⟦<Body<S, K> as Works>⟧.look self.old) }
     {
         self.source = Some(source);
     }

@@ -15,9 +15,9 @@ use std::alloc::AllocError;
 pub fn fetch<S: ByteSource>(source: &mut LineSource<S>, most: u32) -> Result<Outcome, AllocError>
     requires { 0 < most }
     ensures done { IfOk result (λ came. Fetches most came
-        (line_seen S.told S.taken S.left S.faults S.waits source.old) (line_seen S.told S.taken S.left S.faults S.waits source.new)) }
+        (line_seen S.ByteSource source.old) (line_seen S.ByteSource source.new)) }
     ensures cut_off { OnErr result (IsUnread
-        (line_seen S.told S.taken S.left S.faults S.waits source.old) (line_seen S.told S.taken S.left S.faults S.waits source.new)) }
+        (line_seen S.ByteSource source.old) (line_seen S.ByteSource source.new)) }
 {
     match source.fetch(most) {
         Ok(fetched) => Ok(outcome_of(fetched)),

@@ -45,8 +45,8 @@ pub fn read_control<S: ByteSource>(
     ensures rest { LeavesAtRest core.old.topology core.old.journal.steps core.new.journal.steps }
     // One job may then be begun.
     ensures keeps { (opened : Option LineSeen)
-        → KeepsControl core.old.topology core.old.journal.steps 0 opened (option_map (line_seen S.told S.taken S.left S.faults S.waits) control.old)
-        → KeepsControlOn result core.old.topology core.new.journal.steps 1 opened (option_map (line_seen S.told S.taken S.left S.faults S.waits) control.new) }
+        → KeepsControl core.old.topology core.old.journal.steps 0 opened (option_map (line_seen S.ByteSource) control.old)
+        → KeepsControlOn result core.old.topology core.new.journal.steps 1 opened (option_map (line_seen S.ByteSource) control.new) }
 {
     match control {
         Some(lines) => read_next(core, lines),
@@ -63,8 +63,8 @@ fn read_next<S: ByteSource>(core: &mut Core, lines: &mut LineSource<S>) -> Resul
     ensures adds { AddsControl core.old.journal.steps core.new.journal.steps }
     ensures unchanged { OnErr result (core.new.journal.steps ≡ core.old.journal.steps) }
     ensures keeps { (opened : LineSeen)
-        → KeepsLines core.old.topology core.old.journal.steps 0 [] opened (line_seen S.told S.taken S.left S.faults S.waits lines.old)
-        → KeepsLinesOn result core.old.topology core.new.journal.steps 1 opened (line_seen S.told S.taken S.left S.faults S.waits lines.new) }
+        → KeepsLines core.old.topology core.old.journal.steps 0 [] opened (line_seen S.ByteSource lines.old)
+        → KeepsLinesOn result core.old.topology core.new.journal.steps 1 opened (line_seen S.ByteSource lines.new) }
 {
     if is_ended(core) {
         return Ok(());

@@ -176,6 +176,10 @@ impl ByteSource for Offers {
         }
         ReadEnd::Got(1)
     }
+
+    fn at(&mut self, now: u64) {
+        let _ = now;
+    }
 }
 
 impl ByteSink for Offers {

@@ -67,6 +67,7 @@ gives_source_from calls a b name source h g = record {
   nothing_taken = g.nothing_taken;
   no_fault = g.no_fault;
   no_wait = g.no_wait;
+  no_pace = g.no_pace;
   given = λ t. let both = g.given (rw h.same_telling t) in (both.0, both.1 ∙ h.stands t Source name);
 }
 

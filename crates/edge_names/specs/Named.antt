@@ -1,17 +1,19 @@
 -- What one call by name opens or gives back.
 use Rattle.std.specs.Prelude.{◌≡◌, ◌≤◌, ℕ, List, [], ◌∷◌, ◌++◌, IsTrue, Result, Ok, Err}
 use Rattle.pipe_edges.specs.Named.{asked_after, EdgeHasCause, StandsAsBefore, OthersStand}
+use Rattle.pipe_edges.specs.Paces.{unpaced}
 use Rattle.pipe_edges.specs.declared.edges.EdgeKind.{EdgeKind}
 use Rattle.pipe_edges.specs.declared.edges.EdgeKind.TheVariants.{Source, Sink}
 use Rattle.pipe_edges.specs.declared.edges.EdgeEnd.{EdgeEnd}
 use Rattle.stage_bodies.specs.Seen.{SourceSeen, SinkSeen}
 use Rattle.edge_names.specs.Seen.{EdgesSeen}
 
--- a source that has taken nothing and counted nothing, and, where the edges tell, has left what stands under its name
+-- a source that has taken nothing and counted nothing, and has no pace, and, where the edges tell, has left what stands under its name
 pub record GivesSource (edges : EdgesSeen) (name : List ℕ) (source : SourceSeen) : Type 0 where
   pub nothing_taken : source.taken ≡ []
   pub no_fault : source.faults ≡ 0
   pub no_wait : source.waits ≡ 0
+  pub no_pace : source.paced ≡ unpaced
   pub given : IsTrue edges.told → IsTrue source.told × (source.left ≡ edges.named Source name)
 
 -- a sink that has counted nothing, and, where the edges tell, holds what stands under its name

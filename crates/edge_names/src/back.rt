@@ -116,11 +116,11 @@ pub fn give_back<E: Edges, B: Houses<E::Source, E::Sink>>(
 ) -> Result<(), AllocError>
     requires sound { IsSound topology.now }
     ensures back { OnOk result (GivesBack
-        (named_control topology.now.control (option_map (line_seen E.Source.told E.Source.taken E.Source.left E.Source.faults E.Source.waits) control)
+        (named_control topology.now.control (option_map (line_seen E.Source.ByteSource) control)
         ++ sources_of topology.now.stages (body_at B.look bodies.old.items))
         (sinks_of topology.now.stages (body_at B.look bodies.old.items))
         (⟦<E as SeenEdges>⟧.seen edges.old) (⟦<E as SeenEdges>⟧.seen edges.new)) }
-    ensures in_part { OnErr result (IsGivenInPart topology.now (option_map (line_seen E.Source.told E.Source.taken E.Source.left E.Source.faults E.Source.waits) control)
+    ensures in_part { OnErr result (IsGivenInPart topology.now (option_map (line_seen E.Source.ByteSource) control)
         (body_at B.look bodies.old.items) (⟦<E as SeenEdges>⟧.seen edges.old) (⟦<E as SeenEdges>⟧.seen edges.new)) }
     ensures callbacks { KeepsCallbacks (body_at B.look bodies.old.items) (body_at B.look bodies.new.items) }
     ensures len { length bodies.new.items ≡ length bodies.old.items }

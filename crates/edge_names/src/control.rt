@@ -21,7 +21,7 @@ pub(crate) fn open_control<E: Edges>(
     edges: &mut E,
 ) -> Result<Option<LineSource<E::Source>>, Unopened>
     ensures opened { IfOk result (λ control. IsControlOpened name.now (⟦<E as SeenEdges>⟧.seen edges.old) (⟦<E as SeenEdges>⟧.seen edges.new)
-        (option_map (line_seen E.Source.told E.Source.taken E.Source.left E.Source.faults E.Source.waits) control)) }
+        (option_map (line_seen E.Source.ByteSource) control)) }
     ensures failed { IfErr result (λ e. IfFailed e (λ n. IsOneFailed (control_call name.now) n (⟦<E as SeenEdges>⟧.seen edges.old) (⟦<E as SeenEdges>⟧.seen edges.new))) }
     ensures cut_off { IfErr result (λ e. IfCutOff e (IsOneCut (control_call name.now) (⟦<E as SeenEdges>⟧.seen edges.old) (⟦<E as SeenEdges>⟧.seen edges.new))) }
 {
@@ -41,7 +41,7 @@ pub(crate) fn back_control<E: Edges>(
     control: Option<LineSource<E::Source>>,
     edges: &mut E,
 ) -> Result<(), AllocError>
-    ensures back { OnOk result (GivesBack (named_control name.now (option_map (line_seen E.Source.told E.Source.taken E.Source.left E.Source.faults E.Source.waits) control)) []
+    ensures back { OnOk result (GivesBack (named_control name.now (option_map (line_seen E.Source.ByteSource) control)) []
         (⟦<E as SeenEdges>⟧.seen edges.old) (⟦<E as SeenEdges>⟧.seen edges.new)) }
     ensures nothing { OnErr result (GivesBack [] [] (⟦<E as SeenEdges>⟧.seen edges.old) (⟦<E as SeenEdges>⟧.seen edges.new)) }
 {

@@ -26,7 +26,7 @@ pub(crate) fn open_lines<E: Edges>(
 ) -> Result<LineSource<E::Source>, Unopened>
     ensures asks { OnOk result (Asks ((Source, name.now) ∷ []) (⟦<E as SeenEdges>⟧.seen edges.old) (⟦<E as SeenEdges>⟧.seen edges.new)) }
     ensures gives { IfOk result (λ lines. GivesLines (⟦<E as SeenEdges>⟧.seen edges.old) name.now
-        (line_seen E.Source.told E.Source.taken E.Source.left E.Source.faults E.Source.waits lines)) }
+        (line_seen E.Source.ByteSource lines)) }
     ensures failed { IfErr result (λ e. IfFailed e (λ n. IsOneFailed (Some (Source, name.now)) n (⟦<E as SeenEdges>⟧.seen edges.old) (⟦<E as SeenEdges>⟧.seen edges.new))) }
     ensures cut_off { IfErr result (λ e. IfCutOff e (IsOneCut (Some (Source, name.now)) (⟦<E as SeenEdges>⟧.seen edges.old) (⟦<E as SeenEdges>⟧.seen edges.new))) }
 {
@@ -50,7 +50,7 @@ fn lines_of<E: Edges>(
     source: E::Source,
     edges: &mut E,
 ) -> Result<LineSource<E::Source>, AllocError>
-    ensures lines { IfOk result (λ lines. line_seen E.Source.told E.Source.taken E.Source.left E.Source.faults E.Source.waits lines
+    ensures lines { IfOk result (λ lines. line_seen E.Source.ByteSource lines
         ≡ fresh_lines (⟦<E::Source as SeenSource>⟧.seen source)) }
     ensures untouched { OnOk result (edges.new ≡ edges.old) }
     ensures returned { OnErr result (IsReturned name.now (⟦<E::Source as SeenSource>⟧.seen source) (⟦<E as SeenEdges>⟧.seen edges.old) (⟦<E as SeenEdges>⟧.seen edges.new)) }

@@ -35,7 +35,7 @@ fn set_source<S: ByteSource + Drop, K: ByteSink, B: Houses<S, K>>(
 )
     ensures len { length bodies.new.items ≡ length bodies.old.items }
     ensures others { (s : ℕ) → body_at B.look bodies.new.items s
-        ≡ (if at == s then option_map (with_source (line_seen S.told S.taken S.left S.faults S.waits lines)) (body_at B.look bodies.old.items s) else body_at B.look bodies.old.items s) }
+        ≡ (if at == s then option_map (with_source (line_seen S.ByteSource lines)) (body_at B.look bodies.old.items s) else body_at B.look bodies.old.items s) }
 {
     if let Some(body) = take_out(bodies, at) {
         let mut body = body;
@@ -174,7 +174,7 @@ pub fn open_or_give_back<E: Edges, B: Houses<E::Source, E::Sink>>(
     requires home { AreHome topology.now (body_at B.look bodies.old.items) }
     ensures asks { OnOk result (Asks (run_calls topology.now) (⟦<E as SeenEdges>⟧.seen edges.old) (⟦<E as SeenEdges>⟧.seen edges.new)) }
     ensures control { IfOk result (λ control. HasSource (⟦<E as SeenEdges>⟧.seen edges.old) (control_call topology.now.control) None
-        (option_map (line_seen E.Source.told E.Source.taken E.Source.left E.Source.faults E.Source.waits) control)) }
+        (option_map (line_seen E.Source.ByteSource) control)) }
     ensures opened { OnOk result (AreOpened topology.now (length topology.now.stages) (⟦<E as SeenEdges>⟧.seen edges.old) (body_at B.look bodies.old.items) (body_at B.look bodies.new.items)) }
     ensures undone { IfErr result (λ e. IfFailed e (λ name. IsUndone topology.now name (body_at B.look bodies.old.items) (⟦<E as SeenEdges>⟧.seen edges.old) (⟦<E as SeenEdges>⟧.seen edges.new))) }
     ensures in_part { IfErr result (λ e. IfCutOff e (IsAskedInPart (run_calls topology.now) (⟦<E as SeenEdges>⟧.seen edges.old) (⟦<E as SeenEdges>⟧.seen edges.new))) }

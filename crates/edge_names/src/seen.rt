@@ -16,7 +16,7 @@ pub trait SeenSource: ByteSource {
 }
 
 impl<S: ByteSource> SeenSource for S {
-    ghost seen = { source_seen S.told S.taken S.left S.faults S.waits };
+    ghost seen = { source_seen S.ByteSource };
 }
 
 /// A sink as contracts see it.
@@ -35,7 +35,7 @@ pub trait SeenEdges: Edges {
 
 impl<E: Edges> SeenEdges for E {
     ghost seen = { edges_seen E.told E.named E.asked E.faults E.sources_back E.sinks_back
-        (source_seen E.Source.told E.Source.taken E.Source.left E.Source.faults E.Source.waits) (sink_seen E.Sink.told E.Sink.held E.Sink.faults) };
+        (source_seen E.Source.ByteSource) (sink_seen E.Sink.told E.Sink.held E.Sink.faults) };
 }
 
 /// Opens the source of this name.

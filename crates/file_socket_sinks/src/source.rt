@@ -125,4 +125,8 @@ impl<R: Read> ByteSource for RealSource<R> {
         }
         end
     }
+
+    fn at(&mut self, now: u64) {
+        let _ = now;
+    }
 }

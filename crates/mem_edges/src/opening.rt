@@ -3,6 +3,7 @@
 ghost use Rattle.std.specs.Prelude.{◌≡◌, ◌≤◌, ◌+◌, ◌++◌, ◌∷◌, [], true, false, ℕ, take, IfOk, OnOk, OnErr, MatchResult};
 ghost use Rattle.pipe_edges.specs.declared.edges.EdgeKind.TheVariants.{File, Source, Sink};
 ghost use Rattle.pipe_types.specs.Counts.{Rose};
+ghost use Rattle.pipe_edges.specs.Paces.{unpaced};
 ghost use Rattle.pipe_edges.specs.Named.{IsFreshSource, GivesSource, GivesSink, asked_after, StandsAsBefore, OthersStand, KeepsBack, AddsBack, EdgeHasCause};
 ghost use Rattle.mem_edges.specs.MemSource.{taken_of, left_of, all_bytes};
 ghost use Rattle.mem_edges.specs.MemSink.{held_by};
@@ -85,7 +86,7 @@ impl Edges for MemEdges {
     ghost sinks_back = { sinks_given_back };
 
     fn open_source(&mut self, name: &Text) -> Result<MemSource, EdgeEnd>
-        ensures fresh { IfOk result (IsFreshSource taken_of (λ s. s.faults) (λ s. s.waits)) }
+        ensures fresh { IfOk result (IsFreshSource taken_of (λ s. s.faults) (λ s. s.waits) (λ _. unpaced)) }
         ensures given { IfOk result (GivesSource (λ _. true) left_of (named_in self.old Source name.now)) }
         ensures stands { StandsAsBefore (named_in self.old) (named_in self.new) }
         ensures asked { asked_in self.new ≡ asked_after result Source name.now (asked_in self.old) }

@@ -131,6 +131,10 @@ impl ByteSource for MemSource {
         }
         give(self.bytes.as_slice(), &mut self.at, most, piece)
     }
+
+    fn at(&mut self, now: u64) {
+        let _ = now;
+    }
 }
 
 // Gives at most so many of the bytes that are left, one at least.

@@ -2,3 +2,4 @@ pub mod TextLaws
 pub mod SearchLaws
 pub mod HandLaws
 pub mod PutLaws
+pub mod PaceLaws

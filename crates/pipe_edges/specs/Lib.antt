@@ -1,6 +1,8 @@
 pub mod Reads
 pub mod Writes
 pub mod Named
+pub mod Paces
+pub mod Pacing
 pub mod Texts
 pub mod Handed
 pub mod Cut

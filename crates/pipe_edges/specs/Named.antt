@@ -1,15 +1,17 @@
 -- What calls by name open, read and give back.
 use Rattle.std.specs.Prelude.{◌≡◌, ℕ, Bool, List, [], ◌∷◌, ◌++◌, IsTrue, Result, Ok, Err}
 use Rattle.pipe_types.specs.Counts.{Rose}
+use Rattle.pipe_edges.specs.Paces.{PaceSeen, unpaced}
 use Rattle.pipe_edges.specs.declared.edges.EdgeKind.{EdgeKind}
 use Rattle.pipe_edges.specs.declared.edges.EdgeEnd.{EdgeEnd}
 use Rattle.pipe_edges.specs.declared.edges.EdgeEnd.TheVariants.{Failed, OutOfMemory}
 
--- a source that has taken nothing and counted nothing
-pub record IsFreshSource {B : Type 0} (taken : B → List ℕ) (faults waits : B → ℕ) (source : B) : Type 0 where
+-- a source that has taken nothing and counted nothing, and has no pace
+pub record IsFreshSource {B : Type 0} (taken : B → List ℕ) (faults waits : B → ℕ) (paced : B → PaceSeen) (source : B) : Type 0 where
   pub nothing_taken : taken source ≡ []
   pub no_fault : faults source ≡ 0
   pub no_wait : waits source ≡ 0
+  pub no_pace : paced source ≡ unpaced
 
 -- a source that tells its bytes and has these left
 pub record GivesSource {B : Type 0} (told : B → Bool) (left : B → List ℕ) (bytes : List ℕ) (source : B) : Type 0 where

@@ -1,6 +1,7 @@
 -- Why the reading of a fetch stops.
 use Rattle.std.specs.Prelude.{◌≡◌, ◌<◌, Bool, ℕ, List, [], ◌∷◌, length, All, IsTrue, Result, Ok, Err, Option, Some, None}
 use Rattle.pipe_types.specs.Counts.{Rose}
+use Rattle.pipe_edges.specs.declared.source.ByteSource.{Ghosts as SourceOf}
 use Rattle.pipe_edges.specs.Texts.{IsLine, BeginsTooLong, ended, joined}
 use Rattle.pipe_edges.specs.Cut.{CutsAll}
 use Rattle.pipe_edges.specs.Fetch.{answer_of}
@@ -49,15 +50,15 @@ pub record IsLast (told : Bool) (records : List (List ℕ)) (held' left' : List 
   pub none_left : IsTrue told → left' ≡ []
 
 -- why the reading stops, by what is held then
-abbrev pub StopHasCause : {B : Type 0} → (B → Bool) → (B → List ℕ) → (B → ℕ) → (B → ℕ) → B → B → List ℕ → ℕ → Stop → Type 0
-StopHasCause told left faults waits old new held' max (Lines rs) = (0 < length rs) × CutsAll max rs held' × All IsLine rs
-StopHasCause told left faults waits old new held' max (Last rs) = IsLast (told old) rs held' (left new)
-StopHasCause told left faults waits old new held' max NotYet = Rose (waits old) (waits new) × IsLine held'
-StopHasCause told left faults waits old new held' max (Ended end.End) = (held' ≡ []) × (IsTrue (told old) → left new ≡ [])
-StopHasCause told left faults waits old new held' max (Ended end.Fault) = Rose (faults old) (faults new) × IsLine held'
-StopHasCause told left faults waits old new held' max (Ended end.TooLong) = BeginsTooLong held'
+abbrev pub StopHasCause : {B : Type 0} → SourceOf B → B → B → List ℕ → ℕ → Stop → Type 0
+StopHasCause source old new held' max (Lines rs) = (0 < length rs) × CutsAll max rs held' × All IsLine rs
+StopHasCause source old new held' max (Last rs) = IsLast (source.told old) rs held' (source.left new)
+StopHasCause source old new held' max NotYet = Rose (source.waits old) (source.waits new) × IsLine held'
+StopHasCause source old new held' max (Ended end.End) = (held' ≡ []) × (IsTrue (source.told old) → source.left new ≡ [])
+StopHasCause source old new held' max (Ended end.Fault) = Rose (source.faults old) (source.faults new) × IsLine held'
+StopHasCause source old new held' max (Ended end.TooLong) = BeginsTooLong held'
 
 -- a round stops so, or it read more behind a part of a line
-abbrev pub RoundHasCause : {B : Type 0} → (B → Bool) → (B → List ℕ) → (B → ℕ) → (B → ℕ) → B → B → List ℕ → List ℕ → ℕ → Option Stop → Type 0
-RoundHasCause told left faults waits old new held held' max (Some s) = StopHasCause told left faults waits old new held' max s
-RoundHasCause told left faults waits old new held held' max None = (length held < length held') × IsLine held
+abbrev pub RoundHasCause : {B : Type 0} → SourceOf B → B → B → List ℕ → List ℕ → ℕ → Option Stop → Type 0
+RoundHasCause source old new held held' max (Some s) = StopHasCause source old new held' max s
+RoundHasCause source old new held held' max None = (length held < length held') × IsLine held

@@ -54,10 +54,10 @@ pub trait Edges {
     /// The sinks that were given back, each with its name.
     ghost sinks_back: { Self → List (List ℕ × Self.Sink) };
 
-    /// Opens the source of this name, which has taken nothing and counted nothing.
+    /// Opens the source of this name, which has taken nothing and counted nothing, and has no pace.
     fn open_source(&mut self, name: &Text) -> Result<Self::Source, EdgeEnd>
         ensures same_telling { told self.new ≡ told self.old }
-        ensures fresh { IfOk result (IsFreshSource Self.Source.taken Self.Source.faults Self.Source.waits) }
+        ensures fresh { IfOk result (IsFreshSource Self.Source.taken Self.Source.faults Self.Source.waits Self.Source.paced) }
         ensures given { IsTrue (told self.old)
             → IfOk result (GivesSource Self.Source.told Self.Source.left (named self.old EdgeKind.Source name.now)) }
         ensures stands { IsTrue (told self.old) → StandsAsBefore (named self.old) (named self.new) }

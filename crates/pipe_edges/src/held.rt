@@ -6,6 +6,7 @@ ghost use Rattle.pipe_edges.specs.Cut.{EndsAt, IsSearched, CutsLines, CutsAll};
 ghost use Rattle.pipe_edges.specs.Handed.{Handed};
 ghost use Rattle.pipe_edges.specs.Reads.{ReadHasCause};
 ghost use Rattle.pipe_edges.specs.Held.{ReadGrows};
+ghost use Rattle.pipe_edges.specs.Pacing.{ReadIsHeld};
 
 use crate::{ByteSource, ReadEnd};
 use memchr::memchr;
@@ -157,10 +158,11 @@ impl Held {
     // Reads once from the source. For want of memory nothing is read.
     pub fn read_from<B: ByteSource>(&mut self, source: &mut B) -> Result<ReadEnd, AllocError>
         ensures err { OnErr result ((self.new ≡ self.old) × (source.new ≡ source.old)) }
-        ensures handed { Handed B.told B.taken B.left B.faults B.waits source.old source.new self.old self.new [] }
+        ensures handed { Handed B.ByteSource source.old source.new self.old self.new [] }
         ensures grows { IfOk result (ReadGrows (B.told source.old) self.old self.new (B.left source.new)) }
         ensures cause { IfOk result (ReadHasCause (B.faults source.old) (B.faults source.new)
             (B.waits source.old) (B.waits source.new)) }
+        ensures paced { IfOk result (ReadIsHeld B.ByteSource source.old source.new self.old self.new) }
     {
         drop_front(&mut self.bytes, self.start);
         self.start = 0;

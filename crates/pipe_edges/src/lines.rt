@@ -5,6 +5,7 @@ ghost use Rattle.pipe_types.specs.Lines.{lines};
 ghost use Rattle.pipe_edges.specs.declared.reading.LineEnd.TheVariants.{End, TooLong};
 ghost use Rattle.pipe_edges.specs.Texts.{IsLine, BeginsTooLong};
 ghost use Rattle.pipe_edges.specs.Handed.{Handed};
+ghost use Rattle.pipe_edges.specs.Pacing.{FetchIsPaced, IsToldAt};
 ghost use Rattle.pipe_edges.specs.Fetch.{answer_of, records_in, text_of, FetchHasCause, Remembers};
 
 use crate::ByteSource;
@@ -64,7 +65,7 @@ impl<B: ByteSource> LineSource<B> {
     pub fn fetch(&mut self, max: u32) -> Result<Fetched, AllocError>
         requires { 0 < max }
         // No byte is lost or gained between the source, what is held and the records.
-        ensures handed { Handed B.told B.taken B.left B.faults B.waits (line_source self.old) (line_source self.new)
+        ensures handed { Handed B.ByteSource (line_source self.old) (line_source self.new)
             (waiting self.old) (waiting self.new) (text_of (line_end_of self.new) (records_in result)) }
         // The records are the first of the lines that were to come.
         ensures in_order { IsTrue (B.told (line_source self.old))
@@ -77,6 +78,9 @@ impl<B: ByteSource> LineSource<B> {
             (B.waits (line_source self.old)) (B.waits (line_source self.new)) (waiting self.new) f) }
         ensures nothing_left { IsNone (line_end_of self.old) → line_end_of self.new ≡ Some LineEnd.End
             → (waiting self.new ≡ []) × (IsTrue (B.told (line_source self.old)) → B.left (line_source self.new) ≡ []) }
+        // With a pace the records are just those that the source gave, as long as no call has found no memory.
+        ensures paced { FetchIsPaced B.ByteSource (line_source self.old) (line_source self.new)
+            (waiting self.old) (waiting self.new) result }
         // It reads only where no whole line is held, nor more bytes than a line may have.
         ensures unread { ¬ IsLine (waiting self.old) → line_source self.new ≡ line_source self.old }
 
@@ -89,5 +93,14 @@ impl<B: ByteSource> LineSource<B> {
         let stop = read_on(self.alloc, &mut self.source, &mut self.held, max)?;
         self.end = stop.end();
         Ok(stop.into_fetched())
+    }
+
+    /// Tells the source the moment in milliseconds.
+    pub fn at(&mut self, now: u64)
+        ensures told { IsToldAt B.ByteSource now (line_source self.old) (line_source self.new) }
+        ensures waiting { waiting self.new ≡ waiting self.old }
+        ensures end { line_end_of self.new ≡ line_end_of self.old }
+    {
+        self.source.at(now);
     }
 }

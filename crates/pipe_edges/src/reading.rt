@@ -4,6 +4,7 @@ ghost use Rattle.std.specs.Prelude.{◌≡◌, ◌<◌, ℕ, IfOk};
 ghost use Rattle.pipe_edges.specs.Texts.{IsLine};
 ghost use Rattle.pipe_edges.specs.Handed.{Handed};
 ghost use Rattle.pipe_edges.specs.Fetch.{answer_of};
+ghost use Rattle.pipe_edges.specs.Pacing.{RoundIsPaced, as_round};
 ghost use Rattle.pipe_edges.specs.Stop.{fetched_of, end_of, text_in, text_in_round, StopHasCause, RoundHasCause};
 
 use crate::held::{Held, MAX_LINE};
@@ -80,9 +81,10 @@ pub fn read_on<B: ByteSource>(
     max: u32,
 ) -> Result<Stop, AllocError>
     requires { 0 < max }
-    ensures handed { Handed B.told B.taken B.left B.faults B.waits source.old source.new held.old held.new
+    ensures handed { Handed B.ByteSource source.old source.new held.old held.new
         (text_in result) }
-    ensures cause { IfOk result (StopHasCause B.told B.left B.faults B.waits source.old source.new held.new max) }
+    ensures cause { IfOk result (StopHasCause B.ByteSource source.old source.new held.new max) }
+    ensures paced { RoundIsPaced B.ByteSource source.old source.new held.old held.new (as_round result) }
     ensures unread { ¬ IsLine held.old → source.new ≡ source.old }
 {
     loop {
@@ -100,10 +102,11 @@ fn go_round<B: ByteSource>(
     max: u32,
 ) -> Result<Option<Stop>, AllocError>
     requires { 0 < max }
-    ensures handed { Handed B.told B.taken B.left B.faults B.waits source.old source.new held.old held.new
+    ensures handed { Handed B.ByteSource source.old source.new held.old held.new
         (text_in_round result) }
-    ensures cause { IfOk result (RoundHasCause B.told B.left B.faults B.waits source.old source.new
+    ensures cause { IfOk result (RoundHasCause B.ByteSource source.old source.new
         held.old held.new max) }
+    ensures paced { RoundIsPaced B.ByteSource source.old source.new held.old held.new result }
     ensures unread { ¬ IsLine held.old → source.new ≡ source.old }
 {
     let records = held.take_lines(max)?;
@@ -123,10 +126,11 @@ fn read_round<B: ByteSource>(
     held: &mut Held,
 ) -> Result<Option<Stop>, AllocError>
     requires { IsLine held.old }
-    ensures handed { Handed B.told B.taken B.left B.faults B.waits source.old source.new held.old held.new
+    ensures handed { Handed B.ByteSource source.old source.new held.old held.new
         (text_in_round result) }
-    ensures cause { (max : ℕ) → IfOk result (RoundHasCause B.told B.left B.faults B.waits source.old source.new
+    ensures cause { (max : ℕ) → IfOk result (RoundHasCause B.ByteSource source.old source.new
         held.old held.new max) }
+    ensures paced { RoundIsPaced B.ByteSource source.old source.new held.old held.new result }
 {
     // The list is made before the read, so that nothing can fail after it.
     let mut last = Vec::with_capacity(alloc, 1)?;

@@ -2,6 +2,7 @@
 
 ghost use Rattle.std.specs.Prelude.{◌≡◌, ◌<◌, ◌≤◌, Bool, List, ℕ, length, IsTrue};
 ghost use Rattle.pipe_edges.specs.Reads.{ReadsBytes, ReadIsCounted, ReadHasCause};
+ghost use Rattle.pipe_edges.specs.Paces.{PaceSeen, ReadIsPaced, told_at, unpaced};
 
 /// What a read came to: some bytes, the end, a fault, or nothing ready yet.
 #[derive(Clone, Copy, PartialEq, Eq)]
@@ -29,6 +30,10 @@ pub trait ByteSource {
     /// How often nothing was ready.
     ghost waits: { Self → ℕ };
 
+    /// What is seen of a gate before it: the pace, the moment, the records given since its interval began, and the
+    /// stops, which are among the waits. Without a pace all of it is as in the beginning.
+    ghost paced: { Self → PaceSeen } = { λ _. unpaced };
+
     /// Reads some of the next bytes into the front of the piece.
     fn read(&mut self, piece: &mut [u8]) -> ReadEnd
         requires { 0 < length piece.old }
@@ -38,5 +43,14 @@ pub trait ByteSource {
             → ReadsBytes (taken self.old) (left self.old) piece.new (taken self.new) (left self.new) result }
         ensures faults_stay { faults self.old ≤ faults self.new }
         ensures waits_stay { waits self.old ≤ waits self.new }
-        ensures cause { ReadHasCause (faults self.old) (faults self.new) (waits self.old) (waits self.new) result };
+        ensures cause { ReadHasCause (faults self.old) (faults self.new) (waits self.old) (waits self.new) result }
+        ensures paced { ReadIsPaced (waits self.old) (waits self.new) (paced self.old) (paced self.new) piece.new result };
+
+    /// Tells the moment in milliseconds. It does nothing to a source without a pace, and nothing to the bytes and the
+    /// counts of any.
+    fn at(&mut self, now: u64)
+        ensures same_telling { told self.new ≡ told self.old }
+        ensures same_bytes { (taken self.new ≡ taken self.old) × (left self.new ≡ left self.old) }
+        ensures same_counts { (faults self.new ≡ faults self.old) × (waits self.new ≡ waits self.old) }
+        ensures paced { paced self.new ≡ told_at now (paced self.old) };
 }

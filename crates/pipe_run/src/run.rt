@@ -192,12 +192,12 @@ fn run_opened<
     requires stands { Stands core }
     requires empty { core.journal.steps ≡ [] }
     requires filled { IsFilled core.topology (body_at B.look bodies.items) }
-    requires fresh { IfSome (option_map (line_seen E.Source.told E.Source.taken E.Source.left E.Source.faults E.Source.waits) control) IsFresh }
+    requires fresh { IfSome (option_map (line_seen E.Source.ByteSource) control) IsFresh }
     ensures topology { result.run.core.topology ≡ core.topology }
     ensures stands { Stands result.run.core }
     ensures ended { IfOk result.run.end (HasEnded core.topology result.run.core.journal.steps) }
     ensures went { WentOn (is_ok result.run.end) core.topology result.run.core.journal.steps (body_at B.look bodies.items) (body_at B.look result.bodies.items)
-        (option_map (line_seen E.Source.told E.Source.taken E.Source.left E.Source.faults E.Source.waits) control)
+        (option_map (line_seen E.Source.ByteSource) control)
         (⟦<E as SeenEdges>⟧.seen edges.old) (⟦<E as SeenEdges>⟧.seen edges.new) (clock_seen K.latest K.readings clock) (clock_seen K.latest K.readings result.clock) }
 {
     let pipe = Pipe::new(core, bodies, control, clock);

@@ -38,6 +38,7 @@ gives_source old new name source same x = record {
   nothing_taken = x.nothing_taken;
   no_fault = x.no_fault;
   no_wait = x.no_wait;
+  no_pace = x.no_pace;
   given = λ t.
       let g = x.given (rw same.same_telling t) in
       (g.0, g.1 ∙ same.same_names t Source name);

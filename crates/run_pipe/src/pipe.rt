@@ -36,9 +36,9 @@ pub struct Pipe<B: Works, S: ByteSource, C: Clock> {
 impl<B: Works, S: ByteSource, C: Clock> Model for Pipe<B, S, C> {
     ghost Value = { PipeSeen };
 
-    ghost view = { λ p. record { topology = p.core.topology; steps = p.core.journal.steps; bodies = map (option_map B.look) p.bodies.items; control = option_map (line_seen S.told S.taken S.left S.faults S.waits) p.control; clock = clock_seen C.latest C.readings p.clock; end = p.end } };
+    ghost view = { λ p. record { topology = p.core.topology; steps = p.core.journal.steps; bodies = map (option_map B.look) p.bodies.items; control = option_map (line_seen S.ByteSource) p.control; clock = clock_seen C.latest C.readings p.clock; end = p.end } };
 
-    ghost invariant = { λ p. IsPipe p.core (state_by B.look (line_seen S.told S.taken S.left S.faults S.waits) (clock_seen C.latest C.readings) p.core p.bodies.items p.control p.clock p.end) };
+    ghost invariant = { λ p. IsPipe p.core (state_by B.look (line_seen S.ByteSource) (clock_seen C.latest C.readings) p.core p.bodies.items p.control p.clock p.end) };
 }
 
 impl<B: Works, S: ByteSource, C: Clock> Held for Pipe<B, S, C> {
@@ -83,8 +83,8 @@ impl<B: Works, S: ByteSource, C: Clock> Pipe<B, S, C> {
         requires stands { Stands core }
         requires empty { core.journal.steps ≡ [] }
         requires filled { IsFilled core.topology (body_at B.look bodies.items) }
-        requires fresh { IfSome (option_map (line_seen S.told S.taken S.left S.faults S.waits) control) IsFresh }
-        ensures made { state_of result ≡ state_by B.look (line_seen S.told S.taken S.left S.faults S.waits) (clock_seen C.latest C.readings) core bodies.items control clock None }
+        requires fresh { IfSome (option_map (line_seen S.ByteSource) control) IsFresh }
+        ensures made { state_of result ≡ state_by B.look (line_seen S.ByteSource) (clock_seen C.latest C.readings) core bodies.items control clock None }
         ensures stems { Stems (state_of result) (state_of result) }
         ensures none_away { away_of (state_of result) ≡ [] }
     {
@@ -101,7 +101,7 @@ impl<B: Works, S: ByteSource, C: Clock> Pipe<B, S, C> {
     pub fn into_parts(self) -> PipeParts<B, S, C>
         ensures stands { Stands result.core }
         ensures whole { IsWhole (state_of self) }
-        ensures parts { state_of self ≡ state_by B.look (line_seen S.told S.taken S.left S.faults S.waits) (clock_seen C.latest C.readings) result.core result.bodies.items result.control result.clock result.end }
+        ensures parts { state_of self ≡ state_by B.look (line_seen S.ByteSource) (clock_seen C.latest C.readings) result.core result.bodies.items result.control result.clock result.end }
     {
         let Pipe {
             core,

@@ -1,13 +1,15 @@
 -- What one fetch adds to what was read.
-use Rattle.std.proofs.Common.{◌≡◌, Bool, ℕ, ◌≤◌, List, [], ◌∷◌, ◌++◌, length, arith, refl, ap, sym, ◌∙◌, inl, inr}
+use Rattle.std.proofs.Common.{◌≡◌, ℕ, ◌≤◌, List, [], ◌∷◌, ◌++◌, length, arith, refl, ap, sym, ◌∙◌, inl, inr}
 use Rattle.std.specs.Prelude.{All, IsTrue, IsNone, IfOk, IfSome, Option, Some, None, Result, Ok, Err}
 use Rattle.std.proofs.lemmas.List.{append_assoc, append-nil}
 use Rattle.std.proofs.lemmas.List.Elements.{All-nil, All-cons, All-append, All-head, All-tail}
 use Rattle.pipe_types.specs.Counts.{Rose}
 use Rattle.pipe_types.specs.Lines.{max_bytes, lines}
 use Rattle.pipe_edges.specs.Texts.{IsLine, BeginsTooLong, ended, joined}
+use Rattle.pipe_edges.specs.declared.source.ByteSource.{Ghosts as SourceOf}
 use Rattle.pipe_edges.specs.LineSource.{line_source, waiting, line_end_of}
 use Rattle.pipe_edges.specs.Handed.{Handed}
+use Rattle.pipe_edges.specs.Pacing.{FetchIsPaced}
 use Rattle.pipe_edges.specs.Fetch.{answer_of, records_in, text_of, FetchHasCause, Remembers}
 use Rattle.pipe_edges.specs.declared.lines.LineSource.{LineSource}
 use Rattle.pipe_edges.specs.declared.reading.LineEnd.{LineEnd}
@@ -21,22 +23,23 @@ use Rattle.source_lines.specs.Read.{IsReadFrom}
 use Rattle.source_lines.proofs.Pieces.{ended_append, pieces_ended, short_joined}
 
 -- what a fetch promises of the source before and after
-pub record Fetches {B E : Type 0} (told : B → Bool) (taken left : B → List ℕ) (faults waits : B → ℕ) (old new : LineSource B) (max : ℕ) (result : Result Fetched E) : Type 0 where
+pub record Fetches {B E : Type 0} (source : SourceOf B) (old new : LineSource B) (max : ℕ) (result : Result Fetched E) : Type 0 where
   pub handed :
-      Handed told taken left faults waits (line_source old) (line_source new) (waiting old) (waiting new)
+      Handed source (line_source old) (line_source new) (waiting old) (waiting new)
       (text_of (line_end_of new) (records_in result))
   pub in_order :
-      IsTrue (told (line_source old))
-      → lines (waiting old ++ left (line_source old)) ≡ records_in result ++ lines (waiting new ++ left (line_source new))
+      IsTrue (source.told (line_source old))
+      → lines (waiting old ++ source.left (line_source old)) ≡ records_in result ++ lines (waiting new ++ source.left (line_source new))
   pub each_is_a_line : All IsLine (records_in result)
   pub cause :
       IfOk result (λ f. IsNone (line_end_of old)
-      → FetchHasCause max (faults (line_source old)) (faults (line_source new)) (waits (line_source old)) (waits (line_source new)) (waiting new) f)
+      → FetchHasCause max (source.faults (line_source old)) (source.faults (line_source new)) (source.waits (line_source old)) (source.waits (line_source new)) (waiting new) f)
   pub nothing_left :
       IsNone (line_end_of old) → line_end_of new ≡ Some end.End
-      → (waiting new ≡ []) × (IsTrue (told (line_source old)) → left (line_source new) ≡ [])
+      → (waiting new ≡ []) × (IsTrue (source.told (line_source old)) → source.left (line_source new) ≡ [])
   pub remembers : Remembers (line_end_of new) result
   pub again : IfSome (line_end_of old) (λ e. (result ≡ Ok (answer_of e)) × (new ≡ old))
+  pub paced : FetchIsPaced source (line_source old) (line_source new) (waiting old) (waiting new) result
 
 rose_from : (a b c : ℕ) → a ≤ b → Rose b c → Rose a c
 rose_from a b c le (inl below) = inl (omega (arith, le, below))
@@ -107,48 +110,48 @@ opens : {E : Type 0} {now : Option LineEnd} (P : Fetched → Type 0) (result : R
 opens P (Ok f) cause none = cause (rw none refl)
 opens P (Err e) cause none = tt
 
-read_open : {B E : Type 0} (told : B → Bool) (taken left : B → List ℕ) (faults waits : B → ℕ) (opened : B) (old new : LineSource B) (records : List (List ℕ)) (max : ℕ) (result : Result Fetched E)
-    → line_end_of old ≡ None → Fetches told taken left faults waits old new max result
-    → IsReadFrom told taken left faults waits opened old records
-    → IsReadFrom told taken left faults waits opened new (records ++ records_in result)
-read_open told taken left faults waits opened old new records max result none f r = record {
+read_open : {B E : Type 0} (source : SourceOf B) (opened : B) (old new : LineSource B) (records : List (List ℕ)) (max : ℕ) (result : Result Fetched E)
+    → line_end_of old ≡ None → Fetches source old new max result
+    → IsReadFrom source opened old records
+    → IsReadFrom source opened new (records ++ records_in result)
+read_open source opened old new records max result none f r = record {
   same_telling = f.handed.same_telling ∙ r.same_telling;
   each_is_a_line = All-append IsLine records (records_in result) r.each_is_a_line f.each_is_a_line;
   same_bytes = λ t.
       rw (f.handed.into_taken (rw r.same_telling t))
-      (append_assoc (taken (line_source old)) f.handed.part (left (line_source new))
-      ∙ ap (λ x. taken (line_source old) ++ x) (sym (f.handed.from_left (rw r.same_telling t)))
+      (append_assoc (source.taken (line_source old)) f.handed.part (source.left (line_source new))
+      ∙ ap (λ x. source.taken (line_source old) ++ x) (sym (f.handed.from_left (rw r.same_telling t)))
       ∙ r.same_bytes t);
   to_come = λ t no_end.
-      let e : waiting old ++ left (line_source old) ≡ ended (records_in result) ++ (waiting new ++ left (line_source new)) =
+      let e : waiting old ++ source.left (line_source old) ≡ ended (records_in result) ++ (waiting new ++ source.left (line_source new)) =
       rw (text_open (line_end_of new) (records_in result) no_end) at (rest_of f.handed (rw r.same_telling t)) in
       rw (r.to_come t (is_open none), e, ended_append records (records_in result))
-      (sym (append_assoc (ended records) (ended (records_in result)) (waiting new ++ left (line_source new))));
+      (sym (append_assoc (ended records) (ended (records_in result)) (waiting new ++ source.left (line_source new))));
   at_end = λ t is_end.
       let nothing = f.nothing_left (rw none refl) is_end in
-      let e : waiting old ++ left (line_source old) ≡ joined (records_in result) =
+      let e : waiting old ++ source.left (line_source old) ≡ joined (records_in result) =
       rest_of f.handed (rw r.same_telling t)
-      ∙ no_rest _ (waiting new) (left (line_source new)) nothing.0 (nothing.1 (rw r.same_telling t))
+      ∙ no_rest _ (waiting new) (source.left (line_source new)) nothing.0 (nothing.1 (rw r.same_telling t))
       ∙ text_closed (line_end_of new) (records_in result) is_end in
       let all : lines (joined (records_in result)) ≡ records_in result =
       ap lines (sym e)
       ∙ f.in_order (rw r.same_telling t)
-      ∙ no_lines _ (waiting new) (left (line_source new)) nothing.0 (nothing.1 (rw r.same_telling t)) in
-      all_lines (left opened) records (records_in result) r.each_is_a_line f.each_is_a_line (rw (r.to_come t (is_open none), e) refl) all;
+      ∙ no_lines _ (waiting new) (source.left (line_source new)) nothing.0 (nothing.1 (rw r.same_telling t)) in
+      all_lines (source.left opened) records (records_in result) r.each_is_a_line f.each_is_a_line (rw (r.to_come t (is_open none), e) refl) all;
   at_long = λ is. long_cause (line_end_of new) max _ _ _ _ (waiting new) result f.remembers is (opens _ result f.cause none);
-  at_fault = λ is. rose_from (faults opened) (faults (line_source old)) (faults (line_source new)) r.faults_stay
+  at_fault = λ is. rose_from (source.faults opened) (source.faults (line_source old)) (source.faults (line_source new)) r.faults_stay
       (fault_cause (line_end_of new) max _ _ _ _ (waiting new) result f.remembers is (opens _ result f.cause none));
   faults_stay = omega (arith, r.faults_stay, f.handed.faults_stay);
   waits_stay = omega (arith, r.waits_stay, f.handed.waits_stay);
 }
 
 -- the records of a fetch follow those of the fetches before
-pub read_more : {B E : Type 0} (told : B → Bool) (taken left : B → List ℕ) (faults waits : B → ℕ) (opened : B) (old new : LineSource B) (records : List (List ℕ)) (max : ℕ) (result : Result Fetched E) (known : Option LineEnd)
-    → line_end_of old ≡ known → Fetches told taken left faults waits old new max result
-    → IsReadFrom told taken left faults waits opened old records
-    → IsReadFrom told taken left faults waits opened new (records ++ records_in result)
-read_more told taken left faults waits opened old new records max result None is f r =
-    read_open told taken left faults waits opened old new records max result is f r
-read_more told taken left faults waits opened old new records max result (Some e) is f r =
+pub read_more : {B E : Type 0} (source : SourceOf B) (opened : B) (old new : LineSource B) (records : List (List ℕ)) (max : ℕ) (result : Result Fetched E) (known : Option LineEnd)
+    → line_end_of old ≡ known → Fetches source old new max result
+    → IsReadFrom source opened old records
+    → IsReadFrom source opened new (records ++ records_in result)
+read_more source opened old new records max result None is f r =
+    read_open source opened old new records max result is f r
+read_more source opened old new records max result (Some e) is f r =
     let again : (result ≡ Ok (answer_of e)) × (new ≡ old) = known_again _ (line_end_of old) e is f.again in
     rw (no_records e result again.0, again.1, append-nil) r

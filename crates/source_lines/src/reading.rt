@@ -17,8 +17,8 @@ pub fn read_lines<B: ByteSource>(
     requires { 0 < max }
     // The records of this fetch follow those of the fetches before.
     ensures read { (opened : B) (records : List (List ℕ))
-        → IsReadFrom B.told B.taken B.left B.faults B.waits opened source.old records
-        → IsReadFrom B.told B.taken B.left B.faults B.waits opened source.new (records ++ records_in result) }
+        → IsReadFrom B.ByteSource opened source.old records
+        → IsReadFrom B.ByteSource opened source.new (records ++ records_in result) }
     ensures end_stays { IfSome (line_end_of source.old) (λ end. line_end_of source.new ≡ Some end) }
     // Fewer than `max` only where no whole line is held any more.
     ensures answer { IfOk result (IsFetchAnswer max (B.waits (line_source source.old))

@@ -15,6 +15,8 @@ use Rattle.pipe_types.specs.declared.topology.Kind.TheVariants.{Own}
 use Rattle.pipe_model.specs.Content.{has_crash}
 use Rattle.pipe_model.specs.Work.{is_end_by, is_write_end, own_text, is_failed_by_sink}
 use Rattle.pipe_edges.specs.Cut.{CutsAll}
+use Rattle.pipe_edges.specs.Paces.{Pace, KeepsPace}
+use Rattle.pipe_edges.specs.Pacing.{IsInStep, Gives, IsHeldUp}
 use Rattle.pipe_edges.specs.declared.reading.LineEnd.{LineEnd}
 use Rattle.pipe_edges.specs.declared.reading.LineEnd.TheVariants as end
 use Rattle.stage_callback.specs.Callbacks.{is_message_for, is_passed}
@@ -59,11 +61,34 @@ abbrev pub ReadsOn : (records : List (List ℕ)) → (old new : LineSeen) → Ty
 ReadsOn records old new =
     (opened : SourceSeen) (earlier : List (List ℕ)) → AreReadFrom opened old earlier → AreReadFrom opened new (earlier ++ records)
 
+-- what a fetch with a pace gave, if no line is too long: just its records
+abbrev pub FetchGives : (before : ℕ) → LineSeen → Came → Type 0
+FetchGives before now (came.Records records) = Gives before (length records) now.source.paced now.waiting
+FetchGives before now (came.Ended how.TooLong) = Unit {0}
+FetchGives before now _ = Gives before 0 now.source.paced now.waiting
+
+-- nothing was ready only where the source had nothing of its own, or the share is used up
+abbrev pub FetchIsHeldUp : Pace → (old new : LineSeen) → Came → Type 0
+FetchIsHeldUp pace old new came.NotYet = IsHeldUp pace old.source.waits new.source.waits old.source.paced new.source.paced
+FetchIsHeldUp pace old new _ = Unit {0}
+
+-- a fetch with a pace
+pub record FetchKeepsPace (pace : Pace) (result : Came) (old new : LineSeen) : Type 0 where
+  pub kept : KeepsPace pace old.source.waits new.source.waits old.source.paced new.source.paced
+  pub counted : IsInStep old.source.paced old.waiting → FetchGives old.source.paced.given new result
+  pub held_up : FetchIsHeldUp pace old new result
+
+-- without a pace the gate stays as it is
+abbrev pub FetchIsPaced : Option Pace → Came → (old new : LineSeen) → Type 0
+FetchIsPaced None result old new = new.source.paced ≡ old.source.paced
+FetchIsPaced (Some pace) result old new = FetchKeepsPace pace result old new
+
 -- a fetch of at most so many records, and what it came to
 pub record Fetches (most : ℕ) (result : Came) (old new : LineSeen) : Type 0 where
   pub reads : ReadsOn (records_of result) old new
   pub end_stays : IfSome old.end (λ e. new.end ≡ Some e)
   pub answer : IsFetched most old.source.waits new.source.waits new.waiting new.end result
+  pub paced : FetchIsPaced old.source.paced.pace result old new
 
 -- ---- callbacks
 

@@ -1,4 +1,5 @@
 pub mod Seen
+pub mod Moments
 pub mod Reads
 pub mod Told
 pub mod Jobs

@@ -2,22 +2,25 @@
 use Rattle.std.specs.Prelude.{ℕ, Bool, List, Option, Some, None, slice_get}
 use Rattle.pipe_types.specs.declared.topology.Kind.{Kind}
 use Rattle.pipe_types.specs.declared.topology.StageSpec.{StageSpec}
+use Rattle.pipe_edges.specs.declared.source.ByteSource.{Ghosts as SourceOf}
+use Rattle.pipe_edges.specs.Paces.{PaceSeen}
 use Rattle.pipe_edges.specs.LineSource.{line_source, waiting, line_end_of}
 use Rattle.pipe_edges.specs.declared.lines.LineSource.{LineSource}
 use Rattle.pipe_edges.specs.declared.reading.LineEnd.{LineEnd}
 use Rattle.stage_callback.specs.declared.answers.Said.{Said}
 
--- a source of bytes: whether it tells them, what was read and what is left, its faults and its waits
+-- a source of bytes: whether it tells them, what was read and what is left, its faults and its waits, and its gate
 pub record SourceSeen : Type 0 where
   pub told : Bool
   pub taken : List ℕ
   pub left : List ℕ
   pub faults : ℕ
   pub waits : ℕ
+  pub paced : PaceSeen
 
-abbrev pub source_seen : {S : Type 0} → (told : S → Bool) → (taken left : S → List ℕ) → (faults waits : S → ℕ) → S → SourceSeen
-source_seen told taken left faults waits s =
-    record { told = told s; taken = taken s; left = left s; faults = faults s; waits = waits s }
+abbrev pub source_seen : {S : Type 0} → SourceOf S → S → SourceSeen
+source_seen source s =
+    record { told = source.told s; taken = source.taken s; left = source.left s; faults = source.faults s; waits = source.waits s; paced = source.paced s }
 
 -- a sink of bytes: whether it tells them, what it holds, and its faults
 pub record SinkSeen : Type 0 where
@@ -34,9 +37,9 @@ pub record LineSeen : Type 0 where
   pub waiting : List ℕ
   pub end : Option LineEnd
 
-abbrev pub line_seen : {S : Type 0} → (told : S → Bool) → (taken left : S → List ℕ) → (faults waits : S → ℕ) → LineSource S → LineSeen
-line_seen told taken left faults waits lines =
-    record { source = source_seen told taken left faults waits (line_source lines); waiting = waiting lines; end = line_end_of lines }
+abbrev pub line_seen : {S : Type 0} → SourceOf S → LineSource S → LineSeen
+line_seen source lines =
+    record { source = source_seen source (line_source lines); waiting = waiting lines; end = line_end_of lines }
 
 -- a callback in its box
 pub record BoxSeen : Type 0 where

@@ -13,14 +13,14 @@ pub trait Houses<S: ByteSource, K: ByteSink>: Works {
         ensures { Self.look result ≡ record { source = None; sink = None; callback = None } };
 
     fn put_source(&mut self, source: LineSource<S>)
-        ensures { Self.look self.new ≡ with_source (line_seen S.told S.taken S.left S.faults S.waits source) (Self.look self.old) };
+        ensures { Self.look self.new ≡ with_source (line_seen S.ByteSource source) (Self.look self.old) };
 
     fn put_sink(&mut self, sink: K)
         ensures { Self.look self.new ≡ with_sink (sink_seen K.told K.held K.faults sink) (Self.look self.old) };
 
     /// Takes the source out. Bytes that were read and not handed out are let go.
     fn take_source(&mut self) -> Option<S>
-        ensures out { option_map (source_seen S.told S.taken S.left S.faults S.waits) result ≡ option_map (λ lines. lines.source) (Self.look self.old).source }
+        ensures out { option_map (source_seen S.ByteSource) result ≡ option_map (λ lines. lines.source) (Self.look self.old).source }
         ensures rest { Self.look self.new ≡ record (Self.look self.old) { source = None } };
 
     fn take_sink(&mut self) -> Option<K>

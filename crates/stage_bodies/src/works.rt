@@ -2,6 +2,7 @@
 
 ghost use Rattle.std.specs.Prelude.{◌≡◌, OnErr, IfOk};
 ghost use Rattle.stage_bodies.specs.Seen.{BodySeen};
+ghost use Rattle.stage_bodies.specs.Moments.{told_body};
 ghost use Rattle.stage_bodies.specs.Jobs.{Fits, IsDone, IsCutOff, IsResetBody};
 
 use crate::job::{Answer, Job};
@@ -23,4 +24,8 @@ pub trait Works: Drop {
     /// Has its callback count from 0 again. It takes no memory.
     fn reset(&mut self)
         ensures { IsResetBody (look self.old) (look self.new) };
+
+    /// Tells its source the moment in milliseconds, if it has a source.
+    fn at(&mut self, now: u64)
+        ensures { look self.new ≡ told_body now (look self.old) };
 }

@@ -3,7 +3,9 @@
 ghost use Rattle.std.specs.Prelude.{◌≡◌, ◌<◌, length, IfOk};
 ghost use Rattle.pipe_model.specs.Moves.{move as next_move_of, Job as JobMove};
 ghost use Rattle.core_state.specs.Stands.{Stands};
+ghost use Rattle.pipe_model.specs.History.{now as last_tick};
 ghost use Rattle.stage_bodies.specs.Seen.{body_at};
+ghost use Rattle.stage_bodies.specs.Moments.{told_for};
 ghost use Rattle.stage_bodies.specs.Posts.{place_at};
 ghost use Rattle.body_laws.specs.Ready.{Ready};
 ghost use Rattle.stage_holds.specs.Holds.{LeavesOn};
@@ -12,10 +14,10 @@ use crate::loads::Load;
 use core_jobs::begin_job;
 use core_state::Core;
 use pipe_types::numbers::StageNo;
-use stage_bodies::{Works, place_of, take_out};
+use stage_bodies::{Work, Works, place_of, take_out};
 use std::alloc::AllocError;
 
-/// Begins the job of the stage, and takes the body of its post out. The error is want of memory: nothing has changed.
+/// Begins the job of the stage, and takes the body of its post out; behind a fetch its source is told the moment. The error is want of memory: nothing has changed.
 pub(crate) fn leave<B: Works>(
     core: &mut Core,
     bodies: &mut Vec<Option<B>>,
@@ -32,8 +34,19 @@ pub(crate) fn leave<B: Works>(
 {
     let job = begin_job(core, stage)?;
     let at = place_of(job.post);
-    let Some(body) = take_out(bodies, at) else {
+    let Some(mut body) = take_out(bodies, at) else {
         unreachable!()
     };
+    tell(core, &job.work, &mut body);
     Ok(Load { job, body })
+}
+
+/// Tells the source of a body that leaves for a fetch the moment.
+fn tell<B: Works>(core: &Core, work: &Work, body: &mut B)
+    requires stands { Stands core.now }
+    ensures { B.look body.new ≡ told_for work.now (last_tick core.now.journal.steps) (B.look body.old) }
+{
+    if let Work::Fetch(_) = work {
+        body.at(core.now());
+    }
 }

@@ -46,8 +46,8 @@ pub fn advance<B: Works, S: ByteSource, C: Clock>(
     ensures clock { (opened : ClockSeen) → KeepsClock core.old.journal.steps opened (clock_seen C.latest C.readings clock.old)
         → KeepsClockAheadOn result core.new.journal.steps opened (clock_seen C.latest C.readings clock.new) }
     ensures control { (opened : Option LineSeen)
-        → KeepsControl core.old.topology core.old.journal.steps 0 opened (option_map (line_seen S.told S.taken S.left S.faults S.waits) control.old)
-        → KeepsControlOn result core.old.topology core.new.journal.steps 1 opened (option_map (line_seen S.told S.taken S.left S.faults S.waits) control.new) }
+        → KeepsControl core.old.topology core.old.journal.steps 0 opened (option_map (line_seen S.ByteSource) control.old)
+        → KeepsControlOn result core.old.topology core.new.journal.steps 1 opened (option_map (line_seen S.ByteSource) control.new) }
     ensures one_line { controls core.new.journal.steps ≤ controls core.old.journal.steps + 1 }
     ensures no_more { work_left core.old.topology core.new.journal.steps ≤ work_left core.old.topology core.old.journal.steps }
     ensures pauses { OnOk result (next_move_of core.old.topology core.new.journal.steps ≡ PauseMove

@@ -12,7 +12,7 @@ pub returns-then-is_ended-clause-keeps : goal.returns-then-is_ended-clause-keeps
 returns-then-is_ended-clause-keeps g c opened k =
     let core = c.args.core.now in
     let s = g.S.ByteSource in
-    ended_keeps core.topology core.journal.steps opened (line_seen s.told s.taken s.left s.faults s.waits c.args.lines.now) (sym c.is_ended.ensures ∙ c.if-is_ended.true) k
+    ended_keeps core.topology core.journal.steps opened (line_seen s c.args.lines.now) (sym c.is_ended.ensures ∙ c.if-is_ended.true) k
 
 pub source_end-requires-clause-legal : goal.source_end-requires-clause-legal
 source_end-requires-clause-legal g c =
@@ -28,7 +28,7 @@ pub returns-then-is_full-clause-keeps : goal.returns-then-is_full-clause-keeps
 returns-then-is_full-clause-keeps g c opened k =
     let core = c.args.core.now in
     let s = g.S.ByteSource in
-    limit_on c.source_end.result core.topology core.journal.steps c.source_end.new.core.journal.steps opened (line_seen s.told s.taken s.left s.faults s.waits c.args.lines.now)
+    limit_on c.source_end.result core.topology core.journal.steps c.source_end.new.core.journal.steps opened (line_seen s c.args.lines.now)
     c.source_end.ensures.appended c.source_end.ensures.unchanged
     (full_at core.topology core.journal.steps c.requires.stands.holds.legal (sym c.is_full.ensures ∙ c.if-is_full.true)) k
 
@@ -40,7 +40,7 @@ returns-in_err-outcome-clause-keeps g c opened k =
     let core = c.args.core.now in
     let s = g.S.ByteSource in
     unread_on c.from_residual.result core.topology core.journal.steps opened
-    (line_seen s.told s.taken s.left s.faults s.waits c.args.lines.now) (line_seen s.told s.taken s.left s.faults s.waits c.fetch.new.source)
+    (line_seen s c.args.lines.now) (line_seen s c.fetch.new.source)
     c.from_residual.ensures.0 (sym c.is_ended.ensures ∙ c.if-is_ended.false) c.in_err-outcome.ensures.cut_off.0 k
 
 pub note_reading-requires-clause-may : goal.note_reading-requires-clause-may
@@ -51,7 +51,7 @@ note_reading-requires-clause-may g c =
 pub note_reading-requires-clause-reading : goal.note_reading-requires-clause-reading
 note_reading-requires-clause-reading g c =
     let s = g.S.ByteSource in
-    is_reading c.in_ok-outcome.outcome (line_seen s.told s.taken s.left s.faults s.waits c.args.lines.now) (line_seen s.told s.taken s.left s.faults s.waits c.fetch.new.source) c.in_ok-outcome.ensures.done
+    is_reading c.in_ok-outcome.outcome (line_seen s c.args.lines.now) (line_seen s c.fetch.new.source) c.in_ok-outcome.ensures.done
 
 pub returns-clause-adds : goal.returns-clause-adds
 returns-clause-adds g c =
@@ -63,5 +63,5 @@ returns-clause-keeps g c opened k =
     let core = c.args.core.now in
     let s = g.S.ByteSource in
     reading_on c.note_reading.result core.topology core.journal.steps c.note_reading.new.core.journal.steps c.in_ok-outcome.outcome opened
-    (line_seen s.told s.taken s.left s.faults s.waits c.args.lines.now) (line_seen s.told s.taken s.left s.faults s.waits c.fetch.new.source)
+    (line_seen s c.args.lines.now) (line_seen s c.fetch.new.source)
     c.note_reading.ensures.noted c.note_reading.ensures.unchanged (sym c.is_ended.ensures ∙ c.if-is_ended.false) c.in_ok-outcome.ensures.done k

@@ -10,7 +10,7 @@ invariant-loop-spec g l =
     let e = g.E.Edges in
     let s = g.E.Source.ByteSource in
     let k = g.E.Sink.ByteSink in
-    let seen = edges_seen e.told e.named e.asked e.faults e.sources_back e.sinks_back (source_seen s.told s.taken s.left s.faults s.waits) (sink_seen k.told k.held k.faults) in
+    let seen = edges_seen e.told e.named e.asked e.faults e.sources_back e.sinks_back (source_seen s) (sink_seen k.told k.held k.faults) in
     record {
       len : length l.bodies.items ≡ length l.fn.bodies.items;
       home : AreHome l.fn.topology (body_at g.B.Works.look l.bodies.items);

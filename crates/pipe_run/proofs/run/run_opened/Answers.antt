@@ -17,7 +17,7 @@ returns-in-Ok-clause-went g c =
     let e = g.E.Edges in
     let s = g.E.Source.ByteSource in
     let k = g.E.Sink.ByteSink in
-    let seen = edges_seen e.told e.named e.asked e.faults e.sources_back e.sinks_back (source_seen s.told s.taken s.left s.faults s.waits) (sink_seen k.told k.held k.faults) in
+    let seen = edges_seen e.told e.named e.asked e.faults e.sources_back e.sinks_back (source_seen s) (sink_seen k.told k.held k.faults) in
     went _ _ _ _ (body_at g.B.Works.look c.give_back.new.bodies.items) (seen c.args.edges.now) (seen c.give_back.new.edges)
     (ran_to _ _ _ _ _ c.new-pipe.ensures.made c.into_parts-core.ensures.parts c.unwrap-end.ensures c.run_workers-pipe.ensures.ran)
     c.topology.ensures c.in-Ok.ensures.back c.in-Ok.ensures.callbacks
@@ -30,7 +30,7 @@ returns-in-Err-clause-went g c =
     let e = g.E.Edges in
     let s = g.E.Source.ByteSource in
     let k = g.E.Sink.ByteSink in
-    let seen = edges_seen e.told e.named e.asked e.faults e.sources_back e.sinks_back (source_seen s.told s.taken s.left s.faults s.waits) (sink_seen k.told k.held k.faults) in
+    let seen = edges_seen e.told e.named e.asked e.faults e.sources_back e.sinks_back (source_seen s) (sink_seen k.told k.held k.faults) in
     went_in_part _ _ _ _ (body_at g.B.Works.look c.give_back.new.bodies.items) (seen c.args.edges.now) (seen c.give_back.new.edges)
     (ran_to _ _ _ _ _ c.new-pipe.ensures.made c.into_parts-core.ensures.parts c.unwrap-end.ensures c.run_workers-pipe.ensures.ran)
     c.topology.ensures c.in-Err.ensures.in_part c.in-Err.ensures.callbacks

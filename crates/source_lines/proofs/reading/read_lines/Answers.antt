@@ -7,7 +7,7 @@ use Rattle.source_lines.proofs.reading.read_lines.Goals as goal
 pub returns-clause-read : goal.returns-clause-read
 returns-clause-read g c opened records before =
     let f = c.fetch.ensures in
-    read_more g.B.ByteSource.told g.B.ByteSource.taken g.B.ByteSource.left g.B.ByteSource.faults g.B.ByteSource.waits opened c.args.source.now
+    read_more g.B.ByteSource opened c.args.source.now
     c.fetch.new.self records _ c.fetch.result (line_end_of c.args.source.now) refl
     (record {
       handed = f.handed;
@@ -17,5 +17,6 @@ returns-clause-read g c opened records before =
       nothing_left = f.nothing_left;
       remembers = f.remembers;
       again = f.again;
+      paced = f.paced;
     })
     before

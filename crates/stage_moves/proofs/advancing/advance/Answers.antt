@@ -50,7 +50,7 @@ returns-in_err-read_clock-clause-control g c opened k =
     let m = c.read_clock.new.core.journal.steps in
     let w = c.read_clock.ensures.waits in
     let s = g.S.ByteSource in
-    let l0 = option_map (line_seen s.told s.taken s.left s.faults s.waits) c.args.control.now in
+    let l0 = option_map (line_seen s) c.args.control.now in
     partly_on c.from_residual.result t m 1 opened l0 c.from_residual.ensures.0 (kept_partly t m opened l0 (w.control 0 opened l0 k))
 
 pub read_control-requires-clause-going : goal.read_control-requires-clause-going
@@ -103,8 +103,8 @@ returns-in_err-read_control-clause-control g c opened k =
     let e1 = c.read_clock.ensures in
     let w = c.read_clock.ensures.waits in
     let s = g.S.ByteSource in
-    let l0 = option_map (line_seen s.told s.taken s.left s.faults s.waits) c.args.control.now in
-    let l1 = option_map (line_seen s.told s.taken s.left s.faults s.waits) c.read_control.new.control in
+    let l0 = option_map (line_seen s) c.args.control.now in
+    let l1 = option_map (line_seen s) c.read_control.new.control in
     partly_on c.from_residual-in_err-read_control.result t n 1 opened l1 c.from_residual-in_err-read_control.ensures.0
     (subst (λ o. KeepsControlPartly o n opened l1) e1.topology (c.in_err-read_control.ensures.keeps opened (subst (λ o. KeepsControl o m 0 opened l0) (sym e1.topology) (w.control 0 opened l0 k))))
 
@@ -205,8 +205,8 @@ returns-clause-control g c opened k =
     let w = c.read_clock.ensures.waits in
     let on = subst (λ o. Advances o n home b back) (e2.topology ∙ e1.topology) e3.advances in
     let s = g.S.ByteSource in
-    let l0 = option_map (line_seen s.told s.taken s.left s.faults s.waits) c.args.control.now in
-    let l1 = option_map (line_seen s.told s.taken s.left s.faults s.waits) c.read_control.new.control in
+    let l0 = option_map (line_seen s) c.args.control.now in
+    let l1 = option_map (line_seen s) c.read_control.new.control in
     ahead_on c.go_on.result t b opened l1
     (on.within.control opened l1
     (subst (λ o. KeepsControl o n 1 opened l1) e1.topology (c.in_ok-read_control.ensures.keeps opened (subst (λ o. KeepsControl o m 0 opened l0) (sym e1.topology) (w.control 0 opened l0 k)))))

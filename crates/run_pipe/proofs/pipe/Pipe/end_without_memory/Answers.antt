@@ -11,7 +11,7 @@ pub invariant_of-self : goal.invariant_of-self
 invariant_of-self g c =
     let s = g.S.ByteSource in
     let look = g.B.Works.look in
-    let line = line_seen s.told s.taken s.left s.faults s.waits in
+    let line = line_seen s in
     let time = clock_seen g.C.Clock.latest g.C.Clock.readings in
     let i = c.self.inside in
     let old = fields_of look i.core.topology i.core.journal.steps i.bodies.items (option_map line i.control) (time i.clock) i.end in
@@ -21,7 +21,7 @@ pub returns-clause-ran : goal.returns-clause-ran
 returns-clause-ran g c =
     let s = g.S.ByteSource in
     let look = g.B.Works.look in
-    let line = line_seen s.told s.taken s.left s.faults s.waits in
+    let line = line_seen s in
     let time = clock_seen g.C.Clock.latest g.C.Clock.readings in
     let i = c.self.inside in
     let end = Some (Err c.args.error) in

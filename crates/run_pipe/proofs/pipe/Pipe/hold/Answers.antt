@@ -16,7 +16,7 @@ pub invariant_of-self : goal.invariant_of-self
 invariant_of-self g c =
     let s = g.S.ByteSource in
     let look = g.B.Works.look in
-    let line = line_seen s.told s.taken s.left s.faults s.waits in
+    let line = line_seen s in
     let time = clock_seen g.C.Clock.latest g.C.Clock.readings in
     let i = c.self.inside in
     let old = fields_of look i.core.topology i.core.journal.steps i.bodies.items (option_map line i.control) (time i.clock) i.end in
@@ -34,7 +34,7 @@ pub returns-in-Some : goal.returns-in-Some
 returns-in-Some g c =
     let s = g.S.ByteSource in
     let look = g.B.Works.look in
-    let line = line_seen s.told s.taken s.left s.faults s.waits in
+    let line = line_seen s in
     let time = clock_seen g.C.Clock.latest g.C.Clock.readings in
     let i = c.self.inside in
     let old = fields_of look i.core.topology i.core.journal.steps i.bodies.items (option_map line i.control) (time i.clock) i.end in
@@ -56,7 +56,7 @@ pub returns-in-None : goal.returns-in-None
 returns-in-None g c =
     let s = g.S.ByteSource in
     let look = g.B.Works.look in
-    let line = line_seen s.told s.taken s.left s.faults s.waits in
+    let line = line_seen s in
     let time = clock_seen g.C.Clock.latest g.C.Clock.readings in
     let i = c.self.inside in
     let old = fields_of look i.core.topology i.core.journal.steps i.bodies.items (option_map line i.control) (time i.clock) i.end in
@@ -70,7 +70,7 @@ pub hold-came-requires-clause-brought : goal.hold-came-requires-clause-brought
 hold-came-requires-clause-brought g c =
     let s = g.S.ByteSource in
     let look = g.B.Works.look in
-    let line = line_seen s.told s.taken s.left s.faults s.waits in
+    let line = line_seen s in
     let time = clock_seen g.C.Clock.latest g.C.Clock.readings in
     let i = c.self.inside in
     let old = fields_of look i.core.topology i.core.journal.steps i.bodies.items (option_map line i.control) (time i.clock) i.end in
@@ -84,7 +84,7 @@ pub invariant_of-self-2 : goal.invariant_of-self-2
 invariant_of-self-2 g c =
     let s = g.S.ByteSource in
     let look = g.B.Works.look in
-    let line = line_seen s.told s.taken s.left s.faults s.waits in
+    let line = line_seen s in
     let time = clock_seen g.C.Clock.latest g.C.Clock.readings in
     let i = c.self.inside in
     let old = fields_of look i.core.topology i.core.journal.steps i.bodies.items (option_map line i.control) (time i.clock) i.end in
@@ -107,7 +107,7 @@ pub returns : goal.returns
 returns g c =
     let s = g.S.ByteSource in
     let look = g.B.Works.look in
-    let line = line_seen s.told s.taken s.left s.faults s.waits in
+    let line = line_seen s in
     let time = clock_seen g.C.Clock.latest g.C.Clock.readings in
     let i = c.self.inside in
     let old = fields_of look i.core.topology i.core.journal.steps i.bodies.items (option_map line i.control) (time i.clock) i.end in

@@ -11,7 +11,7 @@ pub returns-clause-whole : goal.returns-clause-whole
 returns-clause-whole g c =
     let s = g.S.ByteSource in
     let look = g.B.Works.look in
-    let line = line_seen s.told s.taken s.left s.faults s.waits in
+    let line = line_seen s in
     let time = clock_seen g.C.Clock.latest g.C.Clock.readings in
     let i = c.self.inside in
     let same = sym (ap state_of c.self.view_is) ∙ state_is look i.core.topology i.core.journal.steps i.bodies.items (option_map line i.control) (time i.clock) i.end in
@@ -21,7 +21,7 @@ pub returns-clause-parts : goal.returns-clause-parts
 returns-clause-parts g c =
     let s = g.S.ByteSource in
     let look = g.B.Works.look in
-    let line = line_seen s.told s.taken s.left s.faults s.waits in
+    let line = line_seen s in
     let time = clock_seen g.C.Clock.latest g.C.Clock.readings in
     let i = c.self.inside in
     sym (ap state_of c.self.view_is) ∙ state_is look i.core.topology i.core.journal.steps i.bodies.items (option_map line i.control) (time i.clock) i.end

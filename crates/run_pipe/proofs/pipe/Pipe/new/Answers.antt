@@ -12,7 +12,7 @@ pub invariant_of-result : goal.invariant_of-result
 invariant_of-result g c =
     let s = g.S.ByteSource in
     let look = g.B.Works.look in
-    let line = line_seen s.told s.taken s.left s.faults s.waits in
+    let line = line_seen s in
     let time = clock_seen g.C.Clock.latest g.C.Clock.readings in
     let p = fields_of look c.args.core.topology c.args.core.journal.steps c.args.bodies.items (option_map line c.args.control) (time c.args.clock) None in
     record {
@@ -24,7 +24,7 @@ pub returns-clause-made : goal.returns-clause-made
 returns-clause-made g c =
     let s = g.S.ByteSource in
     let look = g.B.Works.look in
-    let line = line_seen s.told s.taken s.left s.faults s.waits in
+    let line = line_seen s in
     let time = clock_seen g.C.Clock.latest g.C.Clock.readings in
     state_is look c.args.core.topology c.args.core.journal.steps c.args.bodies.items (option_map line c.args.control) (time c.args.clock) None
 
@@ -32,7 +32,7 @@ pub returns-clause-stems : goal.returns-clause-stems
 returns-clause-stems g c =
     let s = g.S.ByteSource in
     let look = g.B.Works.look in
-    let line = line_seen s.told s.taken s.left s.faults s.waits in
+    let line = line_seen s in
     let time = clock_seen g.C.Clock.latest g.C.Clock.readings in
     let p = fields_of look c.args.core.topology c.args.core.journal.steps c.args.bodies.items (option_map line c.args.control) (time c.args.clock) None in
     subst (λ (q : PipeState). Stems q q) (sym (state_is look c.args.core.topology c.args.core.journal.steps c.args.bodies.items (option_map line c.args.control) (time c.args.clock) None))
@@ -42,7 +42,7 @@ pub returns-clause-none_away : goal.returns-clause-none_away
 returns-clause-none_away g c =
     let s = g.S.ByteSource in
     let look = g.B.Works.look in
-    let line = line_seen s.told s.taken s.left s.faults s.waits in
+    let line = line_seen s in
     let time = clock_seen g.C.Clock.latest g.C.Clock.readings in
     let p = fields_of look c.args.core.topology c.args.core.journal.steps c.args.bodies.items (option_map line c.args.control) (time c.args.clock) None in
     subst (λ (q : PipeState). away_of q ≡ []) (sym (state_is look c.args.core.topology c.args.core.journal.steps c.args.bodies.items (option_map line c.args.control) (time c.args.clock) None))

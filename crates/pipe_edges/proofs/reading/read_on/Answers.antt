@@ -1,0 +1,25 @@
+use Rattle.std.proofs.Common.{[], refl, rules}
+use Rattle.pipe_edges.specs.Handed.{Handed}
+use Rattle.pipe_edges.proofs.HandLaws.{handed_more}
+use Rattle.pipe_edges.proofs.PaceLaws.{round_more}
+use Rattle.pipe_edges.proofs.reading.read_on.Goals as goal
+
+pub loop-stop-preserved : goal.loop-stop-preserved
+loop-stop-preserved g c =
+    let source = g.B.ByteSource in
+    let handed : Handed source c.loop-stop.source c.go_round.new.source c.loop-stop.held c.go_round.new.held [] = rw c.in_default.is at c.in_ok-stop.ensures.handed in
+    record {
+      handed = handed_more c.loop-stop.invariant.handed handed;
+      paced =
+          round_more _ _ (source.waits c.args.source.now) (source.waits c.loop-stop.source) (source.waits c.go_round.new.source)
+          (source.paced c.args.source.now) (source.paced c.loop-stop.source) (source.paced c.go_round.new.source) c.args.held.now c.loop-stop.held c.go_round.new.held _
+          refl handed.waits_stay c.loop-stop.invariant.paced (rw c.in_default.is at c.in_ok-stop.ensures.paced);
+      unread = search rules;
+    }
+
+pub returns-in-Some-clause-paced : goal.returns-in-Some-clause-paced
+returns-in-Some-clause-paced g c =
+    let source = g.B.ByteSource in
+    round_more _ _ (source.waits c.args.source.now) (source.waits c.loop-stop.source) (source.waits c.go_round.new.source)
+    (source.paced c.args.source.now) (source.paced c.loop-stop.source) (source.paced c.go_round.new.source) c.args.held.now c.loop-stop.held c.go_round.new.held _
+    refl c.go_round.ensures.handed.waits_stay c.loop-stop.invariant.paced (rw c.in-Some.is at c.in_ok-stop.ensures.paced)
