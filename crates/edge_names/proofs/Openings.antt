@@ -180,6 +180,13 @@ call_step topology n spec p numbered here low = either (spec.no.0 * 16 + 0 == pl
         )
     either false e = (slot_one (p.slot == 0) refl (λ same. eqb-false (spec.no.0 * 16 + 0) (place_at p) e (sym same)), λ h. cc)
 
+-- behind the last stage all are opened
+pub opened_all : (topology : Topology) (n : ℕ) (edges : EdgesSeen) (old new : ℕ → Option BodySeen) → n ≤ length topology.stages → length topology.stages ≤ n
+    → AreOpened topology n edges old new → AreOpened topology (length topology.stages) edges old new
+opened_all topology n edges old new within past opened =
+    let same : n ≡ length topology.stages = omega (arith, within, past) in
+    subst (λ (m : ℕ). AreOpened topology m edges old new) same opened
+
 pub opened_start : (topology : Topology) (edges : EdgesSeen) (old : ℕ → Option BodySeen) → IsNumberedTopology topology → AreOpened topology 0 edges old old
 opened_start topology edges old numbered p low =
     subst (λ c. Both (IsOpened edges c) (old (place_at p)) (old (place_at p))) (sym (none (p.slot == 0) p.stage.0 refl (spec_of topology p.stage) refl)) (same_body edges (old (place_at p)))
