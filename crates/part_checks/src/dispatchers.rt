@@ -1,8 +1,9 @@
 //! What is sent to the consumers of one producer, by the dispatchers and by the rule of the slow machine.
 //!
 //! An act is `OPEN=WAITING`: the open demands of the consumers, numbered from 0, and how many units wait, or of what part each
-//! of them is. It is answered by a line, of unit and consumer of each send. Of `by_rule` it is `KIND:OPEN=WAITING`. All acts
-//! of a case go to one dispatcher. Of `keys` an act is `part=KEY:PARTS`, or `plain=KEY:PARTS` of the slow machine.
+//! of them is. It is answered by a line, of unit and consumer of each send. Of `by_rule` it is `KIND:OPEN=WAITING`. Of
+//! `by_selected` it is `OPEN=WAITING:PICKS`, of each unit behind a dot a 1 for each consumer that picks it and a 0 for each
+//! other, and the line begins with how many units are served. All acts of a case go to one dispatcher. Of `keys` an act is `part=KEY:PARTS`, or `plain=KEY:PARTS` of the slow machine.
 
 use crate::rooms::rooms;
 use crate::words::{Case, cut, item, number, numbers, refuse};
@@ -38,6 +39,45 @@ pub fn by_broadcast(told: &mut Told, case: &Case<'_>) -> Result<(), AllocError> 
     Ok(())
 }
 
+pub fn by_selected(told: &mut Told, case: &Case<'_>) -> Result<(), AllocError> {
+    let mut dispatch = BroadcastDispatch::new(told.alloc);
+    for act in case.acts.split_whitespace() {
+        let (open, waiting) = cut(act, '=');
+        let picks = picks_in(told.alloc, item(waiting, 1))?;
+        let open = numbers(told.alloc, open)?;
+        send_selected(told, &mut dispatch, &open, number(item(waiting, 0)), &picks)?;
+    }
+    Ok(())
+}
+
+fn picks_in(alloc: Global, word: &str) -> Result<Vec<bool>, AllocError> {
+    let mut picks = Vec::new(alloc);
+    for letter in word.chars() {
+        if letter != '.' {
+            picks.push(letter == '1')?;
+        }
+    }
+    Ok(picks)
+}
+
+fn send_selected(
+    told: &mut Told,
+    dispatch: &mut BroadcastDispatch,
+    open: &[u32],
+    waiting: u32,
+    picks: &[bool],
+) -> Result<(), AllocError> {
+    let rooms = rooms(told.alloc, open)?;
+    if waiting > 1_000 || rooms.len() > 1_000 || picks.len() != waiting as usize * rooms.len() {
+        refuse(told);
+        return Ok(());
+    }
+    let served = dispatch.deliver_selected(waiting, &rooms, picks)?;
+    told.behind("\n  served ", u64::from(served.units));
+    add_sent(told, served.sent.as_slice());
+    Ok(())
+}
+
 pub fn by_partition(told: &mut Told, case: &Case<'_>) -> Result<(), AllocError> {
     let mut dispatch = PartitionDispatch::new(told.alloc);
     for act in case.acts.split_whitespace() {
@@ -68,6 +108,10 @@ fn send_parts(
 /// Unit and consumer of each send, in a line.
 fn tell_sent(told: &mut Told, sent: &[Sent]) {
     told.add("\n ");
+    add_sent(told, sent);
+}
+
+fn add_sent(told: &mut Told, sent: &[Sent]) {
     for one in sent {
         told.count(u64::from(one.unit));
         told.behind(":", u64::from(one.sub.consumer.0));

@@ -67,6 +67,7 @@ fn run_sends(told: &mut Told, case: &Case<'_>) -> Result<(), AllocError> {
     match case.part {
         "by_demand" => dispatchers::by_demand(told, case),
         "by_broadcast" => dispatchers::by_broadcast(told, case),
+        "by_selected" => dispatchers::by_selected(told, case),
         "by_partition" => dispatchers::by_partition(told, case),
         "by_rule" => dispatchers::by_rule(told, case),
         "keys" => {
