@@ -211,6 +211,9 @@ opened_turn topology n at spec calls a b old mid new numbered here is asks h k =
 pub here_at : {A : Type 0} (xs ys : List A) (n : ℕ) (x : A) → ys ≡ xs → n < length ys → x ≡ get_or ys n x → slice_get xs n ≡ Some x
 here_at xs ys n x e lt is = subst (λ zs. slice_get zs n ≡ Some x) e (slice_get_read ys (length ys) n x refl lt is)
 
+pub all_turned : {A : Type 0} (xs ys : List A) (n : ℕ) → ys ≡ xs → n ≤ length ys → length ys ≤ n → n ≡ length xs
+all_turned xs ys n e high low = let same : length ys ≡ length xs = ap (λ zs. length zs) e in omega (arith, high, low, same)
+
 -- the bodies that were there are there still
 still_home : (edges : EdgesSeen) (c : Option (EdgeKind × List ℕ)) (x y : Option BodySeen) → Both (IsOpened edges c) x y → IsSome x → IsSome y
 still_home edges c (Some x) (Some y) h some = refl
