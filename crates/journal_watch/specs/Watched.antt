@@ -3,7 +3,7 @@ use Rattle.std.specs.Prelude.{Bool, true, false}
 use Rattle.pipe_model.specs.Begins.{BeginsWith}
 use Rattle.pipe_model.specs.History.{History}
 use Rattle.journal_watch.specs.declared.WatchEnd.{WatchEnd}
-use Rattle.journal_watch.specs.declared.WatchEnd.TheVariants.{Done, Failed, OutOfMemory}
+use Rattle.journal_watch.specs.declared.WatchEnd.TheVariants.{Done, Failed}
 
 abbrev pub is_failure : WatchEnd → Bool
 is_failure Failed = true
