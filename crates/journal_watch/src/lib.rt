@@ -23,7 +23,7 @@ pub enum WatchEnd {
 }
 
 /// What is shown the journal. Its count of faults never falls.
-pub trait Watch: Send {
+pub trait Watch {
     /// It fits this topology. No call changes it.
     ghost fits: { Self → Topology → Type 0 };
 
