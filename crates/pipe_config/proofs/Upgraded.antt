@@ -160,8 +160,8 @@ row_lift path t all r right unknown h = by r.since refl right h
     later e =
         let (free, new) = and_parts (not r.required) (not (is_known One all (key_name r.key))) e in
         let none : value_at r.key t ≡ None = absent path all (key_name r.key) t (not_true (is_known One all (key_name r.key)) new) unknown in
-        let open : r.required ≡ false = not_true r.required free in
-        ap (held_faults (under path (key_name r.key)) r) none ∙ ap (missing_faults (under path (key_name r.key))) open
+        let optional : r.required ≡ false = not_true r.required free in
+        ap (held_faults (under path (key_name r.key)) r) none ∙ ap (missing_faults (under path (key_name r.key))) optional
 
     by : (since : FileVersion) → r.since ≡ since → (is_one since || (not r.required && not (is_known One all (key_name r.key)))) ≡ true → cond (has One since) (held path t r) [] ≡ [] → cond (has Two r.since) (held path t r) [] ≡ []
     by One e right h = rw e h

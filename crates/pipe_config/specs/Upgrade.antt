@@ -8,8 +8,8 @@ use Rattle.toml.specs.Data.{Data, integer, Members, no_members, member}
 use Rattle.toml.specs.Parse.{parse_document}
 use Rattle.config_table.specs.declared.fault.ConfigFault.{ConfigFault}
 use Rattle.config_table.specs.declared.fault.ConfigFault.TheVariants as fault
-use Rattle.pipe_config.specs.declared.upgrade.UpgradeFault.{UpgradeFault}
-use Rattle.pipe_config.specs.declared.upgrade.UpgradeFault.TheVariants.{Refused, OutOfMemory}
+use Rattle.pipe_config.specs.declared.version2.UpgradeFault.{UpgradeFault}
+use Rattle.pipe_config.specs.declared.version2.UpgradeFault.TheVariants.{Refused, OutOfMemory}
 use Rattle.pipe_config.specs.File.{table_of, topology_of_file}
 
 -- the members with this value at a key, in the order of their keys

@@ -7,8 +7,8 @@
 mod flat;
 pub mod laws;
 pub mod read;
-pub mod upgrade;
+pub mod version2;
 
 pub use config_table::fault::{ConfigFault, fault_number};
 pub use read::read_topology;
-pub use upgrade::{UpgradeFault, upgrade};
+pub use version2::{UpgradeFault, upgrade};

@@ -106,15 +106,26 @@ pub(crate) fn upgrade_named<E: Edges>(
     }
 }
 
-/// The topology that the bytes are and their text as version 2, or why they are none.
-fn upgrade_in(alloc: Global, bytes: &Bytes) -> Result<Upgraded, Refusal>
+/// The text of a file of this topology as version 2, beside the topology.
+fn upgrade_of(alloc: Global, bytes: &Bytes, topology: Topology) -> Result<Upgraded, Refusal>
+    requires named { topology_of_file bytes.now ≡ Ok topology }
+    requires sound { IsSound topology }
     ensures { UpgradesTo (topology_of_file bytes.now) bytes.now result }
 {
-    let topology = topology_in(alloc, bytes)?;
     match upgrade(alloc, bytes.as_slice()) {
         Ok(text) => Ok(Upgraded { topology, text }),
         Err(UpgradeFault::OutOfMemory) => Err(Refusal::Memory),
         Err(UpgradeFault::Refused(fault)) => Err(Refusal::Topology(fault)),
+    }
+}
+
+/// The topology that the bytes are and their text as version 2, or why they are none.
+fn upgrade_in(alloc: Global, bytes: &Bytes) -> Result<Upgraded, Refusal>
+    ensures { UpgradesTo (topology_of_file bytes.now) bytes.now result }
+{
+    match topology_in(alloc, bytes) {
+        Ok(topology) => upgrade_of(alloc, bytes, topology),
+        Err(refusal) => Err(refusal),
     }
 }
 

@@ -2,7 +2,7 @@ use Rattle.std.proofs.Common.{◌≡◌, pos, rules}
 use Rattle.toml.specs.Data.{integer}
 use Rattle.toml.specs.View.{view}
 use Rattle.pipe_config.proofs.Upgraded.{set_view}
-use Rattle.pipe_config.proofs.upgrade.set_version.Goals as goal
+use Rattle.pipe_config.proofs.version2.set_version.Goals as goal
 
 pub returns-in-Ok : goal.returns-in-Ok
 returns-in-Ok c =

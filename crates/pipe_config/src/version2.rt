@@ -36,7 +36,7 @@ fn set_version(alloc: Global, table: &mut Table) -> Result<(), AllocError>
 
 /// The text of the table. A faultless table is flat, so that it is printed and read back; the answer of another one would be
 /// that memory is wanting.
-#[tactic(auto, using(crate::proofs::Flat::shallow))]
+#[tactic(auto, using(crate::proofs::Shallow::shallow))]
 fn text_of(alloc: Global, table: &Table) -> Result<String, AllocError>
     ensures { IfOk result (λ text. parse_document (string_bytes text) ≡ Some (table_view table.now)) }
 {
