@@ -1,0 +1,85 @@
+//! The text of a topology file as version 2.
+
+ghost use Rattle.std.specs.Prelude.{◌≡◌, Some, IfOk, IfErr, OnOk, string_bytes};
+ghost use Rattle.toml.specs.View.{table_view};
+ghost use Rattle.toml.specs.Parse.{parse_document};
+ghost use Rattle.pipe_config.specs.File.{topology_of_file};
+ghost use Rattle.pipe_config.specs.Upgrade.{with_version_2, refusal_of, IsUpgrade, IsRefused};
+
+use crate::flat::is_flat;
+use crate::read::read_judged;
+use config_table::fault::ConfigFault;
+use pipe_types::bytes::Bytes;
+use std::alloc::{AllocError, Global};
+use thiserror::Error;
+use toml::{Table, Value};
+
+/// Why there is no text of version 2.
+#[derive(Debug, Drop, Error)]
+pub enum UpgradeFault {
+    #[error("the topology file is refused")]
+    Refused(ConfigFault),
+    #[error("out of memory")]
+    OutOfMemory,
+}
+
+/// Writes the whole number 2 under `version`.
+fn set_version(alloc: Global, table: &mut Table) -> Result<(), AllocError>
+    ensures { OnOk result (table_view table.new ≡ with_version_2 (table_view table.old)) }
+{
+    let key = String::from_str(alloc, "version")?;
+    match table.insert(key, Value::from(2i64)) {
+        Ok(_) => Ok(()),
+        Err(_) => Err(AllocError),
+    }
+}
+
+/// The text of the table. A faultless table is flat, so that it is printed and read back; the answer of another one would be
+/// that memory is wanting.
+#[tactic(auto, using(crate::proofs::Shallow::shallow))]
+fn text_of(alloc: Global, table: &Table) -> Result<String, AllocError>
+    ensures { IfOk result (λ text. parse_document (string_bytes text) ≡ Some (table_view table.now)) }
+{
+    if !is_flat(table) {
+        return Err(AllocError);
+    }
+    match toml::table_to_string(alloc, table) {
+        Ok(text) => Ok(text),
+        Err(_) => Err(AllocError),
+    }
+}
+
+/// The text of the table with version 2.
+fn upgraded_text(alloc: Global, table: Table) -> Result<String, AllocError>
+    ensures { IfOk result (λ text. parse_document (string_bytes text) ≡ Some (with_version_2 (table_view table))) }
+{
+    let mut table = table;
+    set_version(alloc, &mut table)?;
+    text_of(alloc, &table)
+}
+
+fn refusal(fault: ConfigFault) -> UpgradeFault
+    ensures { result ≡ refusal_of fault }
+{
+    match fault {
+        ConfigFault::OutOfMemory => UpgradeFault::OutOfMemory,
+        fault => UpgradeFault::Refused(fault),
+    }
+}
+
+/// The topology file of these bytes as a file of version 2: the table with the whole number 2 under `version`, as the printer
+/// of TOML prints it, so that comments and the layout are lost. Where the text is no longer than a topology file may be, it
+/// names the same topology. A file that is refused is not upgraded. Want of memory may come at any place.
+pub fn upgrade(alloc: Global, bytes: &[u8]) -> Result<Bytes, UpgradeFault>
+    ensures upgraded { IfOk result (λ text. IsUpgrade bytes.now text) }
+    ensures refused { IfErr result (λ fault. IsRefused (topology_of_file bytes.now) fault) }
+{
+    let table = match read_judged(alloc, bytes) {
+        Ok(table) => table,
+        Err(fault) => return Err(refusal(fault)),
+    };
+    match upgraded_text(alloc, table) {
+        Ok(text) => Ok(Bytes::from_vec(text.into_bytes())),
+        Err(_) => Err(UpgradeFault::OutOfMemory),
+    }
+}
