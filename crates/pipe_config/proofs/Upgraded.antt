@@ -267,15 +267,14 @@ text_topology text ms t utf8 read h short =
 
 pub upgraded_text : (bytes text : List ℕ) (ms : Members) → IsAccepted bytes ms → is_utf8 text ≡ true → parse_document text ≡ Some (with_version_2 ms) → IsUpgrade bytes text
 upgraded_text bytes text ms accepted good read =
-    let (found, t, is) = accepted in
     record {
       table = ms;
-      topology = t;
-      read = found;
-      accepted = ap topology_of_table found ∙ is;
+      topology = accepted.1.0;
+      read = accepted.0;
+      accepted = ap topology_of_table accepted.0 ∙ accepted.1.1;
       is_text = good;
       reads_as = read;
-      same = text_topology text ms t good read is;
+      same = text_topology text ms accepted.1.0 good read accepted.1.1;
     }
 
 pub refused_as : (expected : Result Topology ConfigFault) (fault : ConfigFault) → (fault ≢ OutOfMemory → expected ≡ Err fault) → IsRefused expected (refusal_of fault)
