@@ -1,8 +1,7 @@
 -- A table with version 2 names the topology that it named.
-use Rattle.std.proofs.Common.{◌≡◌, ◌≢◌, ℕ, ◌+◌, ◌≤◌, length, ltb, IsUtf8, pos, arith, Bool, true, false, not, ◌&&◌, ◌||◌, cond, codes, List, [], ◌∷◌, ◌++◌, flat_map, Option, Some, None, Result, Ok, Err, Ordering, Less, Equal, Greater, String, Global, string_bytes, nat_cmp, is_eq, refl, ap, sym, ◌∙◌, subst}
+use Rattle.std.proofs.Common.{◌≡◌, ◌≢◌, ℕ, ◌+◌, ◌≤◌, length, ltb, pos, arith, Bool, true, false, not, ◌&&◌, ◌||◌, cond, codes, List, [], ◌∷◌, ◌++◌, flat_map, Option, Some, None, Result, Ok, Err, Ordering, Less, Equal, Greater, String, Global, string_bytes, nat_cmp, is_eq, refl, ap, sym, ◌∙◌, subst}
 use Rattle.std.proofs.lemmas.Bool.{and_parts}
 use Rattle.std.proofs.lemmas.Bool.Decides.{nat_tests}
-use Rattle.std.proofs.lemmas.Str.{is_utf8-from_IsUtf8}
 use Rattle.std.specs.Str.{is_utf8}
 use Rattle.toml.specs.Parse.{parse_document}
 use Rattle.std.proofs.lemmas.Cmp.{nat_list_cmp_total}
@@ -266,18 +265,16 @@ text_topology text ms t utf8 read h short =
     let small : ltb 1048576 (length text) ≡ false = grind (arith, nat_tests) in
     rw (small, utf8, read) (upgraded_topology ms t h)
 
-pub upgraded_text : (bytes text : List ℕ) (ms : Members) → IsAccepted bytes ms → IsUtf8 text → parse_document text ≡ Some (with_version_2 ms) → IsUpgrade bytes text
-upgraded_text bytes text ms accepted utf8 read =
-    let (found, t, is) = accepted in
-    let good : is_utf8 text ≡ true = is_utf8-from_IsUtf8 text utf8 in
+pub upgraded_text : (bytes text : List ℕ) (ms : Members) → IsAccepted bytes ms → is_utf8 text ≡ true → parse_document text ≡ Some (with_version_2 ms) → IsUpgrade bytes text
+upgraded_text bytes text ms accepted good read =
     record {
       table = ms;
-      topology = t;
-      read = found;
-      accepted = ap topology_of_table found ∙ is;
+      topology = accepted.1.0;
+      read = accepted.0;
+      accepted = ap topology_of_table accepted.0 ∙ accepted.1.1;
       is_text = good;
       reads_as = read;
-      same = text_topology text ms t good read is;
+      same = text_topology text ms accepted.1.0 good read accepted.1.1;
     }
 
 pub refused_as : (expected : Result Topology ConfigFault) (fault : ConfigFault) → (fault ≢ OutOfMemory → expected ≡ Err fault) → IsRefused expected (refusal_of fault)

@@ -1,6 +1,7 @@
 //! The text of a topology file as version 2.
 
-ghost use Rattle.std.specs.Prelude.{◌≡◌, Some, IfOk, IfErr, OnOk, string_bytes};
+ghost use Rattle.std.specs.Prelude.{◌≡◌, true, Some, IfOk, IfErr, OnOk, string_bytes};
+ghost use Rattle.std.specs.Str.{is_utf8};
 ghost use Rattle.toml.specs.View.{table_view};
 ghost use Rattle.toml.specs.Parse.{parse_document};
 ghost use Rattle.pipe_config.specs.File.{topology_of_file};
@@ -49,13 +50,30 @@ fn text_of(alloc: Global, table: &Table) -> Result<String, AllocError>
     }
 }
 
+/// The bytes of a text.
+fn bytes_of(alloc: Global, text: &str) -> Result<Bytes, AllocError>
+    ensures { IfOk result (λ bytes. bytes ≡ text.now) }
+{
+    Ok(Bytes::from_vec(Vec::from_slice(alloc, text.as_bytes())?))
+}
+
+/// The bytes of a text, which are UTF-8.
+fn text_bytes(alloc: Global, text: &str) -> Result<Bytes, AllocError>
+    ensures same { IfOk result (λ bytes. bytes ≡ text.now) }
+    ensures text { IfOk result (λ bytes. is_utf8 bytes ≡ true) }
+{
+    bytes_of(alloc, text)
+}
+
 /// The text of the table with version 2.
-fn upgraded_text(alloc: Global, table: Table) -> Result<String, AllocError>
-    ensures { IfOk result (λ text. parse_document (string_bytes text) ≡ Some (with_version_2 (table_view table))) }
+fn upgraded_bytes(alloc: Global, table: Table) -> Result<Bytes, AllocError>
+    ensures text { IfOk result (λ bytes. is_utf8 bytes ≡ true) }
+    ensures reads { IfOk result (λ bytes. parse_document bytes ≡ Some (with_version_2 (table_view table))) }
 {
     let mut table = table;
     set_version(alloc, &mut table)?;
-    text_of(alloc, &table)
+    let text = text_of(alloc, &table)?;
+    text_bytes(alloc, text.as_str())
 }
 
 fn refusal(fault: ConfigFault) -> UpgradeFault
@@ -78,8 +96,8 @@ pub fn upgrade(alloc: Global, bytes: &[u8]) -> Result<Bytes, UpgradeFault>
         Ok(table) => table,
         Err(fault) => return Err(refusal(fault)),
     };
-    match upgraded_text(alloc, table) {
-        Ok(text) => Ok(Bytes::from_vec(text.into_bytes())),
+    match upgraded_bytes(alloc, table) {
+        Ok(text) => Ok(text),
         Err(_) => Err(UpgradeFault::OutOfMemory),
     }
 }
