@@ -6,8 +6,8 @@ ghost use Rattle.config_flow.specs.Flow as spec;
 
 use config_build::build::build_topology;
 use config_settings::settings::{
-    BatcherList, Demand, Handler, OwnLimit, ProcessorSettings, ProducerList, ProducerSettings, Settings,
-    TextList,
+    BatcherList, Demand, Handler, OwnLimit, ProcessorSettings, ProducerList, ProducerSettings,
+    Settings, TextList,
 };
 use config_table::fault::copied;
 use config_table::format::Range;

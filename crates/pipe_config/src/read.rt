@@ -81,11 +81,7 @@ fn wrong_version(alloc: Global) -> ConfigFault
 }
 
 /// The topology of the table of a file of this version, or its first fault.
-fn judge_places(
-    alloc: Global,
-    version: FileVersion,
-    table: &Table,
-) -> Result<Topology, ConfigFault>
+fn judge_places(alloc: Global, version: FileVersion, table: &Table) -> Result<Topology, ConfigFault>
     ensures { Answers (topology_by (Some version) (table_view table.now)) result }
 {
     let fault = match walk_fault(alloc, version, table) {

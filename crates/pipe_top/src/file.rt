@@ -130,7 +130,12 @@ fn upgrade_in(alloc: Global, bytes: &Bytes) -> Result<Upgraded, Refusal>
 }
 
 /// The text of a file as version 2.
-pub(crate) fn finish_upgrade<C, K>(alloc: Global, found: Upgraded, stock: Vec<C>, clock: K) -> Ran<C, K>
+pub(crate) fn finish_upgrade<C, K>(
+    alloc: Global,
+    found: Upgraded,
+    stock: Vec<C>,
+    clock: K,
+) -> Ran<C, K>
     requires sound { IsSound found.topology }
     ensures same_boxes { result.stock.items ≡ stock.items }
     ensures same_clock { result.clock ≡ clock }

@@ -19,24 +19,28 @@ returns-in-Ok-read_file g c =
 
 pub returns-in-Err-Failed : goal.returns-in-Err-Failed
 returns-in-Err-Failed g c =
-    let r = c.in-Err-Failed.ensures in
-    (file_failed _ _ c.args.name.now c.in-Ok.name c.in-Ok.ensures
-    (record {
-      same_telling = r.same_telling;
-      stands = r.stands;
-      same_sources = rw r.back.sources refl;
-      same_sinks = rw r.back.sinks refl;
-      faults_stay = r.faults_stay;
-    }) (rw c.in-Err-Failed.field-0-is at r.asked) (rw c.in-Err-Failed.field-0-is at r.cause), tt)
+    let r = c.in-Err-Failed.ensures in (
+      file_failed _ _ c.args.name.now c.in-Ok.name c.in-Ok.ensures
+          (record {
+            same_telling = r.same_telling;
+            stands = r.stands;
+            same_sources = rw r.back.sources refl;
+            same_sinks = rw r.back.sinks refl;
+            faults_stay = r.faults_stay;
+          }) (rw c.in-Err-Failed.field-0-is at r.asked) (rw c.in-Err-Failed.field-0-is at r.cause),
+      tt,
+    )
 
 pub returns-in-Err-OutOfMemory : goal.returns-in-Err-OutOfMemory
 returns-in-Err-OutOfMemory g c =
-    let r = c.in-Err-OutOfMemory.ensures in
-    (file_wanting _ _ c.args.name.now
-    (record {
-      same_telling = r.same_telling;
-      stands = r.stands;
-      same_sources = rw r.back.sources refl;
-      same_sinks = rw r.back.sinks refl;
-      faults_stay = r.faults_stay;
-    }) (rw c.in-Err-OutOfMemory.field-0-is at r.asked), tt)
+    let r = c.in-Err-OutOfMemory.ensures in (
+      file_wanting _ _ c.args.name.now
+          (record {
+            same_telling = r.same_telling;
+            stands = r.stands;
+            same_sources = rw r.back.sources refl;
+            same_sinks = rw r.back.sinks refl;
+            faults_stay = r.faults_stay;
+          }) (rw c.in-Err-OutOfMemory.field-0-is at r.asked),
+      tt,
+    )
