@@ -20,6 +20,7 @@ ghost use Rattle.pipe_run.specs.Whole.{IsRunOf, HasFailed, HasCome, IfUnopened, 
 use box_stock::{Boxed, Carries, Lent, hand_out, take_back};
 use core_state::Core;
 use edge_names::{SeenEdges, Unopened, give_back, open_or_give_back};
+use journal_watch::NoWatch;
 use pipe_edges::{ByteSource, Clock, Edges, LineSource};
 use pipe_types::bytes::Text;
 use pipe_types::topology::Topology;
@@ -200,13 +201,14 @@ fn run_opened<
         (option_map (line_seen E.Source.ByteSource) control)
         (⟦<E as SeenEdges>⟧.seen edges.old) (⟦<E as SeenEdges>⟧.seen edges.new) (clock_seen K.latest K.readings clock) (clock_seen K.latest K.readings result.clock) }
 {
-    let pipe = Pipe::new(core, bodies, control, clock);
+    let pipe = Pipe::new(core, bodies, control, clock, NoWatch);
     let pipe = run_workers(rt, alloc, workers.max(1), pipe);
     let PipeParts {
         core,
         bodies,
         control,
         clock,
+        watch: _,
         end,
     } = pipe.into_parts();
     let end = end.unwrap();

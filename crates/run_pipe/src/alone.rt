@@ -6,6 +6,7 @@ ghost use Rattle.run_pipe.specs.Seen.{PipeState, state_of, away_of};
 ghost use Rattle.run_pipe.specs.Stems.{Stems};
 
 use crate::pipe::Pipe;
+use journal_watch::Watch;
 use pipe_edges::{ByteSource, Clock};
 use stage_bodies::Works;
 use stage_workers::Round;
@@ -14,10 +15,10 @@ use std::sync::Wait;
 
 /// Has one worker hold the pipe and do its jobs until the pipe has ended. Where the topology has no idle limit, it may wait for its
 /// sources for ever.
-pub fn run_here<R: Wait, B: Works, S: ByteSource, C: Clock>(
+pub fn run_here<R: Wait, B: Works, S: ByteSource, C: Clock, W: Watch>(
     rt: &R,
     alloc: Global,
-    pipe: &mut Pipe<B, S, C>,
+    pipe: &mut Pipe<B, S, C, W>,
 )
     requires stems { (opened : PipeState) × Stems opened (state_of pipe.old) }
     requires none_away { away_of (state_of pipe.old) ≡ [] }
@@ -31,7 +32,10 @@ pub fn run_here<R: Wait, B: Works, S: ByteSource, C: Clock>(
 }
 
 /// A run that returns: the topology has an idle limit, and each hold leaves fewer.
-pub fn run_to_end<B: Works, S: ByteSource, C: Clock>(alloc: Global, pipe: &mut Pipe<B, S, C>)
+pub fn run_to_end<B: Works, S: ByteSource, C: Clock, W: Watch>(
+    alloc: Global,
+    pipe: &mut Pipe<B, S, C, W>,
+)
     requires limit { 1 ≤ pipe.old.topology.idle_limit }
     requires stems { (opened : PipeState) × Stems opened (state_of pipe.old) }
     requires none_away { away_of (state_of pipe.old) ≡ [] }
@@ -49,10 +53,10 @@ pub fn run_to_end<B: Works, S: ByteSource, C: Clock>(alloc: Global, pipe: &mut P
 }
 
 /// A run that may wait for its sources for ever.
-fn run_on<R: Wait, B: Works, S: ByteSource, C: Clock>(
+fn run_on<R: Wait, B: Works, S: ByteSource, C: Clock, W: Watch>(
     rt: &R,
     alloc: Global,
-    pipe: &mut Pipe<B, S, C>,
+    pipe: &mut Pipe<B, S, C, W>,
 )
     requires stems { (opened : PipeState) × Stems opened (state_of pipe.old) }
     requires none_away { away_of (state_of pipe.old) ≡ [] }

@@ -14,6 +14,7 @@ ghost use Rattle.run_pipe.specs.Whole.{IsPipe, IsWhole};
 
 use crate::ends::RunEnd;
 use core_state::Core;
+use journal_watch::Watch;
 use pipe_edges::{ByteSource, Clock, LineSource};
 use pipe_journal::Journal;
 use pipe_types::numbers::Post;
@@ -22,18 +23,19 @@ use stage_bodies::Works;
 use std::alloc::AllocError;
 use std::marker::Model;
 
-/// A pipeline with the bodies that are at home, its control source and its clock.
-pub struct Pipe<B: Works, S: ByteSource, C: Clock> {
+/// A pipeline with the bodies that are at home, its control source, its clock and what is shown its journal.
+pub struct Pipe<B: Works, S: ByteSource, C: Clock, W: Watch> {
     pub(crate) core: Core,
     /// By place.
     pub(crate) bodies: Vec<Option<B>>,
     pub(crate) control: Option<LineSource<S>>,
     pub(crate) clock: C,
+    pub(crate) watch: W,
     /// How the run ended, once it has. The error is want of memory.
     pub(crate) end: Option<Result<RunEnd, AllocError>>,
 }
 
-impl<B: Works, S: ByteSource, C: Clock> Model for Pipe<B, S, C> {
+impl<B: Works, S: ByteSource, C: Clock, W: Watch> Model for Pipe<B, S, C, W> {
     ghost Value = { PipeSeen };
 
     ghost view = { λ p. record { topology = p.core.topology; steps = p.core.journal.steps; bodies = map (option_map B.look) p.bodies.items; control = option_map (line_seen S.ByteSource) p.control; clock = clock_seen C.latest C.readings p.clock; end = p.end } };
@@ -41,8 +43,8 @@ impl<B: Works, S: ByteSource, C: Clock> Model for Pipe<B, S, C> {
     ghost invariant = { λ p. IsPipe p.core (state_by B.look (line_seen S.ByteSource) (clock_seen C.latest C.readings) p.core p.bodies.items p.control p.clock p.end) };
 }
 
-impl<B: Works, S: ByteSource, C: Clock> Held for Pipe<B, S, C> {
-    type Start = Pipe<B, S, C>;
+impl<B: Works, S: ByteSource, C: Clock, W: Watch> Held for Pipe<B, S, C, W> {
+    type Start = Pipe<B, S, C, W>;
 
     ghost start = { λ p. p };
 
@@ -62,24 +64,26 @@ impl<B: Works, S: ByteSource, C: Clock> Held for Pipe<B, S, C> {
 }
 
 /// What a pipe is made of.
-pub struct PipeParts<B, S, C> {
+pub struct PipeParts<B, S, C, W> {
     pub core: Core,
     /// By place.
     pub bodies: Vec<Option<B>>,
     pub control: Option<LineSource<S>>,
     pub clock: C,
+    pub watch: W,
     /// How the run ended, once it has. The error is want of memory.
     pub end: Option<Result<RunEnd, AllocError>>,
 }
 
-impl<B: Works, S: ByteSource, C: Clock> Pipe<B, S, C> {
+impl<B: Works, S: ByteSource, C: Clock, W: Watch> Pipe<B, S, C, W> {
     /// A pipe before its first step: the body of each post is at home, and nothing was read of the control source.
     pub fn new(
         core: Core,
         bodies: Vec<Option<B>>,
         control: Option<LineSource<S>>,
         clock: C,
-    ) -> Pipe<B, S, C>
+        watch: W,
+    ) -> Pipe<B, S, C, W>
         requires stands { Stands core }
         requires empty { core.journal.steps ≡ [] }
         requires filled { IsFilled core.topology (body_at B.look bodies.items) }
@@ -93,12 +97,13 @@ impl<B: Works, S: ByteSource, C: Clock> Pipe<B, S, C> {
             bodies,
             control,
             clock,
+            watch,
             end: None,
         }
     }
 
     /// The core, the bodies, the control source and the clock, and how the run ended.
-    pub fn into_parts(self) -> PipeParts<B, S, C>
+    pub fn into_parts(self) -> PipeParts<B, S, C, W>
         ensures stands { Stands result.core }
         ensures whole { IsWhole (state_of self) }
         ensures parts { state_of self ≡ state_by B.look (line_seen S.ByteSource) (clock_seen C.latest C.readings) result.core result.bodies.items result.control result.clock result.end }
@@ -108,6 +113,7 @@ impl<B: Works, S: ByteSource, C: Clock> Pipe<B, S, C> {
             bodies,
             control,
             clock,
+            watch,
             end,
         } = self;
         PipeParts {
@@ -115,6 +121,7 @@ impl<B: Works, S: ByteSource, C: Clock> Pipe<B, S, C> {
             bodies,
             control,
             clock,
+            watch,
             end,
         }
     }

@@ -17,6 +17,7 @@ ghost use Rattle.stage_workers.specs.Rounds.{IfJob, job_post, brought_post};
 
 use crate::ends::RunEnd;
 use crate::pipe::Pipe;
+use journal_watch::Watch;
 use pipe_edges::{ByteSource, Clock};
 use pipe_types::numbers::Post;
 use stage_bodies::{Works, place_of, put_back};
@@ -24,7 +25,7 @@ use stage_holds::{Home, Load, Next, hold};
 use stage_workers::{Round, Shift};
 use std::alloc::{AllocError, Global};
 
-impl<B: Works, S: ByteSource, C: Clock> Shift for Pipe<B, S, C> {
+impl<B: Works, S: ByteSource, C: Clock, W: Watch> Shift for Pipe<B, S, C, W> {
     type Load = Load<B>;
 
     type Home = Home<B>;
@@ -60,7 +61,7 @@ impl<B: Works, S: ByteSource, C: Clock> Shift for Pipe<B, S, C> {
     }
 }
 
-impl<B: Works, S: ByteSource, C: Clock> Pipe<B, S, C> {
+impl<B: Works, S: ByteSource, C: Clock, W: Watch> Pipe<B, S, C, W> {
     /// All that a worker does while it has the pipe: what it brings comes home; the pipeline advances, unless it has ended; then the
     /// next job begins, or time passes, or it is told why neither is so.
     pub fn hold(&mut self, brought: Option<Home<B>>) -> Round<Load<B>>

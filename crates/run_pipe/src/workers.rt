@@ -7,6 +7,7 @@ ghost use Rattle.run_pipe.specs.Stems.{Stems};
 
 use crate::alone::run_here;
 use crate::pipe::Pipe;
+use journal_watch::Watch;
 use pipe_edges::{ByteSource, Clock};
 use stage_bodies::Works;
 use stage_workers::run_shifts;
@@ -21,8 +22,9 @@ pub fn run_workers<
     B: Works + Send,
     S: ByteSource + Send,
     C: Clock + Send,
+    W: Watch + Send,
     R: Threads + Wait + Sync,
->(rt: &R, alloc: Global, workers: u16, pipe: Pipe<B, S, C>) -> Pipe<B, S, C>
+>(rt: &R, alloc: Global, workers: u16, pipe: Pipe<B, S, C, W>) -> Pipe<B, S, C, W>
     requires some { 1 ≤ workers }
     requires stems { Stems (state_of pipe) (state_of pipe) }
     requires none_away { away_of (state_of pipe) ≡ [] }

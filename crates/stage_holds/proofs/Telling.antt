@@ -1,5 +1,5 @@
 -- A body whose source was told the moment stands as before.
-use Rattle.std.proofs.Common.{◌≡◌, ℕ, [], sym, subst}
+use Rattle.std.proofs.Common.{◌≡◌, ℕ, [], refl, sym, subst}
 use Rattle.std.specs.Prelude.{Option, Some, None, IsSome, option_map}
 use Rattle.pipe_types.specs.declared.numbers.Post.{Post}
 use Rattle.pipe_types.specs.declared.numbers.StageNo.{StageNo}
@@ -24,7 +24,7 @@ use Rattle.stage_holds.specs.declared.loads.Load.{Load}
 
 some_told : (now : ℕ) (source : Option LineSeen) → IsSome source → IsSome (option_map (told_lines now) source)
 some_told now None some = some
-some_told now (Some lines) some = tt
+some_told now (Some lines) some = refl
 
 told_fits : (w : Work) (now : ℕ) (body : BodySeen) → Fits w body → Fits w (told_for w now body)
 told_fits (work.Fetch most) now body fits = (fits.0, some_told now body.source fits.1)
