@@ -16,6 +16,7 @@ use config_table::fault::ConfigFault;
 use pipe_types::bytes::Bytes;
 use std::alloc::{AllocError, Global};
 use thiserror::Error;
+use toml::ser::Error as PrintError;
 use toml::{Table, Value};
 
 /// Why there is no text of version 2.
@@ -39,6 +40,7 @@ fn set_version(alloc: Global, table: &mut Table) -> Result<(), AllocError>
 }
 
 /// The text of the table of a file of version 2 without faults in its places, which is flat: it is printed, and read back.
+/// Want of memory is answered only where the printer finds none.
 fn text_of(alloc: Global, table: &Table) -> Result<String, AllocError>
     requires version { version_of (table_view table.now) ≡ Some version.Two }
     requires faultless { faults_of version.Two (table_view table.now) ≡ [] }
@@ -47,7 +49,8 @@ fn text_of(alloc: Global, table: &Table) -> Result<String, AllocError>
     prove!(is_flat(table));
     match toml::table_to_string(alloc, table) {
         Ok(text) => Ok(text),
-        Err(_) => Err(AllocError),
+        Err(PrintError::OutOfMemory) => Err(AllocError),
+        Err(PrintError::DateInvalid) => unreachable!(),
     }
 }
 
