@@ -11,3 +11,4 @@ pub mod Table
 pub mod Sound
 pub mod Shallow
 pub mod Upgraded
+pub mod Leaves

@@ -39,7 +39,7 @@ use Rattle.pipe_config.proofs.Walked.{least_none}
 
 -- ---- keys
 
-same_bytes : (k l : List ℕ) → slice_cmp nat_cmp k l ≡ Equal → k ≡ l
+pub same_bytes : (k l : List ℕ) → slice_cmp nat_cmp k l ≡ Equal → k ≡ l
 same_bytes k l e = (bytes_eq-Decides k l).0 (sym (is_eq-slice_cmp k l) ∙ ap is_eq e)
 
 -- a look-up passes over another key
@@ -241,13 +241,16 @@ settings_stay d ms =
       get_other (codes "batcher") (codes "version") d ms refl,
     ) refl
 
-is_version_2 : (ms : Members) → version_of (with_version_2 ms) ≡ Some Two
+pub is_version_2 : (ms : Members) → version_of (with_version_2 ms) ≡ Some Two
 is_version_2 ms = rw (get_set (codes "version") (integer (pos 2)) ms) refl
+
+clear_again : (v : FileVersion) (ms : Members) → least (faults_of v ms) ≡ None → faults_of Two (with_version_2 ms) ≡ []
+clear_again v ms e = set_clear (integer (pos 2)) ms (any_lift v ms (least_none (faults_of v ms) e))
 
 judged_again : (v : FileVersion) (ms : Members) (o : Option ConfigFault) (t : Topology) → least (faults_of v ms) ≡ o → unless o (judged (settings_of ms)) ≡ Ok t → topology_by (Some Two) (with_version_2 ms) ≡ Ok t
 judged_again v ms (Some fault) t e h = cc
 judged_again v ms None t e h =
-    let clear : faults_of Two (with_version_2 ms) ≡ [] = set_clear (integer (pos 2)) ms (any_lift v ms (least_none (faults_of v ms) e)) in
+    let clear : faults_of Two (with_version_2 ms) ≡ [] = clear_again v ms e in
     ap (λ (faults : List ConfigFault). unless (least faults) (judged (settings_of (with_version_2 ms)))) clear
     ∙ (ap judged (settings_stay (integer (pos 2)) ms) ∙ h)
 
@@ -258,6 +261,18 @@ by_version (Some v) ms t h = judged_again v ms (least (faults_of v ms)) t refl h
 -- the topology of the table with version 2 is that of the table
 pub upgraded_topology : (ms : Members) (t : Topology) → topology_of ms ≡ Ok t → topology_of (with_version_2 ms) ≡ Ok t
 upgraded_topology ms t h = ap (λ (o : Option FileVersion). topology_by o (with_version_2 ms)) (is_version_2 ms) ∙ by_version (version_of ms) ms t h
+
+-- and it has no faults in its places
+clear_judged : (v : FileVersion) (ms : Members) (o : Option ConfigFault) (t : Topology) → least (faults_of v ms) ≡ o → unless o (judged (settings_of ms)) ≡ Ok t → faults_of Two (with_version_2 ms) ≡ []
+clear_judged v ms (Some fault) t e h = cc
+clear_judged v ms None t e h = clear_again v ms e
+
+clear_by : (o : Option FileVersion) (ms : Members) (t : Topology) → topology_by o ms ≡ Ok t → faults_of Two (with_version_2 ms) ≡ []
+clear_by None ms t h = cc
+clear_by (Some v) ms t h = clear_judged v ms (least (faults_of v ms)) t refl h
+
+pub upgraded_clear : (ms : Members) (t : Topology) → topology_of ms ≡ Ok t → faults_of Two (with_version_2 ms) ≡ []
+upgraded_clear ms t h = clear_by (version_of ms) ms t h
 
 -- a text that reads as the table with version 2 names the topology
 pub text_topology : (text : List ℕ) (ms : Members) (t : Topology) → is_utf8 text ≡ true → parse_document text ≡ Some (with_version_2 ms) → topology_of ms ≡ Ok t → length text ≤ 1048576 → topology_of_file text ≡ Ok t

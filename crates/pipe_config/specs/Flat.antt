@@ -1,6 +1,6 @@
 -- Tables of the shape of a topology file: below the top stand tables, and in these numbers, texts and arrays of texts.
-use Rattle.std.specs.Prelude.{Bool, true, false, ◌&&◌, ◌||◌}
-use Rattle.toml.specs.Data.{Data, Items, no_items, item, Members, no_members, member, string, integer, array, table}
+use Rattle.std.specs.Prelude.{Bool, true, false, ◌&&◌, is_none}
+use Rattle.toml.specs.Data.{Data, Items, no_items, item, Members, no_members, member, get_member, string, integer, array, table}
 
 abbrev pub is_text : Data → Bool
 is_text (string s) = true
@@ -38,3 +38,27 @@ is_part _ = false
 abbrev pub is_flat : Members → Bool
 is_flat no_members = true
 is_flat (member k d ms) = is_part d && is_flat ms
+
+-- no key of a table stands twice
+abbrev pub are_distinct : Members → Bool
+are_distinct no_members = true
+are_distinct (member k d ms) = is_none (get_member k ms) && are_distinct ms
+
+-- nor one of a table in an array of tables
+abbrev pub table_is_distinct : Data → Bool
+table_is_distinct (table ms) = are_distinct ms
+table_is_distinct _ = true
+
+abbrev pub tables_are_distinct : Items → Bool
+tables_are_distinct no_items = true
+tables_are_distinct (item d ds) = table_is_distinct d && tables_are_distinct ds
+
+-- nor one of what stands at the top
+abbrev pub part_is_distinct : Data → Bool
+part_is_distinct (table ms) = are_distinct ms
+part_is_distinct (array ds) = tables_are_distinct ds
+part_is_distinct _ = true
+
+abbrev pub parts_are_distinct : Members → Bool
+parts_are_distinct no_members = true
+parts_are_distinct (member k d ms) = part_is_distinct d && parts_are_distinct ms

@@ -1,6 +1,7 @@
-//! Whether a table has the shape of a topology file, which the printer of TOML prints so that it is read back.
+//! Whether a table has the shape of a topology file, which the printer of TOML prints so that it is read back. All of the
+//! sections are visited, so that the answer also says that their keys are distinct.
 
-ghost use Rattle.std.specs.Prelude.{◌≡◌};
+ghost use Rattle.std.specs.Prelude.{◌≡◌, true};
 ghost use Rattle.toml.specs.View.{view, items_view, table_view};
 ghost use Rattle.pipe_config.specs.Flat as flat;
 
@@ -38,7 +39,8 @@ fn is_leaf(value: &Value) -> bool
 }
 
 fn are_leaves(table: &Table) -> bool
-    ensures { result ≡ flat.are_leaves (table_view table.now) }
+    ensures leaves { result ≡ flat.are_leaves (table_view table.now) }
+    ensures distinct { flat.are_distinct (table_view table.now) ≡ true }
 {
     'members: for (_key, value) in table.iter() {
         if !is_leaf(value) {
@@ -49,7 +51,8 @@ fn are_leaves(table: &Table) -> bool
 }
 
 fn is_leaf_table(value: &Value) -> bool
-    ensures { result ≡ flat.is_leaf_table (view value.now) }
+    ensures leaves { result ≡ flat.is_leaf_table (view value.now) }
+    ensures distinct { flat.table_is_distinct (view value.now) ≡ true }
 {
     match value {
         Value::Table(table) => are_leaves(table),
@@ -58,18 +61,21 @@ fn is_leaf_table(value: &Value) -> bool
 }
 
 fn are_leaf_tables(items: &[Value]) -> bool
-    ensures { result ≡ flat.are_leaf_tables (items_view items.now) }
+    ensures leaves { result ≡ flat.are_leaf_tables (items_view items.now) }
+    ensures distinct { flat.tables_are_distinct (items_view items.now) ≡ true }
 {
+    let mut all = true;
     for item in items {
         if !is_leaf_table(item) {
-            return false;
+            all = false;
         }
     }
-    true
+    all
 }
 
 fn is_part(value: &Value) -> bool
-    ensures { result ≡ flat.is_part (view value.now) }
+    ensures part { result ≡ flat.is_part (view value.now) }
+    ensures distinct { flat.part_is_distinct (view value.now) ≡ true }
 {
     match value {
         Value::Table(table) => are_leaves(table),
@@ -82,12 +88,15 @@ fn is_part(value: &Value) -> bool
 
 /// Whether below the top stand tables and arrays of tables alone, and in these numbers, texts and arrays of texts.
 pub(crate) fn is_flat(table: &Table) -> bool
-    ensures { result ≡ flat.is_flat (table_view table.now) }
+    ensures flat { result ≡ flat.is_flat (table_view table.now) }
+    ensures top { flat.are_distinct (table_view table.now) ≡ true }
+    ensures parts { flat.parts_are_distinct (table_view table.now) ≡ true }
 {
+    let mut all = true;
     'members: for (_key, value) in table.iter() {
         if !is_part(value) {
-            return false;
+            all = false;
         }
     }
-    true
+    all
 }

@@ -1,10 +1,13 @@
 //! The text of a topology file as version 2.
 
-ghost use Rattle.std.specs.Prelude.{◌≡◌, true, Some, IfOk, IfErr, OnOk, string_bytes};
+ghost use Rattle.std.specs.Prelude.{◌≡◌, true, [], Some, Ok, IfOk, IfErr, OnOk, string_bytes};
 ghost use Rattle.std.specs.Str.{is_utf8};
 ghost use Rattle.toml.specs.View.{table_view};
 ghost use Rattle.toml.specs.Parse.{parse_document};
-ghost use Rattle.pipe_config.specs.File.{topology_of_file};
+ghost use Rattle.config_table.specs.declared.format.FileVersion.TheVariants as version;
+ghost use Rattle.config_table.specs.Walk.{version_of, faults_of};
+ghost use Rattle.pipe_types.specs.declared.topology.Topology.{Topology};
+ghost use Rattle.pipe_config.specs.File.{topology_of, topology_of_file};
 ghost use Rattle.pipe_config.specs.Upgrade.{with_version_2, refusal_of, IsUpgrade, IsRefused};
 
 use crate::flat::is_flat;
@@ -13,6 +16,7 @@ use config_table::fault::ConfigFault;
 use pipe_types::bytes::Bytes;
 use std::alloc::{AllocError, Global};
 use thiserror::Error;
+use toml::ser::Error as PrintError;
 use toml::{Table, Value};
 
 /// Why there is no text of version 2.
@@ -35,18 +39,18 @@ fn set_version(alloc: Global, table: &mut Table) -> Result<(), AllocError>
     }
 }
 
-/// The text of the table. A faultless table is flat, so that it is printed and read back; the answer of another one would be
-/// that memory is wanting.
-#[tactic(auto, using(crate::proofs::Shallow::shallow))]
+/// The text of the table of a file of version 2 without faults in its places, which is flat: it is printed, and read back.
+/// Want of memory is answered only where the printer finds none.
 fn text_of(alloc: Global, table: &Table) -> Result<String, AllocError>
+    requires version { version_of (table_view table.now) ≡ Some version.Two }
+    requires faultless { faults_of version.Two (table_view table.now) ≡ [] }
     ensures { IfOk result (λ text. parse_document (string_bytes text) ≡ Some (table_view table.now)) }
 {
-    if !is_flat(table) {
-        return Err(AllocError);
-    }
+    prove!(is_flat(table));
     match toml::table_to_string(alloc, table) {
         Ok(text) => Ok(text),
-        Err(_) => Err(AllocError),
+        Err(PrintError::OutOfMemory) => Err(AllocError),
+        Err(PrintError::DateInvalid) => unreachable!(),
     }
 }
 
@@ -67,6 +71,7 @@ fn text_bytes(alloc: Global, text: &str) -> Result<Bytes, AllocError>
 
 /// The text of the table with version 2.
 fn upgraded_bytes(alloc: Global, table: Table) -> Result<Bytes, AllocError>
+    requires { (topology : Topology) × (topology_of (table_view table) ≡ Ok topology) }
     ensures text { IfOk result (λ bytes. is_utf8 bytes ≡ true) }
     ensures reads { IfOk result (λ bytes. parse_document bytes ≡ Some (with_version_2 (table_view table))) }
 {

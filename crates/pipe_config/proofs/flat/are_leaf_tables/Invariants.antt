@@ -1,7 +1,9 @@
-use Rattle.std.proofs.Common.{◌≡◌, drop}
+use Rattle.std.proofs.Common.{◌≡◌, ◌&&◌, drop}
 use Rattle.toml.specs.View.{items_view}
-use Rattle.pipe_config.specs.Flat.{are_leaf_tables}
+use Rattle.pipe_config.specs.Flat.{are_leaf_tables, tables_are_distinct}
 use Rattle.pipe_config.proofs.flat.are_leaf_tables.Given as goal
 
 abbrev pub invariant-loop-item : goal.invariant-loop-item
-invariant-loop-item l = are_leaf_tables (items_view (drop l.item-index l.items)) ≡ are_leaf_tables (items_view l.items)
+invariant-loop-item l =
+    ((l.all && are_leaf_tables (items_view (drop l.item-index l.items))) ≡ are_leaf_tables (items_view l.items))
+    × (tables_are_distinct (items_view (drop l.item-index l.items)) ≡ tables_are_distinct (items_view l.items))

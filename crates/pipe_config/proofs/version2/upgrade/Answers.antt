@@ -10,3 +10,6 @@ pub returns-in-Ok-upgraded_bytes-clause-upgraded : goal.returns-in-Ok-upgraded_b
 returns-in-Ok-upgraded_bytes-clause-upgraded c =
     let r = c.in-Ok-upgraded_bytes in
     upgraded_text c.args.bytes.now r.text (table_view c.in-Ok.table) c.in-Ok.ensures.ok r.ensures.text r.ensures.reads
+
+pub upgraded_bytes-requires : goal.upgraded_bytes-requires
+upgraded_bytes-requires c = c.in-Ok.ensures.ok.1
