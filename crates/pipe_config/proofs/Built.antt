@@ -17,7 +17,7 @@ use Rattle.config_settings.specs.declared.settings.Settings.{Settings}
 use Rattle.config_judge.specs.Judge.{faults_in, duplicate_names, duplicates_with, routes_with, group_faults, bad_dispatches, unreachable_with, lacks_stage, stage_count, processor_count, supervisor_count, batcher_names, producer_names, processor_routes, supervisor_routes, batcher_routes, fault_if}
 use Rattle.config_build.specs.Build.{topology_in, stages_of, partition_field, places, producer_stages, processor_stage, processor_stages, supervisor_stages, batcher_stages, batch_processor_stage, batch_processor_stages, second_limit, third_limit, fourth_limit}
 use Rattle.config_settings.specs.declared.settings.OwnLimit.{OwnLimit}
-use Rattle.config_build.specs.Limits.{is_own, limit_from, own_limits, pipeline_limit, limits_of, producer_limits, processor_limits, supervisor_limits, batcher_limits, limit_place, next_place, places_after}
+use Rattle.config_build.specs.Limits.{is_own, limit_from, own_limits, limits_of, producer_limits, processor_limits, supervisor_limits, batcher_limits, limit_place, next_place, places_after}
 use Rattle.pipe_config.specs.Fit.{IsFit, most_fit, seconds_fit, limit_fits, producer_fits, processors_fit, supervisor_fits, batches_fit, selects_fit, batcher_fits, demand_fits, handler_fits, field_fits}
 use Rattle.pipe_config.proofs.Groups.{AllRole, role_producers, role_processors, role_supervisors, role_batchers, role_batch_processors, length-producers, length-processors, length-supervisors, length-batchers, length-batch_processors, five_producers, five_processors, five_batchers}
 use Rattle.pipe_config.proofs.Order.{IsEnough, stages_are_ordered}

@@ -1,10 +1,10 @@
 -- A topology that a file names is sound.
-use Rattle.std.proofs.Common.{◌≡◌, ℕ, Bool, true, false, cond, codes, List, Option, Some, None, Result, Ok, Err, IfOk, IfErr, ◌≢◌, refl, subst}
+use Rattle.std.proofs.Common.{◌≡◌, ℕ, List, Option, Some, None, Result, Ok, Err, IfOk, IfErr, ◌≢◌, refl, subst}
 use Rattle.pipe_types.specs.declared.topology.Topology.{Topology}
 use Rattle.pipe_types.specs.Sound.{IsSound}
 use Rattle.toml.specs.Data.{Members}
 use Rattle.config_table.specs.declared.fault.ConfigFault.{ConfigFault}
-use Rattle.config_table.specs.declared.fault.ConfigFault.TheVariants.{Version, OutOfMemory}
+use Rattle.config_table.specs.declared.fault.ConfigFault.TheVariants.{OutOfMemory}
 use Rattle.config_table.specs.Fault.{least}
 use Rattle.config_table.specs.declared.format.FileVersion.{FileVersion}
 use Rattle.config_table.specs.Walk.{faults_of, version_of}

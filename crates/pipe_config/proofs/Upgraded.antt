@@ -13,7 +13,7 @@ use Rattle.std.specs.Cmp.{tied_itself}
 use Rattle.std.specs.Cmp.Lexicographic.{slice_cmp}
 use Rattle.std.specs.String.{string_cmp}
 use Rattle.std.specs.Ordering.{match_ordering}
-use Rattle.std.specs.List.{list_all, list_any}
+use Rattle.std.specs.List.{list_all}
 use Rattle.pipe_types.specs.declared.topology.Topology.{Topology}
 use Rattle.toml.specs.Data.{Data, integer, Items, no_items, item, Members, no_members, member, get_member, as_array, as_table}
 use Rattle.toml.specs.View.{view, members_view}
@@ -33,7 +33,6 @@ use Rattle.config_table.specs.Walk.{is_named, is_known, key_faults, unknown_keys
 use Rattle.config_settings.specs.Settings.{settings_of}
 use Rattle.pipe_config.specs.File.{unless, judged, topology_by, topology_of, topology_of_table, topology_of_file, IsAccepted}
 use Rattle.pipe_config.specs.Upgrade.{set_member, with_version_2, refusal_of, IsUpgrade, IsRefused}
-use Rattle.pipe_config.proofs.Named.{both}
 use Rattle.pipe_config.proofs.Distinct.{nothing_left}
 use Rattle.pipe_config.proofs.Walked.{least_none}
 
