@@ -22,6 +22,7 @@ use Rattle.stage_bodies.specs.Posts.{place_at}
 use Rattle.stage_laws.specs.Numbered.{IsNumberedTopology}
 use Rattle.edge_names.specs.Seen.{EdgesSeen}
 use Rattle.edge_names.specs.Named.{GivesSource, GivesSink, Opens}
+use Rattle.edge_names.specs.Gates.{without_gate}
 use Rattle.edge_names.specs.Opened.{GivesLines, Asks, AreHome, AreOpened, AreOpenedAt, HasSource, HasSink, IsOpened, call_at, call_in, calls_of, edge_call, one}
 
 -- ---- calls
@@ -83,7 +84,7 @@ has_source_from calls a b (Some (File, name)) x y z asks e h = h ∙ e
 has_source_from calls a b (Some (Sink, name)) x y z asks e h = h ∙ e
 has_source_from calls a b (Some (Source, name)) x y None asks e h = h
 has_source_from calls a b (Some (Source, name)) x y (Some lines) asks e h =
-    record { source = gives_source_from calls a b name lines.source asks h.source; nothing_waits = h.nothing_waits; no_end = h.no_end }
+    record { source = gives_source_from calls a b name (without_gate lines.source) asks h.source; fresh_gate = h.fresh_gate; nothing_waits = h.nothing_waits; no_end = h.no_end }
 
 pub has_sink_from : (calls : List (EdgeKind × List ℕ)) (a b : EdgesSeen) (call : Option (EdgeKind × List ℕ)) (x y z : Option SinkSeen) → Asks calls a b → y ≡ x → HasSink b call y z → HasSink a call x z
 has_sink_from calls a b None x y z asks e h = h ∙ e

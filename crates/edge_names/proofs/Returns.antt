@@ -14,12 +14,15 @@ use Rattle.edge_names.specs.Seen.{EdgesSeen}
 use Rattle.edge_names.specs.Controls.{IsGivenInPart, named_control}
 use Rattle.edge_names.specs.Opened.{AreOpenedAt, IsOpened, edge_call}
 use Rattle.edge_names.specs.Returned.{GivesBack, IsBackInPart, KeepsCallbacks, named_source, named_sink, sources_of, sinks_of}
+use Rattle.edge_names.proofs.Gating.{inner_more}
 use Rattle.edge_names.proofs.Openings.{take_next, flat_map_next}
 
 pub back_nothing : (a : EdgesSeen) → GivesBack [] [] a a
 back_nothing a = record {
   same_telling = refl;
   asked = λ t. refl;
+  inner = [];
+  ungated = tt;
   back_sources = sym (append-nil a.sources_back);
   back_sinks = sym (append-nil a.sinks_back);
   no_fault = refl;
@@ -29,7 +32,9 @@ pub back_more : (xs xs' : List (List ℕ × SourceSeen)) (ys ys' : List (List �
 back_more xs xs' ys ys' a b c h k = record {
   same_telling = k.same_telling ∙ h.same_telling;
   asked = λ t. k.asked (rw h.same_telling t) ∙ h.asked t;
-  back_sources = k.back_sources ∙ ap (λ z. z ++ xs') h.back_sources ∙ append_assoc a.sources_back xs xs';
+  inner = h.inner ++ k.inner;
+  ungated = inner_more xs h.inner xs' k.inner h.ungated k.ungated;
+  back_sources = k.back_sources ∙ ap (λ z. z ++ k.inner) h.back_sources ∙ append_assoc a.sources_back h.inner k.inner;
   back_sinks = k.back_sinks ∙ ap (λ z. z ++ ys') h.back_sinks ∙ append_assoc a.sinks_back ys ys';
   no_fault = k.no_fault ∙ h.no_fault;
 }

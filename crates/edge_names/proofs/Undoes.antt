@@ -62,7 +62,9 @@ undone topology name control a b c d start opened first failed back =
       asked = λ t. back.asked (rw asks.same_telling t) ∙ asks.asked t;
       fault = rw back.no_fault (rose_after a.faults b.faults c.faults first.asks.faults_stay failed.fault);
       faults_stay = rw back.no_fault asks.faults_stay;
-      sources = back.back_sources ∙ ap (λ z. z ++ (named_control topology.control control ++ sources_of topology.stages opened)) asks.sources;
+      inner = back.inner;
+      ungated = back.ungated;
+      sources = back.back_sources ∙ ap (λ z. z ++ back.inner) asks.sources;
       sinks = back.back_sinks ∙ ap (λ z. z ++ sinks_of topology.stages opened) asks.sinks;
     }
 

@@ -7,6 +7,7 @@ use Rattle.pipe_edges.specs.declared.edges.EdgeKind.{EdgeKind}
 use Rattle.pipe_edges.specs.declared.edges.EdgeKind.TheVariants.{Source}
 use Rattle.stage_bodies.specs.Seen.{SourceSeen, SinkSeen, LineSeen, BodySeen}
 use Rattle.edge_names.specs.Seen.{EdgesSeen}
+use Rattle.edge_names.specs.Gates.{AreInner}
 use Rattle.edge_names.specs.Opened.{AreOpened, Asks, HasSource, IsOneFailed, calls_of, edge_call, edge_calls, one}
 use Rattle.edge_names.specs.Returned.{GivesBack, sources_of, sinks_of}
 
@@ -67,7 +68,9 @@ pub record IsStageUndone (topology : Topology) (name : List ℕ) (start : ℕ �
       → new.asked ≡ old.asked ++ (one (control_call topology.control) ++ (calls_of (take at topology.stages) ++ (kind, name) ∷ []))
   pub fault : Rose old.faults new.faults
   pub faults_stay : old.faults ≤ new.faults
-  pub sources : new.sources_back ≡ old.sources_back ++ (named_control topology.control control ++ sources_of topology.stages opened)
+  pub inner : List (List ℕ × SourceSeen)
+  pub ungated : AreInner (named_control topology.control control ++ sources_of topology.stages opened) inner
+  pub sources : new.sources_back ≡ old.sources_back ++ inner
   pub sinks : new.sinks_back ≡ old.sinks_back ++ sinks_of topology.stages opened
 
 -- the call of the control source failed by this name, and nothing was given back; or the call of a stage did

@@ -18,6 +18,7 @@ use Rattle.stage_bodies.specs.Jobs.{Both}
 use Rattle.stage_bodies.specs.Posts.{place_at}
 use Rattle.edge_names.specs.Seen.{EdgesSeen}
 use Rattle.edge_names.specs.Named.{GivesSource, GivesSink}
+use Rattle.edge_names.specs.Gates.{at_start, without_gate}
 use Rattle.edge_names.specs.declared.opening.Unopened.{Unopened}
 use Rattle.edge_names.specs.declared.opening.Unopened.TheVariants.{Failed, OutOfMemory}
 
@@ -58,9 +59,10 @@ pub record Asks (calls : List (EdgeKind × List ℕ)) (old new : EdgesSeen) : Ty
 abbrev pub fresh_lines : SourceSeen → LineSeen
 fresh_lines source = record { source = source; waiting = []; end = None }
 
--- the source that this call opened, of which no line was read
+-- the source that this call opened, of which no line was read; a gate before it has given nothing and was told no moment
 pub record GivesLines (edges : EdgesSeen) (name : List ℕ) (lines : LineSeen) : Type 0 where
-  pub source : GivesSource edges name lines.source
+  pub source : GivesSource edges name (without_gate lines.source)
+  pub fresh_gate : lines.source.paced ≡ at_start lines.source.paced.pace
   pub nothing_waits : lines.waiting ≡ []
   pub no_end : lines.end ≡ None
 

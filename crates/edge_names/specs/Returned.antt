@@ -10,6 +10,7 @@ use Rattle.stage_bodies.specs.Seen.{SourceSeen, SinkSeen, BodySeen}
 use Rattle.stage_bodies.specs.Jobs.{Both}
 use Rattle.stage_bodies.specs.Posts.{place_at}
 use Rattle.edge_names.specs.Seen.{EdgesSeen}
+use Rattle.edge_names.specs.Gates.{AreInner}
 use Rattle.edge_names.specs.Opened.{edge_call}
 
 -- ---- what is given back
@@ -44,11 +45,13 @@ sources_of stages table = flat_map (λ spec. named_source (edge_call spec) (tabl
 abbrev pub sinks_of : List StageSpec → (ℕ → Option BodySeen) → List (List ℕ × SinkSeen)
 sinks_of stages table = flat_map (λ spec. named_sink (edge_call spec) (table (place_at (post spec.no 0)))) stages
 
--- these were given back, and nothing was asked
+-- these were given back, each source without its gate, and nothing was asked
 pub record GivesBack (sources : List (List ℕ × SourceSeen)) (sinks : List (List ℕ × SinkSeen)) (old new : EdgesSeen) : Type 0 where
   pub same_telling : new.told ≡ old.told
   pub asked : IsTrue old.told → new.asked ≡ old.asked
-  pub back_sources : new.sources_back ≡ old.sources_back ++ sources
+  pub inner : List (List ℕ × SourceSeen)
+  pub ungated : AreInner sources inner
+  pub back_sources : new.sources_back ≡ old.sources_back ++ inner
   pub back_sinks : new.sinks_back ≡ old.sinks_back ++ sinks
   pub no_fault : new.faults ≡ old.faults
 

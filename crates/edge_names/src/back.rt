@@ -8,10 +8,12 @@ ghost use Rattle.edge_names.specs.Opened.{edge_call};
 ghost use Rattle.edge_names.specs.Returned.{GivesBack, IsBackInPart, KeepsCallbacks, named_source, named_sink, source_in, sink_in, sources_of, sinks_of};
 
 use crate::control::back_control;
+use crate::gates::take_off;
 use crate::seen::{SeenEdges, SeenSink, SeenSource, back_sink, back_source};
 use pipe_edges::{ByteSink, ByteSource, Edges, LineSource};
 use pipe_types::numbers::Post;
 use pipe_types::topology::{Role, StageSpec, Topology};
+use rate_gate::GatedSource;
 use stage_bodies::{Houses, place_of, put_back, take_out};
 use std::alloc::AllocError;
 
@@ -49,8 +51,9 @@ fn sink_out<S: ByteSource, K: ByteSink, B: Houses<S, K>>(
     sink
 }
 
-/// Gives back what a stage opened, if it stands in the body at this place.
-fn back_stage<E: Edges, B: Houses<E::Source, E::Sink>>(
+/// Gives back what a stage opened, if it stands in the body at this place; a source without its gate.
+#[tactic(auto, using(crate::proofs::Gating::gated_back, crate::proofs::Gating::sink_back, crate::proofs::Gating::source_stuck, crate::proofs::Gating::sink_stuck, crate::proofs::Returns::back_nothing))]
+fn back_stage<E: Edges, B: Houses<GatedSource<E::Source>, E::Sink>>(
     spec: &StageSpec,
     at: usize,
     bodies: &mut Vec<Option<B>>,
@@ -68,7 +71,7 @@ fn back_stage<E: Edges, B: Houses<E::Source, E::Sink>>(
     };
     match spec.role {
         Role::Producer => match source_out(bodies, at) {
-            Some(source) => back_source(name, source, edges),
+            Some(gated) => back_source(name, take_off(gated), edges),
             None => Ok(()),
         },
         Role::BatchProcessor => match sink_out(bodies, at) {
@@ -81,7 +84,7 @@ fn back_stage<E: Edges, B: Houses<E::Source, E::Sink>>(
 
 /// Gives the sources and sinks that stand in the bodies back under the names of their stages, in stage order. Want of memory
 /// ends it: the source or sink at hand is then let go, and those of later stages stay in their bodies.
-fn give_back_stages<E: Edges, B: Houses<E::Source, E::Sink>>(
+fn give_back_stages<E: Edges, B: Houses<GatedSource<E::Source>, E::Sink>>(
     topology: &Topology,
     bodies: &mut Vec<Option<B>>,
     edges: &mut E,
@@ -108,7 +111,7 @@ fn give_back_stages<E: Edges, B: Houses<E::Source, E::Sink>>(
 
 /// Gives the control source back under its name, and then the sources and sinks that stand in the bodies. Want of memory ends
 /// it, and nothing more is given back.
-pub fn give_back<E: Edges, B: Houses<E::Source, E::Sink>>(
+pub fn give_back<E: Edges, B: Houses<GatedSource<E::Source>, E::Sink>>(
     topology: &Topology,
     control: Option<LineSource<E::Source>>,
     bodies: &mut Vec<Option<B>>,

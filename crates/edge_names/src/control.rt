@@ -36,6 +36,7 @@ pub(crate) fn open_control<E: Edges>(
 
 /// Gives the control source back under its name, if it was opened. Bytes that were read and not handed out are let go. For
 /// want of memory nothing is given back.
+#[tactic(auto, using(crate::proofs::Gating::plain_back, crate::proofs::Gating::source_stuck, crate::proofs::Returns::back_nothing))]
 pub(crate) fn back_control<E: Edges>(
     name: &Option<Text>,
     control: Option<LineSource<E::Source>>,

@@ -1,13 +1,15 @@
 //! What a run opens by name, in stage order, into its bodies, and gives back.
 //!
 //! The control source is no stage's, and is the first. A producer opens its source, and a batch processor its sink, if it has
-//! one, in the order of the stages, and they stand in the bodies of these. `open_or_give_back` makes all these calls, or gives
+//! one, in the order of the stages, and they stand in the bodies of these, each source in a `GatedSource`: with a gate where the
+//! topology has a rate, of the producer's share. `open_or_give_back` makes all these calls, or gives
 //! back what was opened before a call failed; `give_back` gives all of it back under its names, in the same order. Contracts
 //! see edges, sources and sinks as plain data.
 #![tactic(auto)]
 
 mod back;
 mod control;
+mod gates;
 mod lines;
 mod opening;
 mod seen;

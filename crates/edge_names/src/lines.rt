@@ -1,14 +1,19 @@
 //! Sources by name, to be read by lines.
 
-ghost use Rattle.std.specs.Prelude.{◌≡◌, ◌∷◌, [], Some, IfOk, IfErr, OnOk, OnErr};
+ghost use Rattle.std.specs.Prelude.{◌≡◌, ◌∷◌, [], Some, option_map, IfOk, IfErr, IfSome, OnOk, OnErr};
 ghost use Rattle.pipe_edges.specs.declared.edges.EdgeKind.TheVariants.{Source};
 ghost use Rattle.stage_bodies.specs.Seen.{line_seen};
+ghost use Rattle.rate_gate.specs.Gate.{pace_of, moment_of, given_of};
+ghost use Rattle.pipe_edges.specs.LineSource.{line_source};
+ghost use Rattle.edge_names.specs.Gates.{IsGated, lines_seen};
 ghost use Rattle.edge_names.specs.Opened.{Asks, GivesLines, fresh_lines, IfCutOff, IfFailed, IsOneCut, IsOneFailed, IsReturned};
 
+use crate::gates::gated_lines;
 use crate::opening::Unopened;
 use crate::seen::{SeenEdges, SeenSource, back_source, open_source};
 use pipe_edges::{ByteSource, EdgeEnd, Edges, LineSource};
 use pipe_types::bytes::Text;
+use rate_gate::{Gate, GatedSource};
 use std::alloc::{AllocError, Global};
 
 /// A text of its own.
@@ -56,6 +61,58 @@ fn lines_of<E: Edges>(
     ensures returned { OnErr result (IsReturned name.now (⟦<E::Source as SeenSource>⟧.seen source) (⟦<E as SeenEdges>⟧.seen edges.old) (⟦<E as SeenEdges>⟧.seen edges.new)) }
 {
     match LineSource::new(alloc, source) {
+        Ok(lines) => Ok(lines),
+        Err((source, error)) => {
+            let _ = back_source(name, source, edges);
+            Err(error)
+        }
+    }
+}
+
+/// Opens the source of this name, to be read by lines in this gate.
+pub(crate) fn open_gated<E: Edges>(
+    alloc: Global,
+    name: &Text,
+    gate: Option<Gate>,
+    edges: &mut E,
+) -> Result<LineSource<GatedSource<E::Source>>, Unopened>
+    requires begun { IfSome gate (λ g. (moment_of g ≡ 0) × (given_of g ≡ 0)) }
+    ensures asks { OnOk result (Asks ((Source, name.now) ∷ []) (⟦<E as SeenEdges>⟧.seen edges.old) (⟦<E as SeenEdges>⟧.seen edges.new)) }
+    ensures gives { IfOk result (λ lines. GivesLines (⟦<E as SeenEdges>⟧.seen edges.old) name.now
+        (lines_seen (⟦<GatedSource<E::Source> as SeenSource>⟧.seen) lines)) }
+    ensures pace { IfOk result (λ lines. (⟦<GatedSource<E::Source> as SeenSource>⟧.seen (line_source lines)).paced.pace ≡ option_map pace_of gate) }
+    ensures failed { IfErr result (λ e. IfFailed e (λ n. IsOneFailed (Some (Source, name.now)) n (⟦<E as SeenEdges>⟧.seen edges.old) (⟦<E as SeenEdges>⟧.seen edges.new))) }
+    ensures cut_off { IfErr result (λ e. IfCutOff e (IsOneCut (Some (Source, name.now)) (⟦<E as SeenEdges>⟧.seen edges.old) (⟦<E as SeenEdges>⟧.seen edges.new))) }
+{
+    let Ok(source_name) = copy_text(alloc, name) else {
+        return Err(Unopened::OutOfMemory);
+    };
+    match open_source(name, edges) {
+        Ok(source) => match gated_lines_of(alloc, name, source, gate, edges) {
+            Ok(lines) => Ok(lines),
+            Err(AllocError) => Err(Unopened::OutOfMemory),
+        },
+        Err(EdgeEnd::Failed) => Err(Unopened::Failed(source_name)),
+        Err(EdgeEnd::OutOfMemory) => Err(Unopened::OutOfMemory),
+    }
+}
+
+/// The source in this gate, to be read by lines. For want of memory it goes back under its name, as far as there is memory
+/// for that.
+fn gated_lines_of<E: Edges>(
+    alloc: Global,
+    name: &Text,
+    source: E::Source,
+    gate: Option<Gate>,
+    edges: &mut E,
+) -> Result<LineSource<GatedSource<E::Source>>, AllocError>
+    requires begun { IfSome gate (λ g. (moment_of g ≡ 0) × (given_of g ≡ 0)) }
+    ensures lines { IfOk result (λ lines. IsGated (option_map pace_of gate) (⟦<E::Source as SeenSource>⟧.seen source)
+        (lines_seen (⟦<GatedSource<E::Source> as SeenSource>⟧.seen) lines)) }
+    ensures untouched { OnOk result (edges.new ≡ edges.old) }
+    ensures returned { OnErr result (IsReturned name.now (⟦<E::Source as SeenSource>⟧.seen source) (⟦<E as SeenEdges>⟧.seen edges.old) (⟦<E as SeenEdges>⟧.seen edges.new)) }
+{
+    match gated_lines(alloc, source, gate) {
         Ok(lines) => Ok(lines),
         Err((source, error)) => {
             let _ = back_source(name, source, edges);

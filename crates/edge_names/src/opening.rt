@@ -1,21 +1,25 @@
 //! Opening by name, in stage order.
 
-ghost use Rattle.std.specs.Prelude.{◌≡◌, ◌==◌, ℕ, None, Some, if◌then◌else◌, length, option_map, IfOk, IfErr, OnOk, OnErr, IsSome};
+ghost use Rattle.std.specs.Prelude.{◌≡◌, ◌≤◌, ◌==◌, ℕ, None, Some, if◌then◌else◌, length, option_map, IfOk, IfErr, IfSome, OnOk, OnErr, IsSome};
 ghost use Rattle.pipe_types.specs.Sound.{IsSound};
 ghost use Rattle.stage_bodies.specs.Seen.{line_seen, body_at, with_source, with_sink};
 ghost use Rattle.pipe_edges.specs.declared.edges.EdgeKind.TheVariants.{Source, Sink};
+ghost use Rattle.rate_gate.specs.Gate.{moment_of, given_of};
+ghost use Rattle.edge_names.specs.Gates.{IsShared};
 ghost use Rattle.edge_names.specs.Controls.{IsUndone, control_call, run_calls};
 ghost use Rattle.edge_names.specs.Opened.{Asks, AreHome, AreOpened, HasSource, IfCutOff, IfFailed, IsCutOff, IsFailed, OpensOne, edge_calls, edge_call};
 ghost use Rattle.edge_names.specs.Returned.{IsAskedInPart, KeepsCallbacks};
 
 use crate::back::give_back;
+use crate::gates::{count_producers, gate_at};
 use crate::control::open_control;
-use crate::lines::{copy_text, open_lines};
+use crate::lines::{copy_text, open_gated};
 use crate::seen::{SeenEdges, SeenSink, open_sink};
 use pipe_edges::{ByteSink, ByteSource, EdgeEnd, Edges, LineSource};
 use pipe_types::bytes::Text;
 use pipe_types::numbers::Post;
-use pipe_types::topology::{Role, StageSpec, Topology};
+use pipe_types::topology::{Rate, Role, StageSpec, Topology};
+use rate_gate::{Gate, GatedSource};
 use stage_bodies::{Houses, place_of, put_back, take_out};
 use std::alloc::Global;
 
@@ -61,20 +65,22 @@ fn set_sink<S: ByteSource, K: ByteSink + Drop, B: Houses<S, K>>(
     }
 }
 
-/// Opens the source of this name into the body at this place.
-fn open_source_into<E: Edges, B: Houses<E::Source, E::Sink>>(
+/// Opens the source of this name, in this gate, into the body at this place.
+fn open_source_into<E: Edges, B: Houses<GatedSource<E::Source>, E::Sink>>(
     alloc: Global,
     name: &Text,
     at: usize,
+    gate: Option<Gate>,
     bodies: &mut Vec<Option<B>>,
     edges: &mut E,
 ) -> Result<(), Unopened>
     requires home { IsSome (body_at B.look bodies.old.items at) }
+    requires begun { IfSome gate (λ g. (moment_of g ≡ 0) × (given_of g ≡ 0)) }
     ensures opens { OpensOne (Some (Source, name.now)) at result (⟦<E as SeenEdges>⟧.seen edges.old) (⟦<E as SeenEdges>⟧.seen edges.new) (body_at B.look bodies.old.items) (body_at B.look bodies.new.items) }
     ensures same { OnErr result (bodies.new.items ≡ bodies.old.items) }
     ensures len { length bodies.new.items ≡ length bodies.old.items }
 {
-    match open_lines(alloc, name, edges) {
+    match open_gated(alloc, name, gate, edges) {
         Ok(lines) => {
             set_source(bodies, at, lines);
             Ok(())
@@ -84,7 +90,7 @@ fn open_source_into<E: Edges, B: Houses<E::Source, E::Sink>>(
 }
 
 /// Opens the sink of this name into the body at this place.
-fn open_sink_into<E: Edges, B: Houses<E::Source, E::Sink>>(
+fn open_sink_into<E: Edges, B: Houses<GatedSource<E::Source>, E::Sink>>(
     alloc: Global,
     name: &Text,
     at: usize,
@@ -109,14 +115,19 @@ fn open_sink_into<E: Edges, B: Houses<E::Source, E::Sink>>(
     }
 }
 
-/// Opens what a stage has, into the body at this place.
-fn open_stage<E: Edges, B: Houses<E::Source, E::Sink>>(
+/// Opens what a stage has, into the body at this place. Where there is a rate, the source of a producer gets the gate of its
+/// place among so many.
+fn open_stage<E: Edges, B: Houses<GatedSource<E::Source>, E::Sink>>(
     alloc: Global,
     spec: &StageSpec,
     at: usize,
+    rate: &Option<Rate>,
+    count: u32,
     bodies: &mut Vec<Option<B>>,
     edges: &mut E,
 ) -> Result<(), Unopened>
+    requires some { 1 ≤ count }
+    requires shared { IfSome rate.now (IsShared count) }
     requires home { IsSome (edge_call spec.now) → IsSome (body_at B.look bodies.old.items at) }
     ensures opens { OpensOne (edge_call spec.now) at result (⟦<E as SeenEdges>⟧.seen edges.old) (⟦<E as SeenEdges>⟧.seen edges.new) (body_at B.look bodies.old.items) (body_at B.look bodies.new.items) }
     ensures same { OnErr result (bodies.new.items ≡ bodies.old.items) }
@@ -124,7 +135,10 @@ fn open_stage<E: Edges, B: Houses<E::Source, E::Sink>>(
 {
     match &spec.edge {
         Some(name) => match spec.role {
-            Role::Producer => open_source_into(alloc, name, at, bodies, edges),
+            Role::Producer => {
+                let gate = gate_at(rate, count, spec.index);
+                open_source_into(alloc, name, at, gate, bodies, edges)
+            }
             Role::BatchProcessor => open_sink_into(alloc, name, at, bodies, edges),
             _ => Ok(()),
         },
@@ -134,7 +148,7 @@ fn open_stage<E: Edges, B: Houses<E::Source, E::Sink>>(
 
 /// Opens the sources of the producers and the sinks of the batch processors, in stage order, into their bodies. After a
 /// failure what was opened before it stands in the bodies.
-fn open_stages<E: Edges, B: Houses<E::Source, E::Sink>>(
+fn open_stages<E: Edges, B: Houses<GatedSource<E::Source>, E::Sink>>(
     alloc: Global,
     topology: &Topology,
     bodies: &mut Vec<Option<B>>,
@@ -149,12 +163,13 @@ fn open_stages<E: Edges, B: Houses<E::Source, E::Sink>>(
     ensures len { length bodies.new.items ≡ length bodies.old.items }
     ensures callbacks { KeepsCallbacks (body_at B.look bodies.old.items) (body_at B.look bodies.new.items) }
 {
+    let count = count_producers(topology);
     for spec in topology.stages.as_slice() {
         let at = place_of(Post {
             stage: spec.no,
             slot: 0,
         });
-        match open_stage(alloc, spec, at, bodies, edges) {
+        match open_stage(alloc, spec, at, &topology.rate, count, bodies, edges) {
             Ok(()) => {}
             Err(unopened) => return Err(unopened),
         }
@@ -164,7 +179,7 @@ fn open_stages<E: Edges, B: Houses<E::Source, E::Sink>>(
 
 /// Opens the control source, and then what the stages name; or gives back what was opened before a call failed, the control
 /// source first. Where giving back finds no memory, or opening did, some of what was opened may still stand in the bodies.
-pub fn open_or_give_back<E: Edges, B: Houses<E::Source, E::Sink>>(
+pub fn open_or_give_back<E: Edges, B: Houses<GatedSource<E::Source>, E::Sink>>(
     alloc: Global,
     topology: &Topology,
     bodies: &mut Vec<Option<B>>,

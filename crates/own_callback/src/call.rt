@@ -21,6 +21,7 @@ use pipe_journal::Journal;
 use pipe_top::run_program;
 use pipe_types::bytes::{Bytes, Text};
 use pipe_types::topology::Topology;
+use rate_gate::GatedSource;
 use stage_bodies::Houses;
 use std::alloc::{AllocError, Global};
 use std::sync::Wait;
@@ -45,7 +46,7 @@ pub struct Came<C> {
 pub fn run_with<
     R: Threads + Wait + Sync,
     C: Boxed,
-    B: Carries<C> + Houses<MemSource, MemSink> + Send,
+    B: Carries<C> + Houses<GatedSource<MemSource>, MemSink> + Send,
 >(
     rt: &R,
     alloc: Global,

@@ -42,6 +42,8 @@ unopened_stage topology name start old new handed u = record {
   handed = handed;
   bodies = u.opened;
   opened = u.bodies;
+  inner = u.inner;
+  ungated = u.ungated;
   sources = u.sources;
   sinks = u.sinks;
 }
@@ -94,6 +96,8 @@ outside whole topology before calls old mid new control bodies n all obeyed used
   used = used;
   parts = n;
   all = all;
-  sources = back.back_sources ∙ ap (λ z. z ++ first_sources n topology control bodies) asks.sources;
+  inner = back.inner;
+  ungated = back.ungated;
+  sources = back.back_sources ∙ ap (λ z. z ++ back.inner) asks.sources;
   sinks = back.back_sinks ∙ ap (λ z. z ++ first_sinks n topology bodies) asks.sinks;
 }

@@ -21,6 +21,7 @@ use Rattle.body_laws.specs.Keeps.{AreFirstHeld}
 use Rattle.body_laws.specs.Ready.{There}
 use Rattle.run_pipe.specs.Obeyed.{IsControlRead}
 use Rattle.edge_names.specs.Seen.{EdgesSeen}
+use Rattle.edge_names.specs.Gates.{AreInner, without_gate}
 use Rattle.edge_names.specs.Named.{GivesSource, GivesSink}
 use Rattle.edge_names.specs.Opened.{AreOpened, HasSource, call_in, calls_of, edge_call, edge_calls}
 use Rattle.edge_names.specs.Returned.{source_in, sink_in, sources_of, sinks_of}
@@ -37,11 +38,11 @@ pub record ReadsSource (before : History) (p : StageNo) (source : SourceSeen) : 
   pub fault : source_end before p ≡ Some Fault → Rose 0 source.faults
   pub quiet : RoseBy (quiets before p) 0 source.waits
 
--- the source that was opened under this name has the bytes that stood there, the journal's records are its lines, and each
+-- the source that was opened under this name, without its gate, has the bytes that stood there, the journal's records are its lines, and each
 -- fetch brought the first lines that were held
 pub record IsSourceRead (edges : EdgesSeen) (before : History) (p : StageNo) (name : List ℕ) (source : SourceSeen) : Type 0 where
   pub opened : SourceSeen
-  pub given : GivesSource edges name opened
+  pub given : GivesSource edges name (without_gate opened)
   pub same_telling : source.told ≡ opened.told
   pub same_bytes : IsTrue opened.told → source.taken ++ source.left ≡ opened.left
   pub reads : ReadsSource before p source
@@ -51,7 +52,7 @@ pub record IsSourceRead (edges : EdgesSeen) (before : History) (p : StageNo) (na
 -- those of its lines
 pub record IsControlUsed (topology : Topology) (edges : EdgesSeen) (before : History) (name : List ℕ) (source : SourceSeen) : Type 0 where
   pub opened : SourceSeen
-  pub given : GivesSource edges name opened
+  pub given : GivesSource edges name (without_gate opened)
   pub same_telling : source.told ≡ opened.told
   pub same_bytes : IsTrue opened.told → source.taken ++ source.left ≡ opened.left
   pub reads : IsControlRead topology before source
@@ -84,7 +85,7 @@ pub record AreUsed (whole : Bool) (topology : Topology) (edges : EdgesSeen) (bef
       → There (sink_in (bodies (place_at (post s 0)))) (IsSinkWrittenBy whole topology edges before s name)
 
 -- everything that was opened by name was read and written as the journal says, and then given back, the control source first
--- and then what the stages opened, in their order: all of it, unless memory was wanting
+-- and then what the stages opened, in their order, each source without its gate: all of it, unless memory was wanting
 pub record IsOutside (whole : Bool) (topology : Topology) (before : History) (old new : EdgesSeen) : Type 0 where
   pub control : Option LineSeen
   pub obeyed : HasControl topology old before topology.control control
@@ -92,7 +93,9 @@ pub record IsOutside (whole : Bool) (topology : Topology) (before : History) (ol
   pub used : AreUsed whole topology old before bodies
   pub parts : ℕ
   pub all : IsTrue whole → parts ≡ suc (length topology.stages)
-  pub sources : new.sources_back ≡ old.sources_back ++ first_sources parts topology control bodies
+  pub inner : List (List ℕ × SourceSeen)
+  pub ungated : AreInner (first_sources parts topology control bodies) inner
+  pub sources : new.sources_back ≡ old.sources_back ++ inner
   pub sinks : new.sinks_back ≡ old.sinks_back ++ first_sinks parts topology bodies
 
 -- the call of the control source failed by this name, with these calls still to come, and nothing was given back
@@ -117,7 +120,9 @@ pub record IsStageUnopened (topology : Topology) (name : List ℕ) (rest : List 
   pub handed : AreHandedOut topology start
   pub bodies : ℕ → Option BodySeen
   pub opened : AreOpened topology at old start bodies
-  pub sources : new.sources_back ≡ old.sources_back ++ (named_control topology.control control ++ sources_of topology.stages bodies)
+  pub inner : List (List ℕ × SourceSeen)
+  pub ungated : AreInner (named_control topology.control control ++ sources_of topology.stages bodies) inner
+  pub sources : new.sources_back ≡ old.sources_back ++ inner
   pub sinks : new.sinks_back ≡ old.sinks_back ++ sinks_of topology.stages bodies
 
 -- a call that opens failed by this name, with these calls still to come, and what was opened before it was given back

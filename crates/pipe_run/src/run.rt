@@ -24,6 +24,7 @@ use journal_watch::NoWatch;
 use pipe_edges::{ByteSource, Clock, Edges, LineSource};
 use pipe_types::bytes::Text;
 use pipe_types::topology::Topology;
+use rate_gate::GatedSource;
 use run_pipe::{Pipe, PipeParts, RunEnd, run_workers};
 use stage_bodies::Houses;
 use std::alloc::{AllocError, Global};
@@ -73,7 +74,7 @@ pub fn run_topology<
     R: Threads + Wait + Sync,
     E: Edges,
     C: Boxed,
-    B: Carries<C> + Houses<E::Source, E::Sink> + Send,
+    B: Carries<C> + Houses<GatedSource<E::Source>, E::Sink> + Send,
     K: Clock + Send,
 >(
     rt: &R,
@@ -118,7 +119,7 @@ fn run_bodies<
     R: Threads + Wait + Sync,
     E: Edges,
     C: Boxed,
-    B: Carries<C> + Houses<E::Source, E::Sink> + Send,
+    B: Carries<C> + Houses<GatedSource<E::Source>, E::Sink> + Send,
     K: Clock + Send,
 >(
     rt: &R,
@@ -178,7 +179,7 @@ fn run_bodies<
 fn run_opened<
     R: Threads + Wait + Sync,
     E: Edges,
-    B: Houses<E::Source, E::Sink> + Send,
+    B: Houses<GatedSource<E::Source>, E::Sink> + Send,
     K: Clock + Send,
 >(
     rt: &R,

@@ -182,7 +182,9 @@ outside_as whole topology before call old middle new c x = record {
   used = are_used whole topology old middle before x.bodies c.names x.used;
   parts = x.parts;
   all = x.all;
-  sources = x.sources ∙ ap (λ l. l ++ first_sources x.parts topology x.control x.bodies) c.same_sources;
+  inner = x.inner;
+  ungated = x.ungated;
+  sources = x.sources ∙ ap (λ l. l ++ x.inner) c.same_sources;
   sinks = x.sinks ∙ ap (λ l. l ++ first_sinks x.parts topology x.bodies) c.same_sinks;
 }
 
@@ -201,7 +203,9 @@ stage_unopened_as topology name rest call old middle new c x = record {
   handed = x.handed;
   bodies = x.bodies;
   opened = are_opened topology x.at old middle x.start x.bodies c.names x.opened;
-  sources = x.sources ∙ ap (λ l. l ++ (named_control topology.control x.control ++ sources_of topology.stages x.bodies)) c.same_sources;
+  inner = x.inner;
+  ungated = x.ungated;
+  sources = x.sources ∙ ap (λ l. l ++ x.inner) c.same_sources;
   sinks = x.sinks ∙ ap (λ l. l ++ sinks_of topology.stages x.bodies) c.same_sinks;
 }
 

@@ -31,6 +31,9 @@ use Rattle.pipe_laws.proofs.Tests.{and_left, and_right, clash, same_stage-true}
 use Rattle.edge_names.specs.Seen.{EdgesSeen}
 use Rattle.edge_names.specs.Opened.{call_by, call_in, edge_call}
 use Rattle.edge_names.specs.Controls.{named_control, first_sources}
+use Rattle.pipe_types.specs.Counts.{Rose}
+use Rattle.source_lines.specs.Cut.{HasShortLines}
+use Rattle.edge_names.specs.Gates.{AreInner, IsInner}
 use Rattle.edge_names.specs.Returned.{named_source, source_in, sources_of, with_name}
 use Rattle.pipe_run.specs.Outside.{HasControl, IsOutside, IsSourceRead, ReadsSource}
 use Rattle.pipe_run.specs.Whole.{HasCome}
@@ -111,15 +114,37 @@ source_well_read topology before old new p spec name (Some source) outside is ca
     given : named_source (edge_call spec) (outside.bodies (place_at (post p 0))) ≡ (name, source) ∷ []
     given = ap (λ c. named_source c (outside.bodies (place_at (post p 0)))) call ∙ ap (with_name name) is
 
+abbrev IsFine : List ℕ × SourceSeen → Type 0
+IsFine given = IsFaultless given.1
+
+-- a source is as faultless in its gate as out of it
+fine_gated : (gated inner : SourceSeen) → IsInner gated inner → IsFaultless inner → IsFaultless gated
+fine_gated gated inner is fine =
+    let tells : IsTrue gated.told = subst (λ b. IsTrue b) is.same_telling fine.tells in
+    record {
+      no_fault = subst (λ n. ¬ Rose 0 n) is.same_faults fine.no_fault;
+      tells = tells;
+      short = subst (λ bytes. HasShortLines bytes) (is.same_bytes tells) fine.short;
+    }
+
+fine_all : (gated inner : List (List ℕ × SourceSeen)) → AreInner gated inner → All IsFine inner → All IsFine gated
+fine_all [] [] are each = All-nil IsFine
+fine_all (g ∷ gs) (i ∷ is) are each =
+    All-cons IsFine g gs (fine_gated g.1 i.1 are.1 (All-head IsFine i is each)) (fine_all gs is are.2 (All-tail IsFine i is each))
+fine_all [] (i ∷ is) are each = absurd are
+fine_all (g ∷ gs) [] are each = absurd are
+
 -- all that a whole run gave back, the control source first
-given_back : (P : List ℕ × SourceSeen → Type 0) (topology : Topology) (before : History) (old new : EdgesSeen) → (outside : IsOutside true topology before old new)
-    → ((back : List (List ℕ × SourceSeen)) → new.sources_back ≡ old.sources_back ++ back → All P back)
-    → All P (named_control topology.control outside.control ++ sources_of topology.stages outside.bodies)
-given_back P topology before old new outside each =
-    let first : All P (first_sources (suc (length topology.stages)) topology outside.control outside.bodies) =
-    subst (λ n. All P (first_sources n topology outside.control outside.bodies)) (outside.all refl) (each (first_sources outside.parts topology outside.control outside.bodies) outside.sources)
+given_back : (topology : Topology) (before : History) (old new : EdgesSeen) → (outside : IsOutside true topology before old new) → AreFaultless old new
+    → All IsFine (named_control topology.control outside.control ++ sources_of topology.stages outside.bodies)
+given_back topology before old new outside each =
+    let some : All IsFine (first_sources outside.parts topology outside.control outside.bodies) =
+    fine_all (first_sources outside.parts topology outside.control outside.bodies) outside.inner outside.ungated (each outside.inner outside.sources)
     in
-    subst (λ stages. All P (named_control topology.control outside.control ++ sources_of stages outside.bodies)) (take_all (length topology.stages) topology.stages (omega arith)) first
+    let first : All IsFine (first_sources (suc (length topology.stages)) topology outside.control outside.bodies) =
+    subst (λ n. All IsFine (first_sources n topology outside.control outside.bodies)) (outside.all refl) some
+    in
+    subst (λ stages. All IsFine (named_control topology.control outside.control ++ sources_of stages outside.bodies)) (take_all (length topology.stages) topology.stages (omega arith)) first
 
 -- the control source did not end with a fault or with a line that is too long
 abbrev IsControlFine : History → Type 0
@@ -143,7 +168,7 @@ pub control_fine : (topology : Topology) (before : History) (old new : EdgesSeen
 control_fine topology before old new none outside faultless =
     control_well_read topology before old topology.control outside.control none outside.obeyed
     (All-front (λ (given : List ℕ × SourceSeen). IsFaultless given.1) (named_control topology.control outside.control) (sources_of topology.stages outside.bodies)
-    (given_back (λ given. IsFaultless given.1) topology before old new outside faultless))
+    (given_back topology before old new outside faultless))
 
 pub well_read : (topology : Topology) (before : History) (old new : EdgesSeen) → IsSound topology → IsOutside true topology before old new → AreFaultless old new → AreWellRead topology before
 well_read topology before old new sound outside faultless p role =
@@ -153,7 +178,7 @@ well_read topology before old new sound outside faultless p role =
     back : All (λ (given : List ℕ × SourceSeen). IsFaultless given.1) (sources_of topology.stages outside.bodies)
     back =
         All-back (λ (given : List ℕ × SourceSeen). IsFaultless given.1) (named_control topology.control outside.control) (sources_of topology.stages outside.bodies)
-        (given_back (λ given. IsFaultless given.1) topology before old new outside faultless)
+        (given_back topology before old new outside faultless)
 
     by_edge : (spec : StageSpec) → spec_of topology p ≡ Some spec → spec.role ≡ Producer → (o : Option (List ℕ)) → spec.edge ≡ o → IsWellRead before p
     by_edge spec found producer None is =

@@ -22,6 +22,7 @@ use pipe_edges::{Clock, Edges};
 use pipe_journal::Journal;
 use pipe_types::topology::Topology;
 use program_words::{Command, FlowWords, RunWords, read_words};
+use rate_gate::GatedSource;
 use run_verdicts::{Refusal, Shows, write_verdict};
 use stage_bodies::Houses;
 use std::alloc::Global;
@@ -45,7 +46,7 @@ pub fn run_program<
     R: Threads + Wait + Sync,
     E: Edges,
     C: Boxed,
-    B: Carries<C> + Houses<E::Source, E::Sink> + Send,
+    B: Carries<C> + Houses<GatedSource<E::Source>, E::Sink> + Send,
     K: Clock + Send + Drop,
 >(
     rt: &R,
@@ -102,7 +103,7 @@ fn run_words<
     R: Threads + Wait + Sync,
     E: Edges,
     C: Boxed,
-    B: Carries<C> + Houses<E::Source, E::Sink> + Send,
+    B: Carries<C> + Houses<GatedSource<E::Source>, E::Sink> + Send,
     K: Clock + Send + Drop,
 >(rt: &R, alloc: Global, words: &Vec<String>, stock: Vec<C>, edges: &mut E, clock: K) -> Ran<C, K>
     ensures came { Came
@@ -128,7 +129,7 @@ fn run_flow<
     R: Threads + Wait + Sync,
     E: Edges,
     C: Boxed,
-    B: Carries<C> + Houses<E::Source, E::Sink> + Send,
+    B: Carries<C> + Houses<GatedSource<E::Source>, E::Sink> + Send,
     K: Clock + Send + Drop,
 >(rt: &R, alloc: Global, words: FlowWords<'_>, stock: Vec<C>, edges: &mut E, clock: K) -> Ran<C, K>
     ensures came { Came
@@ -170,7 +171,7 @@ fn run_file<
     R: Threads + Wait + Sync,
     E: Edges,
     C: Boxed,
-    B: Carries<C> + Houses<E::Source, E::Sink> + Send,
+    B: Carries<C> + Houses<GatedSource<E::Source>, E::Sink> + Send,
     K: Clock + Send + Drop,
 >(rt: &R, alloc: Global, words: RunWords<'_>, stock: Vec<C>, edges: &mut E, clock: K) -> Ran<C, K>
     ensures came { Came

@@ -20,6 +20,7 @@ use pipe_edges::{Clock, Edges};
 use pipe_journal::Journal;
 use pipe_run::{Ended, NoRun, Run, run_topology};
 use pipe_types::topology::Topology;
+use rate_gate::GatedSource;
 use run_verdicts::{Refusal, Shows, Verdict, places_of, texts_of};
 use stage_bodies::Houses;
 use std::alloc::Global;
@@ -58,7 +59,7 @@ pub(crate) fn run_or_refuse<
     R: Threads + Wait + Sync,
     E: Edges,
     C: Boxed,
-    B: Carries<C> + Houses<E::Source, E::Sink> + Send,
+    B: Carries<C> + Houses<GatedSource<E::Source>, E::Sink> + Send,
     K: Clock + Send + Drop,
 >(
     rt: &R,
@@ -99,7 +100,7 @@ fn run_supplied<
     R: Threads + Wait + Sync,
     E: Edges,
     C: Boxed,
-    B: Carries<C> + Houses<E::Source, E::Sink> + Send,
+    B: Carries<C> + Houses<GatedSource<E::Source>, E::Sink> + Send,
     K: Clock + Send + Drop,
 >(
     rt: &R,

@@ -7,6 +7,7 @@ use file_socket_sinks::{
     Reader, RealClock, RealEdges, RealOut, RealSource, Writer, take_closed_streams,
 };
 use pipe_top::run_program;
+use rate_gate::GatedSource;
 use stage_callback::{Callback, LinesBox, StepsBox};
 use std::alloc::AllocError;
 use std::process::ExitCode;
@@ -57,7 +58,7 @@ fn run<R: Threads + Wait + Sync>(rt: &HostRuntime, waits: &R) -> Result<u8, Allo
         R,
         RealEdges,
         Handler,
-        Body<RealSource<Reader>, RealOut<Writer>>,
+        Body<GatedSource<RealSource<Reader>>, RealOut<Writer>>,
         RealClock,
     >(
         waits, alloc, &words, stock, &mut edges, clock, &mut out, &mut err,

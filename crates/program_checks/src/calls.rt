@@ -8,6 +8,7 @@ use mem_edges::{MemClock, MemEdges, MemSink, MemSource};
 use pipe_journal::Journal;
 use pipe_top::run_program;
 use pipe_types::topology::Kind;
+use rate_gate::GatedSource;
 use stage_callback::{Callback, LinesBox, StepsBox};
 use std::alloc::{AllocError, Global};
 use std::io;
@@ -166,7 +167,7 @@ pub fn call<R: Threads + Wait + Sync>(
     for _ in 0..steps {
         stock.push(Box::new(alloc, StepsBox::new(alloc))?)?;
     }
-    let end = run_program::<R, MemEdges, Handler, Body<MemSource, MemSink>, MemClock>(
+    let end = run_program::<R, MemEdges, Handler, Body<GatedSource<MemSource>, MemSink>, MemClock>(
         rt,
         alloc,
         &words,

@@ -11,6 +11,7 @@ use mem_edges::{MemSink, MemSource};
 use own_callback::{Came, LinesEnd, ThirdCrashes, run_lines, run_with};
 use own_handler::{OwnBox, PassAll};
 use pipe_types::bytes::Bytes;
+use rate_gate::GatedSource;
 use std::io;
 use std::sync::atomic::AtomicU64;
 use std::sync::{Arc, Wait};
@@ -47,7 +48,7 @@ fn run_third<R: Threads + Wait + Sync>(
     let (file, lines) = (case.text("file"), case.text("a"));
     let mut stock: Vec<Handler> = Vec::new(rt.alloc());
     stock.push(Box::new(rt.alloc(), ThirdCrashes::new(rt.alloc()))?)?;
-    let came = run_with::<_, _, Body<MemSource, MemSink>>(
+    let came = run_with::<_, _, Body<GatedSource<MemSource>, MemSink>>(
         waits,
         rt.alloc(),
         count,
@@ -76,7 +77,7 @@ fn run_meets<R: Threads + Wait + Sync>(
         let meets = Meets::new(rt.alloc(), Arc::try_clone(&begun)?, group, looks);
         stock.push(Box::new(rt.alloc(), meets)?)?;
     }
-    let came = run_with::<_, _, Body<MemSource, MemSink>>(
+    let came = run_with::<_, _, Body<GatedSource<MemSource>, MemSink>>(
         waits,
         rt.alloc(),
         count,
@@ -104,7 +105,7 @@ pub fn run_passing<R: Threads + Wait + Sync>(
     for _ in 0..number(count) {
         stock.push(Box::new(rt.alloc(), OwnBox::new(rt.alloc(), PassAll))?)?;
     }
-    let end = run_lines::<_, _, Body<MemSource, MemSink>>(
+    let end = run_lines::<_, _, Body<GatedSource<MemSource>, MemSink>>(
         waits,
         rt.alloc(),
         case.text("file"),

@@ -30,8 +30,7 @@ pub filled_parts : (held taken left held' taken' left' : List ℕ) → held ≡ 
 filled_parts held taken left held' taken' left' none filled =
     rw none (
       holds_last taken' taken held' filled.1,
-      front_is taken' taken held' filled.1 ∙ sym (front_is taken taken [] (sym (append-nil taken))),
-      filled.0,
+      (front_is taken' taken held' filled.1 ∙ sym (front_is taken taken [] (sym (append-nil taken))), filled.0),
     )
 
 -- ---- what is given

@@ -1,5 +1,5 @@
 -- Laws of bytes that are handed on in parts.
-use Rattle.std.proofs.Common.{◌≡◌, ◌≢◌, ℕ, ◌+◌, ◌-◌, ◌<◌, ◌≤◌, List, [], ◌∷◌, ◌++◌, length, take, drop, arith, refl, ap, sym, ◌∙◌}
+use Rattle.std.proofs.Common.{◌≡◌, ◌≢◌, ℕ, ◌+◌, ◌-◌, ◌<◌, ◌≤◌, List, [], ◌∷◌, ◌++◌, length, take, drop, arith, refl, ap, sym, subst, ◌∙◌}
 use Rattle.std.proofs.lemmas.List.{append_assoc, take-take, take_at, drop-drop, length-take-le, length-drop, length_push}
 use Rattle.std.proofs.lemmas.List.Elements.{All-nil, All-same}
 use Rattle.memchr.specs.Find.{is_byte, Nowhere, NoneBefore, Passes}
@@ -18,7 +18,9 @@ pub unbroken : (bytes : List ℕ) → Nowhere (Passes (is_byte 10) bytes) 0 (len
 unbroken bytes h = no_lf bytes 0 (none_searched bytes) h
 
 first_lf : (bytes : List ℕ) (n : ℕ) → NoneBefore (Passes (is_byte 10) bytes) 0 (length bytes) n → Passes (is_byte 10) bytes n → EndsAt bytes n
-first_lf bytes n h lf = ends_at bytes 0 n (none_searched bytes) h lf
+first_lf bytes n h lf =
+    let same : 0 + n ≡ n = omega arith in
+    subst (λ k. EndsAt bytes k) same (ends_at bytes 0 n (none_searched bytes) h lf)
 
 pub part_of : (bytes : List ℕ) (n : ℕ) → NoneBefore (Passes (is_byte 10) bytes) 0 (length bytes) n → Passes (is_byte 10) bytes n → HasNoLf (take n bytes)
 part_of bytes n h lf = (first_lf bytes n h lf).unbroken

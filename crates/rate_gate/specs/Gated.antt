@@ -1,5 +1,5 @@
 -- What a source behind a gate shows.
-use Rattle.std.specs.Prelude.{ℕ, Bool, List, [], ◌++◌, Option, None, Some, IfSome}
+use Rattle.std.specs.Prelude.{ℕ, Bool, List, [], ◌++◌, Option, None, Some, IfSome, IsSome}
 use Rattle.pipe_edges.specs.Paces.{PaceSeen}
 use Rattle.pipe_edges.specs.declared.source.ByteSource.{Ghosts as SourceOf}
 use Rattle.rate_gate.specs.Front.{FrontSeen, taken_before, HoldsLast, waits_with}
@@ -25,6 +25,6 @@ abbrev pub paced_by : Option FrontSeen → PaceSeen → PaceSeen
 paced_by None paced = paced
 paced_by (Some front) paced = front.paced
 
--- the last bytes that were read are those that are held
+-- what stands before a source has a pace, and the last bytes that were read are those that are held
 abbrev pub HoldsLastBy : Option FrontSeen → (told : Bool) → (taken : List ℕ) → Type 0
-HoldsLastBy front told taken = IfSome front (λ f. HoldsLast told f.held taken)
+HoldsLastBy front told taken = IfSome front (λ f. IsSome f.paced.pace × HoldsLast told f.held taken)

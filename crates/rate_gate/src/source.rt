@@ -32,6 +32,7 @@ impl<B: ByteSource> Model for GatedSource<B> {
 
 impl<B: ByteSource> GatedSource<B> {
     ghost use Rattle.rate_gate.specs.Fresh.{front_of};
+    ghost use Rattle.rate_gate.specs.Gated.{HoldsLastBy};
 
     /// The source in this gate. For want of memory it comes back as it was. With a gate it takes room for 8,192 bytes here,
     /// and later none.
@@ -58,7 +59,8 @@ impl<B: ByteSource> GatedSource<B> {
 
     /// The source, with all that it counted. Bytes that were read and not given are let go.
     pub fn into_inner(self) -> B
-        ensures { result ≡ self.inner }
+        ensures inner { result ≡ self.inner }
+        ensures holds { HoldsLastBy self.front (B.told self.inner) (B.taken self.inner) }
     {
         let GatedSource { inner, front } = self;
         drop(front);

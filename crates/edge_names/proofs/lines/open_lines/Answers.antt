@@ -1,4 +1,5 @@
 use Rattle.edge_names.proofs.Cuts.{cut_uncalled, cut_empty, cut_returned}
+use Rattle.edge_names.proofs.Gating.{gives_plain}
 use Rattle.edge_names.proofs.lines.open_lines.Goals as goal
 
 pub returns-in_default-clause-cut_off : goal.returns-in_default-clause-cut_off
@@ -10,3 +11,6 @@ returns-in-Ok-open_source-clause-cut_off g c =
 
 pub returns-clause-cut_off : goal.returns-clause-cut_off
 returns-clause-cut_off g c = cut_empty _ _ _ _ _ (rw c.in-Err-OutOfMemory.field-0-is at c.in-Err-OutOfMemory.ensures.opens)
+
+pub returns-in-Ok-clause-gives : goal.returns-in-Ok-clause-gives
+returns-in-Ok-clause-gives g c = gives_plain _ _ _ _ c.in-Ok-open_source.ensures.given c.in-Ok.ensures.lines

@@ -12,4 +12,4 @@ returns-in-Err-clause-opens g c =
     let k = g.E.Sink.ByteSink in
     let seen = edges_seen e.told e.named e.asked e.faults e.sources_back e.sinks_back (source_seen s) (sink_seen k.told k.held k.faults) in
     let table = body_at g.B.Works.look c.args.bodies.now.items in
-    opens_not (Unit {0}) c.in-Err.unopened (Some (Source, c.args.name.now)) c.args.at (seen c.args.edges.now) (seen c.open_lines.new.edges) table table c.in-Err.ensures.failed c.in-Err.ensures.cut_off
+    opens_not (Unit {0}) c.in-Err.unopened (Some (Source, c.args.name.now)) c.args.at (seen c.args.edges.now) (seen c.open_gated.new.edges) table table c.in-Err.ensures.failed c.in-Err.ensures.cut_off

@@ -1,8 +1,9 @@
-use Rattle.std.proofs.Common.{◌+◌, ◌*◌, refl, ◌∙◌, take}
+use Rattle.std.proofs.Common.{◌+◌, ◌*◌, refl, ◌∙◌, take, arith}
 use Rattle.stage_bodies.specs.Seen.{body_at, source_seen, sink_seen}
 use Rattle.stage_laws.proofs.Numbering.{numbered_topology}
 use Rattle.edge_names.specs.Seen.{edges_seen}
 use Rattle.edge_names.specs.Opened.{calls_of, edge_call}
+use Rattle.edge_names.proofs.Gating.{is_shared, some_producer}
 use Rattle.edge_names.proofs.Openings.{asks_nothing, asked_more, here_at, home_still, opened_all, opened_start, opened_turn, some_at}
 use Rattle.edge_names.proofs.Returns.{callbacks_at, callbacks_more, callbacks_same}
 use Rattle.edge_names.proofs.Cuts.{failed_by, cut_off_by}
@@ -97,3 +98,11 @@ returns-clause-opened g c =
     let look = g.B.Works.look in
     opened_all c.args.topology.now c.loop-spec.spec-index (seen c.args.edges.now) (body_at look c.args.bodies.now.items) (body_at look c.loop-spec.bodies.items)
     (rw c.as_slice-spec-items.ensures at c.loop-spec.auto.spec-index-end) (rw c.as_slice-spec-items.ensures at c.loop-spec-test.false) c.loop-spec.invariant.opened
+
+pub open_stage-requires-clause-some : goal.open_stage-requires-clause-some
+open_stage-requires-clause-some g c κs within =
+    let least = some_producer c.args.topology.now c.requires.sound in
+    omega (arith, least, c.count_producers-count.ensures)
+
+pub open_stage-requires-clause-shared : goal.open_stage-requires-clause-shared
+open_stage-requires-clause-shared g c κs within = is_shared c.args.topology.now c.count_producers-count.result c.count_producers-count.ensures c.requires.sound

@@ -9,5 +9,5 @@ returns-in-Some c =
 
 pub returns-in-Some-2 : goal.returns-in-Some-2
 returns-in-Some-2 c =
-    let first = c.in-Some-2.ensures in
-    (search rules, omega (arith, first.0.high), part_of c.args.next.now c.in-Some-2.at first.0 first.1)
+    let first = c.in-Some.ensures in
+    (search rules, omega (arith, first.0.high), part_of c.args.next.now c.in-Some.at first.0 first.1)

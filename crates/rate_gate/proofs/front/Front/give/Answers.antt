@@ -9,12 +9,12 @@ returns-in-Part c =
     let n = c.in-Part.n in
     let most = length c.args.piece.now in
     let held = c.args.self.now.room in
-    let fits : n ≤ most = omega (arith, gift.1.0, length-take most held) in
+    let fits : n ≤ most = omega (arith, gift.1, length-take most held) in
     record {
       given = record {
         some = gift.0;
         fits = fits;
         parts = c.hand.ensures.rest;
-        counts = inl (All-same (λ b. b ≢ 10) _ _ (c.hand.ensures.given ∙ sym (take-take n most held fits)) gift.1.1, refl);
+        counts = inl (All-same (λ b. b ≢ 10) _ _ (c.hand.ensures.given ∙ sym (take-take n most held fits)) gift.2, refl);
       };
     }

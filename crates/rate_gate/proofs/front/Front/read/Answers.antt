@@ -29,7 +29,7 @@ returns-clause-bytes g c = λ t.
           rw (w.self-is, w.source-is)
           (filled_parts c.args.self.now.room (source.taken c.args.source.now) (source.left c.args.source.now) w.fill.new.self (source.taken w.fill.new.source) (source.left w.fill.new.source)
           (none (omega (arith, c.len.ensures, w.if-len-eq0.true))) (w.in-Got.ensures.bytes t))
-      | else-len-eq0 w ↦ rw (w.self-is, w.source-is) (c.requires.last t, refl, refl)
+      | else-len-eq0 w ↦ rw (w.self-is, w.source-is) (c.requires.last t, (refl, refl))
     ]
     in
     given_bytes (length c.args.piece.now) (front_seen c.if-len-eq0.self) (front_seen c.give.new.self) c.give.new.piece c.give.result (source.taken c.if-len-eq0.source) (source.left c.if-len-eq0.source)

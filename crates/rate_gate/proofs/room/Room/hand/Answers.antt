@@ -6,6 +6,6 @@ pub returns-clause-rest : goal.returns-clause-rest
 returns-clause-rest c =
     let i = c.self.inside in
     let inv = c.self.invariant in
-    let held : c.args.n ≤ i.end - i.start = omega (arith, c.requires.held, ap length c.self.view_is, length_of i.bytes.items i.start i.end inv.0 inv.1.0) in
+    let held : c.args.n ≤ i.end - i.start = omega (arith, c.requires.held, ap length c.self.view_is, length_of i.bytes.items i.start i.end inv.0 inv.1) in
     let after = rw c.deref.ensures.value at c.copy_from_slice.ensures.after in
-    sym c.self.view_is ∙ all_parts i.bytes.items c.copy_from_slice.new.self _ i.start i.end c.args.n (omega (arith, held, inv.0)) inv.1.0 after
+    sym c.self.view_is ∙ all_parts i.bytes.items c.copy_from_slice.new.self _ i.start i.end c.args.n (omega (arith, held, inv.0)) inv.1 after

@@ -1,0 +1,220 @@
+-- Laws of gates that are put before sources and taken off again.
+use Rattle.std.proofs.Common.{◌≡◌, ℕ, ◌+◌, ◌*◌, ◌/◌, ◌<◌, ◌≤◌, Bool, true, false, cond, nat_le, ◌==◌, ◌&&◌, get_or, take, length, List, [], ◌∷◌, ◌++◌, refl, ap, sym, ◌∙◌, arith}
+use Rattle.std.specs.Prelude.{Option, Some, None, IsTrue, IsSome, IfSome, Result, Ok, Err, OnOk, OnErr, option_map, filter}
+use Rattle.std.proofs.lemmas.Bool.{leb-true}
+use Rattle.std.proofs.lemmas.List.{append-nil, append_assoc}
+use Rattle.std.proofs.lemmas.List.Filters.{length-filter_more}
+use Rattle.std.proofs.lemmas.Nat.{div_below, le-div}
+use Rattle.pipe_types.specs.Sound.{IsSound, are_limits, batchers, is_control, is_between, is_ordered, is_producer, is_rate, may_begin, may_go_on, producers}
+use Rattle.pipe_types.specs.declared.topology.Rate.{Rate}
+use Rattle.pipe_types.specs.declared.topology.StageSpec.{StageSpec}
+use Rattle.pipe_types.specs.declared.topology.Topology.{Topology}
+use Rattle.pipe_laws.proofs.Tests.{and_left, and_right}
+use Rattle.pipe_edges.specs.Paces.{Pace, unpaced}
+use Rattle.pipe_edges.specs.declared.source.ByteSource.{Ghosts as SourceOf}
+use Rattle.pipe_edges.specs.declared.reading.LineEnd.{LineEnd}
+use Rattle.rate_gate.specs.Fresh.{front_of}
+use Rattle.rate_gate.specs.Front.{FrontSeen}
+use Rattle.rate_gate.specs.Gate.{pace_of, moment_of, given_of}
+use Rattle.rate_gate.specs.Gated.{GatedSeen, HoldsLastBy, taken_by, left_by, waits_by, paced_by}
+use Rattle.rate_gate.specs.declared.gate.Gate.{Gate}
+use Rattle.stage_bodies.specs.Seen.{SourceSeen, SinkSeen, LineSeen, source_seen}
+use Rattle.edge_names.specs.Seen.{EdgesSeen}
+use Rattle.edge_names.specs.Named.{GivesSource, BacksSink, BacksSource}
+use Rattle.edge_names.specs.Gates.{AreInner, IsGated, IsInner, IsShared, at_start, without_gate}
+use Rattle.edge_names.specs.Opened.{GivesLines, fresh_lines}
+use Rattle.edge_names.specs.Returned.{GivesBack}
+
+-- ---- taken off
+
+inner_same : (source : SourceSeen) → IsInner source source
+inner_same source = record { same_telling = refl; same_bytes = λ t. refl; same_faults = refl; own_waits = omega arith; same = λ none. refl }
+
+pub inner_more : (gs is hs js : List (List ℕ × SourceSeen)) → AreInner gs is → AreInner hs js → AreInner (gs ++ hs) (is ++ js)
+inner_more [] [] hs js h k = k
+inner_more (g ∷ gs) (i ∷ is) hs js h k = (h.0, h.1, inner_more gs is hs js h.2 k)
+inner_more [] (i ∷ is) hs js h k = absurd h
+inner_more (g ∷ gs) [] hs js h k = absurd h
+
+-- a source went back under its name, out of its gate
+back_inner : (name : List ℕ) (gated inner : SourceSeen) (a b : EdgesSeen) → IsInner gated inner → b.told ≡ a.told → (IsTrue a.told → b.asked ≡ a.asked) → b.sources_back ≡ a.sources_back ++ (name, inner) ∷ []
+    → b.sinks_back ≡ a.sinks_back → b.faults ≡ a.faults → GivesBack ((name, gated) ∷ []) [] a b
+back_inner name gated inner a b is told asked sources sinks faults = record {
+  same_telling = told;
+  asked = asked;
+  inner = (name, inner) ∷ [];
+  ungated = (refl, is, tt);
+  back_sources = sources;
+  back_sinks = sinks ∙ sym (append-nil a.sinks_back);
+  no_fault = faults;
+}
+
+pub gated_back : {T E : Type 0} (r : Result T E) (name : List ℕ) (gated inner : SourceSeen) (a b : EdgesSeen) → IsInner gated inner → BacksSource name inner a b r → OnOk r (GivesBack ((name, gated) ∷ []) [] a b)
+gated_back (Ok done) name gated inner a b is h = back_inner name gated inner a b is h.same_telling h.asked h.sources h.sinks h.no_fault
+gated_back (Err error) name gated inner a b is h = tt
+
+-- one without a gate goes back as it was
+pub plain_back : {T E : Type 0} (r : Result T E) (name : List ℕ) (source : SourceSeen) (a b : EdgesSeen) → BacksSource name source a b r → OnOk r (GivesBack ((name, source) ∷ []) [] a b)
+plain_back r name source a b h = gated_back r name source source a b (inner_same source) h
+
+pub sink_back : {T E : Type 0} (r : Result T E) (name : List ℕ) (sink : SinkSeen) (a b : EdgesSeen) → BacksSink name sink a b r → OnOk r (GivesBack [] ((name, sink) ∷ []) a b)
+sink_back (Ok done) name sink a b h = record {
+  same_telling = h.same_telling;
+  asked = h.asked;
+  inner = [];
+  ungated = tt;
+  back_sources = h.sources ∙ sym (append-nil a.sources_back);
+  back_sinks = h.sinks;
+  no_fault = h.no_fault;
+}
+sink_back (Err error) name sink a b h = tt
+
+none_back : (a b : EdgesSeen) → b.told ≡ a.told → (IsTrue a.told → b.asked ≡ a.asked) → b.sources_back ≡ a.sources_back → b.sinks_back ≡ a.sinks_back → b.faults ≡ a.faults → GivesBack [] [] a b
+none_back a b told asked sources sinks faults = record {
+  same_telling = told;
+  asked = asked;
+  inner = [];
+  ungated = tt;
+  back_sources = sources ∙ sym (append-nil a.sources_back);
+  back_sinks = sinks ∙ sym (append-nil a.sinks_back);
+  no_fault = faults;
+}
+
+pub source_stuck : {T E : Type 0} (r : Result T E) (name : List ℕ) (source : SourceSeen) (a b : EdgesSeen) → BacksSource name source a b r → OnErr r (GivesBack [] [] a b)
+source_stuck (Ok done) name source a b h = tt
+source_stuck (Err error) name source a b h = none_back a b h.same_telling h.asked h.sources h.sinks h.no_fault
+
+pub sink_stuck : {T E : Type 0} (r : Result T E) (name : List ℕ) (sink : SinkSeen) (a b : EdgesSeen) → BacksSink name sink a b r → OnErr r (GivesBack [] [] a b)
+sink_stuck (Ok done) name sink a b h = tt
+sink_stuck (Err error) name sink a b h = none_back a b h.same_telling h.asked h.sources h.sinks h.no_fault
+
+-- what is seen of a source in its gate
+abbrev gated_seen : {S : Type 0} → SourceOf S → GatedSeen S → SourceSeen
+gated_seen source g = record {
+  told = source.told g.inner;
+  taken = taken_by g.front (source.taken g.inner);
+  left = left_by g.front (source.left g.inner);
+  faults = source.faults g.inner;
+  waits = waits_by g.front (source.waits g.inner);
+  paced = paced_by g.front (source.paced g.inner);
+}
+
+pub taken_off : {S : Type 0} (source : SourceOf S) (g : GatedSeen S) (inner : S) → inner ≡ g.inner → HoldsLastBy g.front (source.told g.inner) (source.taken g.inner) → IsInner (gated_seen source g) (source_seen source inner)
+taken_off source g inner is holds = rw is (by g.front holds)
+  where
+    by : (front : Option FrontSeen) → HoldsLastBy front (source.told g.inner) (source.taken g.inner) → IsInner (gated_seen source (record { inner = g.inner; front = front })) (source_seen source g.inner)
+    by None h = record { same_telling = refl; same_bytes = λ t. refl; same_faults = refl; own_waits = omega arith; same = λ none. refl }
+    by (Some f) h = record {
+      same_telling = refl;
+      same_bytes = λ t. ap (λ x. x ++ source.left g.inner) (h.1 t) ∙ append_assoc _ f.held (source.left g.inner);
+      same_faults = refl;
+      own_waits = omega arith;
+      same = λ none. absurd (no_pace f.paced.pace h.0 none);
+    }
+
+    no_pace : (pace : Option Pace) → IsSome pace → pace ≡ None → ⊥
+    no_pace (Some pace) some none = cc
+    no_pace None some none = cc
+
+-- ---- put before
+
+pub gives_plain : (edges : EdgesSeen) (name : List ℕ) (source : SourceSeen) (lines : LineSeen) → GivesSource edges name source → lines ≡ fresh_lines source → GivesLines edges name lines
+gives_plain edges name source lines gives is = rw is (record {
+  source = record {
+    nothing_taken = gives.nothing_taken;
+    no_fault = gives.no_fault;
+    no_wait = gives.no_wait;
+    no_pace = refl;
+    given = gives.given;
+  };
+  fresh_gate = rw gives.no_pace refl;
+  nothing_waits = refl;
+  no_end = refl;
+})
+
+pub gives_gated : (edges : EdgesSeen) (name : List ℕ) (pace : Option Pace) (source : SourceSeen) (lines : LineSeen) → GivesSource edges name source → IsGated pace source lines → GivesLines edges name lines
+gives_gated edges name pace source lines gives is =
+    let paced : lines.source.paced ≡ at_start pace = is.paced gives.no_pace in
+    record {
+      source = record {
+        nothing_taken = is.taken gives.nothing_taken;
+        no_fault = is.faults ∙ gives.no_fault;
+        no_wait = is.waits gives.no_wait;
+        no_pace = refl;
+        given = λ t. let both = gives.given t in (rw is.told both.0, is.left ∙ both.1);
+      };
+      fresh_gate = rw paced refl;
+      nothing_waits = is.nothing_waits;
+      no_end = is.no_end;
+    }
+
+pub gated_is : {S : Type 0} (source : SourceOf S) (gate : Option Gate) (s : S) (g : GatedSeen S) (waiting : List ℕ) (end : Option LineEnd) → IfSome gate (λ x. (moment_of x ≡ 0) × (given_of x ≡ 0)) → g.inner ≡ s → g.front ≡ option_map front_of gate
+    → waiting ≡ [] → end ≡ None → IsGated (option_map pace_of gate) (source_seen source s) (record { source = gated_seen source g; waiting = waiting; end = end })
+gated_is source None s g waiting end begun inner front none_waits no_end =
+    rw (front, inner) (record { told = refl; taken = λ h. h; left = refl; faults = refl; waits = λ h. h; paced = λ h. h; nothing_waits = none_waits; no_end = no_end })
+gated_is source (Some gate) s g waiting end begun inner front none_waits no_end =
+    rw (front, inner) (record {
+      told = refl;
+      taken = λ h. rw h refl;
+      left = refl;
+      faults = refl;
+      waits = λ h. omega (arith, h);
+      paced = λ h. rw (begun.0, begun.1) refl;
+      nothing_waits = none_waits;
+      no_end = no_end;
+    })
+
+-- ---- shares
+
+pub share_low : (allowed count : ℕ) → 1 ≤ count → allowed ≤ 1000000 → allowed / count ≤ 1000000
+share_low allowed count some low =
+    let below : allowed / count < 1000001 = div_below allowed count 1000001 (omega (arith, some)) (omega (arith, some, low)) in
+    omega (arith, below)
+
+pub share_least : (allowed count : ℕ) → 1 ≤ count → count ≤ allowed → 1 ≤ allowed / count
+share_least allowed count some enough = le-div 1 allowed count (omega (arith, some)) (omega (arith, enough))
+
+pub count_turn : (xs : List StageSpec) (n : ℕ) (spec : StageSpec) (count more : ℕ) → n < length xs → spec ≡ get_or xs n spec → count ≡ length (producers (take n xs)) → more ≡ cond (is_producer spec.role) 1 0
+    → count + more ≡ length (producers (take (n + 1) xs))
+count_turn xs n spec count more within is so_far one =
+    let step = length-filter_more (λ (s : StageSpec). is_producer s.role) xs n spec within in
+    let one' : more ≡ cond (is_producer (get_or xs n spec).role) 1 0 = one ∙ ap (λ (s : StageSpec). cond (is_producer s.role) 1 0) is in
+    omega (arith, so_far, one', step)
+
+-- there is a producer
+pub some_producer : (topology : Topology) → IsSound topology → 1 ≤ length (producers topology.stages)
+some_producer topology sound = by topology.stages sound.ordered
+  where
+    by : (stages : List StageSpec) → is_ordered stages ≡ true → 1 ≤ length (producers stages)
+    by [] h = cc
+    by (s ∷ rest) h =
+        let begins : may_begin s ≡ true = and_left (may_begin s) (may_go_on (length (batchers (s ∷ rest))) s rest) h in
+        let rest_of : (is_producer s.role && s.index == 0) ≡ true = and_right (s.no.0 == 1) (is_producer s.role && s.index == 0) begins in
+        let role : is_producer s.role ≡ true = and_left (is_producer s.role) (s.index == 0) rest_of in
+        let first : length (producers (s ∷ rest)) ≡ length (producers rest) + 1 = rw role refl in
+        omega (arith, first)
+
+-- the rate has enough for each of them
+pub is_shared : (topology : Topology) (count : ℕ) → count ≡ length (producers topology.stages) → IsSound topology → IfSome topology.rate (IsShared count)
+is_shared topology count is sound =
+    let n : ℕ = length (producers topology.stages) in
+    let limits : Bool = is_between 1 2000000 topology.record_limit && is_between 1 536870912 topology.byte_limit in
+    let idle : Bool = nat_le topology.idle_limit 1000000 && is_control topology.control in
+    let all = and_right (are_limits topology.limits topology.stages) (idle && (limits && is_rate n topology.rate)) sound.settings in
+    by topology.rate (and_right limits (is_rate n topology.rate) (and_right idle (limits && is_rate n topology.rate) all))
+  where
+    by : (rate : Option Rate) → is_rate (length (producers topology.stages)) rate ≡ true → IfSome rate (IsShared count)
+    by None h = tt
+    by (Some rate) h =
+        let n : ℕ = length (producers topology.stages) in
+        let allowed : Bool = is_between 1 1000000 rate.allowed in
+        let interval : Bool = is_between 1 3600000 rate.interval in
+        let numbers : (allowed && nat_le n rate.allowed) ≡ true = and_left (allowed && nat_le n rate.allowed) interval h in
+        let time : interval ≡ true = and_right (allowed && nat_le n rate.allowed) interval h in
+        let enough : n ≤ rate.allowed = leb-true n rate.allowed (and_right allowed (nat_le n rate.allowed) numbers) in
+        let between : allowed ≡ true = and_left allowed (nat_le n rate.allowed) numbers in
+        record {
+          enough = omega (arith, is, enough);
+          low = leb-true rate.allowed 1000000 (and_right (nat_le 1 rate.allowed) (nat_le rate.allowed 1000000) between);
+          some = leb-true 1 rate.interval (and_left (nat_le 1 rate.interval) (nat_le rate.interval 3600000) time);
+        }

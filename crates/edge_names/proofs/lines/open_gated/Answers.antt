@@ -1,0 +1,20 @@
+use Rattle.std.proofs.Common.{refl}
+use Rattle.edge_names.proofs.Cuts.{cut_uncalled, cut_empty, cut_returned}
+use Rattle.edge_names.proofs.Gating.{gives_gated}
+use Rattle.edge_names.proofs.lines.open_gated.Goals as goal
+
+pub returns-in_default-clause-cut_off : goal.returns-in_default-clause-cut_off
+returns-in_default-clause-cut_off g c = cut_uncalled _ _
+
+pub returns-in-Ok-clause-gives : goal.returns-in-Ok-clause-gives
+returns-in-Ok-clause-gives g c = gives_gated _ _ _ _ _ c.in-Ok-open_source.ensures.given c.in-Ok.ensures.lines
+
+pub returns-in-Ok-clause-pace : goal.returns-in-Ok-clause-pace
+returns-in-Ok-clause-pace g c = rw (c.in-Ok.ensures.lines.paced c.in-Ok-open_source.ensures.given.no_pace) refl
+
+pub returns-in-Ok-open_source-clause-cut_off : goal.returns-in-Ok-open_source-clause-cut_off
+returns-in-Ok-open_source-clause-cut_off g c =
+    cut_returned _ _ _ _ _ c.in-Ok-open_source.source c.in-Ok-open_source.ensures.opens c.in-Ok-open_source.ensures.given c.in-Err.ensures.returned
+
+pub returns-clause-cut_off : goal.returns-clause-cut_off
+returns-clause-cut_off g c = cut_empty _ _ _ _ _ (rw c.in-Err-OutOfMemory.field-0-is at c.in-Err-OutOfMemory.ensures.opens)
