@@ -7,6 +7,7 @@ use Rattle.pipe_types.specs.Sound.{numbered_name}
 use Rattle.config_settings.specs.declared.settings.BatcherSettings.{BatcherSettings}
 use Rattle.config_judge.specs.Judge.{batch_processor_count}
 use Rattle.config_build.specs.Build.{places, batch_processor_stage, batch_processor_stages}
+use Rattle.config_build.specs.Limits.{limit_place, next_place}
 
 -- one more place of a group
 pub place_step : (f : ℕ → StageSpec) (stages : List StageSpec) (stage : StageSpec) (i n : ℕ) → i < n → stage ≡ f i
@@ -16,10 +17,10 @@ place_step f stages stage i n below is =
     rw (more, is) (append_assoc stages (f i ∷ []) (map f (places (i + 1) (n - (i + 1)))))
 
 -- one more group of batch processors
-pub group_step : (batchers : List BatcherSettings) (b : BatcherSettings) (before i : ℕ) (stages : List StageSpec) → i < length batchers → b ≡ get_or batchers i b
-    → (stages ++ map (batch_processor_stage i b before) (places 0 b.concurrency)) ++ batch_processor_stages (before + b.concurrency) (i + 1) (drop (i + 1) batchers) ≡ stages ++ batch_processor_stages before i (drop i batchers)
-group_step batchers b before i stages below at =
-    rw (drop_more batchers i b below, ← at) (append_assoc stages (map (batch_processor_stage i b before) (places 0 b.concurrency)) (batch_processor_stages (before + b.concurrency) (i + 1) (drop (i + 1) batchers)))
+pub group_step : (batchers : List BatcherSettings) (b : BatcherSettings) (before next i : ℕ) (stages : List StageSpec) → i < length batchers → b ≡ get_or batchers i b
+    → (stages ++ map (batch_processor_stage i b before (limit_place next b.limit)) (places 0 b.concurrency)) ++ batch_processor_stages (before + b.concurrency) (next_place next b.limit) (i + 1) (drop (i + 1) batchers) ≡ stages ++ batch_processor_stages before next i (drop i batchers)
+group_step batchers b before next i stages below at =
+    rw (drop_more batchers i b below, ← at) (append_assoc stages (map (batch_processor_stage i b before (limit_place next b.limit)) (places 0 b.concurrency)) (batch_processor_stages (before + b.concurrency) (next_place next b.limit) (i + 1) (drop (i + 1) batchers)))
 
 pub group_count : (batchers : List BatcherSettings) (b : BatcherSettings) (i : ℕ) → i < length batchers → b ≡ get_or batchers i b
     → batch_processor_count (drop i batchers) ≡ b.concurrency + batch_processor_count (drop (i + 1) batchers)

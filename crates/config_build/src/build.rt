@@ -1,10 +1,12 @@
 //! The stages of a topology in their order.
 
-ghost use Rattle.std.specs.Prelude.{◌≡◌, ◌<◌, ◌≤◌, ◌^◌, ◌++◌, length, map, IfOk, OnOk};
+ghost use Rattle.std.specs.Prelude.{◌≡◌, ◌+◌, ◌<◌, ◌≤◌, ◌^◌, ◌++◌, length, map, IfOk, OnOk};
 ghost use Rattle.std.specs.Option.{ForSome};
 ghost use Rattle.config_judge.specs.Judge as judge;
 ghost use Rattle.config_build.specs.Build as build;
+ghost use Rattle.config_build.specs.Limits as limits;
 
+use crate::limit::{limit_place, limits_of, next_place};
 use crate::stage::{
     batch_processor_stage, batcher_stage, processor_stage, producer_stage, supervisor_stage,
 };
@@ -14,24 +16,32 @@ use config_settings::settings::{
 };
 use config_table::fault::copied;
 use pipe_types::bytes::Text;
-use pipe_types::topology::{LimitList, RestartLimit, StageList, StageSpec, Topology};
+use pipe_types::topology::{StageList, StageSpec, Topology};
 use std::alloc::{AllocError, Global};
 
+/// Pushes the producers, whose limits stand from this place on, and answers the place behind these.
 fn push_producers(
     alloc: Global,
     stages: &mut Vec<StageSpec>,
     field: Option<u32>,
     parts: u32,
+    next: u16,
     producers: &[ProducerSettings],
-) -> Result<(), AllocError>
+) -> Result<u16, AllocError>
     requires few { length producers.now ≤ 64 }
     requires field { ForSome field (λ n. n < 2 ^ 16) }
-    ensures { OnOk result (stages.new.items ≡ stages.old.items ++ build.producer_stages field parts 0 producers.now) }
+    requires next { next ≤ 64 }
+    ensures stages { OnOk result (stages.new.items ≡ stages.old.items ++ build.producer_stages field parts next 0 producers.now) }
+    ensures next { IfOk result (λ behind. behind ≡ limits.places_after next (limits.producer_limits producers.now)) }
+    ensures most { IfOk result (λ behind. behind ≤ next + length producers.now) }
 {
+    let mut next = next;
     for (i, producer) in producers.iter().enumerate() {
-        stages.push(producer_stage(alloc, field, parts, i as u16, producer)?)?;
+        let limit = limit_place(next, producer.limit);
+        stages.push(producer_stage(alloc, field, parts, limit, i as u16, producer)?)?;
+        next = next_place(next, producer.limit);
     }
-    Ok(())
+    Ok(next)
 }
 
 #[tactic(auto, using(crate::proofs::Stages::place_step))]
@@ -40,16 +50,17 @@ fn push_processors(
     stages: &mut Vec<StageSpec>,
     known: &[Text],
     before: u16,
+    limit: u16,
     processors: &ProcessorSettings,
 ) -> Result<(), AllocError>
     requires before { before ≤ 64 }
     requires few { processors.now.concurrency ≤ 64 }
     requires known { length known.now ≤ 64 }
-    ensures { OnOk result (stages.new.items ≡ stages.old.items ++ map (build.processor_stage known.now processors.now before) (build.places 0 processors.now.concurrency)) }
+    ensures { OnOk result (stages.new.items ≡ stages.old.items ++ map (build.processor_stage known.now processors.now before limit) (build.places 0 processors.now.concurrency)) }
 {
     let count = processors.concurrency;
     for i in 0..count {
-        stages.push(processor_stage(alloc, known, processors, before, i as u16)?)?;
+        stages.push(processor_stage(alloc, known, processors, before, limit, i as u16)?)?;
     }
     Ok(())
 }
@@ -59,16 +70,20 @@ fn push_processor_group(
     stages: &mut Vec<StageSpec>,
     known: &[Text],
     before: u16,
+    next: u16,
     processors: &Option<ProcessorSettings>,
 ) -> Result<(), AllocError>
     requires before { before ≤ 64 }
     requires few { judge.processor_count processors.now ≤ 64 }
     requires known { length known.now ≤ 64 }
-    ensures { OnOk result (stages.new.items ≡ stages.old.items ++ build.processor_stages known.now before processors.now) }
+    ensures { OnOk result (stages.new.items ≡ stages.old.items ++ build.processor_stages known.now before next processors.now) }
 {
     match processors {
         None => Ok(()),
-        Some(processors) => push_processors(alloc, stages, known, before, processors),
+        Some(processors) => {
+            let limit = limit_place(next, processors.limit);
+            push_processors(alloc, stages, known, before, limit, processors)
+        }
     }
 }
 
@@ -76,13 +91,15 @@ fn push_supervisor(
     alloc: Global,
     stages: &mut Vec<StageSpec>,
     before: u16,
+    next: u16,
     supervisor: &Option<SupervisorSettings>,
 ) -> Result<(), AllocError>
     requires { before ≤ 64 }
-    ensures { OnOk result (stages.new.items ≡ stages.old.items ++ build.supervisor_stages before supervisor.now) }
+    ensures { OnOk result (stages.new.items ≡ stages.old.items ++ build.supervisor_stages before next supervisor.now) }
 {
     if let Some(supervisor) = supervisor {
-        stages.push(supervisor_stage(alloc, before, supervisor)?)?;
+        let limit = limit_place(next, supervisor.limit);
+        stages.push(supervisor_stage(alloc, before, limit, supervisor)?)?;
     }
     Ok(())
 }
@@ -91,14 +108,19 @@ fn push_batchers(
     alloc: Global,
     stages: &mut Vec<StageSpec>,
     before: u16,
+    next: u16,
     batchers: &[BatcherSettings],
 ) -> Result<(), AllocError>
     requires before { before ≤ 128 }
     requires few { length batchers.now ≤ 64 }
-    ensures { OnOk result (stages.new.items ≡ stages.old.items ++ build.batcher_stages before 0 batchers.now) }
+    requires next { next ≤ 256 }
+    ensures { OnOk result (stages.new.items ≡ stages.old.items ++ build.batcher_stages before next 0 batchers.now) }
 {
+    let mut next = next;
     for (i, batcher) in batchers.iter().enumerate() {
-        stages.push(batcher_stage(alloc, before, i as u16, batcher)?)?;
+        let limit = limit_place(next, batcher.limit);
+        stages.push(batcher_stage(alloc, before, limit, i as u16, batcher)?)?;
+        next = next_place(next, batcher.limit);
     }
     Ok(())
 }
@@ -108,38 +130,69 @@ fn push_batch_processors(
     alloc: Global,
     stages: &mut Vec<StageSpec>,
     before: u16,
+    limit: u16,
     number: u16,
     batcher: &BatcherSettings,
 ) -> Result<(), AllocError>
     requires before { before ≤ 256 }
     requires few { batcher.now.concurrency ≤ 64 }
-    ensures { OnOk result (stages.new.items ≡ stages.old.items ++ map (build.batch_processor_stage number batcher.now before) (build.places 0 batcher.now.concurrency)) }
+    ensures { OnOk result (stages.new.items ≡ stages.old.items ++ map (build.batch_processor_stage number batcher.now before limit) (build.places 0 batcher.now.concurrency)) }
 {
     let count = batcher.concurrency;
     for i in 0..count {
-        stages.push(batch_processor_stage(alloc, number, batcher, before, i as u16)?)?;
+        stages.push(batch_processor_stage(alloc, number, batcher, before, limit, i as u16)?)?;
     }
     Ok(())
 }
 
+/// Pushes the batch processors, each with the limit of its batcher.
 #[tactic(auto, using(crate::proofs::Stages::group_step))]
 fn push_batch_processor_groups(
     alloc: Global,
     stages: &mut Vec<StageSpec>,
     before: u16,
+    next: u16,
     batchers: &[BatcherSettings],
 ) -> Result<(), AllocError>
     requires before { before ≤ 192 }
     requires few { length batchers.now ≤ 64 }
     requires members { judge.batch_processor_count batchers.now ≤ 64 }
-    ensures { OnOk result (stages.new.items ≡ stages.old.items ++ build.batch_processor_stages before 0 batchers.now) }
+    requires next { next ≤ 256 }
+    ensures { OnOk result (stages.new.items ≡ stages.old.items ++ build.batch_processor_stages before next 0 batchers.now) }
 {
     let mut before = before;
+    let mut next = next;
     for (i, batcher) in batchers.iter().enumerate() {
-        push_batch_processors(alloc, stages, before, i as u16, batcher)?;
+        let limit = limit_place(next, batcher.limit);
+        push_batch_processors(alloc, stages, before, limit, i as u16, batcher)?;
         before += batcher.concurrency as u16;
+        next = next_place(next, batcher.limit);
     }
     Ok(())
+}
+
+/// The place of the limits behind that of processors.
+fn behind_processors(next: u16, processors: &Option<ProcessorSettings>) -> u16
+    requires { next ≤ 128 }
+    ensures place { result ≡ limits.places_after next (limits.processor_limits processors.now) }
+    ensures most { result ≤ next + 1 }
+{
+    match processors {
+        None => next,
+        Some(processors) => next_place(next, processors.limit),
+    }
+}
+
+/// The place of the limits behind that of a supervisor.
+fn behind_supervisor(next: u16, supervisor: &Option<SupervisorSettings>) -> u16
+    requires { next ≤ 129 }
+    ensures place { result ≡ limits.places_after next (limits.supervisor_limits supervisor.now) }
+    ensures most { result ≤ next + 1 }
+{
+    match supervisor {
+        None => next,
+        Some(supervisor) => next_place(next, supervisor.limit),
+    }
 }
 
 fn processor_count(processors: &Option<ProcessorSettings>) -> u32
@@ -181,17 +234,20 @@ fn stages_of(alloc: Global, settings: &Settings) -> Result<StageList, AllocError
     let third = second + batchers.len() as u16;
     let field = partition_field(&settings.processors);
     let mut stages = Vec::new(alloc);
-    push_producers(alloc, &mut stages, field, count, producers)?;
+    let second_limit = push_producers(alloc, &mut stages, field, count, 1, producers)?;
+    let third_limit = behind_processors(second_limit, &settings.processors);
+    let fourth_limit = behind_supervisor(third_limit, &settings.supervisor);
     push_processor_group(
         alloc,
         &mut stages,
         known.as_slice(),
         first,
+        second_limit,
         &settings.processors,
     )?;
-    push_supervisor(alloc, &mut stages, first, &settings.supervisor)?;
-    push_batchers(alloc, &mut stages, second, batchers)?;
-    push_batch_processor_groups(alloc, &mut stages, third, batchers)?;
+    push_supervisor(alloc, &mut stages, first, third_limit, &settings.supervisor)?;
+    push_batchers(alloc, &mut stages, second, fourth_limit, batchers)?;
+    push_batch_processor_groups(alloc, &mut stages, third, fourth_limit, batchers)?;
     Ok(StageList::from_vec(stages))
 }
 
@@ -202,19 +258,6 @@ fn copy_of(alloc: Global, text: &Option<Text>) -> Result<Option<Text>, AllocErro
         Some(text) => Some(copied(alloc, text.as_str())?),
         None => None,
     })
-}
-
-/// The one limit on restarts, which all stages share.
-fn limits_of(alloc: Global, settings: &Settings) -> Result<LimitList, AllocError>
-    ensures { IfOk result (λ limits. limits ≡ build.limits_of settings.now) }
-{
-    let window_ms = u64::from(settings.max_seconds) * 1000;
-    let mut limits = Vec::new(alloc);
-    limits.push(RestartLimit {
-        max_restarts: settings.max_restarts,
-        window_ms,
-    })?;
-    Ok(LimitList::from_vec(limits))
 }
 
 /// The topology of settings of at most 64 stages.
@@ -230,8 +273,8 @@ pub fn build_topology(alloc: Global, settings: &Settings) -> Result<Topology, Al
         stages,
         limits,
         idle_limit: settings.idle_limit,
-        record_limit: 200_000,
-        byte_limit: 67_108_864,
+        record_limit: settings.record_limit,
+        byte_limit: u64::from(settings.byte_limit),
         control,
         rate: None,
     })

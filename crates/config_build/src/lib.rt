@@ -3,4 +3,5 @@
 #![tactic(auto)]
 
 pub mod build;
+pub mod limit;
 pub mod stage;

@@ -105,12 +105,13 @@ pub fn producer_stage(
     alloc: Global,
     field: Option<u32>,
     parts: u32,
+    limit: u16,
     index: u16,
     producer: &ProducerSettings,
 ) -> Result<StageSpec, AllocError>
     requires few { index + 1 < 2 ^ 16 }
     requires field { ForSome field (λ n. n < 2 ^ 16) }
-    ensures { IfOk result (λ stage. stage ≡ build.producer_stage field parts index producer.now) }
+    ensures { IfOk result (λ stage. stage ≡ build.producer_stage field parts limit index producer.now) }
 {
     let name = copied(alloc, producer.name.as_str())?;
     let source = copied(alloc, producer.source.as_str())?;
@@ -122,6 +123,7 @@ pub fn producer_stage(
     stage.keep = producer.keep;
     stage.push = producer.push;
     stage.edge = Some(source);
+    stage.limit = limit;
     Ok(stage)
 }
 
@@ -141,11 +143,12 @@ pub fn processor_stage(
     known: &[Text],
     processors: &ProcessorSettings,
     before: u16,
+    limit: u16,
     index: u16,
 ) -> Result<StageSpec, AllocError>
     requires few { before + index + 1 < 2 ^ 16 }
     requires known { length known.now < 2 ^ 16 }
-    ensures { IfOk result (λ stage. stage ≡ build.processor_stage known.now processors.now before index) }
+    ensures { IfOk result (λ stage. stage ≡ build.processor_stage known.now processors.now before limit index) }
 {
     let name = member_name(alloc, "processors", index)?;
     let rules = rules_of(alloc, known, processors.handler.steps.as_slice())?;
@@ -160,6 +163,7 @@ pub fn processor_stage(
     stage.dispatch = dispatch_to(count);
     stage.parts = u32::from(count);
     stage.batchers = count;
+    stage.limit = limit;
     Ok(stage)
 }
 
@@ -167,10 +171,11 @@ pub fn processor_stage(
 pub fn supervisor_stage(
     alloc: Global,
     before: u16,
+    limit: u16,
     supervisor: &SupervisorSettings,
 ) -> Result<StageSpec, AllocError>
     requires { before + 1 < 2 ^ 16 }
-    ensures { IfOk result (λ stage. stage ≡ build.supervisor_stage before supervisor.now) }
+    ensures { IfOk result (λ stage. stage ≡ build.supervisor_stage before limit supervisor.now) }
 {
     let name = copied(alloc, "supervisor")?;
     let rules = rules_of(alloc, &[], supervisor.handler.steps.as_slice())?;
@@ -182,6 +187,7 @@ pub fn supervisor_stage(
     stage.rules = rules;
     stage.failed = supervisor.handler.failed;
     stage.child = supervisor.restart;
+    stage.limit = limit;
     Ok(stage)
 }
 
@@ -199,11 +205,12 @@ fn parts_of(dispatch: Dispatch, count: u32) -> u32
 pub fn batcher_stage(
     alloc: Global,
     before: u16,
+    limit: u16,
     index: u16,
     batcher: &BatcherSettings,
 ) -> Result<StageSpec, AllocError>
     requires { before + index + 1 < 2 ^ 16 }
-    ensures { IfOk result (λ stage. stage ≡ build.batcher_stage before index batcher.now) }
+    ensures { IfOk result (λ stage. stage ≡ build.batcher_stage before limit index batcher.now) }
 {
     let name = copied(alloc, batcher.name.as_str())?;
     let dispatch = batcher.dispatch.unwrap_or(Dispatch::Demand);
@@ -216,6 +223,7 @@ pub fn batcher_stage(
     stage.max = batcher.demand.max;
     stage.batch_size = batcher.batch_size;
     stage.batch_timeout = u64::from(batcher.batch_timeout);
+    stage.limit = limit;
     Ok(stage)
 }
 
@@ -258,10 +266,11 @@ pub fn batch_processor_stage(
     number: u16,
     batcher: &BatcherSettings,
     before: u16,
+    limit: u16,
     index: u16,
 ) -> Result<StageSpec, AllocError>
     requires { before + index + 1 < 2 ^ 16 }
-    ensures { IfOk result (λ stage. stage ≡ build.batch_processor_stage number batcher.now before index) }
+    ensures { IfOk result (λ stage. stage ≡ build.batch_processor_stage number batcher.now before limit index) }
 {
     let name = member_name(alloc, batcher.name.as_str(), index)?;
     let rules = rules_of(alloc, &[], batcher.handler.steps.as_slice())?;
@@ -276,5 +285,6 @@ pub fn batch_processor_stage(
     stage.failed = batcher.handler.failed;
     stage.edge = edge;
     stage.select = select;
+    stage.limit = limit;
     Ok(stage)
 }

@@ -14,6 +14,7 @@ use Rattle.config_build.specs.Build.{topology_in}
 use Rattle.pipe_config.specs.Fit.{IsFit}
 use Rattle.pipe_config.proofs.Built.{built_is_sound}
 use Rattle.config_table.specs.declared.format.Section.TheVariants.{Processors, Producer}
+use Rattle.config_table.specs.declared.format.FileVersion.TheVariants.{One}
 use Rattle.config_table.specs.Walk.{faults_of, table_faults, each_faults}
 use Rattle.pipe_config.specs.File.{judged, topology_of}
 use Rattle.config_flow.specs.Flow.{flow_settings, flow_topology_of, flow_table, processors_table, producer_table}
@@ -34,7 +35,7 @@ settings_give_flow source prefix = rw (require_rule prefix, decimal_digit 0 (ome
 
 -- they fit the format, and no fault names one of them
 settings_fit : (source prefix : List ℕ) → IsFit (flow_settings source prefix)
-settings_fit source prefix = record { producers = search; processors = search; supervisor = search; batchers = search; pipeline = search }
+settings_fit source prefix = record { producers = search; processors = search; supervisor = search; batchers = search; pipeline = search; limits = search; sizes = search }
 
 no_fault : (source prefix : List ℕ) → faults_in (flow_settings source prefix) ≡ []
 no_fault source prefix = rw (require_rule prefix)
@@ -53,13 +54,13 @@ sound_answer source prefix s (Ok t) is built = subst IsSound (sym (built ∙ ap 
 sound_answer source prefix s (Err e) is built = tt
 
 -- no place of the file's table is at fault
-rule_part : (prefix : List ℕ) → table_faults Processors (codes "processors") (Some (processors_table prefix)) ≡ []
+rule_part : (prefix : List ℕ) → table_faults One Processors (codes "processors") (Some (processors_table prefix)) ≡ []
 rule_part prefix = rw (require_rule prefix)
 
-producer_part : (source : List ℕ) → is_between 1 4096 (length source) ≡ true → each_faults Producer (codes "producer") 0 (item (table (producer_table source)) no_items) ≡ []
+producer_part : (source : List ℕ) → is_between 1 4096 (length source) ≡ true → each_faults One Producer (codes "producer") 0 (item (table (producer_table source)) no_items) ≡ []
 producer_part source h = rw h
 
-table_has_no_fault : (source prefix : List ℕ) → is_between 1 4096 (length source) ≡ true → faults_of (flow_table source prefix) ≡ []
+table_has_no_fault : (source prefix : List ℕ) → is_between 1 4096 (length source) ≡ true → faults_of One (flow_table source prefix) ≡ []
 table_has_no_fault source prefix h = rw (rule_part prefix, producer_part source h)
 
 judged_flow : (source prefix : List ℕ) → judged (flow_settings source prefix) ≡ Ok (flow_topology_of source prefix)
@@ -68,5 +69,5 @@ judged_flow source prefix = rw (no_fault source prefix, settings_give_flow sourc
 pub flow_of_file : (source prefix : List ℕ) → 1 ≤ length source → length source ≤ 4096 → topology_of (flow_table source prefix) ≡ Ok (flow_topology_of source prefix)
 flow_of_file source prefix given short =
     let h : is_between 1 4096 (length source) ≡ true = grind (arith, nat_tests) in
-    let e : faults_of (flow_table source prefix) ≡ [] = table_has_no_fault source prefix h in
+    let e : faults_of One (flow_table source prefix) ≡ [] = table_has_no_fault source prefix h in
     rw e (judged_flow source prefix)

@@ -10,6 +10,7 @@ use Rattle.pipe_types.specs.declared.topology.CancelMode.TheVariants as cancel
 use Rattle.pipe_types.specs.declared.topology.ChildMode.TheVariants as child
 use Rattle.pipe_types.specs.declared.topology.Rule.TheVariants.{Require}
 use Rattle.pipe_types.specs.Numbers.{stage}
+use Rattle.config_settings.specs.declared.settings.OwnLimit.{OwnLimit}
 use Rattle.config_settings.specs.declared.settings.ProducerSettings.{ProducerSettings}
 use Rattle.config_settings.specs.declared.settings.ProcessorSettings.{ProcessorSettings}
 use Rattle.config_settings.specs.declared.settings.Settings.{Settings}
@@ -51,9 +52,13 @@ flow_table source prefix =
 
 -- ---- the values that the file and the default give
 
+-- the pipeline's limit on restarts
+abbrev pub no_limit : OwnLimit
+no_limit = record { max_restarts = None; max_seconds = None }
+
 -- a pull producer with a buffer of the default size
 abbrev pub source_settings : (source : List ℕ) → ProducerSettings
-source_settings source = record { name = codes "source"; source = source; push = false; buffer_size = 10000; keep = Last }
+source_settings source = record { name = codes "source"; source = source; push = false; buffer_size = 10000; keep = Last; limit = no_limit }
 
 -- one processor with the default demand and this one rule
 abbrev pub require_settings : (prefix : List ℕ) → ProcessorSettings
@@ -63,6 +68,7 @@ require_settings prefix =
       partition_by = None;
       demand = record { mode = cancel.Temporary; min = 5; max = 10 };
       handler = record { kind = Steps; steps = (codes "require " ++ prefix) ∷ []; failed = None };
+      limit = no_limit;
     }
 
 -- one pull producer, one processor, and no batcher
@@ -72,6 +78,8 @@ flow_settings source prefix =
       max_restarts = 3;
       max_seconds = 5;
       idle_limit = 0;
+      record_limit = 200000;
+      byte_limit = 67108864;
       control = None;
       producers = source_settings source ∷ [];
       processors = Some (require_settings prefix);

@@ -6,14 +6,20 @@ ghost use Rattle.config_flow.specs.Flow as spec;
 
 use config_build::build::build_topology;
 use config_settings::settings::{
-    BatcherList, Demand, Handler, ProcessorSettings, ProducerList, ProducerSettings, Settings,
-    TextList,
+    BatcherList, Demand, Handler, OwnLimit, ProcessorSettings, ProducerList, ProducerSettings,
+    Settings, TextList,
 };
 use config_table::fault::copied;
 use config_table::format::Range;
 use pipe_types::bytes::Text;
 use pipe_types::topology::{CancelMode, Keep, Kind, Topology};
 use std::alloc::{AllocError, Global};
+
+/// The pipeline's limit on restarts.
+const NO_LIMIT: OwnLimit = OwnLimit {
+    max_restarts: None,
+    max_seconds: None,
+};
 
 /// The producer `source`, which pulls from this source.
 fn source_settings(alloc: Global, source: &str) -> Result<ProducerSettings, AllocError>
@@ -27,6 +33,7 @@ fn source_settings(alloc: Global, source: &str) -> Result<ProducerSettings, Allo
         push: false,
         buffer_size: Range::BUFFER_SIZE.default,
         keep: Keep::Last,
+        limit: NO_LIMIT,
     })
 }
 
@@ -57,6 +64,7 @@ fn require_settings(alloc: Global, prefix: &str) -> Result<ProcessorSettings, Al
             steps: TextList::from_vec(steps),
             failed: None,
         },
+        limit: NO_LIMIT,
     })
 }
 
@@ -71,6 +79,8 @@ fn flow_settings(alloc: Global, source: &str, prefix: &str) -> Result<Settings, 
         max_restarts: Range::MAX_RESTARTS.default,
         max_seconds: Range::MAX_SECONDS.default,
         idle_limit: Range::IDLE_LIMIT.default,
+        record_limit: Range::RECORD_LIMIT.default,
+        byte_limit: Range::BYTE_LIMIT.default,
         control: None,
         producers: ProducerList::from_vec(producers),
         processors: Some(processors),

@@ -13,7 +13,7 @@ use Rattle.pipe_types.specs.declared.topology.Dispatch.{Dispatch}
 use Rattle.pipe_types.specs.declared.topology.Dispatch.TheVariants as dispatch
 use Rattle.toml.specs.Data.{Items, no_items, item, Members, as_str, as_array, as_table}
 use Rattle.config_table.specs.declared.format.Key.{Key}
-use Rattle.config_table.specs.declared.format.Key.TheVariants.{Pipeline, Producer, Processors, Supervisor, Batcher, MaxRestarts, MaxSeconds, IdleLimit, Control, Name, Source, Mode, BufferSize, BufferKeep, Concurrency, MaxDemand, MinDemand, Cancel, PartitionBy, Kind as KindKey, Steps, Failed, Restart, BatchSize, BatchTimeout, Dispatch as DispatchKey, Select, Sinks}
+use Rattle.config_table.specs.declared.format.Key.TheVariants.{Pipeline, Producer, Processors, Supervisor, Batcher, MaxRestarts, MaxSeconds, IdleLimit, RecordLimit, ByteLimit, Control, Name, Source, Mode, BufferSize, BufferKeep, Concurrency, MaxDemand, MinDemand, Cancel, PartitionBy, Kind as KindKey, Steps, Failed, Restart, BatchSize, BatchTimeout, Dispatch as DispatchKey, Select, Sinks}
 use Rattle.config_table.specs.declared.format.Shape.{Shape}
 use Rattle.config_table.specs.declared.format.Shape.TheVariants as shape
 use Rattle.config_table.specs.declared.format.Range.{Range}
@@ -21,6 +21,7 @@ use Rattle.config_table.specs.Format as format
 use Rattle.config_table.specs.Format.{value_at, number, given}
 use Rattle.config_table.specs.Shape.{word_place}
 use Rattle.config_settings.specs.declared.settings.Demand.{Demand}
+use Rattle.config_settings.specs.declared.settings.OwnLimit.{OwnLimit}
 use Rattle.config_settings.specs.declared.settings.Handler.{Handler}
 use Rattle.config_settings.specs.declared.settings.ProducerSettings.{ProducerSettings}
 use Rattle.config_settings.specs.declared.settings.ProcessorSettings.{ProcessorSettings}
@@ -100,6 +101,10 @@ demand_of max_range table =
       max = number max_range MaxDemand table;
     }
 
+-- the limit that a table gives its stages; none of version 1 has its keys
+abbrev pub own_limit : Members → OwnLimit
+own_limit table = record { max_restarts = given format.max_restarts MaxRestarts table; max_seconds = given format.max_seconds MaxSeconds table }
+
 abbrev pub handler_of : Kind → Members → Handler
 handler_of kind table =
     record {
@@ -118,6 +123,7 @@ producer_of table =
       push = not (word shape.Mode Mode table == 0);
       buffer_size = number format.buffer_size BufferSize table;
       keep = keep_end (word shape.Keep BufferKeep table);
+      limit = own_limit table;
     }
 
 abbrev pub processors_of : Members → ProcessorSettings
@@ -127,6 +133,7 @@ processors_of table =
       partition_by = given format.partition_by PartitionBy table;
       demand = demand_of format.processors_max table;
       handler = handler_of (kind_of (word shape.Kind KindKey table)) table;
+      limit = own_limit table;
     }
 
 abbrev pub supervisor_of : Members → SupervisorSettings
@@ -135,6 +142,7 @@ supervisor_of table =
       restart = child_mode (word shape.Restart Restart table);
       demand = demand_of format.supervisor_max table;
       handler = handler_of (kind_of (word shape.Kind KindKey table)) table;
+      limit = own_limit table;
     }
 
 abbrev pub batcher_of : Members → BatcherSettings
@@ -149,6 +157,7 @@ batcher_of table =
       handler = handler_of (batch_kind (word shape.BatchKind KindKey table)) table;
       select = texts_at Select table;
       sinks = texts_at Sinks table;
+      limit = own_limit table;
     }
 
 -- the tables of an array
@@ -195,6 +204,8 @@ settings_of table =
       max_restarts = pipeline_number format.max_restarts MaxRestarts (table_at Pipeline table);
       max_seconds = pipeline_number format.max_seconds MaxSeconds (table_at Pipeline table);
       idle_limit = pipeline_number format.idle_limit IdleLimit (table_at Pipeline table);
+      record_limit = pipeline_number format.record_limit RecordLimit (table_at Pipeline table);
+      byte_limit = pipeline_number format.byte_limit ByteLimit (table_at Pipeline table);
       control = option_and_then (text_at Control) (table_at Pipeline table);
       producers = producers_at (array_at Producer table);
       processors = option_map processors_of (table_at Processors table);

@@ -6,7 +6,7 @@ ghost use Rattle.config_table.specs.Format as format;
 ghost use Rattle.config_settings.specs.Settings as spec;
 
 use crate::settings::{
-    BatcherList, BatcherSettings, Demand, Handler, ProcessorSettings, ProducerList,
+    BatcherList, BatcherSettings, Demand, Handler, OwnLimit, ProcessorSettings, ProducerList,
     ProducerSettings, Settings, SupervisorSettings, TextList,
 };
 use config_table::fault::copied;
@@ -202,6 +202,16 @@ fn demand_of(table: &Table, max_range: Range) -> Demand
     Demand { mode, min, max }
 }
 
+/// The limit that the table gives its stages. In a file of version 1 the walk refuses both keys.
+fn own_limit(table: &Table) -> OwnLimit
+    ensures { result ≡ spec.own_limit (table_view table.now) }
+{
+    OwnLimit {
+        max_restarts: given(table, Key::MaxRestarts, Range::MAX_RESTARTS),
+        max_seconds: given(table, Key::MaxSeconds, Range::MAX_SECONDS),
+    }
+}
+
 fn handler_of(alloc: Global, kind: Kind, table: &Table) -> Result<Handler, AllocError>
     ensures { IfOk result (λ handler. handler ≡ spec.handler_of kind (table_view table.now)) }
 {
@@ -228,6 +238,7 @@ fn producer_of(alloc: Global, table: &Table) -> Result<ProducerSettings, AllocEr
         push,
         buffer_size,
         keep,
+        limit: own_limit(table),
     })
 }
 
@@ -244,6 +255,7 @@ fn processors_of(alloc: Global, table: &Table) -> Result<ProcessorSettings, Allo
         partition_by,
         demand,
         handler,
+        limit: own_limit(table),
     })
 }
 
@@ -258,6 +270,7 @@ fn supervisor_of(alloc: Global, table: &Table) -> Result<SupervisorSettings, All
         restart,
         demand,
         handler,
+        limit: own_limit(table),
     })
 }
 
@@ -284,6 +297,7 @@ fn batcher_of(alloc: Global, table: &Table) -> Result<BatcherSettings, AllocErro
         handler,
         select,
         sinks,
+        limit: own_limit(table),
     })
 }
 
@@ -378,6 +392,8 @@ pub fn read_settings(alloc: Global, table: &Table) -> Result<Settings, AllocErro
         max_restarts: pipeline_number(table, Key::MaxRestarts, Range::MAX_RESTARTS),
         max_seconds: pipeline_number(table, Key::MaxSeconds, Range::MAX_SECONDS),
         idle_limit: pipeline_number(table, Key::IdleLimit, Range::IDLE_LIMIT),
+        record_limit: pipeline_number(table, Key::RecordLimit, Range::RECORD_LIMIT),
+        byte_limit: pipeline_number(table, Key::ByteLimit, Range::BYTE_LIMIT),
         control,
         producers,
         processors,

@@ -43,6 +43,13 @@ pub struct Demand {
     pub max: u32,
 }
 
+/// What a table says of its stages' restarts: how many there may be, and in how many seconds, each where it is given.
+#[derive(Clone, Copy)]
+pub struct OwnLimit {
+    pub max_restarts: Option<u32>,
+    pub max_seconds: Option<u32>,
+}
+
 /// The handler of a stage: its kind, the texts of its rules, and the reason in place of another.
 #[derive(Drop)]
 pub struct Handler {
@@ -58,6 +65,7 @@ pub struct ProducerSettings {
     pub push: bool,
     pub buffer_size: u32,
     pub keep: Keep,
+    pub limit: OwnLimit,
 }
 
 #[derive(Drop)]
@@ -66,6 +74,7 @@ pub struct ProcessorSettings {
     pub partition_by: Option<u32>,
     pub demand: Demand,
     pub handler: Handler,
+    pub limit: OwnLimit,
 }
 
 #[derive(Drop)]
@@ -73,9 +82,10 @@ pub struct SupervisorSettings {
     pub restart: ChildMode,
     pub demand: Demand,
     pub handler: Handler,
+    pub limit: OwnLimit,
 }
 
-/// A batcher with its batch processors. The timeout is in milliseconds; a dispatcher of another word is none.
+/// A batcher with its batch processors, which share its limit. The timeout is in milliseconds; a dispatcher of another word is none.
 #[derive(Drop)]
 pub struct BatcherSettings {
     pub name: Text,
@@ -87,6 +97,7 @@ pub struct BatcherSettings {
     pub handler: Handler,
     pub select: Option<TextList>,
     pub sinks: Option<TextList>,
+    pub limit: OwnLimit,
 }
 
 /// Producers in the order of the file.
@@ -153,6 +164,8 @@ pub struct Settings {
     pub max_restarts: u32,
     pub max_seconds: u32,
     pub idle_limit: u32,
+    pub record_limit: u32,
+    pub byte_limit: u32,
     pub control: Option<Text>,
     pub producers: ProducerList,
     pub processors: Option<ProcessorSettings>,

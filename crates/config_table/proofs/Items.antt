@@ -6,6 +6,7 @@ use Rattle.toml.specs.View.{view, items_view, members_view}
 use Rattle.toml.specs.declared.value.Value.{Value}
 use Rattle.toml.proofs.Views.{Entry, items_view-drop}
 use Rattle.config_table.specs.declared.fault.ConfigFault.{ConfigFault}
+use Rattle.config_table.specs.declared.format.FileVersion.{FileVersion}
 use Rattle.config_table.specs.declared.format.Shape.{Shape}
 use Rattle.config_table.specs.declared.format.Section.{Section}
 use Rattle.config_table.specs.declared.format.Row.{Row}
@@ -27,33 +28,33 @@ item_step path shape i vs v found fault below at is =
     (sooner-part found (flaw_faults (at_place path i) (text_flaw shape (as_str (view v)))) (item_faults path shape (i + 1) (items_view (drop (i + 1) vs))))
 
 -- one more table of an array
-pub each_step : (section : Section) (path : List ℕ) (i : ℕ) (vs : List Value) (v : Value) (found fault : Option ConfigFault)
-    → i < length vs → v ≡ get_or vs i v → fault ≡ least (table_faults section (at_place path i) (as_table (view v)))
-    → sooner (sooner found fault) (least (each_faults section path (i + 1) (items_view (drop (i + 1) vs)))) ≡ sooner found (least (each_faults section path i (items_view (drop i vs))))
-each_step section path i vs v found fault below at is =
+pub each_step : (version : FileVersion) (section : Section) (path : List ℕ) (i : ℕ) (vs : List Value) (v : Value) (found fault : Option ConfigFault)
+    → i < length vs → v ≡ get_or vs i v → fault ≡ least (table_faults version section (at_place path i) (as_table (view v)))
+    → sooner (sooner found fault) (least (each_faults version section path (i + 1) (items_view (drop (i + 1) vs)))) ≡ sooner found (least (each_faults version section path i (items_view (drop i vs))))
+each_step version section path i vs v found fault below at is =
     rw (items_view-drop vs i v below, ← at, is)
-    (sooner-part found (table_faults section (at_place path i) (as_table (view v))) (each_faults section path (i + 1) (items_view (drop (i + 1) vs))))
+    (sooner-part found (table_faults version section (at_place path i) (as_table (view v))) (each_faults version section path (i + 1) (items_view (drop (i + 1) vs))))
 
 -- one more row of a table
-pub row_step : (path : List ℕ) (table : Members) (i : ℕ) (rows : List Row) (r : Row) (found fault : Option ConfigFault)
-    → i < length rows → fault ≡ least (row_faults path table (get_or rows i r))
-    → sooner (sooner found fault) (least (flat_map (row_faults path table) (drop (i + 1) rows))) ≡ sooner found (least (flat_map (row_faults path table) (drop i rows)))
-row_step path table i rows r found fault below is =
+pub row_step : (version : FileVersion) (path : List ℕ) (table : Members) (i : ℕ) (rows : List Row) (r : Row) (found fault : Option ConfigFault)
+    → i < length rows → fault ≡ least (row_faults version path table (get_or rows i r))
+    → sooner (sooner found fault) (least (flat_map (row_faults version path table) (drop (i + 1) rows))) ≡ sooner found (least (flat_map (row_faults version path table) (drop i rows)))
+row_step version path table i rows r found fault below is =
     rw (drop_more rows i r below, is)
-    (sooner-part found (row_faults path table (get_or rows i r)) (flat_map (row_faults path table) (drop (i + 1) rows)))
+    (sooner-part found (row_faults version path table (get_or rows i r)) (flat_map (row_faults version path table) (drop (i + 1) rows)))
 
 -- one more key of a table
-pub unknown_step : (path : List ℕ) (rows : List Row) (left rest : List Entry) (e : Entry) (found fault total : Option ConfigFault)
-    → left ≡ e ∷ rest → fault ≡ least (key_faults path rows (string_bytes e.0))
-    → sooner found (least (unknown_keys path rows (members_view left))) ≡ total
-    → sooner (sooner found fault) (least (unknown_keys path rows (members_view rest))) ≡ total
-unknown_step path rows left rest e found fault total same is so_far =
-    rw is (sooner-part found (key_faults path rows (string_bytes e.0)) (unknown_keys path rows (members_view rest)) ∙ rw same at so_far)
+pub unknown_step : (version : FileVersion) (path : List ℕ) (rows : List Row) (left rest : List Entry) (e : Entry) (found fault total : Option ConfigFault)
+    → left ≡ e ∷ rest → fault ≡ least (key_faults version path rows (string_bytes e.0))
+    → sooner found (least (unknown_keys version path rows (members_view left))) ≡ total
+    → sooner (sooner found fault) (least (unknown_keys version path rows (members_view rest))) ≡ total
+unknown_step version path rows left rest e found fault total same is so_far =
+    rw is (sooner-part found (key_faults version path rows (string_bytes e.0)) (unknown_keys version path rows (members_view rest)) ∙ rw same at so_far)
 
 -- one more key of the file
-pub top_step : (left rest : List Entry) (e : Entry) (found fault total : Option ConfigFault)
-    → left ≡ e ∷ rest → fault ≡ least (top_faults (string_bytes e.0) (view e.1))
-    → sooner found (least (faults_of (members_view left))) ≡ total
-    → sooner (sooner found fault) (least (faults_of (members_view rest))) ≡ total
-top_step left rest e found fault total same is so_far =
-    rw is (sooner-part found (top_faults (string_bytes e.0) (view e.1)) (faults_of (members_view rest)) ∙ rw same at so_far)
+pub top_step : (version : FileVersion) (left rest : List Entry) (e : Entry) (found fault total : Option ConfigFault)
+    → left ≡ e ∷ rest → fault ≡ least (top_faults version (string_bytes e.0) (view e.1))
+    → sooner found (least (faults_of version (members_view left))) ≡ total
+    → sooner (sooner found fault) (least (faults_of version (members_view rest))) ≡ total
+top_step version left rest e found fault total same is so_far =
+    rw is (sooner-part found (top_faults version (string_bytes e.0) (view e.1)) (faults_of version (members_view rest)) ∙ rw same at so_far)

@@ -2,8 +2,10 @@
 use Rattle.std.specs.Prelude.{codes, ℕ, ◌-◌, ◌/◌, Bool, true, false, List, [], ◌∷◌, Option, Some, None, if◌then◌else◌, ℤ, pos, negsuc, option_and_then, bytes_eq}
 use Rattle.pipe_types.specs.Sound.{is_between}
 use Rattle.toml.specs.Data.{Data, Members, get_member, as_integer, as_str}
+use Rattle.config_table.specs.declared.format.FileVersion.{FileVersion}
+use Rattle.config_table.specs.declared.format.FileVersion.TheVariants as version
 use Rattle.config_table.specs.declared.format.Key.{Key}
-use Rattle.config_table.specs.declared.format.Key.TheVariants.{Version, Pipeline, Producer, Processors, Supervisor, Batcher, MaxRestarts, MaxSeconds, IdleLimit, Control, Name, Source, Mode, BufferSize, BufferKeep, Concurrency, MaxDemand, MinDemand, Cancel, PartitionBy, Kind, Steps, Failed, Restart, BatchSize, BatchTimeout, Dispatch, Select, Sinks}
+use Rattle.config_table.specs.declared.format.Key.TheVariants.{Version, Pipeline, Producer, Processors, Supervisor, Batcher, MaxRestarts, MaxSeconds, IdleLimit, RecordLimit, ByteLimit, Control, Name, Source, Mode, BufferSize, BufferKeep, Concurrency, MaxDemand, MinDemand, Cancel, PartitionBy, Kind, Steps, Failed, Restart, BatchSize, BatchTimeout, Dispatch, Select, Sinks}
 use Rattle.config_table.specs.declared.format.Range.{Range}
 use Rattle.config_table.specs.declared.format.Shape.TheVariants as shape
 use Rattle.config_table.specs.declared.format.Form.{Form}
@@ -11,6 +13,19 @@ use Rattle.config_table.specs.declared.format.Form.TheVariants.{Whole, Text, Rul
 use Rattle.config_table.specs.declared.format.Row.{Row}
 use Rattle.config_table.specs.declared.format.Section.{Section}
 use Rattle.config_table.specs.declared.format.Section.TheVariants as section
+
+-- ---- the versions of the file
+
+abbrev pub is_two : FileVersion → Bool
+is_two version.One = false
+is_two version.Two = true
+
+-- a file of this version has the keys that came with that one
+abbrev pub has : FileVersion → (since : FileVersion) → Bool
+has v version.One = true
+has v version.Two = is_two v
+
+-- ---- keys
 
 abbrev pub key_name : Key → List ℕ
 key_name Version = codes "version"
@@ -22,6 +37,8 @@ key_name Batcher = codes "batcher"
 key_name MaxRestarts = codes "max_restarts"
 key_name MaxSeconds = codes "max_seconds"
 key_name IdleLimit = codes "idle_limit"
+key_name RecordLimit = codes "record_limit"
+key_name ByteLimit = codes "byte_limit"
 key_name Control = codes "control"
 key_name Name = codes "name"
 key_name Source = codes "source"
@@ -84,6 +101,12 @@ max_seconds = range 1 3600 5
 abbrev pub idle_limit : Range
 idle_limit = range 0 1000000 0
 
+abbrev pub record_limit : Range
+record_limit = range 1 2000000 200000
+
+abbrev pub byte_limit : Range
+byte_limit = range 1 536870912 67108864
+
 abbrev pub buffer_size : Range
 buffer_size = range 0 200000 10000
 
@@ -127,26 +150,34 @@ is_broadcast_word (Some word) = bytes_eq word (codes "broadcast")
 abbrev pub does_broadcast : Members → Bool
 does_broadcast table = is_broadcast_word (option_and_then as_str (value_at Dispatch table))
 
--- ---- the tables
+-- ---- the tables, with the keys of every version
 
 abbrev pub row : Key → Form → Row
-row key form = record { key = key; required = false; form = form }
+row key form = record { key = key; since = version.One; required = false; form = form }
+
+-- a key that a file of version 1 does not have
+abbrev pub later_row : Key → Form → Row
+later_row key form = record { key = key; since = version.Two; required = false; form = form }
 
 abbrev pub required_row : Key → Form → Row
-required_row key form = record { key = key; required = true; form = form }
+required_row key form = record { key = key; since = version.One; required = true; form = form }
 
 abbrev pub pipeline_rows : List Row
 pipeline_rows =
-    row Control (Text shape.Edge)
+    later_row ByteLimit (Whole byte_limit)
+    ∷ row Control (Text shape.Edge)
     ∷ row IdleLimit (Whole idle_limit)
     ∷ row MaxRestarts (Whole max_restarts)
     ∷ row MaxSeconds (Whole max_seconds)
+    ∷ later_row RecordLimit (Whole record_limit)
     ∷ []
 
 abbrev pub producer_rows : List Row
 producer_rows =
     row BufferKeep (Text shape.Keep)
     ∷ row BufferSize (Whole buffer_size)
+    ∷ later_row MaxRestarts (Whole max_restarts)
+    ∷ later_row MaxSeconds (Whole max_seconds)
     ∷ row Mode (Text shape.Mode)
     ∷ required_row Name (Text shape.Name)
     ∷ required_row Source (Text shape.Edge)
@@ -159,6 +190,8 @@ processors_rows max =
     ∷ row Failed (Text shape.Reason)
     ∷ row Kind (Text shape.Kind)
     ∷ row MaxDemand (Whole processors_max)
+    ∷ later_row MaxRestarts (Whole max_restarts)
+    ∷ later_row MaxSeconds (Whole max_seconds)
     ∷ row MinDemand (Whole (min_demand max))
     ∷ row PartitionBy (Whole partition_by)
     ∷ row Steps RuleTexts
@@ -170,6 +203,8 @@ supervisor_rows max =
     ∷ row Failed (Text shape.Reason)
     ∷ row Kind (Text shape.Kind)
     ∷ row MaxDemand (Whole supervisor_max)
+    ∷ later_row MaxRestarts (Whole max_restarts)
+    ∷ later_row MaxSeconds (Whole max_seconds)
     ∷ row MinDemand (Whole (min_demand max))
     ∷ row Restart (Text shape.Restart)
     ∷ row Steps RuleTexts
@@ -185,6 +220,8 @@ batcher_rows max_range max concurrency is_broadcast =
     ∷ row Failed (Text shape.Reason)
     ∷ row Kind (Text shape.BatchKind)
     ∷ row MaxDemand (Whole max_range)
+    ∷ later_row MaxRestarts (Whole max_restarts)
+    ∷ later_row MaxSeconds (Whole max_seconds)
     ∷ row MinDemand (Whole (min_demand max))
     ∷ required_row Name (Text shape.Name)
     ∷ row Select (SelectTexts concurrency is_broadcast)

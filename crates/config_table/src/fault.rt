@@ -12,7 +12,7 @@ use thiserror::Error;
 pub enum ConfigFault {
     #[error("no TOML of at most 1,048,576 bytes")]
     NotToml,
-    #[error("{}: expected version 1", .0.as_str())]
+    #[error("{}: expected version 1 or 2", .0.as_str())]
     Version(Text),
     #[error("{}: unknown key", .0.as_str())]
     UnknownKey(Text),

@@ -6,6 +6,13 @@ ghost use Rattle.config_table.specs.Format as format;
 
 use toml::{Table, Value};
 
+/// The versions of a topology file.
+#[derive(Clone, Copy, PartialEq, Eq)]
+pub enum FileVersion {
+    One,
+    Two,
+}
+
 /// The keys of a topology file.
 #[derive(Clone, Copy, PartialEq, Eq)]
 pub enum Key {
@@ -18,6 +25,8 @@ pub enum Key {
     MaxRestarts,
     MaxSeconds,
     IdleLimit,
+    RecordLimit,
+    ByteLimit,
     Control,
     Name,
     Source,
@@ -76,10 +85,11 @@ pub enum Form {
     SelectTexts(u32, bool),
 }
 
-/// A key of a table.
+/// A key of a table, and the version of the file from which on the table has it.
 #[derive(Clone, Copy)]
 pub struct Row {
     pub key: Key,
+    pub since: FileVersion,
     pub required: bool,
     pub form: Form,
 }
@@ -92,6 +102,21 @@ pub enum Section {
     Processors,
     Supervisor,
     Batcher,
+}
+
+impl FileVersion {
+    /// Whether a file of this version has the keys that came with that one.
+    pub fn has(self, since: FileVersion) -> bool
+        ensures { result ≡ format.has self since }
+    {
+        match since {
+            FileVersion::One => true,
+            FileVersion::Two => match self {
+                FileVersion::One => false,
+                FileVersion::Two => true,
+            },
+        }
+    }
 }
 
 impl Key {
@@ -109,6 +134,8 @@ impl Key {
             Key::MaxRestarts => "max_restarts",
             Key::MaxSeconds => "max_seconds",
             Key::IdleLimit => "idle_limit",
+            Key::RecordLimit => "record_limit",
+            Key::ByteLimit => "byte_limit",
             Key::Control => "control",
             Key::Name => "name",
             Key::Source => "source",

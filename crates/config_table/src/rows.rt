@@ -4,7 +4,7 @@ ghost use Rattle.std.specs.Prelude.{◌≡◌, IfOk};
 ghost use Rattle.toml.specs.View.{table_view};
 ghost use Rattle.config_table.specs.Format as format;
 
-use crate::format::{Form, Key, Range, Row, Section, Shape, number, value_at};
+use crate::format::{FileVersion, Form, Key, Range, Row, Section, Shape, number, value_at};
 use std::alloc::{AllocError, Global};
 use toml::Table;
 
@@ -31,6 +31,18 @@ impl Range {
         low: 0,
         high: 1_000_000,
         default: 0,
+    };
+
+    pub const RECORD_LIMIT: Range = Range {
+        low: 1,
+        high: 2_000_000,
+        default: 200_000,
+    };
+
+    pub const BYTE_LIMIT: Range = Range {
+        low: 1,
+        high: 536_870_912,
+        default: 67_108_864,
     };
 
     pub const BUFFER_SIZE: Range = Range {
@@ -101,6 +113,19 @@ fn row(key: Key, form: Form) -> Row
 {
     Row {
         key,
+        since: FileVersion::One,
+        required: false,
+        form,
+    }
+}
+
+/// A key that a file of version 1 does not have.
+fn later_row(key: Key, form: Form) -> Row
+    ensures { result ≡ format.later_row key form }
+{
+    Row {
+        key,
+        since: FileVersion::Two,
         required: false,
         form,
     }
@@ -111,6 +136,7 @@ fn required_row(key: Key, form: Form) -> Row
 {
     Row {
         key,
+        since: FileVersion::One,
         required: true,
         form,
     }
@@ -120,10 +146,12 @@ fn pipeline_rows(alloc: Global) -> Result<Vec<Row>, AllocError>
     ensures { IfOk result (λ rows. rows.items ≡ format.pipeline_rows) }
 {
     let rows = [
+        later_row(Key::ByteLimit, Form::Whole(Range::BYTE_LIMIT)),
         row(Key::Control, Form::Text(Shape::Edge)),
         row(Key::IdleLimit, Form::Whole(Range::IDLE_LIMIT)),
         row(Key::MaxRestarts, Form::Whole(Range::MAX_RESTARTS)),
         row(Key::MaxSeconds, Form::Whole(Range::MAX_SECONDS)),
+        later_row(Key::RecordLimit, Form::Whole(Range::RECORD_LIMIT)),
     ];
     Ok(Vec::from_array(alloc, rows)?)
 }
@@ -134,6 +162,8 @@ fn producer_rows(alloc: Global) -> Result<Vec<Row>, AllocError>
     let rows = [
         row(Key::BufferKeep, Form::Text(Shape::Keep)),
         row(Key::BufferSize, Form::Whole(Range::BUFFER_SIZE)),
+        later_row(Key::MaxRestarts, Form::Whole(Range::MAX_RESTARTS)),
+        later_row(Key::MaxSeconds, Form::Whole(Range::MAX_SECONDS)),
         row(Key::Mode, Form::Text(Shape::Mode)),
         required_row(Key::Name, Form::Text(Shape::Name)),
         required_row(Key::Source, Form::Text(Shape::Edge)),
@@ -150,6 +180,8 @@ fn processors_rows(alloc: Global, max: u32) -> Result<Vec<Row>, AllocError>
         row(Key::Failed, Form::Text(Shape::Reason)),
         row(Key::Kind, Form::Text(Shape::Kind)),
         row(Key::MaxDemand, Form::Whole(Range::PROCESSORS_MAX)),
+        later_row(Key::MaxRestarts, Form::Whole(Range::MAX_RESTARTS)),
+        later_row(Key::MaxSeconds, Form::Whole(Range::MAX_SECONDS)),
         row(Key::MinDemand, Form::Whole(Range::min_demand(max))),
         row(Key::PartitionBy, Form::Whole(Range::PARTITION_BY)),
         row(Key::Steps, Form::RuleTexts),
@@ -165,6 +197,8 @@ fn supervisor_rows(alloc: Global, max: u32) -> Result<Vec<Row>, AllocError>
         row(Key::Failed, Form::Text(Shape::Reason)),
         row(Key::Kind, Form::Text(Shape::Kind)),
         row(Key::MaxDemand, Form::Whole(Range::SUPERVISOR_MAX)),
+        later_row(Key::MaxRestarts, Form::Whole(Range::MAX_RESTARTS)),
+        later_row(Key::MaxSeconds, Form::Whole(Range::MAX_SECONDS)),
         row(Key::MinDemand, Form::Whole(Range::min_demand(max))),
         row(Key::Restart, Form::Text(Shape::Restart)),
         row(Key::Steps, Form::RuleTexts),
@@ -190,6 +224,8 @@ fn batcher_rows(
         row(Key::Failed, Form::Text(Shape::Reason)),
         row(Key::Kind, Form::Text(Shape::BatchKind)),
         row(Key::MaxDemand, Form::Whole(max_range)),
+        later_row(Key::MaxRestarts, Form::Whole(Range::MAX_RESTARTS)),
+        later_row(Key::MaxSeconds, Form::Whole(Range::MAX_SECONDS)),
         row(Key::MinDemand, Form::Whole(Range::min_demand(max))),
         required_row(Key::Name, Form::Text(Shape::Name)),
         row(Key::Select, Form::SelectTexts(concurrency, is_broadcast)),
@@ -212,7 +248,7 @@ fn does_broadcast(table: &Table) -> bool
     }
 }
 
-/// The rows of a table of this section; some ranges depend on the values of the table.
+/// The rows of a table of this section, with the keys of every version; some ranges depend on the values of the table.
 pub fn rows(alloc: Global, section: Section, table: &Table) -> Result<Vec<Row>, AllocError>
     ensures { IfOk result (λ rows. rows.items ≡ format.rows section (table_view table.now)) }
 {

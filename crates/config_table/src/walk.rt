@@ -1,6 +1,6 @@
 //! The walk of a topology file: keys in byte order, arrays by position, depth first.
 
-ghost use Rattle.std.specs.Prelude.{◌≡◌, bytes_eq, flat_map, IfOk};
+ghost use Rattle.std.specs.Prelude.{◌≡◌, bytes_eq, flat_map, Some, IfOk};
 ghost use Rattle.toml.specs.Data.{as_array, as_table};
 ghost use Rattle.toml.specs.View.{view, items_view, table_view};
 ghost use Rattle.config_table.specs.Fault.{least};
@@ -8,27 +8,29 @@ ghost use Rattle.config_table.specs.Format.{key_name};
 ghost use Rattle.config_table.specs.Walk as walk;
 
 use crate::fault::{ConfigFault, at_place, copied, sooner, under};
-use crate::format::{Key, Row, Section, value_at};
+use crate::format::{FileVersion, Key, Row, Section, value_at};
 use crate::rows::rows;
 use crate::value::value_fault;
 use std::alloc::{AllocError, Global};
 use toml::{Table, Value};
 
-fn is_known(rows: &[Row], key: &str) -> bool
-    ensures { result ≡ walk.is_known rows.now key.now }
+fn is_known(version: FileVersion, rows: &[Row], key: &str) -> bool
+    ensures { result ≡ walk.is_known version rows.now key.now }
 {
-    rows.iter().any(|row| row.key.name() == key)
+    rows.iter()
+        .any(|row| version.has(row.since) && row.key.name() == key)
 }
 
 fn key_fault(
     alloc: Global,
+    version: FileVersion,
     path: &str,
     rows: &[Row],
     key: &str,
 ) -> Result<Option<ConfigFault>, AllocError>
-    ensures { IfOk result (λ found. found ≡ least (walk.key_faults path.now rows.now key.now)) }
+    ensures { IfOk result (λ found. found ≡ least (walk.key_faults version path.now rows.now key.now)) }
 {
-    if is_known(rows, key) {
+    if is_known(version, rows, key) {
         return Ok(None);
     }
     Ok(Some(ConfigFault::UnknownKey(under(alloc, path, key)?)))
@@ -37,15 +39,16 @@ fn key_fault(
 /// The first key of the table that has no row.
 fn unknown_key(
     alloc: Global,
+    version: FileVersion,
     path: &str,
     rows: &[Row],
     table: &Table,
 ) -> Result<Option<ConfigFault>, AllocError>
-    ensures { IfOk result (λ found. found ≡ least (walk.unknown_keys path.now rows.now (table_view table.now))) }
+    ensures { IfOk result (λ found. found ≡ least (walk.unknown_keys version path.now rows.now (table_view table.now))) }
 {
     let mut found = None;
     'members: for (key, _value) in table.iter() {
-        let fault = key_fault(alloc, path, rows, key.as_str())?;
+        let fault = key_fault(alloc, version, path, rows, key.as_str())?;
         found = sooner(found, fault);
     }
     Ok(found)
@@ -65,15 +68,19 @@ fn missing_fault(
     }
 }
 
-/// The first fault of what the table holds at the row's key.
+/// The first fault of what the table holds at the row's key, where the version has it.
 fn row_fault(
     alloc: Global,
+    version: FileVersion,
     path: &str,
     table: &Table,
     row: Row,
 ) -> Result<Option<ConfigFault>, AllocError>
-    ensures { IfOk result (λ found. found ≡ least (walk.row_faults path.now (table_view table.now) row)) }
+    ensures { IfOk result (λ found. found ≡ least (walk.row_faults version path.now (table_view table.now) row)) }
 {
+    if !version.has(row.since) {
+        return Ok(None);
+    }
     let path = under(alloc, path, row.key.name())?;
     match value_at(table, row.key) {
         None => missing_fault(alloc, path.as_str(), row.required),
@@ -84,15 +91,16 @@ fn row_fault(
 /// The first fault of the rows.
 fn held_fault(
     alloc: Global,
+    version: FileVersion,
     path: &str,
     rows: &[Row],
     table: &Table,
 ) -> Result<Option<ConfigFault>, AllocError>
-    ensures { IfOk result (λ found. found ≡ least (flat_map (walk.row_faults path.now (table_view table.now)) rows.now)) }
+    ensures { IfOk result (λ found. found ≡ least (flat_map (walk.row_faults version path.now (table_view table.now)) rows.now)) }
 {
     let mut found = None;
     for row in rows {
-        let fault = row_fault(alloc, path, table, *row)?;
+        let fault = row_fault(alloc, version, path, table, *row)?;
         found = sooner(found, fault);
     }
     Ok(found)
@@ -102,31 +110,33 @@ fn held_fault(
 #[tactic(auto, using(crate::proofs::Least::least_of_two))]
 fn rows_fault(
     alloc: Global,
+    version: FileVersion,
     path: &str,
     rows: &[Row],
     table: &Table,
 ) -> Result<Option<ConfigFault>, AllocError>
-    ensures { IfOk result (λ found. found ≡ least (walk.rows_faults path.now rows.now (table_view table.now))) }
+    ensures { IfOk result (λ found. found ≡ least (walk.rows_faults version path.now rows.now (table_view table.now))) }
 {
-    let unknown = unknown_key(alloc, path, rows, table)?;
-    let held = held_fault(alloc, path, rows, table)?;
+    let unknown = unknown_key(alloc, version, path, rows, table)?;
+    let held = held_fault(alloc, version, path, rows, table)?;
     Ok(sooner(unknown, held))
 }
 
 /// The first fault of a value that is to be a table of this section.
 fn table_fault(
     alloc: Global,
+    version: FileVersion,
     section: Section,
     path: &str,
     value: &Value,
 ) -> Result<Option<ConfigFault>, AllocError>
-    ensures { IfOk result (λ found. found ≡ least (walk.table_faults section path.now (as_table (view value.now)))) }
+    ensures { IfOk result (λ found. found ≡ least (walk.table_faults version section path.now (as_table (view value.now)))) }
 {
     match value.as_table() {
         None => Ok(Some(ConfigFault::WrongType(copied(alloc, path)?))),
         Some(table) => {
             let rows = rows(alloc, section, table)?;
-            rows_fault(alloc, path, rows.as_slice(), table)
+            rows_fault(alloc, version, path, rows.as_slice(), table)
         }
     }
 }
@@ -134,16 +144,17 @@ fn table_fault(
 /// The first fault of the tables of an array.
 fn each_fault(
     alloc: Global,
+    version: FileVersion,
     section: Section,
     path: &str,
     items: &[Value],
 ) -> Result<Option<ConfigFault>, AllocError>
-    ensures { IfOk result (λ found. found ≡ least (walk.each_faults section path.now 0 (items_view items.now))) }
+    ensures { IfOk result (λ found. found ≡ least (walk.each_faults version section path.now 0 (items_view items.now))) }
 {
     let mut found = None;
     for (i, item) in items.iter().enumerate() {
         let place = at_place(alloc, path, i)?;
-        let fault = table_fault(alloc, section, place.as_str(), item)?;
+        let fault = table_fault(alloc, version, section, place.as_str(), item)?;
         found = sooner(found, fault);
     }
     Ok(found)
@@ -152,15 +163,16 @@ fn each_fault(
 /// The first fault of a value that is to be an array of tables of this section.
 fn array_fault(
     alloc: Global,
+    version: FileVersion,
     section: Section,
     path: &str,
     value: &Value,
 ) -> Result<Option<ConfigFault>, AllocError>
-    ensures { IfOk result (λ found. found ≡ least (walk.array_faults section path.now (as_array (view value.now)))) }
+    ensures { IfOk result (λ found. found ≡ least (walk.array_faults version section path.now (as_array (view value.now)))) }
 {
     match value.as_array() {
         None => Ok(Some(ConfigFault::WrongType(copied(alloc, path)?))),
-        Some(items) => each_fault(alloc, section, path, items.as_slice()),
+        Some(items) => each_fault(alloc, version, section, path, items.as_slice()),
     }
 }
 
@@ -171,19 +183,24 @@ fn is_key(text: &str, key: Key) -> bool
 }
 
 /// The first fault at a key of the file.
-fn top_fault(alloc: Global, key: &str, value: &Value) -> Result<Option<ConfigFault>, AllocError>
-    ensures { IfOk result (λ found. found ≡ least (walk.top_faults key.now (view value.now))) }
+fn top_fault(
+    alloc: Global,
+    version: FileVersion,
+    key: &str,
+    value: &Value,
+) -> Result<Option<ConfigFault>, AllocError>
+    ensures { IfOk result (λ found. found ≡ least (walk.top_faults version key.now (view value.now))) }
 {
     if is_key(key, Key::Batcher) {
-        array_fault(alloc, Section::Batcher, key, value)
+        array_fault(alloc, version, Section::Batcher, key, value)
     } else if is_key(key, Key::Pipeline) {
-        table_fault(alloc, Section::Pipeline, key, value)
+        table_fault(alloc, version, Section::Pipeline, key, value)
     } else if is_key(key, Key::Processors) {
-        table_fault(alloc, Section::Processors, key, value)
+        table_fault(alloc, version, Section::Processors, key, value)
     } else if is_key(key, Key::Producer) {
-        array_fault(alloc, Section::Producer, key, value)
+        array_fault(alloc, version, Section::Producer, key, value)
     } else if is_key(key, Key::Supervisor) {
-        table_fault(alloc, Section::Supervisor, key, value)
+        table_fault(alloc, version, Section::Supervisor, key, value)
     } else if is_key(key, Key::Version) {
         Ok(None)
     } else {
@@ -192,26 +209,42 @@ fn top_fault(alloc: Global, key: &str, value: &Value) -> Result<Option<ConfigFau
 }
 
 /// The fault of the lowest number, 3 to 6, that comes first in the walk of the file.
-pub fn walk_fault(alloc: Global, table: &Table) -> Result<Option<ConfigFault>, AllocError>
-    ensures { IfOk result (λ found. found ≡ least (walk.faults_of (table_view table.now))) }
+pub fn walk_fault(
+    alloc: Global,
+    version: FileVersion,
+    table: &Table,
+) -> Result<Option<ConfigFault>, AllocError>
+    ensures { IfOk result (λ found. found ≡ least (walk.faults_of version (table_view table.now))) }
 {
     let mut found = None;
     'members: for (key, value) in table.iter() {
-        let fault = top_fault(alloc, key.as_str(), value)?;
+        let fault = top_fault(alloc, version, key.as_str(), value)?;
         found = sooner(found, fault);
     }
     Ok(found)
 }
 
-/// Whether `version` is the whole number 1.
-pub fn has_version(table: &Table) -> bool
-    ensures { result ≡ walk.has_version (table_view table.now) }
+fn version_in(number: i64) -> Option<FileVersion>
+    ensures { result ≡ walk.version_in (Some number) }
+{
+    if number == 1 {
+        Some(FileVersion::One)
+    } else if number == 2 {
+        Some(FileVersion::Two)
+    } else {
+        None
+    }
+}
+
+/// The version of the file, where `version` is the whole number 1 or 2.
+pub fn version_of(table: &Table) -> Option<FileVersion>
+    ensures { result ≡ walk.version_of (table_view table.now) }
 {
     match value_at(table, Key::Version) {
-        None => false,
+        None => None,
         Some(value) => match value.as_integer() {
-            Some(version) => version == 1,
-            None => false,
+            Some(number) => version_in(number),
+            None => None,
         },
     }
 }

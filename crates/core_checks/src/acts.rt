@@ -38,7 +38,7 @@ pub fn run_case(told: &mut Told, case: &Case) -> Result<(), AllocError> {
     told.add("== ");
     told.add(case.title.as_str());
     told.add("\n");
-    match core_of(told.alloc, case.file.as_str())? {
+    match core_of(told.alloc, case)? {
         Some(core) => run_acts(told, case, core),
         None => {
             told.add("the file is refused\n");
@@ -111,7 +111,7 @@ fn act_on(
     } else if word == "read" {
         read_often(core, &mut beside.control, number(rest))
     } else if word == "kills" || word == "drains" {
-        tell_kills(told, case.file.as_str(), word == "drains", rest)
+        tell_kills(told, case, word == "drains", rest)
     } else {
         match step_in(word, rest) {
             Some(step) => force(told, core, step, act),

@@ -1,8 +1,10 @@
 //! A case as texts.
 //!
-//! Its lines: `case TITLE`; `|TEXT` is a line of the topology file; `control TEXT` and `repeat N TEXT` add to what the
+//! Its lines: `case TITLE`, or `again TITLE` with the topology file of the case before; `|TEXT` is a line of the topology file;
+//! `limits WORDS` gives stages limits on restarts of their own (`limits.rt`); `control TEXT` and `repeat N TEXT` add to what the
 //! control source has, where `\n` and `\r` are a line feed and a carriage return; `reads WORDS` says how it is read: a number
-//! gives so many bytes, `wait` nothing yet, another word fails. Any other line is an act.
+//! gives so many bytes, `wait` nothing yet, another word fails. Any other line is acts, with `;`
+//! between two.
 
 use pipe_types::numbers::StageNo;
 use std::alloc::{AllocError, Global};
@@ -12,6 +14,7 @@ use std::alloc::{AllocError, Global};
 pub struct Case {
     pub title: String,
     pub file: String,
+    pub limits: String,
     pub control: String,
     pub reads: String,
     pub acts: String,
@@ -22,6 +25,7 @@ impl Case {
         Case {
             title: String::new(alloc),
             file: String::new(alloc),
+            limits: String::new(alloc),
             control: String::new(alloc),
             reads: String::new(alloc),
             acts: String::new(alloc),
@@ -35,7 +39,12 @@ impl Case {
         }
         let (word, rest) = halves(line);
         if word == "case" {
+            self.file.clear();
             self.title.push_str(rest)
+        } else if word == "again" {
+            self.title.push_str(rest)
+        } else if word == "limits" {
+            self.limits.push_str(rest)
         } else if word == "control" {
             add_text(&mut self.control, rest)
         } else if word == "repeat" {
@@ -44,8 +53,24 @@ impl Case {
         } else if word == "reads" {
             self.reads.push_str(rest)
         } else {
-            add_line(&mut self.acts, line)
+            self.add_acts(line)
         }
+    }
+
+    fn add_acts(&mut self, line: &str) -> Result<(), AllocError> {
+        for act in line.split(';') {
+            add_line(&mut self.acts, act)?;
+        }
+        Ok(())
+    }
+
+    /// Forgets all but the topology file.
+    pub fn end(&mut self) {
+        self.title.clear();
+        self.limits.clear();
+        self.control.clear();
+        self.reads.clear();
+        self.acts.clear();
     }
 }
 

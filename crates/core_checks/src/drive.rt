@@ -10,7 +10,9 @@ ghost use Rattle.core_state.specs.Stands.{Stands};
 ghost use Rattle.core_jobs.specs.Steps.{is_own_step};
 
 use super::answers::{is_keyed, late_of, outcome_of, step_of};
+use super::case::Case;
 use super::judge::may_come;
+use super::limits::with_limits;
 use core_calls::asks::tick;
 use core_jobs::{begin_job, own_step, record_answer};
 use core_kills::kills::kill;
@@ -32,13 +34,23 @@ pub const MOVES: u64 = 200;
 /// How far the clock goes on at a pause, in milliseconds.
 const NAP: u64 = 1000;
 
-/// A core without a step, or none where the file is refused.
-pub fn core_of(alloc: Global, file: &str) -> Result<Option<Core>, AllocError>
+/// A core without a step, or none where the file or the limits are refused.
+pub fn core_of(alloc: Global, case: &Case) -> Result<Option<Core>, AllocError>
     ensures { IfOk result (λ found. IfSome found Stands) }
 {
-    match read_topology(alloc, file.as_bytes()) {
-        Ok(topology) => new_core(alloc, topology),
+    match read_topology(alloc, case.file.as_bytes()) {
+        Ok(topology) => limited_core(alloc, topology, case.limits.as_str()),
         Err(_) => Ok(None),
+    }
+}
+
+fn limited_core(alloc: Global, topology: Topology, limits: &str) -> Result<Option<Core>, AllocError>
+    requires { IsSound topology }
+    ensures { IfOk result (λ found. IfSome found Stands) }
+{
+    match with_limits(topology, limits)? {
+        Some(topology) => new_core(alloc, topology),
+        None => Ok(None),
     }
 }
 

@@ -6,7 +6,7 @@
 
 ghost use Rattle.core_state.specs.Stands.{Stands};
 
-use super::case::{halves, number, small};
+use super::case::{Case, halves, number, small};
 use super::drive::{core_of, drive, try_step};
 use super::tell::tell_verdict;
 use core_state::Core;
@@ -30,7 +30,12 @@ struct Kill<'a> {
 }
 
 /// Runs with a kill after each number of moves.
-pub fn tell_kills(told: &mut Told, file: &str, drains: bool, rest: &str) -> Result<(), AllocError> {
+pub fn tell_kills(
+    told: &mut Told,
+    case: &Case,
+    drains: bool,
+    rest: &str,
+) -> Result<(), AllocError> {
     let (stage, rest) = halves(rest);
     let (from, rest) = halves(rest);
     let (to, texts) = halves(rest);
@@ -42,16 +47,16 @@ pub fn tell_kills(told: &mut Told, file: &str, drains: bool, rest: &str) -> Resu
             drains,
             texts,
         };
-        tell_kill(told, file, kill)?;
+        tell_kill(told, case, kill)?;
     }
     Ok(())
 }
 
-fn tell_kill(told: &mut Told, file: &str, kill: Kill<'_>) -> Result<(), AllocError> {
+fn tell_kill(told: &mut Told, case: &Case, kill: Kill<'_>) -> Result<(), AllocError> {
     told.number(u64::from(kill.stage.0));
     told.behind(" killed after ", kill.moves);
     told.add(": ");
-    match core_of(told.alloc, file)? {
+    match core_of(told.alloc, case)? {
         Some(core) => run_kill(told, core, kill),
         None => {
             told.add("the file is refused\n");

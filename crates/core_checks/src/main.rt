@@ -11,6 +11,7 @@ mod case;
 mod drive;
 mod judge;
 mod kills;
+mod limits;
 mod pasts;
 mod sees;
 mod steps;
@@ -28,7 +29,7 @@ fn main(rt: HostRuntime) -> io::Result<()> {
         let line = line?;
         if line.as_str() == "run" {
             run_case(&mut told, &case)?;
-            case = Case::new(rt.alloc());
+            case.end();
         } else {
             case.read(line.as_str())?;
         }

@@ -3,8 +3,10 @@
 //! A line `case TITLE` begins a journal. Each other line is an act: a step's line (`steps.rt`) adds that step; `three STEP`
 //! keeps room for three such steps and adds them to it; `length` tells how many steps there are; `get AT` gives the line of the
 //! step at that place, from 0; `record AT ITEM` and `reply AT ITEM` give what is lent of it; `text` gives the journal's text.
+//! `read LINE` reads the line of a journal's text; `payload N` reads one with a payload of N bytes (`readings.rt`).
 #![tactic(auto)]
 
+mod readings;
 mod reads;
 mod steps;
 mod words;
@@ -13,7 +15,7 @@ use pipe_journal::Journal;
 use pipe_types::step::Step;
 use std::io;
 use steps::step_of;
-use words::halves;
+use words::{halves, long};
 
 fn main(rt: HostRuntime) -> io::Result<()> {
     let mut journal = Journal::new(rt.alloc());
@@ -38,6 +40,8 @@ fn act(rt: &HostRuntime, journal: &mut Journal, word: &str, rest: &str) -> io::R
         "record" => reads::tell_record(rt, journal, rest),
         "reply" => reads::tell_reply(rt, journal, rest),
         "text" => reads::tell_text(rt, journal),
+        "read" => readings::tell_reading(rt, rest),
+        "payload" => readings::tell_payload(rt, long(rest, 0)),
         _ => add(rt, journal, word, rest),
     }
 }

@@ -51,6 +51,7 @@ fn in_short(reply: Option<&Reply>) -> &str {
     }
 }
 
-fn shown(bytes: &[u8]) -> &str {
+/// The bytes as a text.
+pub fn shown(bytes: &[u8]) -> &str {
     str::from_utf8(bytes).unwrap_or("no text")
 }

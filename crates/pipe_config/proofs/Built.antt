@@ -1,11 +1,13 @@
 -- The topology of settings that fit and that no fault names is sound.
-use Rattle.std.proofs.Common.{◌≡◌, ℕ, suc, ◌+◌, ◌-◌, ◌*◌, ◌%◌, ◌≤◌, Bool, true, false, not, ◌&&◌, ◌||◌, ◌==◌, nat_le, nat_lt, codes, map, List, [], ◌∷◌, ◌++◌, length, Option, Some, None, is_some, is_none, refl, ap, sym, ◌∙◌, arith, length-append}
+use Rattle.std.proofs.Common.{◌≡◌, ℕ, suc, ◌+◌, ◌-◌, ◌*◌, ◌%◌, ◌<◌, ◌≤◌, Bool, true, false, not, ◌&&◌, ◌||◌, ◌==◌, nat_le, nat_lt, codes, map, List, [], ◌∷◌, ◌++◌, length, Option, Some, None, is_some, is_none, unwrap_or, flat_map, cond, refl, ap, sym, ◌∙◌, arith, length-append}
 use Rattle.std.proofs.lemmas.Bool.{eq-eqb, and_parts, le-leb, leb-true}
 use Rattle.std.proofs.lemmas.Bool.Decides.{nat_tests}
+use Rattle.std.proofs.lemmas.List.Folds.{list_all-append}
+use Rattle.pipe_types.specs.declared.topology.RestartLimit.{RestartLimit}
 use Rattle.std.specs.List.{list_all}
 use Rattle.pipe_types.specs.declared.topology.StageSpec.{StageSpec}
 use Rattle.pipe_types.specs.declared.topology.Role.TheVariants as role
-use Rattle.pipe_types.specs.Sound.{IsSound, is_between, is_name, is_named, is_batch_processor, has_fields, is_reached, producers, processors, batchers, batch_processors, is_window, is_control, is_lines, is_reason, are_settings}
+use Rattle.pipe_types.specs.Sound.{IsSound, is_between, is_name, is_named, is_batch_processor, has_fields, is_reached, producers, processors, batchers, batch_processors, is_window, is_limit, is_control, is_lines, is_reason, are_settings}
 use Rattle.config_table.specs.declared.fault.ConfigFault.TheVariants as fault
 use Rattle.config_settings.specs.declared.settings.ProducerSettings.{ProducerSettings}
 use Rattle.config_settings.specs.declared.settings.ProcessorSettings.{ProcessorSettings}
@@ -13,8 +15,10 @@ use Rattle.config_settings.specs.declared.settings.SupervisorSettings.{Superviso
 use Rattle.config_settings.specs.declared.settings.BatcherSettings.{BatcherSettings}
 use Rattle.config_settings.specs.declared.settings.Settings.{Settings}
 use Rattle.config_judge.specs.Judge.{faults_in, duplicate_names, duplicates_with, routes_with, group_faults, bad_dispatches, unreachable_with, lacks_stage, stage_count, processor_count, supervisor_count, batcher_names, producer_names, processor_routes, supervisor_routes, batcher_routes, fault_if}
-use Rattle.config_build.specs.Build.{topology_in, stages_of, partition_field, places, producer_stages, processor_stage, processor_stages, supervisor_stages, batcher_stages, batch_processor_stage, batch_processor_stages}
-use Rattle.pipe_config.specs.Fit.{IsFit, producer_fits, processors_fit, supervisor_fits, batches_fit, selects_fit, batcher_fits, demand_fits, handler_fits, field_fits}
+use Rattle.config_build.specs.Build.{topology_in, stages_of, partition_field, places, producer_stages, processor_stage, processor_stages, supervisor_stages, batcher_stages, batch_processor_stage, batch_processor_stages, second_limit, third_limit, fourth_limit}
+use Rattle.config_settings.specs.declared.settings.OwnLimit.{OwnLimit}
+use Rattle.config_build.specs.Limits.{is_own, limit_from, own_limits, pipeline_limit, limits_of, producer_limits, processor_limits, supervisor_limits, batcher_limits, limit_place, next_place, places_after}
+use Rattle.pipe_config.specs.Fit.{IsFit, most_fit, seconds_fit, limit_fits, producer_fits, processors_fit, supervisor_fits, batches_fit, selects_fit, batcher_fits, demand_fits, handler_fits, field_fits}
 use Rattle.pipe_config.proofs.Groups.{AllRole, role_producers, role_processors, role_supervisors, role_batchers, role_batch_processors, length-producers, length-processors, length-supervisors, length-batchers, length-batch_processors, five_producers, five_processors, five_batchers}
 use Rattle.pipe_config.proofs.Order.{IsEnough, stages_are_ordered}
 use Rattle.pipe_config.proofs.Named.{both, all_map, all_append, named_producers, named_processors, named_supervisors, named_batchers, named_batch_processors, found_batchers, find_other}
@@ -92,16 +96,16 @@ supervisor_rules (Some s) h routes =
     rules_fit (under (codes "supervisor") (codes "steps")) [] s.handler.steps routes (and_parts (nat_le (length s.handler.steps) 64) (is_reason s.handler.failed) handler).0
 
 -- batchers only beside processors
-reached : (all : List StageSpec) (known : List (List ℕ)) (first second : ℕ) (procs : Option ProcessorSettings) (sup : Option SupervisorSettings) (bs : List BatcherSettings) → IsEnough procs sup bs → processors all ≡ processor_stages known first procs → unreachable_with known bs procs ≡ []
-    → list_all (is_reached all) (batcher_stages second 0 bs) ≡ true
-reached all known first second None None bs e group h = absurd e
-reached all known first second None (Some s) [] e group h = refl
-reached all known first second None (Some s) (b ∷ bs) e group h = absurd e
-reached all known first second (Some q) None bs e group h =
+reached : (all : List StageSpec) (known : List (List ℕ)) (first second l2 l4 : ℕ) (procs : Option ProcessorSettings) (sup : Option SupervisorSettings) (bs : List BatcherSettings) → IsEnough procs sup bs → processors all ≡ processor_stages known first l2 procs → unreachable_with known bs procs ≡ []
+    → list_all (is_reached all) (batcher_stages second l4 0 bs) ≡ true
+reached all known first second l2 l4 None None bs e group h = absurd e
+reached all known first second l2 l4 None (Some s) [] e group h = refl
+reached all known first second l2 l4 None (Some s) (b ∷ bs) e group h = absurd e
+reached all known first second l2 l4 (Some q) None bs e group h =
     let least = leb-true 1 q.concurrency (and_parts (nat_le 1 q.concurrency) (nat_le q.concurrency 32) e).0 in
     let size : q.concurrency ≡ suc (q.concurrency - 1) = omega arith in
-    batchers_reached all known q first second q.concurrency (q.concurrency - 1) bs size group h
-reached all known first second (Some q) (Some s) bs e group h = absurd e
+    batchers_reached all known q first (limit_place l2 q.limit) second l4 q.concurrency (q.concurrency - 1) bs size group h
+reached all known first second l2 l4 (Some q) (Some s) bs e group h = absurd e
 
 five_all : (test : StageSpec → Bool) (ps cs ss bs ds : List StageSpec) → list_all test ps ≡ true → list_all test cs ≡ true → list_all test ss ≡ true → list_all test bs ≡ true → list_all test ds ≡ true → list_all test (ps ++ (cs ++ (ss ++ (bs ++ ds)))) ≡ true
 five_all test ps cs ss bs ds p c s b d = all_append test ps (cs ++ (ss ++ (bs ++ ds))) p (all_append test cs (ss ++ (bs ++ ds)) c (all_append test ss (bs ++ ds) s (all_append test bs ds b d)))
@@ -155,70 +159,162 @@ count_fits s few =
     let known : List (List ℕ) = batcher_names s.batchers in
     let first : ℕ = length s.producers in
     let second : ℕ = first + processor_count s.processors + supervisor_count s.supervisor in
-    let ps : List StageSpec = producer_stages (partition_field s.processors) (processor_count s.processors) 0 s.producers in
-    let cs : List StageSpec = processor_stages known first s.processors in
-    let ss : List StageSpec = supervisor_stages first s.supervisor in
-    let bs : List StageSpec = batcher_stages second 0 s.batchers in
-    let ds : List StageSpec = batch_processor_stages (second + length s.batchers) 0 s.batchers in
+    let ps : List StageSpec = producer_stages (partition_field s.processors) (processor_count s.processors) 1 0 s.producers in
+    let cs : List StageSpec = processor_stages known first (second_limit s) s.processors in
+    let ss : List StageSpec = supervisor_stages first (third_limit s) s.supervisor in
+    let bs : List StageSpec = batcher_stages second (fourth_limit s) 0 s.batchers in
+    let ds : List StageSpec = batch_processor_stages (second + length s.batchers) (fourth_limit s) 0 s.batchers in
     rw (
       length-append ps (cs ++ (ss ++ (bs ++ ds))),
       length-append cs (ss ++ (bs ++ ds)),
       length-append ss (bs ++ ds),
       length-append bs ds,
-      length-producers (partition_field s.processors) (processor_count s.processors) 0 s.producers,
-      length-processors known first s.processors,
-      length-supervisors first s.supervisor,
-      length-batchers second 0 s.batchers,
-      length-batch_processors (second + length s.batchers) 0 s.batchers,
+      length-producers (partition_field s.processors) (processor_count s.processors) 1 0 s.producers,
+      length-processors known first (second_limit s) s.processors,
+      length-supervisors first (third_limit s) s.supervisor,
+      length-batchers second (fourth_limit s) 0 s.batchers,
+      length-batch_processors (second + length s.batchers) (fourth_limit s) 0 s.batchers,
     )
     (omega arith)
 
--- the one limit is each stage's
+-- ---- the limits
 
-abbrev has_first : StageSpec → Bool
-has_first s = nat_lt s.limit 1
+lt_true : (a b : ℕ) → a < b → nat_lt a b ≡ true
+lt_true a b h = grind (arith, nat_tests)
 
-first_producers : (field : Option ℕ) (n i : ℕ) (ps : List ProducerSettings) → list_all has_first (producer_stages field n i ps) ≡ true
-first_producers field n i [] = refl
-first_producers field n i (p ∷ ps) = first_producers field n (i + 1) ps
+-- places go on by the limits that the tables have of their own
+after_step : (s : Settings) (l : ℕ) (own : OwnLimit) (owns : List OwnLimit) (b : Bool) → ((k : ℕ) → places_after k owns ≡ k + length (flat_map (own_limits s) owns))
+    → places_after (cond b (l + 1) l) owns ≡ l + length (cond b (limit_from s own ∷ []) [] ++ flat_map (own_limits s) owns)
+after_step s l own owns true h = omega (arith, h (l + 1))
+after_step s l own owns false h = h l
 
-first_processors : (known : List (List ℕ)) (first : ℕ) (q : Option ProcessorSettings) → list_all has_first (processor_stages known first q) ≡ true
-first_processors known first None = refl
-first_processors known first (Some q) = all_map has_first (processor_stage known q first) (places 0 q.concurrency) (λ i. refl)
+after_count : (s : Settings) (l : ℕ) (owns : List OwnLimit) → places_after l owns ≡ l + length (flat_map (own_limits s) owns)
+after_count s l [] = omega arith
+after_count s l (own ∷ owns) = after_step s l own owns (is_own own) (λ k. after_count s k owns)
 
-first_supervisors : (first : ℕ) (s : Option SupervisorSettings) → list_all has_first (supervisor_stages first s) ≡ true
-first_supervisors first None = refl
-first_supervisors first (Some s) = refl
+from_step : (l : ℕ) (owns : List OwnLimit) (b : Bool) → ((k : ℕ) → k ≤ places_after k owns) → l ≤ places_after (cond b (l + 1) l) owns
+from_step l owns true h = omega (arith, h (l + 1))
+from_step l owns false h = h l
 
-first_batchers : (second i : ℕ) (bs : List BatcherSettings) → list_all has_first (batcher_stages second i bs) ≡ true
-first_batchers second i [] = refl
-first_batchers second i (b ∷ bs) = first_batchers second (i + 1) bs
+places_from : (l : ℕ) (owns : List OwnLimit) → l ≤ places_after l owns
+places_from l [] = omega arith
+places_from l (own ∷ owns) = from_step l owns (is_own own) (λ k. places_from k owns)
 
-first_members : (before k : ℕ) (bs : List BatcherSettings) → list_all has_first (batch_processor_stages before k bs) ≡ true
-first_members before k [] = refl
-first_members before k (b ∷ bs) =
-    all_append has_first (map (batch_processor_stage k b before) (places 0 b.concurrency)) (batch_processor_stages (before + b.concurrency) (k + 1) bs)
-    (all_map has_first (batch_processor_stage k b before) (places 0 b.concurrency) (λ i. refl)) (first_members (before + b.concurrency) (k + 1) bs)
+total_limits : (s : Settings) → places_after (fourth_limit s) (batcher_limits s.batchers) ≡ length (limits_of s)
+total_limits s =
+    let a : List RestartLimit = flat_map (own_limits s) (producer_limits s.producers) in
+    let b : List RestartLimit = flat_map (own_limits s) (processor_limits s.processors) in
+    let c : List RestartLimit = flat_map (own_limits s) (supervisor_limits s.supervisor) in
+    let d : List RestartLimit = flat_map (own_limits s) (batcher_limits s.batchers) in
+    let second : second_limit s ≡ 1 + length a = after_count s 1 (producer_limits s.producers) in
+    let third : third_limit s ≡ second_limit s + length b = after_count s (second_limit s) (processor_limits s.processors) in
+    let fourth : fourth_limit s ≡ third_limit s + length c = after_count s (third_limit s) (supervisor_limits s.supervisor) in
+    let last : places_after (fourth_limit s) (batcher_limits s.batchers) ≡ fourth_limit s + length d = after_count s (fourth_limit s) (batcher_limits s.batchers) in
+    let whole : length (limits_of s) ≡ 1 + (length a + (length b + (length c + length d))) = omega (arith, length-append a (b ++ (c ++ d)), length-append b (c ++ d), length-append c d) in
+    omega (arith, second, third, fourth, last, whole)
 
-first_stages : (s : Settings) → list_all has_first (stages_of s) ≡ true
-first_stages s =
+-- each stage's limit is there
+
+abbrev has_limit : ℕ → StageSpec → Bool
+has_limit total s = nat_lt s.limit total
+
+place_step : (total l : ℕ) (owns : List OwnLimit) (b : Bool) → 1 ≤ total → places_after (cond b (l + 1) l) owns ≤ total → nat_lt (cond b l 0) total ≡ true
+place_step total l owns true one h = lt_true l total (omega (arith, places_from (l + 1) owns))
+place_step total l owns false one h = lt_true 0 total one
+
+limited_producers : (total : ℕ) (field : Option ℕ) (n l i : ℕ) (ps : List ProducerSettings) → 1 ≤ total → places_after l (producer_limits ps) ≤ total → list_all (has_limit total) (producer_stages field n l i ps) ≡ true
+limited_producers total field n l i [] one h = refl
+limited_producers total field n l i (p ∷ ps) one h = both (place_step total l (producer_limits ps) (is_own p.limit) one h) (limited_producers total field n (next_place l p.limit) (i + 1) ps one h)
+
+limited_processors : (total : ℕ) (known : List (List ℕ)) (first l : ℕ) (q : Option ProcessorSettings) → 1 ≤ total → places_after l (processor_limits q) ≤ total → list_all (has_limit total) (processor_stages known first l q) ≡ true
+limited_processors total known first l None one h = refl
+limited_processors total known first l (Some q) one h = all_map (has_limit total) (processor_stage known q first (limit_place l q.limit)) (places 0 q.concurrency) (λ i. place_step total l [] (is_own q.limit) one h)
+
+limited_supervisors : (total first l : ℕ) (s : Option SupervisorSettings) → 1 ≤ total → places_after l (supervisor_limits s) ≤ total → list_all (has_limit total) (supervisor_stages first l s) ≡ true
+limited_supervisors total first l None one h = refl
+limited_supervisors total first l (Some s) one h = both (place_step total l [] (is_own s.limit) one h) refl
+
+limited_batchers : (total second l i : ℕ) (bs : List BatcherSettings) → 1 ≤ total → places_after l (batcher_limits bs) ≤ total → list_all (has_limit total) (batcher_stages second l i bs) ≡ true
+limited_batchers total second l i [] one h = refl
+limited_batchers total second l i (b ∷ bs) one h = both (place_step total l (batcher_limits bs) (is_own b.limit) one h) (limited_batchers total second (next_place l b.limit) (i + 1) bs one h)
+
+limited_members : (total before l k : ℕ) (bs : List BatcherSettings) → 1 ≤ total → places_after l (batcher_limits bs) ≤ total → list_all (has_limit total) (batch_processor_stages before l k bs) ≡ true
+limited_members total before l k [] one h = refl
+limited_members total before l k (b ∷ bs) one h =
+    all_append (has_limit total) (map (batch_processor_stage k b before (limit_place l b.limit)) (places 0 b.concurrency)) (batch_processor_stages (before + b.concurrency) (next_place l b.limit) (k + 1) bs)
+    (all_map (has_limit total) (batch_processor_stage k b before (limit_place l b.limit)) (places 0 b.concurrency) (λ i. place_step total l (batcher_limits bs) (is_own b.limit) one h))
+    (limited_members total (before + b.concurrency) (next_place l b.limit) (k + 1) bs one h)
+
+limited_stages : (s : Settings) → list_all (has_limit (length (limits_of s))) (stages_of s) ≡ true
+limited_stages s =
     let known : List (List ℕ) = batcher_names s.batchers in
     let first : ℕ = length s.producers in
     let second : ℕ = first + processor_count s.processors + supervisor_count s.supervisor in
-    let ps : List StageSpec = producer_stages (partition_field s.processors) (processor_count s.processors) 0 s.producers in
-    let cs : List StageSpec = processor_stages known first s.processors in
-    let ss : List StageSpec = supervisor_stages first s.supervisor in
-    let bs : List StageSpec = batcher_stages second 0 s.batchers in
-    let ds : List StageSpec = batch_processor_stages (second + length s.batchers) 0 s.batchers in
-    five_all has_first ps cs ss bs ds (first_producers (partition_field s.processors) (processor_count s.processors) 0 s.producers) (first_processors known first s.processors)
-    (first_supervisors first s.supervisor) (first_batchers second 0 s.batchers) (first_members (second + length s.batchers) 0 s.batchers)
+    let ps : List StageSpec = producer_stages (partition_field s.processors) (processor_count s.processors) 1 0 s.producers in
+    let cs : List StageSpec = processor_stages known first (second_limit s) s.processors in
+    let ss : List StageSpec = supervisor_stages first (third_limit s) s.supervisor in
+    let bs : List StageSpec = batcher_stages second (fourth_limit s) 0 s.batchers in
+    let ds : List StageSpec = batch_processor_stages (second + length s.batchers) (fourth_limit s) 0 s.batchers in
+    let total : ℕ = length (limits_of s) in
+    let last : fourth_limit s ≤ total = omega (arith, places_from (fourth_limit s) (batcher_limits s.batchers), total_limits s) in
+    let third : third_limit s ≤ fourth_limit s = places_from (third_limit s) (supervisor_limits s.supervisor) in
+    let before : second_limit s ≤ third_limit s = places_from (second_limit s) (processor_limits s.processors) in
+    let front : 1 ≤ second_limit s = places_from 1 (producer_limits s.producers) in
+    let one : 1 ≤ total = omega (arith, last, third, before, front) in
+    let behind : places_after (fourth_limit s) (batcher_limits s.batchers) ≤ total = omega (arith, total_limits s) in
+    let to_third : third_limit s ≤ total = omega (arith, last, third) in
+    let to_second : second_limit s ≤ total = omega (arith, to_third, before) in
+    five_all (has_limit total) ps cs ss bs ds (limited_producers total (partition_field s.processors) (processor_count s.processors) 1 0 s.producers one to_second)
+    (limited_processors total known first (second_limit s) s.processors one to_third) (limited_supervisors total first (third_limit s) s.supervisor one last)
+    (limited_batchers total second (fourth_limit s) 0 s.batchers one behind) (limited_members total (second + length s.batchers) (fourth_limit s) 0 s.batchers one behind)
+
+-- each limit is in its range
+
+most_or : (o : Option ℕ) (n : ℕ) → most_fit o ≡ true → nat_le n 1000 ≡ true → nat_le (unwrap_or o n) 1000 ≡ true
+most_or None n h e = e
+most_or (Some m) n h e = h
+
+seconds_or : (o : Option ℕ) (n : ℕ) → seconds_fit o ≡ true → is_between 1 3600 n ≡ true → is_between 1 3600 (unwrap_or o n) ≡ true
+seconds_or None n h e = e
+seconds_or (Some m) n h e = h
+
+limit_from_fits : (s : Settings) (own : OwnLimit) → nat_le s.max_restarts 1000 ≡ true → is_between 1 3600 s.max_seconds ≡ true → limit_fits own ≡ true → is_limit (limit_from s own) ≡ true
+limit_from_fits s own most seconds h =
+    let (few, long) = and_parts (most_fit own.max_restarts) (seconds_fit own.max_seconds) h in
+    both (most_or own.max_restarts s.max_restarts few most) (window_fits (unwrap_or own.max_seconds s.max_seconds) (seconds_or own.max_seconds s.max_seconds long seconds))
+
+own_limits_fit : (s : Settings) (own : OwnLimit) (b : Bool) → is_limit (limit_from s own) ≡ true → list_all is_limit (cond b (limit_from s own ∷ []) []) ≡ true
+own_limits_fit s own true h = both h refl
+own_limits_fit s own false h = refl
+
+all_limits_fit : (s : Settings) (owns : List OwnLimit) → nat_le s.max_restarts 1000 ≡ true → is_between 1 3600 s.max_seconds ≡ true → list_all limit_fits owns ≡ true → list_all is_limit (flat_map (own_limits s) owns) ≡ true
+all_limits_fit s [] most seconds h = refl
+all_limits_fit s (own ∷ owns) most seconds h =
+    let (here, more) = and_parts (limit_fits own) (list_all limit_fits owns) h in
+    list_all-append is_limit (own_limits s own) (flat_map (own_limits s) owns)
+    ∙ both (own_limits_fit s own (is_own own) (limit_from_fits s own most seconds here)) (all_limits_fit s owns most seconds more)
+
+limits_fit : (s : Settings) → IsFit s → nat_le s.max_restarts 1000 ≡ true → is_between 1 3600 s.max_seconds ≡ true → list_all is_limit (limits_of s) ≡ true
+limits_fit s fit most seconds =
+    let a : List RestartLimit = flat_map (own_limits s) (producer_limits s.producers) in
+    let b : List RestartLimit = flat_map (own_limits s) (processor_limits s.processors) in
+    let c : List RestartLimit = flat_map (own_limits s) (supervisor_limits s.supervisor) in
+    let d : List RestartLimit = flat_map (own_limits s) (batcher_limits s.batchers) in
+    let (ps, after_ps) = and_parts (list_all limit_fits (producer_limits s.producers)) (list_all limit_fits (processor_limits s.processors) && (list_all limit_fits (supervisor_limits s.supervisor) && list_all limit_fits (batcher_limits s.batchers))) fit.limits in
+    let (cs, after_cs) = and_parts (list_all limit_fits (processor_limits s.processors)) (list_all limit_fits (supervisor_limits s.supervisor) && list_all limit_fits (batcher_limits s.batchers)) after_ps in
+    let (ss, bs) = and_parts (list_all limit_fits (supervisor_limits s.supervisor)) (list_all limit_fits (batcher_limits s.batchers)) after_cs in
+    both (both most (window_fits s.max_seconds seconds))
+    (list_all-append is_limit a (b ++ (c ++ d)) ∙ both (all_limits_fit s (producer_limits s.producers) most seconds ps)
+    (list_all-append is_limit b (c ++ d) ∙ both (all_limits_fit s (processor_limits s.processors) most seconds cs)
+    (list_all-append is_limit c d ∙ both (all_limits_fit s (supervisor_limits s.supervisor) most seconds ss) (all_limits_fit s (batcher_limits s.batchers) most seconds bs))))
 
 settings_fit : (s : Settings) → IsFit s → are_settings (topology_in s) ≡ true
 settings_fit s fit =
     let (restarts, others) = and_parts (nat_le s.max_restarts 1000 && is_between 1 3600 s.max_seconds) (nat_le s.idle_limit 1000000 && is_control s.control) fit.pipeline in
     let (most, seconds) = and_parts (nat_le s.max_restarts 1000) (is_between 1 3600 s.max_seconds) restarts in
     let (idle, control) = and_parts (nat_le s.idle_limit 1000000) (is_control s.control) others in
-    both (both (both (both most (window_fits s.max_seconds seconds)) refl) (first_stages s)) (both (both idle control) refl)
+    let some : 1 ≤ length (limits_of s) = omega arith in
+    both (both (le-leb 1 (length (limits_of s)) some) (both (limits_fit s fit most seconds) (limited_stages s))) (both (both idle control) (both fit.sizes refl))
 
 pub built_is_sound : (s : Settings) → IsFit s → faults_in s ≡ [] → IsSound (topology_in s)
 built_is_sound s fit h =
@@ -228,17 +324,20 @@ built_is_sound s fit h =
     let third : ℕ = second + length s.batchers in
     let field : Option ℕ = partition_field s.processors in
     let n : ℕ = processor_count s.processors in
-    let ps : List StageSpec = producer_stages field n 0 s.producers in
-    let cs : List StageSpec = processor_stages known first s.processors in
-    let ss : List StageSpec = supervisor_stages first s.supervisor in
-    let bs : List StageSpec = batcher_stages second 0 s.batchers in
-    let ds : List StageSpec = batch_processor_stages third 0 s.batchers in
+    let l2 : ℕ = second_limit s in
+    let l3 : ℕ = third_limit s in
+    let l4 : ℕ = fourth_limit s in
+    let ps : List StageSpec = producer_stages field n 1 0 s.producers in
+    let cs : List StageSpec = processor_stages known first l2 s.processors in
+    let ss : List StageSpec = supervisor_stages first l3 s.supervisor in
+    let bs : List StageSpec = batcher_stages second l4 0 s.batchers in
+    let ds : List StageSpec = batch_processor_stages third l4 0 s.batchers in
     let all : List StageSpec = ps ++ (cs ++ (ss ++ (bs ++ ds))) in
-    let p : AllRole role.Producer ps = role_producers field n 0 s.producers in
-    let c : AllRole role.Processor cs = role_processors known first s.processors in
-    let v : AllRole role.Supervisor ss = role_supervisors first s.supervisor in
-    let b : AllRole role.Batcher bs = role_batchers second 0 s.batchers in
-    let d : AllRole role.BatchProcessor ds = role_batch_processors third 0 s.batchers in
+    let p : AllRole role.Producer ps = role_producers field n 1 0 s.producers in
+    let c : AllRole role.Processor cs = role_processors known first l2 s.processors in
+    let v : AllRole role.Supervisor ss = role_supervisors first l3 s.supervisor in
+    let b : AllRole role.Batcher bs = role_batchers second l4 0 s.batchers in
+    let d : AllRole role.BatchProcessor ds = role_batch_processors third l4 0 s.batchers in
     let (duplicates, after_names) = nothing_left (duplicates_with known s) (routes_with known s ++ (group_faults s ++ (bad_dispatches 0 s.batchers ++ unreachable_with known s.batchers s.processors))) h in
     let (routes, after_routes) = nothing_left (routes_with known s) (group_faults s ++ (bad_dispatches 0 s.batchers ++ unreachable_with known s.batchers s.processors)) after_names in
     let (groups, after_groups) = nothing_left (group_faults s) (bad_dispatches 0 s.batchers ++ unreachable_with known s.batchers s.processors) after_routes in
@@ -252,21 +351,21 @@ built_is_sound s fit h =
     let batchers_are : batchers all ≡ bs = five_batchers ps cs ss bs ds p c v b d in
     let processors_are : processors all ≡ cs = five_processors ps cs ss bs ds p c v b d in
     let producers_are : producers all ≡ ps = five_producers ps cs ss bs ds p c v b d in
-    let batchers_count : length (batchers all) ≡ length s.batchers = ap length batchers_are ∙ length-batchers second 0 s.batchers in
-    let processors_count : length (processors all) ≡ n = ap length processors_are ∙ length-processors known first s.processors in
+    let batchers_count : length (batchers all) ≡ length s.batchers = ap length batchers_are ∙ length-batchers second l4 0 s.batchers in
+    let processors_count : length (processors all) ≡ n = ap length processors_are ∙ length-processors known first l2 s.processors in
     let known_count : length (batchers all) ≡ length known = batchers_count ∙ sym (length-names s.batchers) in
-    let found = found_batchers all second 0 s.batchers ds (λ k above. find_other role.Producer k ps (cs ++ (ss ++ (bs ++ ds))) refl p ∙ (find_other role.Processor k cs (ss ++ (bs ++ ds)) refl c ∙ find_other role.Supervisor k ss (bs ++ ds) refl v)) in
-    let counted = counted_batchers all 0 third s.batchers (λ k above. ap length (members_of k ps cs ss bs ds p c v b)) in
+    let found = found_batchers all second l4 0 s.batchers ds (λ k above. find_other role.Producer k ps (cs ++ (ss ++ (bs ++ ds))) refl p ∙ (find_other role.Processor k cs (ss ++ (bs ++ ds)) refl c ∙ find_other role.Supervisor k ss (bs ++ ds) refl v)) in
+    let counted = counted_batchers all 0 third l4 s.batchers (λ k above. ap length (members_of k ps cs ss bs ds p c v b)) in
     record {
       few = count_fits s few;
-      ordered = stages_are_ordered field n known s.producers s.processors s.supervisor s.batchers first second third all refl (some_producer s.producers ((is_none s.processors && is_none s.supervisor) || (is_some s.supervisor && (is_some s.processors || not (length s.batchers == 0)))) present) refl refl is_enough (sizes_fit s.batchers fit.batchers) refl batchers_count;
-      named = five_all (is_named all) ps cs ss bs ds (named_producers all field n 0 s.producers (names_fit s.producers fit.producers)) (named_processors all known first s.processors) (named_supervisors all first s.supervisor)
-          (named_batchers all second 0 s.batchers (batcher_names_fit s.batchers fit.batchers)) (named_batch_processors all second third 0 s.batchers found);
-      distinct = rw (producers_are, batchers_are) (names_are_distinct field n second s.producers s.batchers names producers_new);
-      in_range = five_all (has_fields all) ps cs ss bs ds (producer_fields all field n 0 s.producers processors_count (partition_fits s.processors fit.processors) fit.producers)
-          (processor_fields all known first s.processors known_count fit.processors (processor_rules known s.processors fit.processors processor_straight))
-          (supervisor_fields all first s.supervisor fit.supervisor (supervisor_rules s.supervisor fit.supervisor supervisor_straight))
-          (batcher_fields all second 0 s.batchers counted fit.batchers) (member_fields all second third 0 s.batchers found fit.batchers batcher_straight);
-      reached = rw batchers_are (reached all known first second s.processors s.supervisor s.batchers is_enough processors_are unreached);
+      ordered = stages_are_ordered field n known s.producers s.processors s.supervisor s.batchers first second third 1 l2 l3 l4 all refl (some_producer s.producers ((is_none s.processors && is_none s.supervisor) || (is_some s.supervisor && (is_some s.processors || not (length s.batchers == 0)))) present) refl refl is_enough (sizes_fit s.batchers fit.batchers) refl batchers_count;
+      named = five_all (is_named all) ps cs ss bs ds (named_producers all field n 1 0 s.producers (names_fit s.producers fit.producers)) (named_processors all known first l2 s.processors) (named_supervisors all first l3 s.supervisor)
+          (named_batchers all second l4 0 s.batchers (batcher_names_fit s.batchers fit.batchers)) (named_batch_processors all second third l4 0 s.batchers found);
+      distinct = rw (producers_are, batchers_are) (names_are_distinct field n 1 second l4 s.producers s.batchers names producers_new);
+      in_range = five_all (has_fields all) ps cs ss bs ds (producer_fields all field n 1 0 s.producers processors_count (partition_fits s.processors fit.processors) fit.producers)
+          (processor_fields all known first l2 s.processors known_count fit.processors (processor_rules known s.processors fit.processors processor_straight))
+          (supervisor_fields all first l3 s.supervisor fit.supervisor (supervisor_rules s.supervisor fit.supervisor supervisor_straight))
+          (batcher_fields all second l4 0 s.batchers counted fit.batchers) (member_fields all second third l4 0 s.batchers found fit.batchers batcher_straight);
+      reached = rw batchers_are (reached all known first second l2 l4 s.processors s.supervisor s.batchers is_enough processors_are unreached);
       settings = settings_fit s fit;
     }

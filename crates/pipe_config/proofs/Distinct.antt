@@ -10,6 +10,7 @@ use Rattle.config_settings.specs.declared.settings.ProducerSettings.{ProducerSet
 use Rattle.config_settings.specs.declared.settings.BatcherSettings.{BatcherSettings}
 use Rattle.config_judge.specs.Judge.{fault_if, is_in, duplicate_names, producer_names, batcher_names}
 use Rattle.config_build.specs.Build.{producer_stages, batcher_stages}
+use Rattle.config_build.specs.Limits.{next_place}
 
 pub nothing_left : (xs ys : List ConfigFault) → xs ++ ys ≡ [] → (xs ≡ []) × (ys ≡ [])
 nothing_left [] ys h = (refl, h)
@@ -73,33 +74,33 @@ apart_tail (x ∷ before) name names h =
     ((more, front), either (turned x name here) last)
 
 -- the names of stages
-any_producer : (x : List ℕ) (field : Option ℕ) (n i : ℕ) (ps : List ProducerSettings) (rest : List StageSpec) → list_any (λ t. bytes_eq x t.name) (producer_stages field n i ps ++ rest) ≡ (list_any (bytes_eq x) (producer_names ps) || list_any (λ t. bytes_eq x t.name) rest)
-any_producer x field n i [] rest = refl
-any_producer x field n i (p ∷ ps) rest = rw (any_producer x field n (i + 1) ps rest) (or_assoc (bytes_eq x p.name) (list_any (bytes_eq x) (producer_names ps)) (list_any (λ t. bytes_eq x t.name) rest))
+any_producer : (x : List ℕ) (field : Option ℕ) (n l i : ℕ) (ps : List ProducerSettings) (rest : List StageSpec) → list_any (λ t. bytes_eq x t.name) (producer_stages field n l i ps ++ rest) ≡ (list_any (bytes_eq x) (producer_names ps) || list_any (λ t. bytes_eq x t.name) rest)
+any_producer x field n l i [] rest = refl
+any_producer x field n l i (p ∷ ps) rest = rw (any_producer x field n (next_place l p.limit) (i + 1) ps rest) (or_assoc (bytes_eq x p.name) (list_any (bytes_eq x) (producer_names ps)) (list_any (λ t. bytes_eq x t.name) rest))
   where
     or_assoc : (a b c : Bool) → (a || (b || c)) ≡ ((a || b) || c)
     or_assoc true b c = refl
     or_assoc false b c = refl
 
-any_batcher : (x : List ℕ) (second i : ℕ) (bs : List BatcherSettings) → list_any (λ t. bytes_eq x t.name) (batcher_stages second i bs) ≡ list_any (bytes_eq x) (batcher_names bs)
-any_batcher x second i [] = refl
-any_batcher x second i (b ∷ bs) = ap (λ o. bytes_eq x b.name || o) (any_batcher x second (i + 1) bs)
+any_batcher : (x : List ℕ) (second l i : ℕ) (bs : List BatcherSettings) → list_any (λ t. bytes_eq x t.name) (batcher_stages second l i bs) ≡ list_any (bytes_eq x) (batcher_names bs)
+any_batcher x second l i [] = refl
+any_batcher x second l i (b ∷ bs) = ap (λ o. bytes_eq x b.name || o) (any_batcher x second (next_place l b.limit) (i + 1) bs)
 
-distinct_batchers : (second i : ℕ) (bs : List BatcherSettings) → Distinct (batcher_names bs) → are_distinct (batcher_stages second i bs) ≡ true
-distinct_batchers second i [] d = refl
-distinct_batchers second i (b ∷ bs) d = rw (any_batcher b.name second (i + 1) bs, d.0) (distinct_batchers second (i + 1) bs d.1)
+distinct_batchers : (second l i : ℕ) (bs : List BatcherSettings) → Distinct (batcher_names bs) → are_distinct (batcher_stages second l i bs) ≡ true
+distinct_batchers second l i [] d = refl
+distinct_batchers second l i (b ∷ bs) d = rw (any_batcher b.name second (next_place l b.limit) (i + 1) bs, d.0) (distinct_batchers second (next_place l b.limit) (i + 1) bs d.1)
 
-distinct_stages : (field : Option ℕ) (n i second : ℕ) (ps : List ProducerSettings) (bs : List BatcherSettings) → Apart (batcher_names bs) (producer_names ps) → Distinct (producer_names ps) → Distinct (batcher_names bs)
-    → are_distinct (producer_stages field n i ps ++ batcher_stages second 0 bs) ≡ true
-distinct_stages field n i second [] bs apart d e = distinct_batchers second 0 bs e
-distinct_stages field n i second (p ∷ ps) bs apart d e =
+distinct_stages : (field : Option ℕ) (n l i second m : ℕ) (ps : List ProducerSettings) (bs : List BatcherSettings) → Apart (batcher_names bs) (producer_names ps) → Distinct (producer_names ps) → Distinct (batcher_names bs)
+    → are_distinct (producer_stages field n l i ps ++ batcher_stages second m 0 bs) ≡ true
+distinct_stages field n l i second m [] bs apart d e = distinct_batchers second m 0 bs e
+distinct_stages field n l i second m (p ∷ ps) bs apart d e =
     let (front, last) = apart_tail (batcher_names bs) p.name (producer_names ps) apart in
-    rw (any_producer p.name field n (i + 1) ps (batcher_stages second 0 bs), any_batcher p.name second 0 bs, d.0, last) (distinct_stages field n (i + 1) second ps bs front d.1 e)
+    rw (any_producer p.name field n (next_place l p.limit) (i + 1) ps (batcher_stages second m 0 bs), any_batcher p.name second m 0 bs, d.0, last) (distinct_stages field n (next_place l p.limit) (i + 1) second m ps bs front d.1 e)
 
-pub names_are_distinct : (field : Option ℕ) (n second : ℕ) (ps : List ProducerSettings) (bs : List BatcherSettings)
+pub names_are_distinct : (field : Option ℕ) (n l second m : ℕ) (ps : List ProducerSettings) (bs : List BatcherSettings)
     → duplicate_names (codes "batcher") [] 0 (batcher_names bs) ≡ [] → duplicate_names (codes "producer") (batcher_names bs) 0 (producer_names ps) ≡ []
-    → are_distinct (producer_stages field n 0 ps ++ batcher_stages second 0 bs) ≡ true
-names_are_distinct field n second ps bs a b =
+    → are_distinct (producer_stages field n l 0 ps ++ batcher_stages second m 0 bs) ≡ true
+names_are_distinct field n l second m ps bs a b =
     let (none, distinct) = apart_names (codes "batcher") [] 0 (batcher_names bs) a in
     let (apart, producers) = apart_names (codes "producer") (batcher_names bs) 0 (producer_names ps) b in
-    distinct_stages field n 0 second ps bs apart producers distinct
+    distinct_stages field n l 0 second m ps bs apart producers distinct

@@ -11,6 +11,7 @@ use Rattle.config_settings.specs.declared.settings.SupervisorSettings.{Superviso
 use Rattle.config_settings.specs.declared.settings.BatcherSettings.{BatcherSettings}
 use Rattle.config_judge.specs.Judge.{processor_count, supervisor_count, batch_processor_count}
 use Rattle.config_build.specs.Build.{producer_stages, places, processor_stage, processor_stages, supervisor_stages, batcher_stages, batch_processor_stage, batch_processor_stages}
+use Rattle.config_build.specs.Limits.{limit_place, next_place}
 
 -- every stage has this role
 abbrev pub AllRole : Role → List StageSpec → Type 0
@@ -36,61 +37,61 @@ pub filter_role : (f : Role → Bool) (r : Role) (xs : List StageSpec) → AllRo
 filter_role f r [] h = same_either (f r) []
 filter_role f r (x ∷ xs) h = rw (filter_role f r xs h.1) (filter_cons (f x.role) (f r) x xs (ap f h.0))
 
-pub role_producers : (field : Option ℕ) (n i : ℕ) (ps : List ProducerSettings) → AllRole role.Producer (producer_stages field n i ps)
-role_producers field n i [] = tt
-role_producers field n i (p ∷ ps) = (refl, role_producers field n (i + 1) ps)
+pub role_producers : (field : Option ℕ) (n l i : ℕ) (ps : List ProducerSettings) → AllRole role.Producer (producer_stages field n l i ps)
+role_producers field n l i [] = tt
+role_producers field n l i (p ∷ ps) = (refl, role_producers field n (next_place l p.limit) (i + 1) ps)
 
 pub role_map : (f : ℕ → StageSpec) (r : Role) → ((i : ℕ) → (f i).role ≡ r) → (is : List ℕ) → AllRole r (map f is)
 role_map f r h [] = tt
 role_map f r h (i ∷ is) = (h i, role_map f r h is)
 
-pub role_processors : (known : List (List ℕ)) (before : ℕ) (p : Option ProcessorSettings) → AllRole role.Processor (processor_stages known before p)
-role_processors known before None = tt
-role_processors known before (Some p) = role_map (processor_stage known p before) role.Processor (λ i. refl) (places 0 p.concurrency)
+pub role_processors : (known : List (List ℕ)) (before l : ℕ) (p : Option ProcessorSettings) → AllRole role.Processor (processor_stages known before l p)
+role_processors known before l None = tt
+role_processors known before l (Some p) = role_map (processor_stage known p before (limit_place l p.limit)) role.Processor (λ i. refl) (places 0 p.concurrency)
 
-pub role_supervisors : (before : ℕ) (s : Option SupervisorSettings) → AllRole role.Supervisor (supervisor_stages before s)
-role_supervisors before None = tt
-role_supervisors before (Some s) = (refl, tt)
+pub role_supervisors : (before l : ℕ) (s : Option SupervisorSettings) → AllRole role.Supervisor (supervisor_stages before l s)
+role_supervisors before l None = tt
+role_supervisors before l (Some s) = (refl, tt)
 
-pub role_batchers : (before i : ℕ) (bs : List BatcherSettings) → AllRole role.Batcher (batcher_stages before i bs)
-role_batchers before i [] = tt
-role_batchers before i (b ∷ bs) = (refl, role_batchers before (i + 1) bs)
+pub role_batchers : (before l i : ℕ) (bs : List BatcherSettings) → AllRole role.Batcher (batcher_stages before l i bs)
+role_batchers before l i [] = tt
+role_batchers before l i (b ∷ bs) = (refl, role_batchers before (next_place l b.limit) (i + 1) bs)
 
-pub role_batch_processors : (before k : ℕ) (bs : List BatcherSettings) → AllRole role.BatchProcessor (batch_processor_stages before k bs)
-role_batch_processors before k [] = tt
-role_batch_processors before k (b ∷ bs) =
-    AllRole-append role.BatchProcessor (map (batch_processor_stage k b before) (places 0 b.concurrency)) (batch_processor_stages (before + b.concurrency) (k + 1) bs)
-    (role_map (batch_processor_stage k b before) role.BatchProcessor (λ i. refl) (places 0 b.concurrency))
-    (role_batch_processors (before + b.concurrency) (k + 1) bs)
+pub role_batch_processors : (before l k : ℕ) (bs : List BatcherSettings) → AllRole role.BatchProcessor (batch_processor_stages before l k bs)
+role_batch_processors before l k [] = tt
+role_batch_processors before l k (b ∷ bs) =
+    AllRole-append role.BatchProcessor (map (batch_processor_stage k b before (limit_place l b.limit)) (places 0 b.concurrency)) (batch_processor_stages (before + b.concurrency) (next_place l b.limit) (k + 1) bs)
+    (role_map (batch_processor_stage k b before (limit_place l b.limit)) role.BatchProcessor (λ i. refl) (places 0 b.concurrency))
+    (role_batch_processors (before + b.concurrency) (next_place l b.limit) (k + 1) bs)
 
 -- ---- how many
 
-pub length-producers : (field : Option ℕ) (n i : ℕ) (ps : List ProducerSettings) → length (producer_stages field n i ps) ≡ length ps
-length-producers field n i [] = refl
-length-producers field n i (p ∷ ps) = ap suc (length-producers field n (i + 1) ps)
+pub length-producers : (field : Option ℕ) (n l i : ℕ) (ps : List ProducerSettings) → length (producer_stages field n l i ps) ≡ length ps
+length-producers field n l i [] = refl
+length-producers field n l i (p ∷ ps) = ap suc (length-producers field n (next_place l p.limit) (i + 1) ps)
 
 pub length-places : (f : ℕ → StageSpec) (i n : ℕ) → length (map f (places i n)) ≡ n
 length-places f i zero = refl
 length-places f i (suc n) = ap suc (length-places f (i + 1) n)
 
-pub length-processors : (known : List (List ℕ)) (before : ℕ) (p : Option ProcessorSettings) → length (processor_stages known before p) ≡ processor_count p
-length-processors known before None = refl
-length-processors known before (Some p) = length-places (processor_stage known p before) 0 p.concurrency
+pub length-processors : (known : List (List ℕ)) (before l : ℕ) (p : Option ProcessorSettings) → length (processor_stages known before l p) ≡ processor_count p
+length-processors known before l None = refl
+length-processors known before l (Some p) = length-places (processor_stage known p before (limit_place l p.limit)) 0 p.concurrency
 
-pub length-supervisors : (before : ℕ) (s : Option SupervisorSettings) → length (supervisor_stages before s) ≡ supervisor_count s
-length-supervisors before None = refl
-length-supervisors before (Some s) = refl
+pub length-supervisors : (before l : ℕ) (s : Option SupervisorSettings) → length (supervisor_stages before l s) ≡ supervisor_count s
+length-supervisors before l None = refl
+length-supervisors before l (Some s) = refl
 
-pub length-batchers : (before i : ℕ) (bs : List BatcherSettings) → length (batcher_stages before i bs) ≡ length bs
-length-batchers before i [] = refl
-length-batchers before i (b ∷ bs) = ap suc (length-batchers before (i + 1) bs)
+pub length-batchers : (before l i : ℕ) (bs : List BatcherSettings) → length (batcher_stages before l i bs) ≡ length bs
+length-batchers before l i [] = refl
+length-batchers before l i (b ∷ bs) = ap suc (length-batchers before (next_place l b.limit) (i + 1) bs)
 
-pub length-batch_processors : (before k : ℕ) (bs : List BatcherSettings) → length (batch_processor_stages before k bs) ≡ batch_processor_count bs
-length-batch_processors before k [] = refl
-length-batch_processors before k (b ∷ bs) =
-    length-append (map (batch_processor_stage k b before) (places 0 b.concurrency)) (batch_processor_stages (before + b.concurrency) (k + 1) bs)
-    ∙ (ap (λ n. n + length (batch_processor_stages (before + b.concurrency) (k + 1) bs)) (length-places (batch_processor_stage k b before) 0 b.concurrency)
-    ∙ ap (λ n. b.concurrency + n) (length-batch_processors (before + b.concurrency) (k + 1) bs))
+pub length-batch_processors : (before l k : ℕ) (bs : List BatcherSettings) → length (batch_processor_stages before l k bs) ≡ batch_processor_count bs
+length-batch_processors before l k [] = refl
+length-batch_processors before l k (b ∷ bs) =
+    length-append (map (batch_processor_stage k b before (limit_place l b.limit)) (places 0 b.concurrency)) (batch_processor_stages (before + b.concurrency) (next_place l b.limit) (k + 1) bs)
+    ∙ (ap (λ n. n + length (batch_processor_stages (before + b.concurrency) (next_place l b.limit) (k + 1) bs)) (length-places (batch_processor_stage k b before (limit_place l b.limit)) 0 b.concurrency)
+    ∙ ap (λ n. b.concurrency + n) (length-batch_processors (before + b.concurrency) (next_place l b.limit) (k + 1) bs))
 
 -- ---- five groups in a row
 

@@ -9,3 +9,5 @@ pub mod Built
 pub mod Walked
 pub mod Table
 pub mod Sound
+pub mod Shallow
+pub mod Upgraded

@@ -10,6 +10,7 @@ use Rattle.std.specs.List.{list_all}
 use Rattle.pipe_types.specs.Sound.{is_between, is_name, is_reason, is_lines, is_control}
 use Rattle.toml.specs.Data.{Data, Items, no_items, item, Members, no_members, member, get_member, as_integer, as_str, as_array, as_table}
 use Rattle.config_table.specs.declared.fault.ConfigFault.{ConfigFault}
+use Rattle.config_table.specs.declared.format.FileVersion.{FileVersion}
 use Rattle.config_table.specs.declared.format.Key.{Key}
 use Rattle.config_table.specs.declared.format.Key.TheVariants as key
 use Rattle.config_table.specs.declared.format.Range.{Range}
@@ -27,8 +28,9 @@ use Rattle.config_table.specs.declared.format.Shape.{Shape}
 use Rattle.config_table.specs.declared.value.Flaw.TheVariants.{OutOfRange}
 use Rattle.config_table.specs.Walk.{held_faults, row_faults, rows_faults, unknown_keys, table_faults, each_faults, array_faults, top_faults, faults_of}
 use Rattle.config_settings.specs.Settings as settings
-use Rattle.config_settings.specs.Settings.{texts_in, text_before, table_at, array_at, settings_of, producers_in, producers_at, batchers_in, batchers_at, producer_of, processors_of, supervisor_of, batcher_of, reason_of, kind_of, demand_of, pipeline_number}
-use Rattle.pipe_config.specs.Fit.{IsFit, demand_fits, producer_fits, field_fits, processors_fit, supervisor_fits, are_selectors, is_broadcast, selects_fit, batcher_fits}
+use Rattle.config_settings.specs.Settings.{texts_in, text_before, table_at, array_at, settings_of, producers_in, producers_at, batchers_in, batchers_at, producer_of, processors_of, supervisor_of, batcher_of, own_limit, reason_of, kind_of, demand_of, pipeline_number}
+use Rattle.config_build.specs.Limits.{producer_limits, processor_limits, supervisor_limits, batcher_limits}
+use Rattle.pipe_config.specs.Fit.{IsFit, most_fit, seconds_fit, limit_fits, demand_fits, producer_fits, field_fits, processors_fit, supervisor_fits, are_selectors, is_broadcast, selects_fit, batcher_fits}
 use Rattle.pipe_config.proofs.Named.{both}
 use Rattle.pipe_config.proofs.Distinct.{nothing_left}
 
@@ -49,38 +51,38 @@ least_none (x ∷ faults) h = absurd (sooner_some x (least faults) h)
 same_bytes : (k l : List ℕ) → slice_cmp nat_cmp k l ≡ Equal → k ≡ l
 same_bytes k l e = (bytes_eq-Decides k l).0 (sym (is_eq-slice_cmp k l) ∙ ap is_eq e)
 
-found_here : (o : Ordering) (k l : List ℕ) (d e : Data) (found : Option Data) → slice_cmp nat_cmp k l ≡ o → match_ordering o found (Some e) found ≡ Some d → top_faults l e ≡ [] → (found ≡ Some d → top_faults k d ≡ []) → top_faults k d ≡ []
-found_here Less k l d e found is h clear later = later h
-found_here Equal k l d e found is h clear later =
+found_here : (v : FileVersion) (o : Ordering) (k l : List ℕ) (d e : Data) (found : Option Data) → slice_cmp nat_cmp k l ≡ o → match_ordering o found (Some e) found ≡ Some d → top_faults v l e ≡ [] → (found ≡ Some d → top_faults v k d ≡ []) → top_faults v k d ≡ []
+found_here v Less k l d e found is h clear later = later h
+found_here v Equal k l d e found is h clear later =
     let same : e ≡ d = cc in
-    subst (λ (x : List ℕ). top_faults x d ≡ []) (sym (same_bytes k l is)) (subst (λ (y : Data). top_faults l y ≡ []) same clear)
-found_here Greater k l d e found is h clear later = later h
+    subst (λ (x : List ℕ). top_faults v x d ≡ []) (sym (same_bytes k l is)) (subst (λ (y : Data). top_faults v l y ≡ []) same clear)
+found_here v Greater k l d e found is h clear later = later h
 
 -- a key of a file without faults has none
-at_key : (ms : Members) (k : List ℕ) (d : Data) → faults_of ms ≡ [] → get_member k ms ≡ Some d → top_faults k d ≡ []
-at_key no_members k d clear h = cc
-at_key (member l e ms) k d clear h =
-    let (here, more) = nothing_left (top_faults l e) (faults_of ms) clear in
-    found_here (slice_cmp nat_cmp k l) k l d e (get_member k ms) refl h here (at_key ms k d more)
+at_key : (v : FileVersion) (ms : Members) (k : List ℕ) (d : Data) → faults_of v ms ≡ [] → get_member k ms ≡ Some d → top_faults v k d ≡ []
+at_key v no_members k d clear h = cc
+at_key v (member l e ms) k d clear h =
+    let (here, more) = nothing_left (top_faults v l e) (faults_of v ms) clear in
+    found_here v (slice_cmp nat_cmp k l) k l d e (get_member k ms) refl h here (at_key v ms k d more)
 
-held_table : (ms : Members) (k : Key) (s : Section) (o : Option Data) (t : Members) → ((d : Data) → top_faults (key_name k) d ≡ table_faults s (key_name k) (as_table d)) → faults_of ms ≡ [] → value_at k ms ≡ o → option_and_then as_table o ≡ Some t → rows_faults (key_name k) (rows s t) t ≡ []
-held_table ms k s None t same clear is h = cc
-held_table ms k s (Some d) t same clear is h = rw h at (sym (same d) ∙ at_key ms (key_name k) d clear is)
+held_table : (v : FileVersion) (ms : Members) (k : Key) (s : Section) (o : Option Data) (t : Members) → ((d : Data) → top_faults v (key_name k) d ≡ table_faults v s (key_name k) (as_table d)) → faults_of v ms ≡ [] → value_at k ms ≡ o → option_and_then as_table o ≡ Some t → rows_faults v (key_name k) (rows s t) t ≡ []
+held_table v ms k s None t same clear is h = cc
+held_table v ms k s (Some d) t same clear is h = rw h at (sym (same d) ∙ at_key v ms (key_name k) d clear is)
 
-held_array : (ms : Members) (k : Key) (s : Section) (o : Option Data) (items : Items) → ((d : Data) → top_faults (key_name k) d ≡ array_faults s (key_name k) (as_array d)) → faults_of ms ≡ [] → value_at k ms ≡ o → option_and_then as_array o ≡ Some items → each_faults s (key_name k) 0 items ≡ []
-held_array ms k s None items same clear is h = cc
-held_array ms k s (Some d) items same clear is h = rw h at (sym (same d) ∙ at_key ms (key_name k) d clear is)
+held_array : (v : FileVersion) (ms : Members) (k : Key) (s : Section) (o : Option Data) (items : Items) → ((d : Data) → top_faults v (key_name k) d ≡ array_faults v s (key_name k) (as_array d)) → faults_of v ms ≡ [] → value_at k ms ≡ o → option_and_then as_array o ≡ Some items → each_faults v s (key_name k) 0 items ≡ []
+held_array v ms k s None items same clear is h = cc
+held_array v ms k s (Some d) items same clear is h = rw h at (sym (same d) ∙ at_key v ms (key_name k) d clear is)
 
-abbrev RowsClear : List ℕ → Members → List Row → Type 0
-RowsClear path t [] = Unit {0}
-RowsClear path t (r ∷ rows) = (row_faults path t r ≡ []) × RowsClear path t rows
+abbrev RowsClear : FileVersion → List ℕ → Members → List Row → Type 0
+RowsClear v path t [] = Unit {0}
+RowsClear v path t (r ∷ rows) = (row_faults v path t r ≡ []) × RowsClear v path t rows
 
-rows_clear : (path : List ℕ) (t : Members) (rows : List Row) → flat_map (row_faults path t) rows ≡ [] → RowsClear path t rows
-rows_clear path t [] h = tt
-rows_clear path t (r ∷ rows) h = let (here, more) = nothing_left (row_faults path t r) (flat_map (row_faults path t) rows) h in (here, rows_clear path t rows more)
+rows_clear : (v : FileVersion) (path : List ℕ) (t : Members) (rows : List Row) → flat_map (row_faults v path t) rows ≡ [] → RowsClear v path t rows
+rows_clear v path t [] h = tt
+rows_clear v path t (r ∷ rows) h = let (here, more) = nothing_left (row_faults v path t r) (flat_map (row_faults v path t) rows) h in (here, rows_clear v path t rows more)
 
-table_clear : (path : List ℕ) (t : Members) (rows : List Row) → rows_faults path rows t ≡ [] → RowsClear path t rows
-table_clear path t rows h = rows_clear path t rows (nothing_left (unknown_keys path rows t) (flat_map (row_faults path t) rows) h).1
+table_clear : (v : FileVersion) (path : List ℕ) (t : Members) (rows : List Row) → rows_faults v path rows t ≡ [] → RowsClear v path t rows
+table_clear v path t rows h = rows_clear v path t rows (nothing_left (unknown_keys v path rows t) (flat_map (row_faults v path t) rows) h).1
 
 -- ---- rows
 
@@ -176,25 +178,25 @@ demand_given r most t low high h =
 
 -- ---- tables
 
-producer_clear : (path : List ℕ) (t : Members) → rows_faults path (rows section.Producer t) t ≡ [] → producer_fits (producer_of t) ≡ true
-producer_clear path t h =
-    let clear : RowsClear path t format.producer_rows = table_clear path t format.producer_rows h in
-    both (name_clear _ (value_at key.Name t) clear.1.1.1.0) (number_most format.buffer_size key.BufferSize t refl)
+producer_clear : (v : FileVersion) (path : List ℕ) (t : Members) → rows_faults v path (rows section.Producer t) t ≡ [] → producer_fits (producer_of t) ≡ true
+producer_clear v path t h =
+    let clear : RowsClear v path t format.producer_rows = table_clear v path t format.producer_rows h in
+    both (name_clear _ (value_at key.Name t) clear.1.1.1.1.1.0) (number_most format.buffer_size key.BufferSize t refl)
 
-processors_clear : (path : List ℕ) (t : Members) → rows_faults path (rows section.Processors t) t ≡ [] → processors_fit (Some (processors_of t)) ≡ true
-processors_clear path t h =
-    let clear : RowsClear path t (format.processors_rows (number format.processors_max key.MaxDemand t)) = table_clear path t (format.processors_rows (number format.processors_max key.MaxDemand t)) h in
+processors_clear : (v : FileVersion) (path : List ℕ) (t : Members) → rows_faults v path (rows section.Processors t) t ≡ [] → processors_fit (Some (processors_of t)) ≡ true
+processors_clear v path t h =
+    let clear : RowsClear v path t (format.processors_rows (number format.processors_max key.MaxDemand t)) = table_clear v path t (format.processors_rows (number format.processors_max key.MaxDemand t)) h in
     both (both (number_between format.processors_concurrency key.Concurrency t refl) (field_given (option_and_then as_integer (value_at key.PartitionBy t))))
     (both (demand_given format.processors_max 10000 t refl refl refl)
     (both (no_lines (settings.word shape.Kind key.Kind t))
-    (both (steps_clear _ (value_at key.Steps t) clear.1.1.1.1.1.1.1.0) (reason_given (settings.text_at key.Failed t)))))
+    (both (steps_clear _ (value_at key.Steps t) clear.1.1.1.1.1.1.1.1.1.0) (reason_given (settings.text_at key.Failed t)))))
 
-supervisor_clear : (path : List ℕ) (t : Members) → rows_faults path (rows section.Supervisor t) t ≡ [] → supervisor_fits (Some (supervisor_of t)) ≡ true
-supervisor_clear path t h =
-    let clear : RowsClear path t (format.supervisor_rows (number format.supervisor_max key.MaxDemand t)) = table_clear path t (format.supervisor_rows (number format.supervisor_max key.MaxDemand t)) h in
+supervisor_clear : (v : FileVersion) (path : List ℕ) (t : Members) → rows_faults v path (rows section.Supervisor t) t ≡ [] → supervisor_fits (Some (supervisor_of t)) ≡ true
+supervisor_clear v path t h =
+    let clear : RowsClear v path t (format.supervisor_rows (number format.supervisor_max key.MaxDemand t)) = table_clear v path t (format.supervisor_rows (number format.supervisor_max key.MaxDemand t)) h in
     both (demand_given format.supervisor_max 16 t refl refl refl)
     (both (no_lines (settings.word shape.Kind key.Kind t))
-    (both (steps_clear _ (value_at key.Steps t) clear.1.1.1.1.1.1.0) (reason_given (settings.text_at key.Failed t))))
+    (both (steps_clear _ (value_at key.Steps t) clear.1.1.1.1.1.1.1.1.0) (reason_given (settings.text_at key.Failed t))))
 
 wider : (n : ℕ) → is_between 1 10000 n ≡ true → is_between (format.range 1 10000 n).low (format.range 1 10000 n).high (format.range 1 10000 n).default ≡ true
 wider n h = h
@@ -240,78 +242,135 @@ selects_clear path n t (Some d) e h =
             (both (short_items path 0 items inner) (cast_given (settings.text_at key.Dispatch t) cast))
         fitting false k clear = cc
 
-batcher_clear : (path : List ℕ) (t : Members) → rows_faults path (rows section.Batcher t) t ≡ [] → batcher_fits (batcher_of t) ≡ true
-batcher_clear path t h =
-    let clear : RowsClear path t (rows section.Batcher t) = table_clear path t (rows section.Batcher t) h in
+batcher_clear : (v : FileVersion) (path : List ℕ) (t : Members) → rows_faults v path (rows section.Batcher t) t ≡ [] → batcher_fits (batcher_of t) ≡ true
+batcher_clear v path t h =
+    let clear : RowsClear v path t (rows section.Batcher t) = table_clear v path t (rows section.Batcher t) h in
     let size : is_between 1 10000 (number format.batch_size key.BatchSize t) ≡ true = number_between format.batch_size key.BatchSize t refl in
     both
-    (both (both (name_clear _ (value_at key.Name t) clear.1.1.1.1.1.1.1.1.1.0) (number_between format.batcher_concurrency key.Concurrency t refl))
+    (both (both (name_clear _ (value_at key.Name t) clear.1.1.1.1.1.1.1.1.1.1.1.0) (number_between format.batcher_concurrency key.Concurrency t refl))
     (both (both size (number_between format.batch_timeout key.BatchTimeout t refl))
     (both (demand_given (format.batcher_max t) 10000 t refl refl (wider (number format.batch_size key.BatchSize t) size))
-    (both (steps_clear _ (value_at key.Steps t) clear.1.1.1.1.1.1.1.1.1.1.1.1.0) (reason_given (settings.text_at key.Failed t))))))
-    (selects_clear _ (number format.batcher_concurrency key.Concurrency t) t (value_at key.Select t) refl clear.1.1.1.1.1.1.1.1.1.1.0)
+    (both (steps_clear _ (value_at key.Steps t) clear.1.1.1.1.1.1.1.1.1.1.1.1.1.1.0) (reason_given (settings.text_at key.Failed t))))))
+    (selects_clear _ (number format.batcher_concurrency key.Concurrency t) t (value_at key.Select t) refl clear.1.1.1.1.1.1.1.1.1.1.1.1.0)
 
-producers_clear : (path : List ℕ) (i : ℕ) (items : Items) → each_faults section.Producer path i items ≡ [] → list_all producer_fits (producers_in items) ≡ true
-producers_clear path i no_items h = refl
-producers_clear path i (item d ds) h =
-    let (here, more) = nothing_left (table_faults section.Producer (at_place path i) (as_table d)) (each_faults section.Producer path (i + 1) ds) h in
-    one (as_table d) here (producers_clear path (i + 1) ds more)
+producers_clear : (v : FileVersion) (path : List ℕ) (i : ℕ) (items : Items) → each_faults v section.Producer path i items ≡ [] → list_all producer_fits (producers_in items) ≡ true
+producers_clear v path i no_items h = refl
+producers_clear v path i (item d ds) h =
+    let (here, more) = nothing_left (table_faults v section.Producer (at_place path i) (as_table d)) (each_faults v section.Producer path (i + 1) ds) h in
+    one (as_table d) here (producers_clear v path (i + 1) ds more)
   where
-    one : (o : Option Members) → table_faults section.Producer (at_place path i) o ≡ [] → list_all producer_fits (producers_in ds) ≡ true → list_all producer_fits (settings.producer_before o (producers_in ds)) ≡ true
+    one : (o : Option Members) → table_faults v section.Producer (at_place path i) o ≡ [] → list_all producer_fits (producers_in ds) ≡ true → list_all producer_fits (settings.producer_before o (producers_in ds)) ≡ true
     one None h rest = cc
-    one (Some t) h rest = both (producer_clear (at_place path i) t h) rest
+    one (Some t) h rest = both (producer_clear v (at_place path i) t h) rest
 
-batchers_clear : (path : List ℕ) (i : ℕ) (items : Items) → each_faults section.Batcher path i items ≡ [] → list_all batcher_fits (batchers_in items) ≡ true
-batchers_clear path i no_items h = refl
-batchers_clear path i (item d ds) h =
-    let (here, more) = nothing_left (table_faults section.Batcher (at_place path i) (as_table d)) (each_faults section.Batcher path (i + 1) ds) h in
-    one (as_table d) here (batchers_clear path (i + 1) ds more)
+batchers_clear : (v : FileVersion) (path : List ℕ) (i : ℕ) (items : Items) → each_faults v section.Batcher path i items ≡ [] → list_all batcher_fits (batchers_in items) ≡ true
+batchers_clear v path i no_items h = refl
+batchers_clear v path i (item d ds) h =
+    let (here, more) = nothing_left (table_faults v section.Batcher (at_place path i) (as_table d)) (each_faults v section.Batcher path (i + 1) ds) h in
+    one (as_table d) here (batchers_clear v path (i + 1) ds more)
   where
-    one : (o : Option Members) → table_faults section.Batcher (at_place path i) o ≡ [] → list_all batcher_fits (batchers_in ds) ≡ true → list_all batcher_fits (settings.batcher_before o (batchers_in ds)) ≡ true
+    one : (o : Option Members) → table_faults v section.Batcher (at_place path i) o ≡ [] → list_all batcher_fits (batchers_in ds) ≡ true → list_all batcher_fits (settings.batcher_before o (batchers_in ds)) ≡ true
     one None h rest = cc
-    one (Some t) h rest = both (batcher_clear (at_place path i) t h) rest
+    one (Some t) h rest = both (batcher_clear v (at_place path i) t h) rest
 
 -- ---- the file
 
-producers_given : (o : Option Items) → ((items : Items) → o ≡ Some items → each_faults section.Producer (key_name key.Producer) 0 items ≡ []) → list_all producer_fits (producers_at o) ≡ true
-producers_given None h = refl
-producers_given (Some items) h = producers_clear (key_name key.Producer) 0 items (h items refl)
+producers_given : (v : FileVersion) (o : Option Items) → ((items : Items) → o ≡ Some items → each_faults v section.Producer (key_name key.Producer) 0 items ≡ []) → list_all producer_fits (producers_at o) ≡ true
+producers_given v None h = refl
+producers_given v (Some items) h = producers_clear v (key_name key.Producer) 0 items (h items refl)
 
-batchers_given : (o : Option Items) → ((items : Items) → o ≡ Some items → each_faults section.Batcher (key_name key.Batcher) 0 items ≡ []) → list_all batcher_fits (batchers_at o) ≡ true
-batchers_given None h = refl
-batchers_given (Some items) h = batchers_clear (key_name key.Batcher) 0 items (h items refl)
+batchers_given : (v : FileVersion) (o : Option Items) → ((items : Items) → o ≡ Some items → each_faults v section.Batcher (key_name key.Batcher) 0 items ≡ []) → list_all batcher_fits (batchers_at o) ≡ true
+batchers_given v None h = refl
+batchers_given v (Some items) h = batchers_clear v (key_name key.Batcher) 0 items (h items refl)
 
-processors_given : (o : Option Members) → ((t : Members) → o ≡ Some t → rows_faults (key_name key.Processors) (rows section.Processors t) t ≡ []) → processors_fit (option_map processors_of o) ≡ true
-processors_given None h = refl
-processors_given (Some t) h = processors_clear (key_name key.Processors) t (h t refl)
+processors_given : (v : FileVersion) (o : Option Members) → ((t : Members) → o ≡ Some t → rows_faults v (key_name key.Processors) (rows section.Processors t) t ≡ []) → processors_fit (option_map processors_of o) ≡ true
+processors_given v None h = refl
+processors_given v (Some t) h = processors_clear v (key_name key.Processors) t (h t refl)
 
-supervisor_given : (o : Option Members) → ((t : Members) → o ≡ Some t → rows_faults (key_name key.Supervisor) (rows section.Supervisor t) t ≡ []) → supervisor_fits (option_map supervisor_of o) ≡ true
-supervisor_given None h = refl
-supervisor_given (Some t) h = supervisor_clear (key_name key.Supervisor) t (h t refl)
+supervisor_given : (v : FileVersion) (o : Option Members) → ((t : Members) → o ≡ Some t → rows_faults v (key_name key.Supervisor) (rows section.Supervisor t) t ≡ []) → supervisor_fits (option_map supervisor_of o) ≡ true
+supervisor_given v None h = refl
+supervisor_given v (Some t) h = supervisor_clear v (key_name key.Supervisor) t (h t refl)
 
 pipeline_between : (r : Range) (k : Key) (o : Option Members) → is_between r.low r.high r.default ≡ true → is_between r.low r.high (pipeline_number r k o) ≡ true
 pipeline_between r k None h = h
 pipeline_between r k (Some t) h = number_between r k t h
 
-control_given : (o : Option Members) → ((t : Members) → o ≡ Some t → rows_faults (key_name key.Pipeline) (rows section.Pipeline t) t ≡ []) → is_control (option_and_then (settings.text_at key.Control) o) ≡ true
-control_given None h = refl
-control_given (Some t) h = control_clear _ (value_at key.Control t) (table_clear (key_name key.Pipeline) t format.pipeline_rows (h t refl)).0
+control_given : (v : FileVersion) (o : Option Members) → ((t : Members) → o ≡ Some t → rows_faults v (key_name key.Pipeline) (rows section.Pipeline t) t ≡ []) → is_control (option_and_then (settings.text_at key.Control) o) ≡ true
+control_given v None h = refl
+control_given v (Some t) h = control_clear _ (value_at key.Control t) (table_clear v (key_name key.Pipeline) t format.pipeline_rows (h t refl)).1.0
+
+-- limits of their own, which are in range as they are read
+
+most_given : (z : Option ℤ) → most_fit (given_number format.max_restarts z) ≡ true
+most_given None = refl
+most_given (Some (negsuc n)) = refl
+most_given (Some (pos n)) = chosen (is_between 0 1000 n) refl
+  where
+    chosen : (b : Bool) → is_between 0 1000 n ≡ b → most_fit (cond b (Some n) None) ≡ true
+    chosen true e = (and_parts (nat_le 0 n) (nat_le n 1000) e).1
+    chosen false e = refl
+
+seconds_given : (z : Option ℤ) → seconds_fit (given_number format.max_seconds z) ≡ true
+seconds_given None = refl
+seconds_given (Some (negsuc n)) = refl
+seconds_given (Some (pos n)) = chosen (is_between 1 3600 n) refl
+  where
+    chosen : (b : Bool) → is_between 1 3600 n ≡ b → seconds_fit (cond b (Some n) None) ≡ true
+    chosen true e = e
+    chosen false e = refl
+
+own_given : (t : Members) → limit_fits (own_limit t) ≡ true
+own_given t = both (most_given (option_and_then as_integer (value_at key.MaxRestarts t))) (seconds_given (option_and_then as_integer (value_at key.MaxSeconds t)))
+
+producers_own : (items : Items) → list_all limit_fits (producer_limits (producers_in items)) ≡ true
+producers_own no_items = refl
+producers_own (item d ds) = one (as_table d) (producers_own ds)
+  where
+    one : (o : Option Members) → list_all limit_fits (producer_limits (producers_in ds)) ≡ true → list_all limit_fits (producer_limits (settings.producer_before o (producers_in ds))) ≡ true
+    one None rest = rest
+    one (Some t) rest = both (own_given t) rest
+
+batchers_own : (items : Items) → list_all limit_fits (batcher_limits (batchers_in items)) ≡ true
+batchers_own no_items = refl
+batchers_own (item d ds) = one (as_table d) (batchers_own ds)
+  where
+    one : (o : Option Members) → list_all limit_fits (batcher_limits (batchers_in ds)) ≡ true → list_all limit_fits (batcher_limits (settings.batcher_before o (batchers_in ds))) ≡ true
+    one None rest = rest
+    one (Some t) rest = both (own_given t) rest
+
+producers_at_own : (o : Option Items) → list_all limit_fits (producer_limits (producers_at o)) ≡ true
+producers_at_own None = refl
+producers_at_own (Some items) = producers_own items
+
+batchers_at_own : (o : Option Items) → list_all limit_fits (batcher_limits (batchers_at o)) ≡ true
+batchers_at_own None = refl
+batchers_at_own (Some items) = batchers_own items
+
+processors_own : (o : Option Members) → list_all limit_fits (processor_limits (option_map processors_of o)) ≡ true
+processors_own None = refl
+processors_own (Some t) = both (own_given t) refl
+
+supervisor_own : (o : Option Members) → list_all limit_fits (supervisor_limits (option_map supervisor_of o)) ≡ true
+supervisor_own None = refl
+supervisor_own (Some t) = both (own_given t) refl
 
 most_of : (low high n : ℕ) → is_between low high n ≡ true → nat_le n high ≡ true
 most_of low high n h = (and_parts (nat_le low n) (nat_le n high) h).1
 
 -- the settings of a file whose walk finds no fault are in their ranges
-pub walked_fits : (table : Members) → least (faults_of table) ≡ None → IsFit (settings_of table)
-walked_fits table h =
-    let clear : faults_of table ≡ [] = least_none (faults_of table) h in
+pub walked_fits : (v : FileVersion) (table : Members) → least (faults_of v table) ≡ None → IsFit (settings_of table)
+walked_fits v table h =
+    let clear : faults_of v table ≡ [] = least_none (faults_of v table) h in
     record {
-      producers = producers_given (array_at key.Producer table) (λ items is. held_array table key.Producer section.Producer (value_at key.Producer table) items (λ d. refl) clear refl is);
-      processors = processors_given (table_at key.Processors table) (λ t is. held_table table key.Processors section.Processors (value_at key.Processors table) t (λ d. refl) clear refl is);
-      supervisor = supervisor_given (table_at key.Supervisor table) (λ t is. held_table table key.Supervisor section.Supervisor (value_at key.Supervisor table) t (λ d. refl) clear refl is);
-      batchers = batchers_given (array_at key.Batcher table) (λ items is. held_array table key.Batcher section.Batcher (value_at key.Batcher table) items (λ d. refl) clear refl is);
+      producers = producers_given v (array_at key.Producer table) (λ items is. held_array v table key.Producer section.Producer (value_at key.Producer table) items (λ d. refl) clear refl is);
+      processors = processors_given v (table_at key.Processors table) (λ t is. held_table v table key.Processors section.Processors (value_at key.Processors table) t (λ d. refl) clear refl is);
+      supervisor = supervisor_given v (table_at key.Supervisor table) (λ t is. held_table v table key.Supervisor section.Supervisor (value_at key.Supervisor table) t (λ d. refl) clear refl is);
+      batchers = batchers_given v (array_at key.Batcher table) (λ items is. held_array v table key.Batcher section.Batcher (value_at key.Batcher table) items (λ d. refl) clear refl is);
       pipeline = both
           (both (most_of 0 1000 (pipeline_number format.max_restarts key.MaxRestarts (table_at key.Pipeline table)) (pipeline_between format.max_restarts key.MaxRestarts (table_at key.Pipeline table) refl))
           (pipeline_between format.max_seconds key.MaxSeconds (table_at key.Pipeline table) refl))
           (both (most_of 0 1000000 (pipeline_number format.idle_limit key.IdleLimit (table_at key.Pipeline table)) (pipeline_between format.idle_limit key.IdleLimit (table_at key.Pipeline table) refl))
-          (control_given (table_at key.Pipeline table) (λ t is. held_table table key.Pipeline section.Pipeline (value_at key.Pipeline table) t (λ d. refl) clear refl is)));
+          (control_given v (table_at key.Pipeline table) (λ t is. held_table v table key.Pipeline section.Pipeline (value_at key.Pipeline table) t (λ d. refl) clear refl is)));
+      limits = both (producers_at_own (array_at key.Producer table)) (both (processors_own (table_at key.Processors table)) (both (supervisor_own (table_at key.Supervisor table)) (batchers_at_own (array_at key.Batcher table))));
+      sizes = both (pipeline_between format.record_limit key.RecordLimit (table_at key.Pipeline table) refl) (pipeline_between format.byte_limit key.ByteLimit (table_at key.Pipeline table) refl);
     }

@@ -7,7 +7,8 @@ use Rattle.toml.specs.Parse.{parse_document}
 use Rattle.config_table.specs.declared.fault.ConfigFault.{ConfigFault}
 use Rattle.config_table.specs.declared.fault.ConfigFault.TheVariants.{NotToml, Version, OutOfMemory}
 use Rattle.config_table.specs.Fault.{least}
-use Rattle.config_table.specs.Walk.{faults_of, has_version}
+use Rattle.config_table.specs.declared.format.FileVersion.{FileVersion}
+use Rattle.config_table.specs.Walk.{faults_of, version_of}
 use Rattle.config_settings.specs.declared.settings.Settings.{Settings}
 use Rattle.config_settings.specs.Settings.{settings_of}
 use Rattle.config_judge.specs.Judge.{faults_in}
@@ -23,8 +24,12 @@ abbrev pub judged : Settings → Result Topology ConfigFault
 judged s = unless (least (faults_in s)) (Ok (topology_in s))
 
 -- a table: its version, the values of its places, and what the values say together
+abbrev pub topology_by : Option FileVersion → Members → Result Topology ConfigFault
+topology_by None table = Err (Version (codes "version"))
+topology_by (Some version) table = unless (least (faults_of version table)) (judged (settings_of table))
+
 abbrev pub topology_of : Members → Result Topology ConfigFault
-topology_of table = if has_version table then unless (least (faults_of table)) (judged (settings_of table)) else Err (Version (codes "version"))
+topology_of table = topology_by (version_of table) table
 
 -- the table that the bytes are
 abbrev pub table_of : List ℕ → Option Members
@@ -42,3 +47,7 @@ topology_of_file bytes = topology_of_table (table_of bytes)
 abbrev pub Answers : Result Topology ConfigFault → Result Topology ConfigFault → Type 0
 Answers expected (Ok topology) = expected ≡ Ok topology
 Answers expected (Err fault) = fault ≢ OutOfMemory → expected ≡ Err fault
+
+-- the table of a file that names a topology
+abbrev pub IsAccepted : List ℕ → Members → Type 0
+IsAccepted bytes table = (table_of bytes ≡ Some table) × ((topology : Topology) × (topology_of table ≡ Ok topology))

@@ -4,6 +4,7 @@ use Rattle.std.specs.List.{list_all}
 use Rattle.pipe_types.specs.declared.topology.Dispatch.{Dispatch}
 use Rattle.pipe_types.specs.declared.topology.Dispatch.TheVariants.{Broadcast}
 use Rattle.pipe_types.specs.Sound.{is_between, is_name, is_reason, is_lines, is_control}
+use Rattle.config_settings.specs.declared.settings.OwnLimit.{OwnLimit}
 use Rattle.config_settings.specs.declared.settings.Demand.{Demand}
 use Rattle.config_settings.specs.declared.settings.Handler.{Handler}
 use Rattle.config_settings.specs.declared.settings.ProducerSettings.{ProducerSettings}
@@ -11,6 +12,7 @@ use Rattle.config_settings.specs.declared.settings.ProcessorSettings.{ProcessorS
 use Rattle.config_settings.specs.declared.settings.SupervisorSettings.{SupervisorSettings}
 use Rattle.config_settings.specs.declared.settings.BatcherSettings.{BatcherSettings}
 use Rattle.config_settings.specs.declared.settings.Settings.{Settings}
+use Rattle.config_build.specs.Limits.{producer_limits, processor_limits, supervisor_limits, batcher_limits}
 
 abbrev pub demand_fits : ℕ → Demand → Bool
 demand_fits most d = nat_lt d.min d.max && nat_le d.max most
@@ -56,6 +58,29 @@ batcher_fits b = batches_fit b && selects_fit b
 abbrev pub pipeline_fits : Settings → Bool
 pipeline_fits s = (nat_le s.max_restarts 1000 && is_between 1 3600 s.max_seconds) && (nat_le s.idle_limit 1000000 && is_control s.control)
 
+-- what a table says of its stages' restarts
+abbrev pub most_fit : Option ℕ → Bool
+most_fit None = true
+most_fit (Some n) = nat_le n 1000
+
+abbrev pub seconds_fit : Option ℕ → Bool
+seconds_fit None = true
+seconds_fit (Some n) = is_between 1 3600 n
+
+abbrev pub limit_fits : OwnLimit → Bool
+limit_fits own = most_fit own.max_restarts && seconds_fit own.max_seconds
+
+abbrev pub limits_fit : Settings → Bool
+limits_fit s =
+    list_all limit_fits (producer_limits s.producers)
+    && (list_all limit_fits (processor_limits s.processors)
+    && (list_all limit_fits (supervisor_limits s.supervisor)
+    && list_all limit_fits (batcher_limits s.batchers)))
+
+-- the records and the bytes of a run
+abbrev pub sizes_fit : Settings → Bool
+sizes_fit s = is_between 1 2000000 s.record_limit && is_between 1 536870912 s.byte_limit
+
 -- every value is in the range that the format has for it
 pub record IsFit (s : Settings) : Type 0 where
   pub producers : IsTrue (list_all producer_fits s.producers)
@@ -63,3 +88,5 @@ pub record IsFit (s : Settings) : Type 0 where
   pub supervisor : IsTrue (supervisor_fits s.supervisor)
   pub batchers : IsTrue (list_all batcher_fits s.batchers)
   pub pipeline : IsTrue (pipeline_fits s)
+  pub limits : IsTrue (limits_fit s)
+  pub sizes : IsTrue (sizes_fit s)

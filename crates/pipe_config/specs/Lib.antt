@@ -1,2 +1,4 @@
-pub mod Fit
 pub mod File
+pub mod Fit
+pub mod Flat
+pub mod Upgrade

@@ -4,7 +4,7 @@ ghost use Rattle.std.specs.Prelude.{◌≡◌, ◌≢◌, ◌<◌, ◌^◌, code
 ghost use Rattle.std.specs.Option.{ForSome};
 ghost use Rattle.toml.specs.View.{table_view};
 ghost use Rattle.pipe_types.specs.Sound.{IsSound};
-ghost use Rattle.pipe_config.specs.File.{table_of, topology_of, judged as judged_of, topology_of_file, Answers};
+ghost use Rattle.pipe_config.specs.File.{table_of, topology_by, topology_of, judged as judged_of, topology_of_file, Answers, IsAccepted};
 ghost use Rattle.config_settings.specs.Settings.{settings_of};
 ghost use Rattle.config_build.specs.Build.{partition_field};
 
@@ -13,7 +13,8 @@ use config_judge::judge::settings_fault;
 use config_settings::read::read_settings;
 use config_settings::settings::Settings;
 use config_table::fault::{ConfigFault, copied};
-use config_table::walk::{has_version, walk_fault};
+use config_table::format::FileVersion;
+use config_table::walk::{version_of, walk_fault};
 use pipe_types::topology::Topology;
 use std::alloc::Global;
 use toml::Table;
@@ -79,20 +80,39 @@ fn wrong_version(alloc: Global) -> ConfigFault
     }
 }
 
-/// The topology of a table, or its first fault.
-fn judge_table(alloc: Global, table: &Table) -> Result<Topology, ConfigFault>
-    ensures { Answers (topology_of (table_view table.now)) result }
+/// The topology of the table of a file of this version, or its first fault.
+fn judge_places(alloc: Global, version: FileVersion, table: &Table) -> Result<Topology, ConfigFault>
+    ensures { Answers (topology_by (Some version) (table_view table.now)) result }
 {
-    if !has_version(table) {
-        return Err(wrong_version(alloc));
-    }
-    let fault = match walk_fault(alloc, table) {
+    let fault = match walk_fault(alloc, version, table) {
         Ok(fault) => fault,
         Err(_) => return Err(ConfigFault::OutOfMemory),
     };
     match fault {
         Some(fault) => Err(fault),
         None => judge_values(alloc, table),
+    }
+}
+
+/// The topology of a table, or its first fault.
+fn judge_table(alloc: Global, table: &Table) -> Result<Topology, ConfigFault>
+    ensures { Answers (topology_of (table_view table.now)) result }
+{
+    match version_of(table) {
+        None => Err(wrong_version(alloc)),
+        Some(version) => judge_places(alloc, version, table),
+    }
+}
+
+/// The table of a file that names a topology, or its first fault.
+pub(crate) fn read_judged(alloc: Global, bytes: &[u8]) -> Result<Table, ConfigFault>
+    ensures ok { IfOk result (λ table. IsAccepted bytes.now (table_view table)) }
+    ensures refused { IfErr result (λ fault. fault ≢ ConfigFault.OutOfMemory → topology_of_file bytes.now ≡ Err fault) }
+{
+    let table = read_table(alloc, bytes)?;
+    match judge_table(alloc, &table) {
+        Ok(_) => Ok(table),
+        Err(fault) => Err(fault),
     }
 }
 

@@ -19,7 +19,7 @@ use Rattle.edge_names.specs.Opened.{HasSource, HasSink, IsOpened, AreOpened, cal
 use Rattle.edge_names.specs.Controls.{control_call, named_control, first_sources, first_sinks}
 use Rattle.edge_names.specs.Returned.{source_in, sink_in, sources_of, sinks_of}
 use Rattle.pipe_run.specs.Outside.{IsSourceRead, IsSinkWritten, IsSinkWrittenBy, AreUsed, IsControlUsed, HasControl, IsOutside, IsStageUnopened, IsUnopened}
-use Rattle.pipe_top.specs.Cases.{Case, NoCommand, NoTopology as BadTopology, TooFew, Checks, Runs}
+use Rattle.pipe_top.specs.Cases.{Case, NoCommand, NoTopology as BadTopology, TooFew, Checks, Upgrades, Runs}
 use Rattle.pipe_top.specs.Runs.{OutsideSeen, IsUntouched, IsNothingBack, IsGivenUp, HasRunOrNot, IsOutsideOf, FailsAt}
 use Rattle.pipe_top.specs.Flows.{IsEarly, Outcome, AskedBy, ComesBy}
 use Rattle.run_verdicts.specs.declared.verdict.Refusal.TheVariants.{Usage, Topology as NoTopology, Stock, Edge, Memory}
@@ -266,6 +266,7 @@ outside_of_as memory NoCommand topology before call calls old middle new c x = u
 outside_of_as memory (BadTopology fault) topology before call calls old middle new c x = untouched_as call old middle new c x
 outside_of_as memory (TooFew shortage) topology before call calls old middle new c x = untouched_as call old middle new c x
 outside_of_as memory (Checks wanted) topology before call calls old middle new c x = untouched_as call old middle new c x
+outside_of_as memory (Upgrades file text wanted) topology before call calls old middle new c x = untouched_as call old middle new c x
 outside_of_as memory (Runs shows wanted) topology before call calls old middle new c x = run_or_not_as memory wanted topology before call calls old middle new c x
 
 -- ---- the outcome

@@ -8,14 +8,14 @@ use Rattle.pipe_types.specs.declared.topology.Topology.{Topology}
 use Rattle.pipe_model.specs.History.{History}
 use Rattle.pipe_edges.specs.declared.edges.EdgeKind.{EdgeKind}
 use Rattle.program_words.specs.Refusals.{memory_line}
-use Rattle.program_words.specs.Words.{Command, Flow, Check, Run}
+use Rattle.program_words.specs.Words.{Command, Flow, Check, Run, Upgrade}
 use Rattle.topology_needs.specs.declared.stock.Boxes.{Boxes}
 use Rattle.topology_needs.specs.declared.stock.Shortage.{Shortage}
 use Rattle.topology_needs.specs.Needs.{shortage_of}
 use Rattle.config_table.specs.declared.fault.ConfigFault.{ConfigFault}
 use Rattle.config_flow.specs.Flow.{flow_topology_of}
 use Rattle.pipe_config.specs.File.{topology_of_file}
-use Rattle.pipe_top.specs.Cases.{Case, NoCommand, NoTopology as BadTopology, TooFew, Checks, Runs, case_of, run_case, unless_short, for_topology, report_alone}
+use Rattle.pipe_top.specs.Cases.{Case, NoCommand, NoTopology as BadTopology, TooFew, Checks, Upgrades, Runs, case_of, run_case, unless_short, for_topology, report_alone}
 use Rattle.run_verdicts.specs.Verdicts.{Adds, AddsPrefix, out_text_of, err_text_of, status_in, FaultBy, QuietBy, UnlessNine}
 use Rattle.pipe_top.specs.Runs.{OutsideSeen, IsRunOrNone, IsEndOf, IsOwnTopology, IsStatusOf, IsReportOf, IsRefusal, IsRefused, Lost, IsUntouched, HasUsed, HasNotBegun, HasRunOrNot, IsGivenUp, IsOutsideOf, IsRefusalStatus, IsUnopenedStatus, IsOr, Asks, FailsAt, NamesFault, IsEdgeLine, BeginsLine, out_text, text_of_call, case_line, error_text}
 use Rattle.pipe_top.specs.Flows.{Outcome, IsEarly, AskedBy}
@@ -53,6 +53,7 @@ known NoCommand fails topology before verdict (inr r) = rw r.refused (omega arit
 known (BadTopology fault) fails topology before verdict (inr r) = rw r.refused (omega arith)
 known (TooFew shortage) fails topology before verdict (inr r) = rw r.refused (omega arith)
 known (Checks wanted) fails topology before verdict (inr r) = rw r.counted (omega arith)
+known (Upgrades file text wanted) fails topology before verdict (inr r) = rw r.counted (omega arith)
 known (Runs shows wanted) fails topology before verdict (inr r) = by_run (ran verdict shows wanted before r.comes_to)
   where
     by_run : Reported shows wanted before verdict ⊎ (verdict ≡ Refused Memory) → status_in verdict ≤ 9
@@ -66,6 +67,7 @@ never_eight NoCommand fails topology before verdict (inr r) = rw r.refused (λ x
 never_eight (BadTopology fault) fails topology before verdict (inr r) = rw r.refused (λ x. cc)
 never_eight (TooFew shortage) fails topology before verdict (inr r) = rw r.refused (λ x. cc)
 never_eight (Checks wanted) fails topology before verdict (inr r) = rw r.counted (λ x. cc)
+never_eight (Upgrades file text wanted) fails topology before verdict (inr r) = rw r.counted (λ x. cc)
 never_eight (Runs shows wanted) fails topology before verdict (inr r) = by_run (ran verdict shows wanted before r.comes_to)
   where
     by_run : Reported shows wanted before verdict ⊎ (verdict ≡ Refused Memory) → status_in verdict ≢ 8
@@ -80,6 +82,7 @@ own NoCommand fails topology before verdict (inr r) = rw r.no_topology r.no_step
 own (BadTopology fault) fails topology before verdict (inr r) = rw r.no_topology r.no_step
 own (TooFew shortage) fails topology before verdict (inr r) = rw r.no_topology r.no_step
 own (Checks wanted) fails topology before verdict (inr r) = rw r.own (refl, r.no_step)
+own (Upgrades file text wanted) fails topology before verdict (inr r) = rw r.own (refl, r.no_step)
 own (Runs shows wanted) fails topology before verdict (inr r) = rw r.own refl
 
 pub run : (case : Case) (fails : List ℕ → Type 0) (topology : Option Topology) (before : History) (verdict : Verdict) → Outcome case fails topology before verdict → IsRunOrNone topology before
@@ -88,6 +91,7 @@ run NoCommand fails topology before verdict (inr r) = rw r.no_topology r.no_step
 run (BadTopology fault) fails topology before verdict (inr r) = rw r.no_topology r.no_step
 run (TooFew shortage) fails topology before verdict (inr r) = rw r.no_topology r.no_step
 run (Checks wanted) fails topology before verdict (inr r) = rw r.own r.run
+run (Upgrades file text wanted) fails topology before verdict (inr r) = rw r.own r.run
 run (Runs shows wanted) fails topology before verdict (inr r) = rw r.own r.run
 
 ended_in : (case : Case) (fails : List ℕ → Type 0) (topology : Option Topology) (before : History) (verdict : Verdict) → Outcome case fails topology before verdict → status_in verdict ≤ 4
@@ -97,6 +101,7 @@ ended_in NoCommand fails topology before verdict (inr r) few = absurd (not_small
 ended_in (BadTopology fault) fails topology before verdict (inr r) few = absurd (not_small 6 (status_in verdict) (ap status_in r.refused) (omega arith) few)
 ended_in (TooFew shortage) fails topology before verdict (inr r) few = absurd (not_small 6 (status_in verdict) (ap status_in r.refused) (omega arith) few)
 ended_in (Checks wanted) fails topology before verdict (inr r) few = (ap status_in r.counted, r.own, r.no_step)
+ended_in (Upgrades file text wanted) fails topology before verdict (inr r) few = (ap status_in r.counted, r.own, r.no_step, r.upgrade)
 ended_in (Runs shows wanted) fails topology before verdict (inr r) few = by_run (ran verdict shows wanted before r.comes_to)
   where
     by_run : Reported shows wanted before verdict ⊎ (verdict ≡ Refused Memory) → IsEndOf topology before (status_in verdict) (Runs shows wanted)
@@ -118,6 +123,7 @@ small_text before NoCommand fails topology verdict (inr r) few = absurd (not_sma
 small_text before (BadTopology fault) fails topology verdict (inr r) few = absurd (not_small 6 (status_in verdict) (ap status_in r.refused) (omega arith) few)
 small_text before (TooFew shortage) fails topology verdict (inr r) few = absurd (not_small 6 (status_in verdict) (ap status_in r.refused) (omega arith) few)
 small_text before (Checks wanted) fails topology verdict (inr r) few = rw r.counted r.counts
+small_text before (Upgrades file text wanted) fails topology verdict (inr r) few = rw r.counted r.counts
 small_text before (Runs shows wanted) fails topology verdict (inr r) few = by_run (ran verdict shows wanted before r.comes_to)
   where
     by_run : Reported shows wanted before verdict ⊎ (verdict ≡ Refused Memory) → out_text_of verdict ≡ out_text before (Runs shows wanted)
@@ -153,6 +159,9 @@ begun (TooFew shortage) fails topology before verdict held held' (inr r) b = rw 
 begun (Checks wanted) fails topology before verdict held held' (inr r) b =
     let counted : AddsPrefix held held' (out_text_of (Done r.texts 0)) = rw r.counted at b in
     rw r.own (rw r.counts at counted)
+begun (Upgrades file text wanted) fails topology before verdict held held' (inr r) b =
+    let counted : AddsPrefix held held' (out_text_of (Done r.texts 0)) = rw r.counted at b in
+    rw r.own (rw r.counts at counted)
 begun (Runs shows wanted) fails topology before verdict held held' (inr r) b = rw r.own (by_run (ran verdict shows wanted before r.comes_to))
   where
     by_run : Reported shows wanted before verdict ⊎ (verdict ≡ Refused Memory) → AddsPrefix held held' (out_text before (Runs shows wanted))
@@ -173,6 +182,7 @@ texts_small NoCommand fails topology before verdict (inr r) = inr (ap out_text_o
 texts_small (BadTopology fault) fails topology before verdict (inr r) = inr (ap out_text_of r.refused)
 texts_small (TooFew shortage) fails topology before verdict (inr r) = inr (ap out_text_of r.refused)
 texts_small (Checks wanted) fails topology before verdict (inr r) = inl (rw r.counted (omega arith))
+texts_small (Upgrades file text wanted) fails topology before verdict (inr r) = inl (rw r.counted (omega arith))
 texts_small (Runs shows wanted) fails topology before verdict (inr r) = by_run (ran verdict shows wanted before r.comes_to)
   where
     by_run : Reported shows wanted before verdict ⊎ (verdict ≡ Refused Memory) → (status_in verdict ≤ 4) ⊎ (out_text_of verdict ≡ [])
@@ -223,6 +233,7 @@ status_is NoCommand fails topology before verdict (inr r) a b = ap status_in r.r
 status_is (BadTopology fault) fails topology before verdict (inr r) a b = ap status_in r.refused
 status_is (TooFew shortage) fails topology before verdict (inr r) a b = ap status_in r.refused
 status_is (Checks wanted) fails topology before verdict (inr r) a b = ap status_in r.counted
+status_is (Upgrades file text wanted) fails topology before verdict (inr r) a b = ap status_in r.counted
 status_is (Runs shows wanted) fails topology before verdict (inr r) a b = by_run (ran verdict shows wanted before r.comes_to)
   where
     by_run : Reported shows wanted before verdict ⊎ (verdict ≡ Refused Memory) → IsStatusOf (status_in verdict) (Runs shows wanted)
@@ -240,6 +251,7 @@ line_is NoCommand fails topology before verdict (inr r) a b = rw r.refused refl
 line_is (BadTopology fault) fails topology before verdict (inr r) a b = rw r.refused refl
 line_is (TooFew shortage) fails topology before verdict (inr r) a b = rw r.refused refl
 line_is (Checks wanted) fails topology before verdict (inr r) a b = rw r.counted refl
+line_is (Upgrades file text wanted) fails topology before verdict (inr r) a b = rw r.counted refl
 line_is (Runs shows wanted) fails topology before verdict (inr r) a b = by_run (ran verdict shows wanted before r.comes_to)
   where
     small_line : (s : ℕ) → s ≤ 4 → [] ≡ error_text s (Runs shows wanted)
@@ -285,6 +297,7 @@ one_line NoCommand told calls asked asked' fault topology before verdict status 
 one_line (BadTopology f) told calls asked asked' fault topology before verdict status wanting (inr r) = inr (inl (ap err_text_of r.refused))
 one_line (TooFew shortage) told calls asked asked' fault topology before verdict status wanting (inr r) = inr (inl (ap err_text_of r.refused))
 one_line (Checks wanted) told calls asked asked' fault topology before verdict status wanting (inr r) = inl (ap err_text_of r.counted)
+one_line (Upgrades file text wanted) told calls asked asked' fault topology before verdict status wanting (inr r) = inl (ap err_text_of r.counted)
 one_line (Runs shows wanted) told calls asked asked' fault topology before verdict status wanting (inr r) = by_run (ran verdict shows wanted before r.comes_to)
   where
     by_run : Reported shows wanted before verdict ⊎ (verdict ≡ Refused Memory)
@@ -319,6 +332,7 @@ named_fault NoCommand told calls asked asked' fault err_told topology before ver
 named_fault (BadTopology f) told calls asked asked' fault err_told topology before verdict held held' (inr r) five adds = absurd (not_both 6 5 (status_in verdict) (ap status_in r.refused) five (λ x. cc))
 named_fault (TooFew shortage) told calls asked asked' fault err_told topology before verdict held held' (inr r) five adds = absurd (not_both 6 5 (status_in verdict) (ap status_in r.refused) five (λ x. cc))
 named_fault (Checks wanted) told calls asked asked' fault err_told topology before verdict held held' (inr r) five adds = absurd (not_both 0 5 (status_in verdict) (ap status_in r.counted) five (λ x. cc))
+named_fault (Upgrades file text wanted) told calls asked asked' fault err_told topology before verdict held held' (inr r) five adds = absurd (not_both 0 5 (status_in verdict) (ap status_in r.counted) five (λ x. cc))
 named_fault (Runs shows wanted) told calls asked asked' fault err_told topology before verdict held held' (inr r) five adds = absurd (by_run (ran verdict shows wanted before r.comes_to))
   where
     by_run : Reported shows wanted before verdict ⊎ (verdict ≡ Refused Memory) → ⊥
@@ -339,6 +353,7 @@ number NoCommand = 0
 number (BadTopology fault) = 1
 number (TooFew shortage) = 1
 number (Checks wanted) = 1
+number (Upgrades file text wanted) = 1
 number (Runs shows wanted) = 1
 
 short_case : (short : Option Shortage) (case : Case) → number case ≡ 1 → number (unless_short short case) ≡ 1
@@ -352,26 +367,32 @@ checked_number : (read : Result Topology ConfigFault) → number (for_topology r
 checked_number (Ok topology) = refl
 checked_number (Err fault) = refl
 
+upgraded_number : (read : Result Topology ConfigFault) (file text : List ℕ) → number (for_topology read (Upgrades file text)) ≡ 1
+upgraded_number (Ok topology) file text = refl
+upgraded_number (Err fault) file text = refl
+
 loaded_number : (read : Result Topology ConfigFault) (boxes : Boxes) (shows : Shows) → number (for_topology read (run_case boxes shows)) ≡ 1
 loaded_number (Ok topology) boxes shows = run_number boxes shows topology
 loaded_number (Err fault) boxes shows = refl
 
-some_number : (command : Command) (file : List ℕ) (boxes : Boxes) → number (case_of (Some command) file boxes) ≡ 1
-some_number (Flow source prefix) file boxes = run_number boxes report_alone (flow_topology_of source prefix)
-some_number (Check path) file boxes = checked_number (topology_of_file file)
-some_number (Run path workers acks steps) file boxes = loaded_number (topology_of_file file) boxes (record { steps = steps; acks = acks })
+some_number : (command : Command) (file text : List ℕ) (boxes : Boxes) → number (case_of (Some command) file text boxes) ≡ 1
+some_number (Flow source prefix) file text boxes = run_number boxes report_alone (flow_topology_of source prefix)
+some_number (Check path) file text boxes = checked_number (topology_of_file file)
+some_number (Upgrade path) file text boxes = upgraded_number (topology_of_file file) file text
+some_number (Run path workers acks steps) file text boxes = loaded_number (topology_of_file file) boxes (record { steps = steps; acks = acks })
 
 of_seven : (case : Case) → IsStatusOf 7 case → number case ≡ 0
 of_seven NoCommand is = refl
 of_seven (BadTopology fault) is = absurd (omega (arith, is))
 of_seven (TooFew shortage) is = absurd (omega (arith, is))
 of_seven (Checks wanted) is = absurd (omega (arith, is))
+of_seven (Upgrades file text wanted) is = absurd (omega (arith, is))
 of_seven (Runs shows wanted) few = absurd (omega (arith, few))
 
 -- the status 7 comes where the words are no command
-pub usage_by : (command : Option Command) (file : List ℕ) (boxes : Boxes) → IsStatusOf 7 (case_of command file boxes) → command ≡ None
-usage_by None file boxes is = refl
-usage_by (Some command) file boxes is = absurd (omega (arith, some_number command file boxes, of_seven (case_of (Some command) file boxes) is))
+pub usage_by : (command : Option Command) (file text : List ℕ) (boxes : Boxes) → IsStatusOf 7 (case_of command file text boxes) → command ≡ None
+usage_by None file text boxes is = refl
+usage_by (Some command) file text boxes is = absurd (omega (arith, some_number command file text boxes, of_seven (case_of (Some command) file text boxes) is))
 
 no_call : (front rest : List (EdgeKind × List ℕ)) (call : EdgeKind × List ℕ) → [] ≡ front ++ call ∷ rest → ⊥
 no_call [] rest call e = cc
@@ -408,6 +429,9 @@ none_ran (TooFew shortage) fails topology before verdict (inr r) u = (r.no_topol
 none_ran (Checks wanted) fails topology before verdict (inr r) u =
     let counted : status_in verdict ≡ 0 = ap status_in r.counted in
     absurd (omega (arith, counted, (refusal_is (status_in verdict) u).0))
+none_ran (Upgrades file text wanted) fails topology before verdict (inr r) u =
+    let counted : status_in verdict ≡ 0 = ap status_in r.counted in
+    absurd (omega (arith, counted, (refusal_is (status_in verdict) u).0))
 none_ran (Runs shows wanted) fails topology before verdict (inr r) u = absurd (run_refused verdict (ran verdict shows wanted before r.comes_to) u)
 
 -- ---- the outside
@@ -424,6 +448,7 @@ not_opened NoCommand fails memory calls topology before verdict old new o u out 
 not_opened (BadTopology fault) fails memory calls topology before verdict old new o u out = out
 not_opened (TooFew shortage) fails memory calls topology before verdict old new o u out = out
 not_opened (Checks wanted) fails memory calls topology before verdict old new o u out = out
+not_opened (Upgrades file text wanted) fails memory calls topology before verdict old new o u out = out
 not_opened (Runs shows wanted) fails memory calls topology before verdict old new o u out = absurd (run_opened shows wanted fails topology before verdict o u)
 
 used_as : (memory wanting : Type 0) → (memory → wanting) → (wanted : Topology) (before : History) (old new : OutsideSeen) → HasUsed memory wanted before old new → HasUsed wanting wanted before old new
@@ -454,6 +479,7 @@ outside_as memory wanting so calls topology before NoCommand old new out = out
 outside_as memory wanting so calls topology before (BadTopology fault) old new out = out
 outside_as memory wanting so calls topology before (TooFew shortage) old new out = out
 outside_as memory wanting so calls topology before (Checks wanted) old new out = out
+outside_as memory wanting so calls topology before (Upgrades file text wanted) old new out = out
 outside_as memory wanting so calls topology before (Runs shows wanted) old new out = run_or_not_as memory wanting so calls wanted topology before old new out
 
 -- ---- a text that was lost
@@ -485,6 +511,8 @@ lost_by (TooFew shortage) fails topology before verdict out_fault quiet err_faul
     refusal_lost verdict (Stock shortage) _ out_fault quiet (IsRefused fails topology before (TooFew shortage)) err_fault r.refused (refused_case fails topology before (TooFew shortage) r.no_topology r.no_step tt) fault
 lost_by (Checks wanted) fails topology before verdict out_fault quiet err_fault found (inr r) fault q =
     inl (record { status = 0; end_of = (refl, r.own, r.no_step) }, rw r.counted at fault, rw r.counted at q)
+lost_by (Upgrades file text wanted) fails topology before verdict out_fault quiet err_fault found (inr r) fault q =
+    inl (record { status = 0; end_of = (refl, r.own, r.no_step, r.upgrade) }, rw r.counted at fault, rw r.counted at q)
 lost_by (Runs shows wanted) fails topology before verdict out_fault quiet err_fault found (inr r) fault q = by_run (ran verdict shows wanted before r.comes_to)
   where
     by_run : Reported shows wanted before verdict ⊎ (verdict ≡ Refused Memory) → Lost (IsReportOf topology before (Runs shows wanted)) out_fault quiet (IsRefused fails topology before (Runs shows wanted)) err_fault

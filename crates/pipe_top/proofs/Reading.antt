@@ -12,12 +12,14 @@ use Rattle.pipe_edges.specs.Named.{StandsAsBefore}
 use Rattle.config_table.specs.declared.fault.ConfigFault.{ConfigFault}
 use Rattle.pipe_config.specs.File.{topology_of_file}
 use Rattle.config_flow.specs.Flow.{flow_topology_of}
-use Rattle.program_words.specs.Words.{Command, Flow, Check, Run}
+use Rattle.program_words.specs.Words.{Command, Flow, Check, Run, Upgrade}
 use Rattle.edge_names.specs.Seen.{EdgesSeen}
 use Rattle.topology_needs.specs.declared.stock.Boxes.{Boxes}
-use Rattle.pipe_top.specs.Cases.{Case, Checks, case_of, run_case, for_topology, report_alone, opening_calls, calls_of, file_name, IsNamedFile}
+use Rattle.pipe_top.specs.Cases.{Case, Checks, Upgrades, case_of, run_case, for_topology, report_alone, opening_calls, calls_of, file_name, IsNamedFile}
 use Rattle.pipe_top.specs.Runs.{OutsideSeen, IsUntouched, Asks, FailsAt}
-use Rattle.pipe_top.specs.Flows.{IsCheckedOrNot, ComesBy, Came, ReadsFile, ReadsTopology, AskedFile}
+use Rattle.pipe_top.specs.Flows.{IsCheckedOrNot, IsUpgraded, ComesBy, Came, ReadsFile, ReadsTopology, ReadsUpgrade, UpgradesTo, IsTextOf, topology_beside, AskedFile}
+use Rattle.pipe_top.specs.declared.file.Upgraded.{Upgraded}
+use Rattle.pipe_config.specs.Upgrade.{IsUpgrade}
 use Rattle.run_verdicts.specs.declared.verdict.Refusal.{Refusal}
 use Rattle.run_verdicts.specs.declared.verdict.Refusal.TheVariants.{Usage, Topology as NoTopology, Stock, Edge, Memory}
 use Rattle.run_verdicts.specs.declared.verdict.Verdict.{Verdict}
@@ -130,6 +132,7 @@ pub came_by_flow : (old new : OutsideSeen) (boxes : Boxes) (source prefix : List
     → Came old new (Some (Flow source prefix)) boxes topology before verdict
 came_by_flow old new boxes source prefix wanted topology before verdict is x = record {
   file = [];
+  text = [];
   is_file = tt;
   comes = rw is at x;
 }
@@ -147,9 +150,10 @@ came_to_nothing old new command boxes topology before verdict is none same asked
     let f = named_file old.edges.told old.edges.named (file_name command) in
     record {
       file = f.0;
+      text = [];
       is_file = f.1;
-      comes = wanting old new (case_of command f.0 boxes) (calls_of command (case_of command f.0 boxes)) topology before verdict is none same
-          (λ t. rw asked (asks_none (calls_of command (case_of command f.0 boxes)) old.edges.asked)) telling;
+      comes = wanting old new (case_of command f.0 [] boxes) (calls_of command (case_of command f.0 [] boxes)) topology before verdict is none same
+          (λ t. rw asked (asks_none (calls_of command (case_of command f.0 [] boxes)) old.edges.asked)) telling;
     }
 
 -- the words are no command
@@ -158,6 +162,7 @@ pub came_to_usage : (old new : OutsideSeen) (boxes : Boxes) (topology : Option T
     → Came old new None boxes topology before verdict
 came_to_usage old new boxes topology before verdict is none same asked telling = record {
   file = [];
+  text = [];
   is_file = tt;
   comes = record {
     outcome = inr (record {
@@ -179,6 +184,7 @@ pub check_came : (old : OutsideSeen) (middle : EdgesSeen) (new : OutsideSeen) (b
     → Came old new (Some (Check name)) boxes topology before verdict
 check_came old middle new boxes name wanted topology before verdict r checked edges clock same = record {
   file = r.file;
+  text = [];
   is_file = r.is_file;
   comes = loaded old middle new Checks name wanted topology before verdict r
       (checked_only (record old { edges = middle }) new wanted topology before verdict checked
@@ -192,8 +198,45 @@ pub check_unread : (old new : OutsideSeen) (boxes : Boxes) (name : List ℕ) (re
     → Came old new (Some (Check name)) boxes topology before verdict
 check_unread old new boxes name refusal topology before verdict r is none clock same = record {
   file = r.file;
+  text = [];
   is_file = r.is_file;
   comes = unread old new Checks name refusal topology before verdict is none (untouched old new name (Err refusal) r clock same) r;
+}
+
+-- the text of an upgrade opens nothing
+upgraded_only : (old new : OutsideSeen) (file text : List ℕ) (wanted : Topology) (topology : Option Topology) (before : History) (verdict : Verdict)
+    → IsUpgraded file text wanted topology before verdict → IsUntouched old new → new.edges.asked ≡ old.edges.asked → new.edges.told ≡ old.edges.told
+    → ComesBy old new (Upgrades file text wanted) [] topology before verdict
+upgraded_only old new file text wanted topology before verdict r same asked telling = record {
+  outcome = inr r;
+  outside = same;
+  asked_by = λ t. rw r.counted (asked ∙ sym (append-nil old.edges.asked));
+  same_telling = telling;
+}
+
+pub upgrade_came : (old : OutsideSeen) (middle : EdgesSeen) (new : OutsideSeen) (boxes : Boxes) (name : List ℕ) (found : Upgraded) (topology : Option Topology) (before : History) (verdict : Verdict)
+    → ReadsUpgrade old.edges middle name topology_of_file (Ok found) → ((file : List ℕ) → IsUpgrade file found.text → IsUpgraded file found.text found.topology topology before verdict)
+    → new.edges ≡ middle → new.clock ≡ old.clock → new.boxes ≡ old.boxes
+    → Came old new (Some (Upgrade name)) boxes topology before verdict
+upgrade_came old middle new boxes name found topology before verdict r upgraded edges clock same = record {
+  file = r.0.file;
+  text = found.text;
+  is_file = r.0.is_file;
+  comes = loaded old middle new (Upgrades r.0.file found.text) name found.topology topology before verdict r.0
+      (upgraded_only (record old { edges = middle }) new r.0.file found.text found.topology topology before verdict (upgraded r.0.file r.1)
+      (record { sources = ap (λ e. e.sources_back) edges; sinks = ap (λ e. e.sinks_back) edges; clock = clock; boxes = same })
+      (ap (λ e. e.asked) edges) (ap (λ e. e.told) edges));
+}
+
+pub upgrade_unread : (old new : OutsideSeen) (boxes : Boxes) (name : List ℕ) (refusal : Refusal) (topology : Option Topology) (before : History) (verdict : Verdict)
+    → ReadsUpgrade old.edges new.edges name topology_of_file (Err refusal) → verdict ≡ Refused refusal → (topology ≡ None) × (before ≡ [])
+    → new.clock ≡ old.clock → new.boxes ≡ old.boxes
+    → Came old new (Some (Upgrade name)) boxes topology before verdict
+upgrade_unread old new boxes name refusal topology before verdict r is none clock same = record {
+  file = r.0.file;
+  text = [];
+  is_file = r.0.is_file;
+  comes = unread old new (Upgrades r.0.file []) name refusal topology before verdict is none (untouched old new name (Err refusal) r.0 clock same) r.0;
 }
 
 pub run_came : (old : OutsideSeen) (middle : EdgesSeen) (new : OutsideSeen) (boxes : Boxes) (name : List ℕ) (workers : ℕ) (acks steps : Bool) (wanted : Topology) (topology : Option Topology) (before : History) (verdict : Verdict)
@@ -203,6 +246,7 @@ pub run_came : (old : OutsideSeen) (middle : EdgesSeen) (new : OutsideSeen) (box
     → Came old new (Some (Run name workers acks steps)) boxes topology before verdict
 run_came old middle new boxes name workers acks steps wanted topology before verdict r x = record {
   file = r.file;
+  text = [];
   is_file = r.is_file;
   comes = loaded old middle new (run_case boxes (record { steps = steps; acks = acks })) name wanted topology before verdict r x;
 }
@@ -213,6 +257,7 @@ pub run_unread : (old new : OutsideSeen) (boxes : Boxes) (name : List ℕ) (work
     → Came old new (Some (Run name workers acks steps)) boxes topology before verdict
 run_unread old new boxes name workers acks steps refusal topology before verdict r is none clock same = record {
   file = r.file;
+  text = [];
   is_file = r.is_file;
   comes = unread old new (run_case boxes (record { steps = steps; acks = acks })) name refusal topology before verdict is none
       (untouched old new name (Err refusal) r clock same) r;
@@ -259,6 +304,15 @@ file_read old new name copy bytes result same leaves given calls reads = record 
   same_sinks = leaves.same_sinks;
   faults_stay = leaves.faults_stay;
 }
+
+-- the text comes with the topology
+pub upgrade_read : (old new : EdgesSeen) (name copy bytes : List ℕ) (result : Result Upgraded Refusal)
+    → copy ≡ name → LeavesEdges old new → (IsTrue old.told → bytes ≡ take 1048577 (old.named File copy)) → (IsTrue old.told → new.asked ≡ old.asked ++ (File, copy) ∷ [])
+    → UpgradesTo (topology_of_file bytes) bytes result
+    → ReadsUpgrade old new name topology_of_file result
+unfolding file_read
+upgrade_read old new name copy bytes result same leaves given calls reads =
+    (file_read old new name copy bytes (topology_beside result) same leaves given calls reads.0, reads.1)
 
 pub file_failed : (old new : EdgesSeen) (name copy : List ℕ)
     → copy ≡ name → LeavesEdges old new → (IsTrue old.told → new.asked ≡ old.asked ++ (File, copy) ∷ []) → Rose old.faults new.faults

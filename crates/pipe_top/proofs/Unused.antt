@@ -9,7 +9,7 @@ use Rattle.stage_bodies.specs.Seen.{BoxSeen}
 use Rattle.stage_bodies.specs.Jobs.{Both}
 use Rattle.box_stock.specs.Lends.{IsSameBox}
 use Rattle.pipe_run.specs.Boxes.{AreSameBoxes}
-use Rattle.pipe_top.specs.Cases.{Case, NoCommand, NoTopology, TooFew, Checks, Runs}
+use Rattle.pipe_top.specs.Cases.{Case, NoCommand, NoTopology, TooFew, Checks, Upgrades, Runs}
 use Rattle.pipe_top.specs.Runs.{OutsideSeen, IsUntouched, IsGivenUp, IsOutsideOf, Asks}
 use Rattle.pipe_top.specs.Flows.{ComesBy}
 use Rattle.run_verdicts.specs.declared.verdict.Refusal.TheVariants.{Memory}
@@ -34,6 +34,7 @@ outside_of_none memory calls before NoCommand old new u why = u
 outside_of_none memory calls before (NoTopology fault) old new u why = u
 outside_of_none memory calls before (TooFew shortage) old new u why = u
 outside_of_none memory calls before (Checks wanted) old new u why = u
+outside_of_none memory calls before (Upgrades file text wanted) old new u why = u
 outside_of_none memory calls before (Runs shows wanted) old new u why = record {
   edges = why wanted;
   clock = u.clock;

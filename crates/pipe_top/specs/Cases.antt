@@ -6,20 +6,21 @@ use Rattle.pipe_edges.specs.declared.edges.EdgeKind.TheVariants.{File}
 use Rattle.config_table.specs.declared.fault.ConfigFault.{ConfigFault}
 use Rattle.pipe_config.specs.File.{topology_of_file}
 use Rattle.config_flow.specs.Flow.{flow_topology_of}
-use Rattle.program_words.specs.Words.{Command, Flow, Check, Run}
+use Rattle.program_words.specs.Words.{Command, Flow, Check, Run, Upgrade}
 use Rattle.edge_names.specs.Controls.{run_calls}
 use Rattle.topology_needs.specs.declared.stock.Boxes.{Boxes}
 use Rattle.topology_needs.specs.declared.stock.Shortage.{Shortage}
 use Rattle.topology_needs.specs.Needs.{shortage_of}
 use Rattle.run_verdicts.specs.declared.verdict.Shows.{Shows}
 
--- the words are no command; the file is no topology; the stock has too few boxes of a kind; the topology is only checked; or it
--- runs, and shows these texts
+-- the words are no command; the file is no topology; the stock has too few boxes of a kind; the topology is only checked; its
+-- file is written with this text as version 2; or it runs, and shows these texts
 pub data Case : Type 0 where
   NoCommand : Case
   NoTopology : ConfigFault → Case
   TooFew : Shortage → Case
   Checks : Topology → Case
+  Upgrades : (file text : List ℕ) → Topology → Case
   Runs : Shows → Topology → Case
 
 -- the topology of the file, or why there is none
@@ -39,18 +40,20 @@ run_case boxes shows topology = unless_short (shortage_of topology boxes) (Runs 
 abbrev pub report_alone : Shows
 report_alone = record { steps = false; acks = false }
 
--- `flow` has a topology of its own; `check` and `run` have that of the file
-abbrev pub case_of : Option Command → (file : List ℕ) → Boxes → Case
-case_of None file boxes = NoCommand
-case_of (Some (Flow source prefix)) file boxes = run_case boxes report_alone (flow_topology_of source prefix)
-case_of (Some (Check path)) file boxes = for_topology (topology_of_file file) Checks
-case_of (Some (Run path workers acks steps)) file boxes = for_topology (topology_of_file file) (run_case boxes (record { steps = steps; acks = acks }))
+-- `flow` has a topology of its own; `check`, `upgrade` and `run` have that of the file; the text is that of an upgrade
+abbrev pub case_of : Option Command → (file text : List ℕ) → Boxes → Case
+case_of None file text boxes = NoCommand
+case_of (Some (Flow source prefix)) file text boxes = run_case boxes report_alone (flow_topology_of source prefix)
+case_of (Some (Check path)) file text boxes = for_topology (topology_of_file file) Checks
+case_of (Some (Upgrade path)) file text boxes = for_topology (topology_of_file file) (Upgrades file text)
+case_of (Some (Run path workers acks steps)) file text boxes = for_topology (topology_of_file file) (run_case boxes (record { steps = steps; acks = acks }))
 
 -- ---- names
 
 -- the topology file that the command names
 abbrev pub file_name : Option Command → Option (List ℕ)
 file_name (Some (Check path)) = Some path
+file_name (Some (Upgrade path)) = Some path
 file_name (Some (Run path workers acks steps)) = Some path
 file_name _ = None
 
@@ -72,8 +75,9 @@ opening_calls _ = []
 abbrev pub calls_of : Option Command → Case → List (EdgeKind × List ℕ)
 calls_of command case = file_calls (file_name command) ++ opening_calls case
 
--- what holds in the case of the command, for the bytes of its file
+-- what holds in the case of the command, for the bytes of its file and for some text, which is that of an upgrade
 pub record InCase (told : Bool) (named : EdgeKind → List ℕ → List ℕ) (command : Option Command) (boxes : Boxes) (holds : Case → Type 0) : Type 0 where
   pub file : List ℕ
+  pub text : List ℕ
   pub is_file : IsNamedFile told named (file_name command) file
-  pub it_holds : holds (case_of command file boxes)
+  pub it_holds : holds (case_of command file text boxes)

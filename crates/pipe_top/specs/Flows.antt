@@ -7,13 +7,15 @@ use Rattle.pipe_model.specs.History.{History}
 use Rattle.pipe_edges.specs.declared.edges.EdgeKind.{EdgeKind}
 use Rattle.pipe_edges.specs.declared.edges.EdgeKind.TheVariants.{File}
 use Rattle.config_table.specs.declared.fault.ConfigFault.{ConfigFault}
+use Rattle.pipe_config.specs.Upgrade.{IsUpgrade}
+use Rattle.pipe_top.specs.declared.file.Upgraded.{Upgraded}
 use Rattle.program_words.specs.Refusals.{counts_line}
 use Rattle.program_words.specs.Words.{Command}
 use Rattle.edge_names.specs.Seen.{EdgesSeen}
 use Rattle.topology_needs.specs.Needs.{subscriptions_of}
 use Rattle.topology_needs.specs.declared.stock.Boxes.{Boxes}
 use Rattle.topology_needs.specs.declared.stock.Shortage.{Shortage}
-use Rattle.pipe_top.specs.Cases.{Case, NoCommand, NoTopology as BadTopology, TooFew, Checks, Runs, case_of, calls_of, file_name, IsNamedFile}
+use Rattle.pipe_top.specs.Cases.{Case, NoCommand, NoTopology as BadTopology, TooFew, Checks, Upgrades, Runs, case_of, calls_of, file_name, IsNamedFile}
 use Rattle.run_verdicts.specs.Verdicts.{whole_text}
 use Rattle.pipe_top.specs.Runs.{OutsideSeen, IsEnded, IsRun, IsOutsideOf, Asks, FailsAt}
 use Rattle.run_verdicts.specs.Texts.{run_text}
@@ -60,6 +62,16 @@ pub record IsChecked (wanted : Topology) (topology : Option Topology) (before : 
 abbrev pub IsCheckedOrNot : (wanted : Topology) → Option Topology → History → Verdict → Type 0
 IsCheckedOrNot wanted topology before verdict = IsRefusedBy Memory topology before verdict ⊎ IsChecked wanted topology before verdict
 
+-- the text of the file as version 2 was made
+pub record IsUpgraded (file text : List ℕ) (wanted : Topology) (topology : Option Topology) (before : History) (verdict : Verdict) : Type 0 where
+  pub texts : Texts
+  pub counted : verdict ≡ Done texts 0
+  pub counts : whole_text texts ≡ text
+  pub upgrade : IsUpgrade file text
+  pub own : topology ≡ Some wanted
+  pub run : IsRun wanted before
+  pub no_step : before ≡ []
+
 -- a run on this topology
 pub record IsRunOn (shows : Shows) (wanted : Topology) (topology : Option Topology) (before : History) (verdict : Verdict) : Type 0 where
   pub sound : IsSound wanted
@@ -73,6 +85,7 @@ ComesTo NoCommand topology before verdict = IsRefusedBy Usage topology before ve
 ComesTo (BadTopology fault) topology before verdict = IsRefusedBy (NoTopology fault) topology before verdict
 ComesTo (TooFew shortage) topology before verdict = IsRefusedBy (Stock shortage) topology before verdict
 ComesTo (Checks wanted) topology before verdict = IsChecked wanted topology before verdict
+ComesTo (Upgrades file text wanted) topology before verdict = IsUpgraded file text wanted topology before verdict
 ComesTo (Runs shows wanted) topology before verdict = IsRunOn shows wanted topology before verdict
 
 -- the case's outcome, or there was no run before it came to one
@@ -100,8 +113,9 @@ pub record ComesBy (old new : OutsideSeen) (case : Case) (calls : List (EdgeKind
 -- the same in the case of the command, for the bytes of its file
 pub record Came (old new : OutsideSeen) (command : Option Command) (boxes : Boxes) (topology : Option Topology) (before : History) (verdict : Verdict) : Type 0 where
   pub file : List ℕ
+  pub text : List ℕ
   pub is_file : IsNamedFile old.edges.told old.edges.named (file_name command) file
-  pub comes : ComesBy old new (case_of command file boxes) (calls_of command (case_of command file boxes)) topology before verdict
+  pub comes : ComesBy old new (case_of command file text boxes) (calls_of command (case_of command file text boxes)) topology before verdict
 
 -- ---- the topology file
 
@@ -129,3 +143,23 @@ pub record ReadsFile (old new : EdgesSeen) (name : List ℕ) (expected : List �
   pub same_sources : new.sources_back ≡ old.sources_back
   pub same_sinks : new.sinks_back ≡ old.sinks_back
   pub faults_stay : old.faults ≤ new.faults
+
+-- ---- the file as version 2
+
+-- the topology beside the text
+abbrev pub topology_beside : Result Upgraded Refusal → Result Topology Refusal
+topology_beside (Ok upgraded) = Ok upgraded.topology
+topology_beside (Err refusal) = Err refusal
+
+-- the text is that of the file
+abbrev pub IsTextOf : (file : List ℕ) → Result Upgraded Refusal → Type 0
+IsTextOf file (Ok upgraded) = IsUpgrade file upgraded.text
+IsTextOf file (Err refusal) = Unit {0}
+
+-- what reading the file for its upgrade came to
+abbrev pub ReadsUpgrade : (old new : EdgesSeen) (name : List ℕ) (expected : List ℕ → Result Topology ConfigFault) (result : Result Upgraded Refusal) → Type 0
+ReadsUpgrade old new name expected result = (r : ReadsFile old new name expected (topology_beside result)) × IsTextOf r.file result
+
+-- what the bytes of a file come to
+abbrev pub UpgradesTo : (expected : Result Topology ConfigFault) → (file : List ℕ) → Result Upgraded Refusal → Type 0
+UpgradesTo expected file result = ReadsTopology expected [] ⊥ (topology_beside result) × IsTextOf file result

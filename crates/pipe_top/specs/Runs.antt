@@ -20,6 +20,7 @@ use Rattle.journal_texts.specs.Report.{report_text, status_of}
 use Rattle.journal_texts.specs.Acks.{ack_text}
 use Rattle.program_words.specs.Refusals.{usage_line, topology_line, stock_line, edge_line, memory_line, counts_line}
 use Rattle.program_words.specs.Words.{Command}
+use Rattle.pipe_config.specs.Upgrade.{IsUpgrade}
 use Rattle.topology_needs.specs.Needs.{subscriptions_of}
 use Rattle.source_lines.specs.Cut.{HasShortLines}
 use Rattle.pipe_laws.specs.KeptClaims.{KeepsClaims}
@@ -31,7 +32,7 @@ use Rattle.edge_names.specs.Seen.{EdgesSeen}
 use Rattle.pipe_run.specs.Boxes.{AreBoxesLeft, AreSameBoxes}
 use Rattle.pipe_run.specs.Outside.{IsOutside, IsUnopened}
 use Rattle.pipe_run.specs.Whole.{HasCome, IsTimeOf}
-use Rattle.pipe_top.specs.Cases.{calls_of, Case, NoCommand, NoTopology, TooFew, Checks, Runs}
+use Rattle.pipe_top.specs.Cases.{calls_of, Case, NoCommand, NoTopology, TooFew, Checks, Upgrades, Runs}
 use Rattle.run_verdicts.specs.Texts.{run_text}
 use Rattle.run_verdicts.specs.Verdicts.{Adds, AddsPrefix, path_of}
 use Rattle.run_verdicts.specs.declared.verdict.Shows.{Shows}
@@ -59,28 +60,31 @@ pub record IsEnded (topology : Topology) (before : History) (status : ℕ) : Typ
   pub ended : HasCome topology before
   pub by_journal : status ≡ status_of topology before
 
--- a run is ended on its topology, or a topology was checked
+-- a run is ended on its topology, or a topology was checked, or the text of its file as version 2 was made
 abbrev pub IsEndOf : Option Topology → History → (status : ℕ) → Case → Type 0
 IsEndOf topology before status (Runs shows wanted) = (topology ≡ Some wanted) × IsEnded wanted before status
 IsEndOf topology before status (Checks wanted) = (status ≡ 0) × (topology ≡ Some wanted) × (before ≡ [])
+IsEndOf topology before status (Upgrades file text wanted) = (status ≡ 0) × (topology ≡ Some wanted) × (before ≡ []) × IsUpgrade file text
 IsEndOf topology before status _ = ⊥
 
--- a run and a check have the case's topology, a check without any step; all else has none
+-- a run, a check and an upgrade have the case's topology, the last two without any step; all else has none
 abbrev pub IsOwnTopology : Option Topology → History → Case → Type 0
 IsOwnTopology None before case = before ≡ []
 IsOwnTopology (Some topology) before (Runs shows wanted) = topology ≡ wanted
 IsOwnTopology (Some topology) before (Checks wanted) = (topology ≡ wanted) × (before ≡ [])
+IsOwnTopology (Some topology) before (Upgrades file text wanted) = (topology ≡ wanted) × (before ≡ [])
 IsOwnTopology (Some topology) before _ = ⊥
 
 -- ---- texts
 
--- what is written to the output: the texts of a run, or the counts of a topology that is only checked
+-- what is written to the output: the texts of a run, the counts of a topology that is only checked, or the text of an upgrade
 abbrev pub out_text : History → Case → List ℕ
 out_text before (Checks topology) = counts_line (length topology.stages) (subscriptions_of topology)
+out_text before (Upgrades file text topology) = text
 out_text before (Runs shows topology) = run_text shows topology before
 out_text before _ = []
 
--- the same, and nothing where there was neither a run nor a check
+-- the same, and nothing where there was neither a run nor a check nor an upgrade
 abbrev pub text_of_call : Option Topology → History → Case → List ℕ
 text_of_call None before case = []
 text_of_call (Some topology) before case = out_text before case
@@ -91,6 +95,7 @@ case_line NoCommand = usage_line
 case_line (NoTopology fault) = topology_line (number_of fault) (path_of fault)
 case_line (TooFew shortage) = stock_line shortage.kind shortage.need shortage.have
 case_line (Checks topology) = []
+case_line (Upgrades file text topology) = []
 case_line (Runs shows topology) = []
 
 -- what is written to the error output under a status that is none of 5, 8 and 9
@@ -119,6 +124,7 @@ IsStatusOf status NoCommand = status ≡ 7
 IsStatusOf status (NoTopology fault) = status ≡ 6
 IsStatusOf status (TooFew shortage) = status ≡ 6
 IsStatusOf status (Checks topology) = status ≡ 0
+IsStatusOf status (Upgrades file text topology) = status ≡ 0
 IsStatusOf status (Runs shows topology) = IsEndStatus status
 
 -- ---- calls by name
@@ -279,7 +285,8 @@ pub record BeginsLine (told : Bool) (calls asked asked' : List (EdgeKind × List
 -- what a call comes to in its case
 pub record IsCall (old new : OutsideSeen) (out out' err err' : SinkSeen) (command : Option Command) (topology : Option Topology) (before : History) (status : ℕ) (case : Case) : Type 0 where
   pub own : IsOwnTopology topology before case
-  -- under 0 to 4 the run is drained or halted, and the status is the journal's, or a topology was checked; the output is its text
+  -- under 0 to 4 the run is drained or halted, and the status is the journal's, or a topology was checked, or the case's text is the
+  -- file as version 2; the output is its text
   pub ended : IsEndStatus status → IsEndOf topology before status case
   pub report : IsEndStatus status → IsTrue out.told → Adds out.held out'.held (out_text before case)
   -- under every status the output is a front of that text

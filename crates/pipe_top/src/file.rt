@@ -1,14 +1,15 @@
 //! The topology file.
 
-ghost use Rattle.std.specs.Prelude.{◌≡◌, ◌⊎◌, ◌≤◌, [], Ok, Some, None, IsTrue, IfOk, IfErr};
+ghost use Rattle.std.specs.Prelude.{◌≡◌, ◌⊎◌, ◌≤◌, ℕ, List, [], Ok, Some, None, IsTrue, IfOk, IfErr};
 ghost use Rattle.pipe_types.specs.Counts.{Rose};
 ghost use Rattle.pipe_types.specs.Sound.{IsSound};
 ghost use Rattle.pipe_config.specs.File.{topology_of_file};
-ghost use Rattle.pipe_top.specs.Flows.{ReadsFile, ReadsTopology, IsChecked, IsCheckedOrNot};
+ghost use Rattle.pipe_config.specs.Upgrade.{IsUpgrade};
+ghost use Rattle.pipe_top.specs.Flows.{ReadsFile, ReadsTopology, ReadsUpgrade, UpgradesTo, IsUpgraded, IsChecked, IsCheckedOrNot};
 
 use crate::run::{Ran, refused};
 use edge_names::SeenEdges;
-use pipe_config::{ConfigFault, read_topology};
+use pipe_config::{ConfigFault, UpgradeFault, read_topology, upgrade};
 use pipe_edges::{EdgeEnd, Edges};
 use pipe_journal::Journal;
 use pipe_types::bytes::{Bytes, Text};
@@ -17,6 +18,13 @@ use program_words::counts_line;
 use run_verdicts::{Refusal, Texts, Verdict};
 use std::alloc::{AllocError, Global};
 use topology_needs::subscriptions;
+
+/// The topology of a file, and its text as version 2.
+#[derive(Drop)]
+pub(crate) struct Upgraded {
+    pub(crate) topology: Topology,
+    pub(crate) text: Bytes,
+}
 
 fn text_of(alloc: Global, word: &str) -> Result<Text, AllocError>
     ensures { IfOk result (λ text. text ≡ word.now) }
@@ -77,5 +85,76 @@ pub(crate) fn checked<C, K>(alloc: Global, topology: Topology, stock: Vec<C>, cl
             clock,
         },
         Err(_) => refused(alloc, Refusal::Memory, stock, clock),
+    }
+}
+
+/// The topology of the file with this name and its text as version 2, or why there is none.
+pub(crate) fn upgrade_named<E: Edges>(
+    alloc: Global,
+    name: &str,
+    edges: &mut E,
+) -> Result<Upgraded, Refusal>
+    ensures { ReadsUpgrade (⟦<E as SeenEdges>⟧.seen edges.old) (⟦<E as SeenEdges>⟧.seen edges.new) name.now topology_of_file result }
+{
+    let Ok(name) = text_of(alloc, name) else {
+        return Err(Refusal::Memory);
+    };
+    match edges.read_file(&name) {
+        Ok(bytes) => upgrade_in(alloc, &bytes),
+        Err(EdgeEnd::Failed) => Err(Refusal::Edge(name)),
+        Err(EdgeEnd::OutOfMemory) => Err(Refusal::Memory),
+    }
+}
+
+/// The text of a file of this topology as version 2, beside the topology.
+fn upgrade_of(alloc: Global, bytes: &Bytes, topology: Topology) -> Result<Upgraded, Refusal>
+    requires named { topology_of_file bytes.now ≡ Ok topology }
+    requires sound { IsSound topology }
+    ensures { UpgradesTo (topology_of_file bytes.now) bytes.now result }
+{
+    match upgrade(alloc, bytes.as_slice()) {
+        Ok(text) => Ok(Upgraded { topology, text }),
+        Err(UpgradeFault::OutOfMemory) => Err(Refusal::Memory),
+        Err(UpgradeFault::Refused(fault)) => Err(Refusal::Topology(fault)),
+    }
+}
+
+/// The topology that the bytes are and their text as version 2, or why they are none.
+fn upgrade_in(alloc: Global, bytes: &Bytes) -> Result<Upgraded, Refusal>
+    ensures { UpgradesTo (topology_of_file bytes.now) bytes.now result }
+{
+    match topology_in(alloc, bytes) {
+        Ok(topology) => upgrade_of(alloc, bytes, topology),
+        Err(refusal) => Err(refusal),
+    }
+}
+
+/// The text of a file as version 2.
+pub(crate) fn finish_upgrade<C, K>(
+    alloc: Global,
+    found: Upgraded,
+    stock: Vec<C>,
+    clock: K,
+) -> Ran<C, K>
+    requires sound { IsSound found.topology }
+    ensures same_boxes { result.stock.items ≡ stock.items }
+    ensures same_clock { result.clock ≡ clock }
+    ensures upgraded { (file : List ℕ) → IsUpgrade file found.text
+        → IsUpgraded file found.text found.topology result.topology result.journal.steps result.verdict }
+{
+    let Upgraded { topology, text } = found;
+    Ran {
+        verdict: Verdict::Done {
+            texts: Texts {
+                steps: None,
+                acks: None,
+                last: text,
+            },
+            status: 0,
+        },
+        topology: Some(topology),
+        journal: Journal::new(alloc),
+        stock,
+        clock,
     }
 }

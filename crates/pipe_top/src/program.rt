@@ -3,7 +3,7 @@
 ghost use Rattle.std.specs.Prelude.{◌≡◌, ◌≢◌, ◌⊎◌, ◌≤◌, [], None, Some, IsTrue, map};
 ghost use Rattle.pipe_types.specs.Counts.{Rose};
 ghost use Rattle.program_words.specs.Refusals.{memory_line};
-ghost use Rattle.program_words.specs.Words.{command_of, texts_of, Flow, Check, Run};
+ghost use Rattle.program_words.specs.Words.{command_of, texts_of, Flow, Check, Run, Upgrade};
 ghost use Rattle.pipe_run.specs.Clocks.{clock_seen};
 ghost use Rattle.box_stock.specs.Lends.{kinds_of};
 ghost use Rattle.topology_needs.specs.Needs.{boxes_in};
@@ -13,7 +13,7 @@ ghost use Rattle.pipe_top.specs.Runs.{IsRunOrNone, IsCall, IsRefusalStatus, IsUn
 ghost use Rattle.pipe_top.specs.Flows.{Came};
 ghost use Rattle.topology_needs.specs.declared.stock.Boxes.{Boxes};
 
-use crate::file::{checked, read_named};
+use crate::file::{checked, finish_upgrade, read_named, upgrade_named};
 use crate::run::{Ran, refused, run_or_refuse};
 use box_stock::{Boxed, Carries};
 use config_flow::flow_topology;
@@ -116,6 +116,7 @@ fn run_words<
             rt, alloc, words, stock, edges, clock,
         ),
         Ok(Some(Command::Check(path))) => check_file(alloc, path, stock, edges, clock),
+        Ok(Some(Command::Upgrade(path))) => upgrade_file(alloc, path, stock, edges, clock),
         Ok(Some(Command::Run(words))) => run_file::<R, E, C, B, K>(
             rt, alloc, words, stock, edges, clock,
         ),
@@ -162,6 +163,25 @@ fn check_file<E: Edges, C: Boxed, K: Clock>(
 {
     match read_named(alloc, path, edges) {
         Ok(topology) => checked(alloc, topology, stock, clock),
+        Err(refusal) => refused(alloc, refusal, stock, clock),
+    }
+}
+
+/// Reads the topology file of `upgrade`, and writes it as version 2.
+fn upgrade_file<E: Edges, C: Boxed, K: Clock>(
+    alloc: Global,
+    path: &str,
+    stock: Vec<C>,
+    edges: &mut E,
+    clock: K,
+) -> Ran<C, K>
+    ensures came { (boxes : Boxes) → Came
+        (record { edges = ⟦<E as SeenEdges>⟧.seen edges.old; clock = clock_seen K.latest K.readings clock; boxes = map C.seen stock.items })
+        (record { edges = ⟦<E as SeenEdges>⟧.seen edges.new; clock = clock_seen K.latest K.readings result.clock; boxes = map C.seen result.stock.items })
+        (Some (Upgrade path.now)) boxes result.topology result.journal.steps result.verdict }
+{
+    match upgrade_named(alloc, path, edges) {
+        Ok(found) => finish_upgrade(alloc, found, stock, clock),
         Err(refusal) => refused(alloc, refusal, stock, clock),
     }
 }

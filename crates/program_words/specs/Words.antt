@@ -13,12 +13,13 @@ use Rattle.clap.specs.declared.builder.ArgAction.TheVariants.{SetTrue}
 use Rattle.program_words.specs.declared.words.Command as code
 use Rattle.program_words.specs.declared.words.Command.TheVariants as coded
 
--- `flow` with the name of a source and a prefix, `check` with a topology file, and `run` with one, the number of
--- workers, and whether the acknowledgements and the steps are asked for
+-- `flow` with the name of a source and a prefix, `check` and `upgrade` with a topology file, and `run` with one, the number
+-- of workers, and whether the acknowledgements and the steps are asked for
 pub data Command : Type 0 where
   Flow : (source prefix : List ℕ) → Command
   Check : (topology : List ℕ) → Command
   Run : (topology : List ℕ) → (workers : ℕ) → (acks steps : Bool) → Command
+  Upgrade : (topology : List ℕ) → Command
 
 -- ---- `flow`
 
@@ -50,6 +51,10 @@ abbrev pub run_grammar : App
 run_grammar = with_rule (with_rule (with_rule (with_rule (new_app (codes "run"))
     topology_rule) workers_rule) (flag_rule (codes "acks"))) (flag_rule (codes "steps"))
 
+-- `upgrade TOPOLOGY`
+abbrev pub upgrade_grammar : App
+upgrade_grammar = with_rule (new_app (codes "upgrade")) topology_rule
+
 -- a program whose words come without its name, and which has no help
 abbrev pub bare_grammar : App
 bare_grammar = on_top (λ s. record s {
@@ -58,11 +63,11 @@ bare_grammar = on_top (λ s. record s {
   disable_help_subcommand = true;
 }) (new_app (codes "wamiondry"))
 
--- `check` or `run`, each with its own words after it. By what clap takes of it: the command's word comes first; after it
+-- `check`, `run` or `upgrade`, each with its own words after it. By what clap takes of it: the command's word comes first; after it
 -- options and the topology stand in any order; an option is written in full and at most once, `--workers N` or
 -- `--workers=N`, `--acks` and `--steps` without a value; `--` ends the options; there is no help and no version
 abbrev pub grammar : App
-grammar = with_subcommand (with_subcommand bare_grammar check_grammar.top) run_grammar.top
+grammar = with_subcommand (with_subcommand (with_subcommand bare_grammar check_grammar.top) run_grammar.top) upgrade_grammar.top
 
 -- ---- from clap's matches to the command
 
@@ -77,6 +82,9 @@ workers_in rows = option_map_or workers_of (first_of (codes "workers") rows) (So
 abbrev pub check_in : List Row → Option Command
 check_in rows = option_map Check (first_of (codes "topology") rows)
 
+abbrev pub upgrade_in : List Row → Option Command
+upgrade_in rows = option_map Upgrade (first_of (codes "topology") rows)
+
 abbrev pub run_in : List Row → Option Command
 run_in rows = option_and_then (λ topology. option_map (λ workers.
     Run topology workers (is_given (codes "acks") rows) (is_given (codes "steps") rows))
@@ -85,7 +93,8 @@ run_in rows = option_and_then (λ topology. option_map (λ workers.
 -- the command of this name, by what was found of its own words
 abbrev pub named_in : Text × List Row → Option Command
 named_in entered = if bytes_eq entered.0 (codes "check") then check_in entered.1
-    else (if bytes_eq entered.0 (codes "run") then run_in entered.1 else None)
+    else (if bytes_eq entered.0 (codes "run") then run_in entered.1
+    else (if bytes_eq entered.0 (codes "upgrade") then upgrade_in entered.1 else None))
 
 -- what clap takes: it finds no fault in the words, and they name a command
 unfoldable pub taken_of : List Text → Option Command
@@ -106,4 +115,5 @@ abbrev pub seen_as : Option code.Command → Option Command
 seen_as None = None
 seen_as (Some (coded.Flow words)) = Some (Flow words.source.now words.prefix.now)
 seen_as (Some (coded.Check topology)) = Some (Check topology.now)
+seen_as (Some (coded.Upgrade topology)) = Some (Upgrade topology.now)
 seen_as (Some (coded.Run words)) = Some (Run words.topology.now words.workers words.acks words.steps)

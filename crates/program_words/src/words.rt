@@ -3,7 +3,7 @@
 ghost use Rattle.std.specs.Prelude.{◌≡◌, ◌==◌, ◌||◌, IfOk, false, option_and_then, slice_index};
 ghost use Rattle.clap.specs.Words.{app_of, found_of, rows_of, rule_of, subcommand_rows_of};
 ghost use Rattle.clap.specs.Takes.{is_given};
-ghost use Rattle.program_words.specs.Words.{command_of, texts_of, seen_as, flow_of, taken_of, named_in, check_in, run_in, workers_in, workers_of, grammar, check_grammar, run_grammar, flag_rule, topology_rule};
+ghost use Rattle.program_words.specs.Words.{command_of, texts_of, seen_as, flow_of, taken_of, named_in, check_in, upgrade_in, run_in, workers_in, workers_of, grammar, check_grammar, run_grammar, upgrade_grammar, flag_rule, topology_rule};
 
 use clap::error::ErrorKind;
 use clap::parser::ValueSource;
@@ -37,6 +37,8 @@ pub enum Command<'a> {
     /// `check TOPOLOGY`: the name of a topology file.
     Check(&'a str),
     Run(RunWords<'a>),
+    /// `upgrade TOPOLOGY`: the name of a topology file.
+    Upgrade(&'a str),
 }
 
 /// The command, and none where the words are no command. The words come without the program's name. The error is want
@@ -85,6 +87,7 @@ fn matched_command<'a>(matches: &ArgMatches<'a>) -> Option<Command<'a>>
     match name {
         "check" => check_words(found),
         "run" => run_words(found),
+        "upgrade" => upgrade_words(found),
         _ => None,
     }
 }
@@ -93,6 +96,12 @@ fn check_words<'a>(matches: &ArgMatches<'a>) -> Option<Command<'a>>
     ensures { seen_as result ≡ check_in (rows_of (found_of matches.now)) }
 {
     Some(Command::Check(matches.get_str("topology")?))
+}
+
+fn upgrade_words<'a>(matches: &ArgMatches<'a>) -> Option<Command<'a>>
+    ensures { seen_as result ≡ upgrade_in (rows_of (found_of matches.now)) }
+{
+    Some(Command::Upgrade(matches.get_str("topology")?))
 }
 
 fn run_words<'a>(matches: &ArgMatches<'a>) -> Option<Command<'a>>
@@ -154,13 +163,20 @@ fn clap_program<'a>(alloc: Global) -> Result<clap::Command<'a>, AllocError>
         .disable_help_flag(true)
         .disable_help_subcommand(true)
         .subcommand(check_command(alloc)?)?
-        .subcommand(run_command(alloc)?)
+        .subcommand(run_command(alloc)?)?
+        .subcommand(upgrade_command(alloc)?)
 }
 
 fn check_command<'a>(alloc: Global) -> Result<clap::Command<'a>, AllocError>
     ensures { IfOk result (λ command. app_of command ≡ check_grammar) }
 {
     clap::Command::new(alloc, "check").arg(topology_arg(alloc))
+}
+
+fn upgrade_command<'a>(alloc: Global) -> Result<clap::Command<'a>, AllocError>
+    ensures { IfOk result (λ command. app_of command ≡ upgrade_grammar) }
+{
+    clap::Command::new(alloc, "upgrade").arg(topology_arg(alloc))
 }
 
 fn run_command<'a>(alloc: Global) -> Result<clap::Command<'a>, AllocError>

@@ -6,6 +6,6 @@ use Rattle.config_table.proofs.walk.held_fault.Goals as goal
 pub loop-row-preserved : goal.loop-row-preserved
 loop-row-preserved c =
     rw c.sooner-found.ensures
-    (row_step c.args.path.now (members_view c.args.table.now.entries) c.loop-row.row-index c.args.rows.now _ c.loop-row.found c.in_ok-fault.fault
+    (row_step c.args.version c.args.path.now (members_view c.args.table.now.entries) c.loop-row.row-index c.args.rows.now _ c.loop-row.found c.in_ok-fault.fault
     c.loop-row-test.true c.in_ok-fault.ensures
     ∙ c.loop-row.invariant)

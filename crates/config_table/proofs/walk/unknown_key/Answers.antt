@@ -14,6 +14,6 @@ members-preserved c =
       tt,
       tt,
       rw c.sooner-found.ensures
-          (unknown_step c.args.path.now c.args.rows.now c.members.key-iterator c.next.new.self e c.members.found c.in_ok-fault.fault _
-          left (c.in_ok-fault.ensures ∙ ap (λ key. least (key_faults c.args.path.now c.args.rows.now key)) c.as_str.ensures.value) so_far),
+          (unknown_step c.args.version c.args.path.now c.args.rows.now c.members.key-iterator c.next.new.self e c.members.found c.in_ok-fault.fault _
+          left (c.in_ok-fault.ensures ∙ ap (λ key. least (key_faults c.args.version c.args.path.now c.args.rows.now key)) c.as_str.ensures.value) so_far),
     )

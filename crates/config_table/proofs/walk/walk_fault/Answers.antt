@@ -15,6 +15,6 @@ members-preserved c =
       tt,
       tt,
       rw c.sooner-found.ensures
-          (top_step c.members.key-iterator c.next.new.self e c.members.found c.in_ok-fault.fault _
-          left (c.in_ok-fault.ensures ∙ ap (λ key. least (top_faults key (view e.1))) c.as_str.ensures.value) so_far),
+          (top_step c.args.version c.members.key-iterator c.next.new.self e c.members.found c.in_ok-fault.fault _
+          left (c.in_ok-fault.ensures ∙ ap (λ key. least (top_faults c.args.version key (view e.1))) c.as_str.ensures.value) so_far),
     )

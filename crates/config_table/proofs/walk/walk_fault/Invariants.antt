@@ -7,4 +7,4 @@ use Rattle.config_table.proofs.walk.walk_fault.Given as goal
 abbrev pub invariant-members : goal.invariant-members
 invariant-members l =
     (goal.iterator-members).can_next l.key-iterator × (goal.iterator-members).is_finite l.key-iterator
-    × (sooner l.found (least (faults_of (members_view l.key-iterator))) ≡ least (faults_of (members_view l.table.entries)))
+    × (sooner l.found (least (faults_of l.version (members_view l.key-iterator))) ≡ least (faults_of l.version (members_view l.table.entries)))

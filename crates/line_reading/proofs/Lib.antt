@@ -1,0 +1,8 @@
+pub mod Loops
+pub mod Reasons
+pub mod Spelt
+pub mod Chains
+pub mod ItemsAgain
+pub mod ItemsSpelt
+pub mod Again
+pub mod Back
