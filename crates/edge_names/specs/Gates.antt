@@ -1,19 +1,16 @@
 -- The gates before the sources of a run, and the sources without them.
-use Rattle.std.specs.Prelude.{◌≡◌, ◌≤◌, ◌+◌, ◌/◌, ◌%◌, ◌++◌, ℕ, Bool, false, List, [], ◌∷◌, nat_lt, if◌then◌else◌, length, Option, Some, None, IsTrue}
+use Rattle.std.specs.Prelude.{◌≡◌, ◌≤◌, ◌++◌, ℕ, false, List, [], ◌∷◌, length, Option, Some, None, IsTrue}
 use Rattle.pipe_types.specs.Sound.{producers}
 use Rattle.pipe_types.specs.declared.topology.Rate.{Rate}
 use Rattle.pipe_types.specs.declared.topology.StageSpec.{StageSpec}
 use Rattle.pipe_types.specs.declared.topology.Topology.{Topology}
+use Rattle.rate_laws.specs.Rates.{share_of}
 use Rattle.pipe_edges.specs.Paces.{Pace, PaceSeen, unpaced, own_waits}
 use Rattle.pipe_edges.specs.LineSource.{line_source, waiting, line_end_of}
 use Rattle.pipe_edges.specs.declared.lines.LineSource.{LineSource}
 use Rattle.stage_bodies.specs.Seen.{SourceSeen, LineSeen}
 
 -- ---- shares
-
--- of an allowance for so many producers, the share of the one at place k, from 0: the first ones get one more
-abbrev pub share_of : (allowed producers k : ℕ) → ℕ
-share_of allowed producers k = if nat_lt k (allowed % producers) then allowed / producers + 1 else allowed / producers
 
 abbrev pub pace_by : Option Rate → (producers k : ℕ) → Option Pace
 pace_by None producers k = None

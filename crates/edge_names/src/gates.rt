@@ -4,7 +4,8 @@ ghost use Rattle.std.specs.Prelude.{◌≡◌, ◌≤◌, [], None, length, opti
 ghost use Rattle.pipe_types.specs.Sound.{producers, is_producer as is_producer_role};
 ghost use Rattle.pipe_edges.specs.LineSource.{line_source, waiting, line_end_of};
 ghost use Rattle.rate_gate.specs.Gate.{pace_of, moment_of, given_of};
-ghost use Rattle.edge_names.specs.Gates.{IsGated, IsInner, IsShared, lines_seen, pace_by, share_of};
+ghost use Rattle.rate_laws.specs.Rates.{share_of};
+ghost use Rattle.edge_names.specs.Gates.{IsGated, IsInner, IsShared, lines_seen, pace_by};
 
 use crate::seen::SeenSource;
 use pipe_edges::{ByteSource, LineSource};
