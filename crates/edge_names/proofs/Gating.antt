@@ -1,6 +1,6 @@
 -- Laws of gates that are put before sources and taken off again.
 use Rattle.std.proofs.Common.{◌≡◌, ℕ, ◌+◌, ◌*◌, ◌/◌, ◌<◌, ◌≤◌, Bool, true, false, cond, nat_le, ◌==◌, ◌&&◌, get_or, take, length, List, [], ◌∷◌, ◌++◌, refl, ap, sym, ◌∙◌, arith}
-use Rattle.std.specs.Prelude.{Option, Some, None, IsTrue, IsSome, IfSome, Result, Ok, Err, OnOk, OnErr, option_map, filter}
+use Rattle.std.specs.Prelude.{Option, Some, None, IsTrue, IsSome, IfSome, Result, Ok, Err, OnOk, OnErr, option_map}
 use Rattle.std.proofs.lemmas.Bool.{leb-true}
 use Rattle.std.proofs.lemmas.List.{append-nil, append_assoc}
 use Rattle.std.proofs.lemmas.List.Filters.{length-filter_more}
@@ -173,6 +173,10 @@ share_low allowed count some low =
 
 pub share_least : (allowed count : ℕ) → 1 ≤ count → count ≤ allowed → 1 ≤ allowed / count
 share_least allowed count some enough = le-div 1 allowed count (omega (arith, some)) (omega (arith, enough))
+
+pub cond_low : (b : Bool) → cond b 1 0 ≤ 1
+cond_low true = omega arith
+cond_low false = omega arith
 
 pub count_turn : (xs : List StageSpec) (n : ℕ) (spec : StageSpec) (count more : ℕ) → n < length xs → spec ≡ get_or xs n spec → count ≡ length (producers (take n xs)) → more ≡ cond (is_producer spec.role) 1 0
     → count + more ≡ length (producers (take (n + 1) xs))
