@@ -53,7 +53,7 @@ given_later interval m f f' g came came' some past grows is none same = by (low_
 
 -- ---- the start
 
-pub starts : (s : StageNo) (pace : Option Pace) (a : LineSeen) → a.source.paced ≡ at_start pace → IsPace pace → a.waiting ≡ [] → KeepsPaceBy pace [] s [] a.source a
+pub starts : (s : StageNo) (pace : Option Pace) (a : LineSeen) → a.source.paced ≡ at_start pace → IsPace pace → a.waiting ≡ [] → KeepsPaceBy pace [] s true a.source a
 starts s None a paced some empty = refl
 starts s (Some pace) a paced some empty = record {
   same_pace = ap (λ p. p.pace) paced;
@@ -70,9 +70,9 @@ starts s (Some pace) a paced some empty = record {
 
 -- ---- a step that brings nothing
 
-pub stays : (p : Option Pace) (before after : History) (s : StageNo) (lost : List (List ℕ)) (opened : SourceSeen) (now : LineSeen) → PaceStays before after s → KeepsPaceBy p before s lost opened now → KeepsPaceBy p after s lost opened now
-stays None before after s lost opened now st k = k
-stays (Some pace) before after s lost opened now st k = record {
+pub stays : (p : Option Pace) (before after : History) (s : StageNo) (whole : Bool) (opened : SourceSeen) (now : LineSeen) → PaceStays before after s → KeepsPaceBy p before s whole opened now → KeepsPaceBy p after s whole opened now
+stays None before after s whole opened now st k = k
+stays (Some pace) before after s whole opened now st k = record {
   same_pace = k.same_pace;
   some = k.some;
   past = let past = k.past in let grows = st.grows in omega (arith, past, grows);
@@ -96,7 +96,7 @@ told_is pace f p is past =
     let last : max p.moment f ≡ f = omega (arith, past) in
     ap (λ o. told_by o f p) is ∙ ap (λ m. record p { moment = m; given = given_since pace.interval p.moment m p.given }) last
 
-pub tells : (p : Option Pace) (before : History) (s : StageNo) (opened : SourceSeen) (now : LineSeen) → p ≡ opened.paced.pace → KeepsPaceBy p before s [] opened now → KeepsPaceBy p before s [] opened (told_lines (fetched_at before s) now)
+pub tells : (p : Option Pace) (before : History) (s : StageNo) (opened : SourceSeen) (now : LineSeen) → p ≡ opened.paced.pace → KeepsPaceBy p before s true opened now → KeepsPaceBy p before s true opened (told_lines (fetched_at before s) now)
 tells None before s opened now is k =
     let none : now.source.paced.pace ≡ None = ap (λ x. x.pace) k ∙ sym is in
     ap (λ o. told_by o (fetched_at before s) now.source.paced) none ∙ k
@@ -124,6 +124,19 @@ tells (Some pace) before s opened now is k =
         by true = omega arith
         by false = omega arith
 
+-- an answer that is not in the journal leaves what does not need it
+pub part : (p : Option Pace) (before : History) (s : StageNo) (opened : SourceSeen) (now : LineSeen) → KeepsPaceBy p before s true opened now → KeepsPaceBy p before s false opened now
+part None before s opened now k = k
+part (Some pace) before s opened now k = record {
+  same_pace = k.same_pace;
+  some = k.some;
+  past = k.past;
+  low = k.low;
+  within = k.within;
+  own = k.own;
+  in_pace = λ w. let x : false ≡ true = w in cc;
+}
+
 -- ---- fetches
 
 moment_told : (pace : Pace) (f : ℕ) (p : PaceSeen) → p.pace ≡ Some pace → p.moment ≤ f → p ≡ told_at f p → p.moment ≡ f
@@ -145,7 +158,7 @@ not_long old new stays short is = short (rw is at stays)
 
 -- the records of the fetch are those that came
 pub accepts : (p : Option Pace) (before after : History) (s : StageNo) (most : ℕ) (records : List (List ℕ)) (opened : SourceSeen) (b c : LineSeen) → p ≡ opened.paced.pace → b.source.waits ≤ c.source.waits → PaceGoes before after s records
-    → IsTold before s b → Fetches most (came.Records records) b c → KeepsPaceBy p before s [] opened b → KeepsPaceBy p after s [] opened c
+    → IsTold before s b → Fetches most (came.Records records) b c → KeepsPaceBy p before s true opened b → KeepsPaceBy p after s true opened c
 accepts None before after s most records opened b c is le goes told fetched k =
     let none : b.source.paced.pace ≡ None = ap (λ x. x.pace) k ∙ sym is in
     let same : c.source.paced ≡ b.source.paced = rw none at fetched.paced in
@@ -202,7 +215,7 @@ accepts (Some pace) before after s most records opened b c is le goes told fetch
 
 -- nothing was ready: of its own, or the share is used up
 pub rests : (p : Option Pace) (before after : History) (s : StageNo) (most : ℕ) (opened : SourceSeen) (b c : LineSeen) → p ≡ opened.paced.pace → b.source.waits ≤ c.source.waits → PaceRests before after s
-    → IsTold before s b → Fetches most came.NotYet b c → KeepsPaceBy p before s [] opened b → KeepsPaceBy p after s [] opened c
+    → IsTold before s b → Fetches most came.NotYet b c → KeepsPaceBy p before s true opened b → KeepsPaceBy p after s true opened c
 rests None before after s most opened b c is le goes told fetched k =
     let none : b.source.paced.pace ≡ None = ap (λ x. x.pace) k ∙ sym is in
     let same : c.source.paced ≡ b.source.paced = rw none at fetched.paced in
@@ -258,7 +271,7 @@ rests (Some pace) before after s most opened b c is le goes told fetched k =
 
 -- the source ended
 pub ends : (p : Option Pace) (before after : History) (s : StageNo) (most : ℕ) (h : SourceHow) (opened : SourceSeen) (b c : LineSeen) → p ≡ opened.paced.pace → b.source.waits ≤ c.source.waits → PaceGoes before after s []
-    → IsTold before s b → Fetches most (came.Ended h) b c → KeepsPaceBy p before s [] opened b → KeepsPaceBy p after s [] opened c
+    → IsTold before s b → Fetches most (came.Ended h) b c → KeepsPaceBy p before s true opened b → KeepsPaceBy p after s true opened c
 ends None before after s most h opened b c is le goes told fetched k =
     let none : b.source.paced.pace ≡ None = ap (λ x. x.pace) k ∙ sym is in
     let same : c.source.paced ≡ b.source.paced = rw none at fetched.paced in

@@ -1,5 +1,5 @@
 -- What a journal has to do with the pace of a source.
-use Rattle.std.specs.Prelude.{◌≡◌, ◌≤◌, ◌<◌, ◌⊎◌, ◌+◌, ◌^◌, ◌==◌, ℕ, false, List, [], length, if◌then◌else◌, Option, Some, None, IfSome}
+use Rattle.std.specs.Prelude.{◌≡◌, ◌≤◌, ◌<◌, ◌⊎◌, ◌+◌, ◌^◌, ◌==◌, ℕ, Bool, false, List, length, if◌then◌else◌, Option, Some, None, IfSome, IsTrue}
 use Rattle.pipe_types.specs.declared.numbers.StageNo.{StageNo}
 use Rattle.pipe_model.specs.History.{History}
 use Rattle.pipe_edges.specs.Paces.{Pace, PaceSeen, given_since, own_waits, told_at}
@@ -29,23 +29,23 @@ pub record IsInPace (pace : Pace) (before : History) (s : StageNo) (now : LineSe
   pub in_step : IsInStep now.source.paced now.waiting
 
 -- no interval has more records than the share; nothing was ready of its own once at least for each quiet of the journal that came
--- while the share had one left; and unless records were lost or a line is too long it is in pace
-pub record KeepsShare (pace : Pace) (before : History) (s : StageNo) (lost : List (List ℕ)) (opened : SourceSeen) (now : LineSeen) : Type 0 where
+-- while the share had one left; and where every answer is in the journal and no line is too long it is in pace
+pub record KeepsShare (pace : Pace) (before : History) (s : StageNo) (whole : Bool) (opened : SourceSeen) (now : LineSeen) : Type 0 where
   pub same_pace : now.source.paced.pace ≡ Some pace
   pub some : 1 ≤ pace.interval
   pub past : now.source.paced.moment ≤ fetched_at before s
   pub low : now.source.paced.given ≤ pace.share
   pub within : (i : ℕ) → came_by s pace.interval i before ≤ pace.share
   pub own : OwnRose (own_quiets pace.share pace.interval before s) now.source.waits (own_waits opened.waits opened.paced) (own_waits now.source.waits now.source.paced)
-  pub in_pace : lost ≡ [] → ¬ (now.end ≡ Some end.TooLong) → IsInPace pace before s now
+  pub in_pace : IsTrue whole → ¬ (now.end ≡ Some end.TooLong) → IsInPace pace before s now
 
-abbrev pub KeepsPaceBy : Option Pace → History → StageNo → (lost : List (List ℕ)) → (opened : SourceSeen) → (now : LineSeen) → Type 0
-KeepsPaceBy None before s lost opened now = now.source.paced ≡ opened.paced
-KeepsPaceBy (Some pace) before s lost opened now = KeepsShare pace before s lost opened now
+abbrev pub KeepsPaceBy : Option Pace → History → StageNo → (whole : Bool) → (opened : SourceSeen) → (now : LineSeen) → Type 0
+KeepsPaceBy None before s whole opened now = now.source.paced ≡ opened.paced
+KeepsPaceBy (Some pace) before s whole opened now = KeepsShare pace before s whole opened now
 
 -- without a pace its gate stays as it was
-abbrev pub KeepsPace : History → StageNo → (lost : List (List ℕ)) → (opened : SourceSeen) → (now : LineSeen) → Type 0
-KeepsPace before s lost opened now = KeepsPaceBy opened.paced.pace before s lost opened now
+abbrev pub KeepsPace : History → StageNo → (whole : Bool) → (opened : SourceSeen) → (now : LineSeen) → Type 0
+KeepsPace before s whole opened now = KeepsPaceBy opened.paced.pace before s whole opened now
 
 -- it was told the moment of the last fetch
 abbrev pub IsTold : History → StageNo → LineSeen → Type 0
