@@ -8,17 +8,17 @@ use Rattle.pipe_types.specs.declared.numbers.StageNo.{StageNo}
 use Rattle.pipe_types.specs.declared.step.SourceHow.{SourceHow}
 use Rattle.pipe_types.specs.declared.step.SourceHow.TheVariants as how
 use Rattle.pipe_model.specs.History.{History}
-use Rattle.pipe_edges.specs.Paces.{Pace, PaceSeen, KeepsPace as PaceKept, OwnWaitsRose, OwnWaitsStay, given_since, own_waits, told_at, told_by}
-use Rattle.pipe_edges.specs.Pacing.{Gives, IsHeldUp, IsInStep}
+use Rattle.pipe_edges.specs.Paces.{Pace, PaceSeen, OwnWaitsRose, OwnWaitsStay, given_since, own_waits, told_at, told_by}
+use Rattle.pipe_edges.specs.Pacing.{Gives, IsHeldUp}
 use Rattle.pipe_edges.specs.declared.reading.LineEnd.{LineEnd}
 use Rattle.pipe_edges.specs.declared.reading.LineEnd.TheVariants as end
-use Rattle.stage_bodies.specs.Jobs.{FetchGives, FetchKeepsPace, Fetches, IsFetched}
+use Rattle.stage_bodies.specs.Jobs.{FetchIsPaced, FetchGives, FetchKeepsPace, Fetches, IsFetched}
 use Rattle.stage_bodies.specs.Moments.{told_lines}
 use Rattle.stage_bodies.specs.Seen.{SourceSeen, LineSeen}
 use Rattle.stage_bodies.specs.declared.job.Outcome.{Outcome as Came}
 use Rattle.stage_bodies.specs.declared.job.Outcome.TheVariants as came
-use Rattle.rate_laws.specs.Rates.{came_by, fetched_at, interval_of, is_used_up, own_quiets}
-use Rattle.pace_laws.specs.Pacing.{IsInPace, IsPace, IsTold, KeepsPace, KeepsPaceBy, KeepsShare, OwnRose, PaceGoes, PaceRests, PaceStays, at_start}
+use Rattle.rate_laws.specs.Rates.{came_by, fetched_at, is_used_up, own_quiets}
+use Rattle.pace_laws.specs.Pacing.{IsPace, IsTold, KeepsPaceBy, KeepsShare, OwnRose, PaceGoes, PaceRests, PaceStays, at_start}
 
 -- ---- intervals
 
@@ -151,6 +151,25 @@ own_one : (times w w' : ℕ) (a : ℕ) (b c : PaceSeen) → OwnRose times w a (o
 own_one times w w' a b c (inl low) (inl on) le = inl (omega (arith, low, on))
 own_one times w w' a b c (inl low) (inr full) le = inr full
 own_one times w w' a b c (inr full) on le = inr (omega (arith, full, le))
+
+-- an answer that is not in the journal
+pub loses : (p : Option Pace) (before : History) (s : StageNo) (o : Came) (opened : SourceSeen) (b c : LineSeen) → p ≡ opened.paced.pace → b.source.waits ≤ c.source.waits → FetchIsPaced b.source.paced.pace o b c
+    → KeepsPaceBy p before s true opened b → KeepsPaceBy p before s false opened c
+loses None before s o opened b c is le fetched k =
+    let none : b.source.paced.pace ≡ None = ap (λ x. x.pace) k ∙ sym is in
+    let same : c.source.paced ≡ b.source.paced = rw none at fetched in
+    same ∙ k
+loses (Some pace) before s o opened b c is le fetched k =
+    let paced : FetchKeepsPace pace o b c = rw k.same_pace at fetched in
+    record {
+      same_pace = paced.kept.same_pace ∙ k.same_pace;
+      some = k.some;
+      past = let same = paced.kept.same_moment in let past = k.past in omega (arith, same, past);
+      low = paced.kept.within k.low;
+      within = k.within;
+      own = own_on (own_quiets pace.share pace.interval before s) b.source.waits c.source.waits (own_waits opened.waits opened.paced) b.source.paced c.source.paced k.own paced.kept.own_waits_stay le;
+      in_pace = λ w. let x : false ≡ true = w in cc;
+    }
 
 -- a line that was too long before is so still
 not_long : (old new : Option LineEnd) → IfSome old (λ e. new ≡ Some e) → ¬ (new ≡ Some end.TooLong) → ¬ (old ≡ Some end.TooLong)
