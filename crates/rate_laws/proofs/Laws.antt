@@ -53,9 +53,9 @@ late_role topology before s slot i records h =
     (and_right old fits (and_right from (old && fits) (and_right (is_out before (post s slot)) (from && (old && fits)) all)))
 
 record IsProducer (topology : Topology) (s : StageNo) : Type 0 where
-  spec : StageSpec
-  found : spec_of topology s ≡ Some spec
-  role : is_producer spec.role ≡ true
+  pub spec : StageSpec
+  pub found : spec_of topology s ≡ Some spec
+  pub role : is_producer spec.role ≡ true
 
 producer_is : (topology : Topology) (s : StageNo) → has_role topology s is_producer_role ≡ true → IsProducer topology s
 producer_is topology s h = by (spec_of topology s) refl
@@ -148,35 +148,15 @@ some_stage [] m low = absurd (omega (arith, low))
 some_stage (s ∷ rest) zero low = (s, refl, refl)
 some_stage (s ∷ rest) (suc m) low = some_stage rest m (omega (arith, low))
 
--- the first stages bring no more than the shares of the producers among them
-shares_bound : (topology : Topology) (rate : Rate) (before : History) (i : ℕ) (m : ℕ) → IsSound topology → is_legal topology before ≡ true → KeepsShares topology rate before → m ≤ length topology.stages
+-- one stage more
+bound_step : (topology : Topology) (rate : Rate) (before : History) (i m : ℕ) (spec : StageSpec) → IsSound topology → is_legal topology before ≡ true → KeepsShares topology rate before → slice_get topology.stages m ≡ Some spec
+    → length (producers (take (suc m) topology.stages)) ≡ length (producers (take m topology.stages)) + cond (is_producer spec.role) 1 0
     → total (λ k. came_by (stage (suc k)) rate.interval i before) m ≤ total (λ k. share_of rate.allowed (length (producers topology.stages)) k) (length (producers (take m topology.stages)))
-shares_bound topology rate before i zero sound h keeps low = omega arith
-shares_bound topology rate before i (suc m) sound h keeps low = by_role (is_producer spec.role) refl
+    → total (λ k. came_by (stage (suc k)) rate.interval i before) (suc m) ≤ total (λ k. share_of rate.allowed (length (producers topology.stages)) k) (length (producers (take (suc m) topology.stages)))
+bound_step topology rate before i m spec sound h keeps here next earlier = by_role (is_producer spec.role) refl
   where
-    stages : List StageSpec
-    stages = topology.stages
-
-    count : ℕ
-    count = length (producers stages)
-
     share : ℕ → ℕ
-    share k = share_of rate.allowed count k
-
-    within : m < length stages
-    within = omega (arith, low)
-
-    it : (x : StageSpec) × (slice_get stages m ≡ Some x) × (x ≡ get_or stages m x)
-    it = some_stage stages m within
-
-    spec : StageSpec
-    spec = it.0
-
-    here : slice_get stages m ≡ Some spec
-    here = it.1
-
-    earlier : total (λ k. came_by (stage (suc k)) rate.interval i before) m ≤ total share (length (producers (take m stages)))
-    earlier = shares_bound topology rate before i m sound h keeps (omega (arith, low))
+    share k = share_of rate.allowed (length (producers topology.stages)) k
 
     mine : spec_of topology (stage (suc m)) ≡ Some spec
     mine =
@@ -184,24 +164,39 @@ shares_bound topology rate before i (suc m) sound h keeps low = by_role (is_prod
         let no : spec.no ≡ stage (suc m) = ap stage (numbered.numbers m spec here) in
         subst (λ t. spec_of topology t ≡ Some spec) no (numbered.found m spec here)
 
-    next : length (producers (take (suc m) stages)) ≡ length (producers (take m stages)) + cond (is_producer spec.role) 1 0
-    next = length-filter_more (λ (s : StageSpec). is_producer s.role) stages m spec within ∙ ap (λ (x : StageSpec). length (producers (take m stages)) + cond (is_producer x.role) 1 0) (sym it.2)
-
     by_role : (b : Bool) → is_producer spec.role ≡ b
-        → total (λ k. came_by (stage (suc k)) rate.interval i before) (suc m) ≤ total share (length (producers (take (suc m) stages)))
+        → total (λ k. came_by (stage (suc k)) rate.interval i before) (suc m) ≤ total (λ k. share_of rate.allowed (length (producers topology.stages)) k) (length (producers (take (suc m) topology.stages)))
     by_role true e =
-        let place : spec.index ≡ length (producers (take m stages)) = place_is topology m spec sound here e in
-        let own : came_by (stage (suc m)) rate.interval i before ≤ share (length (producers (take m stages))) = subst (λ k. came_by (stage (suc m)) rate.interval i before ≤ share k) place (keeps (stage (suc m)) spec mine e i) in
-        let one : length (producers (take (suc m) stages)) ≡ suc (length (producers (take m stages))) = next ∙ ap (λ b. length (producers (take m stages)) + cond b 1 0) e ∙ omega arith in
-        let more : total share (length (producers (take (suc m) stages))) ≡ total share (length (producers (take m stages))) + share (length (producers (take m stages))) = ap (total share) one in
-        let before_this = earlier in
-        omega (arith, before_this, own, more)
+        let count : ℕ = length (producers (take m topology.stages)) in
+        let place : spec.index ≡ count = place_is topology m spec sound here e in
+        let own : came_by (stage (suc m)) rate.interval i before ≤ share count = subst (λ k. came_by (stage (suc m)) rate.interval i before ≤ share k) place (keeps (stage (suc m)) spec mine e i) in
+        let plus : count + cond true 1 0 ≡ suc count = omega arith in
+        let one : length (producers (take (suc m) topology.stages)) ≡ suc count = next ∙ ap (λ b. count + cond b 1 0) e ∙ plus in
+        let more : total share (length (producers (take (suc m) topology.stages))) ≡ total share count + share count = ap (total share) one in
+        let all : total (λ k. came_by (stage (suc k)) rate.interval i before) m + came_by (stage (suc m)) rate.interval i before ≤ total share count + share count = omega (arith, earlier, own) in
+        subst (λ n. total (λ k. came_by (stage (suc k)) rate.interval i before) m + came_by (stage (suc m)) rate.interval i before ≤ n) (sym more) all
     by_role false e =
+        let count : ℕ = length (producers (take m topology.stages)) in
         let none = none_other topology before (stage (suc m)) spec rate.interval i h mine e in
-        let same : length (producers (take (suc m) stages)) ≡ length (producers (take m stages)) = next ∙ ap (λ b. length (producers (take m stages)) + cond b 1 0) e ∙ omega arith in
-        let all : total share (length (producers (take (suc m) stages))) ≡ total share (length (producers (take m stages))) = ap (total share) same in
-        let before_this = earlier in
-        omega (arith, before_this, none, all)
+        let plus : count + cond false 1 0 ≡ count = omega arith in
+        let same : length (producers (take (suc m) topology.stages)) ≡ count = next ∙ ap (λ b. count + cond b 1 0) e ∙ plus in
+        let all : total (λ k. came_by (stage (suc k)) rate.interval i before) m + came_by (stage (suc m)) rate.interval i before ≤ total share count = omega (arith, earlier, none) in
+        subst (λ n. total (λ k. came_by (stage (suc k)) rate.interval i before) m + came_by (stage (suc m)) rate.interval i before ≤ total share n) (sym same) all
+
+-- the first stages bring no more than the shares of the producers among them
+shares_bound : (topology : Topology) (rate : Rate) (before : History) (i : ℕ) (m : ℕ) → IsSound topology → is_legal topology before ≡ true → KeepsShares topology rate before → m ≤ length topology.stages
+    → total (λ k. came_by (stage (suc k)) rate.interval i before) m ≤ total (λ k. share_of rate.allowed (length (producers topology.stages)) k) (length (producers (take m topology.stages)))
+shares_bound topology rate before i zero sound h keeps low = omega arith
+shares_bound topology rate before i (suc m) sound h keeps low =
+    let within : m < length topology.stages = omega (arith, low) in
+    let it = some_stage topology.stages m within in
+    let more = length-filter_more (λ (s : StageSpec). is_producer s.role) topology.stages m it.0 within in
+    let suc_is : m + 1 ≡ suc m = omega arith in
+    let next : length (producers (take (suc m) topology.stages)) ≡ length (producers (take m topology.stages)) + cond (is_producer it.0.role) 1 0 =
+    subst (λ k. length (producers (take k topology.stages)) ≡ length (producers (take m topology.stages)) + cond (is_producer it.0.role) 1 0) suc_is
+    (more ∙ ap (λ (x : StageSpec). length (producers (take m topology.stages)) + cond (is_producer x.role) 1 0) (sym it.2))
+    in
+    bound_step topology rate before i m it.0 sound h keeps it.1 next (shares_bound topology rate before i m sound h keeps (omega (arith, low)))
 
 -- where no interval brings more of a producer than its share, none brings more than is allowed
 pub keeps_rate : (topology : Topology) (rate : Rate) (before : History) → IsSound topology → is_legal topology before ≡ true → 1 ≤ length (producers topology.stages) → KeepsShares topology rate before → KeepsRate rate before

@@ -29,9 +29,9 @@ first_counts s rest e = rw e (omega arith)
 
 -- a producer behind a stage stands behind producers alone
 record StandsAt (s : StageSpec) (rest : List StageSpec) (n : ℕ) (x : StageSpec) : Type 0 where
-  first : is_producer s.role ≡ true
-  index : x.index ≡ s.index + 1 + n
-  before : length (producers (take n rest)) ≡ n
+  pub first : is_producer s.role ≡ true
+  pub index : x.index ≡ s.index + 1 + n
+  pub before : length (producers (take n rest)) ≡ n
 
 stands_at : (k : ℕ) (s : StageSpec) (rest : List StageSpec) (n : ℕ) (x : StageSpec) → may_go_on k s rest ≡ true → slice_get rest n ≡ Some x → is_producer x.role ≡ true → StandsAt s rest n x
 stands_at k s [] n x h at p = cc
@@ -53,7 +53,7 @@ stands_at k s (t ∷ rest) (suc n) x h at p =
     record {
       first = next.0;
       index = omega (arith, index, next.1);
-      before = omega (arith, before, one);
+      before = one ∙ (let more : length (producers (take n rest)) + 1 ≡ suc n = omega (arith, before) in more);
     }
 
 -- the place of a producer is the number of producers before it
@@ -74,4 +74,5 @@ place_is topology n x sound at p = by topology.stages n sound.ordered at
         let index = stands.index in
         let before = stands.before in
         let one = first_counts s (take n rest) stands.first in
-        omega (arith, zero_index, index, before, one)
+        let all : x.index ≡ length (producers (take n rest)) + 1 = omega (arith, zero_index, index, before) in
+        all ∙ sym one

@@ -3,7 +3,7 @@ use Rattle.std.proofs.Common.{◌≡◌, ℕ, zero, suc, ◌+◌, ◌*◌, ◌/�
 use Rattle.std.proofs.lemmas.Bool.{ltb-true, ltb-false}
 use Rattle.rate_laws.specs.Rates.{share_of}
 
-pub total : (f : ℕ → ℕ) → ℕ → ℕ
+abbrev pub total : (f : ℕ → ℕ) → ℕ → ℕ
 total f zero = 0
 total f (suc n) = total f n + f n
 
@@ -25,14 +25,14 @@ low_or_last a n h = Prim.grind arith
 -- one more at one place
 pub total_one : (f g : ℕ → ℕ) (n s x : ℕ) → s < n → g s ≡ f s + x → ((k : ℕ) → (k ≡ s → ⊥) → g k ≡ f k) → total g n ≡ total f n + x
 total_one f g zero s x low here others = absurd (omega (arith, low))
-total_one f g (suc n) s x low here others = by (low_or_last s n low)
+total_one f g (suc n) s x low here others = by (low_or_last s n low) (λ earlier. total_one f g n s x earlier here others)
   where
-    by : (s < n) ⊎ (s ≡ n) → total g (suc n) ≡ total f (suc n) + x
-    by (inl earlier) =
-        let before = total_one f g n s x earlier here others in
+    by : (s < n) ⊎ (s ≡ n) → (s < n → total g n ≡ total f n + x) → total g n + g n ≡ total f n + f n + x
+    by (inl earlier) more =
+        let before = more earlier in
         let last = others n (λ is. omega (arith, is, earlier)) in
         omega (arith, before, last)
-    by (inr is) =
+    by (inr is) more =
         let before = total_same f g n (λ k less. others k (λ same. omega (arith, same, is, less))) in
         let last : g n ≡ f n + x = ap g (sym is) ∙ here ∙ ap (λ k. f k + x) is in
         omega (arith, before, last)
