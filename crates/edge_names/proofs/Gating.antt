@@ -195,7 +195,7 @@ some_producer topology sound = by topology.stages sound.ordered
         let begins : may_begin s ≡ true = and_left (may_begin s) (may_go_on (length (batchers (s ∷ rest))) s rest) h in
         let rest_of : (is_producer s.role && s.index == 0) ≡ true = and_right (s.no.0 == 1) (is_producer s.role && s.index == 0) begins in
         let role : is_producer s.role ≡ true = and_left (is_producer s.role) (s.index == 0) rest_of in
-        let first : length (producers (s ∷ rest)) ≡ length (producers rest) + 1 = rw role refl in
+        let first : length (producers (s ∷ rest)) ≡ length (producers rest) + 1 = rw role (omega arith) in
         omega (arith, first)
 
 -- the rate has enough for each of them
