@@ -107,6 +107,7 @@ pub fn clock(told: &mut Told, acts: &str) {
         nap: millis(nap),
         latest: 0,
         readings: 0,
+        pauses: 0,
     };
     for act in acts.split_whitespace() {
         if act == "now" {

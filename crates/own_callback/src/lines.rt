@@ -52,6 +52,7 @@ pub fn run_lines<
         nap: 0,
         latest: 0,
         readings: 0,
+        pauses: 0,
     };
     let end = run_program::<R, MemEdges, C, B, MemClock>(
         rt, alloc, &words, stock, &mut edges, clock, &mut out, &mut err,

@@ -194,5 +194,6 @@ pub fn clock(nap: u64) -> MemClock {
         nap,
         latest: 0,
         readings: 0,
+        pauses: 0,
     }
 }
