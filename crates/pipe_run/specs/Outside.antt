@@ -24,7 +24,7 @@ use Rattle.edge_names.specs.Seen.{EdgesSeen}
 use Rattle.edge_names.specs.Named.{GivesSource, GivesSink}
 use Rattle.edge_names.specs.Opened.{AreOpened, HasSource, call_in, calls_of, edge_call, edge_calls}
 use Rattle.edge_names.specs.Returned.{source_in, sink_in, sources_of, sinks_of}
-use Rattle.edge_names.specs.Controls.{control_call, named_control, first_sources, first_sinks}
+use Rattle.edge_names.specs.Controls.{IsControlCut, IsStageCut, control_call, named_control, first_sources, first_sinks}
 use Rattle.box_stock.specs.Lends.{AreHandedOut}
 
 -- the records are the first lines of what the source gave and has left: all of them, none too long, where it ended; all
@@ -123,6 +123,13 @@ pub record IsStageUnopened (topology : Topology) (name : List ℕ) (rest : List 
 -- a call that opens failed by this name, with these calls still to come, and what was opened before it was given back
 abbrev pub IsUnopened : Topology → (name : List ℕ) → (rest : List (EdgeKind × List ℕ)) → (old new : EdgesSeen) → Type 0
 IsUnopened topology name rest old new = IsControlUnopened topology name rest old new ⊎ IsStageUnopened topology name rest old new
+
+-- memory was wanting before all was opened, with these calls still to come, and what was opened was given back, unread and
+-- unwritten: all of it or the first parts
+abbrev pub IsOpenedInPart : Topology → (rest : List (EdgeKind × List ℕ)) → (old new : EdgesSeen) → Type 0
+IsOpenedInPart topology rest old new =
+    IsControlCut topology rest old new
+    ⊎ ((start : ℕ → Option BodySeen) × AreHandedOut topology start × IsStageCut topology start rest old new)
 
 -- these calls by name were made, of edges that tell as before
 pub record AreAsked (calls : List (EdgeKind × List ℕ)) (old new : EdgesSeen) : Type 0 where

@@ -1,8 +1,8 @@
-use Rattle.std.proofs.Common.{◌+◌, ◌*◌, refl, ◌∙◌, take}
+use Rattle.std.proofs.Common.{◌≡◌, ℕ, ◌+◌, ◌*◌, refl, ap, ◌∙◌, subst, arith, take, length}
 use Rattle.stage_bodies.specs.Seen.{body_at, source_seen, sink_seen}
 use Rattle.stage_laws.proofs.Numbering.{numbered_topology}
 use Rattle.edge_names.specs.Seen.{edges_seen}
-use Rattle.edge_names.specs.Opened.{calls_of, edge_call}
+use Rattle.edge_names.specs.Opened.{AreOpened, calls_of, edge_call}
 use Rattle.edge_names.proofs.Openings.{asks_nothing, asked_more, here_at, home_still, opened_start, opened_turn, some_at}
 use Rattle.edge_names.proofs.Returns.{callbacks_at, callbacks_more, callbacks_same}
 use Rattle.edge_names.proofs.Cuts.{failed_by, cut_off_by}
@@ -87,3 +87,15 @@ loop-spec-preserved g c =
       callbacks = callbacks_more start was now x.callbacks (callbacks_at at (edge_call spec) b was now c.in-Ok.ensures.opens.bodies);
       opened = opened_turn topology n at spec (calls_of (take n topology.stages)) a b (body_at look c.args.bodies.now.items) was now numbered here c.place_of-at.ensures x.asks x.opened c.in-Ok.ensures.opens.bodies;
     }
+
+pub returns-clause-opened : goal.returns-clause-opened
+returns-clause-opened g c =
+    let e = g.E.Edges in
+    let s = g.E.Source.ByteSource in
+    let k = g.E.Sink.ByteSink in
+    let seen = edges_seen e.told e.named e.asked e.faults e.sources_back e.sinks_back (source_seen s) (sink_seen k.told k.held k.faults) in
+    let look = g.B.Works.look in
+    let topology = c.args.topology.now in
+    let all : c.loop-spec.spec-index ≡ length topology.stages =
+    omega (arith, c.loop-spec-test.false, c.loop-spec.auto.spec-index-end, ap length c.as_slice-spec-items.ensures) in
+    subst (λ (n : ℕ). AreOpened topology n (seen c.args.edges.now) (body_at look c.args.bodies.now.items) (body_at look c.loop-spec.bodies.items)) all c.loop-spec.invariant.opened
