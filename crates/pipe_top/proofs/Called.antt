@@ -99,7 +99,6 @@ source_read old new before p name source same x = record {
   same_telling = x.same_telling;
   same_bytes = x.same_bytes;
   reads = x.reads;
-  first = x.first;
 }
 
 control_used : (topology : Topology) (old new : EdgesSeen) (before : History) (name : List ℕ) (source : SourceSeen) → SameNames old new → IsControlUsed topology new before name source → IsControlUsed topology old before name source
