@@ -112,7 +112,7 @@ pub record Replies (messages : List Message) (replies : List Reply) (old new : B
   pub shape : old.kind ≡ Own → IsTrue (list_all (is_message_for old.spec.batchers) messages) → IsTrue (are_own_replies old.spec.batchers messages replies)
   pub calls : old.kind ≡ Own → RoseBy (count_by is_passed replies) old.calls new.calls
   pub bad : old.kind ≡ Own → list_all is_passed replies ≡ false → Rose old.bad new.bad
-  pub by_answers : IsTrue old.told → (answers : List Said) × (new.said ≡ old.said ++ answers) × (replies ≡ chunk_by answers)
+  pub by_answers : IsTrue old.told → (answers : List Said) × (new.said ≡ old.said ++ answers) × (chunk_by answers ≡ Some replies)
 
 -- the same callback with its count at 0, as each run of a child begins
 abbrev pub reset : BoxSeen → BoxSeen
@@ -170,7 +170,7 @@ pub record Ends (messages : List Message) (bytes : ℕ) (end : BatchEnd) (has_si
   pub bad : old.kind ≡ Own → is_bad_end end ≡ true → Rose old.bad new.bad
   pub by_answers :
       IsTrue old.told
-      → (answers : List Said) × (new.said ≡ old.said ++ answers) × IsTrue (is_write_end has_sink (end_told messages answers) (text_told answers) bytes end)
+      → (answers : List Said) × (told : BatchEnd) × (new.said ≡ old.said ++ answers) × (end_told messages answers ≡ Some told) × IsTrue (is_write_end has_sink told (text_told answers) bytes end)
 
 -- ---- jobs
 

@@ -1,6 +1,6 @@
 //! A chunk of a processor through its callback.
 
-ghost use Rattle.std.specs.Prelude.{◌≡◌, ◌≢◌, ◌≤◌, ◌<◌, ◌^◌, false, List, [], ◌∷◌, ◌++◌, IsTrue, IfOk, OnOk, length, count_by};
+ghost use Rattle.std.specs.Prelude.{◌≡◌, ◌≢◌, ◌≤◌, ◌<◌, ◌^◌, false, List, [], ◌∷◌, ◌++◌, Some, IsTrue, IfOk, OnOk, length, count_by};
 ghost use Rattle.std.specs.List.{list_all};
 ghost use Rattle.pipe_types.specs.Counts.{Rose};
 ghost use Rattle.pipe_types.specs.Handlers.{eval, counted, with_reason, reason_of, chunk_replies, is_crashed, is_own_reason, is_own_reply, are_own_replies};
@@ -49,9 +49,9 @@ pub fn run_chunk(
         RoseBy (count_by is_passed r) (calls callback.old) (calls callback.new)) }
     ensures bad { kind callback.old ≡ Kind.Own → IfOk result (λ r.
         list_all is_passed r ≡ false → Rose (bad callback.old) (bad callback.new)) }
-    // Where it tells its answers, the replies are made of those that it gave in this call.
+    // Where it tells its answers, the replies are made of all that it gave in this call.
     ensures by_answers { IsTrue (told callback.old) → IfOk result (λ r. (answers : List Said)
-        × (said callback.new ≡ said callback.old ++ answers) × (r ≡ chunk_by answers)) }
+        × (said callback.new ≡ said callback.old ++ answers) × (chunk_by answers ≡ Some r)) }
 {
     let messages = messages.into_vec();
     if messages.is_empty() {
@@ -87,7 +87,7 @@ pub fn run_message(
     ensures bad { kind callback.old ≡ Kind.Own → IfOk result (λ r.
         is_passed r ≡ false → Rose (bad callback.old) (bad callback.new)) }
     ensures by_answers { IsTrue (told callback.old) → IfOk result (λ r. (answers : List Said)
-        × (said callback.new ≡ said callback.old ++ answers) × (r ∷ [] ≡ chunk_by answers)) }
+        × (said callback.new ≡ said callback.old ++ answers) × (chunk_by answers ≡ Some (r ∷ []))) }
 {
     match show(callback, slice::from_ref(&message))? {
         Prepared::Ready => answer(callback, message),
@@ -139,7 +139,7 @@ fn answer_all(
     ensures bad { kind callback.old ≡ Kind.Own → IfOk result (λ r.
         list_all is_passed r ≡ false → Rose (bad callback.old) (bad callback.new)) }
     ensures by_answers { IsTrue (told callback.old) → IfOk result (λ r. (answers : List Said)
-        × (said callback.new ≡ said callback.old ++ answers) × (r ≡ replies_by answers)) }
+        × (said callback.new ≡ said callback.old ++ answers) × (replies_by answers ≡ Some r)) }
 {
     let mut replies = Vec::with_capacity(alloc, messages.len())?;
     for message in messages {
@@ -175,7 +175,7 @@ fn raise_all(
         → IsTrue (list_all (is_message_for (spec callback.old).batchers) messages.now) → IfOk result (λ r. IsTrue (are_own_replies (spec callback.old).batchers messages.now r)) }
     ensures none_passed { IfOk result (λ r. count_by is_passed r ≡ 0) }
     ensures by_answers { IsTrue (told callback.old) → IfOk result (λ r. (answers : List Said)
-        × (said callback.new ≡ said callback.old ++ answers) × (r ≡ raised_by why answers)) }
+        × (said callback.new ≡ said callback.old ++ answers) × (raised_by why answers ≡ Some r)) }
 {
     let mut replies = Vec::with_capacity(alloc, messages.len())?;
     for message in messages {
