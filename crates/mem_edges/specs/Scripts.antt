@@ -1,5 +1,5 @@
 -- What the acts of a script make of a call.
-use Rattle.std.specs.Prelude.{◌≡◌, ◌==◌, ◌-◌, ℕ, List, [], ◌∷◌, min, max, if◌then◌else◌}
+use Rattle.std.specs.Prelude.{◌≡◌, ◌==◌, ◌+◌, ◌-◌, ◌^◌, ℕ, List, [], ◌∷◌, min, max, if◌then◌else◌}
 use Rattle.pipe_edges.specs.declared.source.ReadEnd.{ReadEnd}
 use Rattle.pipe_edges.specs.declared.source.ReadEnd.TheVariants as read
 use Rattle.pipe_edges.specs.declared.sink.WriteEnd.{WriteEnd}
@@ -38,3 +38,24 @@ TakesBy acts size room write.Failed = Unit {0}
 abbrev pub room_after : ℕ → WriteEnd → ℕ
 room_after room (write.Took n) = room - n
 room_after room write.Failed = room
+
+-- ---- counts
+
+-- a count of 64 bits is one more, or is full
+abbrev pub counted_once : ℕ → ℕ
+counted_once count = min (count + 1) (2 ^ 64 - 1)
+
+-- the faults of a source after a read, one more just where it failed
+abbrev pub faults_after_read : ReadEnd → ℕ → ℕ
+faults_after_read read.Failed faults = counted_once faults
+faults_after_read _ faults = faults
+
+-- and its waits, one more just where nothing was ready
+abbrev pub waits_after_read : ReadEnd → ℕ → ℕ
+waits_after_read read.Empty waits = counted_once waits
+waits_after_read _ waits = waits
+
+-- the faults of a sink after a write, one more just where it failed
+abbrev pub faults_after_write : WriteEnd → ℕ → ℕ
+faults_after_write write.Failed faults = counted_once faults
+faults_after_write (write.Took n) faults = faults

@@ -2,7 +2,7 @@
 
 ghost use Rattle.std.specs.Prelude.{◌≡◌, ◌<◌, ◌≤◌, ◌+◌, ◌-◌, true, List, drop, length, ◌++◌, IfOk, OnOk, OnErr};
 ghost use Rattle.pipe_edges.specs.Writes.{WritesBytes, WriteIsCounted, WriteHasCause};
-ghost use Rattle.mem_edges.specs.Scripts.{write_count, TakesBy, room_after};
+ghost use Rattle.mem_edges.specs.Scripts.{write_count, TakesBy, room_after, faults_after_write};
 
 use pipe_edges::{ByteSink, WriteEnd};
 use pipe_types::bytes::Bytes;
@@ -115,6 +115,8 @@ impl MemSink {
     // A sink that holds the same bytes, with the same room and script, which answered no write.
     pub(crate) fn again(&self, alloc: Global) -> Result<MemSink, AllocError>
         ensures held { IfOk result (λ k. held_by k ≡ held_by self.now) }
+        ensures room { IfOk result (λ k. room_of k ≡ room_of self.now) }
+        ensures acts { IfOk result (λ k. acts k ≡ acts self.now) }
         ensures unwritten { IfOk result IsUnwritten }
     {
         let held = Bytes::from_vec(Vec::from_slice(alloc, self.held.as_slice())?);
@@ -141,6 +143,7 @@ impl ByteSink for MemSink {
         ensures takes { TakesBy (acts_left self.old) (length piece.now) (room_of self.old) result }
         ensures room { room_of self.new ≡ room_after (room_of self.old) result }
         ensures acts { acts_left self.new ≡ drop 1 (acts_left self.old) }
+        ensures faults { self.new.faults ≡ faults_after_write result self.old.faults }
     {
         let most = self.play(piece.len());
         let count = most.min(self.room);
