@@ -1,8 +1,8 @@
 //! A callback of one's own, and a call of the program with it over objects in memory.
 //!
 //! `ThirdCrashes` passes each message and crashes at its third one. `run_with` hands callbacks to `run_program`, with the
-//! words `run t --workers N --steps --acks`, a topology file and lines, and its contract says what comes of it. docs/USING.md
-//! shows both. `run_lines` is for tests of one's own: it runs a topology over lines, and answers the texts of the run.
+//! words `run t --workers N --steps --acks`, a topology file and lines, and its contract says what comes of it. `run_lines` is
+//! for tests of one's own: it runs a topology over lines, and answers the texts of the run. docs/OWN-PROGRAM.md shows it.
 #![tactic(auto)]
 
 mod call;
