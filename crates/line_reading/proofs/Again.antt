@@ -30,7 +30,7 @@ use Rattle.line_reading.proofs.ItemsAgain.{short_small, number_small, long_small
 
 -- ---- words
 
-abbrev IsSmall : ℕ → Type 0
+abbrev pub IsSmall : ℕ → Type 0
 IsSmall n = n < 2 ^ 64
 
 -- the words of a line that is a word and numbers

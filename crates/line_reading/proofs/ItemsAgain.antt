@@ -103,16 +103,15 @@ more_listed read text i (x ∷ xs) h =
 -- the text of a list is read as that list, and is one word
 pub record IsListRead {A : Type 0} (read : ℕ → List ℕ → Result A Fault) (text : A → List ℕ) (xs : List A) : Type 0 where
   pub again : list_in read (list_text text xs) ≡ Ok xs
+  pub listed : Each IsListed (list_text text xs)
   pub word : slice_split (is_at 32) (list_text text xs) ≡ list_text text xs ∷ []
 
 list_again : {A : Type 0} (read : ℕ → List ℕ → Result A Fault) (text : A → List ℕ) (xs : List A) → AreItems (IsRead read text) xs → IsListRead read text xs
 unfolding list_in
 list_again read text [] h = absurd (let some = h.some in omega arith)
 list_again read text (x ∷ xs) h =
-    record {
-      again = items_again read text 0 x xs h.each;
-      word = listed_words (text x ++ more_text text xs) (each_append IsListed (text x) (more_text text xs) (each_weaker IsFar IsListed (λ b low. omega arith) (text x) h.each.0.apart) (more_listed read text 1 xs h.each.1));
-    }
+    let listed = each_append IsListed (text x) (more_text text xs) (each_weaker IsFar IsListed (λ b low. omega arith) (text x) h.each.0.apart) (more_listed read text 1 xs h.each.1) in
+    record { again = items_again read text 0 x xs h.each; listed = listed; word = listed_words (text x ++ more_text text xs) listed }
 
 each_from : {A : Type 0} (P Q : ℕ → A → Type 0) (f : (i : ℕ) (x : A) → P i x → Q i x) (i : ℕ) (xs : List A) → EachFrom P i xs → EachFrom Q i xs
 each_from P Q f i [] h = tt
@@ -235,6 +234,7 @@ outcomes_again = list_by IsOutcome outcome_in outcome_text outcome_read
 
 pub record IsEndRead (end : BatchEnd) : Type 0 where
   pub again : ends_in (ends_text end) ≡ Ok end
+  pub listed : Each IsListed (ends_text end)
   pub word : slice_split (is_at 32) (ends_text end) ≡ ends_text end ∷ []
 
 -- a list of outcomes is no `c`
@@ -246,5 +246,5 @@ no_crash (FailedOutcome why ∷ xs) some e = rw e refl
 
 pub end_again : (end : BatchEnd) → IsEnd end → IsEndRead end
 unfolding IsEnd ends_in
-end_again (Outcomes outcomes) h = let r = outcomes_again outcomes h in record { again = no_crash outcomes h.some r.again; word = r.word }
-end_again BatchCrashed h = record { again = refl; word = refl }
+end_again (Outcomes outcomes) h = let r = outcomes_again outcomes h in record { again = no_crash outcomes h.some r.again; listed = r.listed; word = r.word }
+end_again BatchCrashed h = record { again = refl; listed = (omega arith, tt); word = refl }

@@ -1,0 +1,5 @@
+mod Passing
+mod Contents
+mod Producers
+mod Taken
+mod Legal
