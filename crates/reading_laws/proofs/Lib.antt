@@ -1,5 +1,7 @@
-mod Passing
-mod Contents
-mod Producers
-mod Taken
-mod Legal
+pub mod Passing
+pub mod Contents
+pub mod Producers
+pub mod Taken
+pub mod Legal
+pub mod Visible
+pub mod Texts
