@@ -1,0 +1,9 @@
+//! A journal judged step by step.
+//!
+//! A `PlainRun` has a topology and the steps so far. `step` appends the step that it is given where that is legal, and says
+//! whether it is; `chunk` says which message a job that is out works on at a place. A step costs what the run spent on it.
+#![tactic(auto)]
+
+mod run;
+
+pub use run::PlainRun;
