@@ -125,9 +125,9 @@ impl Case {
         }
     }
 
-    /// The text of this name, or none.
+    /// The last text of this name, or none.
     pub fn text(&self, name: &str) -> &str {
-        for named in &self.texts {
+        for named in self.texts.iter().rev() {
             if named.name.as_str() == name {
                 return named.text.as_str();
             }

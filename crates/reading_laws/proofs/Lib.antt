@@ -5,3 +5,4 @@ pub mod Taken
 pub mod Legal
 pub mod Visible
 pub mod Texts
+pub mod Found

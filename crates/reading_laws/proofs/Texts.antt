@@ -21,7 +21,7 @@ use Rattle.journal_texts.specs.Words.{lf, words, number_word}
 use Rattle.journal_texts.specs.Steps.{step_text, step_line, text_of_steps, journal_text}
 use Rattle.reading_laws.specs.Fields.{IsHeld, AreHeld, IsCountable}
 use Rattle.reading_laws.specs.Named.{named_at}
-use Rattle.reading_laws.specs.Text.{LineSpelt, StepLine, EndLine, BadEnd, BadStep, step_or_fault, end_in, spelt_by, line_in, but_last, lines_of, Causes, no_jobs, jobs_after, Bad, bad_line, line_after, unless_bad, lines_in, header, after_header, text_in}
+use Rattle.reading_laws.specs.Text.{LineSpelt, StepLine, EndLine, BadEnd, BadStep, step_or_fault, end_in, spelt_by, line_in, but_last, lines_of, Causes, no_jobs, jobs_after, Bad, bad_line, line_after, unless_bad, on_line, lines_in, header, after_header, text_in}
 use Rattle.reading_laws.proofs.Legal.{legal_spelt}
 use Rattle.reading_laws.proofs.Visible.{no_line_end, one_line, words_visible}
 
@@ -79,20 +79,9 @@ jobs_legal : (topology : Topology) (before : History) → is_legal topology befo
 unfolding jobs_after
 jobs_legal topology before h = ap (λ (b : Bool). if b then named_at topology before else no_jobs) h
 
--- what a spelt line leaves to be read
-abbrev pub on_line : {C : Type 0} → Causes C → Topology → History → List (List ℕ) → LineSpelt → Result History (Bad C)
-on_line causes topology before lines EndLine = Ok before
-on_line causes topology before lines BadEnd = bad_line (line_after before) causes.end
-on_line causes topology before lines (BadStep fault) = bad_line (line_after before) (causes.fault fault)
-on_line causes topology before lines (StepLine step) =
-    unless_bad (causes.judge (is_legal topology (step ∷ before))) (line_after before) (lines_in causes topology (step ∷ before) lines)
-
 pub lines_by : {C : Type 0} (causes : Causes C) (topology : Topology) (before : History) (line : List ℕ) (lines : List (List ℕ)) (spelt : LineSpelt) → line_in (jobs_after topology before) (length before) line ≡ spelt
-    → lines_in causes topology before (line ∷ lines) ≡ on_line causes topology before lines spelt
-lines_by causes topology before line lines EndLine is = rw is refl
-lines_by causes topology before line lines BadEnd is = rw is refl
-lines_by causes topology before line lines (BadStep fault) is = rw is refl
-lines_by causes topology before line lines (StepLine step) is = rw is refl
+    → lines_in causes topology before (line ∷ lines) ≡ on_line causes topology before (λ step. lines_in causes topology (step ∷ before) lines) spelt
+lines_by causes topology before line lines spelt is = ap (on_line causes topology before (λ step. lines_in causes topology (step ∷ before) lines)) is
 
 -- reading comes to the journal and what stands behind its steps
 steps_read : {C : Type 0} (causes : Causes C) → causes.judge true ≡ None → (topology : Topology) (before : History) (rest : List ℕ) → is_legal topology before ≡ true → AreHeld before
@@ -122,15 +111,19 @@ steps_read {C} causes calm topology (step ∷ before) rest h held =
 
 -- ---- the text
 
+-- the text of a journal and what stands behind it, line by line
+pub whole_text : (journal : History) (behind : List ℕ) → journal_text journal ++ behind ≡ header ++ 10 ∷ (flat_map step_line (reverse journal) ++ (end_line (length (reverse journal)) ++ 10 ∷ behind))
+whole_text journal behind = regrouped (codes "journal 1") (flat_map step_line (reverse journal)) (end_line (length (reverse journal))) behind
+  where
+    regrouped : (a b c d : List ℕ) → (a ++ lf ++ b ++ c ++ lf) ++ d ≡ a ++ 10 ∷ (b ++ (c ++ 10 ∷ d))
+    regrouped a b c d = simp append_assoc
+
 pub text_again : {C : Type 0} (causes : Causes C) → causes.judge true ≡ None → (topology : Topology) (before : History) (behind : List ℕ) → is_legal topology before ≡ true → AreHeld before → IsCountable before
     → text_in causes topology (journal_text before ++ behind) ≡ Ok before
 unfolding text_in
 text_again causes calm topology before behind h held few =
-    let steps : List ℕ = flat_map step_line (reverse before) in
     let count : length (reverse before) ≡ length before = length-reverse before in
     let fits : IsLong (length (reverse before)) = subst IsLong (sym count) few in
-    let text : journal_text before ++ behind ≡ header ++ 10 ∷ (flat_map step_line (reverse before) ++ (end_line (length (reverse before)) ++ 10 ∷ behind)) =
-    regrouped (codes "journal 1") (flat_map step_line (reverse before)) (end_line (length (reverse before))) behind in
     let first : lines_of (header ++ 10 ∷ (flat_map step_line (reverse before) ++ (end_line (length (reverse before)) ++ 10 ∷ behind)))
     ≡ header ∷ lines_of (flat_map step_line (reverse before) ++ (end_line (length (reverse before)) ++ 10 ∷ behind)) =
     first_line header (flat_map step_line (reverse before) ++ (end_line (length (reverse before)) ++ 10 ∷ behind)) (lacks 10 header refl) in
@@ -138,11 +131,8 @@ text_again causes calm topology before behind h held few =
     first_line (end_line (length (reverse before))) behind (no_line_end (end_line (length (reverse before))) (words_visible (codes "end") (length (reverse before) ∷ []) refl (long_small (length (reverse before)) fits, tt))) in
     let is : line_in (jobs_after topology before) (length before) (end_line (length (reverse before))) ≡ EndLine =
     ap (λ (n : ℕ). line_in (jobs_after topology before) (length before) (end_line n)) count ∙ end_line_is (jobs_after topology before) (length before) few in
-    ap (λ (t : List ℕ). after_header causes topology (lines_of t)) text
+    ap (λ (t : List ℕ). after_header causes topology (lines_of t)) (whole_text before behind)
     ∙ (ap (after_header causes topology) first
     ∙ (steps_read causes calm topology before (end_line (length (reverse before)) ++ 10 ∷ behind) h held
     ∙ (ap (lines_in causes topology before) last
     ∙ lines_by causes topology before (end_line (length (reverse before))) (lines_of behind) EndLine is)))
-  where
-    regrouped : (a b c d : List ℕ) → (a ++ lf ++ b ++ c ++ lf) ++ d ≡ a ++ 10 ∷ (b ++ (c ++ 10 ∷ d))
-    regrouped a b c d = simp append_assoc

@@ -1,5 +1,5 @@
 -- What the text of a journal spells: its steps, or the first bad line.
-use Rattle.std.specs.Prelude.{ℕ, ◌+◌, Bool, if◌then◌else◌, List, [], ◌∷◌, length, Option, Some, None, Result, Ok, Err, codes, decimal, bytes_eq}
+use Rattle.std.specs.Prelude.{◌≡◌, ℕ, ◌+◌, Bool, if◌then◌else◌, List, [], ◌∷◌, ◌++◌, length, Option, Some, None, Result, Ok, Err, codes, decimal, bytes_eq}
 use Rattle.std.specs.List.{slice_split}
 use Rattle.pipe_types.specs.declared.step.Step.{Step}
 use Rattle.pipe_types.specs.declared.topology.Topology.{Topology}
@@ -8,6 +8,7 @@ use Rattle.pipe_model.specs.Legal.{is_legal}
 use Rattle.line_reading.specs.declared.fault.Fault.{Fault}
 use Rattle.line_reading.specs.Reading.{is_at}
 use Rattle.line_reading.specs.Lines.{Jobs, step_in}
+use Rattle.journal_texts.specs.Steps.{journal_text}
 use Rattle.reading_laws.specs.Named.{named_at}
 
 -- ---- a line
@@ -82,17 +83,18 @@ abbrev pub unless_bad : {C : Type 0} → Option C → (line : ℕ) → Result Hi
 unless_bad None line more = more
 unless_bad (Some cause) line more = bad_line line cause
 
+-- what a spelt line comes to; `more` is what the lines behind it spell where it is the line of that step
+abbrev pub on_line : {C : Type 0} → Causes C → Topology → History → (more : Step → Result History (Bad C)) → LineSpelt → Result History (Bad C)
+on_line causes topology before more EndLine = Ok before
+on_line causes topology before more BadEnd = bad_line (line_after before) causes.end
+on_line causes topology before more (BadStep fault) = bad_line (line_after before) (causes.fault fault)
+on_line causes topology before more (StepLine step) = unless_bad (causes.judge (is_legal topology (step ∷ before))) (line_after before) (more step)
+
 -- what the lines behind these steps spell
 abbrev pub lines_in : {C : Type 0} → Causes C → Topology → History → List (List ℕ) → Result History (Bad C)
 lines_in causes topology before [] = bad_line (line_after before) causes.end
-lines_in {C} causes topology before (line ∷ lines) = by_line (line_in (jobs_after topology before) (length before) line)
-  where
-    by_line : LineSpelt → Result History (Bad C)
-    by_line EndLine = Ok before
-    by_line BadEnd = bad_line (line_after before) causes.end
-    by_line (BadStep fault) = bad_line (line_after before) (causes.fault fault)
-    by_line (StepLine step) =
-        unless_bad (causes.judge (is_legal topology (step ∷ before))) (line_after before) (lines_in causes topology (step ∷ before) lines)
+lines_in causes topology before (line ∷ lines) =
+    on_line causes topology before (λ step. lines_in causes topology (step ∷ before) lines) (line_in (jobs_after topology before) (length before) line)
 
 -- the line that a text begins with
 abbrev pub header : List ℕ
@@ -105,3 +107,8 @@ after_header causes topology (line ∷ lines) = if bytes_eq line header then lin
 -- the steps that the text spells, or the first bad line; what stands behind the end line is not read
 unfoldable pub text_in : {C : Type 0} → Causes C → Topology → List ℕ → Result History (Bad C)
 text_in causes topology text = after_header causes topology (lines_of text)
+
+-- the text is that of the journal, with nothing or anything behind its end line
+pub record IsTextOf (journal : History) (text : List ℕ) : Type 0 where
+  pub behind : List ℕ
+  pub text : text ≡ journal_text journal ++ behind

@@ -1,0 +1,16 @@
+//! What reading a text promises, as laws. Each function does nothing, and its clause states the law.
+
+ghost use Rattle.std.specs.Prelude.{◌≡◌, ◌++◌, ℕ, List, Ok, true};
+ghost use Rattle.pipe_types.specs.declared.topology.Topology.{Topology};
+ghost use Rattle.pipe_model.specs.History.{History};
+ghost use Rattle.pipe_model.specs.Legal.{is_legal};
+ghost use Rattle.journal_texts.specs.Steps.{journal_text};
+ghost use Rattle.reading_laws.specs.Fields.{AreHeld, IsCountable};
+ghost use Rattle.reading_laws.specs.Text.{text_in};
+ghost use Rattle.journal_reading.specs.Faults.{unjudged};
+
+/// The text of a legal journal spells that journal, whatever stands behind its end line.
+pub fn texts_of_legal_journals_are_read()
+    ensures { (topology : Topology) (journal : History) (behind : List ℕ) →
+        is_legal topology journal ≡ true → AreHeld journal → IsCountable journal → text_in unjudged topology (journal_text journal ++ behind) ≡ Ok journal }
+{}

@@ -1,0 +1,124 @@
+//! A whole text.
+
+ghost use Rattle.std.specs.Prelude.{◌≡◌, ◌++◌, ℕ, List, [], ◌∷◌, true, IfOk, IfErr};
+ghost use Rattle.pipe_types.specs.declared.topology.Topology.{Topology as TopologyOf};
+ghost use Rattle.pipe_types.specs.Sound.{IsSound};
+ghost use Rattle.pipe_model.specs.History.{History};
+ghost use Rattle.pipe_model.specs.Legal.{is_legal};
+ghost use Rattle.journal_texts.specs.Steps.{journal_text};
+ghost use Rattle.reading_laws.specs.Fields.{AreHeld, IsCountable};
+ghost use Rattle.reading_laws.specs.Text.{lines_of, lines_in, text_in};
+ghost use Rattle.journal_reading.specs.declared.fault.JournalFault.TheVariants.{OutOfMemory};
+ghost use Rattle.journal_reading.specs.Faults.{unjudged};
+ghost use Rattle.journal_reading.specs.Reads.{Answers, steps_in, IsOf};
+ghost use Rattle.journal_reading.specs.Lines.{ReadsOne};
+
+use crate::copies::copy_topology;
+use crate::fault::{JournalFault, JournalRefusal};
+use crate::lines::{first_line, is_same};
+use crate::progress::{Progress, journal_of, read_next, take_in};
+use crate::step::LineRead;
+use pipe_journal::Journal;
+use pipe_types::topology::Topology;
+use plain_run::PlainRun;
+use std::alloc::{AllocError, Global};
+
+/// What a good line leads to.
+#[derive(Drop)]
+enum Next {
+    /// More lines.
+    More(Progress),
+    /// The whole journal.
+    Done(Journal),
+}
+
+/// Reads one line.
+fn read_one(alloc: Global, progress: Progress, line: &[u8]) -> Result<Next, JournalFault>
+    ensures { (topology : TopologyOf) → IsOf topology progress → ReadsOne topology (steps_in progress) line.now result }
+{
+    match read_next(alloc, &progress, line) {
+        Ok(LineRead::Step(step)) => match take_in(progress, step) {
+            Ok(next) => Ok(Next::More(next)),
+            Err(_) => Err(JournalFault::OutOfMemory),
+        },
+        Ok(LineRead::End) => Ok(Next::Done(journal_of(progress))),
+        Ok(LineRead::Bad(fault)) => Err(fault),
+        Err(_) => Err(JournalFault::OutOfMemory),
+    }
+}
+
+/// Reads the lines behind the first, up to the end line or the first bad one.
+fn read_lines(alloc: Global, run: PlainRun, text: &[u8]) -> Result<Journal, JournalRefusal>
+    requires fresh { run.steps ≡ [] }
+    ensures { Answers result (lines_in unjudged run.topology [] (lines_of text.now)) }
+{
+    let mut progress = Progress::Legal(run);
+    let mut rest = text;
+    let mut line: u64 = 2;
+    while let Some(cut) = first_line(rest) {
+        match read_one(alloc, progress, cut.front) {
+            Ok(Next::More(next)) => {
+                progress = next;
+                rest = cut.rest;
+                line += 1;
+            }
+            Ok(Next::Done(journal)) => return Ok(journal),
+            Err(fault) => return Err(JournalRefusal { line, fault }),
+        }
+    }
+    Err(JournalRefusal {
+        line,
+        fault: JournalFault::End,
+    })
+}
+
+/// A run of a copy of the topology.
+fn begin(alloc: Global, topology: &Topology) -> Result<PlainRun, AllocError>
+    requires sound { IsSound topology.now }
+    ensures topology { IfOk result (λ run. run.topology ≡ topology.now) }
+    ensures fresh { IfOk result (λ run. run.steps ≡ []) }
+{
+    match PlainRun::new(alloc, copy_topology(alloc, topology)?) {
+        Ok(run) => Ok(run),
+        Err((_, failed)) => Err(failed),
+    }
+}
+
+/// The journal that the text spells, or its first bad line with its first fault. What stands behind the end line is not read.
+/// So the text of each journal that is legal for the topology is read back as that journal. The time is linear in the text, and
+/// nothing is kept but the journal and, while its steps are legal, a run that has it.
+pub fn read_steps(
+    alloc: Global,
+    topology: &Topology,
+    bytes: &[u8],
+) -> Result<Journal, JournalRefusal>
+    requires sound { IsSound topology.now }
+    ensures read { Answers result (text_in unjudged topology.now bytes.now) }
+    ensures again { (journal : History) (behind : List ℕ) → is_legal topology.now journal ≡ true → AreHeld journal → IsCountable journal → bytes.now ≡ journal_text journal ++ behind → IfOk result (λ read. read.steps ≡ journal) × IfErr result (λ refusal. refusal.fault ≡ OutOfMemory) }
+{
+    read_text(alloc, topology, bytes)
+}
+
+/// The same, said once.
+fn read_text(
+    alloc: Global,
+    topology: &Topology,
+    bytes: &[u8],
+) -> Result<Journal, JournalRefusal>
+    requires sound { IsSound topology.now }
+    ensures { Answers result (text_in unjudged topology.now bytes.now) }
+{
+    match first_line(bytes) {
+        Some(cut) if is_same(cut.front, b"journal 1") => match begin(alloc, topology) {
+            Ok(run) => read_lines(alloc, run, cut.rest),
+            Err(_) => Err(JournalRefusal {
+                line: 1,
+                fault: JournalFault::OutOfMemory,
+            }),
+        },
+        _ => Err(JournalRefusal {
+            line: 1,
+            fault: JournalFault::Header,
+        }),
+    }
+}
