@@ -1,19 +1,23 @@
 -- What was read of a line says what the lines from it on spell.
-use Rattle.std.proofs.Common.{◌≡◌, ℕ, Bool, true, false, cond, List, [], ◌∷◌, length, Option, Some, None, Ok, Err, refl, ap, sym, ◌∙◌}
-use Rattle.std.specs.Prelude.{◌&&◌}
+use Rattle.std.proofs.Common.{◌≡◌, ◌≢◌, ℕ, Bool, true, false, cond, List, [], ◌∷◌, length, Option, Some, None, Result, Ok, Err, refl, ap, sym, ◌∙◌}
+use Rattle.std.specs.Prelude.{◌&&◌, IfOk, IfErr}
 use Rattle.pipe_types.specs.declared.step.Step.{Step}
 use Rattle.pipe_types.specs.declared.topology.Topology.{Topology}
 use Rattle.pipe_model.specs.History.{History}
 use Rattle.pipe_model.specs.Legal.{is_legal}
 use Rattle.line_reading.specs.Lines.{Jobs}
 use Rattle.reading_laws.specs.Named.{named_at}
-use Rattle.reading_laws.specs.Text.{LineSpelt, StepLine, EndLine, BadEnd, BadStep, line_in, no_jobs, jobs_after, line_after, bad_line, lines_in}
+use Rattle.reading_laws.specs.Text.{LineSpelt, StepLine, EndLine, BadEnd, BadStep, line_in, no_jobs, jobs_after, line_after, Bad, bad_line, lines_in, text_in, IsTextOf}
 use Rattle.reading_laws.proofs.Texts.{lines_by}
+use Rattle.reading_laws.proofs.Found.{text_found}
+use Rattle.pipe_journal.specs.Recorded.{Recorded}
 use Rattle.journal_reading.specs.declared.fault.JournalFault.{JournalFault}
+use Rattle.journal_reading.specs.declared.fault.JournalFault.TheVariants.{Header, Word, Number, Bytes, End, OutOfMemory}
+use Rattle.journal_reading.specs.declared.fault.JournalRefusal.{JournalRefusal}
 use Rattle.journal_reading.specs.declared.step.LineRead.{LineRead}
 use Rattle.journal_reading.specs.declared.step.LineRead.TheVariants as read
 use Rattle.journal_reading.specs.Faults.{unjudged}
-use Rattle.journal_reading.specs.Reads.{read_as}
+use Rattle.journal_reading.specs.Reads.{read_as, Answers}
 
 pub one_step : (topology : Topology) (before : History) (line : List ℕ) (lines : List (List ℕ)) (step : Step) → read.Step step ≡ read_as (line_in (jobs_after topology before) (length before) line)
     → lines_in unjudged topology before (line ∷ lines) ≡ lines_in unjudged topology (step ∷ before) lines
@@ -58,3 +62,28 @@ jobs_illegal topology before h = ap (λ (b : Bool). cond b (named_at topology be
 pub not_legal : (a b : Bool) → b ≡ false → (a && b) ≡ false
 not_legal true b h = h
 not_legal false b h = refl
+
+-- ---- whole texts
+
+abbrev ok_history : History → Result History (Bad JournalFault)
+ok_history h = Ok h
+
+pub again_by : (result : Result Recorded JournalRefusal) (spelt : Result History (Bad JournalFault)) (journal : History) → Answers result spelt → spelt ≡ Ok journal
+    → IfOk result (λ read. read.steps ≡ journal) × IfErr result (λ refusal. refusal.fault ≡ OutOfMemory)
+again_by (Ok read) spelt journal answers is = (same read.steps journal (sym answers ∙ is), tt)
+  where
+    same : (a b : History) → ok_history a ≡ ok_history b → a ≡ b
+    same a b e = cc
+again_by (Err refusal) spelt journal answers is = (tt, by refusal.fault answers)
+  where
+    by : (fault : JournalFault) → (fault ≢ OutOfMemory → spelt ≡ Err (refusal.line, fault)) → fault ≡ OutOfMemory
+    by OutOfMemory h = refl
+    by Header h = absurd (let wrong = sym (h (λ e. cc)) ∙ is in cc)
+    by Word h = absurd (let wrong = sym (h (λ e. cc)) ∙ is in cc)
+    by Number h = absurd (let wrong = sym (h (λ e. cc)) ∙ is in cc)
+    by Bytes h = absurd (let wrong = sym (h (λ e. cc)) ∙ is in cc)
+    by End h = absurd (let wrong = sym (h (λ e. cc)) ∙ is in cc)
+
+pub found_by : (result : Result Recorded JournalRefusal) (topology : Topology) (text : List ℕ) → Answers result (text_in unjudged topology text) → IfOk result (λ read. IsTextOf read.steps text)
+found_by (Ok read) topology text answers = text_found unjudged topology text read.steps answers
+found_by (Err refusal) topology text answers = tt

@@ -8,6 +8,7 @@ use pipe_types::numbers::{MsgNo, Post, StageNo};
 use plain_run::PlainRun;
 
 /// The messages of a run, or of none.
+#[derive(Clone, Copy)]
 pub(crate) struct Known<'a> {
     pub(crate) run: Option<&'a PlainRun>,
 }

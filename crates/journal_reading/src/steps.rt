@@ -7,7 +7,7 @@ ghost use Rattle.pipe_model.specs.History.{History};
 ghost use Rattle.pipe_model.specs.Legal.{is_legal};
 ghost use Rattle.journal_texts.specs.Steps.{journal_text};
 ghost use Rattle.reading_laws.specs.Fields.{AreHeld, IsCountable};
-ghost use Rattle.reading_laws.specs.Text.{lines_of, lines_in, text_in};
+ghost use Rattle.reading_laws.specs.Text.{lines_of, lines_in, text_in, IsTextOf};
 ghost use Rattle.journal_reading.specs.declared.fault.JournalFault.TheVariants.{OutOfMemory};
 ghost use Rattle.journal_reading.specs.Faults.{unjudged};
 ghost use Rattle.journal_reading.specs.Reads.{Answers, steps_in, IsOf};
@@ -30,6 +30,14 @@ enum Next {
     More(Progress),
     /// The whole journal.
     Done(Journal),
+}
+
+/// The refusal of this line for this fault.
+fn refused(line: u64, fault: JournalFault) -> JournalRefusal
+    ensures line { result.line ≡ line }
+    ensures fault { result.fault ≡ fault }
+{
+    JournalRefusal { line, fault }
 }
 
 /// Reads one line.
@@ -63,13 +71,10 @@ fn read_lines(alloc: Global, run: PlainRun, text: &[u8]) -> Result<Journal, Jour
                 line += 1;
             }
             Ok(Next::Done(journal)) => return Ok(journal),
-            Err(fault) => return Err(JournalRefusal { line, fault }),
+            Err(fault) => return Err(refused(line, fault)),
         }
     }
-    Err(JournalRefusal {
-        line,
-        fault: JournalFault::End,
-    })
+    Err(refused(line, JournalFault::End))
 }
 
 /// A run of a copy of the topology.
@@ -95,6 +100,7 @@ pub fn read_steps(
     requires sound { IsSound topology.now }
     ensures read { Answers result (text_in unjudged topology.now bytes.now) }
     ensures again { (journal : History) (behind : List ℕ) → is_legal topology.now journal ≡ true → AreHeld journal → IsCountable journal → bytes.now ≡ journal_text journal ++ behind → IfOk result (λ read. read.steps ≡ journal) × IfErr result (λ refusal. refusal.fault ≡ OutOfMemory) }
+    ensures found { IfOk result (λ read. IsTextOf read.steps bytes.now) }
 {
     read_text(alloc, topology, bytes)
 }
@@ -111,14 +117,8 @@ fn read_text(
     match first_line(bytes) {
         Some(cut) if is_same(cut.front, b"journal 1") => match begin(alloc, topology) {
             Ok(run) => read_lines(alloc, run, cut.rest),
-            Err(_) => Err(JournalRefusal {
-                line: 1,
-                fault: JournalFault::OutOfMemory,
-            }),
+            Err(_) => Err(refused(1, JournalFault::OutOfMemory)),
         },
-        _ => Err(JournalRefusal {
-            line: 1,
-            fault: JournalFault::Header,
-        }),
+        _ => Err(refused(1, JournalFault::Header)),
     }
 }
