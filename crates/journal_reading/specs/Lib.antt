@@ -1,3 +1,3 @@
 pub mod Faults
 pub mod Reads
-pub mod Lines
+pub mod OneLine

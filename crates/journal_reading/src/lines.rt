@@ -15,7 +15,7 @@ pub(crate) struct Cut<'a> {
 }
 
 /// The text cut at the first such byte, where there is one.
-pub(crate) fn cut(text: &[u8], at: u8) -> Option<Cut<'_>>
+pub(crate) fn cut_at(text: &[u8], at: u8) -> Option<Cut<'_>>
     ensures some { IfSome result (λ cut. slice_split (is_at at) text.now ≡ cut.front.now ∷ slice_split (is_at at) cut.rest.now) }
     ensures shorter { IfSome result (λ cut. length cut.rest.now < length text.now) }
     ensures none { IfNone result (slice_split (is_at at) text.now ≡ text.now ∷ []) }
@@ -35,7 +35,7 @@ pub(crate) fn first_line(text: &[u8]) -> Option<Cut<'_>>
     ensures shorter { IfSome result (λ cut. length cut.rest.now < length text.now) }
     ensures none { IfNone result (lines_of text.now ≡ []) }
 {
-    cut(text, b'\n')
+    cut_at(text, b'\n')
 }
 
 /// Whether the two are the same.

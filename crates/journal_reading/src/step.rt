@@ -9,7 +9,7 @@ ghost use Rattle.journal_reading.specs.Reads.{jobs_of, read_as, parts_in};
 
 use crate::fault::{JournalFault, fault_of};
 use crate::known::Known;
-use crate::lines::{cut, is_same};
+use crate::lines::{cut_at, is_same};
 use itoa::Buffer;
 use line_reading::{ReadError, read_line};
 use pipe_types::step::Step;
@@ -37,7 +37,7 @@ struct Words<'a> {
 fn words_of(line: &[u8]) -> Words<'_>
     ensures { slice_split (is_at 32) line.now ≡ result.first.now ∷ parts_in result.behind }
 {
-    match cut(line, b' ') {
+    match cut_at(line, b' ') {
         Some(cut) => Words {
             first: cut.front,
             behind: Some(cut.rest),

@@ -11,7 +11,7 @@ ghost use Rattle.reading_laws.specs.Text.{lines_of, lines_in, text_in, IsTextOf}
 ghost use Rattle.journal_reading.specs.declared.fault.JournalFault.TheVariants.{OutOfMemory};
 ghost use Rattle.journal_reading.specs.Faults.{unjudged};
 ghost use Rattle.journal_reading.specs.Reads.{Answers, steps_in, IsOf};
-ghost use Rattle.journal_reading.specs.Lines.{ReadsOne};
+ghost use Rattle.journal_reading.specs.OneLine.{ReadsOne};
 
 use crate::copies::copy_topology;
 use crate::fault::{JournalFault, JournalRefusal};

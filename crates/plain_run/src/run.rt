@@ -3,7 +3,7 @@
 ghost use Rattle.std.specs.Prelude.{◌≡◌, ◌∷◌, [], true, IfOk, IfErr, OnOk, OnErr, Ok};
 ghost use Rattle.pipe_types.specs.Sound.{IsSound};
 ghost use Rattle.pipe_model.specs.Legal.{allows, is_legal};
-ghost use Rattle.reading_laws.specs.Named.{named_at};
+ghost use Rattle.plain_run.specs.Jobs.{named_at};
 
 use core_state::Core;
 use pipe_journal::Journal;
@@ -60,16 +60,6 @@ impl PlainRun {
 
     /// Number and producer of the message at that place, from 0, of the chunk or the child that is out at the post.
     pub fn chunk(&self, post: Post, at: u32) -> Option<(MsgNo, StageNo)>
-        ensures { result ≡ named_at self.now.topology self.now.steps post at }
-    {
-        let _core = self.core.journal();
-        let _post = post;
-        let _at = at;
-        unreachable!()
-    }
-
-    /// The same, by a place that is a size.
-    pub fn message_at(&self, post: Post, at: usize) -> Option<(MsgNo, StageNo)>
         ensures { result ≡ named_at self.now.topology self.now.steps post at }
     {
         let _core = self.core.journal();

@@ -1,6 +1,6 @@
 use Rattle.std.proofs.Common.{arith}
 use Rattle.journal_reading.proofs.Cuts.{first_cut, no_cut}
-use Rattle.journal_reading.proofs.lines.cut.Goals as goal
+use Rattle.journal_reading.proofs.lines.cut_at.Goals as goal
 
 pub returns-in-Some-clause-some : goal.returns-in-Some-clause-some
 returns-in-Some-clause-some c = first_cut c.args.at c.args.text.now c.in-Some.found c.in-Some.ensures.0 c.in-Some.ensures.1
