@@ -1,12 +1,13 @@
 -- A text cut at a byte.
 use Rattle.std.proofs.Common.{◌≡◌, ℕ, zero, suc, ◌+◌, ◌<◌, ◌≤◌, Bool, true, false, cond, List, [], ◌∷◌, length, take, drop, get_or, refl, ap, sym, ◌∙◌, arith}
-use Rattle.std.specs.Prelude.{◌==◌}
+use Rattle.std.specs.Prelude.{◌==◌, Option, Some, None, IfSome, IfNone}
 use Rattle.std.specs.List.{slice_split, onto_first}
 use Rattle.memchr.specs.Find.{is_byte, Nowhere, NoneBefore, Passes}
 use Rattle.line_reading.specs.Reading.{is_at}
 use Rattle.line_reading.proofs.Spelt.{Lacks, split_none}
 use Rattle.reading_laws.specs.Text.{but_last, lines_of}
 use Rattle.reading_laws.proofs.Texts.{split_some}
+use Rattle.journal_reading.specs.declared.lines.Cut.{Cut}
 
 -- a test that does not hold
 not_so : (b : Bool) → (b ≡ true → ⊥) → b ≡ false
@@ -30,7 +31,10 @@ first_cut c (b ∷ bs) (suc at) none is =
     let other : (b == c) ≡ false = not_so (b == c) (none.before 0 (omega arith) (omega arith)) in
     let within : at < length bs = (let high = none.high in omega arith) in
     let more = first_cut c bs at (record { low = omega arith; high = within; before = λ k low high. none.before (suc k) (omega arith) (omega arith) }) is in
-    ap (λ (t : Bool). cond t ([] ∷ slice_split (is_at c) bs) (onto_first b (slice_split (is_at c) bs))) other ∙ ap (onto_first b) more
+    let next : suc at + 1 ≡ suc (at + 1) = omega arith in
+    let rest : drop (at + 1) bs ≡ drop (suc at + 1) (b ∷ bs) = ap (λ (k : ℕ). drop k (b ∷ bs)) (sym next) in
+    ap (λ (t : Bool). cond t ([] ∷ slice_split (is_at c) bs) (onto_first b (slice_split (is_at c) bs))) other
+    ∙ (ap (onto_first b) more ∙ ap (λ (xs : List ℕ). (b ∷ take at bs) ∷ slice_split (is_at c) xs) rest)
 
 -- the first line, where there is one
 pub line_cut : (text front rest : List ℕ) → slice_split (is_at 10) text ≡ front ∷ slice_split (is_at 10) rest → lines_of text ≡ front ∷ lines_of rest
@@ -40,3 +44,12 @@ line_cut text front rest e =
 
 pub no_line : (text : List ℕ) → slice_split (is_at 10) text ≡ text ∷ [] → lines_of text ≡ []
 no_line text e = ap but_last e
+
+-- the same of what a search found
+pub some_line : (text : List ℕ) (found : Option Cut) → IfSome found (λ cut. slice_split (is_at 10) text ≡ cut.front.now ∷ slice_split (is_at 10) cut.rest.now) → IfSome found (λ cut. lines_of text ≡ cut.front.now ∷ lines_of cut.rest.now)
+some_line text None h = tt
+some_line text (Some cut) h = line_cut text cut.front.now cut.rest.now h
+
+pub none_line : (text : List ℕ) (found : Option Cut) → IfNone found (slice_split (is_at 10) text ≡ text ∷ []) → IfNone found (lines_of text ≡ [])
+none_line text None h = no_line text h
+none_line text (Some cut) h = tt

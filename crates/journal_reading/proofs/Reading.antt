@@ -4,20 +4,24 @@ use Rattle.std.specs.Prelude.{◌&&◌, IfOk, IfErr}
 use Rattle.pipe_types.specs.declared.step.Step.{Step}
 use Rattle.pipe_types.specs.declared.topology.Topology.{Topology}
 use Rattle.pipe_model.specs.History.{History}
-use Rattle.pipe_model.specs.Legal.{is_legal}
+use Rattle.pipe_model.specs.Legal.{allows, is_legal}
 use Rattle.line_reading.specs.Lines.{Jobs}
 use Rattle.reading_laws.specs.Named.{named_at}
-use Rattle.reading_laws.specs.Text.{LineSpelt, StepLine, EndLine, BadEnd, BadStep, line_in, no_jobs, jobs_after, line_after, Bad, bad_line, lines_in, text_in, IsTextOf}
+use Rattle.reading_laws.specs.Text.{LineSpelt, StepLine, EndLine, BadEnd, BadStep, line_in, lines_of, no_jobs, jobs_after, line_after, Bad, bad_line, lines_in, text_in, IsTextOf}
 use Rattle.reading_laws.proofs.Texts.{lines_by}
 use Rattle.reading_laws.proofs.Found.{text_found}
 use Rattle.pipe_journal.specs.Recorded.{Recorded}
+use Rattle.plain_run.specs.Seen.{RunSeen}
 use Rattle.journal_reading.specs.declared.fault.JournalFault.{JournalFault}
 use Rattle.journal_reading.specs.declared.fault.JournalFault.TheVariants.{Header, Word, Number, Bytes, End, OutOfMemory}
 use Rattle.journal_reading.specs.declared.fault.JournalRefusal.{JournalRefusal}
 use Rattle.journal_reading.specs.declared.step.LineRead.{LineRead}
 use Rattle.journal_reading.specs.declared.step.LineRead.TheVariants as read
 use Rattle.journal_reading.specs.Faults.{unjudged}
-use Rattle.journal_reading.specs.Reads.{read_as, Answers}
+use Rattle.journal_reading.specs.declared.progress.Progress.{Progress}
+use Rattle.journal_reading.specs.OneLine.{GoesOn}
+use Rattle.journal_reading.specs.Reads.{read_as, Answers, steps_in, IsOf}
+use Rattle.std.specs.declared.alloc.AllocError.{AllocError}
 
 pub one_step : (topology : Topology) (before : History) (line : List ℕ) (lines : List (List ℕ)) (step : Step) → read.Step step ≡ read_as (line_in (jobs_after topology before) (length before) line)
     → lines_in unjudged topology before (line ∷ lines) ≡ lines_in unjudged topology (step ∷ before) lines
@@ -87,3 +91,92 @@ again_by (Err refusal) spelt journal answers is = (tt, by refusal.fault answers)
 pub found_by : (result : Result Recorded JournalRefusal) (topology : Topology) (text : List ℕ) → Answers result (text_in unjudged topology text) → IfOk result (λ read. IsTextOf read.steps text)
 found_by (Ok read) topology text answers = text_found unjudged topology text read.steps answers
 found_by (Err refusal) topology text answers = tt
+
+-- ---- what a step of the reading comes to
+
+-- a line read with the run that has the steps
+pub legal_line : (topology : Topology) (run : RunSeen) (seen : History) (steps : ℕ) (line : List ℕ) (result : Result LineRead AllocError)
+    → IfOk result (λ read. read ≡ read_as (line_in (named_at run.topology run.steps) steps line)) → steps ≡ length seen → seen ≡ run.steps → is_legal run.topology run.steps ≡ true → run.topology ≡ topology
+    → IfOk result (λ read. read ≡ read_as (line_in (jobs_after topology run.steps) (length run.steps) line))
+legal_line topology run seen steps line (Err e) is count same legal of = tt
+legal_line topology run seen steps line (Ok read) is count same legal of =
+    is
+    ∙ (ap (λ (n : ℕ). read_as (line_in (named_at run.topology run.steps) n line)) (count ∙ ap length same)
+    ∙ (ap (λ (jobs : Jobs). read_as (line_in jobs (length run.steps) line)) (sym (jobs_legal run.topology run.steps legal))
+    ∙ ap (λ (t : Topology). read_as (line_in (jobs_after t run.steps) (length run.steps) line)) of))
+
+-- and with none, where they are not legal
+pub illegal_line : (topology : Topology) (before : History) (steps : ℕ) (line : List ℕ) (result : Result LineRead AllocError)
+    → IfOk result (λ read. read ≡ read_as (line_in no_jobs steps line)) → steps ≡ length before → is_legal topology before ≡ false
+    → IfOk result (λ read. read ≡ read_as (line_in (jobs_after topology before) (length before) line))
+illegal_line topology before steps line (Err e) is count illegal = tt
+illegal_line topology before steps line (Ok read) is count illegal =
+    is
+    ∙ (ap (λ (n : ℕ). read_as (line_in no_jobs n line)) count
+    ∙ ap (λ (jobs : Jobs). read_as (line_in jobs (length before) line)) (sym (jobs_illegal topology before illegal)))
+
+-- a journal with one more step that leaves it not legal
+pub illegal_taken : (steps after : History) (step : Step) → after ≡ step ∷ steps → (after ≡ step ∷ steps) × ((topology : Topology) → is_legal topology (step ∷ steps) ≡ false → is_legal topology after ≡ false)
+illegal_taken steps after step e = (e, λ topology h. ap (is_legal topology) e ∙ h)
+
+-- a step that the run does not allow
+pub refused_taken : (run : RunSeen) (seen left : History) (step : Step) (allowed : Bool) (result : Result Progress AllocError)
+    → IfOk result (λ progress. (steps_in progress ≡ step ∷ left) × ((topology : Topology) → is_legal topology (step ∷ left) ≡ false → IsOf topology progress))
+    → left ≡ seen → seen ≡ run.steps → allowed ≡ allows run.topology run.steps step → allowed ≡ false → IfOk result (λ progress. (steps_in progress ≡ step ∷ run.steps) × IsOf run.topology progress)
+refused_taken run seen left step allowed (Err e) taken one two told no = tt
+refused_taken run seen left step allowed (Ok progress) taken one two told no =
+    let same : left ≡ run.steps = one ∙ two in
+    (
+      taken.0 ∙ ap (λ (h : History). step ∷ h) same,
+      taken.1 run.topology (ap (λ (h : History). is_legal run.topology (step ∷ h)) same ∙ not_legal (is_legal run.topology run.steps) (allows run.topology run.steps step) (sym told ∙ no)),
+    )
+
+-- a line that is a step
+pub more_line : (topology : Topology) (progress next : Progress) (line : List ℕ) (step : Step)
+    → ((t : Topology) → IsOf t progress → read.Step step ≡ read_as (line_in (jobs_after t (steps_in progress)) (length (steps_in progress)) line))
+    → ((t : Topology) → IsOf t progress → (steps_in next ≡ step ∷ steps_in progress) × IsOf t next) → IsOf topology progress → GoesOn topology (steps_in progress) line next
+more_line topology progress next line step is taken of =
+    let t = taken topology of in
+    record {
+      same = λ lines. one_step topology (steps_in progress) line lines step (is topology of) ∙ ap (λ (h : History). lines_in unjudged topology h lines) (sym t.0);
+      more = ap length t.0;
+      of = t.1;
+    }
+
+-- the end line
+pub last_line : (topology : Topology) (progress : Progress) (journal : Recorded) (line : List ℕ)
+    → ((t : Topology) → IsOf t progress → read.End ≡ read_as (line_in (jobs_after t (steps_in progress)) (length (steps_in progress)) line))
+    → journal.steps ≡ steps_in progress → IsOf topology progress → (lines : List (List ℕ)) → lines_in unjudged topology (steps_in progress) (line ∷ lines) ≡ Ok journal.steps
+last_line topology progress journal line is same of lines = one_end topology (steps_in progress) line lines (is topology of) ∙ ap (λ (h : History). ok_history h) (sym same)
+
+-- a bad line
+pub worst_line : (topology : Topology) (progress : Progress) (line : List ℕ) (fault : JournalFault)
+    → ((t : Topology) → IsOf t progress → read.Bad fault ≡ read_as (line_in (jobs_after t (steps_in progress)) (length (steps_in progress)) line))
+    → IsOf topology progress → (lines : List (List ℕ)) → lines_in unjudged topology (steps_in progress) (line ∷ lines) ≡ bad_line (line_after (steps_in progress)) fault
+worst_line topology progress line fault is of lines = one_bad topology (steps_in progress) line lines fault (is topology of)
+
+-- ---- lines
+
+-- what is left spells the same
+pub same_on : (topology : Topology) (before : History) (next : Progress) (front rest more text : List ℕ) → lines_of rest ≡ front ∷ lines_of more → GoesOn topology before front next
+    → lines_in unjudged topology before (lines_of rest) ≡ lines_in unjudged topology [] (lines_of text) → lines_in unjudged topology (steps_in next) (lines_of more) ≡ lines_in unjudged topology [] (lines_of text)
+same_on topology before next front rest more text first goes so_far =
+    sym (goes.same (lines_of more)) ∙ (ap (lines_in unjudged topology before) (sym first) ∙ so_far)
+
+-- the journal was read
+pub done_on : (topology : Topology) (before journal : History) (front rest more text : List ℕ) → lines_of rest ≡ front ∷ lines_of more
+    → ((lines : List (List ℕ)) → lines_in unjudged topology before (front ∷ lines) ≡ Ok journal)
+    → lines_in unjudged topology before (lines_of rest) ≡ lines_in unjudged topology [] (lines_of text) → lines_in unjudged topology [] (lines_of text) ≡ Ok journal
+done_on topology before journal front rest more text first done so_far = sym so_far ∙ (ap (lines_in unjudged topology before) first ∙ done (lines_of more))
+
+-- the line is bad
+pub bad_on : (topology : Topology) (before : History) (line : ℕ) (fault : JournalFault) (front rest more text : List ℕ) → lines_of rest ≡ front ∷ lines_of more
+    → (fault ≢ OutOfMemory → (lines : List (List ℕ)) → lines_in unjudged topology before (front ∷ lines) ≡ bad_line (line_after before) fault) → line ≡ line_after before
+    → lines_in unjudged topology before (lines_of rest) ≡ lines_in unjudged topology [] (lines_of text) → fault ≢ OutOfMemory → lines_in unjudged topology [] (lines_of text) ≡ Err (line, fault)
+bad_on topology before line fault front rest more text first bad at so_far other =
+    sym so_far ∙ (ap (lines_in unjudged topology before) first ∙ (bad other (lines_of more) ∙ ap (λ (n : ℕ). bad_line n fault) (sym at)))
+
+-- no line is left
+pub none_on : (topology : Topology) (before : History) (line : ℕ) (rest text : List ℕ) → lines_of rest ≡ [] → line ≡ line_after before
+    → lines_in unjudged topology before (lines_of rest) ≡ lines_in unjudged topology [] (lines_of text) → lines_in unjudged topology [] (lines_of text) ≡ Err (line, End)
+none_on topology before line rest text none at so_far = sym so_far ∙ (ap (lines_in unjudged topology before) none ∙ ap (λ (n : ℕ). bad_line n End) (sym at))

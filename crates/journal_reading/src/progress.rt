@@ -22,6 +22,7 @@ pub(crate) enum Progress {
 }
 
 /// What the next line spells.
+#[tactic(auto, using(crate::proofs::Reading::legal_line, crate::proofs::Reading::illegal_line))]
 pub(crate) fn read_next(
     alloc: Global,
     progress: &Progress,
@@ -36,6 +37,7 @@ pub(crate) fn read_next(
 }
 
 /// The steps with one more, that are not legal.
+#[tactic(auto, using(crate::proofs::Reading::illegal_taken))]
 fn take_illegal(mut journal: Journal, step: Step) -> Result<Progress, AllocError>
     ensures { IfOk result (λ progress. (steps_in progress ≡ step ∷ journal.steps) × ((topology : TopologyOf) → is_legal topology (step ∷ journal.steps) ≡ false → IsOf topology progress)) }
 {
@@ -46,13 +48,14 @@ fn take_illegal(mut journal: Journal, step: Step) -> Result<Progress, AllocError
 }
 
 /// The steps with one more, which is judged as long as the steps are legal.
+#[tactic(auto, using(crate::proofs::Reading::refused_taken))]
 fn take_legal(mut run: PlainRun, step: Step) -> Result<Progress, AllocError>
     ensures { IfOk result (λ progress. (steps_in progress ≡ step ∷ run.steps) × IsOf run.topology progress) }
 {
-    if run.step(&step)? {
-        Ok(Progress::Legal(run))
-    } else {
-        take_illegal(run.into_parts().1, step)
+    match run.step(&step) {
+        Ok(true) => Ok(Progress::Legal(run)),
+        Ok(false) => take_illegal(run.into_parts().1, step),
+        Err(failed) => Err(failed),
     }
 }
 

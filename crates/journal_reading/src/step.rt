@@ -59,7 +59,7 @@ fn is_number(text: &[u8], number: u64) -> bool
 
 /// The end line, by what stands behind its first word, where so many steps stand in front of it.
 fn read_end(behind: Option<&[u8]>, steps: u64) -> LineRead
-    ensures { result ≡ read_as (end_in steps (parts_in behind)) }
+    ensures { result ≡ read_as (end_in steps (parts_in behind.entry)) }
 {
     match behind {
         Some(number) if is_number(number, steps) => LineRead::End,
@@ -73,7 +73,7 @@ fn read_known(
     run: Option<&PlainRun>,
     line: &[u8],
 ) -> Result<LineRead, AllocError>
-    ensures { IfOk result (λ read. read ≡ read_as (step_or_fault (step_in (jobs_of run) line.now))) }
+    ensures { IfOk result (λ read. read ≡ read_as (step_or_fault (step_in (jobs_of run.entry) line.now))) }
 {
     match read_line(alloc, &Known { run }, line) {
         Ok(step) => Ok(LineRead::Step(step)),
@@ -90,7 +90,7 @@ pub fn read_step(
     line: &[u8],
     steps: u64,
 ) -> Result<LineRead, AllocError>
-    ensures { IfOk result (λ read. read ≡ read_as (line_in (jobs_of run) steps line.now)) }
+    ensures { IfOk result (λ read. read ≡ read_as (line_in (jobs_of run.entry) steps line.now)) }
 {
     let words = words_of(line);
     if is_same(words.first, b"end") {

@@ -41,6 +41,7 @@ fn refused(line: u64, fault: JournalFault) -> JournalRefusal
 }
 
 /// Reads one line.
+#[tactic(auto, using(crate::proofs::Reading::more_line, crate::proofs::Reading::last_line, crate::proofs::Reading::worst_line))]
 fn read_one(alloc: Global, progress: Progress, line: &[u8]) -> Result<Next, JournalFault>
     ensures { (topology : TopologyOf) → IsOf topology progress → ReadsOne topology (steps_in progress) line.now result }
 {

@@ -228,7 +228,8 @@ fn line_at<'a>(lines: &[&'a [u8]], at: usize) -> &'a [u8] {
 
 fn put(out: &mut Vec<u8>, line: &[u8]) -> Result<(), AllocError> {
     out.extend_from_slice(line)?;
-    out.push(b'\n')
+    out.push(b'\n')?;
+    Ok(())
 }
 
 /// Writes the line with another byte at one place.
@@ -237,5 +238,6 @@ fn put_other(out: &mut Vec<u8>, line: &[u8], seed: usize) -> Result<(), AllocErr
     for (at, byte) in line.iter().enumerate() {
         out.push(if at == place { *byte ^ 1 } else { *byte })?;
     }
-    out.push(b'\n')
+    out.push(b'\n')?;
+    Ok(())
 }

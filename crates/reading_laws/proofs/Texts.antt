@@ -27,7 +27,7 @@ use Rattle.reading_laws.proofs.Visible.{no_line_end, one_line, words_visible}
 
 -- ---- lines of a text
 
-split_some : (p : ℕ → Bool) (text : List ℕ) → (part : List ℕ) × (parts : List (List ℕ)) × (slice_split p text ≡ part ∷ parts)
+pub split_some : (p : ℕ → Bool) (text : List ℕ) → (part : List ℕ) × (parts : List (List ℕ)) × (slice_split p text ≡ part ∷ parts)
 split_some p [] = ([], [], refl)
 split_some p (b ∷ bs) = by (p b) (split_some p bs)
   where
