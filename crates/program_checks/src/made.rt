@@ -1,6 +1,5 @@
 //! Calls of the program on cases that rules make, each judged.
 
-use super::back::{fault_in_reading, steps_in};
 use super::calls::{call, is_home};
 use super::case::{Case, halves};
 use super::judge::Came;
@@ -8,6 +7,7 @@ use super::making::case_of;
 use super::outside::{World, held_under, shown, world_of};
 use super::slow::fault_in;
 use super::texts::{has_line, lines_with};
+use pipe_journal::Journal;
 use pipe_types::step::Step;
 use std::alloc::{AllocError, Global};
 use std::io;
@@ -45,24 +45,11 @@ fn run_row<R: Threads + Wait + Sync>(
 ) -> io::Result<()> {
     let case = case_of(rt.alloc(), rules, rules.text("rule"), row)?;
     let mut world = world_of(rt.alloc(), &case)?;
-    let end = call(waits, rt.alloc(), &case, words, &mut world)?;
-    let steps = steps_in(rt.alloc(), &end.journal)?;
-    let status = end.status;
+    let (status, steps) = steps_of(waits, rt.alloc(), &case, words, &mut world)?;
     let home = is_home(rt.alloc(), &case, &mut world)?;
     let fault = fault_of(rt.alloc(), rules, &case, &world, status, home, &steps)?;
     if fault != "" {
         println!(rt; "row {row}: {fault}")?;
-    }
-    let unread = fault_in_reading(
-        rt.alloc(),
-        is_calm(rules),
-        &case,
-        shown(&world.out),
-        &end.journal,
-        row as usize,
-    )?;
-    if unread != "" {
-        println!(rt; "row {row}: {unread}")?;
     }
     note(
         rt.alloc(),
@@ -74,8 +61,25 @@ fn run_row<R: Threads + Wait + Sync>(
     Ok(())
 }
 
-fn is_calm(rules: &Case) -> bool {
-    rules.text("rule") == "calm"
+/// Calls the program; the status, and the steps of the journal, oldest first.
+fn steps_of<R: Threads + Wait + Sync>(
+    waits: &R,
+    alloc: Global,
+    case: &Case,
+    words: &str,
+    world: &mut World,
+) -> Result<(u8, Vec<Step>), AllocError> {
+    let end = call(waits, alloc, case, words, world)?;
+    let steps = steps_in(alloc, &end.journal)?;
+    Ok((end.status, steps))
+}
+
+fn steps_in(alloc: Global, journal: &Journal) -> Result<Vec<Step>, AllocError> {
+    let mut steps = Vec::new(alloc);
+    for at in 0..journal.len() {
+        steps.push(journal.view(at).to_step(alloc)?)?;
+    }
+    Ok(steps)
 }
 
 fn fault_of(
@@ -95,7 +99,8 @@ fn fault_of(
         home,
         steps: steps.len(),
     };
-    fault_in(alloc, is_calm(rules), case, came, steps.as_slice())
+    let calm = rules.text("rule") == "calm";
+    fault_in(alloc, calm, case, came, steps.as_slice())
 }
 
 /// Marks each form of which there is a line in the output, or that the run was.

@@ -3,10 +3,9 @@
 //! A case begins with its title and is lines that give it texts under names (`case.rt`). A line `call WORDS` then calls
 //! the program with these words, `own N` runs callbacks of one's own on N workers, `handlers N` runs the lines of the case with
 //! N handlers that pass all, and `made N WORDS` calls the program on so many topologies that rules of the case make
-//! (`making.rt`), has the slow machine judge them, and has the texts of their journals read back (`back.rt`).
+//! (`making.rt`) and has the slow machine judge them.
 #![tactic(auto)]
 
-mod back;
 mod calls;
 mod case;
 mod judge;
