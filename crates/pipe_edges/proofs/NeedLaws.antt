@@ -8,7 +8,7 @@ use Rattle.pipe_edges.specs.declared.reading.LineEnd.{LineEnd}
 use Rattle.pipe_edges.specs.declared.reading.LineEnd.TheVariants as end
 use Rattle.pipe_edges.specs.Stop.{text_in}
 use Rattle.pipe_edges.specs.declared.reading.Stop.{Stop}
-use Rattle.pipe_edges.specs.Needed.{IsReadBehind, ReadsAsNeeded}
+use Rattle.pipe_edges.specs.Needed.{ReadsAsNeeded}
 
 -- nothing is read
 pub needed_none : (held held' : List ℕ) → held' ≡ held → ReadsAsNeeded held held' []
