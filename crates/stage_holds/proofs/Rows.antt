@@ -85,7 +85,7 @@ answered_rows topology h answer limit low r = by_time (is_in_time topology h ans
     by_time false = one_rows limit (late_step answer.post answer.incarnation answer.outcome) h low r
 
 -- the answer that came home
-pub came_rows : {T E F : Type 0} (topology : Topology) (h mid : History) (t : T) (answer : Result Answer E) (limit : ℕ) → IfOk answer (λ given. mid ≡ with_answered topology h given) → (IsErr answer → IsErr {E = F} (Ok t))
+pub came_rows : {T E : Type 0} (F : Type 0) (topology : Topology) (h mid : History) (t : T) (answer : Result Answer E) (limit : ℕ) → IfOk answer (λ given. mid ≡ with_answered topology h given) → (IsErr answer → IsErr {E = F} (Ok t))
     → quiet_row h < limit → RowsWithin limit h → RowsWithin limit mid
-came_rows topology h mid t (Ok given) limit is cut low r = subst (λ (x : History). RowsWithin limit x) (sym is) (answered_rows topology h given limit low r)
-came_rows topology h mid t (Err e) limit is cut low r = let y : false ≡ true = cut refl in cc
+came_rows F topology h mid t (Ok given) limit is cut low r = subst (λ (x : History). RowsWithin limit x) (sym is) (answered_rows topology h given limit low r)
+came_rows F topology h mid t (Err e) limit is cut low r = let y : false ≡ true = cut refl in cc
