@@ -1,12 +1,11 @@
 -- Rows of quiet answers, as steps are added.
-use Rattle.std.proofs.Common.{◌≡◌, ◌≤◌, ◌<◌, ◌+◌, ℕ, List, [], ◌∷◌, ◌++◌, Bool, true, false, refl, sym, ◌∙◌, subst, arith}
+use Rattle.std.proofs.Common.{◌≡◌, ◌≤◌, ◌<◌, ◌+◌, ℕ, [], ◌∷◌, ◌++◌, Bool, true, false, refl, sym, ◌∙◌, subst, arith}
 use Rattle.std.specs.Prelude.{All, if◌then◌else◌, Result, Ok, Err, IfOk, IsErr}
 use Rattle.std.proofs.lemmas.List.Elements.{All-head, All-tail}
 use Rattle.pipe_types.specs.declared.numbers.StageNo.{StageNo}
 use Rattle.pipe_types.specs.declared.numbers.Post.{Post}
-use Rattle.pipe_types.specs.declared.message.Why.TheVariants.{Crash}
 use Rattle.pipe_types.specs.declared.step.Step.{Step}
-use Rattle.pipe_types.specs.declared.step.Step.TheVariants.{Accept, Dispatch, Fetch, Kill, Quiet, Tick}
+use Rattle.pipe_types.specs.declared.step.Step.TheVariants.{Accept, Dispatch, Fetch, Quiet, Tick}
 use Rattle.pipe_types.specs.declared.topology.Topology.{Topology}
 use Rattle.pipe_types.specs.Numbers.{post}
 use Rattle.pipe_model.specs.History.{History}
