@@ -1,5 +1,5 @@
 -- What a journal says of the reads, the writes and the answers of a post.
-use Rattle.std.specs.Prelude.{ℕ, ◌+◌, Bool, true, false, if◌then◌else◌, List, [], ◌∷◌, length, nat_lt, not, ◌&&◌, count_by}
+use Rattle.std.specs.Prelude.{ℕ, ◌+◌, Bool, true, false, if◌then◌else◌, [], ◌∷◌, length, nat_lt, not, ◌&&◌, count_by}
 use Rattle.std.specs.List.{list_all}
 use Rattle.pipe_types.specs.declared.numbers.StageNo.{StageNo}
 use Rattle.pipe_types.specs.declared.numbers.Post.{Post}

@@ -1,4 +1,4 @@
-use Rattle.std.proofs.Common.{◌≡◌, ℕ, ◌+◌, ◌*◌, refl, ap, ◌∙◌, subst, arith, take, length}
+use Rattle.std.proofs.Common.{◌+◌, ◌*◌, refl, ◌∙◌, take}
 use Rattle.stage_bodies.specs.Seen.{body_at, source_seen, sink_seen}
 use Rattle.stage_laws.proofs.Numbering.{numbered_topology}
 use Rattle.edge_names.specs.Seen.{edges_seen}
