@@ -1,5 +1,5 @@
 -- What a worker does after it tried to take the value.
-use Rattle.std.specs.Prelude.{ℕ, Bool, true, false, Option, Some, None, IfSome, option_map}
+use Rattle.std.specs.Prelude.{ℕ, Bool, Option, Some, None, IfSome, option_map}
 use Rattle.pipe_types.specs.declared.numbers.Post.{Post}
 use Rattle.stage_workers.specs.declared.shift.Round.{Round}
 use Rattle.stage_workers.specs.declared.shift.Round.TheVariants as round
