@@ -1,10 +1,13 @@
 -- The room that a fetch makes, and what an accept takes of it.
-use Rattle.std.proofs.Common.{◌≡◌, ◌≢◌, ℕ, ◌+◌, ◌≤◌, List, ◌∷◌, length, set, true, false, refl, ap, sym, ◌∙◌, arith, Some, inl, inr}
-use Rattle.std.specs.Prelude.{◌==◌, ◌⊎◌, ◌&&◌, nat_lt, slice_get}
+use Rattle.std.proofs.Common.{◌≡◌, ◌≢◌, ℕ, ◌+◌, ◌<◌, ◌≤◌, List, ◌∷◌, length, set, true, false, refl, ap, sym, ◌∙◌, arith, Some, inl, inr}
+use Rattle.std.specs.Prelude.{◌==◌, ◌⊎◌, ◌&&◌, nat_lt, slice_get, OnOk}
 use Rattle.std.specs.declared.alloc.Global.{Global}
 use Rattle.std.specs.declared.collections.VecDeque.{VecDeque}
 use Rattle.std.proofs.lemmas.Bool.{eqb-true}
-use Rattle.std.proofs.lemmas.List.{get-set_other}
+use Rattle.std.specs.declared.result.Result.{Result}
+use Rattle.std.specs.declared.result.Result.TheVariants.{Ok, Err}
+use Rattle.std.specs.Vec.{with_item}
+use Rattle.std.proofs.lemmas.List.{length-set}
 use Rattle.pipe_types.specs.declared.numbers.StageNo.{StageNo}
 use Rattle.pipe_types.specs.declared.topology.Topology.{Topology}
 use Rattle.pipe_types.specs.declared.topology.StageSpec.{StageSpec}
@@ -19,19 +22,26 @@ use Rattle.pipe_model.specs.History.{History, accepted}
 use Rattle.pipe_model.specs.Legal.{allows, fetches_out, has_role, is_producer_role, is_batch_processor_role, is_current}
 use Rattle.pipe_model.specs.Lives.{is_live}
 use Rattle.pipe_model.specs.Posts.{is_out}
+use Rattle.pipe_journal.specs.Recorded.{Recorded}
 use Rattle.pipe_laws.proofs.Allowed.{unowed}
 use Rattle.pipe_laws.proofs.Tests.{and_left, and_right, both, clash, same_stage-self}
 use Rattle.queue_laws.proofs.Sounds.{sound_fields}
 use Rattle.stage_laws.proofs.Records.{fetch_booked}
 use Rattle.core_tables.specs.Tables.{list_at, room_at, spare_at, spare_in}
-use Rattle.core_tables.proofs.Tables.{same_or_other}
+use Rattle.core_tables.proofs.Tables.{same_or_other, get-set_other}
 use Rattle.core_laws.proofs.Due.{answer_due}
 use Rattle.core_laws.proofs.TakenBatches.{no_fetch}
 use Rattle.core_laws.specs.Due.{due_steps, booked, taken_size}
 use Rattle.core_state.specs.declared.state.Core.{Core}
 use Rattle.core_state.specs.Room.{HaveRows}
-use Rattle.core_state.specs.Stands.{Holds}
+use Rattle.core_state.specs.Stands.{Holds, Stands}
 use Rattle.core_state.proofs.Rooms.{ends_kept, fewer_rows, rows_kept}
+use Rattle.core_state.proofs.Roomy.{roomy, same_queue, more_queue}
+
+-- what holds in any case holds on Ok
+pub holds_on_ok : {T E : Type 0} (r : Result T E) (P : Type 0) → P → OnOk r P
+holds_on_ok (Ok x) P p = p
+holds_on_ok (Err e) P p = tt
 
 -- Fetches
 
@@ -73,6 +83,27 @@ accept_rows core s records x allowed =
     let after : ℕ = booked core.topology (step ∷ core.journal.steps) in
     let more : after ≡ accepted core.journal.steps + length records + fetches_out core.topology (step ∷ core.journal.steps) = refl in
     fewer_rows after (accepted core.journal.steps + length records) core.places core.settled core.producers core.contents (rows_kept core step x allowed (λ t n e. cc)) (omega (arith, more))
+
+-- where the queue and the journal have more room, the core stands as it did
+pub queue_stands : (core : Core) (s : StageNo) (old q : VecDeque (ℕ × ℕ) Global) (j : Recorded) → Stands core → s.0 < length core.waiting.items → slice_get core.waiting.items s.0 ≡ Some old
+    → q.items ≡ old.items → spare_in (Some old) ≤ spare_in (Some q) → j.steps ≡ core.journal.steps → core.journal.spare ≤ j.spare
+    → Stands (record core { journal = j; waiting = with_item core.waiting s.0 q })
+queue_stands core s old q j x within was same more steps spare =
+    roomy core core.places core.settled core.producers core.contents (with_item core.waiting s.0 q) j x
+    (record {
+      places = refl;
+      settled = refl;
+      producers = refl;
+      contents = refl;
+      queues = same_queue core.waiting.items s old q within was same;
+      queue_count = length-set core.waiting.items s.0 q;
+      places_room = omega arith;
+      settled_room = omega arith;
+      producers_room = omega arith;
+      contents_room = omega arith;
+      queues_room = more_queue core.waiting.items s old q within was more;
+    })
+    steps spare
 
 -- a producer has no batchers
 no_batchers_of : (topology : Topology) (s : StageNo) (spec : StageSpec) → IsSound topology → spec_of topology s ≡ Some spec → spec.role ≡ Producer → has_batchers_in (spec_of topology s) ≡ false

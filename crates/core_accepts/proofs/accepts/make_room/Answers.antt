@@ -1,11 +1,28 @@
-use Rattle.std.proofs.Common.{◌≡◌, ◌<◌, ◌≤◌, length, refl, arith, Some}
+use Rattle.std.proofs.Common.{◌≡◌, ◌<◌, ◌≤◌, length, refl, ap, arith, Some}
 use Rattle.std.specs.Prelude.{slice_get}
 use Rattle.std.specs.Vec.{with_item}
-use Rattle.std.proofs.lemmas.List.{length-set}
 use Rattle.std.proofs.lemmas.Option.{slice_get_read}
-use Rattle.core_tables.specs.Tables.{spare_in}
-use Rattle.core_state.proofs.Roomy.{roomy, same_queue, more_queue}
+use Rattle.core_tables.specs.Tables.{spare_at, spare_in}
+use Rattle.core_tables.proofs.Tables.{get-set_same}
+use Rattle.core_accepts.proofs.Making.{holds_on_ok, queue_stands}
 use Rattle.core_accepts.proofs.accepts.make_room.Goals as goal
+
+pub returns-clause-room : goal.returns-clause-room
+returns-clause-room c =
+    let core = c.args.core.now in
+    let s = c.args.stage in
+    let within : s.0 < length core.waiting.items = omega (arith, c.requires.known, c.requires.stands.holds.fields.sized.waiting) in
+    let here : spare_at (with_item core.waiting s.0 c.reserve.new.self).items s ≡ spare_in (Some c.reserve.new.self) = ap spare_in (get-set_same core.waiting.items s.0 c.reserve.new.self within) in
+    holds_on_ok c.reserve-2.result _ (omega (arith, here, c.in_ok-reserve.ensures.ok))
+
+pub returns-in_err-reserve-clause-stands : goal.returns-in_err-reserve-clause-stands
+returns-in_err-reserve-clause-stands c =
+    let core = c.args.core.now in
+    let s = c.args.stage in
+    let old = c.index_mut-queue.result.now in
+    let within : s.0 < length core.waiting.items = omega (arith, c.requires.known, c.requires.stands.holds.fields.sized.waiting) in
+    let was : slice_get core.waiting.items s.0 ≡ Some old = slice_get_read core.waiting.items (length core.waiting.items) s.0 old refl within c.index_mut-queue.ensures.value in
+    queue_stands core s old c.reserve.new.self core.journal c.requires.stands within was c.reserve.ensures.items (omega (arith, c.reserve.ensures.capacity, c.reserve.ensures.len)) refl (omega arith)
 
 pub returns-clause-stands : goal.returns-clause-stands
 returns-clause-stands c =
@@ -14,19 +31,4 @@ returns-clause-stands c =
     let old = c.index_mut-queue.result.now in
     let within : s.0 < length core.waiting.items = omega (arith, c.requires.known, c.requires.stands.holds.fields.sized.waiting) in
     let was : slice_get core.waiting.items s.0 ≡ Some old = slice_get_read core.waiting.items (length core.waiting.items) s.0 old refl within c.index_mut-queue.ensures.value in
-    let more : spare_in (Some old) ≤ spare_in (Some c.reserve.new.self) = omega (arith, c.reserve.ensures.capacity, c.reserve.ensures.len) in
-    roomy core core.places core.settled core.producers core.contents (with_item core.waiting s.0 c.reserve.new.self) c.reserve-2.new.self c.requires.stands
-    (record {
-      places = refl;
-      settled = refl;
-      producers = refl;
-      contents = refl;
-      queues = same_queue core.waiting.items s old c.reserve.new.self within was c.reserve.ensures.items;
-      queue_count = length-set core.waiting.items s.0 c.reserve.new.self;
-      places_room = omega arith;
-      settled_room = omega arith;
-      producers_room = omega arith;
-      contents_room = omega arith;
-      queues_room = more_queue core.waiting.items s old c.reserve.new.self within was more;
-    })
-    c.reserve-2.ensures.same_steps c.reserve-2.ensures.spare
+    queue_stands core s old c.reserve.new.self c.reserve-2.new.self c.requires.stands within was c.reserve.ensures.items (omega (arith, c.reserve.ensures.capacity, c.reserve.ensures.len)) c.reserve-2.ensures.same_steps c.reserve-2.ensures.spare

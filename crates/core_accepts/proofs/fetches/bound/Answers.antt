@@ -13,9 +13,9 @@ use Rattle.core_accepts.proofs.fetches.bound.Goals as goal
 pub returns-in_default : goal.returns-in_default
 returns-in_default c =
     let core = c.args.core.now in
-    bound_unknown core.topology core.journal.steps c.args.stage c.saturating_sub-left.result c.min.result (sym c.in_default.ensures)
+    bound_unknown core.topology core.journal.steps c.args.stage c.saturating_sub-left.result c.min-records.result (sym c.in_default.ensures)
     (left_seen core c.saturating_sub-limit.result c.saturating_sub-left.result c.fetches_out.result c.requires.stands.holds c.saturating_sub-limit.ensures c.fetches_out.ensures (omega (arith, c.saturating_sub-left.ensures, c.from.ensures)))
-    (omega (arith, c.min.ensures, c.from-2.ensures))
+    (omega (arith, c.min-records.ensures, c.from-2.ensures))
 
 pub index-requires : goal.index-requires
 index-requires c =
@@ -42,8 +42,8 @@ returns c =
     let open_room : c.room_on-room.result ≡ room core.topology core.journal.steps spec.no =
     c.room_on-room.ensures ∙ (ap (λ (stages : List StageSpec). sum_by (open_between core.subs spec) stages) c.as_slice.ensures ∙ room_seen core spec x (ap (spec_of core.topology) no ∙ found)) in
     c.within_room.ensures
-    ∙ (ap (λ n. pulled spec c.min.result n c.len-waiting.result) open_room
-    ∙ (ap (λ n. pulled spec c.min.result (room core.topology core.journal.steps spec.no) n) count
-    ∙ bound_known core.topology core.journal.steps c.args.stage spec c.saturating_sub-left.result c.min.result found
+    ∙ (ap (λ n. pulled spec c.min-records.result n c.len-waiting.result) open_room
+    ∙ (ap (λ n. pulled spec c.min-records.result (room core.topology core.journal.steps spec.no) n) count
+    ∙ bound_known core.topology core.journal.steps c.args.stage spec c.saturating_sub-left.result c.min-records.result found
     (left_seen core c.saturating_sub-limit.result c.saturating_sub-left.result c.fetches_out.result x c.saturating_sub-limit.ensures c.fetches_out.ensures (omega (arith, c.saturating_sub-left.ensures, c.from.ensures)))
-    (omega (arith, c.min.ensures, c.from-2.ensures))))
+    (omega (arith, c.min-records.ensures, c.from-2.ensures))))

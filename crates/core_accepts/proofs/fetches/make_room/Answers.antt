@@ -3,6 +3,7 @@ use Rattle.pipe_model.specs.History.{accepted}
 use Rattle.pipe_model.specs.Legal.{fetches_out}
 use Rattle.stage_laws.proofs.Records.{accepted_within, limit_within}
 use Rattle.core_state.proofs.Roomy.{roomy}
+use Rattle.core_accepts.proofs.Making.{holds_on_ok}
 use Rattle.core_accepts.proofs.fetches.make_room.Goals as goal
 
 pub overflow_add-rows : goal.overflow_add-rows
@@ -15,12 +16,13 @@ pub returns-clause-rows : goal.returns-clause-rows
 returns-clause-rows c =
     let core = c.args.core.now in
     let z = c.requires.stands.holds.fields.sized in
-    record {
+    holds_on_ok c.reserve-5.result _
+    (record {
       places = omega (arith, c.in_ok-reserve.ensures.ok, c.reserve.ensures.len, core.places.ok.0, z.places, c.fetches_out.ensures);
       settled = omega (arith, c.in_ok-reserve-2.ensures.ok, c.reserve-2.ensures.len, core.settled.ok.0, z.settled, c.fetches_out.ensures);
       producers = omega (arith, c.in_ok-reserve-3.ensures.ok, c.reserve-3.ensures.len, core.producers.ok.0, z.producers, c.fetches_out.ensures);
       contents = omega (arith, c.in_ok-reserve-4.ensures.ok, c.reserve-4.ensures.len, core.contents.ok.0, z.contents, c.fetches_out.ensures);
-    }
+    })
 
 pub returns-clause-stands : goal.returns-clause-stands
 returns-clause-stands c =
