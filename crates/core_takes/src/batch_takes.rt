@@ -4,7 +4,9 @@ ghost use Rattle.std.specs.Prelude.{◌≡◌, ◌∷◌, ◌≤◌, ◌<◌, �
 ghost use Rattle.pipe_types.specs.declared.numbers.StageNo.{StageNo as Stage};
 ghost use Rattle.pipe_model.specs.Flow.{inbox};
 ghost use Rattle.pipe_model.specs.Legal.{allows, has_role, is_batch_processor_role, first_unit};
-ghost use Rattle.core_tables.specs.Tables.{queue_at};
+ghost use Rattle.pipe_model.specs.Taken.{closed_as};
+ghost use Rattle.core_tables.specs.Tables.{queue_at, room_at};
+ghost use Rattle.core_laws.specs.Columns.{closed_numbers};
 ghost use Rattle.core_state.specs.Stands.{Holds};
 
 use crate::starts::put_job_out;
@@ -20,7 +22,8 @@ pub fn start_batch(core: &mut Core, stage: StageNo, sub: SubNo, batch: u32)
     requires legal { IsTrue (allows core.old.topology core.old.journal.steps (Step.Take stage sub 1)) }
     requires processor { has_role core.old.topology stage is_batch_processor_role ≡ true }
     requires first { batch ≡ first_unit (inbox core.old.topology core.old.journal.steps stage) }
-    requires spare { 1 ≤ core.old.journal.spare }
+    requires ends { length (closed_numbers (closed_as core.old.topology core.old.journal.steps batch)) ≤ room_at core.old.ends.items stage }
+    requires spare { 1089 ≤ core.old.journal.spare }
     ensures appended { core.new.journal.steps ≡ Step.Take stage sub 1 ∷ core.old.journal.steps }
     ensures topology { core.new.topology ≡ core.old.topology }
     ensures holds { Holds core.new }
