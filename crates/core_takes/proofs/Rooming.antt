@@ -136,7 +136,7 @@ batch_room core new s u b x allowed many spare places settled producers contents
         → taken_size core.topology (Take s u 1 ∷ core.journal.steps) t ≤ room_at core.ends.items t
     of_stage t role out true is =
         let at : s ≡ t = sym (same_stage-true t s is) in
-        subst (λ (v : Vec (Vec Outcome Global) Global). taken_size core.topology (Take s u 1 ∷ core.journal.steps) v ≤ room_at core.ends.items v) at (omega (arith, size, room))
+        subst (λ v. taken_size core.topology (Take s u 1 ∷ core.journal.steps) v ≤ room_at core.ends.items v) at (omega (arith, size, room))
     of_stage t role out false other = ends_kept core (Take s u 1) t x role (ap (λ c. c && true) other) out
 
 -- Where lists and queues have more room, the core stands as it did

@@ -7,20 +7,20 @@ ghost use Rattle.pipe_model.specs.Jobs.{take_step, may_take_next, with_step};
 ghost use Rattle.pipe_model.specs.Flow.{inbox, units_on, has_batchers_in, batch as batch_as};
 ghost use Rattle.pipe_model.specs.Legal.{has_role, is_batch_processor_role, is_processor_role, first_unit};
 ghost use Rattle.pipe_model.specs.Work.{chunk_of};
-ghost use Rattle.pipe_model.specs.Taken.{first_key, closed_as, IsBatch, IsTaken};
+ghost use Rattle.pipe_model.specs.Taken.{first_key, IsBatch, IsTaken};
 ghost use Rattle.core_tables.specs.Tables.{queue_at, list_at, room_at, spare_at};
 ghost use Rattle.core_state.specs.Stands.{Stands, Holds};
-ghost use Rattle.core_laws.specs.Columns.{sub_first, closed_numbers};
+ghost use Rattle.core_laws.specs.Columns.{sub_first};
 ghost use Rattle.core_takes.specs.Takes.{most_of, IsChunk};
 
 use crate::answers::has_batchers;
-use crate::batch_takes::start_batch;
+use crate::batch_takes::{make_batch_ready, start_batch};
 use crate::contents::{copies_of, copy_bytes};
 use crate::replies::make_room_behind;
 use crate::starts::start;
 use core_state::{Core, MOST_DUE};
 use pipe_types::bytes::Bytes;
-use pipe_types::message::{Batch, Message, MessageList, Outcome};
+use pipe_types::message::{Batch, Message, MessageList};
 use pipe_types::numbers::{BatchNo, StageNo, SubNo};
 use pipe_types::topology::{Role, Topology};
 use std::alloc::{AllocError, Global};
@@ -236,51 +236,6 @@ fn make_queue_ready(core: &mut Core, stage: StageNo, most: u32) -> Result<(), Al
 {
     let passes_on = has_batchers(&core.topology, stage);
     make_room_behind(&mut core.waiting, stage, passes_on, most as usize)
-}
-
-/// Makes room for the step and those that may be due then, and for an outcome of each message of the batch. The core stands
-/// as it did.
-fn make_batch_ready(core: &mut Core, stage: StageNo, no: u32) -> Result<(), AllocError>
-    requires stands { Stands core.old }
-    requires within { stage.0 ≤ length core.old.topology.stages }
-    requires closed { is_some (batch_as core.old.topology core.old.journal.steps no) ≡ true }
-    ensures ends { OnOk result (length (closed_numbers (closed_as core.new.topology core.new.journal.steps no)) ≤ room_at core.new.ends.items stage) }
-    ensures spare { OnOk result (1089 ≤ core.new.journal.spare) }
-    ensures unchanged { core.new.journal.steps ≡ core.old.journal.steps }
-    ensures topology { core.new.topology ≡ core.old.topology }
-    ensures stands { Stands core.new }
-{
-    make_ends_ready(core, stage, no)?;
-    core.journal.reserve(MOST_DUE + 1)
-}
-
-/// Makes room for an outcome of each message of the batch. The core stands as it did.
-fn make_ends_ready(core: &mut Core, stage: StageNo, no: u32) -> Result<(), AllocError>
-    requires stands { Stands core.old }
-    requires within { stage.0 ≤ length core.old.topology.stages }
-    requires closed { is_some (batch_as core.old.topology core.old.journal.steps no) ≡ true }
-    ensures ends { OnOk result (length (closed_numbers (closed_as core.new.topology core.new.journal.steps no)) ≤ room_at core.new.ends.items stage) }
-    ensures unchanged { core.new.journal.steps ≡ core.old.journal.steps }
-    ensures topology { core.new.topology ≡ core.old.topology }
-    ensures stands { Stands core.new }
-{
-    let count = core.batches[no as usize - 1].numbers.len();
-    make_ends_room(&mut core.ends, stage, count)
-}
-
-/// Makes room for so many outcomes in the stage's list.
-fn make_ends_room(
-    ends: &mut Vec<Vec<Outcome>>,
-    stage: StageNo,
-    count: usize,
-) -> Result<(), AllocError>
-    requires { stage.0 < length ends.old.items }
-    ensures len { length ends.new.items ≡ length ends.old.items }
-    ensures room { OnOk result (count ≤ room_at ends.new.items stage) }
-    ensures rooms { (s : Stage) → room_at ends.old.items s ≤ room_at ends.new.items s }
-{
-    let list = &mut ends[stage.0 as usize];
-    list.reserve(count)
 }
 
 /// Makes room for so many units more in the stage's chunk. The chunks hold what they held.

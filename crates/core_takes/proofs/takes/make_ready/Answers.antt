@@ -3,3 +3,6 @@ use Rattle.core_takes.proofs.takes.make_ready.Goals as goal
 
 pub returns-clause-stands : goal.returns-clause-stands
 returns-clause-stands c = still_stands c.make_queue_ready.new.core c.reserve.new.self c.make_queue_ready.ensures.stands c.reserve.ensures.same_steps c.reserve.ensures.spare
+
+pub returns-clause-spare : goal.returns-clause-spare
+returns-clause-spare c = c.reserve.ensures.room
