@@ -12,9 +12,8 @@ use Rattle.pipe_types.specs.declared.message.Outcome.{Outcome}
 use Rattle.pipe_types.specs.declared.message.BatchEnd.{BatchEnd}
 use Rattle.pipe_types.specs.declared.message.BatchEnd.TheVariants.{Outcomes}
 use Rattle.pipe_types.specs.declared.step.Step.TheVariants.{Wrote}
-use Rattle.pipe_types.specs.Numbers.{post, same_stage, same_post}
+use Rattle.pipe_types.specs.Numbers.{post, same_stage}
 use Rattle.pipe_types.specs.Stages.{spec_of}
-use Rattle.pipe_model.specs.History.{History}
 use Rattle.pipe_model.specs.Batches.{Leg}
 use Rattle.pipe_model.specs.Posts.{is_out}
 use Rattle.pipe_model.specs.Flow.{has_batchers_in, first_in}

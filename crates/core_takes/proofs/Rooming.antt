@@ -30,7 +30,7 @@ use Rattle.core_laws.proofs.Due.{answer_due}
 use Rattle.core_state.specs.declared.state.Core.{Core}
 use Rattle.core_state.specs.Room.{Roomy}
 use Rattle.core_state.specs.Stands.{Fields, Holds, Stands}
-use Rattle.core_state.proofs.Rooms.{room_due, room_after, rows_kept, same_rows, ends_kept}
+use Rattle.core_state.proofs.Rooms.{room_due, rows_kept, same_rows, ends_kept}
 use Rattle.core_takes.proofs.TakenBatch.{first_taken}
 
 pub if_other : {A : Type 0} (b : Bool) (x y : A) → b ≡ false → (if b then x else y) ≡ y

@@ -8,9 +8,7 @@ ghost use Rattle.pipe_model.specs.Legal.{allows};
 ghost use Rattle.core_state.specs.Stands.{Stands, Holds};
 ghost use Rattle.core_takes.specs.Replies.{parted, take_in};
 
-use crate::replies::{
-    answer_all, clear_chunk, count_taken, mark_all, note_all, queue_passed,
-};
+use crate::replies::{answer_all, clear_chunk, count_taken, mark_all, note_all, queue_passed};
 use core_state::Core;
 use core_tables::posts::come_home;
 use core_tables::rows::StageRow;

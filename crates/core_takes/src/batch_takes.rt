@@ -49,11 +49,7 @@ fn drop_first(inboxes: &mut Vec<VecDeque<(SubNo, u32)>>, stage: StageNo)
 
 /// Makes room for the step and those that may be due then, and for an outcome of each message of the batch. The core stands
 /// as it did.
-pub(crate) fn make_batch_ready(
-    core: &mut Core,
-    stage: StageNo,
-    no: u32,
-) -> Result<(), AllocError>
+pub(crate) fn make_batch_ready(core: &mut Core, stage: StageNo, no: u32) -> Result<(), AllocError>
     requires stands { Stands core.old }
     requires within { stage.0 ≤ length core.old.topology.stages }
     requires closed { is_some (batch_as core.old.topology core.old.journal.steps no) ≡ true }

@@ -67,11 +67,11 @@ outcomes_in-outcomes-requires-clause-room c =
     let end = c.args.end in
     let stands = c.requires.stands in
     λ os is.
-      (let within : s.0 < length core.stages.items = stage_found core s bytes end os stands c.requires.legal is in
-      let row = c.index-row.result.now in
-      let found : slice_get core.stages.items s.0 ≡ Some row = slice_get_read core.stages.items (length core.stages.items) s.0 row refl within c.index-row.ensures in
-      let h = answering core s bytes end os row c.unwrap.result stands c.requires.legal is found c.unwrap.ensures in
-      wrote_size core s bytes os c.unwrap.result.0 row.taken (leg_place c.unwrap.result.0 (sent_on core.topology core.journal.steps row.taken)) h.written.ms h.written.legs stands.holds h.written.is)
+    (let within : s.0 < length core.stages.items = stage_found core s bytes end os stands c.requires.legal is in
+    let row = c.index-row.result.now in
+    let found : slice_get core.stages.items s.0 ≡ Some row = slice_get_read core.stages.items (length core.stages.items) s.0 row refl within c.index-row.ensures in
+    let h = answering core s bytes end os row c.unwrap.result stands c.requires.legal is found c.unwrap.ensures in
+    wrote_size core s bytes os c.unwrap.result.0 row.taken (leg_place c.unwrap.result.0 (sent_on core.topology core.journal.steps row.taken)) h.written.ms h.written.legs stands.holds h.written.is)
 
 pub leg_of_batch-leg-requires-clause-there : goal.leg_of_batch-leg-requires-clause-there
 leg_of_batch-leg-requires-clause-there c =

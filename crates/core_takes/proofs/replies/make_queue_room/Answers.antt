@@ -1,7 +1,7 @@
 use Rattle.std.proofs.Common.{arith, ap}
 use Rattle.std.proofs.lemmas.Result.{on_ok_weaker}
-use Rattle.std.proofs.lemmas.List.{get-set_same}
 use Rattle.core_tables.specs.Tables.{spare_in}
+use Rattle.core_tables.proofs.Tables.{get-set_same}
 use Rattle.core_takes.proofs.replies.make_queue_room.Goals as goal
 
 pub returns-clause-room : goal.returns-clause-room

@@ -66,7 +66,7 @@ start_batch-requires-clause-first c =
     let unit : c.first_no-no.result ≡ first_unit (inbox core.topology core.journal.steps s) = c.first_no-no.ensures ∙ (ap (λ qs. first_unit (queue_at qs s)) c.deref-2.ensures.value ∙ ap first_unit (x.fields.inboxes s)) in
     unit
     ∙ sym (ap (λ (t : Topology). first_unit (inbox t c.make_batch_ready.new.core.journal.steps s)) c.make_batch_ready.ensures.topology
-      ∙ ap (λ (h : History). first_unit (inbox core.topology h s)) c.make_batch_ready.ensures.unchanged)
+    ∙ ap (λ (h : History). first_unit (inbox core.topology h s)) c.make_batch_ready.ensures.unchanged)
 
 pub returns-clause-appended : goal.returns-clause-appended
 returns-clause-appended c =
