@@ -1,5 +1,5 @@
 -- What was read of a line says what the lines from it on spell.
-use Rattle.std.proofs.Common.{◌≡◌, ◌≢◌, ℕ, Bool, true, false, cond, List, [], ◌∷◌, length, Option, Some, None, Result, Ok, Err, refl, ap, sym, ◌∙◌}
+use Rattle.std.proofs.Common.{◌≡◌, ◌≢◌, ℕ, Bool, true, false, cond, List, [], ◌∷◌, length, Result, Ok, Err, refl, ap, sym, ◌∙◌}
 use Rattle.std.specs.Prelude.{◌&&◌, IfOk, IfErr}
 use Rattle.pipe_types.specs.declared.step.Step.{Step}
 use Rattle.pipe_types.specs.declared.topology.Topology.{Topology}
@@ -125,8 +125,7 @@ pub refused_taken : (run : RunSeen) (seen left : History) (step : Step) (allowed
     → left ≡ seen → seen ≡ run.steps → allowed ≡ allows run.topology run.steps step → allowed ≡ false → IfOk result (λ progress. (steps_in progress ≡ step ∷ run.steps) × IsOf run.topology progress)
 refused_taken run seen left step allowed (Err e) taken one two told no = tt
 refused_taken run seen left step allowed (Ok progress) taken one two told no =
-    let same : left ≡ run.steps = one ∙ two in
-    (
+    let same : left ≡ run.steps = one ∙ two in (
       taken.0 ∙ ap (λ (h : History). step ∷ h) same,
       taken.1 run.topology (ap (λ (h : History). is_legal run.topology (step ∷ h)) same ∙ not_legal (is_legal run.topology run.steps) (allows run.topology run.steps step) (sym told ∙ no)),
     )

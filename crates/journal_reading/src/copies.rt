@@ -27,10 +27,7 @@ fn copy_control(alloc: Global, control: &Option<Text>) -> Result<Option<Text>, A
     ensures { IfOk result (λ copied. copied ≡ control.now) }
 {
     match control {
-        Some(name) => Ok(Some(Text::from_string(String::from_str(
-            alloc,
-            name.as_str(),
-        )?))),
+        Some(name) => Ok(Some(Text::from_string(String::from_str(alloc, name.as_str())?))),
         None => Ok(None),
     }
 }

@@ -68,11 +68,7 @@ fn read_end(behind: Option<&[u8]>, steps: u64) -> LineRead
 }
 
 /// The line of a step.
-fn read_known(
-    alloc: Global,
-    run: Option<&PlainRun>,
-    line: &[u8],
-) -> Result<LineRead, AllocError>
+fn read_known(alloc: Global, run: Option<&PlainRun>, line: &[u8]) -> Result<LineRead, AllocError>
     ensures { IfOk result (λ read. read ≡ read_as (step_or_fault (step_in (jobs_of run.entry) line.now))) }
 {
     match read_line(alloc, &Known { run }, line) {

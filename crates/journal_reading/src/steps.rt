@@ -57,6 +57,7 @@ fn read_one(alloc: Global, progress: Progress, line: &[u8]) -> Result<Next, Jour
 }
 
 /// Reads the lines behind the first, up to the end line or the first bad one.
+#[tactic(auto, using(crate::proofs::Reading::same_on, crate::proofs::Reading::done_on, crate::proofs::Reading::bad_on, crate::proofs::Reading::none_on))]
 fn read_lines(alloc: Global, run: PlainRun, text: &[u8]) -> Result<Journal, JournalRefusal>
     requires fresh { run.steps ≡ [] }
     ensures { Answers result (lines_in unjudged run.topology [] (lines_of text.now)) }
@@ -107,11 +108,7 @@ pub fn read_steps(
 }
 
 /// The same, said once.
-fn read_text(
-    alloc: Global,
-    topology: &Topology,
-    bytes: &[u8],
-) -> Result<Journal, JournalRefusal>
+fn read_text(alloc: Global, topology: &Topology, bytes: &[u8]) -> Result<Journal, JournalRefusal>
     requires sound { IsSound topology.now }
     ensures { Answers result (text_in unjudged topology.now bytes.now) }
 {

@@ -1,6 +1,6 @@
 -- No message has a key or a payload that is too long.
-use Rattle.std.proofs.Common.{◌≡◌, ℕ, zero, suc, ◌+◌, ◌-◌, ◌≤◌, Bool, true, false, List, [], ◌∷◌, length, refl, ap, sym, ◌∙◌, Option, Some, None, arith}
-use Rattle.std.specs.Prelude.{if◌then◌else◌, nat_lt, nat_le, ◌==◌, ◌&&◌, slice_get}
+use Rattle.std.proofs.Common.{◌≡◌, ℕ, zero, suc, ◌+◌, ◌-◌, ◌≤◌, Bool, true, false, List, [], ◌∷◌, length, refl, Option, Some, None, arith}
+use Rattle.std.specs.Prelude.{if◌then◌else◌, nat_lt, nat_le, ◌==◌, slice_get}
 use Rattle.std.specs.List.{list_all}
 use Rattle.std.proofs.lemmas.Bool.{leb-true}
 use Rattle.pipe_types.specs.declared.numbers.StageNo.{StageNo}
@@ -8,7 +8,6 @@ use Rattle.pipe_types.specs.declared.message.Message.{Message}
 use Rattle.pipe_types.specs.declared.message.Reply.{Reply}
 use Rattle.pipe_types.specs.declared.message.Reply.TheVariants.{Pass, Failed, Raised, Crashed}
 use Rattle.pipe_types.specs.declared.step.LateAnswer.TheVariants.{Records}
-use Rattle.pipe_types.specs.declared.step.Step.{Step}
 use Rattle.pipe_types.specs.declared.step.Step.TheVariants.{Accept, Done, Late}
 use Rattle.pipe_types.specs.declared.topology.Topology.{Topology}
 use Rattle.pipe_types.specs.Lines.{max_bytes}
@@ -21,7 +20,7 @@ use Rattle.pipe_model.specs.Legal.{is_legal, allows, are_records, fetch_out, has
 use Rattle.pipe_model.specs.Lives.{is_live}
 use Rattle.pipe_laws.proofs.Tests.{and_left, and_right}
 use Rattle.pipe_laws.proofs.Allowed.{legal_before, legal_step, unowed, done_facts, late_facts}
-use Rattle.reading_laws.proofs.Passing.{IsShortMessage, AreShort, PassesAs, PassAsThere, replies_pass}
+use Rattle.reading_laws.proofs.Passing.{IsShortMessage, AreShort, PassAsThere, replies_pass}
 
 abbrev pub IsShortIn : Option Message → Type 0
 IsShortIn None = Unit {0}

@@ -1,8 +1,7 @@
 -- What is read is the text of what is answered.
-use Rattle.std.proofs.Common.{◌≡◌, ℕ, Bool, true, false, cond, List, [], ◌∷◌, ◌++◌, length, reverse, Option, Some, None, Result, Ok, Err, refl, ap, sym, ◌∙◌, subst, append_assoc}
+use Rattle.std.proofs.Common.{◌≡◌, ℕ, Bool, true, false, cond, List, [], ◌∷◌, ◌++◌, length, reverse, Option, Some, None, Result, Ok, Err, refl, ap, sym, ◌∙◌, append_assoc}
 use Rattle.std.specs.Prelude.{decimal, codes, if◌then◌else◌, ◌==◌, bytes_eq}
-use Rattle.std.specs.List.{flat_map, slice_split, onto_first}
-use Rattle.std.specs.Str.{join_with_byte}
+use Rattle.std.specs.List.{flat_map, slice_split, onto_first, join_with_byte}
 use Rattle.std.proofs.lemmas.Bool.{eqb-true}
 use Rattle.std.proofs.lemmas.List.{append-nil, reverse-append, length-reverse}
 use Rattle.std.proofs.lemmas.List.Concat.{flat_map-append}
@@ -17,7 +16,7 @@ use Rattle.line_reading.specs.Reading.{is_at}
 use Rattle.line_reading.specs.Lines.{Jobs, step_in}
 use Rattle.line_reading.proofs.Back.{step_spelt}
 use Rattle.journal_texts.specs.Words.{lf}
-use Rattle.journal_texts.specs.Steps.{step_text, step_line, journal_text}
+use Rattle.journal_texts.specs.Steps.{step_text, step_line}
 use Rattle.reading_laws.specs.Text.{LineSpelt, StepLine, EndLine, BadEnd, BadStep, step_or_fault, end_in, spelt_by, line_in, but_last, lines_of, Causes, jobs_after, line_after, bad_line, unless_bad, on_line, lines_in, header, after_header, text_in, IsTextOf}
 use Rattle.reading_laws.proofs.Texts.{split_some, end_line, whole_text}
 
@@ -26,13 +25,13 @@ use Rattle.reading_laws.proofs.Texts.{split_some, end_line, whole_text}
 -- what the first line of a text says of the text
 record IsFirstLine (text line : List ℕ) (lines : List (List ℕ)) : Type 0 where
   rest : List ℕ
-  text : text ≡ line ++ 10 ∷ rest
-  lines : lines_of rest ≡ lines
+  whole : text ≡ line ++ 10 ∷ rest
+  behind : lines_of rest ≡ lines
 
 record IsFirstPart (text part next : List ℕ) (parts : List (List ℕ)) : Type 0 where
   rest : List ℕ
-  text : text ≡ part ++ 10 ∷ rest
-  parts : slice_split (is_at 10) rest ≡ next ∷ parts
+  whole : text ≡ part ++ 10 ∷ rest
+  behind : slice_split (is_at 10) rest ≡ next ∷ parts
 
 head_is : {A : Type 0} (x y : A) (xs ys : List A) → x ∷ xs ≡ y ∷ ys → x ≡ y
 head_is x y xs ys e = cc
@@ -49,7 +48,7 @@ first_part (b ∷ bs) part next parts e = by (b == 10) refl e (λ q k. first_par
         let front : b ∷ p ≡ part = head_is (b ∷ p) part ps (next ∷ parts) e in
         let back : ps ≡ next ∷ parts = tail_is (b ∷ p) part ps (next ∷ parts) e in
         let one = more p (split ∙ ap (λ (xs : List (List ℕ)). p ∷ xs) back) in
-        record { rest = one.rest; text = ap (λ (xs : List ℕ). b ∷ xs) one.text ∙ ap (λ (xs : List ℕ). xs ++ 10 ∷ one.rest) front; parts = one.parts }
+        record { rest = one.rest; whole = ap (λ (xs : List ℕ). b ∷ xs) one.whole ∙ ap (λ (xs : List ℕ). xs ++ 10 ∷ one.rest) front; behind = one.behind }
 
     by : (t : Bool) → (b == 10) ≡ t → cond t ([] ∷ slice_split (is_at 10) bs) (onto_first b (slice_split (is_at 10) bs)) ≡ part ∷ next ∷ parts
         → ((q : List ℕ) → slice_split (is_at 10) bs ≡ q ∷ next ∷ parts → IsFirstPart bs q next parts) → IsFirstPart (b ∷ bs) part next parts
@@ -57,8 +56,8 @@ first_part (b ∷ bs) part next parts e = by (b == 10) refl e (λ q k. first_par
         let front : [] ≡ part = head_is [] part (slice_split (is_at 10) bs) (next ∷ parts) e in
         record {
           rest = bs;
-          text = ap (λ (c : ℕ). c ∷ bs) (eqb-true b 10 is) ∙ ap (λ (xs : List ℕ). xs ++ 10 ∷ bs) front;
-          parts = tail_is [] part (slice_split (is_at 10) bs) (next ∷ parts) e;
+          whole = ap (λ (c : ℕ). c ∷ bs) (eqb-true b 10 is) ∙ ap (λ (xs : List ℕ). xs ++ 10 ∷ bs) front;
+          behind = tail_is [] part (slice_split (is_at 10) bs) (next ∷ parts) e;
         }
     by false is e more =
         let some = split_some (is_at 10) bs in
@@ -75,8 +74,8 @@ first_of text line lines e = by (slice_split (is_at 10) text) refl e
         let front : p ≡ line = head_is p line (but_last (q ∷ parts)) lines e in
         record {
           rest = one.rest;
-          text = one.text ∙ ap (λ (xs : List ℕ). xs ++ 10 ∷ one.rest) front;
-          lines = ap but_last one.parts ∙ tail_is p line (but_last (q ∷ parts)) lines e;
+          whole = one.whole ∙ ap (λ (xs : List ℕ). xs ++ 10 ∷ one.rest) front;
+          behind = ap but_last one.behind ∙ tail_is p line (but_last (q ∷ parts)) lines e;
         }
 
 -- ---- one line
@@ -154,7 +153,7 @@ turned step before rest =
 lines_found : {C : Type 0} (causes : Causes C) (topology : Topology) (lines : List (List ℕ)) (before : History) (rest : List ℕ) (journal : History) → lines_of rest ≡ lines → lines_in causes topology before lines ≡ Ok journal → IsTextFrom before journal rest
 lines_found causes topology [] before rest journal split e = absurd cc
 lines_found {C} causes topology (line ∷ lines) before rest journal split e =
-    by (line_in (jobs_after topology before) (length before) line) refl e (λ step text. lines_found causes topology lines (step ∷ before) (first_of rest line lines split).rest journal (first_of rest line lines split).lines text)
+    by (line_in (jobs_after topology before) (length before) line) refl e (λ step text. lines_found causes topology lines (step ∷ before) (first_of rest line lines split).rest journal (first_of rest line lines split).behind text)
   where
     first : IsFirstLine rest line lines
     first = first_of rest line lines split
@@ -168,7 +167,7 @@ lines_found {C} causes topology (line ∷ lines) before rest journal split e =
         → ((step : Step) → lines_in causes topology (step ∷ before) lines ≡ Ok journal → IsTextFrom (step ∷ before) journal (first_of rest line lines split).rest) → IsTextFrom before journal rest
     by EndLine is e more =
         let same : before ≡ journal = cc in
-        let text : rest ≡ end_line (length before) ++ 10 ∷ first.rest = first.text ∙ ap (λ (xs : List ℕ). xs ++ 10 ∷ first.rest) (end_line_spells (jobs_after topology before) (length before) line is) in
+        let text : rest ≡ end_line (length before) ++ 10 ∷ first.rest = first.whole ∙ ap (λ (xs : List ℕ). xs ++ 10 ∷ first.rest) (end_line_spells (jobs_after topology before) (length before) line is) in
         record {
           behind = first.rest;
           text = ap (λ (xs : List ℕ). flat_map step_line (reverse before) ++ xs) text ∙ ap (λ (h : History). flat_map step_line (reverse h) ++ (end_line (length h) ++ 10 ∷ first.rest)) same;
@@ -177,7 +176,7 @@ lines_found {C} causes topology (line ∷ lines) before rest journal split e =
     by (BadStep f) is e more = absurd cc
     by (StepLine step) is e more =
         let one = more step (judged (causes.judge (is_legal topology (step ∷ before))) step e) in
-        let text : rest ≡ step_text step ++ 10 ∷ first.rest = first.text ∙ ap (λ (xs : List ℕ). xs ++ 10 ∷ first.rest) (step_line_spells (jobs_after topology before) (length before) line step is) in
+        let text : rest ≡ step_text step ++ 10 ∷ first.rest = first.whole ∙ ap (λ (xs : List ℕ). xs ++ 10 ∷ first.rest) (step_line_spells (jobs_after topology before) (length before) line step is) in
         record { behind = one.behind; text = ap (λ (xs : List ℕ). flat_map step_line (reverse before) ++ xs) text ∙ (sym (turned step before first.rest) ∙ one.text) }
 
 -- ---- the text
@@ -191,13 +190,13 @@ text_found {C} causes topology text journal e = by (lines_of text) refl e
     by_line line lines false is split e = absurd cc
     by_line line lines true is split e =
         let first = first_of text line lines split in
-        let found = lines_found causes topology lines [] first.rest journal first.lines e in
+        let found = lines_found causes topology lines [] first.rest journal first.behind e in
         let head : line ≡ header = (bytes_eq-Decides line header).0 is in
         let count : length (reverse journal) ≡ length journal = length-reverse journal in
         record {
           behind = found.behind;
-          text =
-              first.text
+          whole =
+              first.whole
               ∙ (ap (λ (xs : List ℕ). xs ++ 10 ∷ first.rest) head
               ∙ (ap (λ (xs : List ℕ). header ++ 10 ∷ xs) found.text
               ∙ (ap (λ (n : ℕ). header ++ 10 ∷ (flat_map step_line (reverse journal) ++ (end_line n ++ 10 ∷ found.behind))) (sym count)

@@ -1,6 +1,6 @@
 -- Each step of a legal journal can be spelt.
-use Rattle.std.proofs.Common.{◌≡◌, ℕ, suc, ◌+◌, ◌≤◌, Bool, true, false, List, [], ◌∷◌, length, refl, ap, sym, ◌∙◌, subst, Option, Some, None, arith}
-use Rattle.std.specs.Prelude.{if◌then◌else◌, ◌&&◌, not, slice_get, ◌||◌, is_some}
+use Rattle.std.proofs.Common.{◌≡◌, ℕ, suc, ◌+◌, Bool, true, false, List, [], ◌∷◌, refl, ap, sym, ◌∙◌, subst, Option, Some, None, arith}
+use Rattle.std.specs.Prelude.{if◌then◌else◌, slice_get, is_some}
 use Rattle.std.specs.Option.{option_to_list}
 use Rattle.pipe_types.specs.declared.numbers.Post.{Post}
 use Rattle.pipe_types.specs.declared.numbers.StageNo.{StageNo}
@@ -24,10 +24,10 @@ use Rattle.pipe_model.specs.History.{History}
 use Rattle.pipe_model.specs.Posts.{is_out, in_slot}
 use Rattle.pipe_model.specs.Content.{content}
 use Rattle.pipe_model.specs.Work.{taken_units, messages_of, count, chunk_of, child_of, batch_of, are_handled}
-use Rattle.pipe_model.specs.Legal.{is_legal, allows, has_role, is_processor_role, is_supervisor_role, is_batch_processor_role, takes_role, is_current, fetch_out, ends_batch, owed, passes, may_come, happened, is_halt, is_late, is_dispatch_of, is_crash_of, may_dispatch}
+use Rattle.pipe_model.specs.Legal.{is_legal, allows, has_role, is_processor_role, is_supervisor_role, is_batch_processor_role, takes_role, fetch_out, ends_batch}
 use Rattle.line_reading.specs.Lines.{Named}
-use Rattle.line_reading.specs.Spelling.{Each, EachFrom, IsRecord, IsReply, IsReplyAt, IsLimited, IsOutcome, AreItems, IsEnd, IsAnswer, IsKillWhy, IsSpelt}
-use Rattle.pipe_laws.proofs.Tests.{clash, and_left, and_right}
+use Rattle.line_reading.specs.Spelling.{Each, EachFrom, IsRecord, IsReply, IsReplyAt, IsOutcome, AreItems, IsEnd, IsAnswer, IsKillWhy, IsSpelt}
+use Rattle.pipe_laws.proofs.Tests.{and_left, and_right}
 use Rattle.pipe_laws.proofs.Allowed.{legal_before, legal_step, unowed, take_facts, done_facts, wrote_facts, ChildEndFacts, child_end_facts, late_facts}
 use Rattle.pipe_laws.proofs.Busy.{two_roles, take_there}
 use Rattle.pipe_laws.proofs.Slots.{supervisor_processes}
@@ -202,9 +202,11 @@ legal_spelt topology before (Done s replies) h held = (held.0, done_spelt topolo
 legal_spelt topology before (Gather s m) h held = held
 legal_spelt topology before (Close s m trigger) h held = held
 legal_spelt topology before (Wrote s n end) h held =
-    let facts = wrote_facts topology before s n end (legal_step topology before (Wrote s n end) h) in
-    (held.0, held.1,
-    end_spelt topology before s n end (legal_before topology before (Wrote s n end) h) facts.role (and_left (is_out before (post s 0)) _ facts.current) facts.handled held.2)
+    let facts = wrote_facts topology before s n end (legal_step topology before (Wrote s n end) h) in (
+      held.0,
+      held.1,
+      end_spelt topology before s n end (legal_before topology before (Wrote s n end) h) facts.role (and_left (is_out before (post s 0)) _ facts.current) facts.handled held.2,
+    )
 legal_spelt topology before (Child s m slot) h held = held
 legal_spelt topology before (ChildEnd s slot reply) h held = (held.0, held.1, child_spelt topology before s slot reply h held.2)
 legal_spelt topology before (Kill s why) h held = (held, kill_spelt topology before s why (legal_step topology before (Kill s why) h))

@@ -1,8 +1,8 @@
 -- A message's producer is the one that took it in, so a unit of a job names its message.
 use Rattle.std.proofs.Common.{◌≡◌, ℕ, zero, suc, ◌+◌, ◌-◌, ◌<◌, ◌≤◌, Bool, true, false, List, [], ◌∷◌, length, refl, ap, sym, ◌∙◌, subst, Option, Some, None, arith, inl, inr}
-use Rattle.std.specs.Prelude.{if◌then◌else◌, nat_lt, nat_le, ◌==◌, ◌&&◌, slice_get, is_some, option_map, ◌⊎◌}
+use Rattle.std.specs.Prelude.{if◌then◌else◌, nat_lt, nat_le, ◌==◌, ◌&&◌, slice_get, is_some, option_map}
 use Rattle.std.proofs.lemmas.Bool.Decides.{nat_tests}
-use Rattle.std.proofs.lemmas.Bool.{cases_lt, eqb-true, lt-ltb, le-leb, ltb-true}
+use Rattle.std.proofs.lemmas.Bool.{cases_lt, eqb-true, le-leb, ltb-true}
 use Rattle.std.proofs.lemmas.Option.{slice_get_past}
 use Rattle.pipe_types.specs.declared.numbers.MsgNo.{MsgNo}
 use Rattle.pipe_types.specs.declared.numbers.StageNo.{StageNo}
@@ -10,7 +10,6 @@ use Rattle.pipe_types.specs.declared.message.Message.{Message}
 use Rattle.pipe_types.specs.declared.message.Reply.{Reply}
 use Rattle.pipe_types.specs.declared.message.Reply.TheVariants.{Pass, Failed, Raised, Crashed}
 use Rattle.pipe_types.specs.declared.step.LateAnswer.TheVariants.{Records}
-use Rattle.pipe_types.specs.declared.step.Step.{Step}
 use Rattle.pipe_types.specs.declared.step.Step.TheVariants.{Accept, Done, Late}
 use Rattle.pipe_types.specs.declared.topology.Topology.{Topology}
 use Rattle.pipe_types.specs.Numbers.{message_no}
@@ -23,7 +22,7 @@ use Rattle.pipe_laws.proofs.Allowed.{legal_before, legal_step, done_facts}
 use Rattle.pipe_laws.proofs.Contents.{content_no}
 use Rattle.pipe_laws.proofs.Lists.{Each}
 use Rattle.reading_laws.specs.Named.{with_producer}
-use Rattle.reading_laws.proofs.Passing.{PassesAs, PassAsThere, replies_pass}
+use Rattle.reading_laws.proofs.Passing.{PassAsThere, replies_pass}
 use Rattle.reading_laws.proofs.Contents.{job_short}
 
 -- the message, if there is one, has this producer

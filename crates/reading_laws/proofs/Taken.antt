@@ -1,11 +1,10 @@
 -- A job that is out has messages.
-use Rattle.std.proofs.Common.{◌≡◌, ℕ, zero, suc, ◌+◌, ◌≤◌, Bool, true, false, List, [], ◌∷◌, ◌++◌, length, map, take, refl, ap, sym, ◌∙◌, subst, Option, Some, None, arith}
+use Rattle.std.proofs.Common.{◌≡◌, ℕ, zero, suc, ◌+◌, ◌≤◌, Bool, true, false, List, [], ◌∷◌, length, map, take, refl, sym, ◌∙◌, subst, Option, Some, None, arith}
 use Rattle.std.specs.Prelude.{cond, if◌then◌else◌, ◌==◌, ◌&&◌, ◌||◌, not, is_some, bytes_eq, filter, option_map}
 use Rattle.std.proofs.lemmas.Bool.{eqb-true}
 use Rattle.pipe_types.specs.declared.numbers.StageNo.{StageNo}
 use Rattle.pipe_types.specs.declared.numbers.SubNo.{SubNo}
 use Rattle.pipe_types.specs.declared.message.Place.{Place}
-use Rattle.pipe_types.specs.declared.message.Place.TheVariants.{Gathered}
 use Rattle.pipe_types.specs.declared.message.Reply.{Reply}
 use Rattle.pipe_types.specs.declared.step.Step.{Step}
 use Rattle.pipe_types.specs.declared.step.Step.TheVariants.{Fetch, Take, Close, Child, Done}
@@ -20,10 +19,10 @@ use Rattle.pipe_model.specs.Batches.{Batch}
 use Rattle.pipe_model.specs.Content.{content, key_in, gathers}
 use Rattle.pipe_model.specs.Flow.{is_empty, place, batch, view_of, inbox, sent_to, units_on, closing, numbers_in, first_in, is_gathered_in}
 use Rattle.pipe_model.specs.Standing.{in_inbox}
-use Rattle.pipe_model.specs.Legal.{is_legal, has_role, takes_role, is_producer_role, is_processor_role, is_batch_processor_role, is_supervisor_role, is_current, chunk_size}
-use Rattle.pipe_model.specs.Posts.{is_out, puts_out, answers}
+use Rattle.pipe_model.specs.Legal.{is_legal, has_role, takes_role, is_producer_role, is_processor_role, is_batch_processor_role, is_supervisor_role}
+use Rattle.pipe_model.specs.Posts.{is_out, answers}
 use Rattle.pipe_model.specs.Taken.{Closed, closed_as}
-use Rattle.pipe_model.specs.Work.{taken_units, messages_of, chunk_of, batch_of}
+use Rattle.pipe_model.specs.Work.{taken_units, chunk_of, batch_of}
 use Rattle.pipe_laws.proofs.Tests.{clash, and_left, and_right, same_stage-true}
 use Rattle.pipe_laws.proofs.Lists.{Each, each_weaker, each_always, each_filter}
 use Rattle.pipe_laws.proofs.Chunks.{each_take}

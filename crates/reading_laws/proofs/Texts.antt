@@ -1,6 +1,6 @@
 -- The text of a legal journal spells that journal, whatever stands behind it.
-use Rattle.std.proofs.Common.{◌≡◌, ℕ, ◌+◌, Bool, true, false, List, [], ◌∷◌, ◌++◌, length, reverse, Option, Some, None, Result, Ok, Err, refl, ap, sym, ◌∙◌, subst, append_assoc, arith, lit<}
-use Rattle.std.specs.Prelude.{decimal, codes, if◌then◌else◌, ◌==◌, bytes_eq, cond}
+use Rattle.std.proofs.Common.{◌≡◌, ℕ, ◌+◌, Bool, true, false, List, [], ◌∷◌, ◌++◌, length, reverse, Option, None, Ok, Err, refl, ap, sym, ◌∙◌, subst, append_assoc, lit<}
+use Rattle.std.specs.Prelude.{decimal, codes, if◌then◌else◌, bytes_eq, cond}
 use Rattle.std.specs.List.{flat_map, slice_split, onto_first}
 use Rattle.std.proofs.lemmas.List.{append-nil, reverse-append, length-reverse}
 use Rattle.std.proofs.lemmas.List.Concat.{flat_map-append}
@@ -13,15 +13,15 @@ use Rattle.pipe_laws.proofs.Allowed.{legal_before}
 use Rattle.line_reading.specs.declared.fault.Fault.TheVariants.{Word}
 use Rattle.line_reading.specs.Reading.{is_at}
 use Rattle.line_reading.specs.Lines.{Jobs, by_first, rows, rows_of_numbers, rows_of_one, rows_of_words, rows_of_lists, step_in}
-use Rattle.line_reading.specs.Spelling.{Each, IsLong, IsSpelt}
+use Rattle.line_reading.specs.Spelling.{IsLong, IsSpelt}
 use Rattle.line_reading.proofs.Spelt.{Lacks, lacks, split_none, split_at, decimal_plain}
 use Rattle.line_reading.proofs.ItemsAgain.{long_small, plain_lacks}
 use Rattle.line_reading.proofs.Again.{step_again}
-use Rattle.journal_texts.specs.Words.{lf, words, number_word}
-use Rattle.journal_texts.specs.Steps.{step_text, step_line, text_of_steps, journal_text}
-use Rattle.reading_laws.specs.Fields.{IsHeld, AreHeld, IsCountable}
+use Rattle.journal_texts.specs.Words.{lf, words}
+use Rattle.journal_texts.specs.Steps.{step_text, step_line, journal_text}
+use Rattle.reading_laws.specs.Fields.{AreHeld, IsCountable}
 use Rattle.reading_laws.specs.Named.{named_at}
-use Rattle.reading_laws.specs.Text.{LineSpelt, StepLine, EndLine, BadEnd, BadStep, step_or_fault, end_in, spelt_by, line_in, but_last, lines_of, Causes, no_jobs, jobs_after, Bad, bad_line, line_after, unless_bad, on_line, lines_in, header, after_header, text_in}
+use Rattle.reading_laws.specs.Text.{LineSpelt, StepLine, EndLine, BadEnd, step_or_fault, end_in, spelt_by, line_in, but_last, lines_of, Causes, no_jobs, jobs_after, line_after, unless_bad, on_line, lines_in, header, after_header, text_in}
 use Rattle.reading_laws.proofs.Legal.{legal_spelt}
 use Rattle.reading_laws.proofs.Visible.{no_line_end, one_line, words_visible}
 

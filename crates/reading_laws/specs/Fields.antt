@@ -1,5 +1,5 @@
 -- Which steps the fields of a step can hold: numbers of their width, bytes that are bytes, reasons that are reasons.
-use Rattle.std.specs.Prelude.{ℕ, List, [], ◌∷◌, length}
+use Rattle.std.specs.Prelude.{ℕ, List, length}
 use Rattle.pipe_types.specs.declared.message.Reply.{Reply}
 use Rattle.pipe_types.specs.declared.message.Reply.TheVariants.{Pass, Failed, Raised, Crashed}
 use Rattle.pipe_types.specs.declared.message.Outcome.{Outcome}

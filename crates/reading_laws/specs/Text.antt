@@ -111,4 +111,4 @@ text_in causes topology text = after_header causes topology (lines_of text)
 -- the text is that of the journal, with nothing or anything behind its end line
 pub record IsTextOf (journal : History) (text : List ℕ) : Type 0 where
   pub behind : List ℕ
-  pub text : text ≡ journal_text journal ++ behind
+  pub whole : text ≡ journal_text journal ++ behind

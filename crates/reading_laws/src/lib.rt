@@ -5,18 +5,33 @@
 //! them.
 #![tactic(auto)]
 
-ghost use Rattle.std.specs.Prelude.{◌∷◌, IsTrue};
+ghost use Rattle.std.specs.Prelude.{◌≡◌, ℕ, List, ◌∷◌, ◌++◌, true, None, Ok, IsTrue};
 ghost use Rattle.pipe_types.specs.declared.step.Step.{Step};
 ghost use Rattle.pipe_types.specs.declared.topology.Topology.{Topology};
 ghost use Rattle.pipe_model.specs.History.{History};
 ghost use Rattle.pipe_model.specs.Legal.{is_legal};
+ghost use Rattle.journal_texts.specs.Steps.{journal_text};
+ghost use Rattle.line_reading.specs.declared.fault.Fault.{Fault};
 ghost use Rattle.line_reading.specs.Spelling.{IsSpelt};
 ghost use Rattle.reading_laws.specs.Named.{named_at};
-ghost use Rattle.reading_laws.specs.Fields.{IsHeld};
+ghost use Rattle.reading_laws.specs.Fields.{IsHeld, AreHeld, IsCountable};
+ghost use Rattle.reading_laws.specs.Text.{Causes, text_in, IsTextOf};
 
 /// Each step of a legal journal has a line that is read as that step.
 #[tactic(auto, using(crate::proofs::Legal::legal_spelt))]
 pub fn legal_steps_can_be_spelt()
     ensures { (topology : Topology) (before : History) (step : Step) →
         IsTrue (is_legal topology (step ∷ before)) → IsHeld step → IsSpelt (named_at topology before) step }
+{}
+
+/// The text of a legal journal spells that journal, whatever stands behind its end line, also to a reading that judges each step
+/// and finds a legal one good.
+pub fn texts_of_legal_journals_are_read()
+    ensures { (causes : Causes Fault) (topology : Topology) (journal : History) (behind : List ℕ) →
+        causes.judge true ≡ None → IsTrue (is_legal topology journal) → AreHeld journal → IsCountable journal → text_in causes topology (journal_text journal ++ behind) ≡ Ok journal }
+{}
+
+/// A text that spells a journal is the text of that journal, with nothing or anything behind its end line.
+pub fn read_texts_are_of_their_journals()
+    ensures { (causes : Causes Fault) (topology : Topology) (text : List ℕ) (journal : History) → text_in causes topology text ≡ Ok journal → IsTextOf journal text }
 {}

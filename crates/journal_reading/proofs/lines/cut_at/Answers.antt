@@ -1,4 +1,4 @@
-use Rattle.std.proofs.Common.{◌+◌, arith}
+use Rattle.std.proofs.Common.{◌+◌}
 use Rattle.std.proofs.lemmas.List.{take_rest}
 use Rattle.journal_reading.proofs.Cuts.{first_cut, no_cut}
 use Rattle.journal_reading.proofs.lines.cut_at.Goals as goal
