@@ -1,13 +1,19 @@
 -- What was read of a line says what the lines from it on spell.
-use Rattle.std.proofs.Common.{◌≡◌, ◌≢◌, ℕ, Bool, true, false, cond, List, [], ◌∷◌, length, Result, Ok, Err, refl, ap, sym, ◌∙◌}
-use Rattle.std.specs.Prelude.{◌&&◌, IfOk, IfErr}
+use Rattle.std.proofs.Common.{◌≡◌, ◌≢◌, ◌<◌, ◌^◌, lit<, ℕ, Bool, true, false, cond, List, [], ◌∷◌, length, Result, Ok, Err, refl, ap, sym, ◌∙◌}
+use Rattle.std.specs.Prelude.{◌&&◌, IfOk, IfErr, decimal, codes, bytes_eq}
+use Rattle.std.specs.List.{slice_split, join_with_byte}
+use Rattle.std.proofs.lemmas.List.Splits.{join_with_byte-slice_split}
+use Rattle.std.proofs.lemmas.Slice.Eq.{bytes_eq-Decides}
 use Rattle.pipe_types.specs.declared.step.Step.{Step}
 use Rattle.pipe_types.specs.declared.topology.Topology.{Topology}
 use Rattle.pipe_model.specs.History.{History}
 use Rattle.pipe_model.specs.Legal.{allows, is_legal}
-use Rattle.line_reading.specs.Lines.{Jobs}
+use Rattle.line_reading.specs.Reading.{is_at}
+use Rattle.line_reading.specs.Lines.{Jobs, step_in}
+use Rattle.line_reading.proofs.Spelt.{split_none, decimal_plain}
+use Rattle.line_reading.proofs.ItemsAgain.{plain_lacks}
 use Rattle.reading_laws.specs.Named.{named_at}
-use Rattle.reading_laws.specs.Text.{LineSpelt, StepLine, EndLine, BadEnd, BadStep, line_in, lines_of, no_jobs, jobs_after, line_after, Bad, bad_line, lines_in, text_in, IsTextOf}
+use Rattle.reading_laws.specs.Text.{LineSpelt, StepLine, EndLine, BadEnd, BadStep, step_or_fault, end_in, spelt_by, line_in, lines_of, no_jobs, jobs_after, line_after, Bad, bad_line, lines_in, text_in, IsTextOf}
 use Rattle.reading_laws.proofs.Texts.{lines_by}
 use Rattle.reading_laws.proofs.Found.{text_found}
 use Rattle.pipe_journal.specs.Recorded.{Recorded}
@@ -179,3 +185,43 @@ bad_on topology before line fault front rest more text first bad at so_far other
 pub none_on : (topology : Topology) (before : History) (line : ℕ) (rest text : List ℕ) → lines_of rest ≡ [] → line ≡ line_after before
     → lines_in unjudged topology before (lines_of rest) ≡ lines_in unjudged topology [] (lines_of text) → lines_in unjudged topology [] (lines_of text) ≡ Err (line, End)
 none_on topology before line rest text none at so_far = sym so_far ∙ (ap (lines_in unjudged topology before) none ∙ ap (λ (n : ℕ). bad_line n End) (sym at))
+
+-- ---- the end line
+
+pub end_found : (number : List ℕ) (steps : ℕ) (b : Bool) → steps < 2 ^ 64 → b ≡ bytes_eq number (decimal steps) → b ≡ true → read.End ≡ read_as (end_in steps (slice_split (is_at 32) number))
+end_found number steps b small told yes =
+    let same : bytes_eq number (decimal steps) ≡ true = sym told ∙ yes in
+    let text : number ≡ decimal steps = (bytes_eq-Decides number (decimal steps)).0 same in
+    let one : slice_split (is_at 32) number ≡ number ∷ [] =
+    ap (slice_split (is_at 32)) text ∙ (split_none 32 (decimal steps) (plain_lacks 32 (lit< tt) (decimal steps) (decimal_plain steps small)) ∙ ap (λ (x : List ℕ). x ∷ []) (sym text)) in
+    sym (ap (λ (ws : List (List ℕ)). read_as (end_in steps ws)) one ∙ ap (λ (c : Bool). read_as (cond c EndLine BadEnd)) same)
+
+pub end_other : (number : List ℕ) (steps : ℕ) (b : Bool) → b ≡ bytes_eq number (decimal steps) → b ≡ false → read.Bad End ≡ read_as (end_in steps (slice_split (is_at 32) number))
+end_other number steps b told no = by (slice_split (is_at 32) number) refl
+  where
+    by : (ws : List (List ℕ)) → slice_split (is_at 32) number ≡ ws → read.Bad End ≡ read_as (end_in steps ws)
+    by [] split = refl
+    by (w ∷ v ∷ ws) split = refl
+    by (w ∷ []) split =
+        let text : w ≡ number = ap (join_with_byte 32) (sym split) ∙ join_with_byte-slice_split 32 number in
+        let other : bytes_eq w (decimal steps) ≡ false = ap (λ (x : List ℕ). bytes_eq x (decimal steps)) text ∙ (sym told ∙ no) in
+        sym (ap (λ (c : Bool). read_as (cond c EndLine BadEnd)) other)
+
+-- a line whose first word is that of the end line
+pub end_word : (jobs : Jobs) (steps : ℕ) (line first : List ℕ) (others : List (List ℕ)) (b : Bool) (result : LineRead) → slice_split (is_at 32) line ≡ first ∷ others → b ≡ bytes_eq first (codes "end") → b ≡ true
+    → result ≡ read_as (end_in steps others) → result ≡ read_as (line_in jobs steps line)
+unfolding line_in
+end_word jobs steps line first others b result split told yes is =
+    is
+    ∙ sym (ap (λ (ws : List (List ℕ)). read_as (spelt_by jobs steps line ws)) split
+    ∙ ap (λ (c : Bool). read_as (cond c (end_in steps others) (step_or_fault (step_in jobs line)))) (sym told ∙ yes))
+
+-- and one whose first word is another
+pub other_word : (jobs : Jobs) (steps : ℕ) (line first : List ℕ) (others : List (List ℕ)) (b : Bool) (result : Result LineRead AllocError) → slice_split (is_at 32) line ≡ first ∷ others → b ≡ bytes_eq first (codes "end") → b ≡ false
+    → IfOk result (λ read. read ≡ read_as (step_or_fault (step_in jobs line))) → IfOk result (λ read. read ≡ read_as (line_in jobs steps line))
+unfolding line_in
+other_word jobs steps line first others b (Err e) split told no is = tt
+other_word jobs steps line first others b (Ok result) split told no is =
+    is
+    ∙ sym (ap (λ (ws : List (List ℕ)). read_as (spelt_by jobs steps line ws)) split
+    ∙ ap (λ (c : Bool). read_as (cond c (end_in steps others) (step_or_fault (step_in jobs line)))) (sym told ∙ no))

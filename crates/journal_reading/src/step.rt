@@ -57,13 +57,24 @@ fn is_number(text: &[u8], number: u64) -> bool
     is_same(text, buffer.format(number).as_bytes())
 }
 
+/// The end line, by what stands behind its first word and its space, where so many steps stand in front of it.
+fn read_count(number: &[u8], steps: u64) -> LineRead
+    ensures { result ≡ read_as (end_in steps (slice_split (is_at 32) number.now)) }
+{
+    if is_number(number, steps) {
+        LineRead::End
+    } else {
+        LineRead::Bad(JournalFault::End)
+    }
+}
+
 /// The end line, by what stands behind its first word, where so many steps stand in front of it.
 fn read_end(behind: Option<&[u8]>, steps: u64) -> LineRead
     ensures { result ≡ read_as (end_in steps (parts_in behind.entry)) }
 {
     match behind {
-        Some(number) if is_number(number, steps) => LineRead::End,
-        _ => LineRead::Bad(JournalFault::End),
+        Some(number) => read_count(number, steps),
+        None => LineRead::Bad(JournalFault::End),
     }
 }
 

@@ -58,11 +58,18 @@ fn read_one(alloc: Global, progress: Progress, line: &[u8]) -> Result<Next, Jour
 
 /// Reads the lines behind the first, up to the end line or the first bad one.
 #[tactic(auto, using(crate::proofs::Reading::same_on, crate::proofs::Reading::done_on, crate::proofs::Reading::bad_on, crate::proofs::Reading::none_on))]
-fn read_lines(alloc: Global, run: PlainRun, text: &[u8]) -> Result<Journal, JournalRefusal>
-    requires fresh { run.steps ≡ [] }
-    ensures { Answers result (lines_in unjudged run.topology [] (lines_of text.now)) }
+fn read_lines(
+    alloc: Global,
+    topology: &Topology,
+    fresh: Progress,
+    text: &[u8],
+) -> Result<Journal, JournalRefusal>
+    requires of { IsOf topology.now fresh }
+    requires fresh { steps_in fresh ≡ [] }
+    ensures { Answers result (lines_in unjudged topology.now [] (lines_of text.now)) }
 {
-    let mut progress = Progress::Legal(run);
+    let _topology = topology;
+    let mut progress = fresh;
     let mut rest = text;
     let mut line: u64 = 2;
     while let Some(cut) = first_line(rest) {
@@ -114,7 +121,7 @@ fn read_text(alloc: Global, topology: &Topology, bytes: &[u8]) -> Result<Journal
 {
     match first_line(bytes) {
         Some(cut) if is_same(cut.front, b"journal 1") => match begin(alloc, topology) {
-            Ok(run) => read_lines(alloc, run, cut.rest),
+            Ok(run) => read_lines(alloc, topology, Progress::Legal(run), cut.rest),
             Err(_) => Err(refused(1, JournalFault::OutOfMemory)),
         },
         _ => Err(refused(1, JournalFault::Header)),

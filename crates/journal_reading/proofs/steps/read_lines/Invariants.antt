@@ -7,8 +7,8 @@ use Rattle.journal_reading.proofs.steps.read_lines.Given as goal
 -- the steps so far, and the text that is left
 abbrev pub invariant-loop-cut : goal.invariant-loop-cut
 invariant-loop-cut l = record {
-  of : IsOf l.initial.run.topology l.progress;
-  same : lines_in unjudged l.initial.run.topology (steps_in l.progress) (lines_of l.rest) ≡ lines_in unjudged l.initial.run.topology [] (lines_of l.text);
+  of : IsOf l.topology l.progress;
+  same : lines_in unjudged l.topology (steps_in l.progress) (lines_of l.rest) ≡ lines_in unjudged l.topology [] (lines_of l.text);
   line : l.line ≡ line_after (steps_in l.progress);
   room : l.line + length l.rest ≤ 2 + length l.text;
 }
