@@ -1,5 +1,5 @@
 -- What was read of a line says what the lines from it on spell.
-use Rattle.std.proofs.Common.{◌≡◌, ◌≢◌, ◌<◌, ◌^◌, lit<, ℕ, Bool, true, false, cond, List, [], ◌∷◌, length, Result, Ok, Err, refl, ap, sym, ◌∙◌}
+use Rattle.std.proofs.Common.{◌≡◌, ◌≢◌, ◌<◌, ◌^◌, lit<, ℕ, Bool, true, false, cond, List, [], ◌∷◌, length, Result, Ok, Err, refl, ap, sym, ◌∙◌, subst}
 use Rattle.std.specs.Prelude.{◌&&◌, IfOk, IfErr, decimal, codes, bytes_eq}
 use Rattle.std.specs.List.{slice_split, join_with_byte}
 use Rattle.std.proofs.lemmas.List.Splits.{join_with_byte-slice_split}
@@ -13,7 +13,7 @@ use Rattle.line_reading.specs.Lines.{Jobs, step_in}
 use Rattle.line_reading.proofs.Spelt.{split_none, decimal_plain}
 use Rattle.line_reading.proofs.ItemsAgain.{plain_lacks}
 use Rattle.reading_laws.specs.Named.{named_at}
-use Rattle.reading_laws.specs.Text.{LineSpelt, StepLine, EndLine, BadEnd, BadStep, step_or_fault, end_in, spelt_by, line_in, lines_of, no_jobs, jobs_after, line_after, Bad, bad_line, lines_in, text_in, IsTextOf}
+use Rattle.reading_laws.specs.Text.{LineSpelt, StepLine, EndLine, BadEnd, BadStep, step_or_fault, end_in, spelt_by, line_in, lines_of, no_jobs, jobs_after, line_after, Bad, bad_line, lines_in, header, after_header, text_in, IsTextOf}
 use Rattle.reading_laws.proofs.Texts.{lines_by}
 use Rattle.reading_laws.proofs.Found.{text_found}
 use Rattle.pipe_journal.specs.Recorded.{Recorded}
@@ -25,7 +25,10 @@ use Rattle.journal_reading.specs.declared.step.LineRead.{LineRead}
 use Rattle.journal_reading.specs.declared.step.LineRead.TheVariants as read
 use Rattle.journal_reading.specs.Faults.{unjudged}
 use Rattle.journal_reading.specs.declared.progress.Progress.{Progress}
-use Rattle.journal_reading.specs.OneLine.{GoesOn}
+use Rattle.journal_reading.specs.declared.progress.Progress.TheVariants.{Legal}
+use Rattle.journal_reading.specs.declared.steps.Next.{Next}
+use Rattle.journal_reading.specs.declared.steps.Next.TheVariants.{More, Done}
+use Rattle.journal_reading.specs.OneLine.{GoesOn, ReadsOne}
 use Rattle.journal_reading.specs.Reads.{read_as, Answers, steps_in, IsOf}
 use Rattle.std.specs.declared.alloc.AllocError.{AllocError}
 
@@ -129,11 +132,11 @@ illegal_taken steps after step e = (e, λ topology h. ap (is_legal topology) e �
 pub refused_taken : (run : RunSeen) (seen left : History) (step : Step) (allowed : Bool) (result : Result Progress AllocError)
     → IfOk result (λ progress. (steps_in progress ≡ step ∷ left) × ((topology : Topology) → is_legal topology (step ∷ left) ≡ false → IsOf topology progress))
     → left ≡ seen → seen ≡ run.steps → allowed ≡ allows run.topology run.steps step → allowed ≡ false → IfOk result (λ progress. (steps_in progress ≡ step ∷ run.steps) × IsOf run.topology progress)
-refused_taken run seen left step allowed (Err e) taken one two told no = tt
-refused_taken run seen left step allowed (Ok progress) taken one two told no =
+refused_taken run seen left step allowed (Err e) taken one two told fails = tt
+refused_taken run seen left step allowed (Ok progress) taken one two told fails =
     let same : left ≡ run.steps = one ∙ two in (
       taken.0 ∙ ap (λ (h : History). step ∷ h) same,
-      taken.1 run.topology (ap (λ (h : History). is_legal run.topology (step ∷ h)) same ∙ not_legal (is_legal run.topology run.steps) (allows run.topology run.steps step) (sym told ∙ no)),
+      taken.1 run.topology (ap (λ (h : History). is_legal run.topology (step ∷ h)) same ∙ not_legal (is_legal run.topology run.steps) (allows run.topology run.steps step) (sym told ∙ fails)),
     )
 
 -- a line that is a step
@@ -189,39 +192,86 @@ none_on topology before line rest text none at so_far = sym so_far ∙ (ap (line
 -- ---- the end line
 
 pub end_found : (number : List ℕ) (steps : ℕ) (b : Bool) → steps < 2 ^ 64 → b ≡ bytes_eq number (decimal steps) → b ≡ true → read.End ≡ read_as (end_in steps (slice_split (is_at 32) number))
-end_found number steps b small told yes =
-    let same : bytes_eq number (decimal steps) ≡ true = sym told ∙ yes in
+end_found number steps b small told holds =
+    let same : bytes_eq number (decimal steps) ≡ true = sym told ∙ holds in
     let text : number ≡ decimal steps = (bytes_eq-Decides number (decimal steps)).0 same in
     let one : slice_split (is_at 32) number ≡ number ∷ [] =
     ap (slice_split (is_at 32)) text ∙ (split_none 32 (decimal steps) (plain_lacks 32 (lit< tt) (decimal steps) (decimal_plain steps small)) ∙ ap (λ (x : List ℕ). x ∷ []) (sym text)) in
     sym (ap (λ (ws : List (List ℕ)). read_as (end_in steps ws)) one ∙ ap (λ (c : Bool). read_as (cond c EndLine BadEnd)) same)
 
 pub end_other : (number : List ℕ) (steps : ℕ) (b : Bool) → b ≡ bytes_eq number (decimal steps) → b ≡ false → read.Bad End ≡ read_as (end_in steps (slice_split (is_at 32) number))
-end_other number steps b told no = by (slice_split (is_at 32) number) refl
+end_other number steps b told fails = by (slice_split (is_at 32) number) refl
   where
     by : (ws : List (List ℕ)) → slice_split (is_at 32) number ≡ ws → read.Bad End ≡ read_as (end_in steps ws)
     by [] split = refl
     by (w ∷ v ∷ ws) split = refl
     by (w ∷ []) split =
         let text : w ≡ number = ap (join_with_byte 32) (sym split) ∙ join_with_byte-slice_split 32 number in
-        let other : bytes_eq w (decimal steps) ≡ false = ap (λ (x : List ℕ). bytes_eq x (decimal steps)) text ∙ (sym told ∙ no) in
+        let other : bytes_eq w (decimal steps) ≡ false = ap (λ (x : List ℕ). bytes_eq x (decimal steps)) text ∙ (sym told ∙ fails) in
         sym (ap (λ (c : Bool). read_as (cond c EndLine BadEnd)) other)
 
 -- a line whose first word is that of the end line
 pub end_word : (jobs : Jobs) (steps : ℕ) (line first : List ℕ) (others : List (List ℕ)) (b : Bool) (result : LineRead) → slice_split (is_at 32) line ≡ first ∷ others → b ≡ bytes_eq first (codes "end") → b ≡ true
     → result ≡ read_as (end_in steps others) → result ≡ read_as (line_in jobs steps line)
 unfolding line_in
-end_word jobs steps line first others b result split told yes is =
+end_word jobs steps line first others b result split told holds is =
     is
     ∙ sym (ap (λ (ws : List (List ℕ)). read_as (spelt_by jobs steps line ws)) split
-    ∙ ap (λ (c : Bool). read_as (cond c (end_in steps others) (step_or_fault (step_in jobs line)))) (sym told ∙ yes))
+    ∙ ap (λ (c : Bool). read_as (cond c (end_in steps others) (step_or_fault (step_in jobs line)))) (sym told ∙ holds))
 
 -- and one whose first word is another
 pub other_word : (jobs : Jobs) (steps : ℕ) (line first : List ℕ) (others : List (List ℕ)) (b : Bool) (result : Result LineRead AllocError) → slice_split (is_at 32) line ≡ first ∷ others → b ≡ bytes_eq first (codes "end") → b ≡ false
     → IfOk result (λ read. read ≡ read_as (step_or_fault (step_in jobs line))) → IfOk result (λ read. read ≡ read_as (line_in jobs steps line))
 unfolding line_in
-other_word jobs steps line first others b (Err e) split told no is = tt
-other_word jobs steps line first others b (Ok result) split told no is =
+other_word jobs steps line first others b (Err e) split told fails is = tt
+other_word jobs steps line first others b (Ok result) split told fails is =
     is
     ∙ sym (ap (λ (ws : List (List ℕ)). read_as (spelt_by jobs steps line ws)) split
-    ∙ ap (λ (c : Bool). read_as (cond c (end_in steps others) (step_or_fault (step_in jobs line)))) (sym told ∙ no))
+    ∙ ap (λ (c : Bool). read_as (cond c (end_in steps others) (step_or_fault (step_in jobs line)))) (sym told ∙ fails))
+
+-- ---- from the results of the calls
+
+abbrev ok_next : Next → Result Next JournalFault
+ok_next x = Ok x
+
+abbrev ok_read : LineRead → Result LineRead AllocError
+ok_read x = Ok x
+
+pub read_from : (result : Result LineRead AllocError) (field read spelt : LineRead) → result ≡ ok_read field → field ≡ read → IfOk result (λ x. x ≡ spelt) → read ≡ spelt
+read_from result field read spelt a b is = subst (λ (r : Result LineRead AllocError). IfOk r (λ x. x ≡ spelt)) (a ∙ ap ok_read b) is
+
+pub goes_from : (topology : Topology) (before : History) (line : List ℕ) (result : Result Next JournalFault) (field : Next) (next : Progress) → result ≡ ok_next field → field ≡ More next → ReadsOne topology before line result → GoesOn topology before line next
+goes_from topology before line result field next a b is = subst (ReadsOne topology before line) (a ∙ ap ok_next b) is
+
+pub done_from : (topology : Topology) (before : History) (line : List ℕ) (result : Result Next JournalFault) (field : Next) (journal : Recorded) → result ≡ ok_next field → field ≡ Done journal → ReadsOne topology before line result
+    → (lines : List (List ℕ)) → lines_in unjudged topology before (line ∷ lines) ≡ Ok journal.steps
+done_from topology before line result field journal a b is = subst (ReadsOne topology before line) (a ∙ ap ok_next b) is
+
+pub legal_next : (topology : Topology) (progress : Progress) (run : RunSeen) (seen : History) (steps : ℕ) (line : List ℕ) (result : Result LineRead AllocError) → progress ≡ Legal run
+    → IfOk result (λ read. read ≡ read_as (line_in (named_at run.topology run.steps) steps line)) → steps ≡ length seen → seen ≡ run.steps → is_legal run.topology run.steps ≡ true → IsOf topology progress
+    → IfOk result (λ read. read ≡ read_as (line_in (jobs_after topology (steps_in progress)) (length (steps_in progress)) line))
+legal_next topology progress run seen steps line result is read count same legal of =
+    subst (λ (p : Progress). IfOk result (λ read. read ≡ read_as (line_in (jobs_after topology (steps_in p)) (length (steps_in p)) line))) (sym is)
+    (legal_line topology run seen steps line result read count same legal (subst (IsOf topology) is of))
+
+-- ---- the header
+
+pub header_read : (topology : Topology) (front rest : List ℕ) (b : Bool) (result : Result Recorded JournalRefusal) → b ≡ bytes_eq front header → b ≡ true → Answers result (lines_in unjudged topology [] (lines_of rest))
+    → Answers result (after_header unjudged topology (front ∷ lines_of rest))
+header_read topology front rest b result told holds is =
+    subst (Answers result) (sym (ap (λ (c : Bool). cond c (lines_in unjudged topology [] (lines_of rest)) (bad_line 1 Header)) (sym told ∙ holds))) is
+
+pub header_bad : (topology : Topology) (front rest : List ℕ) (b : Bool) (line : ℕ) (fault : JournalFault) → b ≡ bytes_eq front header → b ≡ false → line ≡ 1 → fault ≡ Header
+    → after_header unjudged topology (front ∷ lines_of rest) ≡ bad_line line fault
+header_bad topology front rest b line fault told fails one is =
+    ap (λ (c : Bool). cond c (lines_in unjudged topology [] (lines_of rest)) (bad_line 1 Header)) (sym told ∙ fails)
+    ∙ (ap (λ (n : ℕ). bad_line n Header) (sym one) ∙ ap (bad_line line) (sym is))
+
+pub header_first : (topology : Topology) (bytes front rest : List ℕ) (result : Result Recorded JournalRefusal) → lines_of bytes ≡ front ∷ lines_of rest → Answers result (after_header unjudged topology (front ∷ lines_of rest))
+    → Answers result (text_in unjudged topology bytes)
+unfolding text_in
+header_first topology bytes front rest result first is = subst (Answers result) (ap (after_header unjudged topology) (sym first)) is
+
+pub header_none : (topology : Topology) (bytes : List ℕ) (line : ℕ) (fault : JournalFault) → lines_of bytes ≡ [] → line ≡ 1 → fault ≡ Header → text_in unjudged topology bytes ≡ bad_line line fault
+unfolding text_in
+header_none topology bytes line fault none one is = ap (after_header unjudged topology) none ∙ (ap (λ (n : ℕ). bad_line n Header) (sym one) ∙ ap (bad_line line) (sym is))

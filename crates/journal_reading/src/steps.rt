@@ -7,7 +7,7 @@ ghost use Rattle.pipe_model.specs.History.{History};
 ghost use Rattle.pipe_model.specs.Legal.{is_legal};
 ghost use Rattle.journal_texts.specs.Steps.{journal_text};
 ghost use Rattle.reading_laws.specs.Fields.{AreHeld, IsCountable};
-ghost use Rattle.reading_laws.specs.Text.{lines_of, lines_in, text_in, IsTextOf};
+ghost use Rattle.reading_laws.specs.Text.{lines_of, lines_in, after_header, text_in, IsTextOf};
 ghost use Rattle.journal_reading.specs.declared.fault.JournalFault.TheVariants.{OutOfMemory};
 ghost use Rattle.journal_reading.specs.Faults.{unjudged};
 ghost use Rattle.journal_reading.specs.Reads.{Answers, steps_in, IsOf};
@@ -41,7 +41,6 @@ fn refused(line: u64, fault: JournalFault) -> JournalRefusal
 }
 
 /// Reads one line.
-#[tactic(auto, using(crate::proofs::Reading::more_line, crate::proofs::Reading::last_line, crate::proofs::Reading::worst_line))]
 fn read_one(alloc: Global, progress: Progress, line: &[u8]) -> Result<Next, JournalFault>
     ensures { (topology : TopologyOf) → IsOf topology progress → ReadsOne topology (steps_in progress) line.now result }
 {
@@ -57,7 +56,7 @@ fn read_one(alloc: Global, progress: Progress, line: &[u8]) -> Result<Next, Jour
 }
 
 /// Reads the lines behind the first, up to the end line or the first bad one.
-#[tactic(auto, using(crate::proofs::Reading::same_on, crate::proofs::Reading::done_on, crate::proofs::Reading::bad_on, crate::proofs::Reading::none_on))]
+#[tactic(auto, using(crate::proofs::Reading::bad_on, crate::proofs::Reading::none_on))]
 fn read_lines(
     alloc: Global,
     topology: &Topology,
@@ -120,10 +119,35 @@ fn read_text(alloc: Global, topology: &Topology, bytes: &[u8]) -> Result<Journal
     ensures { Answers result (text_in unjudged topology.now bytes.now) }
 {
     match first_line(bytes) {
-        Some(cut) if is_same(cut.front, b"journal 1") => match begin(alloc, topology) {
-            Ok(run) => read_lines(alloc, topology, Progress::Legal(run), cut.rest),
-            Err(_) => Err(refused(1, JournalFault::OutOfMemory)),
-        },
-        _ => Err(refused(1, JournalFault::Header)),
+        Some(cut) => read_behind(alloc, topology, cut.front, cut.rest),
+        None => Err(refused(1, JournalFault::Header)),
+    }
+}
+
+/// Reads the lines behind this first one.
+fn read_behind(
+    alloc: Global,
+    topology: &Topology,
+    first: &[u8],
+    rest: &[u8],
+) -> Result<Journal, JournalRefusal>
+    requires sound { IsSound topology.now }
+    ensures { Answers result (after_header unjudged topology.now (first.now ∷ lines_of rest.now)) }
+{
+    if is_same(first, b"journal 1") {
+        read_body(alloc, topology, rest)
+    } else {
+        Err(refused(1, JournalFault::Header))
+    }
+}
+
+/// Reads the lines behind the header.
+fn read_body(alloc: Global, topology: &Topology, rest: &[u8]) -> Result<Journal, JournalRefusal>
+    requires sound { IsSound topology.now }
+    ensures { Answers result (lines_in unjudged topology.now [] (lines_of rest.now)) }
+{
+    match begin(alloc, topology) {
+        Ok(run) => read_lines(alloc, topology, Progress::Legal(run), rest),
+        Err(_) => Err(refused(1, JournalFault::OutOfMemory)),
     }
 }
