@@ -1,0 +1,63 @@
+-- The numbers of a job.
+use Rattle.std.proofs.Common.{◌≡◌, ℕ, zero, suc, ◌-◌, ◌≤◌, List, [], ◌∷◌, Bool, true, false, refl, ap, sym, ◌∙◌, Some, None, Option, arith, subst, All}
+use Rattle.std.specs.Prelude.{slice_get, option_map, option_to_list, if◌then◌else◌, ◌==◌}
+use Rattle.std.proofs.lemmas.Bool.Decides.{nat_tests}
+use Rattle.pipe_types.specs.declared.numbers.StageNo.{StageNo}
+use Rattle.pipe_types.specs.declared.numbers.MsgNo.{MsgNo}
+use Rattle.pipe_types.specs.declared.numbers.Post.{Post}
+use Rattle.pipe_types.specs.declared.topology.Topology.{Topology}
+use Rattle.pipe_types.specs.Numbers.{message_no, post}
+use Rattle.pipe_model.specs.History.{History}
+use Rattle.pipe_model.specs.Posts.{is_out, in_slot}
+use Rattle.pipe_model.specs.Content.{producer_of}
+use Rattle.pipe_model.specs.Work.{taken_units}
+use Rattle.pipe_model.specs.Legal.{is_legal, has_role, is_processor_role, is_supervisor_role}
+use Rattle.core_state.specs.declared.state.Core.{Core}
+use Rattle.core_state.specs.Stands.{Holds}
+use Rattle.plain_run.specs.declared.works.Works.{Works}
+use Rattle.plain_run.specs.Works.{WorksStand}
+use Rattle.plain_run.specs.Jobs.{job_units, named_at, with_producer}
+use Rattle.plain_run.proofs.Working.{started_low}
+
+all_some : (xs : List ℕ) (k n : ℕ) → All (λ m. 1 ≤ m) xs → slice_get xs k ≡ Some n → 1 ≤ n
+all_some [] k n all e = cc
+all_some (x ∷ xs) zero n all e =
+    let same : x ≡ n = cc in
+    subst (λ m. 1 ≤ m) same (all 0 0 (omega arith))
+all_some (x ∷ xs) (suc k) n all e = all_some xs k n (λ j d below. all (suc j) d (omega (arith, below))) e
+
+child_low : (o : Option ℕ) (k n : ℕ) → ((m : ℕ) → o ≡ Some m → 1 ≤ m) → slice_get (option_to_list o) k ≡ Some n → 1 ≤ n
+child_low None k n low e = cc
+child_low (Some m) zero n low e = let same : m ≡ n = cc in subst (λ i. 1 ≤ i) same (low m refl)
+child_low (Some m) (suc k) n low e = cc
+
+-- the numbers of a job are from 1
+pub unit_low : (core : Core) (works : Works) (p : Post) (k n : ℕ) → Holds core → WorksStand core.topology core.journal.steps works
+    → slice_get (job_units core.topology core.journal.steps p) k ≡ Some n → 1 ≤ n
+unit_low core works p k n x w e =
+    by (has_role core.topology p.stage is_processor_role) refl (has_role core.topology p.stage is_supervisor_role)
+    e
+  where
+    by : (b : Bool) → has_role core.topology p.stage is_processor_role ≡ b → (a : Bool)
+        → slice_get (if b then taken_units core.topology core.journal.steps p.stage else (if a then option_to_list (in_slot core.journal.steps p.stage p.slot) else [])) k ≡ Some n → 1 ≤ n
+    by true role a at = all_some (taken_units core.topology core.journal.steps p.stage) k n (w.least p.stage role) at
+    by false role true at =
+        child_low (in_slot core.journal.steps p.stage p.slot) k n (λ m own. started_low core.topology core.journal.steps p.stage p.slot m x.legal own) at
+    by false role false at = cc
+
+-- the producer in the table
+pub produced : (core : Core) (n : ℕ) → Holds core → 1 ≤ n → slice_get core.producers.items (n - 1) ≡ producer_of core.journal.steps n
+produced core zero x low = absurd (omega arith)
+produced core (suc i) x low =
+    let less : suc i - 1 ≡ i = omega arith in
+    ap (slice_get core.producers.items) less ∙ x.fields.producers i
+
+-- a child has one message
+pub one_child : (o : Option ℕ) (k : ℕ) (b : Bool) → (k == 0) ≡ b → (if b then o else None) ≡ slice_get (option_to_list o) k
+one_child None zero true e = refl
+one_child (Some m) zero true e = refl
+one_child o zero false e = let x : (0 == 0) ≡ true = refl in absurd (let y : true ≡ false = sym x ∙ e in cc)
+one_child None (suc k) true e = refl
+one_child (Some m) (suc k) true e = absurd (let x : (suc k == 0) ≡ false = grind (arith, nat_tests) in let y : false ≡ true = sym x ∙ e in cc)
+one_child None (suc k) false e = refl
+one_child (Some m) (suc k) false e = refl

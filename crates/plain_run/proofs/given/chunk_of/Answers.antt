@@ -1,0 +1,12 @@
+use Rattle.std.proofs.Common.{◌≤◌, ℕ, ◌∙◌, ap, sym, subst, All}
+use Rattle.pipe_model.specs.Work.{messages_of}
+use Rattle.core_tables.specs.Tables.{list_at}
+use Rattle.plain_run.proofs.given.chunk_of.Goals as goal
+
+pub copies_of-requires-clause-least : goal.copies_of-requires-clause-least
+copies_of-requires-clause-least c =
+    subst (All (λ (n : ℕ). 1 ≤ n)) (sym (c.taken_in.ensures ∙ (ap (λ rows. list_at rows c.args.stage) c.deref.ensures.value ∙ c.requires.works.taken c.args.stage))) (c.requires.works.least c.args.stage c.requires.processor)
+
+pub returns : goal.returns
+returns c =
+    c.in_ok-copies_of.ensures ∙ ap (messages_of c.args.core.now.journal.steps) (c.taken_in.ensures ∙ (ap (λ rows. list_at rows c.args.stage) c.deref.ensures.value ∙ c.requires.works.taken c.args.stage))
