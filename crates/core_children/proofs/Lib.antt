@@ -3,4 +3,5 @@ pub mod Fresh
 pub mod Next
 pub mod Changed
 pub mod Ended
+pub mod Rooming
 pub mod InSlot

@@ -7,7 +7,7 @@ ghost use Rattle.core_state.specs.Stands.{Stands, child_at};
 use crate::children::{first_sub, make_ready};
 use crate::starts::{start_again, start_at};
 use consumer_sup::Children;
-use core_state::Core;
+use core_state::{Core, MOST_DUE};
 use pipe_types::numbers::{MsgNo, StageNo};
 use pipe_types::step::Step;
 use std::alloc::AllocError;
@@ -28,7 +28,7 @@ pub fn child_start_in(
     ensures stands { Stands core.new }
 {
     if is_taken(&core.children, stage, slot) {
-        core.journal.reserve(1)?;
+        core.journal.reserve(MOST_DUE + 1)?;
         start_again(core, stage, slot, no);
         return Ok(());
     }

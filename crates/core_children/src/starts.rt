@@ -26,7 +26,7 @@ pub fn start_again(core: &mut Core, stage: StageNo, slot: u16, no: MsgNo)
     requires holds { Holds core.old }
     requires legal { IsTrue (allows core.old.topology core.old.journal.steps (Step.Child stage no slot)) }
     requires again { IsTrue (runs_number core.old.topology core.old.journal.steps stage (in_slot core.old.journal.steps stage slot)) }
-    requires spare { 1 ≤ core.old.journal.spare }
+    requires spare { 1089 ≤ core.old.journal.spare }
     ensures appended { core.new.journal.steps ≡ Step.Child stage no slot ∷ core.old.journal.steps }
     ensures topology { core.new.topology ≡ core.old.topology }
     ensures holds { Holds core.new }
@@ -64,7 +64,7 @@ pub fn start_first(core: &mut Core, stage: StageNo, sub: SubNo, no: MsgNo) -> u1
     requires free { alive (slots_at core.old.children.items stage) < length (slots_at core.old.children.items stage) }
     requires legal { (k : ℕ) → k < length (slots_at core.old.children.items stage) → child_at core.old.children.items stage k ≡ None → IsTrue (allows core.old.topology core.old.journal.steps (Step.Child stage no k)) }
     requires room { 1 ≤ room_at core.old.chunks.items stage }
-    requires spare { 1 ≤ core.old.journal.spare }
+    requires spare { 1089 ≤ core.old.journal.spare }
     ensures appended { core.new.journal.steps ≡ Step.Child stage no result ∷ core.old.journal.steps }
     ensures topology { core.new.topology ≡ core.old.topology }
     ensures holds { Holds core.new }
@@ -83,7 +83,7 @@ pub fn start_at(core: &mut Core, stage: StageNo, sub: SubNo, no: MsgNo, slot: u1
     requires free { child_at core.old.children.items stage slot ≡ None }
     requires legal { IsTrue (allows core.old.topology core.old.journal.steps (Step.Child stage no slot)) }
     requires room { 1 ≤ room_at core.old.chunks.items stage }
-    requires spare { 1 ≤ core.old.journal.spare }
+    requires spare { 1089 ≤ core.old.journal.spare }
     ensures appended { core.new.journal.steps ≡ Step.Child stage no slot ∷ core.old.journal.steps }
     ensures topology { core.new.topology ≡ core.old.topology }
     ensures holds { Holds core.new }

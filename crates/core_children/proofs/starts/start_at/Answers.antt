@@ -1,10 +1,15 @@
-use Rattle.std.proofs.Common.{ℕ, ◌∙◌, ap, refl, arith}
+use Rattle.std.proofs.Common.{ℕ, ◌∷◌, ◌++◌, take, ◌∙◌, ap, refl, arith}
 use Rattle.std.specs.Prelude.{slice_get, if◌then◌else◌, ◌==◌}
 use Rattle.pipe_types.specs.declared.step.Step.TheVariants.{Child}
+use Rattle.pipe_model.specs.Flow.{units_on}
+use Rattle.pipe_laws.proofs.Allowed.{child_facts}
 use Rattle.core_tables.specs.Rows.{post_at}
+use Rattle.core_tables.specs.Tables.{list_at, queue_at}
 use Rattle.core_takes.specs.Takes.{out_of}
 use Rattle.core_state.specs.declared.state.Core.{Core}
+use Rattle.core_state.proofs.Rooms.{room_due, room_after}
 use Rattle.core_state.proofs.Steps.{holds_after}
+use Rattle.core_children.proofs.Rooming.{child_queues}
 use Rattle.core_children.proofs.Starting.{started_fields}
 use Rattle.core_children.proofs.Fresh.{fresh_started, fresh_child, one_within}
 use Rattle.core_children.proofs.starts.start_at.Goals as goal
@@ -44,4 +49,8 @@ returns-clause-holds c =
     c.start_in.ensures.started c.start_in.ensures.len c.start_in.ensures.kept c.run_all.ensures.placed c.run_all.ensures.len in
     let fields =
     started_fields core core.topology core.journal.steps s m slot c.push_spare.new.self c.put_child_out.new.posts c.note_came.new.came c.start_chunk.new.inboxes c.start_chunk.new.chunks c.start_in.new.children c.run_all.new.places x.fields started in
-    holds_after core new (Child s m slot) x refl c.push_spare.ensures.written allowed fields
+    let room = room_after core new (Child s m slot) x allowed refl (room_due core (Child s m slot ∷ core.journal.steps) core.journal.spare c.push_spare.new.self.spare x c.requires.spare c.push_spare.ensures.spare)
+    c.run_all.ensures.capacity refl refl refl
+    (child_queues core s c.start_chunk.new.chunks.items (λ t. list_at core.chunks.items t ++ take 1 (units_on c.args.sub (queue_at core.inboxes.items t))) x (child_facts core.topology core.journal.steps s m slot allowed).role
+    c.start_chunk.ensures.chunks) refl in
+    holds_after core new (Child s m slot) x refl c.push_spare.ensures.written allowed fields room
