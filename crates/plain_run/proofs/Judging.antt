@@ -1,11 +1,9 @@
 -- A run after a step.
-use Rattle.std.proofs.Common.{◌≡◌, ◌∷◌, Bool, true, false, refl, ap, sym, ◌∙◌, Some, None, subst}
-use Rattle.std.specs.Prelude.{◌&&◌}
+use Rattle.std.proofs.Common.{◌≡◌, ◌∷◌, true, false, refl, Some, None, Option, subst}
+use Rattle.std.specs.Prelude.{is_some, unwrap_or}
 use Rattle.pipe_types.specs.declared.numbers.StageNo.{StageNo}
-use Rattle.pipe_types.specs.declared.topology.Topology.{Topology}
 use Rattle.pipe_types.specs.declared.step.Step.{Step}
-use Rattle.pipe_model.specs.History.{History}
-use Rattle.pipe_model.specs.Legal.{allows, owed}
+use Rattle.pipe_model.specs.Legal.{owed}
 use Rattle.core_state.specs.declared.state.Core.{Core}
 use Rattle.core_state.specs.Stands.{Holds, Stands}
 use Rattle.plain_run.specs.declared.works.Works.{Works}
@@ -35,3 +33,16 @@ pub run_accepted : (old new : Core) (works : Works) (s : StageNo) → IsRun new 
     → new.topology ≡ old.topology → new.journal.steps ≡ old.journal.steps → IsRun new works (Accept s)
 run_accepted old new works s run owes same steps =
     record { holds = run.holds; owes = owes_same old.topology new.topology old.journal.steps new.journal.steps s same steps owes; works = run.works }
+
+-- what was judged where no dispatch is owed
+pub run_next : (old new : Core) (works : Works) (s : StageNo) (o : Option After) → IsRun new works (unwrap_or o Free) → OwesDispatch old.topology old.journal.steps s
+    → new.topology ≡ old.topology → (is_some o ≡ false → new.journal.steps ≡ old.journal.steps) → IsRun new works (unwrap_or o (Accept s))
+run_next old new works s None run owes same steps = run_accepted old new works s run owes same (steps refl)
+run_next old new works s (Some after) run owes same steps = run
+
+-- a run whose last step owes nothing
+pub run_free : (core : Core) (works : Works) (after : After) → IsRun core works after → after ≡ Free → Stands core
+run_free core works after run e = record { holds = run.holds; unowed = subst (λ (a : After). Owes core.topology core.journal.steps a) e run.owes }
+
+pub run_owes : (core : Core) (works : Works) (after other : After) → IsRun core works after → after ≡ other → Owes core.topology core.journal.steps other
+run_owes core works after other run e = subst (λ (a : After). Owes core.topology core.journal.steps a) e run.owes

@@ -8,3 +8,4 @@ pub mod Crashing
 pub mod Beginning
 pub mod Judging
 pub mod Naming
+pub mod Legality

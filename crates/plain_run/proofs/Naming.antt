@@ -61,3 +61,14 @@ one_child None (suc k) true e = refl
 one_child (Some m) (suc k) true e = absurd (let x : (suc k == 0) ≡ false = grind (arith, nat_tests) in let y : false ≡ true = sym x ∙ e in cc)
 one_child None (suc k) false e = refl
 one_child (Some m) (suc k) false e = refl
+
+-- what is named
+pub named_some : (topology : Topology) (before : History) (p : Post) (at n : ℕ) → is_out before p ≡ true → slice_get (job_units topology before p) at ≡ Some n
+    → named_at topology before p at ≡ option_map (λ s. (message_no n, s)) (producer_of before n)
+named_some topology before p at n out e = ap (λ b. if b then with_producer before (slice_get (job_units topology before p) at) else None) out ∙ ap (with_producer before) e
+
+pub named_none : (topology : Topology) (before : History) (p : Post) (at : ℕ) → is_out before p ≡ true → slice_get (job_units topology before p) at ≡ None → named_at topology before p at ≡ None
+named_none topology before p at out e = ap (λ b. if b then with_producer before (slice_get (job_units topology before p) at) else None) out ∙ ap (with_producer before) e
+
+pub named_home : (topology : Topology) (before : History) (p : Post) (at : ℕ) → is_out before p ≡ false → named_at topology before p at ≡ None
+named_home topology before p at home = ap (λ b. if b then with_producer before (slice_get (job_units topology before p) at) else None) home

@@ -24,8 +24,10 @@ use Rattle.pipe_laws.proofs.Tests.{same_stage-self, same_stage-true}
 use Rattle.pipe_journal.specs.Recorded.{Recorded}
 use Rattle.core_tables.specs.Tables.{queue_at}
 use Rattle.core_state.specs.declared.state.Core.{Core}
-use Rattle.core_state.specs.Stands.{Fields, Holds, Stands}
+use Rattle.core_state.specs.Stands.{Fields, Holds}
+use Rattle.core_state.specs.Room.{Roomy}
 use Rattle.core_state.proofs.Steps.{same_fields}
+use Rattle.core_state.proofs.Rooms.{still_roomy}
 use Rattle.core_accepts.proofs.Owed.{live_then, messages_then}
 use Rattle.core_sends.proofs.Roomy.{roomy_fields}
 use Rattle.core_batches.specs.Writes.{IsAnswered}
@@ -33,18 +35,24 @@ use Rattle.plain_run.specs.Owes.{OwesDispatch, is_crash}
 
 -- ---- the core with more room
 
-pub still_holds : (core : Core) (j : Recorded) → Holds core → j.steps ≡ core.journal.steps → Holds (record core { journal = j })
-still_holds core j x same =
+pub still_holds : (core : Core) (j : Recorded) → Holds core → j.steps ≡ core.journal.steps → core.journal.spare ≤ j.spare → Holds (record core { journal = j })
+still_holds core j x same spare =
     record {
       sound = x.sound;
       legal = ap (is_legal core.topology) same ∙ x.legal;
       fields = subst (λ (h : History). Fields (record core { journal = j }) core.topology h) (sym same) (same_fields core j core.topology core.journal.steps x.fields);
+      room = subst (λ (h : History). Roomy (record core { journal = j }) core.topology h) (sym same) (still_roomy core j core.topology core.journal.steps x.room spare);
     }
 
 pub roomy_holds : (core : Core) (inboxes : Vec (VecDeque (SubNo × ℕ) Global) Global) → ((c : StageNo) → queue_at inboxes.items c ≡ queue_at core.inboxes.items c) → length inboxes.items ≡ length core.inboxes.items
     → Holds core → Holds (record core { inboxes = inboxes })
 roomy_holds core inboxes same long x =
-    record { sound = x.sound; legal = x.legal; fields = roomy_fields core core.topology core.journal.steps inboxes same long x.fields }
+    record {
+      sound = x.sound;
+      legal = x.legal;
+      fields = roomy_fields core core.topology core.journal.steps inboxes same long x.fields;
+      room = record { steps = x.room.steps; rows = x.room.rows; queues = x.room.queues; ends = x.room.ends };
+    }
 
 -- a step may come on where the topology and the steps are the same
 pub still_allowed : (t u : Topology) (h g : History) (step : Step) → u ≡ t → g ≡ h → allows t h step ≡ true → allows u g step ≡ true

@@ -10,7 +10,7 @@ ghost use Rattle.plain_run.specs.Owes.{OwesDispatch};
 use core_accepts::accepts::{enroll, make_room};
 use core_sends::plans::plan;
 use core_sends::sending::send_messages;
-use core_state::Core;
+use core_state::{Core, MOST_DUE};
 use core_tables::inboxes::make_room as make_inbox_room;
 use pipe_types::bytes::BytesList;
 use pipe_types::numbers::StageNo;
@@ -34,7 +34,7 @@ pub(crate) fn append_accept(
     ensures stands { OnErr result (Stands core.new) }
 {
     let count = records.as_slice().len() as u32;
-    make_room(core, stage, count, 1)?;
+    make_room(core, stage, count)?;
     enroll(core, stage, records);
     Ok(())
 }
@@ -75,11 +75,11 @@ fn make_owed_room(core: &mut Core, stage: StageNo, sent: &[Sent]) -> Result<(), 
     requires owes { OwesDispatch core.old.topology core.old.journal.steps stage }
     requires planned { sent.now ≡ planned core.old.topology core.old.journal.steps stage [] }
     ensures room { OnOk result (All (HasRoom (length sent.now) core.new.inboxes.items) sent.now) }
-    ensures spare { OnOk result (1 ≤ core.new.journal.spare) }
+    ensures spare { OnOk result (1089 ≤ core.new.journal.spare) }
     ensures unchanged { core.new.journal.steps ≡ core.old.journal.steps }
     ensures topology { core.new.topology ≡ core.old.topology }
     ensures holds { Holds core.new }
 {
     make_inbox_room(&mut core.inboxes, sent)?;
-    core.journal.reserve(1)
+    core.journal.reserve(MOST_DUE + 1)
 }

@@ -10,7 +10,6 @@ ghost use Rattle.plain_run.specs.Owes.{Owes};
 ghost use Rattle.plain_run.specs.Works.{WorksStand};
 
 use crate::after::After;
-use crate::room::make_step_room;
 use crate::works::{Works, count_in, note_count};
 use core_lates::{answer_crash, late};
 use core_restarts::restart;
@@ -28,45 +27,38 @@ pub(crate) fn append_done(
     works: &mut Works,
     stage: StageNo,
     replies: ReplyList,
-) -> Result<After, AllocError>
+) -> After
     requires stands { Stands core.old }
     requires works { WorksStand core.old.topology core.old.journal.steps works.old }
     requires legal { IsTrue (allows core.old.topology core.old.journal.steps (Step.Done stage replies)) }
-    ensures appended { OnOk result (core.new.journal.steps ≡ Step.Done stage replies ∷ core.old.journal.steps) }
-    ensures unchanged { OnErr result (core.new.journal.steps ≡ core.old.journal.steps) }
+    ensures appended { core.new.journal.steps ≡ Step.Done stage replies ∷ core.old.journal.steps }
     ensures topology { core.new.topology ≡ core.old.topology }
     ensures holds { Holds core.new }
-    ensures owes { IfOk result (λ after. Owes core.new.topology core.new.journal.steps after) }
-    ensures stands { OnErr result (Stands core.new) }
+    ensures owes { Owes core.new.topology core.new.journal.steps result }
     ensures works { WorksStand core.new.topology core.new.journal.steps works.new }
 {
     let messages = replies.as_slice().len();
     let count = counted(count_in(&works.counts, stage), messages);
-    let after = append_replies(core, stage, replies)?;
+    let after = append_replies(core, stage, replies);
     note_count(&mut works.counts, stage, count);
-    Ok(after)
+    after
 }
 
-/// Appends the replies.
-fn append_replies(core: &mut Core, stage: StageNo, replies: ReplyList) -> Result<After, AllocError>
+/// Appends the replies, for which the take made room.
+fn append_replies(core: &mut Core, stage: StageNo, replies: ReplyList) -> After
     requires stands { Stands core.old }
     requires legal { IsTrue (allows core.old.topology core.old.journal.steps (Step.Done stage replies)) }
-    ensures appended { OnOk result (core.new.journal.steps ≡ Step.Done stage replies ∷ core.old.journal.steps) }
-    ensures unchanged { OnErr result (core.new.journal.steps ≡ core.old.journal.steps) }
+    ensures appended { core.new.journal.steps ≡ Step.Done stage replies ∷ core.old.journal.steps }
     ensures topology { core.new.topology ≡ core.old.topology }
     ensures holds { Holds core.new }
-    ensures owes { IfOk result (λ after. Owes core.new.topology core.new.journal.steps after) }
-    ensures stands { OnErr result (Stands core.new) }
+    ensures owes { Owes core.new.topology core.new.journal.steps result }
 {
     if any_crashed(replies.as_slice()) {
-        make_step_room(core)?;
         answer_crash(core, stage, replies);
-        return Ok(After::Crash(stage));
+        return After::Crash(stage);
     }
-    match answer(core, stage, replies) {
-        Ok(()) => Ok(After::Free),
-        Err((_, failed)) => Err(failed),
-    }
+    let _answered = answer(core, stage, replies);
+    After::Free
 }
 
 /// Whether one of the replies is a crash.
@@ -76,24 +68,15 @@ fn any_crashed(replies: &[Reply]) -> bool
     replies.iter().any(|reply| matches!(reply, Reply::Crashed))
 }
 
-/// Appends the answer that the post brings home late.
-pub(crate) fn append_late(
-    core: &mut Core,
-    post: Post,
-    incarnation: u32,
-    answer: LateAnswer,
-) -> Result<(), AllocError>
+/// Appends the answer that the post brings home late, for which its job made room.
+pub(crate) fn append_late(core: &mut Core, post: Post, incarnation: u32, answer: LateAnswer)
     requires stands { Stands core.old }
     requires legal { IsTrue (allows core.old.topology core.old.journal.steps (Step.Late post.stage post.slot incarnation answer)) }
-    ensures appended { OnOk result (core.new.journal.steps ≡ Step.Late post.stage post.slot incarnation answer ∷ core.old.journal.steps) }
-    ensures unchanged { OnErr result (core.new.journal.steps ≡ core.old.journal.steps) }
+    ensures appended { core.new.journal.steps ≡ Step.Late post.stage post.slot incarnation answer ∷ core.old.journal.steps }
     ensures topology { core.new.topology ≡ core.old.topology }
     ensures stands { Stands core.new }
 {
-    match late(core, post, incarnation, answer) {
-        Ok(()) => Ok(()),
-        Err((_, failed)) => Err(failed),
-    }
+    let _answered = late(core, post, incarnation, answer);
 }
 
 /// Appends the restart of the stage, whose handler has seen no message then.

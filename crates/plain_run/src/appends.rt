@@ -130,7 +130,7 @@ fn append_brought(core: &mut Core, step: Step) -> Result<After, AllocError>
             Ok(After::Accept(stage))
         }
         Step::ChildEnd { stage, slot, reply } => {
-            append_child_end(core, stage, slot, reply)?;
+            append_child_end(core, stage, slot, reply);
             Ok(After::Free)
         }
         Step::Late {
@@ -139,7 +139,7 @@ fn append_brought(core: &mut Core, step: Step) -> Result<After, AllocError>
             incarnation,
             answer,
         } => {
-            append_late(core, Post { stage, slot }, incarnation, answer)?;
+            append_late(core, Post { stage, slot }, incarnation, answer);
             Ok(After::Free)
         }
         _ => unreachable!(),
@@ -165,7 +165,7 @@ fn append_worked(core: &mut Core, works: &mut Works, step: Step) -> Result<After
             append_take(core, works, stage, sub, k)?;
             Ok(After::Free)
         }
-        Step::Done { stage, replies } => append_done(core, works, stage, replies),
+        Step::Done { stage, replies } => Ok(append_done(core, works, stage, replies)),
         Step::Wrote { stage, bytes, end } => append_wrote(core, works, stage, bytes, end),
         Step::Child { stage, no, slot } => {
             append_child(core, works, stage, no, slot)?;

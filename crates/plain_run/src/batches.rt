@@ -9,7 +9,6 @@ ghost use Rattle.plain_run.specs.Works.{WorksStand, count_with as count_with_as}
 
 use crate::after::After;
 use crate::given::batch_of;
-use crate::room::make_step_room;
 use crate::works::{Works, count_in, note_count};
 use core_batches::writes::wrote;
 use core_lates::write_crash;
@@ -41,7 +40,7 @@ pub(crate) fn append_wrote(
 {
     let messages = batch_of(core, works, stage)?;
     let count = count_with(core, stage, count_in(&works.counts, stage), &messages)?;
-    let after = append_end(core, stage, bytes, end)?;
+    let after = append_end(core, stage, bytes, end);
     note_count(&mut works.counts, stage, count);
     Ok(after)
 }
@@ -61,31 +60,21 @@ fn count_with(
     }
 }
 
-/// Appends the end.
-fn append_end(
-    core: &mut Core,
-    stage: StageNo,
-    bytes: u64,
-    end: BatchEnd,
-) -> Result<After, AllocError>
+/// Appends the end, for which the take made room.
+fn append_end(core: &mut Core, stage: StageNo, bytes: u64, end: BatchEnd) -> After
     requires stands { Stands core.old }
     requires legal { IsTrue (allows core.old.topology core.old.journal.steps (Step.Wrote stage bytes end)) }
-    ensures appended { OnOk result (core.new.journal.steps ≡ Step.Wrote stage bytes end ∷ core.old.journal.steps) }
-    ensures unchanged { OnErr result (core.new.journal.steps ≡ core.old.journal.steps) }
+    ensures appended { core.new.journal.steps ≡ Step.Wrote stage bytes end ∷ core.old.journal.steps }
     ensures topology { core.new.topology ≡ core.old.topology }
     ensures holds { Holds core.new }
-    ensures owes { IfOk result (λ after. Owes core.new.topology core.new.journal.steps after) }
-    ensures stands { OnErr result (Stands core.new) }
+    ensures owes { Owes core.new.topology core.new.journal.steps result }
 {
     if has_crashed(&end) {
-        make_step_room(core)?;
         write_crash(core, stage);
-        return Ok(After::Crash(stage));
+        return After::Crash(stage);
     }
-    match wrote(core, stage, end, bytes) {
-        Ok(()) => Ok(After::Free),
-        Err((_, failed)) => Err(failed),
-    }
+    let _answered = wrote(core, stage, end, bytes);
+    After::Free
 }
 
 /// Whether the batch ended with a crash.

@@ -7,9 +7,10 @@ ghost use Rattle.plain_run.specs.Steps.{is_clock};
 
 use core_calls::asks::{refuse, tick};
 use core_calls::sources::{quiet, source_end};
-use core_kills::kills::{halt, kill};
+use core_kills::kills::{halt, kill_owed};
 use core_moves::drain::begin;
 use core_state::Core;
+use pipe_types::numbers::StageNo;
 use pipe_types::step::Step;
 use std::alloc::AllocError;
 
@@ -26,12 +27,29 @@ pub(crate) fn append_clock(core: &mut Core, step: Step) -> Result<(), AllocError
 {
     match step {
         Step::Tick { now } => tick(core, now),
-        Step::Quiet { stage } => quiet(core, stage),
+        Step::Quiet { stage } => {
+            append_quiet(core, stage);
+            Ok(())
+        }
         Step::SourceEnd { stage, how } => source_end(core, stage, how),
         Step::Drain { cause } => begin(core, cause),
-        Step::Kill { stage, why } => kill(core, stage, why),
+        Step::Kill { stage, why } => {
+            kill_owed(core, stage, why);
+            Ok(())
+        }
         Step::Halt => halt(core),
         Step::Refuse { line } => refuse(core, line),
         _ => unreachable!(),
     }
+}
+
+/// Appends that the producer's source has nothing now, for which the fetch made room.
+fn append_quiet(core: &mut Core, stage: StageNo)
+    requires stands { Stands core.old }
+    requires legal { IsTrue (allows core.old.topology core.old.journal.steps (Step.Quiet stage)) }
+    ensures appended { core.new.journal.steps ≡ Step.Quiet stage ∷ core.old.journal.steps }
+    ensures topology { core.new.topology ≡ core.old.topology }
+    ensures stands { Stands core.new }
+{
+    let _answered = quiet(core, stage);
 }

@@ -18,7 +18,7 @@ use pipe_types::numbers::{MsgNo, Post, StageNo};
 use pipe_types::topology::{Role, Topology};
 
 /// Number and producer of the message at that place of the chunk or the child that is out at the post.
-pub(crate) fn named_at(core: &Core, works: &Works, post: Post, at: u32) -> Option<(MsgNo, StageNo)>
+pub(crate) fn named_at(core: &Core, works: &Works, post: Post, at: usize) -> Option<(MsgNo, StageNo)>
     requires holds { Holds core.now }
     requires works { WorksStand core.now.topology core.now.journal.steps works.now }
     ensures { result ≡ named_at_as core.now.topology core.now.journal.steps post at }
@@ -58,7 +58,7 @@ fn is_job_out(rows: &[PostRow], at: usize, slot: u16) -> bool
 }
 
 /// The number at that place of the job that is out at the post.
-fn unit_at(core: &Core, works: &Works, post: Post, at: u32) -> Option<u32>
+fn unit_at(core: &Core, works: &Works, post: Post, at: usize) -> Option<u32>
     requires holds { Holds core.now }
     requires works { WorksStand core.now.topology core.now.journal.steps works.now }
     requires out { is_out_as core.now.journal.steps post ≡ true }
@@ -94,14 +94,14 @@ fn is_supervisor(topology: &Topology, stage: StageNo) -> bool
 }
 
 /// The number at that place.
-fn number_at(numbers: &[u32], at: u32) -> Option<u32>
+fn number_at(numbers: &[u32], at: usize) -> Option<u32>
     ensures { result ≡ slice_get numbers.now at }
 {
-    numbers.get(at as usize).copied()
+    numbers.get(at).copied()
 }
 
 /// The message of the child, at place 0.
-fn child_at(held: Option<u32>, at: u32) -> Option<u32>
+fn child_at(held: Option<u32>, at: usize) -> Option<u32>
     ensures { result ≡ slice_get (option_to_list held) at }
 {
     if at == 0 { held } else { None }

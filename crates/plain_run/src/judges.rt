@@ -1,7 +1,7 @@
 //! A step is judged, and appended where it is legal.
 
 ghost use Rattle.std.specs.Prelude.{◌≡◌, ◌∷◌, ◌&&◌, not, true, false, Some, None, is_some, unwrap_or, IfOk, IfSome, OnErr, IsTrue};
-ghost use Rattle.pipe_model.specs.Legal.{allows as allows_as, is_dispatch_of as is_dispatch_of_as, is_crash_of as is_crash_of_as, owed};
+ghost use Rattle.pipe_model.specs.Legal.{allows as allows_as, is_dispatch_of as is_dispatch_of_as, is_crash_of as is_crash_of_as, owed, happened, is_halt};
 ghost use Rattle.core_state.specs.Stands.{Stands, Holds};
 ghost use Rattle.plain_run.specs.Owes.{OwesDispatch};
 ghost use Rattle.plain_run.specs.Runs.{IsRun};
@@ -11,11 +11,11 @@ ghost use Rattle.plain_run.specs.declared.after.After.TheVariants.{Free, Accept 
 use crate::accepts::{append_owed, plan_owed};
 use crate::after::After;
 use crate::appends::append;
-use crate::deaths::append_owed_kill;
 use crate::given::is_given;
 use crate::works::Works;
 use core_accepts::calls::is_due;
 use core_allows::allowing::allows;
+use core_kills::kills::kill_owed;
 use core_state::Core;
 use pipe_journal::StepView;
 use pipe_types::message::Why;
@@ -42,7 +42,7 @@ pub(crate) fn judge(
     match after {
         After::Free => judge_free(core, works, step),
         After::Accept(stage) => judge_accepted(core, works, stage, step),
-        After::Crash(stage) => judge_crashed(core, works, stage, step),
+        After::Crash(stage) => Ok(judge_crashed(core, works, stage, step)),
     }
 }
 
@@ -58,7 +58,8 @@ fn judge_free(core: &mut Core, works: &mut Works, step: &Step) -> Result<Option<
     ensures run { IfOk result (λ next. IsRun core.new works.new (unwrap_or next Free)) }
     ensures same { OnErr result (IsRun core.new works.new Free) }
 {
-    if !is_legal(core, works, step)? {
+    let legal = is_legal(core, works, step)?;
+    if !legal {
         return Ok(None);
     }
     let copied = StepView::of(step).to_step(core.alloc)?;
@@ -98,13 +99,25 @@ fn judge_accepted(
 {
     let sent = plan_owed(core, stage)?;
     if !is_due(core, stage, &sent) {
-        return judge_free(core, works, step);
+        let next = judge_free(core, works, step)?;
+        return Ok(next);
     }
-    if core.totals.halted || !is_dispatch_of(step, stage) {
+    if has_halted(core) {
+        return Ok(None);
+    }
+    if !is_dispatch_of(step, stage) {
         return Ok(None);
     }
     append_owed(core, stage, sent)?;
     Ok(Some(After::Free))
+}
+
+/// Whether the pipeline has halted.
+fn has_halted(core: &Core) -> bool
+    requires holds { Holds core.now }
+    ensures { result ≡ happened is_halt core.now.journal.steps }
+{
+    core.totals.halted
 }
 
 /// Whether the step is a dispatch of the stage.
@@ -117,30 +130,26 @@ fn is_dispatch_of(step: &Step, stage: StageNo) -> bool
     }
 }
 
-/// The same where a handler of the stage crashed in the last step.
-fn judge_crashed(
-    core: &mut Core,
-    works: &mut Works,
-    stage: StageNo,
-    step: &Step,
-) -> Result<Option<After>, AllocError>
+/// The same where a handler of the stage crashed in the last step. It takes no memory.
+fn judge_crashed(core: &mut Core, works: &Works, stage: StageNo, step: &Step) -> Option<After>
     requires holds { Holds core.old }
     requires owes { owed core.old.topology core.old.journal.steps ≡ Some (is_crash_of_as stage) }
-    requires works { WorksStand core.old.topology core.old.journal.steps works.old }
-    ensures told { IfOk result (λ next. is_some next ≡ allows_as core.old.topology core.old.journal.steps step.now) }
-    ensures appended { IfOk result (λ next. is_some next ≡ true → core.new.journal.steps ≡ step.now ∷ core.old.journal.steps) }
-    ensures refused { IfOk result (λ next. is_some next ≡ false → core.new.journal.steps ≡ core.old.journal.steps) }
-    ensures unchanged { OnErr result (core.new.journal.steps ≡ core.old.journal.steps) }
+    requires works { WorksStand core.old.topology core.old.journal.steps works.now }
+    ensures told { is_some result ≡ allows_as core.old.topology core.old.journal.steps step.now }
+    ensures appended { is_some result ≡ true → core.new.journal.steps ≡ step.now ∷ core.old.journal.steps }
+    ensures refused { is_some result ≡ false → core.new.journal.steps ≡ core.old.journal.steps }
     ensures topology { core.new.topology ≡ core.old.topology }
-    ensures run { IfOk result (λ next. IsRun core.new works.new (unwrap_or next (AfterCrash stage))) }
-    ensures same { OnErr result (IsRun core.new works.new (AfterCrash stage)) }
+    ensures run { IsRun core.new works.now (unwrap_or result (AfterCrash stage)) }
 {
     let _works = works;
-    if core.totals.halted || !is_crash_of(step, stage) {
-        return Ok(None);
+    if has_halted(core) {
+        return None;
     }
-    append_owed_kill(core, stage)?;
-    Ok(Some(After::Free))
+    if !is_crash_of(step, stage) {
+        return None;
+    }
+    kill_owed(core, stage, Why::Crash);
+    Some(After::Free)
 }
 
 /// Whether the step is the kill of the stage for a crash.

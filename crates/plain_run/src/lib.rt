@@ -11,14 +11,14 @@ mod appends;
 mod batches;
 mod children;
 mod clocks;
-mod deaths;
 mod flows;
+mod folds;
 mod given;
 mod jobs;
 mod judges;
-mod room;
 mod run;
 mod takes;
 mod works;
 
+pub use folds::are_legal;
 pub use run::PlainRun;

@@ -82,17 +82,21 @@ impl PlainRun {
         ensures unchanged { OnErr result (self.new.steps ≡ self.old.steps) }
         ensures topology { self.new.topology ≡ self.old.topology }
     {
-        match judge(&mut self.core, &mut self.works, self.after, step)? {
-            Some(after) => {
-                self.after = after;
-                Ok(true)
-            }
-            None => Ok(false),
-        }
+        let next = judge(&mut self.core, &mut self.works, self.after, step)?;
+        let legal = next.is_some();
+        self.after = next.unwrap_or(self.after);
+        Ok(legal)
     }
 
     /// Number and producer of the message at that place, from 0, of the chunk or the child that is out at the post.
     pub fn chunk(&self, post: Post, at: u32) -> Option<(MsgNo, StageNo)>
+        ensures { result ≡ named_at_as self.now.topology self.now.steps post at }
+    {
+        self.message_at(post, at as usize)
+    }
+
+    /// The same, by a place in memory.
+    pub fn message_at(&self, post: Post, at: usize) -> Option<(MsgNo, StageNo)>
         ensures { result ≡ named_at_as self.now.topology self.now.steps post at }
     {
         named_at(&self.core, &self.works, post, at)

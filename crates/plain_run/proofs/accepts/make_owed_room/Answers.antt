@@ -20,4 +20,4 @@ returns-in_err-make_inbox_room-clause-holds c = roomy_holds c.args.core.now c.ma
 pub returns-clause-holds : goal.returns-clause-holds
 returns-clause-holds c =
     still_holds (record c.args.core.now { inboxes = c.make_inbox_room.new.inboxes }) c.reserve.new.self
-    (roomy_holds c.args.core.now c.make_inbox_room.new.inboxes c.make_inbox_room.ensures.same c.make_inbox_room.ensures.len c.requires.holds) c.reserve.ensures.same_steps
+    (roomy_holds c.args.core.now c.make_inbox_room.new.inboxes c.make_inbox_room.ensures.same c.make_inbox_room.ensures.len c.requires.holds) c.reserve.ensures.same_steps c.reserve.ensures.spare

@@ -3,7 +3,7 @@ use Rattle.core_state.proofs.NewQueues.{list_more}
 use Rattle.plain_run.proofs.works.empty_lists.Goals as goal
 
 pub loop-k-preserved : goal.loop-k-preserved
-loop-k-preserved g c =
+loop-k-preserved c =
     let l = c.loop-k in
     let new = c.push_reserved.ensures in
     record {

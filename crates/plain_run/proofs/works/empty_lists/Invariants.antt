@@ -4,7 +4,7 @@ use Rattle.core_tables.specs.Tables.{list_at}
 use Rattle.plain_run.proofs.works.empty_lists.Given as goal
 
 abbrev pub invariant-loop-k : goal.invariant-loop-k
-invariant-loop-k g l =
+invariant-loop-k l =
     record {
       len : length l.lists.items ≡ l.k;
       room : vec_len l.lists + (l.count - l.k) ≤ vec_capacity l.lists;
