@@ -222,12 +222,14 @@ resets_on : (n : ℕ) (a b c : BoxSeen) → RoseExactly n a.resets b.resets → 
 resets_on n a b c first then = subst (λ m. RoseExactly m a.resets c.resets) (omega arith) (counted_on n 0 a.resets b.resets c.resets first then)
 
 -- the end of a batch that was taken
-pub lawful_write : (topology : Topology) (before : History) (s : StageNo) (asked : Batch) (with_sink : Bool) (bytes : ℕ) (end : BatchEnd) (old law : Law) → old ≡ law → IsTaken topology before s asked → with_sink ≡ has_sink (spec_of topology s)
-    → IsLawfulEnd old asked with_sink bytes end → IsLawfulWrite topology before s bytes end law
-lawful_write topology before s asked with_sink bytes end old law same taken sinks lawful = record {
+pub lawful_write : (topology : Topology) (before : History) (s : StageNo) (asked : Batch) (with_sink : Bool) (text : List ℕ) (bytes : ℕ) (end : BatchEnd) (old law : Law) → old ≡ law → IsTaken topology before s asked → with_sink ≡ has_sink (spec_of topology s)
+    → text ≡ text_taken topology before s end → IsLawfulEnd old asked with_sink text bytes end → IsLawfulWrite topology before s bytes end law
+lawful_write topology before s asked with_sink text bytes end old law same taken sinks texts lawful = record {
   asked = asked;
   taken = taken;
-  lawful = subst (λ b. IsLawfulEnd law asked b bytes end) sinks (subst (λ l. IsLawfulEnd l asked with_sink bytes end) same lawful);
+  lawful =
+      subst (λ t. IsLawfulEnd law asked (has_sink (spec_of topology s)) t bytes end) texts
+      (subst (λ b. IsLawfulEnd law asked b text bytes end) sinks (subst (λ l. IsLawfulEnd l asked with_sink text bytes end) same lawful));
 }
 
 pub callback_done : (topology : Topology) (before : History) (p : Post) (messages : List Message) (replies : List Reply) (a b c : BoxSeen) → p.slot ≡ 0 → messages ≡ chunk_of topology before p.stage → is_live topology before p.stage ≡ true → KeepsCallback topology before p a b
@@ -249,9 +251,9 @@ callback_done topology before p messages replies a b c first is live k done = re
     turned false e = refl
 
 pub callback_wrote : (topology : Topology) (before : History) (p : Post) (spec : StageSpec) (bytes : ℕ) (end : BatchEnd) (with_sink : Bool) (asked : Batch) (a b c : BoxSeen) → p.slot ≡ 0 → spec_of topology p.stage ≡ Some spec → IsTaken topology before p.stage asked
-    → with_sink ≡ has_sink (spec_of topology p.stage) → is_live topology before p.stage ≡ true → IsArmed topology before p.stage spec b → KeepsCallback topology before p a b → Ends asked.messages bytes end with_sink b c → IsLawfulEnd b.law asked with_sink bytes end → c.resets ≡ b.resets
+    → with_sink ≡ has_sink (spec_of topology p.stage) → has_role topology p.stage is_supervisor_role ≡ false → is_live topology before p.stage ≡ true → IsArmed topology before p.stage spec b → KeepsCallback topology before p a b → Ends asked.messages bytes end with_sink b c → IsLawfulEnd b.law asked with_sink (text_by b.kind b asked.messages end) bytes end → c.resets ≡ b.resets
     → KeepsCallback topology (Wrote p.stage bytes end ∷ before) p a c
-callback_wrote topology before p spec bytes end with_sink asked a b c first e is sinks live armed k done lawful resets = record {
+callback_wrote topology before p spec bytes end with_sink asked a b c first e is sinks calm live armed k done lawful resets = record {
   kept = box_then a b c k.kept done.kept;
   count = counts_wrote topology before p.stage spec bytes end with_sink asked.messages b c e is.messages live armed done;
   calls = λ own. let own_before : b.kind ≡ Own = sym done.kept.kind ∙ own in
@@ -259,7 +261,9 @@ callback_wrote topology before p spec bytes end with_sink asked a b c first e is
   bad = λ own. let own_before : b.kind ≡ Own = sym done.kept.kind ∙ own in
       rw (self_post p first) (rise_if (is_bad_end end) (bad_of before p) a.bad b.bad c.bad (k.bad own_before) (λ bad. done.bad own_before bad) done.kept.bad);
   resets = λ own. subst (λ n. RoseExactly (resets_of topology before p) a.resets n) (sym resets) (k.resets (sym done.kept.kind ∙ own));
-  lawful = (k.lawful, λ same. lawful_write topology before p.stage asked with_sink bytes end b.law a.law k.kept.law is sinks lawful);
+  lawful = (k.lawful, λ same.
+      lawful_write topology before p.stage asked with_sink (text_by b.kind b asked.messages end) bytes end b.law a.law k.kept.law is sinks
+      (text_is_taken topology before p.stage end spec asked.messages b e calm (is_present topology before p.stage live) is.messages armed) lawful);
 }
 
 pub callback_child : (topology : Topology) (before : History) (p : Post) (message : Message) (reply : Reply) (a b c : BoxSeen) → has_role topology p.stage is_supervisor_role ≡ true → message ∷ [] ≡ child_of before p.stage p.slot → KeepsCallback topology before p a b → Replies 1 (message ∷ []) (reply ∷ []) (reset b) c

@@ -279,11 +279,11 @@ batch_sink topology before s spec asked bytes end old new a (Some b) None e calm
 batch_sink topology before s spec asked bytes end old new a None y e calm live is armed done k = absurd armed
 
 batch_callback : (topology : Topology) (before : History) (p : Post) (spec : StageSpec) (asked : Batch) (bytes : ℕ) (end : BatchEnd) (old new : BodySeen) (a x y : Option BoxSeen) → p.slot ≡ 0 → spec_of topology p.stage ≡ Some spec
-    → IsTaken topology before p.stage asked → is_some old.sink ≡ has_sink (spec_of topology p.stage) → is_live topology before p.stage ≡ true → There x (IsArmed topology before p.stage spec) → Both (EndsIn asked bytes end old new) x y → Both (KeepsCallback topology before p) a x → Both (KeepsCallback topology (Wrote p.stage bytes end ∷ before) p) a y
-batch_callback topology before p spec asked bytes end old new (Some a) (Some b) (Some c) first e is sinks live armed done k = callback_wrote topology before p spec bytes end (is_some old.sink) asked a b c first e is sinks live armed k done.0 done.2 done.3
-batch_callback topology before p spec asked bytes end old new None (Some b) (Some c) first e is sinks live armed done k = absurd k
-batch_callback topology before p spec asked bytes end old new a (Some b) None first e is sinks live armed done k = absurd done
-batch_callback topology before p spec asked bytes end old new a None y first e is sinks live armed done k = absurd armed
+    → IsTaken topology before p.stage asked → is_some old.sink ≡ has_sink (spec_of topology p.stage) → has_role topology p.stage is_supervisor_role ≡ false → is_live topology before p.stage ≡ true → There x (IsArmed topology before p.stage spec) → Both (EndsIn asked bytes end old new) x y → Both (KeepsCallback topology before p) a x → Both (KeepsCallback topology (Wrote p.stage bytes end ∷ before) p) a y
+batch_callback topology before p spec asked bytes end old new (Some a) (Some b) (Some c) first e is sinks calm live armed done k = callback_wrote topology before p spec bytes end (is_some old.sink) asked a b c first e is sinks calm live armed k done.0 done.2 done.3
+batch_callback topology before p spec asked bytes end old new None (Some b) (Some c) first e is sinks calm live armed done k = absurd k
+batch_callback topology before p spec asked bytes end old new a (Some b) None first e is sinks calm live armed done k = absurd done
+batch_callback topology before p spec asked bytes end old new a None y first e is sinks calm live armed done k = absurd armed
 
 pub answered_body : (topology : Topology) (before : History) (p : Post) (w : Work) (o : Came) (a old new : BodySeen) → is_live topology before p.stage ≡ true → IsWorkOf topology before p w → IsBodyAt topology before p old → IsDone w o old new
     → KeepsBody topology before p a old → KeepsBody topology (step_of p o ∷ before) p a new
@@ -295,7 +295,7 @@ answered_body topology before p (work.Batch batch) (came.Wrote bytes end) a old 
     record {
       source = subst (λ x. Both (KeepsSource (Wrote p.stage bytes end ∷ before) p.stage []) a.source x) (sym done.1) (both_map (λ x y h. source_as before (Wrote p.stage bytes end ∷ before) p.stage x y refl refl refl refl h) a.source old.source k.source);
       sink = batch_sink topology before p.stage f.spec batch bytes end old new a.sink old.callback new.callback f.is (writers_alone topology p.stage is.0) live is.1.messages f.box done.0 k.sink;
-      callback = batch_callback topology before p f.spec batch bytes end old new a.callback old.callback new.callback is.2 f.is is.1 (sinks_as topology before p old is.0 fit) live f.box done.0 k.callback;
+      callback = batch_callback topology before p f.spec batch bytes end old new a.callback old.callback new.callback is.2 f.is is.1 (sinks_as topology before p old is.0 fit) (writers_alone topology p.stage is.0) live f.box done.0 k.callback;
     }
 answered_body topology before p (work.Batch batch) o a old new live is fit done k = absurd done
 answered_body topology before p (work.Child message) (came.Reply reply) a old new live is fit done k = child_body topology before p message reply a old new is.0 is.1 done k

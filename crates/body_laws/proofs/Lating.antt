@@ -17,6 +17,7 @@ use Rattle.pipe_types.specs.Stages.{spec_of}
 use Rattle.pipe_model.specs.History.{History, incarnation}
 use Rattle.pipe_model.specs.Lives.{is_live}
 use Rattle.pipe_model.specs.Posts.{puts_out, answers, is_out}
+use Rattle.pipe_model.specs.Taken.{IsTaken}
 use Rattle.pipe_model.specs.Work.{batch_of}
 use Rattle.pipe_model.specs.Legal.{is_legal, has_role, is_producer_role, is_processor_role, is_supervisor_role, is_batch_processor_role}
 use Rattle.pipe_laws.proofs.Tests.{clash, same_stage-self}
@@ -29,10 +30,11 @@ use Rattle.stage_bodies.specs.declared.job.Work.{Work}
 use Rattle.stage_bodies.specs.declared.job.Work.TheVariants as work
 use Rattle.stage_bodies.specs.declared.job.Outcome.{Outcome as Came}
 use Rattle.stage_bodies.specs.declared.job.Outcome.TheVariants as came
+use Rattle.pipe_types.specs.declared.topology.Kind.TheVariants.{Own}
 use Rattle.stage_callback.specs.Laws.{RoseExactly}
 use Rattle.stage_callback.proofs.Resets.{none_counted, counted_on}
 use Rattle.body_laws.specs.Counts.{calls_of, bad_of, resets_of, one_more}
-use Rattle.body_laws.specs.Lawful.{IsLawfulStep}
+use Rattle.body_laws.specs.Lawful.{has_sink, IsLawfulStep}
 use Rattle.body_laws.specs.Keeps.{KeepsSource, KeepsSink, IsCounted, KeepsCallback, KeepsBody, Keeps}
 use Rattle.body_laws.specs.Lates.{late_of, late_step}
 use Rattle.body_laws.specs.Ready.{There, IsArmed, IsBodyAt, Ready}
@@ -138,6 +140,20 @@ sink_late topology before p i spec asked bytes end old new a (Some b) (Some c) e
 sink_late topology before p i spec asked bytes end old new a (Some b) None e calm out is armed done k = absurd done
 sink_late topology before p i spec asked bytes end old new a None y e calm out is armed done k = absurd armed
 
+batch_late : (topology : Topology) (before : History) (p : Post) (i : ℕ) (spec : StageSpec) (asked : Batch) (bytes : ℕ) (end : BatchEnd) (old new : BodySeen) (a x y : Option BoxSeen) → spec_of topology p.stage ≡ Some spec → has_role topology p.stage is_supervisor_role ≡ false
+    → is_out before (post p.stage 0) ≡ true → IsTaken topology before p.stage asked → is_some old.sink ≡ has_sink (spec_of topology p.stage) → There x (IsArmed topology before p.stage spec)
+    → ((z : BoxSeen) → IsCounted topology (late_step p i (came.Wrote bytes end) ∷ before) p.stage z) → Both (EndsIn asked bytes end old new) x y → Both (KeepsCallback topology before p) a x
+    → Both (KeepsCallback topology (late_step p i (came.Wrote bytes end) ∷ before) p) a y
+batch_late topology before p i spec asked bytes end old new (Some a) (Some b) (Some c) e calm out is sinks armed counts done k =
+    callback_late topology before p i (late.Wrote bytes end) a b c (counts c) k done.0.kept
+    (λ own r. none_more topology before p i (late.Wrote bytes end) a b c calm r (none_counted b.resets c.resets done.3))
+    (λ same one.
+        lawful_write topology before p.stage asked (is_some old.sink) (text_by b.kind b asked.messages end) bytes end b.law a.law same is sinks
+        (text_is_taken topology before p.stage end spec asked.messages b e calm (or_right (is_live topology before p.stage) (is_out before (post p.stage 0)) out) is.messages armed) done.2)
+batch_late topology before p i spec asked bytes end old new None (Some b) (Some c) e calm out is sinks armed counts done k = absurd k
+batch_late topology before p i spec asked bytes end old new a (Some b) None e calm out is sinks armed counts done k = absurd done
+batch_late topology before p i spec asked bytes end old new a None y e calm out is sinks armed counts done k = absurd armed
+
 late_body : (topology : Topology) (before : History) (p : Post) (w : Work) (i : ℕ) (o : Came) (a old new : BodySeen) → is_legal topology (late_step p i o ∷ before) ≡ true → is_out before p ≡ true → IsWorkOf topology before p w → IsBodyAt topology before p old → IsDone w o old new → KeepsBody topology before p a old
     → KeepsBody topology (late_step p i o ∷ before) p a new
 late_body topology before p (work.Fetch most) i o a old new legal out is fit done k = fetched_late topology before p most i o a old new is legal (source_there topology before p old is.0 fit) done k
@@ -152,9 +168,9 @@ late_body topology before p (work.Batch batch) i (came.Wrote bytes end) a old ne
     record {
       source = subst (λ x. Both (KeepsSource (late_step p i (came.Wrote bytes end) ∷ before) p.stage []) a.source x) (sym done.1) (both_map (λ x y h. source_as before (late_step p i (came.Wrote bytes end) ∷ before) p.stage x y refl refl refl refl h) a.source old.source k.source);
       sink = sink_late topology before p i f.spec batch bytes end old new a.sink old.callback new.callback f.is (writers_alone topology p.stage is.0) (subst (λ n. is_out before (post p.stage n) ≡ true) is.2 out) is.1.messages f.box done.0 k.sink;
-      callback = both_then (λ x y z h g. callback_late topology before p i (late.Wrote bytes end) x y z (uncounted topology before p (work.Batch batch) i (late.Wrote bytes end) z is legal) h g.0.kept
-          (λ own r. none_more topology before p i (late.Wrote bytes end) x y z (writers_alone topology p.stage is.0) r (none_counted y.resets z.resets g.3))
-          (λ same one. lawful_write topology before p.stage batch (is_some old.sink) bytes end y.law x.law same is.1 (sinks_as topology before p old is.0 fit) g.2)) a.callback old.callback new.callback k.callback done.0;
+      callback =
+          batch_late topology before p i f.spec batch bytes end old new a.callback old.callback new.callback f.is (writers_alone topology p.stage is.0) (subst (λ n. is_out before (post p.stage n) ≡ true) is.2 out) is.1 (sinks_as topology before p old is.0 fit) f.box
+          (λ z. uncounted topology before p (work.Batch batch) i (late.Wrote bytes end) z is legal) done.0 k.callback;
     }
 late_body topology before p (work.Batch batch) i o a old new legal out is fit done k = absurd done
 late_body topology before p (work.Child message) i (came.Reply reply) a old new legal out is fit done k = record {

@@ -104,12 +104,12 @@ resets_stay topology (ChildEnd t slot reply) before p e r = rw e refl
 resets_stay topology (Late t slot i answer) before p e r = rw e refl
 resets_stay topology _ before p e r = refl
 
-lawful_stays : (topology : Topology) (step : Step) (before : History) (p : Post) (law : Law) → answers step p ≡ false → IsLawfulStep topology before step p law
-lawful_stays topology (Done t replies) before p law e = λ is. clash (same_post p (post t 0)) is e
-lawful_stays topology (Wrote t bytes end) before p law e = λ is. clash (same_post p (post t 0)) is e
-lawful_stays topology (Late t slot i (late.Wrote bytes end)) before p law e = λ is. clash (same_post p (post t slot)) is e
-lawful_stays topology (ChildEnd t slot reply) before p law e = λ is. clash (same_post p (post t slot)) is e
-lawful_stays topology _ before p law e = tt
+lawful_stays : (topology : Topology) (step : Step) (before : History) (p : Post) (law : Law) → tells_of step p.stage ≡ false → answers step p ≡ false → IsLawfulStep topology before step p law
+lawful_stays topology (Done t replies) before p law e a = λ is. clash (same_stage t p.stage) is e
+lawful_stays topology (Wrote t bytes end) before p law e a = λ is. clash (same_stage t p.stage) is e
+lawful_stays topology (Late t slot i (late.Wrote bytes end)) before p law e a = λ is. clash (same_stage t p.stage) is e
+lawful_stays topology (ChildEnd t slot reply) before p law e a = λ is. clash (same_post p (post t slot)) is a
+lawful_stays topology _ before p law e a = tt
 
 restart_stays : (step : Step) (s : StageNo) → tells_of step s ≡ false → restarts step s ≡ false
 restart_stays (Restart t) s e = e
@@ -168,7 +168,7 @@ stays_untold topology before step p h e a = record {
   calls = calls_stay step before p a;
   bad = bad_stays step before p a;
   resets = resets_stay topology step before p a (restart_stays step p.stage e);
-  lawful = λ law. lawful_stays topology step before p law a;
+  lawful = λ law. lawful_stays topology step before p law e a;
 }
 
 -- ---- a step that answers another post tells nothing of this one

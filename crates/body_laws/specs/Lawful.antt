@@ -9,9 +9,10 @@ use Rattle.pipe_types.specs.declared.step.Step.{Step}
 use Rattle.pipe_types.specs.declared.step.Step.TheVariants.{Done, Wrote, ChildEnd, Late}
 use Rattle.pipe_types.specs.declared.topology.StageSpec.{StageSpec}
 use Rattle.pipe_types.specs.declared.topology.Topology.{Topology}
-use Rattle.pipe_types.specs.Numbers.{post, same_post}
+use Rattle.pipe_types.specs.Numbers.{post, same_post, same_stage}
 use Rattle.pipe_types.specs.Stages.{spec_of}
 use Rattle.pipe_model.specs.History.{History}
+use Rattle.pipe_model.specs.Outside.{text_taken}
 use Rattle.pipe_model.specs.Taken.{IsTaken}
 use Rattle.pipe_model.specs.Work.{chunk_of, child_of}
 use Rattle.stage_callback.specs.Laws.{Law}
@@ -23,17 +24,17 @@ abbrev pub has_sink : Option StageSpec → Bool
 has_sink (Some spec) = is_some spec.edge
 has_sink None = false
 
--- the end of the batch that the stage took, and the bytes that were written of it, are lawful
+-- the end and the text of the batch that the stage took, and the bytes that were written of it, are lawful
 pub record IsLawfulWrite (topology : Topology) (before : History) (s : StageNo) (bytes : ℕ) (end : BatchEnd) (law : Law) : Type 0 where
   pub asked : Batch
   pub taken : IsTaken topology before s asked
-  pub lawful : IsLawfulEnd law asked (has_sink (spec_of topology s)) bytes end
+  pub lawful : IsLawfulEnd law asked (has_sink (spec_of topology s)) (text_taken topology before s end) bytes end
 
--- what the step says that the post answered is lawful for its chunk, its batch, or the message of its child
+-- what the step says that the stage answered is lawful for its chunk or its batch, and what the child answered for its message
 abbrev pub IsLawfulStep : Topology → History → Step → Post → Law → Type 0
-IsLawfulStep topology before (Done s replies) p law = same_post p (post s 0) ≡ true → AreLawful law (chunk_of topology before s) replies
-IsLawfulStep topology before (Wrote s bytes end) p law = same_post p (post s 0) ≡ true → IsLawfulWrite topology before s bytes end law
-IsLawfulStep topology before (Late s slot i (WroteLate bytes end)) p law = same_post p (post s slot) ≡ true → IsLawfulWrite topology before s bytes end law
+IsLawfulStep topology before (Done s replies) p law = same_stage s p.stage ≡ true → AreLawful law (chunk_of topology before s) replies
+IsLawfulStep topology before (Wrote s bytes end) p law = same_stage s p.stage ≡ true → IsLawfulWrite topology before s bytes end law
+IsLawfulStep topology before (Late s slot i (WroteLate bytes end)) p law = same_stage s p.stage ≡ true → IsLawfulWrite topology before s bytes end law
 IsLawfulStep topology before (ChildEnd s slot reply) p law = same_post p (post s slot) ≡ true → AreLawful law (child_of before s slot) (reply ∷ [])
 IsLawfulStep topology before _ p law = Unit {0}
 

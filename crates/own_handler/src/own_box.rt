@@ -100,7 +100,7 @@ impl<H: Handler> OwnBox<H> {
 }
 
 /// Counts an answer other than success.
-fn count_answer(bad: &mut u64, success: bool)
+pub fn count_answer(bad: &mut u64, success: bool)
     ensures count { bad.new ≡ counted_unless success bad.old }
     ensures never_falls { bad.old ≤ bad.new }
     ensures rose { success ≡ false → Rose bad.old bad.new }
@@ -112,7 +112,7 @@ fn count_answer(bad: &mut u64, success: bool)
 }
 
 /// Counts a call.
-fn count_call(calls: &mut u64)
+pub fn count_call(calls: &mut u64)
     ensures count { calls.new ≡ counted calls.old 1 }
     ensures never_falls { calls.old ≤ calls.new }
     ensures rose { Rose calls.old calls.new }

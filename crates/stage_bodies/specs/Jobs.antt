@@ -194,7 +194,7 @@ abbrev pub EndsIn : Batch → (bytes : ℕ) → BatchEnd → BodySeen → BodySe
 EndsIn batch bytes end old new before after =
     Ends batch.messages bytes end (is_some old.sink) before after
     × Both (Writes bytes (text_by before.kind before batch.messages end)) old.sink new.sink
-    × IsLawfulEnd before.law batch (is_some old.sink) bytes end × (after.resets ≡ before.resets)
+    × IsLawfulEnd before.law batch (is_some old.sink) (text_by before.kind before batch.messages end) bytes end × (after.resets ≡ before.resets)
 
 -- the work came to this answer, and what it did not use is as it was
 abbrev pub IsDone : Work → Came → BodySeen → BodySeen → Type 0

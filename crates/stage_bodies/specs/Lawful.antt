@@ -39,9 +39,8 @@ pub record IsLawfullyHandled (law : Law) (asked : Batch) (handled : BatchEnd) (t
   pub lawful : IsTrue (law.keeps_batch asked reply)
   pub by : IsEndBy law asked.messages reply handled text
 
--- the end of a batch of which so many bytes were written
-pub record IsLawfulEnd (law : Law) (asked : Batch) (has_sink : Bool) (bytes : ℕ) (end : BatchEnd) : Type 0 where
+-- the end of a batch with this text, of which so many bytes were written
+pub record IsLawfulEnd (law : Law) (asked : Batch) (has_sink : Bool) (text : List ℕ) (bytes : ℕ) (end : BatchEnd) : Type 0 where
   pub handled : BatchEnd
-  pub text : List ℕ
   pub lawful : IsLawfullyHandled law asked handled text
   pub written : IsTrue (is_write_end has_sink handled text bytes end)

@@ -13,7 +13,7 @@ mod callback;
 mod copies;
 mod handler;
 mod lines;
-mod resets;
+mod reset_count;
 mod rules;
 mod steps;
 
@@ -23,5 +23,5 @@ pub use callback::Callback;
 pub use copies::{copy_message, copy_spec, unarmed};
 pub use lines::LinesBox;
 pub use pipe_types::message::BatchReply;
-pub use resets::count_reset;
+pub use reset_count::count_reset;
 pub use steps::StepsBox;

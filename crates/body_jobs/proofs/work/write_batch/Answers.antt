@@ -10,6 +10,6 @@ returns-in-Ok-clause-done g c =
     rw c.in-Some.is ((
       ends_so _ _ _ armed handled written,
       rw (text_so _ _ _ armed handled written) c.write_end-bytes.ensures.sink,
-      record { handled = c.in-Ok.end; text = c.in-Ok.text; lawful = c.in-Ok.ensures.lawful; written = write_ends _ _ _ _ _ handled.no_text written },
+      rw (text_so _ _ _ armed handled written) (record { handled = c.in-Ok.end; lawful = c.in-Ok.ensures.lawful; written = write_ends _ _ _ _ _ handled.no_text written }),
       c.in-Ok.ensures.same_resets,
     ), refl)
