@@ -1,5 +1,5 @@
 -- What a callback with the law of plain text writes.
-use Rattle.std.proofs.Common.{◌≡◌, ℕ, zero, suc, Bool, true, false, List, [], ◌∷◌, ◌++◌, length, take, replicate, refl, ap, sym, ◌∙◌, subst, Option, Some, None, Result}
+use Rattle.std.proofs.Common.{◌≡◌, ◌≤◌, ℕ, zero, suc, Bool, true, false, List, [], ◌∷◌, ◌++◌, length, take, replicate, refl, ap, ◌∙◌, subst, Option, Some, None, IfSome, Result}
 use Rattle.std.specs.Prelude.{if◌then◌else◌, ◌==◌, ◌&&◌, IfOk, slice_get}
 use Rattle.std.specs.List.{list_all}
 use Rattle.std.proofs.lemmas.Bool.{and_parts, and_from}
@@ -118,3 +118,12 @@ writes_plain topology before old new left k p box here home law =
     by_box : (o : Option BoxSeen) → Both (IsBoxLeft true topology before (Some p)) (Some box) o → is_plain_text (sink_text topology before p.stage) ≡ true
     by_box (Some used) is = plain_sink topology before p (subst (λ l. AreLawfulAnswers topology before p l) law is.lawful)
     by_box None is = absurd is
+
+some_plain : (o : Option Topology) (before : History) (old new : List BoxSeen) → IfSome o (λ topology. AreBoxesLeft true topology before old new) → IfSome o (λ topology. WritesPlainText topology before old)
+some_plain (Some topology) before old new left = writes_plain topology before old new left
+some_plain None before old new left = tt
+
+-- where a whole run left the callbacks so, under a status below 5
+pub run_plain : (status : ℕ) (o : Option Topology) (before : History) (old new : List BoxSeen) → (status ≤ 4 → IfSome o (λ topology. AreBoxesLeft true topology before old new))
+    → status ≤ 4 → IfSome o (λ topology. WritesPlainText topology before old)
+run_plain status o before old new left low = some_plain o before old new (left low)
