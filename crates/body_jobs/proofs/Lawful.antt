@@ -1,5 +1,5 @@
 -- Outcomes, and the end of a batch, that the law of a callback allows.
-use Rattle.std.proofs.Common.{◌≡◌, ◌≤◌, ◌<◌, ◌+◌, ℕ, length, get_or, take, true, List, [], ◌∷◌, ◌++◌, refl, sym, ap, ◌∙◌, subst, IsTrue}
+use Rattle.std.proofs.Common.{◌≡◌, ◌≤◌, ◌<◌, ◌+◌, ℕ, length, get_or, take, true, List, [], ◌∷◌, ◌++◌, refl, sym, ap, ◌∙◌, subst}
 use Rattle.std.proofs.lemmas.List.{take_more, take_all}
 use Rattle.pipe_types.specs.declared.message.Batch.{Batch}
 use Rattle.pipe_types.specs.declared.message.Message.{Message}
@@ -7,7 +7,7 @@ use Rattle.pipe_types.specs.declared.message.Outcome.{Outcome}
 use Rattle.pipe_types.specs.declared.message.BatchEnd.TheVariants.{Outcomes, Crashed}
 use Rattle.pipe_types.specs.declared.message.BatchReply.{BatchReply}
 use Rattle.pipe_types.specs.declared.message.BatchReply.TheVariants as batch
-use Rattle.stage_callback.specs.Laws.{Law}
+use Rattle.stage_callback.specs.Laws.{KeepsBatch, Law}
 use Rattle.stage_bodies.specs.Told.{raised_with}
 use Rattle.stage_bodies.specs.Lawful.{IsSettled, AreSettled, IsLawfullyHandled}
 
@@ -44,7 +44,7 @@ lawful_all law messages given at settled settled' all all_given is so_far =
 
 -- a batch that was answered
 pub answered_lawfully : (law middle : Law) (asked : Batch) (reply : BatchReply) (given settled : List Outcome) (text : List ℕ) → middle ≡ law → reply ≡ batch.Answered given text
-    → IsTrue (law.keeps_batch asked reply) → AreSettled middle asked.messages given settled → IsLawfullyHandled law asked (Outcomes settled) text
+    → KeepsBatch law asked reply → AreSettled middle asked.messages given settled → IsLawfullyHandled law asked (Outcomes settled) text
 answered_lawfully law middle asked reply given settled text same is lawful settles = record {
   reply = batch.Answered given text;
   lawful = rw is at lawful;
@@ -53,7 +53,7 @@ answered_lawfully law middle asked reply given settled text same is lawful settl
 
 -- one that raised
 pub raised_lawfully : (law middle : Law) (asked : Batch) (reply : BatchReply) (why : List ℕ) (given settled : List Outcome) (text : List ℕ) → middle ≡ law → reply ≡ batch.Raised why
-    → given ≡ raised_with why asked.messages → text ≡ [] → IsTrue (law.keeps_batch asked reply) → AreSettled middle asked.messages given settled → IsLawfullyHandled law asked (Outcomes settled) text
+    → given ≡ raised_with why asked.messages → text ≡ [] → KeepsBatch law asked reply → AreSettled middle asked.messages given settled → IsLawfullyHandled law asked (Outcomes settled) text
 raised_lawfully law middle asked reply why given settled text same is all no_text lawful settles = record {
   reply = batch.Raised why;
   lawful = rw is at lawful;
@@ -61,5 +61,5 @@ raised_lawfully law middle asked reply why given settled text same is all no_tex
 }
 
 -- one that crashed
-pub crashed_lawfully : (law : Law) (asked : Batch) (reply : BatchReply) (text : List ℕ) → reply ≡ batch.Crashed → text ≡ [] → IsTrue (law.keeps_batch asked reply) → IsLawfullyHandled law asked Crashed text
+pub crashed_lawfully : (law : Law) (asked : Batch) (reply : BatchReply) (text : List ℕ) → reply ≡ batch.Crashed → text ≡ [] → KeepsBatch law asked reply → IsLawfullyHandled law asked Crashed text
 crashed_lawfully law asked reply text is no_text lawful = record { reply = batch.Crashed; lawful = rw is at lawful; by = no_text }

@@ -1,9 +1,10 @@
 //! Batches.
 
-ghost use Rattle.std.specs.Prelude.{◌≡◌, ◌∷◌, [], IfOk, IsTrue, length, map};
+ghost use Rattle.std.specs.Prelude.{◌≡◌, ◌∷◌, [], IfOk, length, map};
 ghost use Rattle.stage_bodies.specs.Told.{raised_with};
 ghost use Rattle.stage_bodies.specs.Lawful.{AreSettled, IsLawfullyHandled, IsSettled};
 ghost use Rattle.stage_bodies.specs.Jobs.{KeepsBox};
+ghost use Rattle.stage_callback.specs.Laws.{KeepsBatch, KeepsFailed};
 ghost use Rattle.stage_job.specs.Lawful.{IsReasonLeft};
 ghost use Rattle.stage_job.specs.Told.{reason_by};
 ghost use Rattle.body_jobs.specs.Batches.{Asks, AsksFailed, Settles, Handles};
@@ -62,7 +63,7 @@ fn ask(callback: &mut Box<dyn Callback + Send>, batch: &Batch) -> Result<BatchRe
         let new = box_of (kind callback.new) (spec callback.new) (count callback.new) (calls callback.new) (bad callback.new) (resets callback.new) (law callback.new) (told callback.new) (said callback.new) in
         IfOk result (λ reply. Asks batch.now.messages reply old new) }
     ensures same_resets { resets callback.new ≡ resets callback.old }
-    ensures lawful { IfOk result (λ reply. IsTrue ((law callback.old).keeps_batch batch.now reply)) }
+    ensures lawful { IfOk result (λ reply. KeepsBatch (law callback.old) batch.now reply) }
 {
     match callback.batch(batch) {
         Ok(reply) => Ok(reply),
@@ -164,7 +165,7 @@ fn show_failed(
         let new = box_of (kind callback.new) (spec callback.new) (count callback.new) (calls callback.new) (bad callback.new) (resets callback.new) (law callback.new) (told callback.new) (said callback.new) in
         IfOk result (λ by. AsksFailed by old new) }
     ensures same_resets { resets callback.new ≡ resets callback.old }
-    ensures lawful { IfOk result (λ by. IsTrue ((law callback.old).keeps_failed no why by)) }
+    ensures lawful { IfOk result (λ by. KeepsFailed (law callback.old) no why by) }
 {
     match callback.failed(no, &why) {
         Ok(by) => Ok(by),

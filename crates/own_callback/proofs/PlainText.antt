@@ -94,7 +94,7 @@ plain_end messages Crashed (Outcomes settled) text by plain = absurd by
 plain_write : (topology : Topology) (before : History) (s : StageNo) (bytes : ℕ) (end : BatchEnd) → IsLawfulWrite topology before s bytes end plain_law → is_plain_text (text_taken topology before s end) ≡ true
 plain_write topology before s bytes end write =
     let handled = write.lawful.lawful in
-    plain_end write.asked.messages handled.reply write.lawful.handled (text_taken topology before s end) handled.by handled.lawful
+    plain_end write.asked.messages handled.reply write.lawful.handled (text_taken topology before s end) handled.by handled.lawful.0
 
 -- each text of the stage is plain
 plain_sink : (topology : Topology) (before : History) (p : Post) → AreLawfulAnswers topology before p plain_law → is_plain_text (sink_text topology before p.stage) ≡ true

@@ -1,20 +1,22 @@
 -- Plain text, and the law of a callback that writes nothing else.
-use Rattle.std.specs.Prelude.{◌≡◌, ℕ, Bool, List, ◌==◌, ◌&&◌, ◌||◌, nat_le, IsTrue, Some, slice_get}
+use Rattle.std.specs.Prelude.{◌≡◌, ℕ, Bool, List, [], ◌∷◌, IsTrue, Some, slice_get}
 use Rattle.std.specs.List.{list_all}
-use Rattle.pipe_types.specs.Handlers.{text_by}
 use Rattle.pipe_types.specs.declared.message.Message.{Message}
 use Rattle.pipe_types.specs.declared.numbers.Post.{Post}
 use Rattle.pipe_types.specs.declared.topology.Topology.{Topology}
 use Rattle.pipe_model.specs.History.{History}
 use Rattle.pipe_model.specs.Outside.{sink_text}
 use Rattle.stage_bodies.specs.Seen.{BoxSeen}
-use Rattle.stage_callback.specs.Laws.{Law, free}
+use Rattle.stage_callback.specs.Laws.{Law, free, is_within, text_within}
 use Rattle.box_stock.specs.Homes.{post_for}
 use Rattle.pipe_top.specs.Boxes.{kinds}
 
--- printable ASCII, or the end of a line
+-- the end of a line, and printable ASCII
+abbrev pub plain_ranges : List (ℕ × ℕ)
+plain_ranges = (10, 10) ∷ (32, 126) ∷ []
+
 abbrev pub is_plain_byte : ℕ → Bool
-is_plain_byte byte = byte == 10 || (nat_le 32 byte && nat_le byte 126)
+is_plain_byte byte = is_within plain_ranges byte
 
 abbrev pub is_plain_text : List ℕ → Bool
 is_plain_text text = list_all is_plain_byte text
@@ -24,7 +26,7 @@ has_plain_payload m = is_plain_text m.payload
 
 -- the text of an answer to a batch is plain
 abbrev pub plain_law : Law
-plain_law = record free { keeps_batch = λ asked reply. is_plain_text (text_by reply) }
+plain_law = record free { batches = text_within plain_ranges ∷ [] }
 
 -- where the callback of a post has this law, its stage wrote plain text
 abbrev pub WritesPlainText : Topology → History → List BoxSeen → Type 0

@@ -1,5 +1,5 @@
 -- What a box of a handler answers, by what its handler answered: the same, or where the shape is wrong a crash.
-use Rattle.std.specs.Prelude.{◌≡◌, ℕ, Bool, false, List, [], ◌∷◌, ◌++◌, length, replicate, ◌==◌, ◌&&◌, ◌||◌, if◌then◌else◌}
+use Rattle.std.specs.Prelude.{◌≡◌, ℕ, Bool, false, List, [], ◌∷◌, ◌++◌, length, replicate, ◌==◌, ◌&&◌, if◌then◌else◌}
 use Rattle.std.specs.List.{list_all}
 use Rattle.pipe_types.specs.declared.numbers.MsgNo.{MsgNo}
 use Rattle.pipe_types.specs.declared.numbers.StageNo.{StageNo}
@@ -10,12 +10,12 @@ use Rattle.pipe_types.specs.declared.message.Reply.{Reply}
 use Rattle.pipe_types.specs.declared.message.Reply.TheVariants as reply
 use Rattle.pipe_types.specs.declared.message.BatchReply.{BatchReply}
 use Rattle.pipe_types.specs.declared.message.BatchReply.TheVariants as batch
-use Rattle.pipe_types.specs.Handlers.{is_crashed, is_own_reason, is_own_reply, is_own_outcome, is_successful, lines_where, counted}
+use Rattle.pipe_types.specs.Handlers.{is_own_reason, is_own_reply, is_own_outcome, is_successful, lines_where, counted}
 use Rattle.stage_callback.specs.declared.answers.Prepared.{Prepared}
 use Rattle.stage_callback.specs.declared.answers.Prepared.TheVariants as prepared
 use Rattle.stage_callback.specs.declared.answers.FailedReply.{FailedReply}
 use Rattle.stage_callback.specs.declared.answers.FailedReply.TheVariants as failed
-use Rattle.stage_callback.specs.Laws.{Law, free}
+use Rattle.stage_callback.specs.Laws.{Law, MessageForm, free}
 use Rattle.own_handler.specs.declared.handler.BatchAnswer.{BatchAnswer}
 use Rattle.own_handler.specs.declared.handler.BatchAnswer.TheVariants as answer
 
@@ -38,9 +38,9 @@ pub record IsJudged (gives : Reply → Type 0) (batchers : ℕ) (m : Message) (a
   pub meant : gives given
   pub is : answered ≡ judged_reply batchers m given
 
--- the law of a box, by the replies that its handler may give: each of these may be given, and a crash
-abbrev pub law_of : (Message → Reply → Bool) → Law
-law_of keeps = record free { keeps = λ m answered. keeps m answered || is_crashed answered }
+-- the law of a box, by what its handler says of replies to messages
+abbrev pub law_of : List MessageForm → Law
+law_of forms = record free { messages = forms }
 
 -- an outcome for each message, none with the reason of a sink; the text is the payload and LF of each successful message
 abbrev pub judged_outcomes : List Message → List Outcome → BatchReply

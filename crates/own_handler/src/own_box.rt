@@ -5,6 +5,7 @@ ghost use Rattle.pipe_types.specs.Handlers.{counted, is_own_reply};
 ghost use Rattle.pipe_types.specs.Counts.{Rose};
 ghost use Rattle.pipe_types.specs.declared.topology.Kind.TheVariants.{Own};
 ghost use Rattle.stage_callback.specs.Callbacks.{is_passed as is_passed_in, is_all_successful as is_all_successful_in, is_batch_answer, HasOwnText};
+ghost use Rattle.stage_callback.specs.Laws.{Keeps};
 ghost use Rattle.own_handler.specs.Judged.{IsJudged, counted_unless, law_of};
 
 use crate::Handler;
@@ -36,7 +37,7 @@ impl<H: Handler> OwnBox<H> {
         ensures calls { ⟦<OwnBox<H> as Callback>⟧.calls result ≡ 0 }
         ensures bad { ⟦<OwnBox<H> as Callback>⟧.bad result ≡ 0 }
         ensures resets { ⟦<OwnBox<H> as Callback>⟧.resets result ≡ 0 }
-        ensures law { ⟦<OwnBox<H> as Callback>⟧.law result ≡ law_of (H.keeps handler) }
+        ensures law { ⟦<OwnBox<H> as Callback>⟧.law result ≡ law_of (H.law handler) }
         ensures handler { result.handler ≡ handler }
     {
         OwnBox {
@@ -57,7 +58,7 @@ impl<H: Handler> OwnBox<H> {
         // It is what the handler gave, as it is or as a crash.
         ensures judged { IfOk result (λ reply. IsJudged (λ given. H.message_gives self.old.handler message given self.new.handler)
             (⟦<OwnBox<H> as Callback>⟧.spec self.old).batchers message reply) }
-        ensures lawful { IfOk result (λ reply. IsTrue ((⟦<OwnBox<H> as Callback>⟧.law self.old).keeps message reply)) }
+        ensures lawful { IfOk result (λ reply. Keeps (⟦<OwnBox<H> as Callback>⟧.law self.old) message reply) }
         ensures shape { IfOk result (λ reply. IsTrue (is_own_reply (⟦<OwnBox<H> as Callback>⟧.spec self.old).batchers message reply)) }
         ensures calls { OnOk result (⟦<OwnBox<H> as Callback>⟧.calls self.new ≡ counted (⟦<OwnBox<H> as Callback>⟧.calls self.old) 1) }
         ensures bad { IfOk result (λ reply.
@@ -133,7 +134,7 @@ impl<H: Handler> Callback for OwnBox<H> {
 
     ghost resets = { λ b. b.resets };
 
-    ghost law = { λ b. law_of (H.keeps b.handler) };
+    ghost law = { λ b. law_of (H.law b.handler) };
 
     ghost told = { λ _. false };
 

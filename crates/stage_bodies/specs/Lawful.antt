@@ -10,7 +10,7 @@ use Rattle.pipe_types.specs.declared.message.BatchEnd.TheVariants.{Outcomes, Cra
 use Rattle.pipe_types.specs.declared.message.BatchReply.{BatchReply}
 use Rattle.pipe_types.specs.declared.message.BatchReply.TheVariants as batch
 use Rattle.pipe_model.specs.Work.{is_write_end}
-use Rattle.stage_callback.specs.Laws.{Law}
+use Rattle.stage_callback.specs.Laws.{KeepsBatch, Law}
 use Rattle.stage_job.specs.Lawful.{IsReasonLeft}
 use Rattle.stage_bodies.specs.Told.{raised_with}
 
@@ -36,7 +36,7 @@ IsEndBy law messages _ _ text = ⊥
 -- the end and the text of a batch, before a sink has a say
 pub record IsLawfullyHandled (law : Law) (asked : Batch) (handled : BatchEnd) (text : List ℕ) : Type 0 where
   pub reply : BatchReply
-  pub lawful : IsTrue (law.keeps_batch asked reply)
+  pub lawful : KeepsBatch law asked reply
   pub by : IsEndBy law asked.messages reply handled text
 
 -- the end of a batch with this text, of which so many bytes were written

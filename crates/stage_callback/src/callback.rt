@@ -6,7 +6,7 @@ ghost use Rattle.pipe_types.specs.declared.topology.Kind.{Kind};
 ghost use Rattle.pipe_types.specs.declared.topology.StageSpec.{StageSpec};
 ghost use Rattle.stage_callback.specs.declared.answers.Said.{Said};
 ghost use Rattle.stage_callback.specs.Callbacks.{can_arm, is_message_for, is_passed, is_ready, is_all_successful, is_prepared_answer, is_batch_answer, is_failed_answer, HasOwnText, failed_reply, said_with};
-ghost use Rattle.stage_callback.specs.Laws.{Law, RoseExactly, free};
+ghost use Rattle.stage_callback.specs.Laws.{Keeps, KeepsBatch, KeepsChunk, KeepsFailed, Law, RoseExactly, free};
 ghost use Rattle.pipe_types.specs.Counts.{Rose};
 
 use crate::{BatchReply, FailedReply, Prepared};
@@ -42,7 +42,7 @@ pub trait Callback: Drop {
     /// How often a user's own kind was reset.
     ghost resets: { Self → ℕ };
 
-    /// Which answers it may give to what it is shown. An `impl` that leaves it out allows any, and owes nothing.
+    /// What it says of its answers to what it is shown. An `impl` that leaves it out says nothing, and owes nothing.
     ghost law: { Self → Law } = { λ _. free };
 
     /// Whether it tells its answers.
@@ -87,7 +87,7 @@ pub trait Callback: Drop {
         ensures same_resets { resets self.new ≡ resets self.old }
         ensures same_spec { spec self.new ≡ spec self.old }
         ensures shape { IfOk result (λ answer. IsTrue (is_prepared_answer answer)) }
-        ensures lawful { IfOk result (λ answer. IsTrue ((law self.old).keeps_chunk messages.now answer)) }
+        ensures lawful { IfOk result (λ answer. KeepsChunk (law self.old) messages.now answer) }
         ensures built_in { kind self.old ≢ Kind.Own → IfOk result (λ answer.
             (answer ≡ Prepared.Ready) × (count self.new ≡ count self.old)) }
         ensures no_counts { kind self.old ≢ Kind.Own
@@ -108,7 +108,7 @@ pub trait Callback: Drop {
         // A message that passes stays the same message, for one of the stage's batchers, and not too long.
         ensures shape { IsTrue (is_message_for (spec self.old).batchers message)
             → IfOk result (λ reply. IsTrue (is_own_reply (spec self.old).batchers message reply)) }
-        ensures lawful { IfOk result (λ reply. IsTrue ((law self.old).keeps message reply)) }
+        ensures lawful { IfOk result (λ reply. Keeps (law self.old) message reply) }
         ensures built_in { kind self.old ≢ Kind.Own → IfOk result (λ reply.
             (reply ≡ eval (spec self.old) (count self.old) message)
             × (count self.new ≡ counted (count self.old) 1)) }
@@ -131,7 +131,7 @@ pub trait Callback: Drop {
         ensures same_spec { spec self.new ≡ spec self.old }
         // One outcome a message, none with the reason `sink`.
         ensures shape { IfOk result (λ reply. IsTrue (is_batch_answer batch.now.messages reply)) }
-        ensures lawful { IfOk result (λ reply. IsTrue ((law self.old).keeps_batch batch.now reply)) }
+        ensures lawful { IfOk result (λ reply. KeepsBatch (law self.old) batch.now reply) }
         ensures built_in { kind self.old ≢ Kind.Own → IfOk result (λ reply.
             (reply ≡ batch_answer_by (kind self.old) (spec self.old) (count self.old) batch.now.messages)
             × (count self.new ≡ count_after_batch (spec self.old) (count self.old) batch.now.messages)) }
@@ -154,7 +154,7 @@ pub trait Callback: Drop {
         ensures same_resets { resets self.new ≡ resets self.old }
         ensures same_spec { spec self.new ≡ spec self.old }
         ensures shape { kind self.old ≡ Kind.Own → IfOk result (λ answer. IsTrue (is_failed_answer answer)) }
-        ensures lawful { IfOk result (λ answer. IsTrue ((law self.old).keeps_failed no reason.now answer)) }
+        ensures lawful { IfOk result (λ answer. KeepsFailed (law self.old) no reason.now answer) }
         ensures built_in { kind self.old ≢ Kind.Own → IfOk result (λ answer.
             (answer ≡ failed_reply (spec self.old).failed) × (count self.new ≡ count self.old)) }
         ensures no_counts { kind self.old ≢ Kind.Own

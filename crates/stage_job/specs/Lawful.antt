@@ -1,5 +1,5 @@
 -- The replies to a chunk that the law of a callback allows.
-use Rattle.std.specs.Prelude.{◌≡◌, ℕ, List, [], ◌∷◌, IsTrue}
+use Rattle.std.specs.Prelude.{◌≡◌, ℕ, List, [], ◌∷◌}
 use Rattle.pipe_types.specs.declared.numbers.MsgNo.{MsgNo}
 use Rattle.pipe_types.specs.declared.message.Message.{Message}
 use Rattle.pipe_types.specs.declared.message.Reply.{Reply}
@@ -7,21 +7,21 @@ use Rattle.pipe_types.specs.declared.message.Reply.TheVariants as reply
 use Rattle.stage_callback.specs.declared.answers.FailedReply.{FailedReply}
 use Rattle.stage_callback.specs.declared.answers.Prepared.{Prepared}
 use Rattle.stage_callback.specs.declared.answers.Prepared.TheVariants as prepared
-use Rattle.stage_callback.specs.Laws.{Law}
+use Rattle.stage_callback.specs.Laws.{Keeps, KeepsChunk, KeepsFailed, Law}
 use Rattle.stage_job.specs.Told.{reason_by}
 
 -- the reason of a message that failed for another one: what `failed` made of that
 pub record IsReasonLeft (law : Law) (number : MsgNo) (why reason : List ℕ) : Type 0 where
   pub answered : FailedReply
-  pub lawful : IsTrue (law.keeps_failed number why answered)
+  pub lawful : KeepsFailed law number why answered
   pub is : reason ≡ reason_by answered why
 
 -- the reply to a message: what was answered to it, and where it failed, with the reason that `failed` left
 abbrev pub IsLawful : Law → Message → Reply → Type 0
-IsLawful law m (reply.Pass passed) = IsTrue (law.keeps m (reply.Pass passed))
-IsLawful law m (reply.Failed reason) = (why : List ℕ) × IsTrue (law.keeps m (reply.Failed why)) × IsReasonLeft law m.no why reason
-IsLawful law m (reply.Raised reason) = (why : List ℕ) × IsTrue (law.keeps m (reply.Raised why)) × IsReasonLeft law m.no why reason
-IsLawful law m reply.Crashed = IsTrue (law.keeps m reply.Crashed)
+IsLawful law m (reply.Pass passed) = Keeps law m (reply.Pass passed)
+IsLawful law m (reply.Failed reason) = (why : List ℕ) × Keeps law m (reply.Failed why) × IsReasonLeft law m.no why reason
+IsLawful law m (reply.Raised reason) = (why : List ℕ) × Keeps law m (reply.Raised why) × IsReasonLeft law m.no why reason
+IsLawful law m reply.Crashed = Keeps law m reply.Crashed
 
 -- the reply to a message of a chunk that failed as a whole
 abbrev pub IsRaised : Law → (why : List ℕ) → Message → Reply → Type 0
@@ -43,7 +43,7 @@ AreRepliesBy law prepared.Crashed messages replies = replies ≡ reply.Crashed �
 -- the replies to a chunk
 pub record AreLawfulReplies (law : Law) (messages : List Message) (replies : List Reply) : Type 0 where
   pub shown : Prepared
-  pub lawful : IsTrue (law.keeps_chunk messages shown)
+  pub lawful : KeepsChunk law messages shown
   pub by : AreRepliesBy law shown messages replies
 
 -- the same, and none where there is no message: then nothing is asked

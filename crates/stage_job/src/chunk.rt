@@ -6,6 +6,7 @@ ghost use Rattle.pipe_types.specs.Counts.{Rose};
 ghost use Rattle.pipe_types.specs.Handlers.{eval, counted, with_reason, reason_of, chunk_replies, is_crashed, is_own_reason, is_own_reply, are_own_replies};
 ghost use Rattle.pipe_model.specs.Content.{has_crash};
 ghost use Rattle.stage_callback.specs.Callbacks.{is_message_for, is_passed, is_ready, is_prepared_answer};
+ghost use Rattle.stage_callback.specs.Laws.{Keeps, KeepsChunk};
 ghost use Rattle.stage_callback.specs.declared.answers.FailedReply.{FailedReply};
 ghost use Rattle.stage_callback.specs.declared.answers.Said.{Said};
 ghost use Rattle.stage_job.specs.Lawful.{AreLawful, AreRepliesTo, IsLawful, IsRaised, IsReasonLeft};
@@ -118,7 +119,7 @@ fn show(
     ensures shape { IfOk result (λ answer. IsTrue (is_prepared_answer answer)) }
     ensures bad { kind callback.old ≡ Kind.Own → IfOk result (λ answer.
         is_ready answer ≡ false → Rose (bad callback.old) (bad callback.new)) }
-    ensures lawful { IfOk result (λ answer. IsTrue ((law callback.old).keeps_chunk messages.now answer)) }
+    ensures lawful { IfOk result (λ answer. KeepsChunk (law callback.old) messages.now answer) }
     ensures said { IsTrue (told callback.old) → IfOk result (λ answer.
         said callback.new ≡ said callback.old ++ Said.Prepared answer ∷ []) }
 {
@@ -242,7 +243,7 @@ fn ask(callback: &mut Box<dyn Callback + Send>, message: Message) -> Result<Repl
     ensures calls { kind callback.old ≡ Kind.Own → OnOk result (Rose (calls callback.old) (calls callback.new)) }
     ensures bad { kind callback.old ≡ Kind.Own → IfOk result (λ reply.
         is_passed reply ≡ false → Rose (bad callback.old) (bad callback.new)) }
-    ensures lawful { IfOk result (λ reply. IsTrue ((law callback.old).keeps message reply)) }
+    ensures lawful { IfOk result (λ reply. Keeps (law callback.old) message reply) }
     ensures said { IsTrue (told callback.old) → IfOk result (λ reply.
         said callback.new ≡ said callback.old ++ Said.Message reply ∷ []) }
 {

@@ -15,5 +15,5 @@ returns-clause-shape g c =
 
 pub returns-clause-lawful : goal.returns-clause-lawful
 returns-clause-lawful g c =
-    judged_kept (g.H.Handler.keeps c.args.self.now.handler) c.args.self.now.spec.batchers c.args.message c.in_ok-given.given c.judge_reply-reply.result
+    judged_kept (g.H.Handler.law c.args.self.now.handler) c.args.self.now.spec.batchers c.args.message c.in_ok-given.given c.judge_reply-reply.result
     (c.judge_reply-reply.ensures.answer ∙ same_judged c.args.self.now.spec.batchers c.args.message c.in_ok-given.given) c.in_ok-given.ensures.lawful
