@@ -1,5 +1,5 @@
 -- What a callback makes of a batch, and a sink of its text.
-use Rattle.std.specs.Prelude.{◌≡◌, ◌≢◌, ◌<◌, ◌⊎◌, ℕ, Bool, true, false, if◌then◌else◌, List, [], ◌∷◌, ◌++◌, length, map, IsTrue}
+use Rattle.std.specs.Prelude.{◌≡◌, ◌≢◌, ◌<◌, ◌⊎◌, ℕ, Bool, true, false, if◌then◌else◌, List, [], ◌∷◌, ◌++◌, length, map, IsTrue, Some}
 use Rattle.std.specs.List.{list_all}
 use Rattle.pipe_types.specs.Counts.{Rose}
 use Rattle.pipe_types.specs.Handlers.{batch_answer_by, count_after_batch, end_by, text_by, outcome_with, is_own_outcome, is_own_end, is_successful}

@@ -211,7 +211,7 @@ counts_wrote topology before s spec bytes end has_sink messages b c e is live ar
     ∙ ap (λ ms. count_after_batch spec (count topology before s) ms) is ∙ sym (count_wrote topology before s bytes end spec e)
 
 -- no reset more
-resets_on : (n : ℕ) (a b c : BoxSeen) → RoseExactly n a.resets b.resets → RoseExactly 0 b.resets c.resets → RoseExactly n a.resets c.resets
+pub resets_on : (n : ℕ) (a b c : BoxSeen) → RoseExactly n a.resets b.resets → RoseExactly 0 b.resets c.resets → RoseExactly n a.resets c.resets
 resets_on n a b c first then = subst (λ m. RoseExactly m a.resets c.resets) (omega arith) (counted_on n 0 a.resets b.resets c.resets first then)
 
 -- the end of a batch that was taken

@@ -127,5 +127,5 @@ fn is_plain(message: &Message) -> bool
 fn is_plain_one(byte: u8) -> bool
     ensures { result ≡ is_plain_byte byte }
 {
-    byte == 10 || (32 <= byte && byte <= 126)
+    (10 <= byte && byte <= 10) || (32 <= byte && byte <= 126)
 }

@@ -14,14 +14,14 @@ use Rattle.stage_callback.specs.declared.answers.Prepared.{Prepared}
 -- what a callback says of its replies to messages: each is one of these, a message that passes keeps its payload, or the payload
 -- that passes has bytes of these ranges alone
 pub data MessageForm : Type 0 where
-  pub replies_among : List (Message × Reply) → MessageForm
-  pub payload_stays : MessageForm
-  pub payload_within : (ranges : List (ℕ × ℕ)) → MessageForm
+  replies_among : List (Message × Reply) → MessageForm
+  payload_stays : MessageForm
+  payload_within : (ranges : List (ℕ × ℕ)) → MessageForm
 
 -- of its answers to batches: each is one of these, or the text has bytes of these ranges alone
 pub data BatchForm : Type 0 where
-  pub answers_among : List (Batch × BatchReply) → BatchForm
-  pub text_within : (ranges : List (ℕ × ℕ)) → BatchForm
+  answers_among : List (Batch × BatchReply) → BatchForm
+  text_within : (ranges : List (ℕ × ℕ)) → BatchForm
 
 -- what it says of its answers, to a message, to a chunk, to a batch, and to a message that failed for a reason. It is plain data,
 -- so that whoever holds the callback may hold it too
@@ -79,7 +79,7 @@ KeepsBatch law asked answer = AllAllowBatch law.batches asked answer
 
 -- the law allows this answer to a message that failed for this reason
 abbrev pub KeepsFailed : Law → MsgNo → (why : List ℕ) → FailedReply → Type 0
-KeepsFailed law number why answer = IsAmong law.failures (number, why, answer)
+KeepsFailed law number why answer = IsAmong law.failures (number, (why, answer))
 
 -- ---- counts
 
