@@ -87,13 +87,13 @@ late_resets topology before p i answer child is = rw (same_post-self p, is) refl
 
 none_more : (topology : Topology) (before : History) (p : Post) (i : ℕ) (answer : LateAnswer) (a b c : BoxSeen) → has_role topology p.stage is_supervisor_role ≡ false → RoseExactly (resets_of topology before p) a.resets b.resets → RoseExactly 0 b.resets c.resets
     → RoseExactly (resets_of topology (Late p.stage p.slot i answer ∷ before) p) a.resets c.resets
-none_more topology before p i answer a b c calm first then =
-    subst (λ n. RoseExactly n a.resets c.resets) (sym (late_resets topology before p i answer false calm)) (resets_on (resets_of topology before p) a b c first then)
+none_more topology before p i answer a b c calm first more =
+    subst (λ n. RoseExactly n a.resets c.resets) (sym (late_resets topology before p i answer false calm)) (resets_on (resets_of topology before p) a b c first more)
 
 one_reset : (topology : Topology) (before : History) (p : Post) (i : ℕ) (answer : LateAnswer) (a b c : BoxSeen) → has_role topology p.stage is_supervisor_role ≡ true → RoseExactly (resets_of topology before p) a.resets b.resets → RoseExactly 1 b.resets c.resets
     → RoseExactly (resets_of topology (Late p.stage p.slot i answer ∷ before) p) a.resets c.resets
-one_reset topology before p i answer a b c child first then =
-    subst (λ n. RoseExactly n a.resets c.resets) (sym (late_resets topology before p i answer true child)) (counted_on (resets_of topology before p) 1 a.resets b.resets c.resets first then)
+one_reset topology before p i answer a b c child first more =
+    subst (λ n. RoseExactly n a.resets c.resets) (sym (late_resets topology before p i answer true child)) (counted_on (resets_of topology before p) 1 a.resets b.resets c.resets first more)
 
 callback_late : (topology : Topology) (before : History) (p : Post) (i : ℕ) (answer : LateAnswer) (a b c : BoxSeen) → IsCounted topology (Late p.stage p.slot i answer ∷ before) p.stage c → KeepsCallback topology before p a b → KeepsBox b c
     → (b.kind ≡ Own → RoseExactly (resets_of topology before p) a.resets b.resets → RoseExactly (resets_of topology (Late p.stage p.slot i answer ∷ before) p) a.resets c.resets) → (b.law ≡ a.law → IsLawfulStep topology before (Late p.stage p.slot i answer) p a.law)
@@ -115,17 +115,17 @@ fetched_late : (topology : Topology) (before : History) (p : Post) (most i : ℕ
 fetched_late topology before p most i (came.Records records) a old new is legal there done k = record {
   source = both_then (λ x y z h f. source_accepts before (late_step p i (came.Records records) ∷ before) p.stage most records x y z (rw (same_stage-self p.stage) refl) refl refl h f) a.source old.source new.source k.source done.0;
   sink = subst (λ x. Both (KeepsSink topology (late_step p i (came.Records records) ∷ before) p.stage []) a.sink x) (sym done.1) (both_map (λ x y h. sink_as topology before (late_step p i (came.Records records) ∷ before) p.stage x y refl refl h) a.sink old.sink k.sink);
-  callback = subst (λ x. Both (KeepsCallback topology (late_step p i (came.Records records) ∷ before) p) a.callback x) (sym done.2) (both_map (λ x y h. callback_late topology before p i (late.Records records) x y y (uncounted topology before p (work.Fetch most) i (late.Records records) y is legal) h (box_same y) (λ own r. none_more topology before p i _ x y y (producers_alone topology p.stage is.0) r (none_counted y.resets y.resets refl)) (λ same. tt)) a.callback old.callback k.callback);
+  callback = subst (λ x. Both (KeepsCallback topology (late_step p i (came.Records records) ∷ before) p) a.callback x) (sym done.2) (both_map (λ x y h. callback_late topology before p i (late.Records records) x y y (uncounted topology before p (work.Fetch most) i (late.Records records) y is legal) h (box_same y) (λ own r. none_more topology before p i (late.Records records) x y y (producers_alone topology p.stage is.0) r (none_counted y.resets y.resets refl)) (λ same. tt)) a.callback old.callback k.callback);
 }
 fetched_late topology before p most i came.NotYet a old new is legal there done k = record {
   source = both_then (λ x y z h f. source_rests before (late_step p i came.NotYet ∷ before) p.stage most x y z refl refl (rw (same_stage-self p.stage) refl) h f) a.source old.source new.source k.source done.0;
   sink = subst (λ x. Both (KeepsSink topology (late_step p i came.NotYet ∷ before) p.stage []) a.sink x) (sym done.1) (both_map (λ x y h. sink_as topology before (late_step p i came.NotYet ∷ before) p.stage x y refl refl h) a.sink old.sink k.sink);
-  callback = subst (λ x. Both (KeepsCallback topology (late_step p i came.NotYet ∷ before) p) a.callback x) (sym done.2) (both_map (λ x y h. callback_late topology before p i late.Quiet x y y (uncounted topology before p (work.Fetch most) i late.Quiet y is legal) h (box_same y) (λ own r. none_more topology before p i _ x y y (producers_alone topology p.stage is.0) r (none_counted y.resets y.resets refl)) (λ same. tt)) a.callback old.callback k.callback);
+  callback = subst (λ x. Both (KeepsCallback topology (late_step p i came.NotYet ∷ before) p) a.callback x) (sym done.2) (both_map (λ x y h. callback_late topology before p i late.Quiet x y y (uncounted topology before p (work.Fetch most) i late.Quiet y is legal) h (box_same y) (λ own r. none_more topology before p i late.Quiet x y y (producers_alone topology p.stage is.0) r (none_counted y.resets y.resets refl)) (λ same. tt)) a.callback old.callback k.callback);
 }
 fetched_late topology before p most i (came.Ended h) a old new is legal there done k = record {
   source = both_then (λ x y z k f. source_ends before (late_step p i (came.Ended h) ∷ before) p.stage most h x y z refl (rw (same_stage-self p.stage) refl) refl k f) a.source old.source new.source k.source done.0;
   sink = subst (λ x. Both (KeepsSink topology (late_step p i (came.Ended h) ∷ before) p.stage []) a.sink x) (sym done.1) (both_map (λ x y k. sink_as topology before (late_step p i (came.Ended h) ∷ before) p.stage x y refl refl k) a.sink old.sink k.sink);
-  callback = subst (λ x. Both (KeepsCallback topology (late_step p i (came.Ended h) ∷ before) p) a.callback x) (sym done.2) (both_map (λ x y k. callback_late topology before p i (late.Source h) x y y (uncounted topology before p (work.Fetch most) i (late.Source h) y is legal) k (box_same y) (λ own r. none_more topology before p i _ x y y (producers_alone topology p.stage is.0) r (none_counted y.resets y.resets refl)) (λ same. tt)) a.callback old.callback k.callback);
+  callback = subst (λ x. Both (KeepsCallback topology (late_step p i (came.Ended h) ∷ before) p) a.callback x) (sym done.2) (both_map (λ x y k. callback_late topology before p i (late.Source h) x y y (uncounted topology before p (work.Fetch most) i (late.Source h) y is legal) k (box_same y) (λ own r. none_more topology before p i (late.Source h) x y y (producers_alone topology p.stage is.0) r (none_counted y.resets y.resets refl)) (λ same. tt)) a.callback old.callback k.callback);
 }
 fetched_late topology before p most i (came.Replies replies) a old new is legal there done k = absurd (no_fetch most (came.Replies replies) old.source new.source (λ b c f. f.answer) there done.0)
 fetched_late topology before p most i (came.Wrote bytes end) a old new is legal there done k = absurd (no_fetch most (came.Wrote bytes end) old.source new.source (λ b c f. f.answer) there done.0)
