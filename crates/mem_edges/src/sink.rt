@@ -63,11 +63,7 @@ impl MemSink {
     ghost use Rattle.mem_edges.specs.MemSink.{held_by, room_of, acts, acts_left, IsUnwritten};
 
     /// Holds these bytes, and takes memory for `room` further ones.
-    pub fn new(
-        held: Bytes,
-        room: usize,
-        script: SinkScript,
-    ) -> Result<MemSink, AllocError>
+    pub fn new(held: Bytes, room: usize, script: SinkScript) -> Result<MemSink, AllocError>
         ensures held { IfOk result (λ k. held_by k ≡ held) }
         ensures room { IfOk result (λ k. room_of k ≡ room) }
         ensures acts { IfOk result (λ k. acts k ≡ script) }

@@ -85,7 +85,7 @@ impl<B: ByteSource> LineSource<B> {
         // It reads only where no whole line is held, nor more bytes than a line may have.
         ensures unread { ¬ IsLine (waiting self.old) → line_source self.new ≡ line_source self.old }
 
-        // It reads only behind a part of a line, never once more behind a piece that holds a whole one.
+        // It reads only behind a part of a line: before the last 8,192 bytes at most that it read, no LF was held.
         ensures needed { ReadsAsNeeded (waiting self.old) (waiting self.new)
             (text_of (line_end_of self.new) (records_in result)) }
 

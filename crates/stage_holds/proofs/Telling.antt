@@ -100,5 +100,6 @@ leaves_told look job body told now topology before after home away is x = record
   within = x.within;
   outs = x.outs;
   row = x.row;
+  rows = x.rows;
   homes = x.homes;
 }

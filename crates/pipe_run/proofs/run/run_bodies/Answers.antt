@@ -114,8 +114,8 @@ returns-in_default-clause-wanting g c =
     let seen = edges_seen e.told e.named e.asked e.faults e.sources_back e.sinks_back (source_seen s) (sink_seen k.told k.held k.faults) in
     unasked c.args.topology (seen c.args.edges.now)
 
-pub returns-in-Err-OutOfMemory-clause-wanting : goal.returns-in-Err-OutOfMemory-clause-wanting
-returns-in-Err-OutOfMemory-clause-wanting g c =
+pub returns-clause-wanting : goal.returns-clause-wanting
+returns-clause-wanting g c =
     let e = g.E.Edges in
     let s = g.E.Source.ByteSource in
     let k = g.E.Sink.ByteSink in
