@@ -92,8 +92,10 @@ impl Children {
         ensures free { IfSome result (λ slot. (slot < length self.now.slots) × (child_in self.now.slots slot ≡ None)) }
         ensures full { (result ≡ None) ↔ (alive self.now.slots ≡ length self.now.slots) }
     {
-        let slot = free_slot(&self.slots)?;
-        Some(slot as u16)
+        match free_slot(&self.slots) {
+            Some(slot) => Some(slot as u16),
+            None => None,
+        }
     }
 
     /// Starts a child for this message in this slot, which is free.

@@ -90,6 +90,7 @@ nothing_home look p w ended = record {
   cut_off = tt;
   one_line = omega arith;
   row = λ going. tt;
+  rows = λ going memory. not_going p.end ended going;
   lessens = λ row goes. absurd goes;
   away = λ post. (λ c. inr (c, λ e. none-some post e), ⊎_elim (λ (e : None ≡ Some post). absurd (none-some post e)) (λ (u : Contains (away_of p) post × (None ≢ Some post)). u.0));
 }
@@ -157,6 +158,7 @@ one_home look home p after places w g ended table same =
       cut_off = λ fails. ended;
       one_line = omega arith;
       row = λ going. tt;
+      rows = λ going memory. not_going p.end ended going;
       lessens = λ row goes. absurd goes;
       away = subst (λ (n : ℕ). AreAway (Some home.post) None (away_of p) (away_in p.topology after n)) (sym same)
           (moves p.topology p.home after p.places (Some home.post) None (comes_home home.post (look home.body) p.home after table) first.slot tt);
