@@ -1,4 +1,4 @@
-use Rattle.std.proofs.Common.{◌∷◌, ap, ◌∙◌}
+use Rattle.std.proofs.Common.{◌∷◌, ap, ◌∙◌, arith}
 use Rattle.core_state.specs.declared.state.Core.{Core}
 use Rattle.core_losses.specs.Lost.{IsKill}
 use Rattle.core_kills.proofs.Killed.{appended_stands}
@@ -14,6 +14,8 @@ returns-clause-stands c =
     let early = c.lose_held.ensures.rest in
     let late = c.bury_all.ensures.rest in
     let steps = ap (λ (x : Core). x.journal.steps) late ∙ ap (λ (x : Core). x.journal.steps) early in
+    let spare = ap (λ (x : Core). x.journal.spare) late ∙ ap (λ (x : Core). x.journal.spare) early in
     appended_stands old c.lose_held.new.core c.bury_all.new.core c.push_spare.new.self c.args.totals c.args.step c.args.killed.now
-    c.requires.holds c.requires.legal c.requires.killing c.requires.rows c.requires.killed (c.lose_held.ensures.lost kill) early c.bury_all.ensures.buried late c.requires.totals
-    (c.push_spare.ensures.written ∙ ap (λ steps. c.args.step ∷ steps) steps)
+    c.requires.holds c.requires.legal c.requires.killing c.requires.rows c.requires.killed (c.lose_held.ensures.lost kill) early c.bury_all.ensures.buried late
+    c.lose_held.ensures.places_capacity c.lose_held.ensures.settled_capacity c.requires.totals
+    (c.push_spare.ensures.written ∙ ap (λ steps. c.args.step ∷ steps) steps) (omega (arith, c.requires.room, spare, c.push_spare.ensures.spare))
