@@ -101,7 +101,7 @@ fn parts_in(alloc: Global, spec: &StageSpec, records: &[Bytes]) -> Result<Vec<u3
 }
 
 /// Whether a dispatch of the live stage of messages sends something, of which this was planned, or loses what is over the size.
-pub fn is_due(core: &Core, stage: StageNo, sent: &[Sent]) -> bool
+fn is_due(core: &Core, stage: StageNo, sent: &[Sent]) -> bool
     requires holds { Holds core.now }
     requires live { is_live core.now.topology core.now.journal.steps stage ≡ true }
     requires messages { is_batcher (spec_of core.now.topology stage) ≡ false }

@@ -65,7 +65,7 @@ live_within_rows topology before units rows sound many live k e below =
     record { consumer = omega (arith, many, (known_within topology u.consumer (numbered_topology topology sound) (fed_spec topology u.producer u.consumer fed).1).1) }
 
 -- inboxes with more room hold what they held
-pub roomy_fields : (core : Core) (topology : Topology) (before : History) (inboxes : Vec (VecDeque (SubNo × ℕ) Global) Global) → ((c : StageNo) → queue_at inboxes.items c ≡ queue_at core.inboxes.items c) → length inboxes.items ≡ length core.inboxes.items
+roomy_fields : (core : Core) (topology : Topology) (before : History) (inboxes : Vec (VecDeque (SubNo × ℕ) Global) Global) → ((c : StageNo) → queue_at inboxes.items c ≡ queue_at core.inboxes.items c) → length inboxes.items ≡ length core.inboxes.items
     → Fields core topology before → Fields (record core { inboxes = inboxes }) topology before
 roomy_fields core topology before inboxes same long x =
     record {

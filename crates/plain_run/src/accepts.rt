@@ -1,8 +1,9 @@
 //! Accepts, and what they owe.
 
-ghost use Rattle.std.specs.Prelude.{◌≡◌, ◌∷◌, [], ◌≤◌, true, IfOk, OnOk, OnErr, IsTrue, All, length};
+ghost use Rattle.std.specs.Prelude.{◌≡◌, ◌∷◌, [], ◌≤◌, ◌||◌, ◌==◌, not, true, IfOk, OnOk, OnErr, IsTrue, All, length};
 ghost use Rattle.pipe_model.specs.Legal.{allows, may_dispatch};
 ghost use Rattle.core_tables.specs.Tables.{HasRoom};
+ghost use Rattle.core_accepts.specs.Records.{is_over};
 ghost use Rattle.core_sends.specs.Rooms.{planned};
 ghost use Rattle.core_state.specs.Stands.{Stands, Holds};
 ghost use Rattle.plain_run.specs.Owes.{OwesDispatch};
@@ -82,4 +83,32 @@ fn make_owed_room(core: &mut Core, stage: StageNo, sent: &[Sent]) -> Result<(), 
 {
     make_inbox_room(&mut core.inboxes, sent)?;
     core.journal.reserve(MOST_DUE + 1)
+}
+
+/// Whether the dispatch of the producer that brought records in the last step, of which this was planned, sends something or
+/// loses what is over the size.
+pub(crate) fn is_due(core: &Core, stage: StageNo, sent: &[Sent]) -> bool
+    requires holds { Holds core.now }
+    requires owes { OwesDispatch core.now.topology core.now.journal.steps stage }
+    requires planned { sent.now ≡ planned core.now.topology core.now.journal.steps stage [] }
+    ensures { result ≡ may_dispatch core.now.topology core.now.journal.steps stage }
+{
+    let Some(spec) = core.topology.stages.find(stage) else {
+        unreachable!();
+    };
+    let units = core.waiting[stage.0 as usize].len();
+    is_some_due(sent, spec.size, units)
+}
+
+/// Whether something is sent, or more units wait than the size.
+fn is_some_due(sent: &[Sent], size: Option<u32>, units: usize) -> bool
+    ensures { result ≡ (not (length sent.now == 0) || is_over size units) }
+{
+    if !sent.is_empty() {
+        return true;
+    }
+    match size {
+        Some(size) => (size as usize) < units,
+        None => false,
+    }
 }

@@ -18,7 +18,12 @@ use pipe_types::numbers::{MsgNo, Post, StageNo};
 use pipe_types::topology::{Role, Topology};
 
 /// Number and producer of the message at that place of the chunk or the child that is out at the post.
-pub(crate) fn named_at(core: &Core, works: &Works, post: Post, at: usize) -> Option<(MsgNo, StageNo)>
+pub(crate) fn named_at(
+    core: &Core,
+    works: &Works,
+    post: Post,
+    at: usize,
+) -> Option<(MsgNo, StageNo)>
     requires holds { Holds core.now }
     requires works { WorksStand core.now.topology core.now.journal.steps works.now }
     ensures { result ≡ named_at_as core.now.topology core.now.journal.steps post at }

@@ -8,12 +8,11 @@ ghost use Rattle.plain_run.specs.Runs.{IsRun};
 ghost use Rattle.plain_run.specs.Works.{WorksStand};
 ghost use Rattle.plain_run.specs.declared.after.After.TheVariants.{Free, Accept as AfterAccept, Crash as AfterCrash};
 
-use crate::accepts::{append_owed, plan_owed};
+use crate::accepts::{append_owed, is_due, plan_owed};
 use crate::after::After;
 use crate::appends::append;
 use crate::given::is_given;
 use crate::works::Works;
-use core_accepts::calls::is_due;
 use core_allows::allowing::allows;
 use core_kills::kills::kill_owed;
 use core_state::Core;

@@ -2,7 +2,7 @@
 //!
 //! A `PlainRun` has a topology and the steps so far. `step` appends the step that it is given where that is legal, and says
 //! whether it is; `chunk` says which message a job that is out works on at a place. A step costs what the run spent on it.
-// TACTIC
+#![tactic(auto)]
 
 mod accepts;
 mod after;
