@@ -1,6 +1,6 @@
 -- A run after a step.
 use Rattle.std.proofs.Common.{◌≡◌, ◌∷◌, true, false, refl, Some, None, Option, subst}
-use Rattle.std.specs.Prelude.{is_some, unwrap_or}
+use Rattle.std.specs.Prelude.{is_some, unwrap_or, Result, Ok, Err, OnErr}
 use Rattle.pipe_types.specs.declared.numbers.StageNo.{StageNo}
 use Rattle.pipe_types.specs.declared.step.Step.{Step}
 use Rattle.pipe_model.specs.Legal.{owed}
@@ -46,3 +46,8 @@ run_free core works after run e = record { holds = run.holds; unowed = subst (λ
 
 pub run_owes : (core : Core) (works : Works) (after other : After) → IsRun core works after → after ≡ other → Owes core.topology core.journal.steps other
 run_owes core works after other run e = subst (λ (a : After). Owes core.topology core.journal.steps a) e run.owes
+
+-- what holds at all holds of an error
+pub on_err : {T E : Type 0} (r : Result T E) (P : Type 0) → P → OnErr r P
+on_err (Ok x) P p = tt
+on_err (Err e) P p = p

@@ -72,3 +72,10 @@ named_none topology before p at out e = ap (λ b. if b then with_producer before
 
 pub named_home : (topology : Topology) (before : History) (p : Post) (at : ℕ) → is_out before p ≡ false → named_at topology before p at ≡ None
 named_home topology before p at home = ap (λ b. if b then with_producer before (slice_get (job_units topology before p) at) else None) home
+
+-- a supervisor's job is that of the slot
+pub units_child : (topology : Topology) (before : History) (p : Post) (at : ℕ) → has_role topology p.stage is_processor_role ≡ false → has_role topology p.stage is_supervisor_role ≡ true
+    → slice_get (job_units topology before p) at ≡ slice_get (option_to_list (in_slot before p.stage p.slot)) at
+units_child topology before p at other role =
+    ap (λ b. slice_get (if b then taken_units topology before p.stage else (if has_role topology p.stage is_supervisor_role then option_to_list (in_slot before p.stage p.slot) else [])) at) other
+    ∙ ap (λ b. slice_get (if b then option_to_list (in_slot before p.stage p.slot) else []) at) role

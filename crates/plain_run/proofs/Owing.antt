@@ -1,5 +1,5 @@
 -- The step that the last one owes.
-use Rattle.std.proofs.Common.{◌≡◌, ℕ, suc, List, [], ◌∷◌, length, Bool, true, false, refl, ap, sym, ◌∙◌, Some, None, Option, subst}
+use Rattle.std.proofs.Common.{◌≡◌, ◌≤◌, ℕ, suc, List, [], ◌∷◌, length, Bool, true, false, refl, ap, sym, ◌∙◌, Some, None, Option, subst}
 use Rattle.std.specs.Prelude.{◌&&◌, ◌||◌, not, if◌then◌else◌, is_some}
 use Rattle.std.specs.List.{list_any}
 use Rattle.std.specs.declared.alloc.Global.{Global}
@@ -127,7 +127,7 @@ owed_where topology before s w some = w.owed ∙ ap (λ b. if b then Some (is_di
 
 -- it is refused where the pipeline has halted, or it is another one
 pub refused_owed : (topology : Topology) (before : History) (step : Step) (test : Step → Bool) → owed topology before ≡ Some test → test step ≡ false → false ≡ allows topology before step
-refused_owed topology before step test o no = sym (ap (λ x. (not (happened is_halt before) || is_late step) && passes x step (may_come topology before step)) o ∙ (ap (λ b. (not (happened is_halt before) || is_late step) && b) no ∙ never (not (happened is_halt before) || is_late step)))
+refused_owed topology before step test o other = sym (ap (λ x. (not (happened is_halt before) || is_late step) && passes x step (may_come topology before step)) o ∙ (ap (λ b. (not (happened is_halt before) || is_late step) && b) other ∙ never (not (happened is_halt before) || is_late step)))
   where
     never : (b : Bool) → (b && false) ≡ false
     never true = refl
@@ -143,9 +143,9 @@ refused_halted topology before step test o halted late =
     by false e = refl
 
 pub allowed_owed : (topology : Topology) (before : History) (step : Step) (test : Step → Bool) → owed topology before ≡ Some test → happened is_halt before ≡ false → test step ≡ true → allows topology before step ≡ true
-allowed_owed topology before step test o going yes =
+allowed_owed topology before step test o going passed =
     ap (λ x. (not (happened is_halt before) || is_late step) && passes x step (may_come topology before step)) o
-    ∙ (ap (λ b. (not b || is_late step) && test step) going ∙ yes)
+    ∙ (ap (λ b. (not b || is_late step) && test step) going ∙ passed)
 
 -- the dispatch and the kill that are owed, by their tests
 pub late_no_dispatch : (s : StageNo) (step : Step) → is_late step ≡ true → is_dispatch_of s step ≡ false

@@ -27,10 +27,8 @@ use Rattle.core_state.specs.Stands.{Holds}
 
 -- a take that is allowed is the next one
 pub take_next : (topology : Topology) (before : History) (s : StageNo) (u : SubNo) (k : ℕ) → allows topology before (Take s u k) ≡ true → take_step topology before s ≡ Some (Take s u k)
-take_next topology before s u k h = by (spec_of topology s) (inbox topology before s) facts.first facts.size
+take_next topology before s u k h = let facts = take_facts topology before s u k h in by (spec_of topology s) (inbox topology before s) facts.first facts.size
   where
-    facts = take_facts topology before s u k h
-
     by : (o : Option StageSpec) (xs : List (SubNo × ℕ)) → first_sub xs u ≡ true → k ≡ chunk_size o (length (units_on u xs)) → take_first o s xs ≡ Some (Take s u k)
     by o [] first size = cc
     by o (d ∷ xs) first size =

@@ -6,7 +6,7 @@ use Rattle.core_state.specs.Stands.{Holds, Stands}
 use Rattle.plain_run.specs.Works.{WorksStand}
 use Rattle.plain_run.specs.Owes.{Owes}
 
-pub record IsRun (core : Core) (works : Works) (after : After) : Type 0 where
+pub record IsRun (core : Core) (held : Works) (after : After) : Type 0 where
   pub holds : Holds core
   pub owes : Owes core.topology core.journal.steps after
-  pub works : WorksStand core.topology core.journal.steps works
+  pub works : WorksStand core.topology core.journal.steps held

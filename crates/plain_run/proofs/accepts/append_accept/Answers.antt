@@ -11,7 +11,7 @@ pub overflow_cast-count : goal.overflow_cast-count
 overflow_cast-count c =
     let core = c.args.core.now in
     let x = c.requires.stands.holds in
-    omega (arith, (bringing core.topology core.journal.steps c.args.stage c.args.records x.sound x.legal c.requires.legal).law.fits)
+    omega (arith, (bringing core.topology core.journal.steps c.args.stage c.args.records x.sound x.legal c.requires.legal).law.fits, ap (λ (rs : List (List ℕ)). length rs) c.as_slice.ensures)
 
 pub make_room-requires-clause-known : goal.make_room-requires-clause-known
 make_room-requires-clause-known c =

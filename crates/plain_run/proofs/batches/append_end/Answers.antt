@@ -17,5 +17,5 @@ returns-then-has_crashed-clause-appended c =
     let is = crash_as core.topology core.journal.steps c.args.stage c.args.bytes c.args.end (sym c.has_crashed.ensures ∙ c.if-has_crashed.true) c.requires.legal in
     c.write_crash.ensures.appended ∙ ap (λ (step : Step). step ∷ core.journal.steps) is
 
-pub wrote-requires-clause-answered : goal.wrote-requires-clause-answered
-wrote-requires-clause-answered c = calm_end c.args.end (sym c.has_crashed.ensures ∙ c.if-has_crashed.false)
+pub wrote-answered-requires-clause-answered : goal.wrote-answered-requires-clause-answered
+wrote-answered-requires-clause-answered c = calm_end c.args.end (sym c.has_crashed.ensures ∙ c.if-has_crashed.false)

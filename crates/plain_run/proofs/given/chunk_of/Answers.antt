@@ -1,4 +1,6 @@
-use Rattle.std.proofs.Common.{◌≤◌, ℕ, ◌∙◌, ap, sym, subst, All}
+use Rattle.std.proofs.Common.{◌≡◌, ◌≤◌, ℕ, List, ◌∙◌, ap, sym, subst, All}
+use Rattle.std.specs.Prelude.{IfOk}
+use Rattle.pipe_types.specs.declared.message.Message.{Message}
 use Rattle.pipe_model.specs.Work.{messages_of}
 use Rattle.core_tables.specs.Tables.{list_at}
 use Rattle.plain_run.proofs.given.chunk_of.Goals as goal
@@ -9,4 +11,5 @@ copies_of-requires-clause-least c =
 
 pub returns : goal.returns
 returns c =
-    c.in_ok-copies_of.ensures ∙ ap (messages_of c.args.core.now.journal.steps) (c.taken_in.ensures ∙ (ap (λ rows. list_at rows c.args.stage) c.deref.ensures.value ∙ c.requires.works.taken c.args.stage))
+    subst (λ (ms : List Message). IfOk c.copies_of.result (λ messages. messages.items ≡ ms))
+    (ap (messages_of c.args.core.now.journal.steps) (c.taken_in.ensures ∙ (ap (λ rows. list_at rows c.args.stage) c.deref.ensures.value ∙ c.requires.works.taken c.args.stage))) c.copies_of.ensures

@@ -8,10 +8,10 @@ pub are_replies-requires-clause-processor : goal.are_replies-requires-clause-pro
 are_replies-requires-clause-processor c =
     let core = c.args.core.now in
     let a = c.in-Done in
-    replies_role core.topology core.journal.steps a.stage a.replies.now (subst (λ (step : Step). allows_tested core.topology core.journal.steps step ≡ true) a.is c.requires.tested)
+    replies_role core.topology core.journal.steps a.stage a.replies (subst (λ (step : Step). allows_tested core.topology core.journal.steps step ≡ true) a.is c.requires.tested)
 
 pub is_reply-requires-clause-out : goal.is_reply-requires-clause-out
 is_reply-requires-clause-out c =
     let core = c.args.core.now in
     let a = c.in-ChildEnd in
-    reply_out core.topology core.journal.steps a.stage a.slot a.reply.now (subst (λ (step : Step). allows_tested core.topology core.journal.steps step ≡ true) a.is c.requires.tested)
+    reply_out core.topology core.journal.steps a.stage a.slot a.reply (subst (λ (step : Step). allows_tested core.topology core.journal.steps step ≡ true) a.is c.requires.tested)

@@ -28,10 +28,10 @@ returns-clause-appended c =
     let core = c.args.core.now in
     c.in_ok-_chunk.ensures.appended ∙ ap (λ o. with_step o core.journal.steps) (take_next core.topology core.journal.steps c.args.stage c.args.sub c.args.k c.requires.legal)
 
-pub returns-in_err-take-clause-works : goal.returns-in_err-take-clause-works
-returns-in_err-take-clause-works c =
+pub returns-in_err-_chunk-clause-works : goal.returns-in_err-_chunk-clause-works
+returns-in_err-_chunk-clause-works c =
     let core = c.args.core.now in
-    works_same core.topology c.take.new.core.topology core.journal.steps c.take.new.core.journal.steps c.args.works.now c.in_err-take.ensures.topology c.in_err-take.ensures.unchanged c.requires.works
+    works_same core.topology c.take.new.core.topology core.journal.steps c.take.new.core.journal.steps c.args.works.now c.in_err-_chunk.ensures.topology c.in_err-_chunk.ensures.unchanged c.requires.works
 
 pub returns-clause-works : goal.returns-clause-works
 returns-clause-works c =
