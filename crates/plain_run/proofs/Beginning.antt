@@ -1,12 +1,10 @@
 -- The tables of a run without a step.
-use Rattle.std.proofs.Common.{◌≡◌, ℕ, zero, suc, ◌+◌, ◌*◌, ◌<◌, ◌≤◌, List, [], length, replicate, Bool, true, refl, ap, sym, ◌∙◌, Some, None, arith, inl, inr, subst}
-use Rattle.std.specs.Prelude.{slice_get, slice_index, ◌⊎◌}
-use Rattle.std.proofs.lemmas.Bool.{cases_lt}
+use Rattle.std.proofs.Common.{◌≡◌, ℕ, zero, suc, ◌+◌, ◌*◌, ◌<◌, ◌≤◌, List, [], length, replicate, refl, ap, sym, ◌∙◌, Some, None, arith, subst}
+use Rattle.std.specs.Prelude.{slice_get, slice_index}
 use Rattle.std.proofs.lemmas.List.{length-replicate}
 use Rattle.pipe_types.specs.declared.numbers.StageNo.{StageNo}
 use Rattle.pipe_types.specs.declared.topology.Topology.{Topology}
 use Rattle.pipe_model.specs.History.{History}
-use Rattle.pipe_model.specs.Legal.{owed}
 use Rattle.core_tables.specs.Tables.{list_at}
 use Rattle.core_tables.specs.Rows.{post_at}
 use Rattle.core_state.specs.declared.state.Core.{Core}

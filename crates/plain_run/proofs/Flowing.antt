@@ -1,6 +1,6 @@
 -- An ask, a fetch or a gather that is allowed is the one that its call appends.
 use Rattle.std.proofs.Common.{◌≡◌, ℕ, true, refl, ap}
-use Rattle.std.specs.Prelude.{◌==◌, ◌&&◌, not, nat_le, nat_lt}
+use Rattle.std.specs.Prelude.{◌==◌, not, nat_le, nat_lt}
 use Rattle.std.proofs.lemmas.Bool.{eqb-true}
 use Rattle.pipe_types.specs.declared.numbers.StageNo.{StageNo}
 use Rattle.pipe_types.specs.declared.numbers.SubNo.{SubNo}

@@ -1,6 +1,6 @@
 -- What is known of an answer whose form was tested.
-use Rattle.std.proofs.Common.{◌≡◌, ℕ, List, Bool, true, false, refl}
-use Rattle.std.specs.Prelude.{◌&&◌, ◌||◌, ◌==◌, not}
+use Rattle.std.proofs.Common.{◌≡◌, ℕ, List, true}
+use Rattle.std.specs.Prelude.{◌||◌, ◌==◌, not}
 use Rattle.pipe_types.specs.declared.numbers.StageNo.{StageNo}
 use Rattle.pipe_types.specs.declared.topology.Topology.{Topology}
 use Rattle.pipe_types.specs.declared.message.Reply.{Reply}
@@ -9,9 +9,9 @@ use Rattle.pipe_types.specs.Numbers.{post}
 use Rattle.pipe_model.specs.History.{History, incarnation}
 use Rattle.pipe_model.specs.Posts.{is_out, out_from}
 use Rattle.pipe_model.specs.Lives.{is_live}
-use Rattle.pipe_model.specs.Legal.{happened, is_halt, is_late, has_role, is_processor_role, is_supervisor_role, is_current}
+use Rattle.pipe_model.specs.Legal.{happened, is_halt, is_late, has_role, is_processor_role, is_supervisor_role}
 use Rattle.pipe_laws.proofs.Tests.{and_left, and_right}
-use Rattle.core_allows.specs.Tested.{allows_tested, may_come_tested}
+use Rattle.core_allows.specs.Tested.{allows_tested}
 
 -- replies are a processor's
 pub replies_role : (topology : Topology) (before : History) (s : StageNo) (replies : List Reply) → allows_tested topology before (Done s replies) ≡ true → has_role topology s is_processor_role ≡ true

@@ -1,5 +1,5 @@
 -- What a step makes of what handlers were shown and answered.
-use Rattle.std.proofs.Common.{◌≡◌, ℕ, suc, ◌*◌, ◌<◌, ◌≤◌, List, ◌∷◌, length, take, Bool, true, false, refl, ap, sym, ◌∙◌, Some, None, Option, arith, subst, All}
+use Rattle.std.proofs.Common.{◌≡◌, ℕ, ◌<◌, ◌≤◌, List, ◌∷◌, length, take, Bool, true, false, refl, ap, sym, ◌∙◌, Some, None, Option, arith, subst, All}
 use Rattle.std.specs.Prelude.{slice_get, slice_index, if◌then◌else◌, ◌==◌, ◌&&◌}
 use Rattle.std.specs.declared.alloc.Global.{Global}
 use Rattle.std.specs.declared.vec.Vec.{Vec}
@@ -26,7 +26,7 @@ use Rattle.pipe_laws.proofs.Tests.{same_stage-true, same_stage-self}
 use Rattle.core_tables.specs.Tables.{list_at}
 use Rattle.core_tables.specs.Rows.{post_at}
 use Rattle.plain_run.specs.declared.works.Works.{Works}
-use Rattle.plain_run.specs.Works.{WorksStand, AreSized, count_with}
+use Rattle.plain_run.specs.Works.{WorksStand, count_with}
 use Rattle.plain_run.specs.Steps.{keeps_works}
 
 -- in a core with the same topology and steps

@@ -1,22 +1,17 @@
 -- The numbers of a job.
-use Rattle.std.proofs.Common.{◌≡◌, ℕ, zero, suc, ◌-◌, ◌≤◌, List, [], ◌∷◌, Bool, true, false, refl, ap, sym, ◌∙◌, Some, None, Option, arith, subst, All}
-use Rattle.std.specs.Prelude.{slice_get, option_map, option_to_list, if◌then◌else◌, ◌==◌}
-use Rattle.std.proofs.lemmas.Bool.Decides.{nat_tests}
-use Rattle.pipe_types.specs.declared.numbers.StageNo.{StageNo}
-use Rattle.pipe_types.specs.declared.numbers.MsgNo.{MsgNo}
+use Rattle.std.proofs.Common.{◌≡◌, ℕ, zero, suc, ◌≤◌, List, [], ◌∷◌, Bool, true, false, refl, ap, ◌∙◌, Some, None, Option, arith, subst, All}
+use Rattle.std.specs.Prelude.{slice_get, option_to_list, if◌then◌else◌}
 use Rattle.pipe_types.specs.declared.numbers.Post.{Post}
 use Rattle.pipe_types.specs.declared.topology.Topology.{Topology}
-use Rattle.pipe_types.specs.Numbers.{message_no, post}
 use Rattle.pipe_model.specs.History.{History}
-use Rattle.pipe_model.specs.Posts.{is_out, in_slot}
-use Rattle.pipe_model.specs.Content.{producer_of}
+use Rattle.pipe_model.specs.Posts.{in_slot}
 use Rattle.pipe_model.specs.Work.{taken_units}
-use Rattle.pipe_model.specs.Legal.{is_legal, has_role, is_processor_role, is_supervisor_role}
+use Rattle.pipe_model.specs.Legal.{has_role, is_processor_role, is_supervisor_role}
 use Rattle.core_state.specs.declared.state.Core.{Core}
 use Rattle.core_state.specs.Stands.{Holds}
 use Rattle.plain_run.specs.declared.works.Works.{Works}
 use Rattle.plain_run.specs.Works.{WorksStand}
-use Rattle.plain_run.specs.Jobs.{job_units, named_at, with_producer}
+use Rattle.plain_run.specs.Jobs.{job_units}
 use Rattle.plain_run.proofs.Working.{started_low}
 
 all_some : (xs : List ℕ) (k n : ℕ) → All (λ m. 1 ≤ m) xs → slice_get xs k ≡ Some n → 1 ≤ n
@@ -44,34 +39,6 @@ unit_low core works p k n x w e =
     by false role true at =
         child_low (in_slot core.journal.steps p.stage p.slot) k n (λ m own. started_low core.topology core.journal.steps p.stage p.slot m x.legal own) at
     by false role false at = cc
-
--- the producer in the table
-pub produced : (core : Core) (n : ℕ) → Holds core → 1 ≤ n → slice_get core.producers.items (n - 1) ≡ producer_of core.journal.steps n
-produced core zero x low = absurd (omega arith)
-produced core (suc i) x low =
-    let less : suc i - 1 ≡ i = omega arith in
-    ap (slice_get core.producers.items) less ∙ x.fields.producers i
-
--- a child has one message
-pub one_child : (o : Option ℕ) (k : ℕ) (b : Bool) → (k == 0) ≡ b → (if b then o else None) ≡ slice_get (option_to_list o) k
-one_child None zero true e = refl
-one_child (Some m) zero true e = refl
-one_child o zero false e = let x : (0 == 0) ≡ true = refl in absurd (let y : true ≡ false = sym x ∙ e in cc)
-one_child None (suc k) true e = refl
-one_child (Some m) (suc k) true e = absurd (let x : (suc k == 0) ≡ false = grind (arith, nat_tests) in let y : false ≡ true = sym x ∙ e in cc)
-one_child None (suc k) false e = refl
-one_child (Some m) (suc k) false e = refl
-
--- what is named
-pub named_some : (topology : Topology) (before : History) (p : Post) (at n : ℕ) → is_out before p ≡ true → slice_get (job_units topology before p) at ≡ Some n
-    → named_at topology before p at ≡ option_map (λ s. (message_no n, s)) (producer_of before n)
-named_some topology before p at n out e = ap (λ b. if b then with_producer before (slice_get (job_units topology before p) at) else None) out ∙ ap (with_producer before) e
-
-pub named_none : (topology : Topology) (before : History) (p : Post) (at : ℕ) → is_out before p ≡ true → slice_get (job_units topology before p) at ≡ None → named_at topology before p at ≡ None
-named_none topology before p at out e = ap (λ b. if b then with_producer before (slice_get (job_units topology before p) at) else None) out ∙ ap (with_producer before) e
-
-pub named_home : (topology : Topology) (before : History) (p : Post) (at : ℕ) → is_out before p ≡ false → named_at topology before p at ≡ None
-named_home topology before p at home = ap (λ b. if b then with_producer before (slice_get (job_units topology before p) at) else None) home
 
 -- a supervisor's job is that of the slot
 pub units_child : (topology : Topology) (before : History) (p : Post) (at : ℕ) → has_role topology p.stage is_processor_role ≡ false → has_role topology p.stage is_supervisor_role ≡ true

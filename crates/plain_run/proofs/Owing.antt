@@ -1,6 +1,6 @@
 -- The step that the last one owes.
-use Rattle.std.proofs.Common.{◌≡◌, ◌≤◌, ℕ, suc, List, [], ◌∷◌, length, Bool, true, false, refl, ap, sym, ◌∙◌, Some, None, Option, subst}
-use Rattle.std.specs.Prelude.{◌&&◌, ◌||◌, not, if◌then◌else◌, is_some}
+use Rattle.std.proofs.Common.{◌≡◌, ◌≤◌, ℕ, List, [], ◌∷◌, length, Bool, true, false, refl, ap, sym, ◌∙◌, Some, None, subst}
+use Rattle.std.specs.Prelude.{◌&&◌, ◌||◌, not, if◌then◌else◌}
 use Rattle.std.specs.List.{list_any}
 use Rattle.std.specs.declared.alloc.Global.{Global}
 use Rattle.std.specs.declared.vec.Vec.{Vec}
@@ -14,13 +14,13 @@ use Rattle.pipe_types.specs.declared.message.BatchEnd.TheVariants.{Crashed, Outc
 use Rattle.pipe_types.specs.declared.message.Why.TheVariants.{Crash}
 use Rattle.pipe_types.specs.declared.topology.Topology.{Topology}
 use Rattle.pipe_types.specs.declared.step.Step.{Step}
-use Rattle.pipe_types.specs.declared.step.Step.TheVariants.{Accept, Dispatch, Done, Kill, Wrote}
+use Rattle.pipe_types.specs.declared.step.Step.TheVariants.{Accept, Dispatch, Kill}
 use Rattle.pipe_types.specs.Sound.{IsSound}
 use Rattle.pipe_model.specs.History.{History}
 use Rattle.pipe_model.specs.Content.{has_crash}
 use Rattle.pipe_model.specs.Ledger.{crashed_reply}
 use Rattle.pipe_model.specs.Legal.{is_legal, allows, owed, passes, may_come, may_dispatch, happened, is_halt, is_late, is_dispatch_of, is_crash_of}
-use Rattle.pipe_laws.proofs.Tests.{same_stage-self, same_stage-true}
+use Rattle.pipe_laws.proofs.Tests.{same_stage-true}
 use Rattle.pipe_journal.specs.Recorded.{Recorded}
 use Rattle.core_tables.specs.Tables.{queue_at}
 use Rattle.core_state.specs.declared.state.Core.{Core}
@@ -34,6 +34,7 @@ use Rattle.plain_run.specs.Owes.{OwesDispatch, is_crash}
 
 -- ---- the core with more room
 
+-- the journal made room
 pub still_holds : (core : Core) (j : Recorded) → Holds core → j.steps ≡ core.journal.steps → core.journal.spare ≤ j.spare → Holds (record core { journal = j })
 still_holds core j x same spare =
     record {
@@ -116,46 +117,15 @@ accept_owes topology after before steps s records same is sound legal h =
 pub owes_same : (t u : Topology) (h g : History) (s : StageNo) → u ≡ t → g ≡ h → OwesDispatch t h s → OwesDispatch u g s
 owes_same t u h g s e f w = subst (λ (x : Topology). OwesDispatch x g s) (sym e) (subst (λ (x : History). OwesDispatch t x s) (sym f) w)
 
--- where no dispatch may be made none is owed
-pub unowed_where : (topology : Topology) (before : History) (s : StageNo) → OwesDispatch topology before s → may_dispatch topology before s ≡ false → owed topology before ≡ None
-unowed_where topology before s w none = w.owed ∙ ap (λ b. if b then Some (is_dispatch_of s) else None) none
+-- ---- the owed step
 
-pub owed_where : (topology : Topology) (before : History) (s : StageNo) → OwesDispatch topology before s → may_dispatch topology before s ≡ true → owed topology before ≡ Some (is_dispatch_of s)
-owed_where topology before s w some = w.owed ∙ ap (λ b. if b then Some (is_dispatch_of s) else None) some
-
--- ---- a step where one is owed
-
--- it is refused where the pipeline has halted, or it is another one
-pub refused_owed : (topology : Topology) (before : History) (step : Step) (test : Step → Bool) → owed topology before ≡ Some test → test step ≡ false → false ≡ allows topology before step
-refused_owed topology before step test o other = sym (ap (λ x. (not (happened is_halt before) || is_late step) && passes x step (may_come topology before step)) o ∙ (ap (λ b. (not (happened is_halt before) || is_late step) && b) other ∙ never (not (happened is_halt before) || is_late step)))
-  where
-    never : (b : Bool) → (b && false) ≡ false
-    never true = refl
-    never false = refl
-
-pub refused_halted : (topology : Topology) (before : History) (step : Step) (test : Step → Bool) → owed topology before ≡ Some test → happened is_halt before ≡ true → (is_late step ≡ true → test step ≡ false) → false ≡ allows topology before step
-refused_halted topology before step test o halted late =
-    sym (ap (λ x. (not (happened is_halt before) || is_late step) && passes x step (may_come topology before step)) o
-    ∙ (ap (λ b. (not b || is_late step) && test step) halted ∙ by (is_late step) refl))
-  where
-    by : (b : Bool) → is_late step ≡ b → ((not true || b) && test step) ≡ false
-    by true e = late e
-    by false e = refl
-
+-- the step that is owed may come while the pipeline has not halted
 pub allowed_owed : (topology : Topology) (before : History) (step : Step) (test : Step → Bool) → owed topology before ≡ Some test → happened is_halt before ≡ false → test step ≡ true → allows topology before step ≡ true
 allowed_owed topology before step test o going passed =
     ap (λ x. (not (happened is_halt before) || is_late step) && passes x step (may_come topology before step)) o
     ∙ (ap (λ b. (not b || is_late step) && test step) going ∙ passed)
 
--- the dispatch and the kill that are owed, by their tests
-pub late_no_dispatch : (s : StageNo) (step : Step) → is_late step ≡ true → is_dispatch_of s step ≡ false
-late_no_dispatch s (Dispatch t) h = cc
-late_no_dispatch s _ h = refl
-
-pub late_no_crash : (s : StageNo) (step : Step) → is_late step ≡ true → is_crash_of s step ≡ false
-late_no_crash s (Kill t Crash) h = cc
-late_no_crash s _ h = refl
-
+-- what the tests say
 pub dispatch_is : (s : StageNo) (step : Step) → is_dispatch_of s step ≡ true → step ≡ Dispatch s
 dispatch_is s (Dispatch t) h = ap Dispatch (sym (same_stage-true s t h))
 dispatch_is s _ h = let x : false ≡ true = h in cc

@@ -1,5 +1,5 @@
 -- What is known of a take and of a child's start that are legal.
-use Rattle.std.proofs.Common.{◌≡◌, ℕ, suc, ◌*◌, ◌+◌, ◌<◌, ◌≤◌, List, [], ◌∷◌, length, take, Bool, true, false, refl, ap, sym, ◌∙◌, Some, None, Option, arith, subst, All}
+use Rattle.std.proofs.Common.{◌≡◌, ℕ, ◌<◌, ◌≤◌, List, [], ◌∷◌, length, take, true, false, refl, ap, sym, ◌∙◌, Some, Option, All}
 use Rattle.std.specs.Prelude.{◌==◌, ◌&&◌, ◌||◌, not}
 use Rattle.std.proofs.lemmas.Bool.{eq-eqb}
 use Rattle.pipe_types.specs.declared.numbers.StageNo.{StageNo}
@@ -7,7 +7,6 @@ use Rattle.pipe_types.specs.declared.numbers.SubNo.{SubNo}
 use Rattle.pipe_types.specs.declared.numbers.MsgNo.{MsgNo}
 use Rattle.pipe_types.specs.declared.topology.Topology.{Topology}
 use Rattle.pipe_types.specs.declared.topology.StageSpec.{StageSpec}
-use Rattle.pipe_types.specs.declared.step.Step.{Step}
 use Rattle.pipe_types.specs.declared.step.Step.TheVariants.{Take, Child}
 use Rattle.pipe_types.specs.Numbers.{same_stage, post}
 use Rattle.pipe_types.specs.Stages.{spec_of}
@@ -17,9 +16,8 @@ use Rattle.pipe_model.specs.Flow.{inbox, units_on}
 use Rattle.pipe_model.specs.Jobs.{take_first, take_step, may_take_next, allows_some}
 use Rattle.pipe_model.specs.Legal.{allows, first_sub, chunk_size, has_role, is_processor_role}
 use Rattle.pipe_laws.proofs.Tests.{same_sub-true, same_stage-self, both}
-use Rattle.pipe_laws.proofs.Allowed.{take_facts, child_facts}
+use Rattle.pipe_laws.proofs.Allowed.{take_facts}
 use Rattle.stage_laws.proofs.Numbering.{numbered_topology}
-use Rattle.core_tables.specs.Rows.{post_at}
 use Rattle.core_laws.proofs.Lawful.{lawful, legal_after}
 use Rattle.core_laws.proofs.Past.{known_within, live_known, out_post}
 use Rattle.core_state.specs.declared.state.Core.{Core}

@@ -1,5 +1,5 @@
 -- What the tables of a run have of jobs.
-use Rattle.std.proofs.Common.{◌≡◌, ℕ, zero, suc, ◌+◌, ◌-◌, ◌<◌, ◌≤◌, List, [], ◌∷◌, length, Bool, true, false, refl, ap, sym, ◌∙◌, Some, None, Option, arith, subst, All}
+use Rattle.std.proofs.Common.{◌≡◌, ℕ, zero, suc, ◌+◌, ◌-◌, ◌≤◌, [], ◌∷◌, true, false, refl, ap, sym, ◌∙◌, Some, None, Option, arith, subst, All}
 use Rattle.std.specs.Prelude.{slice_get, option_map, if◌then◌else◌, ◌==◌, is_some}
 use Rattle.std.proofs.lemmas.Bool.Decides.{nat_tests}
 use Rattle.pipe_types.specs.declared.numbers.StageNo.{StageNo}
@@ -15,7 +15,7 @@ use Rattle.pipe_model.specs.Work.{child_of, messages_of}
 use Rattle.pipe_model.specs.Legal.{is_legal}
 use Rattle.pipe_model.specs.Taken.{Closed, closed_as}
 use Rattle.pipe_laws.proofs.Accepted.{placed_accepted}
-use Rattle.pipe_laws.proofs.Levels.{level, rank}
+use Rattle.pipe_laws.proofs.Levels.{level}
 use Rattle.pipe_laws.proofs.Slots.{slot_reached}
 use Rattle.stage_laws.proofs.Numbering.{numbered_topology}
 use Rattle.core_tables.specs.declared.rows.BatchRow.{BatchRow}

@@ -2,7 +2,7 @@
 use Rattle.plain_run.specs.declared.works.Works.{Works}
 use Rattle.plain_run.specs.declared.after.After.{After}
 use Rattle.core_state.specs.declared.state.Core.{Core}
-use Rattle.core_state.specs.Stands.{Holds, Stands}
+use Rattle.core_state.specs.Stands.{Holds}
 use Rattle.plain_run.specs.Works.{WorksStand}
 use Rattle.plain_run.specs.Owes.{Owes}
 

@@ -1,4 +1,4 @@
-use Rattle.std.proofs.Common.{◌≡◌, ◌∷◌, ◌≤◌, ◌<◌, ◌∙◌, ap, sym, length, List, ℕ, Some, arith}
+use Rattle.std.proofs.Common.{◌∷◌, ◌∙◌, ap, length, List, ℕ, arith}
 use Rattle.pipe_types.specs.declared.step.Step.TheVariants.{Accept}
 use Rattle.pipe_model.specs.History.{History}
 use Rattle.stage_laws.proofs.Numbering.{numbered_topology}

@@ -1,4 +1,4 @@
-use Rattle.std.proofs.Common.{◌≡◌, [], true, sym, subst, All, length, refl, ◌∙◌}
+use Rattle.std.proofs.Common.{◌≡◌, [], true, sym, subst, All, length}
 use Rattle.pipe_types.specs.declared.room.Sent.{Sent}
 use Rattle.pipe_model.specs.Lives.{is_live_sub}
 use Rattle.core_sends.proofs.Roomy.{planned_live, live_within_rows}

@@ -1,4 +1,4 @@
-use Rattle.std.proofs.Common.{◌+◌, ◌<◌, ◌≤◌, length, arith}
+use Rattle.std.proofs.Common.{arith}
 use Rattle.core_laws.proofs.Lawful.{lawful}
 use Rattle.core_sends.proofs.Queued.{plain_cast}
 use Rattle.plain_run.proofs.accepts.plan_owed.Goals as goal

@@ -1,4 +1,4 @@
-use Rattle.std.proofs.Common.{◌≡◌, ◌∷◌, length, arith}
+use Rattle.std.proofs.Common.{◌∷◌, arith}
 use Rattle.pipe_types.specs.declared.step.Step.TheVariants.{Restart}
 use Rattle.stage_laws.proofs.Numbering.{numbered_topology}
 use Rattle.core_laws.proofs.Past.{known_within, restart_known}

@@ -1,5 +1,5 @@
-use Rattle.std.proofs.Common.{◌≡◌, true, false, sym, ◌∙◌}
-use Rattle.plain_run.proofs.Judging.{run_kept, run_same}
+use Rattle.std.proofs.Common.{true, sym, ◌∙◌}
+use Rattle.plain_run.proofs.Judging.{run_kept}
 use Rattle.plain_run.proofs.appends.append.Goals as goal
 
 pub returns-then-keeps_works-clause-run : goal.returns-then-keeps_works-clause-run

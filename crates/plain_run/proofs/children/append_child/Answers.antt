@@ -1,4 +1,4 @@
-use Rattle.std.proofs.Common.{◌≡◌, ◌∷◌, length, arith}
+use Rattle.std.proofs.Common.{◌∷◌, arith}
 use Rattle.pipe_types.specs.declared.step.Step.TheVariants.{Child}
 use Rattle.plain_run.proofs.Keeping.{works_same, works_started}
 use Rattle.plain_run.proofs.Taking.{child_low}

@@ -1,4 +1,4 @@
-use Rattle.std.proofs.Common.{◌≡◌, ℕ, List, ◌∙◌, ap, sym, subst, Some, None}
+use Rattle.std.proofs.Common.{◌≡◌, List, ◌∙◌, ap, sym, subst, Some, None}
 use Rattle.std.specs.Prelude.{slice_get, IfOk}
 use Rattle.pipe_types.specs.declared.message.Message.{Message}
 use Rattle.pipe_model.specs.Posts.{in_slot}

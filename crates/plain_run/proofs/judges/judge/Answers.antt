@@ -1,5 +1,4 @@
-use Rattle.std.proofs.Common.{◌≡◌, sym, subst}
-use Rattle.plain_run.proofs.Judging.{run_free, run_owes}
+use Rattle.plain_run.proofs.Judging.{run_free}
 use Rattle.plain_run.proofs.judges.judge.Goals as goal
 
 pub judge_free-requires-clause-stands : goal.judge_free-requires-clause-stands
