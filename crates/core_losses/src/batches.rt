@@ -1,6 +1,6 @@
 //! The batches that a kill takes with it.
 
-ghost use Rattle.std.specs.Prelude.{◌≡◌, ◌==◌, ◌*◌, ◌<◌, ◌^◌, ◌&&◌, ℕ, suc, List, All, false, true, not, is_some, length, map, slice_get, option_map, None, Some, IfSome, if◌then◌else◌};
+ghost use Rattle.std.specs.Prelude.{◌≡◌, ◌==◌, ◌*◌, ◌<◌, ◌^◌, ◌&&◌, ℕ, suc, List, All, false, true, not, is_some, length, map, slice_get, option_map, None, Some, IfSome, if◌then◌else◌, vec_capacity};
 ghost use Rattle.pipe_model.specs.Flow.{among, by_batch};
 ghost use Rattle.pipe_model.specs.Standing.{going};
 ghost use Rattle.pipe_model.specs.Legal.{is_batcher_role};
@@ -138,6 +138,8 @@ fn lose_batch(
     ensures places_len { length places.new.items ≡ length places.old.items }
     ensures marks { (seen : BatchSeen rows.now posts.now waiting.now inboxes.now killed.now specs.now no.0 (length places.old.items) row.now legs.old) → (i : ℕ) → slice_get marks.new.items i ≡ option_map (marked_in seen.legs.place (batch_lost (reason_at killed.now) (incarnation_at rows.now) seen.legs.place) row.now.numbers.items mark (suc i)) (slice_get marks.old.items i) }
     ensures marks_len { length marks.new.items ≡ length marks.old.items }
+    ensures places_capacity { vec_capacity places.new ≡ vec_capacity places.old }
+    ensures marks_capacity { vec_capacity marks.new ≡ vec_capacity marks.old }
 {
     let settled = settle_batch(
         legs, &row.subs, no, specs, rows, posts, waiting, inboxes, killed,
@@ -172,6 +174,8 @@ pub(crate) fn lose_batches(
     ensures places_len { length places.new.items ≡ length places.old.items }
     ensures marks { (seen : BatchesSeen rows.now posts.now waiting.now inboxes.now killed.now specs.now legs.old batches.now places.old.items) → (i : ℕ) → slice_get marks.new.items i ≡ option_map (λ old. if left_batch (after_kill (reason_at killed.now) (incarnation_at rows.now) seen.batch) (slice_get places.old.items i) then mark else old) (slice_get marks.old.items i) }
     ensures marks_len { length marks.new.items ≡ length marks.old.items }
+    ensures places_capacity { vec_capacity places.new ≡ vec_capacity places.old }
+    ensures marks_capacity { vec_capacity marks.new ≡ vec_capacity marks.old }
 {
     for at in 0..batches.len() {
         lose_batch(

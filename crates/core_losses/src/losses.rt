@@ -1,6 +1,6 @@
 //! All that a kill takes with it.
 
-ghost use Rattle.std.specs.Prelude.{◌≡◌, length};
+ghost use Rattle.std.specs.Prelude.{◌≡◌, length, vec_capacity};
 ghost use Rattle.core_state.specs.Stands.{Holds};
 ghost use Rattle.core_losses.specs.Lost.{AreLost, IsKill};
 
@@ -15,6 +15,8 @@ pub fn lose_held(core: &mut Core, killed: &[Option<Why>])
     requires rows { length killed.now ≡ length core.old.stages.items }
     requires kills { IsKill core.old killed.now }
     ensures lost { (kill : IsKill core.old killed.now) → AreLost core.old kill.step core.new.places core.new.settled core.new.legs }
+    ensures places_capacity { vec_capacity core.new.places ≡ vec_capacity core.old.places }
+    ensures settled_capacity { vec_capacity core.new.settled ≡ vec_capacity core.old.settled }
     ensures rest { core.new ≡ record core.old { places = core.new.places; settled = core.new.settled; legs = core.new.legs } }
 {
     let mark = core.journal.len();

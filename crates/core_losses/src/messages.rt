@@ -1,6 +1,6 @@
 //! The messages that stand in killed stages.
 
-ghost use Rattle.std.specs.Prelude.{◌≡◌, ℕ, length, option_map, slice_get};
+ghost use Rattle.std.specs.Prelude.{◌≡◌, ℕ, length, option_map, slice_get, vec_capacity};
 ghost use Rattle.core_deaths.specs.Reasons.{reason_at};
 ghost use Rattle.core_losses.specs.Losses.{incarnation_at, loss_in, loss_at, place_loss, place_lost, lost_to, marked_to};
 
@@ -65,6 +65,8 @@ pub(crate) fn lose_messages(
     ensures places_len { length places.new.items ≡ length places.old.items }
     ensures marks { (i : ℕ) → slice_get marks.new.items i ≡ option_map (marked_to (loss_at (reason_at killed.now) (incarnation_at rows.now) (slice_get places.old.items i)) mark) (slice_get marks.old.items i) }
     ensures marks_len { length marks.new.items ≡ length marks.old.items }
+    ensures places_capacity { vec_capacity places.new ≡ vec_capacity places.old }
+    ensures marks_capacity { vec_capacity marks.new ≡ vec_capacity marks.old }
 {
     for at in 0..places.len() {
         let loss = loss_of_place(rows, killed, places[at]);

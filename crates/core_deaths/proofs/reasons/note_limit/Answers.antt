@@ -1,4 +1,4 @@
-use Rattle.std.proofs.Common.{rules, ℕ, ◌∙◌, ap, None, Option, arith, get_or}
+use Rattle.std.proofs.Common.{ℕ, ◌∙◌, ap, None, Option, arith, get_or}
 use Rattle.std.specs.Prelude.{slice_get}
 use Rattle.std.proofs.lemmas.Option.{slice_get-get_or}
 use Rattle.pipe_types.specs.declared.message.Why.{Why}
@@ -12,13 +12,15 @@ loop-at-preserved c =
     let at : ℕ = c.loop-at.at in
     let rows = c.args.rows.now in
     let F : ℕ → Option Why → Option Why = λ k o. limit_if (lives_by (slice_get rows k) k) in
-    let now = c.loop-at.killed.items in
+    let now = c.loop-at.killed in
     record {
-      rows = row_step F now c.args.killed.now.items at (get_or now at None) c.limit_if-reason.result (omega (arith, c.loop-at.invariant.len)) (slice_get-get_or now at None (omega (arith, c.loop-at.invariant.len))) (c.limit_if-reason.ensures ∙ ap limit_if c.lives.ensures) c.loop-at.invariant.rows;
-      len = search rules;
+      rows = row_step F now c.args.killed.now at (get_or now at None) c.limit_if-reason.result (omega (arith, c.loop-at.auto.killed)) (slice_get-get_or now at None (omega (arith, c.loop-at.auto.killed))) (c.limit_if-reason.ensures ∙ ap limit_if c.lives.ensures) c.loop-at.invariant.rows;
     }
 
-pub returns-clause-killed : goal.returns-clause-killed
-returns-clause-killed c = λ i.
-    let F : ℕ → Option Why → Option Why = λ k o. limit_if (lives_by (slice_get c.args.rows.now k) k) in
-    c.loop-at.invariant.rows i ∙ row_done F c.args.killed.now.items c.loop-at.at i (omega arith)
+pub returns : goal.returns
+returns c =
+    record {
+      killed = λ i.
+          let F : ℕ → Option Why → Option Why = λ k o. limit_if (lives_by (slice_get c.args.rows.now k) k) in
+          c.loop-at.invariant.rows i ∙ row_done F c.args.killed.now c.loop-at.at i (omega arith);
+    }

@@ -20,6 +20,8 @@ loop-at-init c =
       marked = λ seen i. marks_start due why inc drop c.args.legs.now c.args.batches.now c.args.places.now.items seen c.args.marks.now.items c.args.mark i;
       places_len = refl;
       marks_len = refl;
+      places_capacity = refl;
+      marks_capacity = refl;
     }
 
 pub lose_batch-requires-clause-seen : goal.lose_batch-requires-clause-seen
@@ -61,6 +63,8 @@ loop-at-preserved c =
           ∙ mark_turn due why inc drop c.args.legs.now c.args.batches.now c.args.places.now.items seen l.at row here i c.args.mark (slice_get c.args.marks.now.items i));
       places_len = c.lose_batch.ensures.places_len ∙ l.invariant.places_len;
       marks_len = c.lose_batch.ensures.marks_len ∙ l.invariant.marks_len;
+      places_capacity = c.lose_batch.ensures.places_capacity ∙ l.invariant.places_capacity;
+      marks_capacity = c.lose_batch.ensures.marks_capacity ∙ l.invariant.marks_capacity;
     }
 
 pub returns-clause-places : goal.returns-clause-places

@@ -1,5 +1,5 @@
 use Rattle.std.proofs.Common.{◌≡◌, ℕ, suc, length}
-use Rattle.std.specs.Prelude.{option_map, slice_get, if◌then◌else◌}
+use Rattle.std.specs.Prelude.{option_map, slice_get, if◌then◌else◌, vec_capacity}
 use Rattle.pipe_model.specs.Flow.{by_batch}
 use Rattle.message_ack.specs.Ends.{sent_in}
 use Rattle.core_laws.specs.Columns.{ends_in_progress}
@@ -21,4 +21,6 @@ invariant-loop-at l =
           → (i : ℕ) → slice_get l.marks.items i ≡ option_map (λ old. if left_batch (upto l.at (reason_at l.killed) (incarnation_at l.rows) seen.batch) (slice_get l.fn.places.items i) then l.mark else old) (slice_get l.fn.marks.items i);
       places_len : length l.places.items ≡ length l.fn.places.items;
       marks_len : length l.marks.items ≡ length l.fn.marks.items;
+      places_capacity : vec_capacity l.places ≡ vec_capacity l.fn.places;
+      marks_capacity : vec_capacity l.marks ≡ vec_capacity l.fn.marks;
     }

@@ -32,6 +32,8 @@ loop-at-preserved c =
       marks = row_step (λ k. marked_to (loss_at why inc (slice_get c.args.places.now.items k)) c.args.mark) l.marks.items c.args.marks.now.items l.at m c.marked.result there had now l.invariant.marks;
       places_len = search rules;
       marks_len = search rules;
+      places_capacity = search rules;
+      marks_capacity = search rules;
     }
 
 pub returns-clause-places : goal.returns-clause-places
