@@ -1,6 +1,6 @@
 -- The kill that a crash owes, and a batch with which a handler crashed.
-use Rattle.std.proofs.Common.{◌≡◌, ℕ, suc, List, [], ◌∷◌, length, Bool, true, false, refl, ap, sym, ◌∙◌, Some, None, Option}
-use Rattle.std.specs.Prelude.{◌==◌, ◌&&◌, ◌||◌, is_some, nat_lt, Result, OnOk}
+use Rattle.std.proofs.Common.{◌≡◌, ℕ, List, [], ◌∷◌, length, Bool, true, false, refl, ap, sym, ◌∙◌, Some, None, Option}
+use Rattle.std.specs.Prelude.{◌==◌, ◌&&◌, ◌||◌, is_some, nat_lt}
 use Rattle.std.specs.List.{list_any}
 use Rattle.std.proofs.lemmas.Bool.{eqb-true}
 use Rattle.pipe_types.specs.declared.numbers.StageNo.{StageNo}
@@ -14,7 +14,6 @@ use Rattle.pipe_types.specs.declared.topology.Topology.{Topology}
 use Rattle.pipe_types.specs.declared.topology.StageSpec.{StageSpec}
 use Rattle.pipe_types.specs.declared.topology.Kind.{Kind}
 use Rattle.pipe_types.specs.declared.topology.Kind.TheVariants.{Own}
-use Rattle.pipe_types.specs.declared.step.Step.{Step}
 use Rattle.pipe_types.specs.declared.step.Step.TheVariants.{Accept, Done, Wrote, Kill}
 use Rattle.pipe_types.specs.Stages.{spec_of}
 use Rattle.pipe_model.specs.History.{History}
@@ -25,8 +24,6 @@ use Rattle.pipe_model.specs.Work.{count, batch_of, is_write_end, is_end_by, is_b
 use Rattle.pipe_model.specs.Legal.{is_legal, allows, owed, happened, is_halt, is_crash_of}
 use Rattle.pipe_laws.proofs.Tests.{and_left, and_right, same_stage-self}
 use Rattle.pipe_laws.proofs.Allowed.{legal_step, wrote_facts, not_halted}
-use Rattle.core_state.specs.declared.state.Core.{Core}
-use Rattle.core_state.specs.Stands.{Holds}
 use Rattle.stage_bodies.specs.Posts.{is_crashed_end}
 use Rattle.core_jobs.specs.Recorded.{and_kill}
 
@@ -45,14 +42,6 @@ pub owed_kill : (topology : Topology) (steps : History) (s : StageNo) → is_leg
 owed_kill topology steps s legal o = rw (o, owing_goes topology steps s legal o) (same_stage-self s)
 
 -- ---- the core with more room
-
--- a step may come on where the topology and the steps are the same
-pub still_allowed : (t u : Topology) (h g : History) (step : Step) → u ≡ t → g ≡ h → allows t h step ≡ true → allows u g step ≡ true
-still_allowed t u h g step e f legal = ap (λ (x : Topology). allows x g step) e ∙ (ap (λ (x : History). allows t x step) f ∙ legal)
-
--- cores of the same topology have as many rows of stages
-pub same_rows : (core new : Core) → Holds core → Holds new → new.topology ≡ core.topology → length core.stages.items ≡ length new.stages.items
-same_rows core new x y same = x.fields.sized.stages ∙ (ap (λ (t : Topology). suc (length t.stages)) (sym same) ∙ sym y.fields.sized.stages)
 
 -- ---- crashes
 
@@ -103,10 +92,8 @@ crash_as topology before s bytes (Outcomes outcomes) c h = absurd (let x : false
 pub crash_read : (replies seen : List Reply) (r b : Bool) → seen ≡ replies → r ≡ list_any crashed_reply seen → r ≡ b → has_crash replies ≡ b
 crash_read replies seen r b same is e = sym (any_crashed replies) ∙ (ap (list_any crashed_reply) (sym same) ∙ (sym is ∙ e))
 
-pub with_kill : {T E : Type 0} (r : Result T E) (crashed : Bool) (s : StageNo) (steps after : History) → crashed ≡ true → OnOk r (after ≡ Kill s Crash ∷ steps) → OnOk r (after ≡ and_kill crashed s steps)
-with_kill r true s steps after e ok = ok
-with_kill r false s steps after e ok = absurd (let x : false ≡ true = e in cc)
+pub with_kill : (crashed : Bool) (s : StageNo) (steps : History) → crashed ≡ true → Kill s Crash ∷ steps ≡ and_kill crashed s steps
+with_kill crashed s steps e = ap (λ b. and_kill b s steps) (sym e)
 
-pub without_kill : {T E : Type 0} (r : Result T E) (crashed : Bool) (s : StageNo) (steps after : History) → crashed ≡ false → OnOk r (after ≡ steps) → OnOk r (after ≡ and_kill crashed s steps)
-without_kill r true s steps after e ok = absurd (let x : true ≡ false = e in cc)
-without_kill r false s steps after e ok = ok
+pub without_kill : (crashed : Bool) (s : StageNo) (steps : History) → crashed ≡ false → steps ≡ and_kill crashed s steps
+without_kill crashed s steps e = ap (λ b. and_kill b s steps) (sym e)

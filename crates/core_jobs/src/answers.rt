@@ -1,12 +1,12 @@
 //! The answers to jobs.
 
-ghost use Rattle.std.specs.Prelude.{◌≡◌, ◌∷◌, OnOk, OnErr, IsTrue};
+ghost use Rattle.std.specs.Prelude.{◌≡◌, ◌∷◌, OnOk, OnErr, IsOk, IsTrue};
 ghost use Rattle.pipe_types.specs.declared.step.Step.TheVariants.{Accept, Done, Wrote, ChildEnd};
 ghost use Rattle.pipe_model.specs.Content.{has_crash};
 ghost use Rattle.pipe_model.specs.Legal.{allows};
 ghost use Rattle.core_state.specs.Stands.{Stands};
 ghost use Rattle.core_accepts.specs.Records.{and_dispatch};
-ghost use Rattle.stage_bodies.specs.Posts.{step_of, is_crashed_end};
+ghost use Rattle.stage_bodies.specs.Posts.{step_of, is_crashed_end, brings_records};
 ghost use Rattle.core_jobs.specs.Recorded.{and_kill, with_answer};
 
 use crate::crashes::{any_crashed, crash_batch, crash_chunk, has_crashed};
@@ -23,13 +23,14 @@ use stage_bodies::{Answer, Outcome};
 use std::alloc::AllocError;
 
 /// Appends the answer to the job of a post, and the step that it owes: behind records the dispatch, and behind the crash of
-/// a processor or a batch processor the kill of its stage. Where memory is wanting nothing is appended, and the answer is
-/// gone.
+/// a processor or a batch processor the kill of its stage. For records and their dispatch memory may be wanting: then nothing is
+/// appended, and they are gone. Every other answer is appended, since its job made the room for it.
 pub fn record_answer(core: &mut Core, answer: Answer) -> Result<(), AllocError>
     requires stands { Stands core.old }
     requires legal { IsTrue (allows core.old.topology core.old.journal.steps (step_of answer.post answer.outcome)) }
     ensures appended { OnOk result (core.new.journal.steps ≡ with_answer core.old.topology core.old.journal.steps answer.post answer.outcome) }
     ensures unchanged { OnErr result (core.new.journal.steps ≡ core.old.journal.steps) }
+    ensures refused { OnErr result (IsTrue (brings_records answer.outcome)) }
     ensures topology { core.new.topology ≡ core.old.topology }
     ensures stands { Stands core.new }
 {
@@ -65,13 +66,14 @@ fn bring(core: &mut Core, stage: StageNo, records: BytesList) -> Result<(), Allo
 fn reply(core: &mut Core, stage: StageNo, replies: ReplyList) -> Result<(), AllocError>
     requires stands { Stands core.old }
     requires legal { IsTrue (allows core.old.topology core.old.journal.steps (Done stage replies)) }
-    ensures appended { OnOk result (core.new.journal.steps ≡ and_kill (has_crash replies) stage (Done stage replies ∷ core.old.journal.steps)) }
-    ensures unchanged { OnErr result (core.new.journal.steps ≡ core.old.journal.steps) }
+    ensures ok { IsOk result }
+    ensures appended { core.new.journal.steps ≡ and_kill (has_crash replies) stage (Done stage replies ∷ core.old.journal.steps) }
     ensures topology { core.new.topology ≡ core.old.topology }
     ensures stands { Stands core.new }
 {
     if any_crashed(replies.as_slice()) {
-        return crash_chunk(core, stage, replies);
+        crash_chunk(core, stage, replies);
+        return Ok(());
     }
     match answer(core, stage, replies) {
         Ok(()) => Ok(()),
@@ -82,13 +84,14 @@ fn reply(core: &mut Core, stage: StageNo, replies: ReplyList) -> Result<(), Allo
 fn end_batch(core: &mut Core, stage: StageNo, bytes: u64, end: BatchEnd) -> Result<(), AllocError>
     requires stands { Stands core.old }
     requires legal { IsTrue (allows core.old.topology core.old.journal.steps (Wrote stage bytes end)) }
-    ensures appended { OnOk result (core.new.journal.steps ≡ and_kill (is_crashed_end end) stage (Wrote stage bytes end ∷ core.old.journal.steps)) }
-    ensures unchanged { OnErr result (core.new.journal.steps ≡ core.old.journal.steps) }
+    ensures ok { IsOk result }
+    ensures appended { core.new.journal.steps ≡ and_kill (is_crashed_end end) stage (Wrote stage bytes end ∷ core.old.journal.steps) }
     ensures topology { core.new.topology ≡ core.old.topology }
     ensures stands { Stands core.new }
 {
     if has_crashed(&end) {
-        return crash_batch(core, stage);
+        crash_batch(core, stage);
+        return Ok(());
     }
     match wrote(core, stage, end, bytes) {
         Ok(()) => Ok(()),
@@ -99,8 +102,8 @@ fn end_batch(core: &mut Core, stage: StageNo, bytes: u64, end: BatchEnd) -> Resu
 fn end_child(core: &mut Core, stage: StageNo, slot: u16, reply: Reply) -> Result<(), AllocError>
     requires stands { Stands core.old }
     requires legal { IsTrue (allows core.old.topology core.old.journal.steps (ChildEnd stage slot reply)) }
-    ensures appended { OnOk result (core.new.journal.steps ≡ ChildEnd stage slot reply ∷ core.old.journal.steps) }
-    ensures unchanged { OnErr result (core.new.journal.steps ≡ core.old.journal.steps) }
+    ensures ok { IsOk result }
+    ensures appended { core.new.journal.steps ≡ ChildEnd stage slot reply ∷ core.old.journal.steps }
     ensures topology { core.new.topology ≡ core.old.topology }
     ensures stands { Stands core.new }
 {

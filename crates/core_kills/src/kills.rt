@@ -1,37 +1,35 @@
 //! The calls that kill.
 
-ghost use Rattle.std.specs.Prelude.{◌≡◌, ◌∷◌, ◌≤◌, length, true, OnOk, OnErr, IsTrue};
+ghost use Rattle.std.specs.Prelude.{◌≡◌, ◌∷◌, ◌+◌, ◌≤◌, length, true, OnOk, OnErr, IsOk, IsTrue};
 ghost use Rattle.pipe_types.specs.declared.numbers.StageNo.{StageNo as Stage};
-ghost use Rattle.pipe_types.specs.declared.message.Why.TheVariants.{Crash};
 ghost use Rattle.pipe_types.specs.declared.step.Step.TheVariants.{Kill as KillStep, Halt as HaltStep};
 ghost use Rattle.pipe_model.specs.Lives.{reason_in, kill_set};
 ghost use Rattle.pipe_model.specs.Legal.{allows};
 ghost use Rattle.core_state.specs.Stands.{Holds, Stands, totals_of};
 ghost use Rattle.core_deaths.specs.Reasons.{reason_at, is_killing};
+ghost use Rattle.core_laws.specs.Due.{due_steps};
 
 use crate::totals::{count_halt, count_kill};
 use core_deaths::burial::bury_all;
-use core_deaths::reasons::{all_live, killed_with, note_kill};
+use core_deaths::reasons::{MOST_ROWS, note_halt, note_kill};
 use core_losses::losses::lose_held;
-use core_state::Core;
+use core_state::{Core, MOST_DUE};
 use core_tables::rows::Totals;
 use pipe_types::message::Why;
 use pipe_types::numbers::StageNo;
 use pipe_types::step::Step;
 use std::alloc::AllocError;
 
-/// Appends the kill of the stage that a control line asks for.
+/// Appends the kill of the stage that a control line asks for. It takes no memory, and cannot be refused.
 pub fn kill(core: &mut Core, stage: StageNo, why: Why) -> Result<(), AllocError>
     requires stands { Stands core.old }
     requires legal { IsTrue (allows core.old.topology core.old.journal.steps (KillStep stage why)) }
-    ensures appended { OnOk result (core.new.journal.steps ≡ KillStep stage why ∷ core.old.journal.steps) }
-    ensures unchanged { OnErr result (core.new.journal.steps ≡ core.old.journal.steps) }
+    ensures ok { IsOk result }
+    ensures appended { core.new.journal.steps ≡ KillStep stage why ∷ core.old.journal.steps }
     ensures topology { core.new.topology ≡ core.old.topology }
     ensures stands { Stands core.new }
 {
-    let killed = killed_with(core, stage, why)?;
-    core.journal.reserve(1)?;
-    append_kill(core, stage, why, &killed);
+    kill_owed(core, stage, why);
     Ok(())
 }
 
@@ -44,53 +42,38 @@ pub fn halt(core: &mut Core) -> Result<(), AllocError>
     ensures topology { core.new.topology ≡ core.old.topology }
     ensures stands { Stands core.new }
 {
-    let killed = all_live(core)?;
-    core.journal.reserve(1)?;
-    append_halt(core, &killed);
+    core.journal.reserve(MOST_DUE + 1)?;
+    append_halt(core);
     Ok(())
 }
 
-/// Appends the kill that the stage's crash owes, into room that was made before: for the step, and in `reasons` for the
-/// reason of each stage. It takes no memory.
-pub fn kill_owed(core: &mut Core, stage: StageNo, reasons: &mut Vec<Option<Why>>)
-    requires holds { Holds core.old }
-    requires legal { IsTrue (allows core.old.topology core.old.journal.steps (KillStep stage Crash)) }
-    requires rows { length reasons.old.items ≡ length core.old.stages.items }
-    requires spare { 1 ≤ core.old.journal.spare }
-    ensures appended { core.new.journal.steps ≡ KillStep stage Crash ∷ core.old.journal.steps }
-    ensures topology { core.new.topology ≡ core.old.topology }
-    ensures stands { Stands core.new }
-{
-    note_kill(core, stage, Why::Crash, reasons);
-    append_kill(core, stage, Why::Crash, reasons);
-}
-
-/// Appends the kill of the stage, which kills the stages for these reasons, into room that was made before.
-fn append_kill(core: &mut Core, stage: StageNo, why: Why, killed: &[Option<Why>])
+/// Appends the kill of the stage, which its crash may owe. It takes no memory.
+pub fn kill_owed(core: &mut Core, stage: StageNo, why: Why)
     requires holds { Holds core.old }
     requires legal { IsTrue (allows core.old.topology core.old.journal.steps (KillStep stage why)) }
-    requires rows { length killed.now ≡ length core.old.stages.items }
-    requires killed { (s : Stage) → reason_at killed.now s ≡ reason_in (kill_set core.old.topology core.old.journal.steps (KillStep stage why)) s }
-    requires spare { 1 ≤ core.old.journal.spare }
     ensures appended { core.new.journal.steps ≡ KillStep stage why ∷ core.old.journal.steps }
     ensures topology { core.new.topology ≡ core.old.topology }
     ensures stands { Stands core.new }
 {
+    let mut reasons = [None; MOST_ROWS];
+    let killed = &mut reasons[..core.stages.len()];
+    note_kill(core, stage, why, killed);
     let totals = count_kill(core.totals, why);
     append(core, Step::Kill { stage, why }, killed, totals);
 }
 
-/// Appends the halt, which kills the stages for these reasons, into room that was made before.
-fn append_halt(core: &mut Core, killed: &[Option<Why>])
+/// Appends the halt, into room that was made before.
+fn append_halt(core: &mut Core)
     requires holds { Holds core.old }
     requires legal { IsTrue (allows core.old.topology core.old.journal.steps HaltStep) }
-    requires rows { length killed.now ≡ length core.old.stages.items }
-    requires killed { (s : Stage) → reason_at killed.now s ≡ reason_in (kill_set core.old.topology core.old.journal.steps HaltStep) s }
-    requires spare { 1 ≤ core.old.journal.spare }
+    requires room { due_steps core.old.topology (HaltStep ∷ core.old.journal.steps) + 1 ≤ core.old.journal.spare }
     ensures appended { core.new.journal.steps ≡ HaltStep ∷ core.old.journal.steps }
     ensures topology { core.new.topology ≡ core.old.topology }
     ensures stands { Stands core.new }
 {
+    let mut reasons = [None; MOST_ROWS];
+    let killed = &mut reasons[..core.stages.len()];
+    note_halt(core, killed);
     let totals = count_halt(core.totals);
     append(core, Step::Halt, killed, totals);
 }
@@ -103,7 +86,7 @@ fn append(core: &mut Core, step: Step, killed: &[Option<Why>], totals: Totals)
     requires rows { length killed.now ≡ length core.old.stages.items }
     requires killed { (s : Stage) → reason_at killed.now s ≡ reason_in (kill_set core.old.topology core.old.journal.steps step) s }
     requires totals { totals ≡ totals_of core.old.topology (step ∷ core.old.journal.steps) }
-    requires spare { 1 ≤ core.old.journal.spare }
+    requires room { due_steps core.old.topology (step ∷ core.old.journal.steps) + 1 ≤ core.old.journal.spare }
     ensures appended { core.new.journal.steps ≡ step ∷ core.old.journal.steps }
     ensures topology { core.new.topology ≡ core.old.topology }
     ensures stands { Stands core.new }

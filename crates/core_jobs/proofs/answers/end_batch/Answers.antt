@@ -1,5 +1,4 @@
-use Rattle.std.proofs.Common.{rules, ◌≡◌, ◌∷◌, true, sym, ◌∙◌, subst}
-use Rattle.std.specs.Prelude.{OnOk}
+use Rattle.std.proofs.Common.{◌≡◌, ◌∷◌, true, sym, ap, ◌∙◌, subst}
 use Rattle.pipe_types.specs.declared.message.Why.TheVariants.{Crash}
 use Rattle.pipe_types.specs.declared.step.Step.{Step}
 use Rattle.pipe_types.specs.declared.step.Step.TheVariants.{Wrote, Kill}
@@ -20,14 +19,14 @@ returns-then-has_crashed-clause-appended c =
     let core = c.args.core.now in
     let crash = sym c.has_crashed.ensures ∙ c.if-has_crashed.true in
     let is = crash_as core.topology core.journal.steps c.args.stage c.args.bytes c.args.end crash c.requires.legal in
-    with_kill c.crash_batch.result (is_crashed_end c.args.end) c.args.stage (Wrote c.args.stage c.args.bytes c.args.end ∷ core.journal.steps) c.crash_batch.new.core.journal.steps crash
-    (subst (λ (step : Step). OnOk c.crash_batch.result (c.crash_batch.new.core.journal.steps ≡ Kill c.args.stage Crash ∷ (step ∷ core.journal.steps))) is c.crash_batch.ensures.appended)
+    c.crash_batch.ensures.appended
+    ∙ (ap (λ (step : Step). Kill c.args.stage Crash ∷ (step ∷ core.journal.steps)) is
+    ∙ with_kill (is_crashed_end c.args.end) c.args.stage (Wrote c.args.stage c.args.bytes c.args.end ∷ core.journal.steps) crash)
 
 pub wrote-requires-clause-answered : goal.wrote-requires-clause-answered
 wrote-requires-clause-answered c = calm_end c.args.end (sym c.has_crashed.ensures ∙ c.if-has_crashed.false)
 
 pub returns-clause-appended : goal.returns-clause-appended
 returns-clause-appended c =
-    without_kill c.match-wrote.result (is_crashed_end c.args.end) c.args.stage (Wrote c.args.stage c.args.bytes c.args.end ∷ c.args.core.now.journal.steps) c.wrote.new.core.journal.steps
-    (sym c.has_crashed.ensures ∙ c.if-has_crashed.false)
-    (search rules)
+    c.wrote.ensures.appended
+    ∙ without_kill (is_crashed_end c.args.end) c.args.stage (Wrote c.args.stage c.args.bytes c.args.end ∷ c.args.core.now.journal.steps) (sym c.has_crashed.ensures ∙ c.if-has_crashed.false)

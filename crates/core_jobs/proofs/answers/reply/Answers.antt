@@ -1,4 +1,4 @@
-use Rattle.std.proofs.Common.{rules, ◌∷◌, true, false}
+use Rattle.std.proofs.Common.{◌∷◌, true, false, ◌∙◌}
 use Rattle.pipe_types.specs.declared.step.Step.TheVariants.{Done}
 use Rattle.pipe_model.specs.Content.{has_crash}
 use Rattle.core_jobs.proofs.Owing.{crash_read, with_kill, without_kill}
@@ -9,15 +9,15 @@ crash_chunk-requires-clause-crash c = crash_read c.args.replies c.as_slice.resul
 
 pub returns-then-any_crashed-clause-appended : goal.returns-then-any_crashed-clause-appended
 returns-then-any_crashed-clause-appended c =
-    with_kill c.crash_chunk.result (has_crash c.args.replies) c.args.stage (Done c.args.stage c.args.replies ∷ c.args.core.now.journal.steps) c.crash_chunk.new.core.journal.steps
-    (crash_read c.args.replies c.as_slice.result.now c.any_crashed.result true c.as_slice.ensures c.any_crashed.ensures c.if-any_crashed.true)
     c.crash_chunk.ensures.appended
+    ∙ with_kill (has_crash c.args.replies) c.args.stage (Done c.args.stage c.args.replies ∷ c.args.core.now.journal.steps)
+    (crash_read c.args.replies c.as_slice.result.now c.any_crashed.result true c.as_slice.ensures c.any_crashed.ensures c.if-any_crashed.true)
 
 pub answer-requires-clause-calm : goal.answer-requires-clause-calm
 answer-requires-clause-calm c = crash_read c.args.replies c.as_slice.result.now c.any_crashed.result false c.as_slice.ensures c.any_crashed.ensures c.if-any_crashed.false
 
 pub returns-clause-appended : goal.returns-clause-appended
 returns-clause-appended c =
-    without_kill c.match-answer.result (has_crash c.args.replies) c.args.stage (Done c.args.stage c.args.replies ∷ c.args.core.now.journal.steps) c.answer.new.core.journal.steps
+    c.answer.ensures.appended
+    ∙ without_kill (has_crash c.args.replies) c.args.stage (Done c.args.stage c.args.replies ∷ c.args.core.now.journal.steps)
     (crash_read c.args.replies c.as_slice.result.now c.any_crashed.result false c.as_slice.ensures c.any_crashed.ensures c.if-any_crashed.false)
-    (search rules)
