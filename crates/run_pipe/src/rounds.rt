@@ -20,8 +20,8 @@ use crate::pipe::Pipe;
 use journal_watch::Watch;
 use pipe_edges::{ByteSource, Clock};
 use pipe_types::numbers::Post;
-use stage_bodies::{Works, place_of, put_back};
-use stage_holds::{Home, Load, Next, hold};
+use stage_bodies::Works;
+use stage_holds::{Home, Load, Next, come_home, hold};
 use stage_workers::{Round, Shift};
 use std::alloc::{AllocError, Global};
 
@@ -69,13 +69,7 @@ impl<B: Works, S: ByteSource, C: Clock, W: Watch> Pipe<B, S, C, W> {
         ensures rounded { Rounded B.look brought result (state_of self.old) (state_of self.new) }
     {
         if self.end.is_some() {
-            match brought {
-                Some(home) => {
-                    put_home(&mut self.bodies, home);
-                    return Round::Ended;
-                }
-                None => return Round::Ended,
-            }
+            return self.take_home(brought);
         }
         let came = hold(
             &mut self.core,
@@ -88,21 +82,22 @@ impl<B: Works, S: ByteSource, C: Clock, W: Watch> Pipe<B, S, C, W> {
         self.end = end;
         round
     }
-}
 
-/// Puts the body of what is brought to its place. The answer is not recorded.
-fn put_home<B: Works>(bodies: &mut Vec<Option<B>>, home: Home<B>)
-    requires within { place_at home.post < length bodies.old.items }
-    ensures len { length bodies.new.items ≡ length bodies.old.items }
-    ensures table { (s : ℕ) → body_at B.look bodies.new.items s ≡ (if place_at home.post == s then Some (B.look home.body) else body_at B.look bodies.old.items s) }
-{
-    let Home {
-        post,
-        answer: _,
-        body,
-    } = home;
-    let at = place_of(post);
-    put_back(bodies, at, body);
+    /// What is brought to a pipe that has ended comes home, and its answer is recorded. Where memory is wanting for the records that it
+    /// brings, they are lost: the pipe has ended for want of memory already.
+    fn take_home(&mut self, brought: Option<Home<B>>) -> Round<Load<B>>
+        requires ended { IsSome self.old.end }
+        requires home { (opened : PipeState) × (seen : History) × Stems opened (state_of self.old) × IsBrought B.look opened seen self.old.steps brought }
+        ensures rounded { Rounded B.look brought result (state_of self.old) (state_of self.new) }
+    {
+        match brought {
+            Some(home) => {
+                let _ = come_home(&mut self.core, &mut self.bodies, home);
+                Round::Ended
+            }
+            None => Round::Ended,
+        }
+    }
 }
 
 /// What a worker does after a hold, and how the run has ended then, if it has.

@@ -64,3 +64,8 @@ abbrev pub is_crash : Outcome → Bool
 is_crash (came.Replies replies) = has_crash replies
 is_crash (came.Wrote bytes end) = is_crashed_end end
 is_crash _ = false
+
+-- the answer brings records
+abbrev pub brings_records : Outcome → Bool
+brings_records (came.Records records) = true
+brings_records _ = false
