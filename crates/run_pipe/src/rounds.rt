@@ -1,13 +1,11 @@
 //! A hold of a pipe.
 
-ghost use Rattle.std.specs.Prelude.{◌≡◌, ◌≢◌, ◌<◌, ◌==◌, ℕ, true, Some, IfSome, length, if◌then◌else◌};
+ghost use Rattle.std.specs.Prelude.{◌≡◌, ◌≢◌, true, Some, IfSome, IsSome};
 ghost use Rattle.pipe_types.specs.declared.numbers.Post.{Post as PostSeen};
 ghost use Rattle.pipe_model.specs.Begins.{BeginsWith};
 ghost use Rattle.pipe_model.specs.Posts.{is_out};
 ghost use Rattle.pipeline_turn.specs.Jobs.{IsUndone, IsUnanswered, IsOwnJob, AreAway};
 ghost use Rattle.pipe_model.specs.History.{History};
-ghost use Rattle.stage_bodies.specs.Seen.{body_at};
-ghost use Rattle.stage_bodies.specs.Posts.{place_at};
 ghost use Rattle.run_pipe.specs.Jobs.{IsLoadOf, IsHomeOf, IsBrought};
 ghost use Rattle.run_pipe.specs.Rounded.{Rounded};
 ghost use Rattle.run_pipe.specs.Rounds.{round_of, end_of};
