@@ -1,6 +1,6 @@
 //! The answers to jobs.
 
-ghost use Rattle.std.specs.Prelude.{◌≡◌, ◌∷◌, OnOk, OnErr, IsOk, IsTrue};
+ghost use Rattle.std.specs.Prelude.{◌≡◌, ◌∷◌, ◌≤◌, OnOk, OnErr, IsOk, IsTrue};
 ghost use Rattle.pipe_types.specs.declared.step.Step.TheVariants.{Accept, Done, Wrote, ChildEnd};
 ghost use Rattle.pipe_model.specs.Content.{has_crash};
 ghost use Rattle.pipe_model.specs.Legal.{allows};
@@ -30,7 +30,7 @@ pub fn record_answer(core: &mut Core, answer: Answer) -> Result<(), AllocError>
     requires legal { IsTrue (allows core.old.topology core.old.journal.steps (step_of answer.post answer.outcome)) }
     ensures appended { OnOk result (core.new.journal.steps ≡ with_answer core.old.topology core.old.journal.steps answer.post answer.outcome) }
     ensures unchanged { OnErr result (core.new.journal.steps ≡ core.old.journal.steps) }
-    ensures refused { OnErr result (IsTrue (brings_records answer.outcome)) }
+    ensures refused { 1 ≤ answer.post.stage.0 → OnErr result (IsTrue (brings_records answer.outcome)) }
     ensures topology { core.new.topology ≡ core.old.topology }
     ensures stands { Stands core.new }
 {

@@ -200,6 +200,10 @@ comes_home {E = E} topology other h after home back p answer body opened r sound
     (recorded topology h home back p answer body opened sound before ready b table (subst (λ x. is_legal topology x ≡ true) e (subst (λ o. is_legal o after ≡ true) same legal))))
     (λ e. subst (λ x. Returned {E = E} topology h home p (Ok answer) body x back) (sym e.0) (unrecorded topology h home back p (Ok answer) body opened sound ready b e.1 table))
 
+-- it is of a stage
+pub stage_of : {E : Type 0} (topology : Topology) (h : History) (p : Post) (answer : Answer) (body : BodySeen) (opened : Option BodySeen) → IsSound topology → is_legal topology h ≡ true → IsBack {E = E} topology h opened p (Ok answer) body → 1 ≤ answer.post.stage.0
+stage_of topology h p answer body opened sound legal b = subst (λ r. 1 ≤ r.stage.0) (sym b.outcome.0.post) (low_of topology h b.job b.old opened sound legal b.away)
+
 -- the answer may be recorded
 pub may_record : {E : Type 0} (topology : Topology) (h : History) (p : Post) (answer : Answer) (body : BodySeen) (opened : Option BodySeen) → IsSound topology → is_legal topology h ≡ true → owed topology h ≡ None
     → IsBack {E = E} topology h opened p (Ok answer) body → allows topology h (answer_step topology h answer) ≡ true

@@ -1,6 +1,6 @@
 //! What comes home: the body to its place, and the answer into the journal.
 
-ghost use Rattle.std.specs.Prelude.{◌≡◌, length, IsTrue, OnOk, OnErr};
+ghost use Rattle.std.specs.Prelude.{◌≡◌, ◌≤◌, length, IsTrue, OnOk, OnErr};
 ghost use Rattle.pipe_model.specs.Legal.{allows};
 ghost use Rattle.core_state.specs.Stands.{Stands};
 ghost use Rattle.stage_bodies.specs.Posts.{brings_records};
@@ -44,6 +44,7 @@ pub fn come_home<B: Works>(
 fn record(core: &mut Core, answer: Answer) -> Result<(), AllocError>
     requires stands { Stands core.old }
     requires legal { IsTrue (allows core.old.topology core.old.journal.steps (answer_step core.old.topology core.old.journal.steps answer)) }
+    requires stage { 1 ≤ answer.post.stage.0 }
     ensures appended { OnOk result (core.new.journal.steps ≡ with_answered core.old.topology core.old.journal.steps answer) }
     ensures unchanged { OnErr result (core.new.journal.steps ≡ core.old.journal.steps) }
     ensures refused { OnErr result (IsTrue (brings_records answer.outcome)) }
