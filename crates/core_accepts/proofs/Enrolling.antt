@@ -85,6 +85,7 @@ enrolled_fields core topology before s spec records j queues places settled prod
             producers = more core.producers.items (replicate (length records) s) producers.items (accepted before) (length records) e.producers x.sized.producers (length-replicate (length records) s);
             contents = more core.contents.items (contents_up (length before) 0 (length records)) contents.items (accepted before) (length records) e.contents x.sized.contents (contents_count (length before) 0 (length records));
             batches = x.sized.batches;
+            ends = x.sized.ends;
           };
       set = record { batchers = x.set.batchers; children = x.set.children; restarts = x.set.restarts };
       stages = x.stages;

@@ -60,6 +60,7 @@ fetched_fields core topology before s n from j rows posts x present noted len pu
             producers = x.sized.producers;
             contents = x.sized.contents;
             batches = x.sized.batches;
+            ends = x.sized.ends;
           };
       set = record { batchers = x.set.batchers; children = x.set.children; restarts = x.set.restarts };
       stages = λ t within. noted t.0 ∙ (row_changed (fetched n) core.stages.items s t (stage_row topology before t) (x.stages t within) ∙ ap Some (by (s.0 == t.0) t (flip t.0 s.0)));

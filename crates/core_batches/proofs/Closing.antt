@@ -322,6 +322,7 @@ closed_fields core topology before s first trigger at key numbers spec part j ba
             producers = x.sized.producers;
             contents = x.sized.contents;
             batches = (let more = length-append core.batches.items (row ∷ []) in let len = ap length pushed in let old = x.sized.batches in omega (arith, more, len, old));
+            ends = x.sized.ends;
           };
       set = record { batchers = λ t sp held e f. limits_after (without_open at) (λ h. refl) (λ h. refl) s t core.batchers.items batchers.items sp held removed (λ h k. x.set.batchers t sp h e k) f; children = x.set.children; restarts = x.set.restarts };
       stages = x.stages;

@@ -284,6 +284,7 @@ gathered_fields core topology before s m u message j batchers inboxes places sub
             producers = x.sized.producers;
             contents = x.sized.contents;
             batches = x.sized.batches;
+            ends = x.sized.ends;
           };
       set =
           record {
@@ -349,6 +350,7 @@ refused_stands core j batchers stands same kept len =
                 producers = x.sized.producers;
                 contents = x.sized.contents;
                 batches = x.sized.batches;
+                ends = x.sized.ends;
               };
           set = record { batchers = λ t spec held known at. x.set.batchers t spec held known (sym (kept t.0) ∙ at); children = x.set.children; restarts = x.set.restarts };
           stages = x.stages;

@@ -343,6 +343,7 @@ ended_fields core s slot reply n again j posts subs chunks children places settl
             producers = x.sized.producers;
             contents = x.sized.contents;
             batches = x.sized.batches;
+            ends = x.sized.ends;
           };
       set =
           record {

@@ -92,6 +92,7 @@ started_fields core topology before s m slot j posts came_on inboxes chunks chil
             producers = x.sized.producers;
             contents = x.sized.contents;
             batches = x.sized.batches;
+            ends = x.sized.ends;
           };
       set = record { batchers = x.set.batchers; children = new.slots-set; restarts = x.set.restarts };
       stages = x.stages;

@@ -141,6 +141,7 @@ left_fields core topology before step j rows posts places settled producers cont
             producers = new.producers-len;
             contents = new.contents-len;
             batches = x.sized.batches ∙ sym left.count;
+            ends = x.sized.ends;
           };
       set = record { batchers = x.set.batchers; children = x.set.children; restarts = x.set.restarts };
       stages = new.rows-are;

@@ -12,3 +12,6 @@ pub mod Accepting
 pub mod Came
 pub mod LegsOn
 pub mod Passing
+pub mod Sums
+pub mod Due
+pub mod TakenBatches

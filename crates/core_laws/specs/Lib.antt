@@ -3,3 +3,4 @@ pub mod Laws
 pub mod Contents
 pub mod Slots
 pub mod Enrolled
+pub mod Due

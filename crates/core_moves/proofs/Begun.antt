@@ -45,6 +45,7 @@ began_fields core topology before cause j x =
             producers = x.sized.producers;
             contents = x.sized.contents;
             batches = x.sized.batches;
+            ends = x.sized.ends;
           };
       set = record { batchers = x.set.batchers; children = x.set.children; restarts = x.set.restarts };
       stages = x.stages;

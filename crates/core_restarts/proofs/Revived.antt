@@ -258,6 +258,7 @@ restarted_fields core topology before s j rows subs limits x changed len pairs s
             producers = x.sized.producers;
             contents = x.sized.contents;
             batches = x.sized.batches;
+            ends = x.sized.ends;
           };
       set = record { batchers = x.set.batchers; children = x.set.children; restarts = λ l. same l ∙ x.set.restarts l };
       stages = λ t within. changed t.0 ∙ (row_changed restarted core.stages.items s t (stage_row topology before t) (x.stages t within) ∙ ap Some (by (s.0 == t.0) t (flip t.0 s.0)));

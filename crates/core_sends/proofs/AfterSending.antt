@@ -94,6 +94,7 @@ sent_fields core topology before s spec units old m j subs queues inboxes moved 
             producers = x.sized.producers;
             contents = x.sized.contents;
             batches = x.sized.batches;
+            ends = x.sized.ends;
           };
       set = record { batchers = x.set.batchers; children = x.set.children; restarts = x.set.restarts };
       stages = x.stages;

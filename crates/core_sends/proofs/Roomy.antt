@@ -84,6 +84,7 @@ roomy_fields core topology before inboxes same long x =
             producers = x.sized.producers;
             contents = x.sized.contents;
             batches = x.sized.batches;
+            ends = x.sized.ends;
           };
       set = record { batchers = x.set.batchers; children = x.set.children; restarts = x.set.restarts };
       stages = x.stages;

@@ -31,6 +31,9 @@ use Rattle.core_tables.specs.Rows.{post_at}
 use Rattle.core_laws.proofs.Past.{supervisor_max}
 use Rattle.core_state.specs.declared.state.Core.{Core}
 use Rattle.core_state.specs.declared.tables.Tables.{Tables}
+use Rattle.stage_laws.proofs.Records.{fetches_none}
+use Rattle.core_laws.proofs.Due.{due_within}
+use Rattle.core_state.specs.Room.{Roomy}
 use Rattle.core_state.specs.Stands.{Fields, AreSized, AreSet, Stands, opens_in, child_of, closed_seen, limit_seen}
 use Rattle.pipe_types.specs.declared.topology.RestartLimit.{RestartLimit as Limit}
 use Rattle.restart_core.specs.Restarts.{RestartLimit, Remembers}
@@ -133,6 +136,7 @@ begin_with topology tables journal places settled producers contents batches leg
       producers = producers;
       contents = contents;
       batches = batches;
+      ends = tables.ends;
       legs = legs;
       restarts = tables.restarts;
       totals = record { accepted = 0; bytes = 0; now = 0; controls = 0; quiet = 0; draining = false; halted = false };
@@ -164,6 +168,7 @@ new_sizes topology tables journal places settled producers contents batches legs
       producers = ap length no_producer;
       contents = ap length no_content;
       batches = ap length no_batch;
+      ends = x.ends_len ∙ one;
     }
 
 new_settings : (topology : Topology) (tables : Tables) (journal : Recorded) (places : Vec Place Global) (settled : Vec ℕ Global) (producers : Vec StageNo Global)
@@ -187,20 +192,36 @@ new_settings topology tables journal places settled producers contents batches l
 
 pub new_stands : (topology : Topology) (tables : Tables) (journal : Recorded) (places : Vec Place Global) (settled : Vec ℕ Global) (producers : Vec StageNo Global)
     (contents : Vec ContentRow Global) (batches : Vec BatchRow Global) (legs : List (ℕ × Ends)) (alloc : Global)
-    → IsSound topology → AreNew topology tables → journal.steps ≡ []
+    → IsSound topology → AreNew topology tables → journal.steps ≡ [] → 1088 ≤ journal.spare
     → places.items ≡ [] → settled.items ≡ [] → producers.items ≡ [] → contents.items ≡ [] → batches.items ≡ [] → ((b : ℕ) → sent_in legs b ≡ None)
     → Stands (begin_with topology tables journal places settled producers contents batches legs alloc)
-new_stands topology tables journal places settled producers contents batches legs alloc sound x empty no_place no_mark no_producer no_content no_batch no_leg =
+new_stands topology tables journal places settled producers contents batches legs alloc sound x empty many no_place no_mark no_producer no_content no_batch no_leg =
     record {
       holds =
           record {
             sound = sound;
             legal = ap (is_legal topology) empty;
             fields = subst (λ (h : History). Fields (begin_with topology tables journal places settled producers contents batches legs alloc) topology h) (sym empty) fields;
+            room = subst (λ (h : History). Roomy (begin_with topology tables journal places settled producers contents batches legs alloc) topology h) (sym empty) room;
           };
       unowed = ap (owed topology) empty;
     }
   where
+    room : Roomy (begin_with topology tables journal places settled producers contents batches legs alloc) topology []
+    room =
+        record {
+          steps = omega (arith, due_within topology [], sound.few, many);
+          rows =
+              record {
+                places = omega (arith, fetches_none topology);
+                settled = omega (arith, fetches_none topology);
+                producers = omega (arith, fetches_none topology);
+                contents = omega (arith, fetches_none topology);
+              };
+          queues = λ s h. omega (arith, ap length (x.chunks s));
+          ends = λ s role out. cc;
+        }
+
     fields : Fields (begin_with topology tables journal places settled producers contents batches legs alloc) topology []
     fields =
         record {

@@ -1,6 +1,6 @@
 -- Where tables have more room, the core stands as it did.
-use Rattle.std.proofs.Common.{◌≡◌, ◌≢◌, ℕ, ◌<◌, List, length, set, true, false, ap, sym, ◌∙◌, subst, Some, inl, inr}
-use Rattle.std.specs.Prelude.{slice_get, ◌==◌, ◌⊎◌}
+use Rattle.std.proofs.Common.{◌≡◌, ◌≢◌, ℕ, ◌<◌, ◌≤◌, List, length, set, true, false, ap, arith, sym, ◌∙◌, subst, Some, inl, inr}
+use Rattle.std.specs.Prelude.{slice_get, ◌==◌, ◌⊎◌, vec_capacity}
 use Rattle.std.specs.declared.alloc.Global.{Global}
 use Rattle.std.specs.declared.vec.Vec.{Vec}
 use Rattle.std.specs.declared.collections.VecDeque.{VecDeque}
@@ -11,12 +11,13 @@ use Rattle.pipe_model.specs.History.{History}
 use Rattle.pipe_model.specs.Legal.{is_legal, owed}
 use Rattle.pipe_journal.specs.Recorded.{Recorded}
 use Rattle.core_tables.specs.declared.rows.ContentRow.{ContentRow}
-use Rattle.core_tables.specs.Tables.{items_in, queue_at}
-use Rattle.core_tables.proofs.Tables.{same_or_other, queue-set_same, queue-set_other}
+use Rattle.core_tables.specs.Tables.{items_in, queue_at, spare_at, spare_in}
+use Rattle.core_tables.proofs.Tables.{same_or_other, get-set_same, get-set_other, queue-set_same, queue-set_other}
 use Rattle.core_state.specs.declared.state.Core.{Core}
+use Rattle.core_state.specs.Room.{Roomy}
 use Rattle.core_state.specs.Stands.{Fields, Stands}
 
--- tables with the same rows
+-- tables with the same rows, and no less room
 pub record SameRows (core : Core) (p : Vec Place Global) (m : Vec ℕ Global) (r : Vec StageNo Global) (c : Vec ContentRow Global) (w : Vec (VecDeque (ℕ × ℕ) Global) Global) : Type 0 where
   pub places : p.items ≡ core.places.items
   pub settled : m.items ≡ core.settled.items
@@ -24,6 +25,11 @@ pub record SameRows (core : Core) (p : Vec Place Global) (m : Vec ℕ Global) (r
   pub contents : c.items ≡ core.contents.items
   pub queues : (s : StageNo) → queue_at w.items s ≡ queue_at core.waiting.items s
   pub queue_count : length w.items ≡ length core.waiting.items
+  pub places_room : vec_capacity core.places ≤ vec_capacity p
+  pub settled_room : vec_capacity core.settled ≤ vec_capacity m
+  pub producers_room : vec_capacity core.producers ≤ vec_capacity r
+  pub contents_room : vec_capacity core.contents ≤ vec_capacity c
+  pub queues_room : (s : StageNo) → spare_at core.waiting.items s ≤ spare_at w.items s
 
 same_fields : (core : Core) (topology : Topology) (before : History) (p : Vec Place Global) (m : Vec ℕ Global) (r : Vec StageNo Global) (c : Vec ContentRow Global) (w : Vec (VecDeque (ℕ × ℕ) Global) Global) (j : Recorded)
     → Fields core topology before → SameRows core p m r c w → Fields (record core { journal = j; places = p; settled = m; producers = r; contents = c; waiting = w }) topology before
@@ -45,6 +51,7 @@ same_fields core topology before p m r c w j x same =
             producers = ap length same.producers ∙ x.sized.producers;
             contents = ap length same.contents ∙ x.sized.contents;
             batches = x.sized.batches;
+            ends = x.sized.ends;
           };
       set = record { batchers = x.set.batchers; children = x.set.children; restarts = x.set.restarts };
       stages = x.stages;
@@ -67,9 +74,25 @@ same_fields core topology before p m r c w j x same =
       totals = x.totals;
     }
 
+same_room : (core : Core) (topology : Topology) (before : History) (p : Vec Place Global) (m : Vec ℕ Global) (r : Vec StageNo Global) (c : Vec ContentRow Global) (w : Vec (VecDeque (ℕ × ℕ) Global) Global) (j : Recorded)
+    → Roomy core topology before → SameRows core p m r c w → core.journal.spare ≤ j.spare → Roomy (record core { journal = j; places = p; settled = m; producers = r; contents = c; waiting = w }) topology before
+same_room core topology before p m r c w j x same spare =
+    record {
+      steps = omega (arith, x.steps, spare);
+      rows =
+          record {
+            places = omega (arith, x.rows.places, same.places_room);
+            settled = omega (arith, x.rows.settled, same.settled_room);
+            producers = omega (arith, x.rows.producers, same.producers_room);
+            contents = omega (arith, x.rows.contents, same.contents_room);
+          };
+      queues = λ s h. omega (arith, x.queues s h, same.queues_room s);
+      ends = x.ends;
+    }
+
 pub roomy : (core : Core) (p : Vec Place Global) (m : Vec ℕ Global) (r : Vec StageNo Global) (c : Vec ContentRow Global) (w : Vec (VecDeque (ℕ × ℕ) Global) Global) (j : Recorded)
-    → Stands core → SameRows core p m r c w → j.steps ≡ core.journal.steps → Stands (record core { journal = j; places = p; settled = m; producers = r; contents = c; waiting = w })
-roomy core p m r c w j x same steps =
+    → Stands core → SameRows core p m r c w → j.steps ≡ core.journal.steps → core.journal.spare ≤ j.spare → Stands (record core { journal = j; places = p; settled = m; producers = r; contents = c; waiting = w })
+roomy core p m r c w j x same steps spare =
     record {
       holds =
           record {
@@ -77,6 +100,8 @@ roomy core p m r c w j x same steps =
             legal = ap (is_legal core.topology) steps ∙ x.holds.legal;
             fields = subst (λ (h : History). Fields (record core { journal = j; places = p; settled = m; producers = r; contents = c; waiting = w }) core.topology h) (sym steps)
                 (same_fields core core.topology core.journal.steps p m r c w j x.holds.fields same);
+            room = subst (λ (h : History). Roomy (record core { journal = j; places = p; settled = m; producers = r; contents = c; waiting = w }) core.topology h) (sym steps)
+                (same_room core core.topology core.journal.steps p m r c w j x.holds.room same spare);
           };
       unowed = ap (owed core.topology) steps ∙ x.unowed;
     }
@@ -89,3 +114,17 @@ same_queue queues s q r within was same t = by (same_or_other s.0 t.0)
     by : (((s.0 == t.0) ≡ true) × (s.0 ≡ t.0)) ⊎ (((s.0 == t.0) ≡ false) × (s.0 ≢ t.0)) → queue_at (set queues s.0 r) t ≡ queue_at queues t
     by (inl here) = queue-set_same queues s.0 r t within (sym here.1) ∙ (same ∙ (sym (ap items_in was) ∙ ap (λ n. items_in (slice_get queues n)) here.1))
     by (inr other) = queue-set_other queues s.0 r t (λ e. other.1 (sym e))
+
+-- and no less room in any
+pub more_queue : (queues : List (VecDeque (ℕ × ℕ) Global)) (s : StageNo) (q r : VecDeque (ℕ × ℕ) Global) → s.0 < length queues → slice_get queues s.0 ≡ Some q → spare_in (Some q) ≤ spare_in (Some r)
+    → (t : StageNo) → spare_at queues t ≤ spare_at (set queues s.0 r) t
+more_queue queues s q r within was more t = by (same_or_other s.0 t.0)
+  where
+    by : (((s.0 == t.0) ≡ true) × (s.0 ≡ t.0)) ⊎ (((s.0 == t.0) ≡ false) × (s.0 ≢ t.0)) → spare_at queues t ≤ spare_at (set queues s.0 r) t
+    by (inl here) =
+        let now : spare_at (set queues s.0 r) t ≡ spare_in (Some r) = ap spare_in (ap (slice_get (set queues s.0 r)) (sym here.1) ∙ get-set_same queues s.0 r within) in
+        let old : spare_at queues t ≡ spare_in (Some q) = ap (λ n. spare_in (slice_get queues n)) (sym here.1) ∙ ap spare_in was in
+        omega (arith, now, old, more)
+    by (inr other) =
+        let now : spare_at (set queues s.0 r) t ≡ spare_at queues t = ap spare_in (get-set_other queues s.0 t.0 r (λ e. other.1 (sym e))) in
+        omega (arith, now)

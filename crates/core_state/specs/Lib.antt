@@ -1,3 +1,4 @@
+pub mod Room
 pub mod Stands
 pub mod Readings
 pub mod Begun

@@ -25,6 +25,7 @@ use Rattle.core_tables.specs.Tables.{queue_at, list_at}
 use Rattle.core_tables.specs.Rows.{post_at}
 use Rattle.core_laws.specs.Columns.{running, stage_row, post_row, came, waiting_parts, open_batches, child_row, mark, content_row, sent_on, ends_in_progress}
 use Rattle.core_state.specs.declared.state.Core.{Core}
+use Rattle.core_state.specs.Room.{Roomy}
 use Rattle.pipe_model.specs.Standing.{gathered_in}
 
 -- Rows as contracts see them
@@ -80,6 +81,7 @@ pub record AreSized (topology : Topology) (before : History) (core : Core) : Typ
   pub producers : length core.producers.items ≡ accepted before
   pub contents : length core.contents.items ≡ accepted before
   pub batches : length core.batches.items ≡ closed before
+  pub ends : length core.ends.items ≡ suc (length topology.stages)
 
 -- a batcher's limits, and a supervisor's mode and slots, are those of its stage; the limits on restarts are the topology's
 pub record AreSet (topology : Topology) (core : Core) : Type 0 where
@@ -112,11 +114,12 @@ pub record Fields (core : Core) (topology : Topology) (before : History) : Type 
   pub restarts : (l : ℕ) (held : RestartLimit) → slice_get core.restarts.items l ≡ Some held → Remembers held (restart_times topology before l)
   pub totals : core.totals ≡ totals_of topology before
 
--- the topology is sound, the journal is legal, and the fields are the journal's; a step may be owed
+-- the topology is sound, the journal is legal, the fields are the journal's, and the room is there; a step may be owed
 pub record Holds (core : Core) : Type 0 where
   pub sound : IsSound core.topology
   pub legal : is_legal core.topology core.journal.steps ≡ true
   pub fields : Fields core core.topology core.journal.steps
+  pub room : Roomy core core.topology core.journal.steps
 
 -- and no step is owed
 pub record Stands (core : Core) : Type 0 where

@@ -14,4 +14,4 @@ pub mod state;
 mod subscribing;
 mod tables;
 
-pub use state::Core;
+pub use state::{Core, MOST_DUE};

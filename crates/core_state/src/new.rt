@@ -1,10 +1,10 @@
 //! A core without a step.
 
-ghost use Rattle.std.specs.Prelude.{◌≡◌, [], IfOk, IfErr};
+ghost use Rattle.std.specs.Prelude.{◌≡◌, ◌≤◌, [], IfOk, IfErr};
 ghost use Rattle.pipe_types.specs.Sound.{IsSound};
 ghost use Rattle.core_state.specs.Stands.{Stands};
 
-use crate::state::Core;
+use crate::state::{Core, MOST_DUE};
 use crate::tables::new_tables;
 use core_tables::rows::Totals;
 use message_ack::Legs;
@@ -23,6 +23,16 @@ const NO_TOTALS: Totals = Totals {
     halted: false,
 };
 
+/// A journal with no step, and room for as many as may be due.
+fn new_journal(alloc: Global) -> Result<Journal, AllocError>
+    ensures empty { IfOk result (λ journal. journal.steps ≡ []) }
+    ensures room { IfOk result (λ journal. 1088 ≤ journal.spare) }
+{
+    let mut journal = Journal::new(alloc);
+    journal.reserve(MOST_DUE)?;
+    Ok(journal)
+}
+
 impl Core {
     /// A core with an empty journal. What it takes later comes from `alloc`. Where memory is wanting the topology is
     /// given back.
@@ -33,10 +43,13 @@ impl Core {
         ensures stands { IfOk result (λ core. Stands core) }
         ensures returned { IfErr result (λ refused. refused.0 ≡ topology) }
     {
+        let Ok(journal) = new_journal(alloc) else {
+            return Err((topology, AllocError));
+        };
         match new_tables(alloc, &topology) {
             Ok(tables) => Ok(Core {
                 topology,
-                journal: Journal::new(alloc),
+                journal,
                 stages: tables.stages,
                 posts: tables.posts,
                 came: tables.came,
@@ -51,6 +64,7 @@ impl Core {
                 producers: Vec::new(alloc),
                 contents: Vec::new(alloc),
                 batches: Vec::new(alloc),
+                ends: tables.ends,
                 legs: Legs::new(alloc),
                 restarts: tables.restarts,
                 totals: NO_TOTALS,

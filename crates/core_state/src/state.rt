@@ -5,13 +5,16 @@ use consumer_sup::Children;
 use core_tables::rows::{BatchRow, ContentRow, PostRow, StageRow, Totals};
 use message_ack::Legs;
 use pipe_journal::Journal;
-use pipe_types::message::Place;
+use pipe_types::message::{Outcome, Place};
 use pipe_types::numbers::{StageNo, SubNo};
 use pipe_types::topology::Topology;
 use restart_core::Restarts;
 use stage_subs::Subs;
 use std::alloc::Global;
 use std::collections::VecDeque;
+
+/// At most so many steps are due without memory: the kills of 64 stages, and the answers of 16 posts of each.
+pub const MOST_DUE: u32 = 1_088;
 
 /// A topology, its journal, and what the journal comes to. A table by stage has a row for each stage number, and first
 /// one for the control source.
@@ -48,6 +51,8 @@ pub struct Core {
     pub contents: Vec<ContentRow>,
     /// The closed batches; by batch number, from 1.
     pub batches: Vec<BatchRow>,
+    /// Empty lists for the outcomes that the answer of a batch processor brings; by stage.
+    pub ends: Vec<Vec<Outcome>>,
     /// The legs of the batches in progress; by batch number.
     pub legs: Legs,
     /// By limit on restarts.
