@@ -1,11 +1,11 @@
 //! The children of a consumer supervisor: one for each message that it runs, in numbered slots.
 //!
-//! `start` finds a free slot wherever one is left. `ended` says what becomes of a child: a temporary one that crashes
-//! is lost, a transient one runs its message again after each of its first three crashes and is lost at the fourth.
-//! Memory is taken in `new` alone.
+//! `start` finds a free slot wherever one is left, and `start_at` takes the one that it is told. `ended` says what becomes of
+//! a child: a temporary one that crashes is lost, a transient one runs its message again after each of its first three
+//! crashes and is lost at the fourth. Memory is taken in `new` alone.
 #![tactic(auto)]
 
-ghost use Rattle.std.specs.Prelude.{◌≡◌, ◌<◌, ◌↔◌, Option, length, replicate, slice_set, option_map, is_none, position, IsTrue, IsSome, IfSome, IfOk, OnErr};
+ghost use Rattle.std.specs.Prelude.{◌≡◌, ◌<◌, ◌↔◌, Option, None, length, replicate, slice_set, option_map, is_none, position, IsTrue, IsSome, IfSome, IfOk, OnErr};
 ghost use Rattle.pipe_types.specs.Children.{most_reruns, runs_again as runs_message_again};
 ghost use Rattle.consumer_sup.specs.Children.{child_in, alive, end_of, after_end};
 
@@ -84,6 +84,29 @@ impl Children {
             }
             None => Err(StartFault::Full),
         }
+    }
+
+    /// A free slot, and none where each has a child.
+    #[tactic(auto, using(crate::proofs::FreeSlots::full_without_free, crate::proofs::FreeSlots::free_below))]
+    pub fn free(&self) -> Option<u16>
+        ensures free { IfSome result (λ slot. (slot < length self.now.slots) × (child_in self.now.slots slot ≡ None)) }
+        ensures full { (result ≡ None) ↔ (alive self.now.slots ≡ length self.now.slots) }
+    {
+        match free_slot(&self.slots) {
+            Some(slot) => Some(slot as u16),
+            None => None,
+        }
+    }
+
+    /// Starts a child for this message in this slot, which is free.
+    pub fn start_at(&mut self, slot: u16, no: MsgNo)
+        requires within { slot < length self.old.slots }
+        requires free { child_in self.old.slots slot ≡ None }
+        ensures { self.new ≡ record self.old {
+          slots = slice_set self.old.slots slot (Some (record { no = no; crashes = 0 }));
+        } }
+    {
+        self.slots[slot as usize] = Some(Child { no, crashes: 0 });
     }
 
     /// Ends a run of the child in this slot, which has one. The slot is free afterwards unless the child runs again.

@@ -35,7 +35,7 @@ brings_is core spec x within =
     ∙ sym (fetch_out_is before spec.no)))
 
 -- what all fetches that are out may bring
-pub fetches_seen : (core : Core) → Holds core → sum_by (brings core.stages.items core.posts.items) core.topology.stages ≡ fetches_out core.topology core.journal.steps
+fetches_seen : (core : Core) → Holds core → sum_by (brings core.stages.items core.posts.items) core.topology.stages ≡ fetches_out core.topology core.journal.steps
 fetches_seen core x =
     let t : IsNumberedTopology core.topology = numbered_topology core.topology x.sound in
     sum_alike (brings core.stages.items core.posts.items) (out_of core.journal.steps) core.topology.stages
@@ -74,13 +74,20 @@ waiting_seen core s x =
     ap length (x.fields.waiting s)
     ∙ length-map (waiting core.topology core.journal.steps s) _
 
+-- the same, where the tables were lent
+pub fetches_by : (core : Core) (rows : List StageRow) (posts : List PostRow) (stages : List StageSpec) → Holds core → rows ≡ core.stages.items → posts ≡ core.posts.items → stages ≡ core.topology.stages
+    → sum_by (brings rows posts) stages ≡ fetches_out core.topology core.journal.steps
+fetches_by core rows posts stages x same_rows same_posts same_stages =
+    ap (λ (r : List StageRow). sum_by (brings r posts) stages) same_rows
+    ∙ (ap (λ (p : List PostRow). sum_by (brings core.stages.items p) stages) same_posts
+    ∙ (ap (λ (s : List StageSpec). sum_by (brings core.stages.items core.posts.items) s) same_stages ∙ fetches_seen core x))
+
 -- how many records the limit leaves
-pub left_seen : (core : Core) (limit left : ℕ) → Holds core → limit ≡ core.topology.record_limit - core.totals.accepted → left ≡ limit - sum_by (brings core.stages.items core.posts.items) core.topology.stages
+pub left_seen : (core : Core) (limit left out : ℕ) → Holds core → limit ≡ core.topology.record_limit - core.totals.accepted → out ≡ fetches_out core.topology core.journal.steps → left ≡ limit - out
     → left ≡ core.topology.record_limit - accepted core.journal.steps - fetches_out core.topology core.journal.steps
-left_seen core limit left x from is =
-    is
-    ∙ (ap (λ n. limit - n) (fetches_seen core x)
-    ∙ ap (λ n. n - fetches_out core.topology core.journal.steps) (from ∙ ap (λ (y : Totals). core.topology.record_limit - y.accepted) x.fields.totals))
+left_seen core limit left out x from sum is =
+    let many : core.totals.accepted ≡ accepted core.journal.steps = ap (λ (y : Totals). y.accepted) x.fields.totals in
+    omega (arith, is, sum, from, many)
 
 -- the bound of a stage of the topology
 pub bound_known : (topology : Topology) (before : History) (s : StageNo) (spec : StageSpec) (left records : ℕ) → spec_of topology s ≡ Some spec
@@ -97,14 +104,3 @@ pub bound_unknown : (topology : Topology) (before : History) (s : StageNo) (left
 bound_unknown topology before s left records e is least =
     let same : records ≡ min 1000 (topology.record_limit - accepted before - fetches_out topology before) = omega (arith, is, least) in
     same ∙ ap (λ o. pull_bound topology before o (min 1000 (topology.record_limit - accepted before - fetches_out topology before))) (sym e)
-
--- the same, where the tables were lent
-pub left_by : (core : Core) (limit left : ℕ) (rows : List StageRow) (posts : List PostRow) (stages : List StageSpec) → Holds core → limit ≡ core.topology.record_limit - core.totals.accepted
-    → left ≡ limit - sum_by (brings rows posts) stages → rows ≡ core.stages.items → posts ≡ core.posts.items → stages ≡ core.topology.stages
-    → left ≡ core.topology.record_limit - accepted core.journal.steps - fetches_out core.topology core.journal.steps
-left_by core limit left rows posts stages x from is same_rows same_posts same_stages =
-    left_seen core limit left x from
-    (is
-    ∙ (ap (λ (r : List StageRow). limit - sum_by (brings r posts) stages) same_rows
-    ∙ (ap (λ (p : List PostRow). limit - sum_by (brings core.stages.items p) stages) same_posts
-    ∙ ap (λ (s : List StageSpec). limit - sum_by (brings core.stages.items core.posts.items) s) same_stages)))

@@ -4,3 +4,4 @@ pub mod Enrolling
 pub mod Bringing
 pub mod Planning
 pub mod Owed
+pub mod Making

@@ -1,23 +1,12 @@
 -- Records that a producer brings.
-use Rattle.std.specs.Prelude.{◌≡◌, ℕ, ◌+◌, ◌≤◌, Bool, true, false, if◌then◌else◌, nat_lt, ◌∷◌, Option, Some, None, vec_len, vec_capacity}
+use Rattle.std.specs.Prelude.{◌≡◌, ℕ, ◌≤◌, Bool, true, false, if◌then◌else◌, nat_lt, ◌∷◌, Option, Some, None}
 use Rattle.pipe_types.specs.declared.numbers.StageNo.{StageNo}
 use Rattle.pipe_types.specs.declared.topology.Topology.{Topology}
 use Rattle.pipe_types.specs.declared.topology.StageSpec.{StageSpec}
 use Rattle.pipe_types.specs.declared.step.Step.TheVariants.{Dispatch}
 use Rattle.pipe_model.specs.History.{History}
 use Rattle.pipe_model.specs.Legal.{may_dispatch}
-use Rattle.core_tables.specs.Tables.{spare_at}
 use Rattle.core_laws.specs.Columns.{is_by_partition}
-use Rattle.core_state.specs.declared.state.Core.{Core}
-
--- there is memory for so many more messages that wait in the stage, and for a step
-pub record HasRoom (core : Core) (stage : StageNo) (count : ℕ) : Type 0 where
-  pub places : vec_len core.places + count ≤ vec_capacity core.places
-  pub settled : vec_len core.settled + count ≤ vec_capacity core.settled
-  pub producers : vec_len core.producers + count ≤ vec_capacity core.producers
-  pub contents : vec_len core.contents + count ≤ vec_capacity core.contents
-  pub waiting : count ≤ spare_at core.waiting.items stage
-  pub step : 1 ≤ core.journal.spare
 
 -- where the stage dispatches by a field, it has that field's number in a byte, and parts
 pub record HasParts (spec : StageSpec) : Type 0 where

@@ -4,11 +4,12 @@ ghost use Rattle.std.specs.Prelude.{◌≡◌, ◌∷◌, ◌++◌, ◌+◌, ◌
 ghost use Rattle.std.specs.VecDeque.{deque_len, deque_capacity};
 ghost use Rattle.pipe_model.specs.History.{bytes_in};
 ghost use Rattle.pipe_model.specs.Legal.{allows};
+ghost use Rattle.core_tables.specs.Tables.{spare_at, spare_in};
 ghost use Rattle.core_laws.specs.Enrolled.{record_part, queued};
 ghost use Rattle.core_state.specs.Stands.{Holds, Stands};
-ghost use Rattle.core_accepts.specs.Records.{HasRoom, HasParts};
+ghost use Rattle.core_accepts.specs.Records.{HasParts};
 
-use core_state::Core;
+use core_state::{Core, MOST_DUE};
 use core_tables::new_rows::{content_new, mark_new, place_new, produce_new};
 use core_tables::posts::come_home;
 use dispatch_partition::partition_of;
@@ -20,33 +21,29 @@ use pipe_types::topology::{Dispatch, StageSpec};
 use std::alloc::AllocError;
 use std::collections::VecDeque;
 
-/// Makes room for so many records that the producer brings, and for so many steps.
-pub fn make_room(core: &mut Core, stage: StageNo, count: u32, steps: u32) -> Result<(), AllocError>
+/// Makes room for so many records more that wait in the producer, for the step and for a dispatch behind it. The journal is as
+/// before.
+pub fn make_room(core: &mut Core, stage: StageNo, count: u32) -> Result<(), AllocError>
     requires stands { Stands core.old }
     requires known { stage.0 ≤ length core.old.topology.stages }
-    requires some { 1 ≤ steps }
-    ensures room { OnOk result (HasRoom core.new stage count) }
-    ensures steps { OnOk result (steps ≤ core.new.journal.spare) }
+    ensures room { OnOk result (count ≤ spare_at core.new.waiting.items stage) }
+    ensures steps { OnOk result (1090 ≤ core.new.journal.spare) }
     ensures unchanged { core.new.journal.steps ≡ core.old.journal.steps }
     ensures topology { core.new.topology ≡ core.old.topology }
     ensures inboxes { core.new.inboxes ≡ core.old.inboxes }
     ensures stands { Stands core.new }
 {
-    let rows = count as usize;
-    core.places.reserve(rows)?;
-    core.settled.reserve(rows)?;
-    core.producers.reserve(rows)?;
-    core.contents.reserve(rows)?;
     let queue = &mut core.waiting[stage.0 as usize];
-    queue.reserve(rows)?;
-    core.journal.reserve(steps)
+    queue.reserve(count as usize)?;
+    core.journal.reserve(MOST_DUE + 2)
 }
 
-/// Appends the accept of the records, for which there is room. A dispatch may be owed then.
+/// Appends the accept of the records, for which there is room in the producer's queue. Their rows have had room since the
+/// fetch. A dispatch may be owed then.
 pub fn enroll(core: &mut Core, stage: StageNo, records: BytesList)
     requires holds { Holds core.old }
     requires legal { IsTrue (allows core.old.topology core.old.journal.steps (Step.Accept stage records)) }
-    requires room { HasRoom core.old stage (length records) }
+    requires room { length records ≤ spare_at core.old.waiting.items stage }
     ensures appended { core.new.journal.steps ≡ Step.Accept stage records ∷ core.old.journal.steps }
     ensures topology { core.new.topology ≡ core.old.topology }
     ensures holds { Holds core.new }

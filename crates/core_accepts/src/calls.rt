@@ -5,11 +5,11 @@ ghost use Rattle.pipe_types.specs.Stages.{spec_of};
 ghost use Rattle.pipe_model.specs.Lives.{is_live};
 ghost use Rattle.pipe_model.specs.Flow.{is_batcher};
 ghost use Rattle.pipe_model.specs.Legal.{allows, owed, may_dispatch};
-ghost use Rattle.core_tables.specs.Tables.{HasRoom as HasInboxRoom};
+ghost use Rattle.core_tables.specs.Tables.{spare_at, HasRoom as HasInboxRoom};
 ghost use Rattle.core_laws.specs.Enrolled.{record_part};
 ghost use Rattle.core_state.specs.Stands.{Holds, Stands};
 ghost use Rattle.core_sends.specs.Rooms.{planned};
-ghost use Rattle.core_accepts.specs.Records.{HasRoom, HasParts, is_over, and_dispatch};
+ghost use Rattle.core_accepts.specs.Records.{HasParts, is_over, and_dispatch};
 
 use crate::accepts::{enroll, make_room, part_of};
 use core_sends::plans::{make_room as make_inbox_room, plan};
@@ -55,7 +55,7 @@ fn send_owed(core: &mut Core, stage: StageNo, sent: Vec<Sent>)
     requires unowed { may_dispatch core.old.topology core.old.journal.steps stage ≡ false → owed core.old.topology core.old.journal.steps ≡ None }
     requires planned { sent.items ≡ planned core.old.topology core.old.journal.steps stage [] }
     requires room { All (HasInboxRoom (length sent.items) core.old.inboxes.items) sent.items }
-    requires spare { 1 ≤ core.old.journal.spare }
+    requires spare { 1089 ≤ core.old.journal.spare }
     ensures appended { core.new.journal.steps ≡ and_dispatch core.old.topology core.old.journal.steps stage }
     ensures topology { core.new.topology ≡ core.old.topology }
     ensures stands { Stands core.new }
@@ -71,8 +71,8 @@ fn prepare(core: &mut Core, stage: StageNo, records: &[Bytes]) -> Result<Vec<Sen
     requires legal { IsTrue (allows core.old.topology core.old.journal.steps (Step.Accept stage records.now)) }
     ensures planned { IfOk result (λ sent. sent.items ≡ planned core.old.topology (Step.Accept stage records.now ∷ core.old.journal.steps) stage []) }
     ensures inboxes { IfOk result (λ sent. All (HasInboxRoom (length sent.items) core.new.inboxes.items) sent.items) }
-    ensures room { OnOk result (HasRoom core.new stage (length records.now)) }
-    ensures steps { OnOk result (2 ≤ core.new.journal.spare) }
+    ensures room { OnOk result (length records.now ≤ spare_at core.new.waiting.items stage) }
+    ensures steps { OnOk result (1090 ≤ core.new.journal.spare) }
     ensures unchanged { core.new.journal.steps ≡ core.old.journal.steps }
     ensures topology { core.new.topology ≡ core.old.topology }
     ensures stands { Stands core.new }
@@ -84,7 +84,7 @@ fn prepare(core: &mut Core, stage: StageNo, records: &[Bytes]) -> Result<Vec<Sen
     let parts = parts_in(core.alloc, spec, records)?;
     let sent = plan(core, stage, &parts)?;
     make_inbox_room(core, &sent)?;
-    make_room(core, stage, count, 2)?;
+    make_room(core, stage, count)?;
     Ok(sent)
 }
 

@@ -1,27 +1,34 @@
-//! How many records the limit still leaves.
+//! How many records the fetches that are out may still bring.
 
-ghost use Rattle.std.specs.Prelude.{◌≡◌, ◌-◌, ◌<◌, ◌^◌, sum_by, slice_get};
+ghost use Rattle.std.specs.Prelude.{◌≡◌, ◌<◌, ◌≤◌, ◌^◌, length, sum_by, slice_get};
+ghost use Rattle.pipe_model.specs.Legal.{fetches_out};
 ghost use Rattle.core_tables.specs.Rows.{post_at};
+ghost use Rattle.core_state.specs.Stands.{Stands};
 ghost use Rattle.core_accepts.specs.Rooms.{may_bring, brings};
 
+use core_state::Core;
 use core_tables::posts::SLOTS;
 use core_tables::rows::{PostRow, StageRow};
 use pipe_types::topology::{Role, StageSpec};
 
-/// What is left of so many records once each fetch that is out brings all that it may.
-pub(crate) fn records_left(
-    stages: &[StageSpec],
-    rows: &[StageRow],
-    posts: &[PostRow],
-    records: u32,
-) -> u32
-    ensures { result ≡ records - sum_by (brings rows.now posts.now) stages.now }
+/// How many records all fetches that are out may still bring.
+pub(crate) fn fetches_out(core: &Core) -> u64
+    requires stands { Stands core.now }
+    ensures { result ≡ fetches_out core.now.topology core.now.journal.steps }
 {
-    let mut left = records;
+    sum_out(core.topology.stages.as_slice(), &core.stages, &core.posts)
+}
+
+/// The bounds of the producers' fetches that are out, added up.
+fn sum_out(stages: &[StageSpec], rows: &[StageRow], posts: &[PostRow]) -> u64
+    requires few { length stages.now ≤ 64 }
+    ensures { result ≡ sum_by (brings rows.now posts.now) stages.now }
+{
+    let mut out = 0;
     for spec in stages {
-        left = left.saturating_sub(fetch_of(spec, rows, posts));
+        out += u64::from(fetch_of(spec, rows, posts));
     }
-    left
+    out
 }
 
 /// How many records the producer's fetch may still bring, and 0 where it has none out.

@@ -50,13 +50,14 @@ use Rattle.batcher.specs.declared.Closable.{Closable}
 use Rattle.pipe_journal.specs.Recorded.{Recorded}
 use Rattle.core_tables.specs.declared.rows.Totals.{Totals}
 use Rattle.core_tables.specs.declared.rows.BatchRow.{BatchRow}
-use Rattle.core_tables.specs.Tables.{queue_at}
+use Rattle.core_tables.specs.Tables.{queue_at, spare_at}
 use Rattle.core_tables.proofs.Tables.{same_or_other}
 use Rattle.core_laws.specs.Columns.{closed_numbers, sent_on, ends_in_progress, open_of, open_batches, keys_of, part_of, part_by, is_by_partition, waiting_parts}
 use Rattle.core_laws.proofs.Lawful.{legal_after}
 use Rattle.core_laws.proofs.Past.{known_within, live_known}
 use Rattle.core_laws.proofs.LegsOn.{none_sent, waiting_closed}
 use Rattle.core_state.specs.declared.state.Core.{Core}
+use Rattle.core_state.specs.Room.{Roomy}
 use Rattle.core_state.specs.Stands.{Fields, Stands, opens_in, opens_at, closed_seen}
 use Rattle.core_state.proofs.Reading.{some_at}
 use Rattle.core_batches.specs.Closes.{without_open, HasParts}
@@ -539,18 +540,29 @@ parts_here topology s sound role low high =
 
 -- Where the journal and the tables made room alone, the core stands
 pub roomy_stands : (core : Core) (j : Recorded) (rows : Vec BatchRow Global) (queues : Vec (VecDeque (ℕ × ℕ) Global) Global) → Stands core → j.steps ≡ core.journal.steps → rows.items ≡ core.batches.items
-    → ((t : StageNo) → queue_at queues.items t ≡ queue_at core.waiting.items t) → length queues.items ≡ length core.waiting.items → Stands (record core { journal = j; batches = rows; waiting = queues })
-roomy_stands core j rows queues stands same kept queued len =
+    → ((t : StageNo) → queue_at queues.items t ≡ queue_at core.waiting.items t) → length queues.items ≡ length core.waiting.items
+    → core.journal.spare ≤ j.spare → ((t : StageNo) → spare_at core.waiting.items t ≤ spare_at queues.items t) → Stands (record core { journal = j; batches = rows; waiting = queues })
+roomy_stands core j rows queues stands same kept queued len spare rooms =
     record {
       holds =
           record {
             sound = stands.holds.sound;
             legal = ap (is_legal core.topology) same ∙ stands.holds.legal;
             fields = subst (λ (h : History). Fields (record core { journal = j; batches = rows; waiting = queues }) core.topology h) (sym same) (fields core.topology core.journal.steps stands.holds.fields);
+            room = subst (λ (h : History). Roomy (record core { journal = j; batches = rows; waiting = queues }) core.topology h) (sym same) (room core.topology core.journal.steps stands.holds.room);
           };
       unowed = ap (owed core.topology) same ∙ stands.unowed;
     }
   where
+    room : (topology : Topology) (before : History) → Roomy core topology before → Roomy (record core { journal = j; batches = rows; waiting = queues }) topology before
+    room topology before x =
+        record {
+          steps = omega (arith, x.steps, spare);
+          rows = x.rows;
+          queues = λ t h. omega (arith, rooms t, x.queues t h);
+          ends = x.ends;
+        }
+
     fields : (topology : Topology) (before : History) → Fields core topology before → Fields (record core { journal = j; batches = rows; waiting = queues }) topology before
     fields topology before x =
         record {
@@ -570,6 +582,7 @@ roomy_stands core j rows queues stands same kept queued len =
                 producers = x.sized.producers;
                 contents = x.sized.contents;
                 batches = ap length kept ∙ x.sized.batches;
+                ends = x.sized.ends;
               };
           set = record { batchers = x.set.batchers; children = x.set.children; restarts = x.set.restarts };
           stages = x.stages;

@@ -51,6 +51,7 @@ use Rattle.core_laws.specs.Columns.{open_batches, part_of, content_row}
 use Rattle.core_laws.proofs.Lawful.{legal_after}
 use Rattle.core_laws.proofs.Past.{known_within, live_known}
 use Rattle.core_state.specs.declared.state.Core.{Core}
+use Rattle.core_state.specs.Room.{Roomy}
 use Rattle.core_state.specs.Stands.{Fields, Stands, opens_in, opens_at}
 use Rattle.core_state.proofs.Reading.{some_at}
 use Rattle.stage_laws.proofs.Numbering.{numbered_topology}
@@ -319,18 +320,22 @@ gathered_fields core topology before s m u message j batchers inboxes places sub
 -- Where the journal alone made room and the batchers say what they said, the core stands
 pub refused_stands : (core : Core) (j : Recorded) (batchers : Vec Batches Global) → Stands core → j.steps ≡ core.journal.steps
     → ((i : ℕ) → slice_get batchers.items i ≡ slice_get core.batchers.items i) → length batchers.items ≡ length core.batchers.items
-    → Stands (record core { journal = j; batchers = batchers })
-refused_stands core j batchers stands same kept len =
+    → core.journal.spare ≤ j.spare → Stands (record core { journal = j; batchers = batchers })
+refused_stands core j batchers stands same kept len spare =
     record {
       holds =
           record {
             sound = stands.holds.sound;
             legal = ap (is_legal core.topology) same ∙ stands.holds.legal;
             fields = subst (λ (h : History). Fields (record core { journal = j; batchers = batchers }) core.topology h) (sym same) (fields core.topology core.journal.steps stands.holds.fields);
+            room = subst (λ (h : History). Roomy (record core { journal = j; batchers = batchers }) core.topology h) (sym same) (room core.topology core.journal.steps stands.holds.room);
           };
       unowed = ap (owed core.topology) same ∙ stands.unowed;
     }
   where
+    room : (topology : Topology) (before : History) → Roomy core topology before → Roomy (record core { journal = j; batchers = batchers }) topology before
+    room topology before x = record { steps = omega (arith, x.steps, spare); rows = x.rows; queues = x.queues; ends = x.ends }
+
     fields : (topology : Topology) (before : History) → Fields core topology before → Fields (record core { journal = j; batchers = batchers }) topology before
     fields topology before x =
         record {

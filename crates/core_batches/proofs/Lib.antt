@@ -7,3 +7,4 @@ pub mod Closing
 mod Outcomes
 pub mod Writing
 mod Written
+pub mod Rooming

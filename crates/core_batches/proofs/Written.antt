@@ -220,16 +220,16 @@ marked_written topology before s bytes os u b i ms legs settled n old g last was
 
 -- the fields after a batch was answered
 pub written_fields : (core : Core) (topology : Topology) (before : History) (s : StageNo) (bytes : ℕ) (os : List Outcome) (u : SubNo) (b i : ℕ) (ms : List ℕ) (legs : List Leg) (settled : Option Settled)
-    (j : Recorded) (posts : Vec PostRow Global) (places : Vec Place Global) (marks : Vec ℕ Global) (subs : List (Option PairRow)) (table : List (ℕ × Ends))
+    (j : Recorded) (posts : Vec PostRow Global) (places : Vec Place Global) (marks : Vec ℕ Global) (subs : List (Option PairRow)) (table : List (ℕ × Ends)) (e : Vec (Vec Outcome Global) Global)
     → IsSound topology → Fields core topology before → IsWriting topology before s bytes os u b i ms legs
     → is_some settled ≡ is_settled (on_legs (leg_answered s os) legs) → ((x : Settled) → settled ≡ Some x → IsSettledBy (length ms) (on_legs (leg_answered s os) legs) x)
     → ((n : ℕ) → sent_in table n ≡ (if n == b then (if is_some settled then None else with_end (sent_in core.legs n) i (AnsweredEnd os)) else sent_in core.legs n))
     → ((k : ℕ) → slice_get posts.items k ≡ (if post_at s.0 0 == k then option_map home (slice_get core.posts.items k) else slice_get core.posts.items k)) → length posts.items ≡ length core.posts.items
     → ((k : ℕ) → slice_get places.items k ≡ option_map (ended_by settled ms (suc k)) (slice_get core.places.items k)) → length places.items ≡ length core.places.items
     → ((k : ℕ) → slice_get marks.items k ≡ option_map (marked_by settled ms (length before) (suc k)) (slice_get core.settled.items k)) → length marks.items ≡ length core.settled.items
-    → IsChanged core.subs subs u (handled_on u.generation 1)
-    → Fields (record core { journal = j; posts = posts; places = places; settled = marks; subs = subs; legs = table; totals = record core.totals { quiet = 0 } }) topology (Wrote s bytes (Outcomes os) ∷ before)
-written_fields core topology before s bytes os u b i ms legs settled j posts places marks subs table sound x g last each kept homed len-posts placed len-places marking len-marks counts =
+    → IsChanged core.subs subs u (handled_on u.generation 1) → length e.items ≡ length core.ends.items
+    → Fields (record core { journal = j; posts = posts; places = places; settled = marks; subs = subs; legs = table; ends = e; totals = record core.totals { quiet = 0 } }) topology (Wrote s bytes (Outcomes os) ∷ before)
+written_fields core topology before s bytes os u b i ms legs settled j posts places marks subs table e sound x g last each kept homed len-posts placed len-places marking len-marks counts len-ends =
     record {
       sized =
           record {
@@ -247,7 +247,7 @@ written_fields core topology before s bytes os u b i ms legs settled j posts pla
             producers = x.sized.producers;
             contents = x.sized.contents;
             batches = x.sized.batches;
-            ends = x.sized.ends;
+            ends = len-ends ∙ x.sized.ends;
           };
       set = record { batchers = x.set.batchers; children = x.set.children; restarts = x.set.restarts };
       stages = x.stages;

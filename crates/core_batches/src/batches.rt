@@ -1,6 +1,6 @@
 //! What the close of a batch makes of one row.
 
-ghost use Rattle.std.specs.Prelude.{◌≡◌, ℕ, ◌∷◌, [], ◌++◌, ◌-◌, ◌<◌, ◌≤◌, suc, length, All, Some, None, slice_get, option_map, if◌then◌else◌, ◌==◌, IfSome, OnOk};
+ghost use Rattle.std.specs.Prelude.{◌≡◌, ℕ, ◌∷◌, [], ◌++◌, ◌-◌, ◌<◌, ◌≤◌, suc, length, All, Some, None, slice_get, vec_capacity, option_map, if◌then◌else◌, ◌==◌, false, IfSome, OnOk};
 ghost use Rattle.pipe_types.specs.declared.numbers.StageNo.{StageNo as Stage};
 ghost use Rattle.pipe_model.specs.Flow.{put_in_batch};
 ghost use Rattle.batcher.specs.Batches.{IsClosable, first_of, trigger_of};
@@ -26,6 +26,7 @@ pub(crate) fn make_room_for_one(
     ensures same { (s : Stage) → queue_at waiting.new.items s ≡ queue_at waiting.old.items s }
     ensures len { length waiting.new.items ≡ length waiting.old.items }
     ensures room { OnOk result (1 ≤ spare_at waiting.new.items stage) }
+    ensures rooms { (s : Stage) → spare_at waiting.old.items s ≤ spare_at waiting.new.items s }
 {
     let queue = &mut waiting[stage.0 as usize];
     queue.reserve(1)
@@ -41,6 +42,7 @@ pub(crate) fn queue_batch(
     requires within { stage.0 < length waiting.old.items }
     requires room { 1 ≤ spare_at waiting.old.items stage }
     ensures queued { (s : Stage) → queue_at waiting.new.items s ≡ (if stage.0 == s.0 then queue_at waiting.old.items s ++ (part, no.0) ∷ [] else queue_at waiting.old.items s) }
+    ensures rooms { (s : Stage) → (stage.0 == s.0) ≡ false → spare_at waiting.new.items s ≡ spare_at waiting.old.items s }
     ensures len { length waiting.new.items ≡ length waiting.old.items }
 {
     let queue = &mut waiting[stage.0 as usize];
@@ -87,6 +89,7 @@ pub(crate) fn close_open(
 pub(crate) fn join_all(places: &mut Vec<Place>, numbers: &[u32], stage: StageNo, batch: BatchNo)
     requires within { All (λ n. (1 ≤ n) × (n ≤ length places.old.items)) numbers.now }
     ensures len { length places.new.items ≡ length places.old.items }
+    ensures capacity { vec_capacity places.new ≡ vec_capacity places.old }
     ensures placed { (i : ℕ) → slice_get places.new.items i ≡ option_map (put_in_batch numbers.now stage batch.0 (suc i)) (slice_get places.old.items i) }
 {
     for no in numbers {

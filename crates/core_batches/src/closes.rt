@@ -11,7 +11,7 @@ ghost use Rattle.core_batches.specs.Closes.{MayClose};
 use crate::batches::{
     closable_in, close_open, join_all, make_room_for_one, new_row, part_of_batch, queue_batch,
 };
-use core_state::Core;
+use core_state::{Core, MOST_DUE};
 use pipe_types::numbers::{BatchNo, MsgNo, StageNo};
 use pipe_types::step::Step;
 use std::alloc::AllocError;
@@ -33,7 +33,7 @@ pub fn close_batch(
     ensures topology { core.new.topology ≡ core.old.topology }
     ensures stands { Stands core.new }
 {
-    core.journal.reserve(1)?;
+    core.journal.reserve(MOST_DUE + 1)?;
     core.batches.reserve(1)?;
     make_room_for_one(&mut core.waiting, stage)?;
     let found = closable_in(&core.batchers, stage, first, core.totals.now, dry);

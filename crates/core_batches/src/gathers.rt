@@ -7,7 +7,7 @@ ghost use Rattle.pipe_model.specs.Legal.{allows, first_unit as first_number};
 ghost use Rattle.core_state.specs.Stands.{Stands};
 
 use crate::rows::{count_handled, drop_first, first_unit, join_open, place_gathered};
-use core_state::Core;
+use core_state::{Core, MOST_DUE};
 use pipe_types::numbers::{MsgNo, StageNo};
 use pipe_types::step::Step;
 use std::alloc::AllocError;
@@ -23,7 +23,7 @@ pub fn gather(core: &mut Core, stage: StageNo) -> Result<MsgNo, AllocError>
     ensures topology { core.new.topology ≡ core.old.topology }
     ensures stands { Stands core.new }
 {
-    core.journal.reserve(1)?;
+    core.journal.reserve(MOST_DUE + 1)?;
     let (sub, unit) = first_unit(&core.inboxes, stage);
     let no = MsgNo(unit);
     let row = core.contents[unit as usize - 1];

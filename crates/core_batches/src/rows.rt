@@ -1,6 +1,6 @@
 //! What a call of a batcher makes of one row.
 
-ghost use Rattle.std.specs.Prelude.{◌≡◌, ℕ, ◌+◌, ◌-◌, ◌<◌, ◌≤◌, suc, length, drop, slice_get, option_map, option_copied, if◌then◌else◌, ◌==◌, Some, IsTrue, IfSome, OnOk, OnErr};
+ghost use Rattle.std.specs.Prelude.{◌≡◌, ℕ, ◌+◌, ◌-◌, ◌<◌, ◌≤◌, suc, length, drop, slice_get, vec_capacity, option_map, option_copied, if◌then◌else◌, ◌==◌, Some, IsTrue, IfSome, OnOk, OnErr};
 ghost use Rattle.pipe_types.specs.declared.numbers.StageNo.{StageNo as Stage};
 ghost use Rattle.pipe_types.specs.declared.message.Place.TheVariants.{Gathered};
 ghost use Rattle.pipe_model.specs.Content.{key_in};
@@ -44,6 +44,7 @@ pub(crate) fn place_gathered(places: &mut Vec<Place>, stage: StageNo, no: MsgNo)
     requires within { no.0 ≤ length places.old.items }
     ensures placed { (i : ℕ) → slice_get places.new.items i ≡ (if no.0 == suc i then Some (Gathered stage) else slice_get places.old.items i) }
     ensures len { length places.new.items ≡ length places.old.items }
+    ensures capacity { vec_capacity places.new ≡ vec_capacity places.old }
 {
     places[no.0 as usize - 1] = Place::Gathered(stage);
 }

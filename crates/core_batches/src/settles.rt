@@ -1,6 +1,6 @@
 //! How the messages of a batch end.
 
-ghost use Rattle.std.specs.Prelude.{◌≡◌, ℕ, suc, ◌<◌, ◌≤◌, length, IfSome, slice_get, option_map};
+ghost use Rattle.std.specs.Prelude.{◌≡◌, ℕ, suc, ◌<◌, ◌≤◌, length, IfSome, slice_get, vec_capacity, option_map};
 ghost use Rattle.core_state.specs.Settles.{ended_by, marked_by, AreNumbers};
 ghost use Rattle.core_batches.specs.Writes.{leg_place};
 
@@ -48,8 +48,10 @@ pub(crate) fn end_batch(
     requires marks { length marks.old.items ≡ length places.old.items }
     ensures places { IfSome (slice_get batches.now.items at) (λ row. (i : ℕ) → slice_get places.new.items i ≡ option_map (ended_by settled row.numbers.items (suc i)) (slice_get places.old.items i)) }
     ensures places_len { length places.new.items ≡ length places.old.items }
+    ensures places_capacity { vec_capacity places.new ≡ vec_capacity places.old }
     ensures marks { IfSome (slice_get batches.now.items at) (λ row. (i : ℕ) → slice_get marks.new.items i ≡ option_map (marked_by settled row.numbers.items mark (suc i)) (slice_get marks.old.items i)) }
     ensures marks_len { length marks.new.items ≡ length marks.old.items }
+    ensures marks_capacity { vec_capacity marks.new ≡ vec_capacity marks.old }
 {
     end_all(places, marks, &batches[at].numbers, settled, mark);
 }
@@ -66,8 +68,10 @@ fn end_all(
     requires marks { length marks.old.items ≡ length places.old.items }
     ensures places { (i : ℕ) → slice_get places.new.items i ≡ option_map (ended_by settled numbers.now (suc i)) (slice_get places.old.items i) }
     ensures places_len { length places.new.items ≡ length places.old.items }
+    ensures places_capacity { vec_capacity places.new ≡ vec_capacity places.old }
     ensures marks { (i : ℕ) → slice_get marks.new.items i ≡ option_map (marked_by settled numbers.now mark (suc i)) (slice_get marks.old.items i) }
     ensures marks_len { length marks.new.items ≡ length marks.old.items }
+    ensures marks_capacity { vec_capacity marks.new ≡ vec_capacity marks.old }
 {
     if let Some(settled) = settled {
         settle_all(places, numbers, &settled);

@@ -3,3 +3,4 @@ pub mod Fresh
 pub mod Next
 pub mod Changed
 pub mod Ended
+pub mod Rooming

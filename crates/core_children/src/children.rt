@@ -15,7 +15,7 @@ ghost use Rattle.core_children.specs.Starts.{may_start_child};
 
 use crate::slots::slot_again;
 use crate::starts::{start_again, start_first};
-use core_state::Core;
+use core_state::{Core, MOST_DUE};
 use core_takes::contents::copy_of;
 use pipe_types::message::Message;
 use pipe_types::numbers::{MsgNo, StageNo, SubNo};
@@ -59,7 +59,7 @@ fn run_again(core: &mut Core, stage: StageNo, slot: u16, no: MsgNo) -> Result<Ch
     ensures stands { Stands core.new }
 {
     let message = message_of(core, no.0)?;
-    core.journal.reserve(1)?;
+    core.journal.reserve(MOST_DUE + 1)?;
     start_again(core, stage, slot, no);
     Ok(ChildWork { slot, message })
 }
@@ -126,19 +126,32 @@ fn first_sub(inboxes: &[VecDeque<(SubNo, u32)>], stage: StageNo) -> SubNo
     }
 }
 
-/// Makes room for the step, and for one message in the stage's chunk. The core stands as it did.
+/// Makes room for the step and those that may be due then, and for one message in the stage's chunk. The core stands as it did.
 fn make_ready(core: &mut Core, stage: StageNo) -> Result<(), AllocError>
     requires stands { Stands core.old }
-    requires within { stage.0 < length core.old.chunks.items }
+    requires within { stage.0 ≤ length core.old.topology.stages }
     ensures room { OnOk result (1 ≤ room_at core.new.chunks.items stage) }
-    ensures spare { OnOk result (1 ≤ core.new.journal.spare) }
+    ensures spare { OnOk result (1089 ≤ core.new.journal.spare) }
     ensures tables { (core.new.inboxes ≡ core.old.inboxes) × (core.new.children ≡ core.old.children) }
     ensures unchanged { core.new.journal.steps ≡ core.old.journal.steps }
     ensures topology { core.new.topology ≡ core.old.topology }
     ensures stands { Stands core.new }
 {
-    make_chunk_room(&mut core.chunks, stage)?;
-    core.journal.reserve(1)
+    make_slot_ready(core, stage)?;
+    core.journal.reserve(MOST_DUE + 1)
+}
+
+/// Makes room for one message in the stage's chunk. The core stands as it did.
+fn make_slot_ready(core: &mut Core, stage: StageNo) -> Result<(), AllocError>
+    requires stands { Stands core.old }
+    requires within { stage.0 ≤ length core.old.topology.stages }
+    ensures room { OnOk result (1 ≤ room_at core.new.chunks.items stage) }
+    ensures tables { (core.new.inboxes ≡ core.old.inboxes) × (core.new.children ≡ core.old.children) }
+    ensures unchanged { core.new.journal.steps ≡ core.old.journal.steps }
+    ensures topology { core.new.topology ≡ core.old.topology }
+    ensures stands { Stands core.new }
+{
+    make_chunk_room(&mut core.chunks, stage)
 }
 
 /// Makes room for one message more in the stage's chunk. The chunks hold what they held.

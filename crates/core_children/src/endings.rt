@@ -1,6 +1,6 @@
 //! The end of a child's run.
 
-ghost use Rattle.std.specs.Prelude.{◌≡◌, ◌∷◌, ◌≤◌, IfErr, OnOk, OnErr, IsTrue};
+ghost use Rattle.std.specs.Prelude.{◌≡◌, ◌∷◌, IsOk, IsTrue};
 ghost use Rattle.pipe_model.specs.Legal.{allows};
 ghost use Rattle.core_state.specs.Stands.{Stands, Holds};
 
@@ -16,8 +16,8 @@ use pipe_types::numbers::StageNo;
 use pipe_types::step::Step;
 use std::alloc::AllocError;
 
-/// Appends the end of a run of the slot's child, as the reply says: its message is acknowledged or lost, or runs again.
-/// Where memory is wanting the reply comes back.
+/// Appends the end of a run of the slot's child, as the reply says: its message is acknowledged or lost, or runs again. The
+/// start made the room: it takes no memory, and cannot be refused.
 pub fn child_end(
     core: &mut Core,
     stage: StageNo,
@@ -26,25 +26,19 @@ pub fn child_end(
 ) -> Result<(), (Reply, AllocError)>
     requires stands { Stands core.old }
     requires legal { IsTrue (allows core.old.topology core.old.journal.steps (Step.ChildEnd stage slot reply)) }
-    ensures appended { OnOk result (core.new.journal.steps ≡ Step.ChildEnd stage slot reply ∷ core.old.journal.steps) }
-    ensures returned { IfErr result (λ refused. refused.0 ≡ reply) }
-    ensures unchanged { OnErr result (core.new.journal.steps ≡ core.old.journal.steps) }
+    ensures ok { IsOk result }
+    ensures appended { core.new.journal.steps ≡ Step.ChildEnd stage slot reply ∷ core.old.journal.steps }
     ensures topology { core.new.topology ≡ core.old.topology }
     ensures stands { Stands core.new }
 {
-    match core.journal.reserve(1) {
-        Ok(()) => {}
-        Err(error) => return Err((reply, error)),
-    }
     end_run(core, stage, slot, reply);
     Ok(())
 }
 
-/// Appends the end of a run of the slot's child, into room that was made before.
+/// Appends the end of a run of the slot's child, into the room that the start made.
 pub fn end_run(core: &mut Core, stage: StageNo, slot: u16, reply: Reply)
     requires holds { Holds core.old }
     requires legal { IsTrue (allows core.old.topology core.old.journal.steps (Step.ChildEnd stage slot reply)) }
-    requires spare { 1 ≤ core.old.journal.spare }
     ensures appended { core.new.journal.steps ≡ Step.ChildEnd stage slot reply ∷ core.old.journal.steps }
     ensures topology { core.new.topology ≡ core.old.topology }
     ensures holds { Holds core.new }

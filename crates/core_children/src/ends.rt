@@ -1,6 +1,6 @@
 //! What the end of a child's run makes of one row.
 
-ghost use Rattle.std.specs.Prelude.{◌≡◌, ℕ, suc, ◌<◌, ◌≤◌, ◌==◌, ◌&&◌, not, filter, if◌then◌else◌, slice_get, length, Some};
+ghost use Rattle.std.specs.Prelude.{◌≡◌, ℕ, suc, ◌<◌, ◌≤◌, ◌==◌, ◌&&◌, not, filter, if◌then◌else◌, slice_get, length, vec_capacity, Some};
 ghost use Rattle.pipe_types.specs.declared.numbers.StageNo.{StageNo as Stage};
 ghost use Rattle.pipe_model.specs.Flow.{child_place};
 ghost use Rattle.pipe_model.specs.Ledger.{crashed_reply};
@@ -39,6 +39,7 @@ pub(crate) fn put_place(places: &mut Vec<Place>, no: u32, place: Place)
     requires within { no ≤ length places.old.items }
     ensures placed { (i : ℕ) → slice_get places.new.items i ≡ (if no == suc i then Some place else slice_get places.old.items i) }
     ensures len { length places.new.items ≡ length places.old.items }
+    ensures capacity { vec_capacity places.new ≡ vec_capacity places.old }
 {
     places[no as usize - 1] = place;
 }
@@ -56,6 +57,7 @@ pub(crate) fn put_mark(settled: &mut Vec<u64>, no: u32, mark: u64)
     requires within { no ≤ length settled.old.items }
     ensures marked { (i : ℕ) → slice_get settled.new.items i ≡ (if no == suc i then Some mark else slice_get settled.old.items i) }
     ensures len { length settled.new.items ≡ length settled.old.items }
+    ensures capacity { vec_capacity settled.new ≡ vec_capacity settled.old }
 {
     settled[no as usize - 1] = mark;
 }

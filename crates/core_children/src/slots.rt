@@ -14,20 +14,29 @@ use core_tables::posts::SLOTS;
 use core_tables::rows::PostRow;
 use pipe_types::numbers::{MsgNo, StageNo};
 
-/// Starts a child for the message in a slot of the stage that is free, and answers the slot.
-pub fn start_in(children: &mut Vec<Children>, stage: StageNo, no: MsgNo) -> u16
+/// A free slot of the stage.
+pub fn free_in(children: &[Children], stage: StageNo) -> u16
+    requires within { stage.0 < length children.now }
+    requires some { alive (slots_at children.now stage) < length (slots_at children.now stage) }
+    ensures slot { result < length (slots_at children.now stage) }
+    ensures free { child_at children.now stage result ≡ None }
+{
+    match children[stage.0 as usize].free() {
+        Some(slot) => slot,
+        None => unreachable!(),
+    }
+}
+
+/// Starts a child for the message in that slot of the stage, which is free.
+pub fn start_in(children: &mut Vec<Children>, stage: StageNo, slot: u16, no: MsgNo)
     requires within { stage.0 < length children.old.items }
-    requires free { alive (slots_at children.old.items stage) < length (slots_at children.old.items stage) }
-    ensures slot { result < length (slots_at children.old.items stage) }
-    ensures free { child_at children.old.items stage result ≡ None }
-    ensures started { (s : Stage) (k : ℕ) → child_at children.new.items s k ≡ (if s.0 == stage.0 && result == k then Some (record { no = no; crashes = 0 }) else child_at children.old.items s k) }
+    requires slot { slot < length (slots_at children.old.items stage) }
+    requires free { child_at children.old.items stage slot ≡ None }
+    ensures started { (s : Stage) (k : ℕ) → child_at children.new.items s k ≡ (if s.0 == stage.0 && slot == k then Some (record { no = no; crashes = 0 }) else child_at children.old.items s k) }
     ensures kept { (s : Stage) (new : Slots) → slice_get children.new.items s.0 ≡ Some new → (old : Slots) × (slice_get children.old.items s.0 ≡ Some old) × (new.mode ≡ old.mode) × (length new.slots ≡ length old.slots) }
     ensures len { length children.new.items ≡ length children.old.items }
 {
-    match children[stage.0 as usize].start(no) {
-        Ok(slot) => slot,
-        Err(_) => unreachable!(),
-    }
+    children[stage.0 as usize].start_at(slot, no);
 }
 
 /// The first slot of the stage whose child runs its message again: it has a child, and its job is home.

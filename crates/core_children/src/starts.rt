@@ -12,7 +12,7 @@ ghost use Rattle.core_laws.specs.Columns.{sub_first};
 ghost use Rattle.core_takes.specs.Takes.{out_of};
 ghost use Rattle.core_children.specs.Slots.{slots_at};
 
-use crate::slots::start_in;
+use crate::slots::{free_in, start_in};
 use core_state::Core;
 use core_tables::chunks::start_chunk;
 use core_tables::places::run_all;
@@ -26,7 +26,7 @@ pub fn start_again(core: &mut Core, stage: StageNo, slot: u16, no: MsgNo)
     requires holds { Holds core.old }
     requires legal { IsTrue (allows core.old.topology core.old.journal.steps (Step.Child stage no slot)) }
     requires again { IsTrue (runs_number core.old.topology core.old.journal.steps stage (in_slot core.old.journal.steps stage slot)) }
-    requires spare { 1 ≤ core.old.journal.spare }
+    requires spare { 1089 ≤ core.old.journal.spare }
     ensures appended { core.new.journal.steps ≡ Step.Child stage no slot ∷ core.old.journal.steps }
     ensures topology { core.new.topology ≡ core.old.topology }
     ensures holds { Holds core.new }
@@ -64,17 +64,35 @@ pub fn start_first(core: &mut Core, stage: StageNo, sub: SubNo, no: MsgNo) -> u1
     requires free { alive (slots_at core.old.children.items stage) < length (slots_at core.old.children.items stage) }
     requires legal { (k : ℕ) → k < length (slots_at core.old.children.items stage) → child_at core.old.children.items stage k ≡ None → IsTrue (allows core.old.topology core.old.journal.steps (Step.Child stage no k)) }
     requires room { 1 ≤ room_at core.old.chunks.items stage }
-    requires spare { 1 ≤ core.old.journal.spare }
+    requires spare { 1089 ≤ core.old.journal.spare }
     ensures appended { core.new.journal.steps ≡ Step.Child stage no result ∷ core.old.journal.steps }
     ensures topology { core.new.topology ≡ core.old.topology }
     ensures holds { Holds core.new }
 {
-    let slot = start_in(&mut core.children, stage, no);
+    let slot = free_in(&core.children, stage);
+    start_at(core, stage, sub, no, slot);
+    slot
+}
+
+/// Appends the start of a child for the first message in the stage's inbox, in that slot, which is free.
+pub fn start_at(core: &mut Core, stage: StageNo, sub: SubNo, no: MsgNo, slot: u16)
+    requires holds { Holds core.old }
+    requires sub { sub ≡ sub_first (inbox core.old.topology core.old.journal.steps stage) }
+    requires within { stage.0 ≤ length core.old.topology.stages }
+    requires slot { slot < length (slots_at core.old.children.items stage) }
+    requires free { child_at core.old.children.items stage slot ≡ None }
+    requires legal { IsTrue (allows core.old.topology core.old.journal.steps (Step.Child stage no slot)) }
+    requires room { 1 ≤ room_at core.old.chunks.items stage }
+    requires spare { 1089 ≤ core.old.journal.spare }
+    ensures appended { core.new.journal.steps ≡ Step.Child stage no slot ∷ core.old.journal.steps }
+    ensures topology { core.new.topology ≡ core.old.topology }
+    ensures holds { Holds core.new }
+{
+    start_in(&mut core.children, stage, slot, no);
     start_chunk(&mut core.inboxes, &mut core.chunks, stage, sub, 1);
     run_all(&mut core.places, stage, &[no.0]);
     put_child_out(&mut core.posts, &core.stages, stage, slot);
     note_came(&mut core.came, stage, slot, sub);
     core.totals.quiet = 0;
     core.journal.push_spare(Step::Child { stage, no, slot });
-    slot
 }

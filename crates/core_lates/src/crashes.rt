@@ -3,7 +3,7 @@
 //! Such an answer settles nothing: its post comes home, and all else is as it was. The kill of the stage is owed then,
 //! and is the step that comes next.
 
-ghost use Rattle.std.specs.Prelude.{◌≡◌, ◌∷◌, ◌+◌, ◌≤◌, Some, IsTrue};
+ghost use Rattle.std.specs.Prelude.{◌≡◌, ◌∷◌, Some, IsTrue};
 ghost use Rattle.pipe_model.specs.Content.{has_crash};
 ghost use Rattle.pipe_model.specs.Legal.{allows, owed, is_crash_of};
 ghost use Rattle.core_state.specs.Stands.{Holds};
@@ -14,17 +14,15 @@ use pipe_types::message::{BatchEnd, ReplyList};
 use pipe_types::numbers::StageNo;
 use pipe_types::step::Step;
 
-/// Appends what the processor's handler answered to its chunk before it crashed, into room that was made before. The
-/// messages of the chunk still run, and the kill of the stage is owed.
+/// Appends what the processor's handler answered to its chunk before it crashed. The messages of the chunk still run, and the
+/// kill of the stage is owed. It takes no memory.
 pub fn answer_crash(core: &mut Core, stage: StageNo, replies: ReplyList)
     requires holds { Holds core.old }
     requires legal { IsTrue (allows core.old.topology core.old.journal.steps (Step.Done stage replies)) }
     requires crash { IsTrue (has_crash replies) }
-    requires room { 1 ≤ core.old.journal.spare }
     ensures appended { core.new.journal.steps ≡ Step.Done stage replies ∷ core.old.journal.steps }
     ensures owed { owed core.new.topology core.new.journal.steps ≡ Some (is_crash_of stage) }
     ensures topology { core.new.topology ≡ core.old.topology }
-    ensures spare { core.old.journal.spare ≤ core.new.journal.spare + 1 }
     ensures holds { Holds core.new }
 {
     come_home(&mut core.posts, stage, 0);
@@ -32,16 +30,14 @@ pub fn answer_crash(core: &mut Core, stage: StageNo, replies: ReplyList)
     core.journal.push_spare(Step::Done { stage, replies });
 }
 
-/// Appends that the batch processor's handler crashed with its batch, of which nothing was written, into room that was
-/// made before. The batch is still at work there, and the kill of the stage is owed.
+/// Appends that the batch processor's handler crashed with its batch, of which nothing was written. The batch is still at work
+/// there, and the kill of the stage is owed. It takes no memory.
 pub fn write_crash(core: &mut Core, stage: StageNo)
     requires holds { Holds core.old }
     requires legal { IsTrue (allows core.old.topology core.old.journal.steps (Step.Wrote stage 0 BatchEnd.Crashed)) }
-    requires room { 1 ≤ core.old.journal.spare }
     ensures appended { core.new.journal.steps ≡ Step.Wrote stage 0 BatchEnd.Crashed ∷ core.old.journal.steps }
     ensures owed { owed core.new.topology core.new.journal.steps ≡ Some (is_crash_of stage) }
     ensures topology { core.new.topology ≡ core.old.topology }
-    ensures spare { core.old.journal.spare ≤ core.new.journal.spare + 1 }
     ensures holds { Holds core.new }
 {
     come_home(&mut core.posts, stage, 0);

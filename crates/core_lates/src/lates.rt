@@ -1,9 +1,9 @@
 //! The answer of a post whose stage was killed since.
 
-ghost use Rattle.std.specs.Prelude.{◌≡◌, ◌∷◌, ◌≤◌, length, OnOk, OnErr, IfErr, IsTrue};
+ghost use Rattle.std.specs.Prelude.{◌≡◌, ◌∷◌, IsOk, IsTrue};
 ghost use Rattle.pipe_model.specs.Legal.{allows};
 ghost use Rattle.core_state.specs.Stands.{Stands};
-ghost use Rattle.core_lates.specs.Lates.{HasRoom, records_in, is_plain};
+ghost use Rattle.core_lates.specs.Lates.{is_plain};
 
 use crate::losses::{bytes_of, lose_new};
 use core_state::Core;
@@ -17,7 +17,7 @@ use pipe_types::step::{LateAnswer, SourceHow, Step};
 use std::alloc::AllocError;
 
 /// Appends the answer that the post brings home from an incarnation of its stage that was killed since. Records are
-/// accepted and lost with the stage; where memory is wanting, the answer comes back.
+/// accepted and lost with the stage. Room for it was made when its job was put out, so it takes no memory and is never refused.
 pub fn late(
     core: &mut Core,
     post: Post,
@@ -26,50 +26,19 @@ pub fn late(
 ) -> Result<(), (LateAnswer, AllocError)>
     requires stands { Stands core.old }
     requires legal { IsTrue (allows core.old.topology core.old.journal.steps (Step.Late post.stage post.slot incarnation answer)) }
-    ensures appended { OnOk result (core.new.journal.steps ≡ Step.Late post.stage post.slot incarnation answer ∷ core.old.journal.steps) }
-    ensures unchanged { OnErr result (core.new.journal.steps ≡ core.old.journal.steps) }
-    ensures returned { IfErr result (λ refused. refused.0 ≡ answer) }
+    ensures ok { IsOk result }
+    ensures appended { core.new.journal.steps ≡ Step.Late post.stage post.slot incarnation answer ∷ core.old.journal.steps }
     ensures topology { core.new.topology ≡ core.old.topology }
     ensures stands { Stands core.new }
 {
-    match make_room(core, count_of(&answer)) {
-        Ok(()) => {}
-        Err(error) => return Err((answer, error)),
-    }
     note_late(core, post, incarnation, answer);
     Ok(())
 }
 
-/// How many records the answer brings.
-fn count_of(answer: &LateAnswer) -> usize
-    ensures { result ≡ records_in answer.now }
-{
-    match answer {
-        LateAnswer::Records(records) => records.as_slice().len(),
-        _ => 0,
-    }
-}
-
-/// Makes room for so many messages more, and for a step. The journal is as before.
-fn make_room(core: &mut Core, count: usize) -> Result<(), AllocError>
-    requires stands { Stands core.old }
-    ensures room { OnOk result (HasRoom core.new count) }
-    ensures unchanged { core.new.journal.steps ≡ core.old.journal.steps }
-    ensures topology { core.new.topology ≡ core.old.topology }
-    ensures stands { Stands core.new }
-{
-    core.places.reserve(count)?;
-    core.settled.reserve(count)?;
-    core.producers.reserve(count)?;
-    core.contents.reserve(count)?;
-    core.journal.reserve(1)
-}
-
-/// Appends the late answer, into room that was made before.
+/// Appends the late answer.
 fn note_late(core: &mut Core, post: Post, incarnation: u32, answer: LateAnswer)
     requires stands { Stands core.old }
     requires legal { IsTrue (allows core.old.topology core.old.journal.steps (Step.Late post.stage post.slot incarnation answer)) }
-    requires room { HasRoom core.old (records_in answer) }
     ensures appended { core.new.journal.steps ≡ Step.Late post.stage post.slot incarnation answer ∷ core.old.journal.steps }
     ensures topology { core.new.topology ≡ core.old.topology }
     ensures stands { Stands core.new }
@@ -89,7 +58,6 @@ fn note_late(core: &mut Core, post: Post, incarnation: u32, answer: LateAnswer)
 fn lose_records(core: &mut Core, post: Post, incarnation: u32, records: BytesList)
     requires stands { Stands core.old }
     requires legal { IsTrue (allows core.old.topology core.old.journal.steps (Step.Late post.stage post.slot incarnation (LateAnswer.Records records))) }
-    requires room { HasRoom core.old (length records) }
     ensures appended { core.new.journal.steps ≡ Step.Late post.stage post.slot incarnation (LateAnswer.Records records) ∷ core.old.journal.steps }
     ensures topology { core.new.topology ≡ core.old.topology }
     ensures stands { Stands core.new }
@@ -120,7 +88,6 @@ fn lose_records(core: &mut Core, post: Post, incarnation: u32, records: BytesLis
 fn end_source(core: &mut Core, post: Post, incarnation: u32, how: SourceHow)
     requires stands { Stands core.old }
     requires legal { IsTrue (allows core.old.topology core.old.journal.steps (Step.Late post.stage post.slot incarnation (LateAnswer.Source how))) }
-    requires spare { 1 ≤ core.old.journal.spare }
     ensures appended { core.new.journal.steps ≡ Step.Late post.stage post.slot incarnation (LateAnswer.Source how) ∷ core.old.journal.steps }
     ensures topology { core.new.topology ≡ core.old.topology }
     ensures stands { Stands core.new }
@@ -141,7 +108,6 @@ fn note_plain(core: &mut Core, post: Post, incarnation: u32, answer: LateAnswer)
     requires stands { Stands core.old }
     requires legal { IsTrue (allows core.old.topology core.old.journal.steps (Step.Late post.stage post.slot incarnation answer)) }
     requires plain { IsTrue (is_plain answer) }
-    requires spare { 1 ≤ core.old.journal.spare }
     ensures appended { core.new.journal.steps ≡ Step.Late post.stage post.slot incarnation answer ∷ core.old.journal.steps }
     ensures topology { core.new.topology ≡ core.old.topology }
     ensures stands { Stands core.new }

@@ -10,7 +10,8 @@ use pipe_types::message::{Loss, Outcome, Place};
 /// Puts so many messages behind the others, all lost so.
 pub(crate) fn lose_new(places: &mut Vec<Place>, loss: Loss, count: u32)
     requires { vec_len places.old + count ≤ vec_capacity places.old }
-    ensures { places.new.items ≡ places.old.items ++ replicate count (Lost loss) }
+    ensures items { places.new.items ≡ places.old.items ++ replicate count (Lost loss) }
+    ensures capacity { vec_capacity places.new ≡ vec_capacity places.old }
 {
     for k in 0..count {
         push_lost(places, loss);

@@ -8,15 +8,17 @@ use Rattle.pipe_types.specs.declared.numbers.Post.{Post}
 use Rattle.pipe_types.specs.declared.topology.Topology.{Topology}
 use Rattle.pipe_types.specs.declared.topology.StageSpec.{StageSpec}
 use Rattle.pipe_types.specs.declared.step.Step.{Step}
-use Rattle.pipe_types.specs.declared.step.Step.TheVariants.{Kill}
-use Rattle.pipe_types.specs.Numbers.{post, same_stage, same_post}
+use Rattle.pipe_types.specs.declared.step.SourceHow.{SourceHow}
+use Rattle.pipe_types.specs.declared.step.Step.TheVariants.{Kill, Quiet, SourceEnd}
+use Rattle.pipe_types.specs.Numbers.{post, stage, same_stage, same_post}
 use Rattle.pipe_types.specs.Sound.{IsSound}
 use Rattle.pipe_types.specs.Stages.{spec_of}
 use Rattle.pipe_model.specs.Counting.{as_number}
-use Rattle.pipe_model.specs.History.{History}
+use Rattle.pipe_model.specs.History.{History, controls}
 use Rattle.pipe_model.specs.Posts.{is_out, puts_out, answers, slots}
 use Rattle.pipe_model.specs.Lives.{is_live, is_alive, death, death_after, kill_set, reason_in}
-use Rattle.pipe_model.specs.Legal.{is_legal}
+use Rattle.pipe_model.specs.Legal.{is_legal, allows, has_role, has_ended, is_producer_role, is_current, is_limit, same_truth}
+use Rattle.pipe_laws.proofs.Allowed.{unowed}
 use Rattle.pipe_laws.proofs.Tests.{and_left, and_right, both, same_stage-true, same_stage-self, clash}
 use Rattle.pipe_laws.proofs.Lists.{Each, each_always}
 use Rattle.pipe_laws.proofs.Chunks.{kill_kills}
@@ -138,3 +140,32 @@ kill_due topology before s why live =
     drop =
         sum_drop (λ (x : StageSpec). due_at topology (Kill s why ∷ before) x.no) (λ (x : StageSpec). as_number (same_stage x.no s)) (λ (x : StageSpec). due_at topology before x.no) topology.stages
         (each_always (λ (x : StageSpec). due_at topology (Kill s why ∷ before) x.no + as_number (same_stage x.no s) ≤ due_at topology before x.no) (λ x. one x.no) topology.stages)
+
+-- Answers of a producer's source
+
+-- a producer that rests has answered its fetch
+pub quiet_due : (topology : Topology) (before : History) (s : StageNo) → IsSound topology → is_legal topology before ≡ true → allows topology before (Quiet s) ≡ true
+    → due_steps topology (Quiet s ∷ before) + 1 ≤ due_steps topology before
+quiet_due topology before s sound legal allowed =
+    let all = unowed topology before (Quiet s) (λ t. refl) (λ t. refl) allowed in
+    let current : is_current before s 0 ≡ true = and_right (has_role topology s is_producer_role) _ (and_right (is_live topology before s) _ all) in
+    let out : is_out before (post s 0) ≡ true = and_left (is_out before (post s 0)) _ current in
+    answer_due topology before (Quiet s) s 0 sound legal (λ p. refl) (both (same_stage s s) (0 == 0) (same_stage-self s) refl) out (λ t k. k)
+
+-- and so has one whose source has ended
+pub end_due : (topology : Topology) (before : History) (s : StageNo) (how : SourceHow) → IsSound topology → is_legal topology before ≡ true → allows topology before (SourceEnd s how) ≡ true
+    → same_stage s (stage 0) ≡ false → due_steps topology (SourceEnd s how ∷ before) + 1 ≤ due_steps topology before
+end_due topology before s how sound legal allowed other = by (same_stage s (stage 0)) other (unowed topology before (SourceEnd s how) (λ x. refl) (λ x. refl) allowed)
+  where
+    answered : (b : Bool) → b ≡ false → (not b && same_post (post s 0) (post s 0)) ≡ true
+    answered true e = cc
+    answered false e = both (same_stage s s) (0 == 0) (same_stage-self s) refl
+
+    by : (b : Bool) → b ≡ false
+        → (if b then not (has_ended before s) && same_truth (is_limit how) (controls before == 10000) else is_live topology before s && (has_role topology s is_producer_role && (is_current before s 0 && not (is_limit how)))) ≡ true
+        → due_steps topology (SourceEnd s how ∷ before) + 1 ≤ due_steps topology before
+    by true e k = cc
+    by false e k =
+        let current : is_current before s 0 ≡ true = and_left (is_current before s 0) _ (and_right (has_role topology s is_producer_role) _ (and_right (is_live topology before s) _ k)) in
+        let out : is_out before (post s 0) ≡ true = and_left (is_out before (post s 0)) _ current in
+        answer_due topology before (SourceEnd s how) s 0 sound legal (λ p. refl) (answered (same_stage s (stage 0)) other) out (λ t h. h)

@@ -15,3 +15,4 @@ pub mod Passing
 pub mod Sums
 pub mod Due
 pub mod TakenBatches
+pub mod Feeders

@@ -6,7 +6,7 @@ ghost use Rattle.pipe_model.specs.History.{controls_after};
 ghost use Rattle.pipe_model.specs.Legal.{allows};
 ghost use Rattle.core_state.specs.Stands.{Stands};
 
-use core_state::Core;
+use core_state::{Core, MOST_DUE};
 use pipe_types::step::{DrainCause, Step};
 use std::alloc::AllocError;
 
@@ -19,7 +19,7 @@ pub fn begin(core: &mut Core, cause: DrainCause) -> Result<(), AllocError>
     ensures topology { core.new.topology ≡ core.old.topology }
     ensures stands { Stands core.new }
 {
-    core.journal.reserve(1)?;
+    core.journal.reserve(MOST_DUE + 1)?;
     core.totals.controls = lines_read(core.totals.controls, cause);
     core.totals.quiet = 0;
     core.totals.draining = true;

@@ -6,7 +6,7 @@ ghost use Rattle.restart_core.specs.Restarts.{RestartLimit as Limit, Remembers};
 ghost use Rattle.core_state.specs.Stands.{Stands, limit_seen};
 
 use crate::renewing::{note_restart, renew_all};
-use core_state::Core;
+use core_state::{Core, MOST_DUE};
 use core_state::limits::limit_of;
 use pipe_types::numbers::StageNo;
 use pipe_types::step::Step;
@@ -22,7 +22,7 @@ pub fn restart(core: &mut Core, stage: StageNo) -> Result<(), AllocError>
     ensures topology { core.new.topology ≡ core.old.topology }
     ensures stands { Stands core.new }
 {
-    core.journal.reserve(1)?;
+    core.journal.reserve(MOST_DUE + 1)?;
     renew_all(&mut core.subs, &core.topology, &core.stages, stage);
     note_restart(&mut core.stages, stage);
     let limit = limit_of(&core.topology, stage);

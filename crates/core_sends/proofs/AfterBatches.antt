@@ -82,6 +82,7 @@ batch_fields core topology before s units lone tick old j subs queues inboxes ba
             producers = x.sized.producers;
             contents = x.sized.contents;
             batches = done.all_batches ∙ x.sized.batches;
+            ends = x.sized.ends;
           };
       set = record { batchers = x.set.batchers; children = x.set.children; restarts = x.set.restarts };
       stages = x.stages;
@@ -151,6 +152,7 @@ same_batches core topology before batches legs x len closed noted begun =
             producers = x.sized.producers;
             contents = x.sized.contents;
             batches = len ∙ x.sized.batches;
+            ends = x.sized.ends;
           };
       set = record { batchers = x.set.batchers; children = x.set.children; restarts = x.set.restarts };
       stages = x.stages;
@@ -178,6 +180,12 @@ pub still_stands_with : (core : Core) (batches : Vec BatchRow Global) (legs : Li
     → ((i : ℕ) → sent_in legs (suc i) ≡ sent_in core.legs (suc i)) → Stands (record core { batches = batches; legs = legs })
 still_stands_with core batches legs x len closed noted begun =
     record {
-      holds = record { sound = x.holds.sound; legal = x.holds.legal; fields = same_batches core core.topology core.journal.steps batches legs x.holds.fields len closed noted begun };
+      holds =
+          record {
+            sound = x.holds.sound;
+            legal = x.holds.legal;
+            fields = same_batches core core.topology core.journal.steps batches legs x.holds.fields len closed noted begun;
+            room = record { steps = x.holds.room.steps; rows = x.holds.room.rows; queues = x.holds.room.queues; ends = x.holds.room.ends };
+          };
       unowed = x.unowed;
     }

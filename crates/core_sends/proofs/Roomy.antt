@@ -1,6 +1,6 @@
 -- Room in the inboxes.
-use Rattle.std.proofs.Common.{◌≡◌, ℕ, suc, ◌-◌, List, [], ◌∷◌, ◌++◌, length, All, Bool, true, false, refl, ◌∙◌, arith, get_or}
-use Rattle.std.specs.Prelude.{if◌then◌else◌, ◌&&◌}
+use Rattle.std.proofs.Common.{◌≡◌, ℕ, suc, ◌-◌, ◌<◌, ◌≤◌, List, [], ◌∷◌, ◌++◌, length, set, All, Bool, true, false, Some, refl, ◌∙◌, arith, get_or}
+use Rattle.std.specs.Prelude.{if◌then◌else◌, ◌&&◌, slice_get}
 use Rattle.std.specs.List.{enumerate_from}
 use Rattle.std.specs.declared.alloc.Global.{Global}
 use Rattle.std.specs.declared.vec.Vec.{Vec}
@@ -17,14 +17,15 @@ use Rattle.pipe_laws.proofs.Lists.{Each, each_weaker, each_always, each_map}
 use Rattle.pipe_laws.proofs.Tests.{and_left, and_right, both, same_sub-self}
 use Rattle.pipe_laws.proofs.Places.{sends_each}
 use Rattle.pipe_model.specs.History.{History, asked}
-use Rattle.pipe_model.specs.Flow.{serving_by, rooms_by, view_of, sent, index_in}
+use Rattle.pipe_model.specs.Flow.{has_batchers_in, serving_by, rooms_by, view_of, sent, index_in}
 use Rattle.pipe_model.specs.Lives.{is_live, is_live_sub, current_sub, live_subs, live_subs_from}
 use Rattle.queue_laws.proofs.Roles.{fed_spec}
 use Rattle.stage_laws.proofs.Numbering.{numbered_topology}
-use Rattle.core_tables.specs.Tables.{queue_at, IsWithin}
+use Rattle.core_tables.specs.Tables.{queue_at, list_at, spare_at, spare_in, IsWithin}
 use Rattle.core_laws.proofs.Past.{known_within}
 use Rattle.core_state.specs.declared.state.Core.{Core}
-use Rattle.core_state.specs.Stands.{Fields, Stands}
+use Rattle.core_state.specs.Stands.{Fields, Holds, Stands}
+use Rattle.core_state.proofs.Roomy.{more_queue}
 use Rattle.core_sends.specs.Rooms.{planned, marks_of}
 use Rattle.core_sends.proofs.Sent.{each_all}
 
@@ -111,6 +112,17 @@ pub roomy_stands : (core : Core) (inboxes : Vec (VecDeque (SubNo × ℕ) Global)
     → Stands core → Stands (record core { inboxes = inboxes })
 roomy_stands core inboxes same long x =
     record {
-      holds = record { sound = x.holds.sound; legal = x.holds.legal; fields = roomy_fields core core.topology core.journal.steps inboxes same long x.holds.fields };
+      holds =
+          record {
+            sound = x.holds.sound;
+            legal = x.holds.legal;
+            fields = roomy_fields core core.topology core.journal.steps inboxes same long x.holds.fields;
+            room = record { steps = x.holds.room.steps; rows = x.holds.room.rows; queues = x.holds.room.queues; ends = x.holds.room.ends };
+          };
       unowed = x.unowed;
     }
+
+-- a queue that was left by units has no less room than before
+pub left_queues : (core : Core) (s : StageNo) (old q : VecDeque (ℕ × ℕ) Global) (t : StageNo) → Holds core → s.0 < length core.waiting.items → slice_get core.waiting.items s.0 ≡ Some old
+    → spare_in (Some old) ≤ spare_in (Some q) → has_batchers_in (spec_of core.topology t) ≡ true → length (list_at core.chunks.items t) ≤ spare_at (set core.waiting.items s.0 q) t
+left_queues core s old q t x within was more feeds = omega (arith, x.room.queues t feeds, more_queue core.waiting.items s old q within was more t)

@@ -1,6 +1,7 @@
 //! The batches at the front of a batcher's queue that a dispatch serves, and those among them that are sent nowhere.
 
-ghost use Rattle.std.specs.Prelude.{◌≡◌, ℕ, suc, ◌+◌, ◌≤◌, length, All, true, drop, take, filter, option_map, slice_get};
+ghost use Rattle.std.specs.Prelude.{◌≡◌, ℕ, suc, ◌+◌, ◌≤◌, length, All, true, drop, take, filter, option_map, slice_get, Some, vec_capacity};
+ghost use Rattle.core_tables.specs.Tables.{spare_in};
 ghost use Rattle.core_sends.specs.Losing.{marked};
 ghost use Rattle.core_sends.specs.Batches.{not_sent, numbers_of, succeeded, all_succeeded, all_marked, lone_of, IsEndable};
 
@@ -17,6 +18,7 @@ fn succeed_all(places: &mut Vec<Place>, numbers: &[u32])
     requires within { All (λ n. (1 ≤ n) × (n ≤ length places.old.items)) numbers.now }
     ensures len { length places.new.items ≡ length places.old.items }
     ensures placed { (i : ℕ) → slice_get places.new.items i ≡ option_map (succeeded numbers.now (suc i)) (slice_get places.old.items i) }
+    ensures capacity { vec_capacity places.new ≡ vec_capacity places.old }
 {
     for no in numbers {
         let at = (*no - 1) as usize;
@@ -39,6 +41,8 @@ fn succeed(
     ensures placed { (i : ℕ) → slice_get places.new.items i ≡ option_map (succeeded (numbers_of batches.now.items (suc at)) (suc i)) (slice_get places.old.items i) }
     ensures settled_len { length settled.new.items ≡ length settled.old.items }
     ensures marked { (i : ℕ) → slice_get settled.new.items i ≡ option_map (marked (numbers_of batches.now.items (suc at)) mark (suc i)) (slice_get settled.old.items i) }
+    ensures places_capacity { vec_capacity places.new ≡ vec_capacity places.old }
+    ensures settled_capacity { vec_capacity settled.new ≡ vec_capacity settled.old }
 {
     succeed_all(places, &batches[at].numbers);
     mark_all(settled, &batches[at].numbers, mark);
@@ -60,6 +64,9 @@ fn pass_served(
     ensures placed { (i : ℕ) → slice_get places.new.items i ≡ option_map (all_succeeded (numbers_of batches.now.items) (lone_of legs.now (take 1 queue.old.items)) (suc i)) (slice_get places.old.items i) }
     ensures settled_len { length settled.new.items ≡ length settled.old.items }
     ensures marked { (i : ℕ) → slice_get settled.new.items i ≡ option_map (all_marked (numbers_of batches.now.items) (lone_of legs.now (take 1 queue.old.items)) mark (suc i)) (slice_get settled.old.items i) }
+    ensures room { spare_in (Some queue.old) ≤ spare_in (Some queue.new) }
+    ensures places_capacity { vec_capacity places.new ≡ vec_capacity places.old }
+    ensures settled_capacity { vec_capacity settled.new ≡ vec_capacity settled.old }
 {
     let Some(unit) = queue.pop_front() else {
         return;
@@ -92,6 +99,9 @@ pub(crate) fn leave_batches(
     ensures placed { (i : ℕ) → slice_get places.new.items i ≡ option_map (all_succeeded (numbers_of batches.now.items) (lone_of legs.now (take served queue.old.items)) (suc i)) (slice_get places.old.items i) }
     ensures settled_len { length settled.new.items ≡ length settled.old.items }
     ensures marked { (i : ℕ) → slice_get settled.new.items i ≡ option_map (all_marked (numbers_of batches.now.items) (lone_of legs.now (take served queue.old.items)) mark (suc i)) (slice_get settled.old.items i) }
+    ensures room { spare_in (Some queue.old) ≤ spare_in (Some queue.new) }
+    ensures places_capacity { vec_capacity places.new ≡ vec_capacity places.old }
+    ensures settled_capacity { vec_capacity settled.new ≡ vec_capacity settled.old }
 {
     for k in 0..served {
         pass_served(queue, places, settled, batches, legs, mark);

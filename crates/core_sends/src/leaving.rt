@@ -1,7 +1,8 @@
 //! The queue of units that wait, without those that were sent.
 
-ghost use Rattle.std.specs.Prelude.{◌≡◌, ℕ, ◌<◌, ◌≤◌, ◌++◌, ◌∷◌, [], length, All, filter, drop, if◌then◌else◌, true, not, IsTrue};
+ghost use Rattle.std.specs.Prelude.{◌≡◌, ℕ, ◌<◌, ◌≤◌, ◌++◌, ◌∷◌, [], length, All, filter, drop, if◌then◌else◌, true, not, IsTrue, Some};
 ghost use Rattle.std.specs.VecDeque.{deque_len, deque_capacity};
+ghost use Rattle.core_tables.specs.Tables.{spare_in};
 ghost use Rattle.core_sends.specs.Batches.{not_sent};
 ghost use Rattle.core_sends.specs.Losing.{still_waits, first_kept, passed};
 
@@ -33,7 +34,8 @@ pub(crate) fn keep_waiting(
 )
     requires within { first ≤ length queue.old.items }
     requires rest { All (λ unit. still_waits places.now stage unit.1 ≡ true) (drop first queue.old.items) }
-    ensures { queue.new.items ≡ filter (λ unit. still_waits places.now stage unit.1) queue.old.items }
+    ensures items { queue.new.items ≡ filter (λ unit. still_waits places.now stage unit.1) queue.old.items }
+    ensures room { spare_in (Some queue.old) ≤ spare_in (Some queue.new) }
 {
     let mut kept = 0;
     for k in 0..first {
@@ -47,6 +49,7 @@ pub(crate) fn keep_waiting(
 fn pass(queue: &mut VecDeque<(u32, u32)>, places: &[Place], stage: StageNo) -> bool
     ensures items { queue.new.items ≡ passed (still_waits places.now stage) queue.old.items }
     ensures kept { result ≡ first_kept (still_waits places.now stage) queue.old.items }
+    ensures room { spare_in (Some queue.old) ≤ spare_in (Some queue.new) }
 {
     let Some(unit) = queue.pop_front() else {
         return false;
@@ -74,7 +77,8 @@ fn does_wait(places: &[Place], stage: StageNo, no: u32) -> bool
 pub(crate) fn keep_unsent(queue: &mut VecDeque<(u32, u32)>, legs: &Legs, first: usize)
     requires within { first ≤ length queue.old.items }
     requires rest { All (λ unit. not_sent legs.now unit.1 ≡ true) (drop first queue.old.items) }
-    ensures { queue.new.items ≡ filter (λ unit. not_sent legs.now unit.1) queue.old.items }
+    ensures items { queue.new.items ≡ filter (λ unit. not_sent legs.now unit.1) queue.old.items }
+    ensures room { spare_in (Some queue.old) ≤ spare_in (Some queue.new) }
 {
     let mut left = 0;
     for k in 0..first {
@@ -88,6 +92,7 @@ pub(crate) fn keep_unsent(queue: &mut VecDeque<(u32, u32)>, legs: &Legs, first: 
 fn pass_unsent(queue: &mut VecDeque<(u32, u32)>, legs: &Legs) -> bool
     ensures items { queue.new.items ≡ passed (not_sent legs.now) queue.old.items }
     ensures kept { result ≡ first_kept (not_sent legs.now) queue.old.items }
+    ensures room { spare_in (Some queue.old) ≤ spare_in (Some queue.new) }
 {
     let Some(batch) = queue.pop_front() else {
         return false;

@@ -1,6 +1,7 @@
 //! Waiting units that are lost over the size of their stage's buffer.
 
-ghost use Rattle.std.specs.Prelude.{◌≡◌, ℕ, suc, ◌≤◌, ◌<◌, length, All, map, option_map, slice_get};
+ghost use Rattle.std.specs.Prelude.{◌≡◌, ℕ, suc, ◌≤◌, ◌<◌, length, All, map, option_map, slice_get, Some, vec_capacity};
+ghost use Rattle.core_tables.specs.Tables.{spare_in};
 ghost use Rattle.core_sends.specs.Losing.{lost_in, lost_over_size, marked, over_from, over_to, between, outside};
 
 use pipe_types::message::{Loss, Place};
@@ -43,6 +44,7 @@ pub(crate) fn lose_all(
     requires within { All (λ unit. (1 ≤ unit.1) × (unit.1 ≤ length places.old.items)) queue.now.items }
     ensures len { length places.new.items ≡ length places.old.items }
     ensures placed { (i : ℕ) → slice_get places.new.items i ≡ option_map (lost_over_size (map (λ unit. unit.1) (between from to queue.now.items)) stage (suc i)) (slice_get places.old.items i) }
+    ensures capacity { vec_capacity places.new ≡ vec_capacity places.old }
 {
     for k in from..to {
         let at = (queue[k].1 - 1) as usize;
@@ -74,6 +76,7 @@ pub(crate) fn mark_all(
     requires within { All (λ unit. (1 ≤ unit.1) × (unit.1 ≤ length settled.old.items)) queue.now.items }
     ensures len { length settled.new.items ≡ length settled.old.items }
     ensures marked { (i : ℕ) → slice_get settled.new.items i ≡ option_map (marked (map (λ unit. unit.1) (between from to queue.now.items)) mark (suc i)) (slice_get settled.old.items i) }
+    ensures capacity { vec_capacity settled.new ≡ vec_capacity settled.old }
 {
     for k in from..to {
         settled[(queue[k].1 - 1) as usize] = mark;
@@ -84,7 +87,8 @@ pub(crate) fn mark_all(
 pub(crate) fn take_out(queue: &mut VecDeque<(u32, u32)>, from: usize, to: usize)
     requires range { from ≤ to }
     requires end { to ≤ length queue.old.items }
-    ensures { queue.new.items ≡ outside from to queue.old.items }
+    ensures items { queue.new.items ≡ outside from to queue.old.items }
+    ensures room { spare_in (Some queue.old) ≤ spare_in (Some queue.new) }
 {
     queue.drain(from..to);
 }

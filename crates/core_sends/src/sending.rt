@@ -1,10 +1,10 @@
 //! The step that sends.
 
-ghost use Rattle.std.specs.Prelude.{◌≡◌, ℕ, suc, ◌∷◌, [], ◌+◌, ◌≤◌, ◌<◌, length, All, map, drop, option_map, slice_get, IsTrue, true, false, OnOk, OnErr};
+ghost use Rattle.std.specs.Prelude.{◌≡◌, ℕ, suc, ◌∷◌, [], ◌+◌, ◌≤◌, ◌<◌, length, All, map, drop, option_map, slice_get, IsTrue, true, false, Some, OnOk, OnErr, vec_capacity};
 ghost use Rattle.pipe_types.specs.Stages.{spec_of};
 ghost use Rattle.pipe_model.specs.Flow.{is_batcher};
 ghost use Rattle.pipe_model.specs.Legal.{allows};
-ghost use Rattle.core_tables.specs.Tables.{named, HasRoom};
+ghost use Rattle.core_tables.specs.Tables.{named, spare_in, HasRoom};
 ghost use Rattle.core_state.specs.Stands.{Holds, Stands};
 ghost use Rattle.core_sends.specs.Losing.{still_waits, left_in, numbers_in, over_of, kept_of, lost_over_size, marked};
 ghost use Rattle.core_sends.specs.Rooms.{planned, served_first};
@@ -15,7 +15,7 @@ use crate::counting::count_all;
 use crate::leaving::{keep_waiting, reach};
 use crate::losing::{end_over, first_over, lose_all, mark_all, take_out};
 use crate::plans::{make_room, plan, plan_batches};
-use core_state::Core;
+use core_state::{Core, MOST_DUE};
 use core_tables::inboxes::deliver_all;
 use core_tables::places::place_all;
 use pipe_types::message::Place;
@@ -61,6 +61,9 @@ fn leave(
     ensures placed { (i : ℕ) → slice_get places.new.items i ≡ option_map (lost_over_size (numbers_in (over_of size keep (left_in places.old.items stage queue.old.items))) stage (suc i)) (slice_get places.old.items i) }
     ensures settled_len { length settled.new.items ≡ length settled.old.items }
     ensures marked { (i : ℕ) → slice_get settled.new.items i ≡ option_map (marked (numbers_in (over_of size keep (left_in places.old.items stage queue.old.items))) mark (suc i)) (slice_get settled.old.items i) }
+    ensures room { spare_in (Some queue.old) ≤ spare_in (Some queue.new) }
+    ensures places_capacity { vec_capacity places.new ≡ vec_capacity places.old }
+    ensures settled_capacity { vec_capacity settled.new ≡ vec_capacity settled.old }
 {
     keep_waiting(queue, places, stage, first);
     let len = queue.len();
@@ -79,7 +82,7 @@ pub fn send_messages(core: &mut Core, stage: StageNo, sent: Vec<Sent>)
     requires legal { IsTrue (allows core.old.topology core.old.journal.steps (Step.Dispatch stage)) }
     requires planned { sent.items ≡ planned core.old.topology core.old.journal.steps stage [] }
     requires room { All (HasRoom (length sent.items) core.old.inboxes.items) sent.items }
-    requires spare { 1 ≤ core.old.journal.spare }
+    requires spare { 1089 ≤ core.old.journal.spare }
     ensures appended { core.new.journal.steps ≡ Step.Dispatch stage ∷ core.old.journal.steps }
     ensures topology { core.new.topology ≡ core.old.topology }
     ensures stands { Stands core.new }
@@ -125,7 +128,7 @@ pub fn dispatch_messages(core: &mut Core, stage: StageNo) -> Result<(), AllocErr
 {
     let sent = plan(core, stage, &[])?;
     make_room(core, &sent)?;
-    core.journal.reserve(1)?;
+    core.journal.reserve(MOST_DUE + 1)?;
     send_messages(core, stage, sent);
     Ok(())
 }
@@ -144,7 +147,7 @@ fn send_batches(
     requires planned { sent.items ≡ planned core.old.topology core.old.journal.steps stage [] }
     requires served { served ≡ served_first core.old.topology core.old.journal.steps stage }
     requires room { All (HasRoom (length sent.items) core.old.inboxes.items) sent.items }
-    requires spare { 1 ≤ core.old.journal.spare }
+    requires spare { 1089 ≤ core.old.journal.spare }
     ensures appended { OnOk result (core.new.journal.steps ≡ Step.Dispatch stage ∷ core.old.journal.steps) }
     ensures unchanged { OnErr result (core.new.journal.steps ≡ core.old.journal.steps) }
     ensures topology { core.new.topology ≡ core.old.topology }
@@ -186,7 +189,7 @@ fn dispatch_batches(core: &mut Core, stage: StageNo) -> Result<(), AllocError>
 {
     let planned = plan_batches(core, stage)?;
     make_room(core, &planned.sent)?;
-    core.journal.reserve(1)?;
+    core.journal.reserve(MOST_DUE + 1)?;
     send_batches(core, stage, planned.sent, planned.served)
 }
 

@@ -1,6 +1,6 @@
 -- What a step leaves of the room that was made before.
 use Rattle.std.proofs.Common.{◌≡◌, ℕ, ◌+◌, ◌*◌, ◌≤◌, ◌∷◌, List, length, Bool, true, false, refl, ap, sym, ◌∙◌, subst, arith}
-use Rattle.std.specs.Prelude.{vec_capacity}
+use Rattle.std.specs.Prelude.{vec_capacity, ◌==◌}
 use Rattle.std.specs.declared.alloc.Global.{Global}
 use Rattle.std.specs.declared.vec.Vec.{Vec}
 use Rattle.std.specs.declared.collections.VecDeque.{VecDeque}
@@ -8,7 +8,8 @@ use Rattle.pipe_types.specs.declared.message.Outcome.{Outcome}
 use Rattle.pipe_types.specs.declared.numbers.StageNo.{StageNo}
 use Rattle.pipe_types.specs.declared.message.Place.{Place}
 use Rattle.pipe_types.specs.declared.step.Step.{Step}
-use Rattle.pipe_types.specs.declared.step.Step.TheVariants.{Fetch}
+use Rattle.pipe_types.specs.declared.step.SourceHow.{SourceHow}
+use Rattle.pipe_types.specs.declared.step.Step.TheVariants.{Fetch, SourceEnd}
 use Rattle.pipe_types.specs.declared.topology.Topology.{Topology}
 use Rattle.pipe_types.specs.Numbers.{post}
 use Rattle.pipe_types.specs.Sound.{IsSound}
@@ -21,7 +22,7 @@ use Rattle.pipe_model.specs.Posts.{is_out, puts_out}
 use Rattle.stage_laws.proofs.Records.{booked_step}
 use Rattle.core_tables.specs.declared.rows.ContentRow.{ContentRow}
 use Rattle.core_tables.specs.Tables.{list_at, spare_at, room_at}
-use Rattle.core_laws.proofs.Due.{due_within}
+use Rattle.core_laws.proofs.Due.{due_within, end_due}
 use Rattle.core_laws.proofs.Lawful.{legal_after}
 use Rattle.core_laws.proofs.TakenBatches.{size_kept, out_before, no_job}
 use Rattle.core_laws.specs.Due.{due_steps, booked, taken_size, puts_job}
@@ -36,6 +37,15 @@ many_due core after spare x many = omega (arith, due_within core.topology after,
 -- so a call that reserved one more has it behind its step
 pub room_due : (core : Core) (after : History) (old new : ℕ) → Holds core → 1089 ≤ old → old ≤ new + 1 → due_steps core.topology after ≤ new
 room_due core after old new x many spare = many_due core after new x (omega (arith, many, spare))
+
+-- the end of a producer's source has its room from the fetch that it answers, and that of the control source from its call
+pub end_room : (core : Core) (s : StageNo) (how : SourceHow) (spare : ℕ) → Holds core → allows core.topology core.journal.steps (SourceEnd s how) ≡ true → core.journal.spare ≤ spare
+    → ((s.0 == 0) ≡ true → 1089 ≤ spare) → due_steps core.topology (SourceEnd s how ∷ core.journal.steps) + 1 ≤ spare
+end_room core s how spare x allowed more control = by (s.0 == 0) refl
+  where
+    by : (b : Bool) → (s.0 == 0) ≡ b → due_steps core.topology (SourceEnd s how ∷ core.journal.steps) + 1 ≤ spare
+    by true e = omega (arith, due_within core.topology (SourceEnd s how ∷ core.journal.steps), x.fields.sized.few, control e)
+    by false e = omega (arith, end_due core.topology core.journal.steps s how x.sound x.legal allowed e, x.room.steps, more)
 
 -- Rows
 

@@ -1,6 +1,6 @@
 //! Where the messages stand.
 
-ghost use Rattle.std.specs.Prelude.{◌≡◌, ℕ, suc, ◌≤◌, ◌∷◌, [], length, All, option_map, slice_get};
+ghost use Rattle.std.specs.Prelude.{◌≡◌, ℕ, suc, ◌≤◌, ◌∷◌, [], length, All, option_map, slice_get, vec_capacity};
 ghost use Rattle.pipe_model.specs.Flow.{dispatched, taken};
 ghost use Rattle.core_tables.specs.Chunks.{run_in};
 ghost use Rattle.core_tables.specs.Tables.{IsNumbered};
@@ -13,6 +13,7 @@ use pipe_types::room::Sent;
 pub fn place_all(places: &mut Vec<Place>, stage: StageNo, units: &[Sent])
     requires within { All (IsNumbered (length places.old.items)) units.now }
     ensures len { length places.new.items ≡ length places.old.items }
+    ensures capacity { vec_capacity places.new ≡ vec_capacity places.old }
     ensures placed { (i : ℕ) → slice_get places.new.items i ≡ option_map (dispatched units.now [] [] stage (suc i)) (slice_get places.old.items i) }
 {
     for sent in units {
@@ -36,6 +37,7 @@ fn moved(place: Place, stage: StageNo, sent: Sent) -> Place
 pub fn run_all(places: &mut Vec<Place>, stage: StageNo, chunk: &[u32])
     requires within { All (λ n. (1 ≤ n) × (n ≤ length places.old.items)) chunk.now }
     ensures len { length places.new.items ≡ length places.old.items }
+    ensures capacity { vec_capacity places.new ≡ vec_capacity places.old }
     ensures placed { (i : ℕ) → slice_get places.new.items i ≡ option_map (taken chunk.now stage (suc i)) (slice_get places.old.items i) }
 {
     for no in chunk {

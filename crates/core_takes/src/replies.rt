@@ -1,6 +1,6 @@
 //! What the replies to a chunk do to the tables.
 
-ghost use Rattle.std.specs.Prelude.{◌≡◌, ℕ, suc, ◌∷◌, [], ◌+◌, ◌<◌, ◌≤◌, ◌^◌, ◌++◌, length, All, Some, false, IfSome, option_map, slice_get, if◌then◌else◌, ◌==◌, OnOk};
+ghost use Rattle.std.specs.Prelude.{◌≡◌, ℕ, suc, ◌∷◌, [], ◌+◌, ◌<◌, ◌≤◌, ◌^◌, ◌++◌, length, All, Some, false, IfSome, option_map, slice_get, if◌then◌else◌, ◌==◌, true, OnOk, vec_capacity};
 ghost use Rattle.std.specs.VecDeque.{deque_len, deque_capacity};
 ghost use Rattle.pipe_types.specs.declared.numbers.StageNo.{StageNo as Stage};
 ghost use Rattle.pipe_model.specs.Content.{has_crash};
@@ -56,6 +56,7 @@ pub(crate) fn answer_all(
     requires many { length replies.now ≡ length chunk.now }
     requires safe { has_crash replies.now ≡ false }
     ensures len { length places.new.items ≡ length places.old.items }
+    ensures capacity { vec_capacity places.new ≡ vec_capacity places.old }
     ensures placed { (i : ℕ) → slice_get places.new.items i ≡ option_map (done passes_on chunk.now replies.now stage (suc i)) (slice_get places.old.items i) }
 {
     for k in 0..chunk.len() {
@@ -87,6 +88,7 @@ pub(crate) fn mark_all(
     requires within { All (λ n. (1 ≤ n) × (n ≤ length settled.old.items)) chunk.now }
     requires many { length replies.now ≡ length chunk.now }
     ensures len { length settled.new.items ≡ length settled.old.items }
+    ensures capacity { vec_capacity settled.new ≡ vec_capacity settled.old }
     ensures rows { (i : ℕ) → slice_get settled.new.items i ≡ marked passes_on mark chunk.now replies.now (suc i) (slice_get settled.old.items i) }
 {
     let mut left = chunk.len();
@@ -102,6 +104,7 @@ pub(crate) fn note_all(contents: &mut Vec<ContentRow>, entry: u64, replies: &[Re
     requires within { All (HasRow (length contents.old.items)) replies.now }
     requires few { length replies.now < 2 ^ 32 }
     ensures len { length contents.new.items ≡ length contents.old.items }
+    ensures capacity { vec_capacity contents.new ≡ vec_capacity contents.old }
     ensures rows { (i : ℕ) → slice_get contents.new.items i ≡ noted entry 0 replies.now (suc i) (slice_get contents.old.items i) }
 {
     let mut left = replies.len();
@@ -115,6 +118,7 @@ pub(crate) fn note_all(contents: &mut Vec<ContentRow>, entry: u64, replies: &[Re
 fn note_one(contents: &mut Vec<ContentRow>, entry: u64, item: u32, reply: &Reply)
     requires within { HasRow (length contents.old.items) reply.now }
     ensures len { length contents.new.items ≡ length contents.old.items }
+    ensures capacity { vec_capacity contents.new ≡ vec_capacity contents.old }
     ensures rows { (i : ℕ) → slice_get contents.new.items i ≡ noted entry item (reply.now ∷ []) (suc i) (slice_get contents.old.items i) }
 {
     if let Reply::Pass(message) = reply {
@@ -160,7 +164,8 @@ pub(crate) fn queue_passed(
     replies: &[Reply],
 )
     requires within { stage.0 < length waiting.old.items }
-    requires room { length replies.now ≤ spare_at waiting.old.items stage }
+    requires room { passes_on ≡ true → length replies.now ≤ spare_at waiting.old.items stage }
+    ensures rooms { (s : Stage) → (stage.0 == s.0) ≡ false → spare_at waiting.new.items s ≡ spare_at waiting.old.items s }
     ensures queued { (s : Stage) → queue_at waiting.new.items s ≡ (if passes_on then (if stage.0 == s.0 then queue_at waiting.old.items s ++ passed_parts by_partition replies.now else queue_at waiting.old.items s) else queue_at waiting.old.items s) }
     ensures len { length waiting.new.items ≡ length waiting.old.items }
 {
@@ -178,6 +183,7 @@ fn queue_all(
 )
     requires within { stage.0 < length waiting.old.items }
     requires room { length replies.now ≤ spare_at waiting.old.items stage }
+    ensures rooms { (s : Stage) → (stage.0 == s.0) ≡ false → spare_at waiting.new.items s ≡ spare_at waiting.old.items s }
     ensures queued { (s : Stage) → queue_at waiting.new.items s ≡ (if stage.0 == s.0 then queue_at waiting.old.items s ++ passed_parts by_partition replies.now else queue_at waiting.old.items s) }
     ensures len { length waiting.new.items ≡ length waiting.old.items }
 {
@@ -195,9 +201,29 @@ pub(crate) fn make_queue_room(
     ensures same { (s : Stage) → queue_at waiting.new.items s ≡ queue_at waiting.old.items s }
     ensures len { length waiting.new.items ≡ length waiting.old.items }
     ensures room { OnOk result (units ≤ spare_at waiting.new.items stage) }
+    ensures rooms { (s : Stage) → spare_at waiting.old.items s ≤ spare_at waiting.new.items s }
 {
     let queue = &mut waiting[stage.0 as usize];
     queue.reserve(units)
+}
+
+/// Makes that room where the stage passes messages on.
+pub(crate) fn make_room_behind(
+    waiting: &mut Vec<VecDeque<(u32, u32)>>,
+    stage: StageNo,
+    passes_on: bool,
+    units: usize,
+) -> Result<(), AllocError>
+    requires within { stage.0 < length waiting.old.items }
+    ensures same { (s : Stage) → queue_at waiting.new.items s ≡ queue_at waiting.old.items s }
+    ensures len { length waiting.new.items ≡ length waiting.old.items }
+    ensures room { OnOk result (passes_on ≡ true → units ≤ spare_at waiting.new.items stage) }
+    ensures rooms { (s : Stage) → spare_at waiting.old.items s ≤ spare_at waiting.new.items s }
+{
+    if !passes_on {
+        return Ok(());
+    }
+    make_queue_room(waiting, stage, units)
 }
 
 /// Empties the stage's chunk.

@@ -2,10 +2,11 @@
 
 ghost use Rattle.std.specs.Prelude.{◌≡◌, ◌∷◌, ◌≤◌, ◌<◌, ℕ, ◌==◌, if◌then◌else◌, option_map, slice_get, length, true, IsTrue};
 ghost use Rattle.pipe_types.specs.declared.numbers.StageNo.{StageNo as Stage};
-ghost use Rattle.pipe_model.specs.Flow.{first_in};
+ghost use Rattle.pipe_types.specs.Stages.{spec_of};
+ghost use Rattle.pipe_model.specs.Flow.{first_in, has_batchers_in};
 ghost use Rattle.pipe_model.specs.Legal.{allows, has_role, is_processor_role};
 ghost use Rattle.core_tables.specs.Rows.{post_at, taking};
-ghost use Rattle.core_tables.specs.Tables.{room_at};
+ghost use Rattle.core_tables.specs.Tables.{room_at, spare_at};
 ghost use Rattle.core_state.specs.Stands.{Holds};
 ghost use Rattle.core_takes.specs.Takes.{take_of, out_of};
 
@@ -18,13 +19,15 @@ use core_tables::stages::note_take;
 use pipe_types::numbers::{StageNo, SubNo};
 use pipe_types::step::Step;
 
-/// Appends the take of so many messages at most of the subscription, for which there is room.
+/// Appends the take of so many messages at most of the subscription, for which there is room: in the chunk, for its answer, and
+/// for all the steps that may be due then.
 pub fn start(core: &mut Core, stage: StageNo, sub: SubNo, most: u32)
     requires holds { Holds core.old }
     requires legal { IsTrue (allows core.old.topology core.old.journal.steps (take_of core.old.topology core.old.journal.steps stage sub most)) }
     requires processor { has_role core.old.topology stage is_processor_role ≡ true }
     requires room { most ≤ room_at core.old.chunks.items stage }
-    requires spare { 1 ≤ core.old.journal.spare }
+    requires queue { has_batchers_in (spec_of core.old.topology stage) ≡ true → most ≤ spare_at core.old.waiting.items stage }
+    requires spare { 1089 ≤ core.old.journal.spare }
     ensures appended { core.new.journal.steps ≡ take_of core.old.topology core.old.journal.steps stage sub most ∷ core.old.journal.steps }
     ensures topology { core.new.topology ≡ core.old.topology }
     ensures holds { Holds core.new }

@@ -4,19 +4,21 @@ ghost use Rattle.std.specs.Prelude.{◌≡◌, ◌≢◌, ◌≤◌, ◌<◌, �
 ghost use Rattle.pipe_types.specs.declared.numbers.StageNo.{StageNo as Stage};
 ghost use Rattle.pipe_types.specs.Stages.{spec_of};
 ghost use Rattle.pipe_model.specs.Jobs.{take_step, may_take_next, with_step};
-ghost use Rattle.pipe_model.specs.Flow.{inbox, units_on, batch as batch_as};
+ghost use Rattle.pipe_model.specs.Flow.{inbox, units_on, has_batchers_in, batch as batch_as};
 ghost use Rattle.pipe_model.specs.Legal.{has_role, is_batch_processor_role, is_processor_role, first_unit};
 ghost use Rattle.pipe_model.specs.Work.{chunk_of};
 ghost use Rattle.pipe_model.specs.Taken.{first_key, IsBatch, IsTaken};
-ghost use Rattle.core_tables.specs.Tables.{queue_at, list_at, room_at};
+ghost use Rattle.core_tables.specs.Tables.{queue_at, list_at, room_at, spare_at};
 ghost use Rattle.core_state.specs.Stands.{Stands, Holds};
 ghost use Rattle.core_laws.specs.Columns.{sub_first};
 ghost use Rattle.core_takes.specs.Takes.{most_of, IsChunk};
 
-use crate::batch_takes::start_batch;
+use crate::answers::has_batchers;
+use crate::batch_takes::{make_batch_ready, start_batch};
 use crate::contents::{copies_of, copy_bytes};
+use crate::replies::make_room_behind;
 use crate::starts::start;
-use core_state::Core;
+use core_state::{Core, MOST_DUE};
 use pipe_types::bytes::Bytes;
 use pipe_types::message::{Batch, Message, MessageList};
 use pipe_types::numbers::{BatchNo, StageNo, SubNo};
@@ -93,7 +95,7 @@ fn take_batch(core: &mut Core, stage: StageNo) -> Result<Batch, AllocError>
     let sub = first_sub(&core.inboxes, stage);
     let no = first_no(&core.inboxes, stage);
     let batch = batch_of(core, no)?;
-    core.journal.reserve(1)?;
+    make_batch_ready(core, stage, no)?;
     start_batch(core, stage, sub, no);
     Ok(batch)
 }
@@ -193,18 +195,47 @@ fn first_units(
         .collect(alloc)
 }
 
-/// Makes room for the step, and for so many units in the stage's chunk. The core stands as it did.
+/// Makes room for the step and those that may be due then, for so many units in the stage's chunk, and for as many behind
+/// those that wait in it, where it passes messages on. The core stands as it did.
 fn make_ready(core: &mut Core, stage: StageNo, most: u32) -> Result<(), AllocError>
     requires stands { Stands core.old }
-    requires within { stage.0 < length core.old.chunks.items }
+    requires within { stage.0 ≤ length core.old.topology.stages }
     ensures room { OnOk result (most ≤ room_at core.new.chunks.items stage) }
-    ensures spare { OnOk result (1 ≤ core.new.journal.spare) }
+    ensures queue { OnOk result (has_batchers_in (spec_of core.new.topology stage) ≡ true → most ≤ spare_at core.new.waiting.items stage) }
+    ensures spare { OnOk result (1089 ≤ core.new.journal.spare) }
     ensures unchanged { core.new.journal.steps ≡ core.old.journal.steps }
     ensures topology { core.new.topology ≡ core.old.topology }
     ensures stands { Stands core.new }
 {
-    make_chunk_room(&mut core.chunks, stage, most as usize)?;
-    core.journal.reserve(1)
+    make_chunk_ready(core, stage, most)?;
+    make_queue_ready(core, stage, most)?;
+    core.journal.reserve(MOST_DUE + 1)
+}
+
+/// Makes room for so many units in the stage's chunk. The core stands as it did.
+fn make_chunk_ready(core: &mut Core, stage: StageNo, most: u32) -> Result<(), AllocError>
+    requires stands { Stands core.old }
+    requires within { stage.0 ≤ length core.old.topology.stages }
+    ensures room { OnOk result (most ≤ room_at core.new.chunks.items stage) }
+    ensures unchanged { core.new.journal.steps ≡ core.old.journal.steps }
+    ensures topology { core.new.topology ≡ core.old.topology }
+    ensures stands { Stands core.new }
+{
+    make_chunk_room(&mut core.chunks, stage, most as usize)
+}
+
+/// Makes room for so many units behind those that wait in the stage, where it passes messages on. The core stands as it did.
+fn make_queue_ready(core: &mut Core, stage: StageNo, most: u32) -> Result<(), AllocError>
+    requires stands { Stands core.old }
+    requires within { stage.0 ≤ length core.old.topology.stages }
+    ensures queue { OnOk result (has_batchers_in (spec_of core.old.topology stage) ≡ true → most ≤ spare_at core.new.waiting.items stage) }
+    ensures chunks { core.new.chunks ≡ core.old.chunks }
+    ensures unchanged { core.new.journal.steps ≡ core.old.journal.steps }
+    ensures topology { core.new.topology ≡ core.old.topology }
+    ensures stands { Stands core.new }
+{
+    let passes_on = has_batchers(&core.topology, stage);
+    make_room_behind(&mut core.waiting, stage, passes_on, most as usize)
 }
 
 /// Makes room for so many units more in the stage's chunk. The chunks hold what they held.

@@ -13,6 +13,8 @@ use Rattle.core_laws.specs.Enrolled.{queued}
 use Rattle.core_state.specs.declared.state.Core.{Core}
 use Rattle.core_state.proofs.Steps.{holds_after}
 use Rattle.core_accepts.proofs.Bringing.{bringing, there, queue_room}
+use Rattle.core_state.proofs.Rooms.{room_after}
+use Rattle.core_accepts.proofs.Making.{accept_rest, accept_step, accept_rows, accept_queues}
 use Rattle.core_accepts.proofs.Enrolling.{Enrolled, enrolled_fields}
 use Rattle.core_accepts.proofs.accepts.enroll.Goals as goal
 
@@ -67,7 +69,7 @@ queue_new-requires-clause-room c =
     let within = b.within c.in-Some.spec.now (sym c.in-Some.ensures) in
     let q = c.index_mut-queue.result.now in
     let here : slice_get core.waiting.items s.0 ≡ Some q = slice_get_read core.waiting.items (length core.waiting.items) s.0 q refl (omega (arith, within, x.fields.sized.waiting)) c.index_mut-queue.ensures.value in
-    omega (arith, ap (λ (rs : List (List ℕ)). length rs) c.as_slice-3.ensures, queue_room core.waiting.items s q here, c.requires.room.waiting, q.small, q.ok)
+    omega (arith, ap (λ (rs : List (List ℕ)). length rs) c.as_slice-3.ensures, queue_room core.waiting.items s q here, c.requires.room, q.small, q.ok)
 
 pub come_home-requires : goal.come_home-requires
 come_home-requires c =
@@ -131,11 +133,11 @@ returns-clause-holds c =
           ∙ (ap (λ o. items_in o ++ queued spec (core.totals.accepted + 1) c.as_slice-3.result.now) (sym here)
           ∙ (ap (λ n. queue_at core.waiting.items s ++ queued spec (n + 1) c.as_slice-3.result.now) many
           ∙ ap (λ (rs : List (List ℕ)). queue_at core.waiting.items s ++ queued spec (accepted before + 1) rs) c.as_slice-3.ensures));
-      places = c.place_new.ensures ∙ ap (λ n. core.places.items ++ replicate n (Waiting s)) count;
-      settled = c.mark_new.ensures ∙ ap (λ n. core.settled.items ++ replicate n 0) count;
-      producers = c.produce_new.ensures ∙ ap (λ n. core.producers.items ++ replicate n s) count;
+      places = c.place_new.ensures.items ∙ ap (λ n. core.places.items ++ replicate n (Waiting s)) count;
+      settled = c.mark_new.ensures.items ∙ ap (λ n. core.settled.items ++ replicate n 0) count;
+      producers = c.produce_new.ensures.items ∙ ap (λ n. core.producers.items ++ replicate n s) count;
       contents =
-          c.content_new.ensures
+          c.content_new.ensures.items
           ∙ (ap (λ e. core.contents.items ++ contents_up e 0 (length c.as_slice.result.now)) c.len-entry.ensures ∙ ap (λ n. core.contents.items ++ contents_up (length before) 0 n) count);
       posts = c.come_home.ensures.posts;
       post_count = c.come_home.ensures.len;
@@ -147,3 +149,37 @@ returns-clause-holds c =
     enrolled_fields core core.topology before s spec records c.push_spare.new.self (with_item core.waiting s.0 q) c.place_new.new.places c.mark_new.new.settled c.produce_new.new.producers c.content_new.new.contents
     c.come_home.new.posts core-new.totals q x.fields x.sound x.legal b.law within found (b.role spec found) enrolled in
     holds_after core core-new (Accept s records) x refl c.push_spare.ensures.written c.requires.legal fields
+    (room_after core core-new (Accept s records) x c.requires.legal refl (accept_rest core s records c.push_spare.new.self.spare x c.requires.legal c.push_spare.ensures.spare)
+    c.place_new.ensures.capacity c.mark_new.ensures.capacity c.produce_new.ensures.capacity c.content_new.ensures.capacity
+    (λ t h. accept_queues core s spec q t x found (b.role spec found) h) refl)
+
+pub push_spare-requires : goal.push_spare-requires
+push_spare-requires c = accept_step c.args.core.now c.args.stage c.args.records c.requires.holds c.requires.legal
+
+pub place_new-requires : goal.place_new-requires
+place_new-requires c =
+    let core = c.args.core.now in
+    let x = c.requires.holds in
+    let rows = accept_rows core c.args.stage c.args.records x c.requires.legal in
+    omega (arith, rows.places, x.fields.sized.places, core.places.ok.0, ap (λ (rs : List (List ℕ)). length rs) c.as_slice.ensures)
+
+pub mark_new-requires : goal.mark_new-requires
+mark_new-requires c =
+    let core = c.args.core.now in
+    let x = c.requires.holds in
+    let rows = accept_rows core c.args.stage c.args.records x c.requires.legal in
+    omega (arith, rows.settled, x.fields.sized.settled, core.settled.ok.0, ap (λ (rs : List (List ℕ)). length rs) c.as_slice.ensures)
+
+pub produce_new-requires : goal.produce_new-requires
+produce_new-requires c =
+    let core = c.args.core.now in
+    let x = c.requires.holds in
+    let rows = accept_rows core c.args.stage c.args.records x c.requires.legal in
+    omega (arith, rows.producers, x.fields.sized.producers, core.producers.ok.0, ap (λ (rs : List (List ℕ)). length rs) c.as_slice.ensures)
+
+pub content_new-requires : goal.content_new-requires
+content_new-requires c =
+    let core = c.args.core.now in
+    let x = c.requires.holds in
+    let rows = accept_rows core c.args.stage c.args.records x c.requires.legal in
+    omega (arith, rows.contents, x.fields.sized.contents, core.contents.ok.0, ap (λ (rs : List (List ℕ)). length rs) c.as_slice.ensures)

@@ -7,15 +7,15 @@ use Rattle.pipe_model.specs.Flow.{room, waiting}
 use Rattle.stage_laws.proofs.Numbering.{numbered_topology}
 use Rattle.core_tables.specs.Tables.{items_in}
 use Rattle.core_accepts.specs.Rooms.{open_between, pulled}
-use Rattle.core_accepts.proofs.Bounding.{bound_known, bound_unknown, room_seen, waiting_seen, left_by}
+use Rattle.core_accepts.proofs.Bounding.{bound_known, bound_unknown, room_seen, waiting_seen, left_seen}
 use Rattle.core_accepts.proofs.fetches.bound.Goals as goal
 
 pub returns-in_default : goal.returns-in_default
 returns-in_default c =
     let core = c.args.core.now in
-    bound_unknown core.topology core.journal.steps c.args.stage c.records_left-left.result c.min-records.result (sym c.in_default.ensures)
-    (left_by core c.saturating_sub-limit.result c.records_left-left.result c.deref.result.now c.deref-2.result.now c.as_slice-stages.result.now c.requires.stands.holds c.saturating_sub-limit.ensures c.records_left-left.ensures c.deref.ensures.value c.deref-2.ensures.value c.as_slice-stages.ensures)
-    c.min-records.ensures
+    bound_unknown core.topology core.journal.steps c.args.stage c.saturating_sub-left.result c.min-records.result (sym c.in_default.ensures)
+    (left_seen core c.saturating_sub-limit.result c.saturating_sub-left.result c.fetches_out.result c.requires.stands.holds c.saturating_sub-limit.ensures c.fetches_out.ensures (omega (arith, c.saturating_sub-left.ensures, c.from.ensures)))
+    (omega (arith, c.min-records.ensures, c.from-2.ensures))
 
 pub index-requires : goal.index-requires
 index-requires c =
@@ -40,10 +40,10 @@ returns c =
     let count : c.len-waiting.result ≡ length (waiting core.topology core.journal.steps spec.no) =
     c.len-waiting.ensures ∙ (c.index.result.now.ok.0 ∙ (ap (λ o. length (items_in o)) (sym queue) ∙ waiting_seen core spec.no x)) in
     let open_room : c.room_on-room.result ≡ room core.topology core.journal.steps spec.no =
-    c.room_on-room.ensures ∙ (ap (λ (stages : List StageSpec). sum_by (open_between core.subs spec) stages) c.as_slice-stages.ensures ∙ room_seen core spec x (ap (spec_of core.topology) no ∙ found)) in
+    c.room_on-room.ensures ∙ (ap (λ (stages : List StageSpec). sum_by (open_between core.subs spec) stages) c.as_slice.ensures ∙ room_seen core spec x (ap (spec_of core.topology) no ∙ found)) in
     c.within_room.ensures
     ∙ (ap (λ n. pulled spec c.min-records.result n c.len-waiting.result) open_room
     ∙ (ap (λ n. pulled spec c.min-records.result (room core.topology core.journal.steps spec.no) n) count
-    ∙ bound_known core.topology core.journal.steps c.args.stage spec c.records_left-left.result c.min-records.result found
-    (left_by core c.saturating_sub-limit.result c.records_left-left.result c.deref.result.now c.deref-2.result.now c.as_slice-stages.result.now x c.saturating_sub-limit.ensures c.records_left-left.ensures c.deref.ensures.value c.deref-2.ensures.value c.as_slice-stages.ensures)
-    c.min-records.ensures))
+    ∙ bound_known core.topology core.journal.steps c.args.stage spec c.saturating_sub-left.result c.min-records.result found
+    (left_seen core c.saturating_sub-limit.result c.saturating_sub-left.result c.fetches_out.result x c.saturating_sub-limit.ensures c.fetches_out.ensures (omega (arith, c.saturating_sub-left.ensures, c.from.ensures)))
+    (omega (arith, c.min-records.ensures, c.from-2.ensures))))

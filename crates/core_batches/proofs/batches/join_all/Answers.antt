@@ -12,4 +12,5 @@ loop-no-preserved c =
     record {
       placed = λ i. joined_step l.places.items c.args.numbers.now l.no-index 0 c.args.stage c.args.batch.0 c.index.result.now c.joined-place.result (omega arith) numbered.0 within (slice_get_read l.places.items (length l.places.items) (n - 1) c.index.result.now refl within c.index.ensures) c.joined-place.ensures i ∙ l.invariant.placed i;
       len = search rules;
+      capacity = search rules;
     }

@@ -6,21 +6,25 @@ use Rattle.pipe_types.specs.Numbers.{batch_no}
 use Rattle.pipe_model.specs.History.{History, accepted, closed}
 use Rattle.pipe_model.specs.Flow.{put_in_batch}
 use Rattle.core_tables.specs.Tables.{queue_at}
+use Rattle.stage_laws.proofs.Bounds.{close_facts}
 use Rattle.core_laws.proofs.Lawful.{each_all}
 use Rattle.core_state.specs.declared.state.Core.{Core}
+use Rattle.core_state.proofs.Rooms.{room_due, room_after}
 use Rattle.core_state.proofs.Steps.{holds_after, unowed_after}
 use Rattle.core_batches.specs.Closes.{batch_part}
+use Rattle.core_batches.proofs.Rooming.{close_queues}
 use Rattle.core_batches.proofs.Closing.{closed_fields, close_within, spec_here, parts_here, roomy_stands, closing_some, found_closing, found_there, closed_small, numbers_within, closed_same}
 use Rattle.core_batches.proofs.closes.close_batch.Goals as goal
 
 pub returns-in_err-reserve-clause-stands : goal.returns-in_err-reserve-clause-stands
 returns-in_err-reserve-clause-stands c =
-    let core = c.args.core.now in roomy_stands core c.reserve.new.self core.batches core.waiting c.requires.stands c.reserve.ensures.same_steps refl (λ t. refl) refl
+    let core = c.args.core.now in roomy_stands core c.reserve.new.self core.batches core.waiting c.requires.stands c.reserve.ensures.same_steps refl (λ t. refl) refl c.reserve.ensures.spare (λ t. omega arith)
 
 pub returns-in_err-reserve-2-clause-stands : goal.returns-in_err-reserve-2-clause-stands
 returns-in_err-reserve-2-clause-stands c =
     let core = c.args.core.now in
     roomy_stands core c.reserve.new.self c.reserve-2.new.self core.waiting c.requires.stands c.in_ok-reserve.ensures.same_steps c.reserve-2.ensures.items (λ t. refl) refl
+    c.in_ok-reserve.ensures.spare (λ t. omega arith)
 
 pub make_room_for_one-requires : goal.make_room_for_one-requires
 make_room_for_one-requires c =
@@ -32,7 +36,7 @@ pub returns-in_err-make_room_for_one-clause-stands : goal.returns-in_err-make_ro
 returns-in_err-make_room_for_one-clause-stands c =
     let core = c.args.core.now in
     roomy_stands core c.reserve.new.self c.reserve-2.new.self c.make_room_for_one.new.waiting c.requires.stands c.in_ok-reserve.ensures.same_steps c.in_ok-reserve-2.ensures.items
-    c.in_err-make_room_for_one.ensures.same c.in_err-make_room_for_one.ensures.len
+    c.in_err-make_room_for_one.ensures.same c.in_err-make_room_for_one.ensures.len c.in_ok-reserve.ensures.spare c.in_err-make_room_for_one.ensures.rooms
 
 pub closable_in-found-requires-clause-within : goal.closable_in-found-requires-clause-within
 closable_in-found-requires-clause-within c =
@@ -155,5 +159,10 @@ returns-clause-stands c =
     ∙ ap (λ ms. option_map (put_in_batch ms s (closed before + 1) (suc i)) (slice_get core.places.items i)) c.deref.ensures.value))
     c.join_all.ensures.len (c.push_reserved.ensures.items ∙ ap (λ rs. rs ++ c.new_row-row.result ∷ []) c.in_ok-reserve-2.ensures.items)
     (closed_same c.new_row-row.result numbers c.close_open-batch.result.trigger trigger c.new_row-row.ensures.seen (c.close_open-batch.ensures.trigger ∙ g.same)) c.new_row-row.ensures.unsent in
-    let holds = holds_after core core-new (Close s first trigger) x refl written c.requires.legal.legal fields in
+    let room = room_after core core-new (Close s first trigger) x c.requires.legal.legal refl
+    (room_due core (Close s first trigger ∷ before) c.reserve.new.self.spare c.push_spare.new.self.spare x c.in_ok-reserve.ensures.room c.push_spare.ensures.spare)
+    c.join_all.ensures.capacity refl refl refl
+    (close_queues core s c.queue_batch.new.waiting.items x (close_facts core.topology before s first trigger c.requires.legal.legal).role
+    (λ t other. omega (arith, c.queue_batch.ensures.rooms t other, c.in_ok-make_room_for_one.ensures.rooms t))) refl in
+    let holds = holds_after core core-new (Close s first trigger) x refl written c.requires.legal.legal fields room in
     record { holds = holds; unowed = unowed_after core-new core.topology (Close s first trigger) before refl written refl }

@@ -13,12 +13,13 @@ use Rattle.pipe_model.specs.Flow.{inbox}
 use Rattle.pipe_journal.specs.Readers.{reply_at}
 use Rattle.core_laws.specs.Contents.{passed_in}
 use Rattle.core_state.specs.declared.state.Core.{Core}
+use Rattle.core_state.proofs.Rooms.{room_due, room_after}
 use Rattle.core_state.proofs.Steps.{holds_after, unowed_after, still_stands}
 use Rattle.core_batches.proofs.Gathering.{gathered_fields, gather_within, some_first, refused_stands, fits_held, row_room, read_first, read_words}
 use Rattle.core_batches.proofs.gathers.gather.Goals as goal
 
 pub returns-in_err-reserve-clause-stands : goal.returns-in_err-reserve-clause-stands
-returns-in_err-reserve-clause-stands c = still_stands c.args.core.now c.reserve.new.self c.requires.stands c.reserve.ensures.same_steps
+returns-in_err-reserve-clause-stands c = still_stands c.args.core.now c.reserve.new.self c.requires.stands c.reserve.ensures.same_steps c.reserve.ensures.spare
 
 pub first_unit-unit-requires-clause-within : goal.first_unit-unit-requires-clause-within
 first_unit-unit-requires-clause-within c =
@@ -59,7 +60,7 @@ join_open-requires-clause-fits c =
 
 pub returns-in_err-join_open-clause-stands : goal.returns-in_err-join_open-clause-stands
 returns-in_err-join_open-clause-stands c =
-    refused_stands c.args.core.now c.reserve.new.self c.join_open.new.batchers c.requires.stands c.in_ok-reserve.ensures.same_steps c.in_err-join_open.ensures.unchanged c.in_err-join_open.ensures.len
+    refused_stands c.args.core.now c.reserve.new.self c.join_open.new.batchers c.requires.stands c.in_ok-reserve.ensures.same_steps c.in_err-join_open.ensures.unchanged c.in_err-join_open.ensures.len c.in_ok-reserve.ensures.spare
 
 pub drop_first-requires : goal.drop_first-requires
 drop_first-requires c =
@@ -112,5 +113,8 @@ returns-clause-stands c =
     gathered_fields core core.topology core.journal.steps s m r.0 (passed_in (reply_at c.reserve.new.self.steps row.entry row.item)) c.push_spare.new.self c.join_open.new.batchers c.drop_first.new.inboxes
     c.place_gathered.new.places c.count_handled.new.subs x.sound x.fields known words.key words.flush c.in_ok-join_open.ensures.joined c.in_ok-join_open.ensures.len c.drop_first.ensures.left
     c.drop_first.ensures.len c.place_gathered.ensures.placed c.place_gathered.ensures.len c.count_handled.ensures in
-    let holds = holds_after core core-new (Gather s m) x refl written known.allowed fields in
+    let room = room_after core core-new (Gather s m) x known.allowed refl
+    (room_due core (Gather s m ∷ core.journal.steps) c.reserve.new.self.spare c.push_spare.new.self.spare x c.in_ok-reserve.ensures.room c.push_spare.ensures.spare)
+    c.place_gathered.ensures.capacity refl refl refl x.room.queues refl in
+    let holds = holds_after core core-new (Gather s m) x refl written known.allowed fields room in
     record { holds = holds; unowed = unowed_after core-new core.topology (Gather s m) core.journal.steps refl written refl }

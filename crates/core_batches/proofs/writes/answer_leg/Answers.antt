@@ -8,6 +8,7 @@ use Rattle.core_state.specs.declared.state.Core.{Core}
 use Rattle.core_state.proofs.Steps.{holds_after, unowed_after}
 use Rattle.core_batches.specs.Writes.{leg_place}
 use Rattle.core_laws.specs.Columns.{sent_on}
+use Rattle.core_batches.proofs.Rooming.{wrote_due, wrote_size, wrote_room}
 use Rattle.core_batches.proofs.Written.{written_fields, answering, stage_found, take_there, written_room, leg_few, leg_is, leg_open, legs_there, outcomes_many, numbers_here, last_is, settled_is, legs_kept, places_by, marks_by}
 use Rattle.core_batches.proofs.writes.answer_leg.Goals as goal
 
@@ -17,9 +18,9 @@ index-row-requires c =
     let s = c.args.stage in
     let bytes = c.args.bytes in
     let end = c.args.end in
-    let os = c.args.outcomes in
+    let os = c.requires.answered.outcomes in
     let stands = c.requires.stands in
-    let within : s.0 < length core.stages.items = stage_found core s bytes end os stands c.requires.legal c.requires.answered in
+    let within : s.0 < length core.stages.items = stage_found core s bytes end os stands c.requires.legal c.requires.answered.is in
     omega (arith, within)
 
 pub unwrap-requires : goal.unwrap-requires
@@ -28,12 +29,12 @@ unwrap-requires c =
     let s = c.args.stage in
     let bytes = c.args.bytes in
     let end = c.args.end in
-    let os = c.args.outcomes in
+    let os = c.requires.answered.outcomes in
     let stands = c.requires.stands in
-    let within : s.0 < length core.stages.items = stage_found core s bytes end os stands c.requires.legal c.requires.answered in
+    let within : s.0 < length core.stages.items = stage_found core s bytes end os stands c.requires.legal c.requires.answered.is in
     let row = c.index-row.result.now in
     let found : slice_get core.stages.items s.0 ≡ Some row = slice_get_read core.stages.items (length core.stages.items) s.0 row refl within c.index-row.ensures in
-    take_there core s bytes end os row stands c.requires.legal c.requires.answered found
+    take_there core s bytes end os row stands c.requires.legal c.requires.answered.is found
 
 pub overflow_sub-at : goal.overflow_sub-at
 overflow_sub-at c =
@@ -41,15 +42,36 @@ overflow_sub-at c =
     let s = c.args.stage in
     let bytes = c.args.bytes in
     let end = c.args.end in
-    let os = c.args.outcomes in
+    let os = c.requires.answered.outcomes in
     let stands = c.requires.stands in
-    let within : s.0 < length core.stages.items = stage_found core s bytes end os stands c.requires.legal c.requires.answered in
+    let within : s.0 < length core.stages.items = stage_found core s bytes end os stands c.requires.legal c.requires.answered.is in
     let row = c.index-row.result.now in
     let found : slice_get core.stages.items s.0 ≡ Some row = slice_get_read core.stages.items (length core.stages.items) s.0 row refl within c.index-row.ensures in
     let u = c.unwrap.result.0 in
     let b = row.taken in
-    let h = answering core s bytes end os row c.unwrap.result stands c.requires.legal c.requires.answered found c.unwrap.ensures in
+    let h = answering core s bytes end os row c.unwrap.result stands c.requires.legal c.requires.answered.is found c.unwrap.ensures in
     h.low
+
+pub outcomes_in-outcomes-requires-clause-within : goal.outcomes_in-outcomes-requires-clause-within
+outcomes_in-outcomes-requires-clause-within c =
+    let core = c.args.core.now in
+    let stands = c.requires.stands in
+    let within = stage_found core c.args.stage c.args.bytes c.args.end c.requires.answered.outcomes stands c.requires.legal c.requires.answered.is in
+    omega (arith, within, stands.holds.fields.sized.stages, stands.holds.fields.sized.ends)
+
+pub outcomes_in-outcomes-requires-clause-room : goal.outcomes_in-outcomes-requires-clause-room
+outcomes_in-outcomes-requires-clause-room c =
+    let core = c.args.core.now in
+    let s = c.args.stage in
+    let bytes = c.args.bytes in
+    let end = c.args.end in
+    let stands = c.requires.stands in
+    λ os is.
+    (let within : s.0 < length core.stages.items = stage_found core s bytes end os stands c.requires.legal is in
+    let row = c.index-row.result.now in
+    let found : slice_get core.stages.items s.0 ≡ Some row = slice_get_read core.stages.items (length core.stages.items) s.0 row refl within c.index-row.ensures in
+    let h = answering core s bytes end os row c.unwrap.result stands c.requires.legal is found c.unwrap.ensures in
+    wrote_size core s bytes os c.unwrap.result.0 row.taken (leg_place c.unwrap.result.0 (sent_on core.topology core.journal.steps row.taken)) h.written.ms h.written.legs stands.holds h.written.is)
 
 pub leg_of_batch-leg-requires-clause-there : goal.leg_of_batch-leg-requires-clause-there
 leg_of_batch-leg-requires-clause-there c =
@@ -57,14 +79,14 @@ leg_of_batch-leg-requires-clause-there c =
     let s = c.args.stage in
     let bytes = c.args.bytes in
     let end = c.args.end in
-    let os = c.args.outcomes in
+    let os = c.outcomes_in-outcomes.result in
     let stands = c.requires.stands in
-    let within : s.0 < length core.stages.items = stage_found core s bytes end os stands c.requires.legal c.requires.answered in
+    let within : s.0 < length core.stages.items = stage_found core s bytes end os stands c.requires.legal c.outcomes_in-outcomes.ensures.answered in
     let row = c.index-row.result.now in
     let found : slice_get core.stages.items s.0 ≡ Some row = slice_get_read core.stages.items (length core.stages.items) s.0 row refl within c.index-row.ensures in
     let u = c.unwrap.result.0 in
     let b = row.taken in
-    let h = answering core s bytes end os row c.unwrap.result stands c.requires.legal c.requires.answered found c.unwrap.ensures in
+    let h = answering core s bytes end os row c.unwrap.result stands c.requires.legal c.outcomes_in-outcomes.ensures.answered found c.unwrap.ensures in
     h.there
 
 pub leg_of_batch-leg-requires-clause-few : goal.leg_of_batch-leg-requires-clause-few
@@ -73,14 +95,14 @@ leg_of_batch-leg-requires-clause-few c =
     let s = c.args.stage in
     let bytes = c.args.bytes in
     let end = c.args.end in
-    let os = c.args.outcomes in
+    let os = c.outcomes_in-outcomes.result in
     let stands = c.requires.stands in
-    let within : s.0 < length core.stages.items = stage_found core s bytes end os stands c.requires.legal c.requires.answered in
+    let within : s.0 < length core.stages.items = stage_found core s bytes end os stands c.requires.legal c.outcomes_in-outcomes.ensures.answered in
     let row = c.index-row.result.now in
     let found : slice_get core.stages.items s.0 ≡ Some row = slice_get_read core.stages.items (length core.stages.items) s.0 row refl within c.index-row.ensures in
     let u = c.unwrap.result.0 in
     let b = row.taken in
-    let h = answering core s bytes end os row c.unwrap.result stands c.requires.legal c.requires.answered found c.unwrap.ensures in
+    let h = answering core s bytes end os row c.unwrap.result stands c.requires.legal c.outcomes_in-outcomes.ensures.answered found c.unwrap.ensures in
     leg_few core s bytes os u b h
 
 pub settle_leg-settled-requires-clause-open_leg : goal.settle_leg-settled-requires-clause-open_leg
@@ -89,14 +111,14 @@ settle_leg-settled-requires-clause-open_leg c =
     let s = c.args.stage in
     let bytes = c.args.bytes in
     let end = c.args.end in
-    let os = c.args.outcomes in
+    let os = c.outcomes_in-outcomes.result in
     let stands = c.requires.stands in
-    let within : s.0 < length core.stages.items = stage_found core s bytes end os stands c.requires.legal c.requires.answered in
+    let within : s.0 < length core.stages.items = stage_found core s bytes end os stands c.requires.legal c.outcomes_in-outcomes.ensures.answered in
     let row = c.index-row.result.now in
     let found : slice_get core.stages.items s.0 ≡ Some row = slice_get_read core.stages.items (length core.stages.items) s.0 row refl within c.index-row.ensures in
     let u = c.unwrap.result.0 in
     let b = row.taken in
-    let h = answering core s bytes end os row c.unwrap.result stands c.requires.legal c.requires.answered found c.unwrap.ensures in
+    let h = answering core s bytes end os row c.unwrap.result stands c.requires.legal c.outcomes_in-outcomes.ensures.answered found c.unwrap.ensures in
     let leg = c.leg_of_batch-leg.result in
     let same = leg_is core s bytes os u b h leg c.leg_of_batch-leg.ensures in
     leg_open core s bytes os u b h leg same
@@ -107,14 +129,14 @@ settle_leg-settled-requires-clause-there c =
     let s = c.args.stage in
     let bytes = c.args.bytes in
     let end = c.args.end in
-    let os = c.args.outcomes in
+    let os = c.outcomes_in-outcomes.result in
     let stands = c.requires.stands in
-    let within : s.0 < length core.stages.items = stage_found core s bytes end os stands c.requires.legal c.requires.answered in
+    let within : s.0 < length core.stages.items = stage_found core s bytes end os stands c.requires.legal c.outcomes_in-outcomes.ensures.answered in
     let row = c.index-row.result.now in
     let found : slice_get core.stages.items s.0 ≡ Some row = slice_get_read core.stages.items (length core.stages.items) s.0 row refl within c.index-row.ensures in
     let u = c.unwrap.result.0 in
     let b = row.taken in
-    let h = answering core s bytes end os row c.unwrap.result stands c.requires.legal c.requires.answered found c.unwrap.ensures in
+    let h = answering core s bytes end os row c.unwrap.result stands c.requires.legal c.outcomes_in-outcomes.ensures.answered found c.unwrap.ensures in
     legs_there core s bytes os u b h
 
 pub settle_leg-settled-requires-clause-outcomes : goal.settle_leg-settled-requires-clause-outcomes
@@ -123,14 +145,14 @@ settle_leg-settled-requires-clause-outcomes c =
     let s = c.args.stage in
     let bytes = c.args.bytes in
     let end = c.args.end in
-    let os = c.args.outcomes in
+    let os = c.outcomes_in-outcomes.result in
     let stands = c.requires.stands in
-    let within : s.0 < length core.stages.items = stage_found core s bytes end os stands c.requires.legal c.requires.answered in
+    let within : s.0 < length core.stages.items = stage_found core s bytes end os stands c.requires.legal c.outcomes_in-outcomes.ensures.answered in
     let row = c.index-row.result.now in
     let found : slice_get core.stages.items s.0 ≡ Some row = slice_get_read core.stages.items (length core.stages.items) s.0 row refl within c.index-row.ensures in
     let u = c.unwrap.result.0 in
     let b = row.taken in
-    let h = answering core s bytes end os row c.unwrap.result stands c.requires.legal c.requires.answered found c.unwrap.ensures in
+    let h = answering core s bytes end os row c.unwrap.result stands c.requires.legal c.outcomes_in-outcomes.ensures.answered found c.unwrap.ensures in
     outcomes_many core s bytes os u b h
 
 pub end_batch-requires-clause-there : goal.end_batch-requires-clause-there
@@ -139,14 +161,14 @@ end_batch-requires-clause-there c =
     let s = c.args.stage in
     let bytes = c.args.bytes in
     let end = c.args.end in
-    let os = c.args.outcomes in
+    let os = c.outcomes_in-outcomes.result in
     let stands = c.requires.stands in
-    let within : s.0 < length core.stages.items = stage_found core s bytes end os stands c.requires.legal c.requires.answered in
+    let within : s.0 < length core.stages.items = stage_found core s bytes end os stands c.requires.legal c.outcomes_in-outcomes.ensures.answered in
     let row = c.index-row.result.now in
     let found : slice_get core.stages.items s.0 ≡ Some row = slice_get_read core.stages.items (length core.stages.items) s.0 row refl within c.index-row.ensures in
     let u = c.unwrap.result.0 in
     let b = row.taken in
-    let h = answering core s bytes end os row c.unwrap.result stands c.requires.legal c.requires.answered found c.unwrap.ensures in
+    let h = answering core s bytes end os row c.unwrap.result stands c.requires.legal c.outcomes_in-outcomes.ensures.answered found c.unwrap.ensures in
     h.there
 
 pub end_batch-requires-clause-numbers : goal.end_batch-requires-clause-numbers
@@ -155,14 +177,14 @@ end_batch-requires-clause-numbers c =
     let s = c.args.stage in
     let bytes = c.args.bytes in
     let end = c.args.end in
-    let os = c.args.outcomes in
+    let os = c.outcomes_in-outcomes.result in
     let stands = c.requires.stands in
-    let within : s.0 < length core.stages.items = stage_found core s bytes end os stands c.requires.legal c.requires.answered in
+    let within : s.0 < length core.stages.items = stage_found core s bytes end os stands c.requires.legal c.outcomes_in-outcomes.ensures.answered in
     let row = c.index-row.result.now in
     let found : slice_get core.stages.items s.0 ≡ Some row = slice_get_read core.stages.items (length core.stages.items) s.0 row refl within c.index-row.ensures in
     let u = c.unwrap.result.0 in
     let b = row.taken in
-    let h = answering core s bytes end os row c.unwrap.result stands c.requires.legal c.requires.answered found c.unwrap.ensures in
+    let h = answering core s bytes end os row c.unwrap.result stands c.requires.legal c.outcomes_in-outcomes.ensures.answered found c.unwrap.ensures in
     numbers_here core s bytes os u b h (sym stands.holds.fields.sized.places)
 
 pub end_batch-requires-clause-marks : goal.end_batch-requires-clause-marks
@@ -171,9 +193,9 @@ end_batch-requires-clause-marks c =
     let s = c.args.stage in
     let bytes = c.args.bytes in
     let end = c.args.end in
-    let os = c.args.outcomes in
+    let os = c.outcomes_in-outcomes.result in
     let stands = c.requires.stands in
-    let within : s.0 < length core.stages.items = stage_found core s bytes end os stands c.requires.legal c.requires.answered in
+    let within : s.0 < length core.stages.items = stage_found core s bytes end os stands c.requires.legal c.outcomes_in-outcomes.ensures.answered in
     stands.holds.fields.sized.settled ∙ sym stands.holds.fields.sized.places
 
 pub come_home-requires : goal.come_home-requires
@@ -182,9 +204,9 @@ come_home-requires c =
     let s = c.args.stage in
     let bytes = c.args.bytes in
     let end = c.args.end in
-    let os = c.args.outcomes in
+    let os = c.outcomes_in-outcomes.result in
     let stands = c.requires.stands in
-    let within : s.0 < length core.stages.items = stage_found core s bytes end os stands c.requires.legal c.requires.answered in
+    let within : s.0 < length core.stages.items = stage_found core s bytes end os stands c.requires.legal c.outcomes_in-outcomes.ensures.answered in
     omega (arith, within, stands.holds.fields.sized.stages, stands.holds.fields.sized.posts)
 
 pub count_handled-requires : goal.count_handled-requires
@@ -193,15 +215,20 @@ count_handled-requires c =
     let s = c.args.stage in
     let bytes = c.args.bytes in
     let end = c.args.end in
-    let os = c.args.outcomes in
+    let os = c.outcomes_in-outcomes.result in
     let stands = c.requires.stands in
-    let within : s.0 < length core.stages.items = stage_found core s bytes end os stands c.requires.legal c.requires.answered in
+    let within : s.0 < length core.stages.items = stage_found core s bytes end os stands c.requires.legal c.outcomes_in-outcomes.ensures.answered in
     let row = c.index-row.result.now in
     let found : slice_get core.stages.items s.0 ≡ Some row = slice_get_read core.stages.items (length core.stages.items) s.0 row refl within c.index-row.ensures in
     let u = c.unwrap.result.0 in
     let b = row.taken in
-    let h = answering core s bytes end os row c.unwrap.result stands c.requires.legal c.requires.answered found c.unwrap.ensures in
+    let h = answering core s bytes end os row c.unwrap.result stands c.requires.legal c.outcomes_in-outcomes.ensures.answered found c.unwrap.ensures in
     written_room core core.topology core.journal.steps s bytes os u b (leg_place u (sent_on core.topology core.journal.steps b)) h.written.ms h.written.legs stands.holds.fields h.written.is
+
+pub push_spare-requires : goal.push_spare-requires
+push_spare-requires c =
+    let x = c.requires.stands.holds in
+    omega (arith, wrote_due c.args.core.now c.args.stage c.args.bytes c.args.end x c.requires.legal, x.room.steps)
 
 pub returns-clause-stands : goal.returns-clause-stands
 returns-clause-stands c =
@@ -209,14 +236,14 @@ returns-clause-stands c =
     let s = c.args.stage in
     let bytes = c.args.bytes in
     let end = c.args.end in
-    let os = c.args.outcomes in
+    let os = c.outcomes_in-outcomes.result in
     let stands = c.requires.stands in
-    let within : s.0 < length core.stages.items = stage_found core s bytes end os stands c.requires.legal c.requires.answered in
+    let within : s.0 < length core.stages.items = stage_found core s bytes end os stands c.requires.legal c.outcomes_in-outcomes.ensures.answered in
     let row = c.index-row.result.now in
     let found : slice_get core.stages.items s.0 ≡ Some row = slice_get_read core.stages.items (length core.stages.items) s.0 row refl within c.index-row.ensures in
     let u = c.unwrap.result.0 in
     let b = row.taken in
-    let h = answering core s bytes end os row c.unwrap.result stands c.requires.legal c.requires.answered found c.unwrap.ensures in
+    let h = answering core s bytes end os row c.unwrap.result stands c.requires.legal c.outcomes_in-outcomes.ensures.answered found c.unwrap.ensures in
     let leg = c.leg_of_batch-leg.result in
     let same = leg_is core s bytes os u b h leg c.leg_of_batch-leg.ensures in
     let settled = c.settle_leg-settled.result in
@@ -229,14 +256,18 @@ returns-clause-stands c =
       settled = c.end_batch.new.marks;
       subs = c.count_handled.new.subs;
       legs = c.settle_leg-settled.new.self;
+      ends = c.outcomes_in-outcomes.new.ends;
       totals = record core.totals { quiet = 0 };
     } in
-    let written = c.push_spare.ensures.written ∙ ap (λ (e : BatchEnd). Wrote s bytes e ∷ core.journal.steps) c.requires.answered in
+    let written = c.push_spare.ensures.written ∙ ap (λ (e : BatchEnd). Wrote s bytes e ∷ core.journal.steps) c.outcomes_in-outcomes.ensures.answered in
     let fields =
     written_fields core core.topology core.journal.steps s bytes os u b i h.written.ms h.written.legs settled c.push_spare.new.self c.come_home.new.posts c.end_batch.new.places c.end_batch.new.marks c.count_handled.new.subs
-    c.settle_leg-settled.new.self stands.holds.sound stands.holds.fields h.written.is (last_is core s bytes os u b h leg settled same c.settle_leg-settled.ensures.last_leg)
+    c.settle_leg-settled.new.self c.outcomes_in-outcomes.new.ends stands.holds.sound stands.holds.fields h.written.is (last_is core s bytes os u b h leg settled same c.settle_leg-settled.ensures.last_leg)
     (settled_is core s bytes os u b h leg settled same c.settle_leg-settled.ensures.settled) (legs_kept core s bytes os u b h leg settled c.settle_leg-settled.new.self same c.settle_leg-settled.ensures.kept)
     c.come_home.ensures.posts c.come_home.ensures.len (places_by core s bytes os u b h settled core.places.items c.end_batch.new.places.items c.end_batch.ensures.places) c.end_batch.ensures.places_len
-    (marks_by core s bytes os u b h settled c.len-mark.result core.settled.items c.end_batch.new.marks.items c.len-mark.ensures c.end_batch.ensures.marks) c.end_batch.ensures.marks_len c.count_handled.ensures in
-    let holds = holds_after core core-new (Wrote s bytes (Outcomes os)) stands.holds refl written h.written.is.allowed fields in
+    (marks_by core s bytes os u b h settled c.len-mark.result core.settled.items c.end_batch.new.marks.items c.len-mark.ensures c.end_batch.ensures.marks) c.end_batch.ensures.marks_len c.count_handled.ensures c.outcomes_in-outcomes.ensures.len in
+    let room = wrote_room core core-new s bytes (Outcomes os) stands.holds h.written.is.allowed
+    (omega (arith, wrote_due core s bytes (Outcomes os) stands.holds h.written.is.allowed, stands.holds.room.steps, c.push_spare.ensures.spare))
+    c.end_batch.ensures.places_capacity c.end_batch.ensures.marks_capacity refl refl refl refl c.outcomes_in-outcomes.ensures.others in
+    let holds = holds_after core core-new (Wrote s bytes (Outcomes os)) stands.holds refl written h.written.is.allowed fields room in
     record { holds = holds; unowed = unowed_after core-new core.topology (Wrote s bytes (Outcomes os)) core.journal.steps refl written refl }

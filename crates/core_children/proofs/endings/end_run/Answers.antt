@@ -6,6 +6,7 @@ use Rattle.pipe_types.specs.declared.numbers.SubNo.{SubNo}
 use Rattle.pipe_types.specs.declared.step.Step.TheVariants.{ChildEnd}
 use Rattle.pipe_types.specs.Numbers.{message_no}
 use Rattle.pipe_model.specs.Flow.{child_place}
+use Rattle.pipe_laws.proofs.Allowed.{child_end_facts}
 use Rattle.pipe_model.specs.Posts.{crashes}
 use Rattle.pipe_model.specs.History.{incarnation}
 use Rattle.stage_subs.specs.Subs.{row_of, IsChanged}
@@ -15,9 +16,11 @@ use Rattle.core_tables.specs.Rows.{post_at}
 use Rattle.core_laws.specs.Columns.{came, stage_row}
 use Rattle.core_state.specs.declared.state.Core.{Core}
 use Rattle.core_state.specs.Stands.{child_at}
+use Rattle.core_state.proofs.Rooms.{room_after}
 use Rattle.core_state.proofs.Steps.{holds_after}
 use Rattle.core_takes.specs.Replies.{handled_on}
 use Rattle.core_children.specs.Slots.{left_in}
+use Rattle.core_children.proofs.Rooming.{end_due, ended_queues}
 use Rattle.core_children.proofs.Ended.{slot_of, ends, Ended, ended_fields, row_room, number_read, child_there, again_read}
 use Rattle.core_children.proofs.endings.end_run.Goals as goal
 
@@ -143,6 +146,11 @@ come_home-requires c =
     let known = (slot_of core.topology core.journal.steps s slot c.args.reply x.sound x.legal c.requires.legal).1 in
     record { within = omega (arith, known.within, known.low, x.fields.sized.posts) }
 
+pub push_spare-requires : goal.push_spare-requires
+push_spare-requires c =
+    let x = c.requires.holds in
+    omega (arith, end_due c.args.core.now c.args.stage c.args.slot c.args.reply x c.requires.legal, x.room.steps)
+
 pub returns-clause-holds : goal.returns-clause-holds
 returns-clause-holds c =
     let core = c.args.core.now in
@@ -181,4 +189,7 @@ returns-clause-holds c =
     } in
     let fields = ended_fields core s slot c.args.reply c.number_in-no.result c.end_in-again.result c.push_spare.new.self c.come_home.new.posts c.count_handled.new.subs c.leave_chunk.new.chunks c.end_in-again.new.children c.put_place.new.places c.put_mark.new.settled
     x.sound x.fields k new in
-    holds_after core core-new (ChildEnd s slot c.args.reply) x refl c.push_spare.ensures.written c.requires.legal fields
+    let room = room_after core core-new (ChildEnd s slot c.args.reply) x c.requires.legal refl (omega (arith, end_due core s slot c.args.reply x c.requires.legal, x.room.steps, c.push_spare.ensures.spare))
+    c.put_place.ensures.capacity c.put_mark.ensures.capacity refl refl
+    (ended_queues core s c.number_in-no.result c.end_in-again.result c.leave_chunk.new.chunks.items x (child_end_facts core.topology core.journal.steps s slot c.args.reply c.requires.legal).role c.leave_chunk.ensures.left) refl in
+    holds_after core core-new (ChildEnd s slot c.args.reply) x refl c.push_spare.ensures.written c.requires.legal fields room

@@ -2,6 +2,8 @@ use Rattle.std.proofs.Common.{refl, arith}
 use Rattle.pipe_types.specs.declared.step.Step.TheVariants.{Done}
 use Rattle.core_state.specs.declared.state.Core.{Core}
 use Rattle.core_state.proofs.Steps.{holds_after}
+use Rattle.core_state.proofs.Rooms.{room_beside}
+use Rattle.core_lates.proofs.Rooms.{done_due, step_room, rest_room}
 use Rattle.core_lates.proofs.Crashing.{done_within, crashed_fields, crash_owes}
 use Rattle.core_lates.proofs.crashes.answer_crash.Goals as goal
 
@@ -24,3 +26,10 @@ returns-clause-holds c =
     let core-new : Core = record core { journal = c.push_spare.new.self; posts = c.come_home.new.posts; totals = record core.totals { quiet = 0 } } in
     holds_after core core-new (Done c.args.stage c.args.replies) x refl c.push_spare.ensures.written c.requires.legal
     (crashed_fields core core.topology core.journal.steps c.args.stage c.args.replies c.push_spare.new.self c.come_home.new.posts x.fields x.sound x.legal c.requires.legal c.requires.crash c.come_home.ensures.posts c.come_home.ensures.len)
+    (room_beside core core-new (Done c.args.stage c.args.replies) x c.requires.legal refl (rest_room core (Done c.args.stage c.args.replies) c.push_spare.new.self.spare x (done_due core c.args.stage c.args.replies x c.requires.legal) c.push_spare.ensures.spare) refl refl refl refl refl refl refl)
+
+pub push_spare-requires : goal.push_spare-requires
+push_spare-requires c =
+    let core = c.args.core.now in
+    let x = c.requires.holds in
+    step_room core (Done c.args.stage c.args.replies) x (done_due core c.args.stage c.args.replies x c.requires.legal)

@@ -3,6 +3,8 @@ use Rattle.pipe_types.specs.declared.message.BatchEnd.TheVariants.{Crashed}
 use Rattle.pipe_types.specs.declared.step.Step.TheVariants.{Wrote}
 use Rattle.core_state.specs.declared.state.Core.{Core}
 use Rattle.core_state.proofs.Steps.{holds_after}
+use Rattle.core_state.proofs.Rooms.{room_beside}
+use Rattle.core_lates.proofs.Rooms.{wrote_due, step_room, rest_room}
 use Rattle.core_lates.proofs.Crashing.{wrote_within, unwritten_fields, write_owes}
 use Rattle.core_lates.proofs.crashes.write_crash.Goals as goal
 
@@ -25,3 +27,10 @@ returns-clause-holds c =
     let core-new : Core = record core { journal = c.push_spare.new.self; posts = c.come_home.new.posts; totals = record core.totals { quiet = 0 } } in
     holds_after core core-new (Wrote c.args.stage 0 Crashed) x refl c.push_spare.ensures.written c.requires.legal
     (unwritten_fields core core.topology core.journal.steps c.args.stage c.push_spare.new.self c.come_home.new.posts x.fields x.sound x.legal c.requires.legal c.come_home.ensures.posts c.come_home.ensures.len)
+    (room_beside core core-new (Wrote c.args.stage 0 Crashed) x c.requires.legal refl (rest_room core (Wrote c.args.stage 0 Crashed) c.push_spare.new.self.spare x (wrote_due core c.args.stage 0 Crashed x c.requires.legal) c.push_spare.ensures.spare) refl refl refl refl refl refl refl)
+
+pub push_spare-requires : goal.push_spare-requires
+push_spare-requires c =
+    let core = c.args.core.now in
+    let x = c.requires.holds in
+    step_room core (Wrote c.args.stage 0 Crashed) x (wrote_due core c.args.stage 0 Crashed x c.requires.legal)

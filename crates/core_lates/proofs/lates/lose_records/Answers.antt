@@ -10,7 +10,10 @@ use Rattle.core_tables.specs.declared.rows.StageRow.{StageRow}
 use Rattle.core_tables.specs.declared.rows.Totals.{Totals}
 use Rattle.core_tables.specs.Tables.{contents_up}
 use Rattle.core_state.specs.declared.state.Core.{Core}
+use Rattle.core_state.proofs.Rooms.{room_after}
+use Rattle.pipe_types.specs.declared.step.Step.TheVariants.{Late}
 use Rattle.core_lates.proofs.Answering.{late_stands}
+use Rattle.core_lates.proofs.Rooms.{late_due, late_rows, step_room, rest_room}
 use Rattle.core_lates.proofs.Losing.{losing, death_read, Lose, lost_fields}
 use Rattle.core_lates.proofs.lates.lose_records.Goals as goal
 
@@ -98,11 +101,11 @@ returns-clause-stands c =
     } in
     let new : Lose core before s slot i why records c.come_home.new.posts c.lose_new.new.places c.mark_new.new.settled c.produce_new.new.producers c.content_new.new.contents =
     record {
-      places-are = c.lose_new.ensures ∙ ap (λ n. core.places.items ++ replicate n (Lost (Killed s i why))) count;
-      settled-are = c.mark_new.ensures ∙ (ap (λ n. core.settled.items ++ replicate n c.len-entry.result) count ∙ ap (λ e. core.settled.items ++ replicate (length records) e) c.len-entry.ensures);
-      producers-are = c.produce_new.ensures ∙ ap (λ n. core.producers.items ++ replicate n s) count;
+      places-are = c.lose_new.ensures.items ∙ ap (λ n. core.places.items ++ replicate n (Lost (Killed s i why))) count;
+      settled-are = c.mark_new.ensures.items ∙ (ap (λ n. core.settled.items ++ replicate n c.len-entry.result) count ∙ ap (λ e. core.settled.items ++ replicate (length records) e) c.len-entry.ensures);
+      producers-are = c.produce_new.ensures.items ∙ ap (λ n. core.producers.items ++ replicate n s) count;
       contents-are =
-          c.content_new.ensures
+          c.content_new.ensures.items
           ∙ (ap (λ e. core.contents.items ++ contents_up e 0 (length c.as_slice.result.now)) c.len-entry.ensures ∙ ap (λ n. core.contents.items ++ contents_up (length before) 0 n) count);
       posts-are = c.come_home.ensures.posts;
       posts-len = c.come_home.ensures.len;
@@ -113,3 +116,39 @@ returns-clause-stands c =
     late_stands core core-new s slot i (Records records) x refl c.push_spare.ensures.written c.requires.legal
     (lost_fields core core.topology before s slot i why records c.push_spare.new.self c.come_home.new.posts c.lose_new.new.places c.mark_new.new.settled c.produce_new.new.producers c.content_new.new.contents totals-new
     x.fields x.sound x.legal b dead new counted)
+    (room_after core core-new (Late s slot i (Records records)) x c.requires.legal refl (rest_room core (Late s slot i (Records records)) c.push_spare.new.self.spare x (late_due core s slot i (Records records) x c.requires.legal) c.push_spare.ensures.spare)
+    c.lose_new.ensures.capacity c.mark_new.ensures.capacity c.produce_new.ensures.capacity c.content_new.ensures.capacity x.room.queues refl)
+
+pub push_spare-requires : goal.push_spare-requires
+push_spare-requires c =
+    let core = c.args.core.now in
+    let x = c.requires.stands.holds in
+    step_room core (Late c.args.post.stage c.args.post.slot c.args.incarnation (Records c.args.records)) x (late_due core c.args.post.stage c.args.post.slot c.args.incarnation (Records c.args.records) x c.requires.legal)
+
+pub lose_new-requires : goal.lose_new-requires
+lose_new-requires c =
+    let core = c.args.core.now in
+    let x = c.requires.stands.holds in
+    let rows = late_rows core c.args.post.stage c.args.post.slot c.args.incarnation c.args.records x c.requires.legal in
+    omega (arith, rows.places, x.fields.sized.places, core.places.ok.0, ap (λ (rs : List (List ℕ)). length rs) c.as_slice.ensures)
+
+pub mark_new-requires : goal.mark_new-requires
+mark_new-requires c =
+    let core = c.args.core.now in
+    let x = c.requires.stands.holds in
+    let rows = late_rows core c.args.post.stage c.args.post.slot c.args.incarnation c.args.records x c.requires.legal in
+    omega (arith, rows.settled, x.fields.sized.settled, core.settled.ok.0, ap (λ (rs : List (List ℕ)). length rs) c.as_slice.ensures)
+
+pub produce_new-requires : goal.produce_new-requires
+produce_new-requires c =
+    let core = c.args.core.now in
+    let x = c.requires.stands.holds in
+    let rows = late_rows core c.args.post.stage c.args.post.slot c.args.incarnation c.args.records x c.requires.legal in
+    omega (arith, rows.producers, x.fields.sized.producers, core.producers.ok.0, ap (λ (rs : List (List ℕ)). length rs) c.as_slice.ensures)
+
+pub content_new-requires : goal.content_new-requires
+content_new-requires c =
+    let core = c.args.core.now in
+    let x = c.requires.stands.holds in
+    let rows = late_rows core c.args.post.stage c.args.post.slot c.args.incarnation c.args.records x c.requires.legal in
+    omega (arith, rows.contents, x.fields.sized.contents, core.contents.ok.0, ap (λ (rs : List (List ℕ)). length rs) c.as_slice.ensures)

@@ -7,4 +7,5 @@ invariant-loop-k l =
     record {
       new : l.places.items ≡ l.fn.places.items ++ replicate l.k (Lost l.loss);
       room : vec_len l.places + (l.count - l.k) ≤ vec_capacity l.places;
+      capacity : vec_capacity l.places ≡ vec_capacity l.fn.places;
     }

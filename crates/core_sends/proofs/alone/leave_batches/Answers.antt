@@ -8,6 +8,9 @@ pub loop-k-init : goal.loop-k-init
 loop-k-init c =
     record {
       queue = refl;
+      room = omega arith;
+      places_capacity = refl;
+      settled_capacity = refl;
       places_len = refl;
       placed = λ i. same_option (slice_get c.args.places.now.items i);
       settled_len = refl;
@@ -26,6 +29,9 @@ loop-k-preserved c =
     let p = c.pass_served in
     record {
       queue = p.ensures.queue ∙ (ap (drop 1) l.invariant.queue ∙ drop_drop 1 l.k c.args.queue.now.items);
+      room = omega (arith, p.ensures.room, l.invariant.room);
+      places_capacity = p.ensures.places_capacity ∙ l.invariant.places_capacity;
+      settled_capacity = p.ensures.settled_capacity ∙ l.invariant.settled_capacity;
       places_len = p.ensures.places_len ∙ l.invariant.places_len;
       placed = λ i. placed_turn (numbers_of c.args.batches.now.items) c.args.legs.now c.args.queue.now.items l.queue.items l.k (suc i) (slice_get c.args.places.now.items i) (slice_get l.places.items i) (slice_get p.new.places.items i)
           l.invariant.queue (l.invariant.placed i) (p.ensures.placed i);

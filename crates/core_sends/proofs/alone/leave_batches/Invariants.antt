@@ -1,5 +1,6 @@
-use Rattle.std.proofs.Common.{◌≡◌, ℕ, suc, length, drop, take}
-use Rattle.std.specs.Prelude.{option_map, slice_get}
+use Rattle.std.proofs.Common.{◌≡◌, ◌≤◌, ℕ, suc, length, drop, take, Some}
+use Rattle.std.specs.Prelude.{option_map, slice_get, vec_capacity}
+use Rattle.core_tables.specs.Tables.{spare_in}
 use Rattle.core_sends.specs.Batches.{numbers_of, all_succeeded, all_marked, lone_of}
 use Rattle.core_sends.proofs.alone.leave_batches.Given as goal
 
@@ -7,6 +8,9 @@ abbrev pub invariant-loop-k : goal.invariant-loop-k
 invariant-loop-k l =
     record {
       queue : l.queue.items ≡ drop l.k l.fn.queue.items;
+      room : spare_in (Some l.fn.queue) ≤ spare_in (Some l.queue);
+      places_capacity : vec_capacity l.places ≡ vec_capacity l.fn.places;
+      settled_capacity : vec_capacity l.settled ≡ vec_capacity l.fn.settled;
       places_len : length l.places.items ≡ length l.fn.places.items;
       placed : (i : ℕ) → slice_get l.places.items i ≡ option_map (all_succeeded (numbers_of l.batches.items) (lone_of l.legs (take l.k l.fn.queue.items)) (suc i)) (slice_get l.fn.places.items i);
       settled_len : length l.settled.items ≡ length l.fn.settled.items;

@@ -14,4 +14,5 @@ loop-no-preserved c =
     record {
       placed = λ i. succeeded_step l.places.items c.args.numbers.now l.no-index 0 (get_or l.places.items (n - 1) (Acked Successful)) (omega arith) numbered.0 within (slice_get-get_or l.places.items (n - 1) (Acked Successful) within) i ∙ l.invariant.placed i;
       len = search rules;
+      capacity = search rules;
     }

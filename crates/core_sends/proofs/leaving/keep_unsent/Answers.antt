@@ -8,22 +8,26 @@ use Rattle.core_sends.proofs.Kept.{Passed, passed_none, passed_more, passed_done
 use Rattle.core_sends.proofs.leaving.keep_unsent.Goals as goal
 
 pub loop-k-init : goal.loop-k-init
-loop-k-init c = passed_none (not_sent c.args.legs.now) c.args.queue.now.items
+loop-k-init c = record { passed = passed_none (not_sent c.args.legs.now) c.args.queue.now.items; room = omega arith }
 
 pub loop-k-preserved : goal.loop-k-preserved
 loop-k-preserved c =
     let l = c.loop-k in
     let one = c.pass_unsent-is_kept in
     let is : c.from-left.result ≡ number (first_kept (not_sent c.args.legs.now) l.queue.items) = c.from-left.ensures ∙ (byte_is one.result ∙ ap number one.ensures.kept) in
-    subst (λ q. Passed (not_sent c.args.legs.now) c.args.queue.now.items q (l.k + 1) (l.left + c.from-left.result)) (sym one.ensures.items)
-    (passed_more (not_sent c.args.legs.now) c.args.queue.now.items l.queue.items l.k l.left c.from-left.result (omega arith) is l.invariant)
+    record {
+      passed =
+          subst (λ q. Passed (not_sent c.args.legs.now) c.args.queue.now.items q (l.k + 1) (l.left + c.from-left.result)) (sym one.ensures.items)
+          (passed_more (not_sent c.args.legs.now) c.args.queue.now.items l.queue.items l.k l.left c.from-left.result (omega arith) is l.invariant.passed);
+      room = omega (arith, one.ensures.room, l.invariant.room);
+    }
 
-pub returns : goal.returns
-returns c =
+pub returns-clause-items : goal.returns-clause-items
+returns-clause-items c =
     let l = c.loop-k in
     let old = c.args.queue.now.items in
     let end : l.k ≡ c.args.first = omega arith in
-    let all : Passed (not_sent c.args.legs.now) old l.queue.items c.args.first l.left = subst (λ k. Passed (not_sent c.args.legs.now) old l.queue.items k l.left) end l.invariant in
+    let all : Passed (not_sent c.args.legs.now) old l.queue.items c.args.first l.left = subst (λ k. Passed (not_sent c.args.legs.now) old l.queue.items k l.left) end l.invariant.passed in
     c.rotate_right.ensures.items
     ∙ passed_done (not_sent c.args.legs.now) old l.queue.items c.args.first l.left (deque_len l.queue - l.left) all c.requires.rest
     (omega (arith, all.count, ap length all.items, length-append (drop c.args.first old) (filter {X = ℕ × ℕ} (λ unit. not_sent c.args.legs.now unit.1) (take c.args.first old))))

@@ -16,4 +16,5 @@ loop-k-preserved c =
     record {
       placed = λ i. lost_step c.args.stage l.places.items c.args.queue.now.items l.k c.args.to u c.index-in-loop-k.result.now c.lost-place.result (omega arith) c.requires.end c.index.ensures least within was c.lost-place.ensures i ∙ l.invariant.placed i;
       len = search rules;
+      capacity = search rules;
     }

@@ -16,4 +16,5 @@ loop-k-preserved c =
     record {
       marked = λ i. mark_step c.args.mark l.settled.items c.args.queue.now.items l.k c.args.to u c.index_mut.result.now (omega arith) c.requires.end c.index.ensures least within was i ∙ l.invariant.marked i;
       len = search rules;
+      capacity = search rules;
     }

@@ -10,16 +10,16 @@ Within count unit = (1 ≤ unit.1) × (unit.1 ≤ count)
 
 pub lose_all-requires-clause-within : goal.lose_all-requires-clause-within
 lose_all-requires-clause-within c =
-    subst (All (Within (length c.args.places.now.items))) (sym c.keep_waiting.ensures) (All-filter (λ unit. still_waits c.deref.result.now c.args.stage unit.1) (Within (length c.args.places.now.items)) c.args.queue.now.items c.requires.placed)
+    subst (All (Within (length c.args.places.now.items))) (sym c.keep_waiting.ensures.items) (All-filter (λ unit. still_waits c.deref.result.now c.args.stage unit.1) (Within (length c.args.places.now.items)) c.args.queue.now.items c.requires.placed)
 
 pub mark_all-requires-clause-within : goal.mark_all-requires-clause-within
 mark_all-requires-clause-within c =
     subst (λ n. All (Within n) c.keep_waiting.new.queue.items) (sym c.requires.settled)
-    (subst (All (Within (length c.args.places.now.items))) (sym c.keep_waiting.ensures) (All-filter (λ unit. still_waits c.deref.result.now c.args.stage unit.1) (Within (length c.args.places.now.items)) c.args.queue.now.items c.requires.placed))
+    (subst (All (Within (length c.args.places.now.items))) (sym c.keep_waiting.ensures.items) (All-filter (λ unit. still_waits c.deref.result.now c.args.stage unit.1) (Within (length c.args.places.now.items)) c.args.queue.now.items c.requires.placed))
 
 pub returns-clause-placed : goal.returns-clause-placed
 returns-clause-placed c =
-    let left : c.keep_waiting.new.queue.items ≡ left_in c.args.places.now.items c.args.stage c.args.queue.now.items = c.keep_waiting.ensures ∙ ap (λ (ps : List Place). left_in ps c.args.stage c.args.queue.now.items) c.deref.ensures.value in
+    let left : c.keep_waiting.new.queue.items ≡ left_in c.args.places.now.items c.args.stage c.args.queue.now.items = c.keep_waiting.ensures.items ∙ ap (λ (ps : List Place). left_in ps c.args.stage c.args.queue.now.items) c.deref.ensures.value in
     let count : c.len-len.result ≡ length c.keep_waiting.new.queue.items = omega (arith, c.len-len.ensures) in
     let over : between c.first_over-from.result c.end_over-to.result c.keep_waiting.new.queue.items ≡ over_of c.args.size c.args.keep (left_in c.args.places.now.items c.args.stage c.args.queue.now.items) =
     ap (λ n. between n c.end_over-to.result c.keep_waiting.new.queue.items) (c.first_over-from.ensures ∙ ap (over_from c.args.size c.args.keep) count)
@@ -29,7 +29,7 @@ returns-clause-placed c =
 
 pub returns-clause-marked : goal.returns-clause-marked
 returns-clause-marked c =
-    let left : c.keep_waiting.new.queue.items ≡ left_in c.args.places.now.items c.args.stage c.args.queue.now.items = c.keep_waiting.ensures ∙ ap (λ (ps : List Place). left_in ps c.args.stage c.args.queue.now.items) c.deref.ensures.value in
+    let left : c.keep_waiting.new.queue.items ≡ left_in c.args.places.now.items c.args.stage c.args.queue.now.items = c.keep_waiting.ensures.items ∙ ap (λ (ps : List Place). left_in ps c.args.stage c.args.queue.now.items) c.deref.ensures.value in
     let count : c.len-len.result ≡ length c.keep_waiting.new.queue.items = omega (arith, c.len-len.ensures) in
     let over : between c.first_over-from.result c.end_over-to.result c.keep_waiting.new.queue.items ≡ over_of c.args.size c.args.keep (left_in c.args.places.now.items c.args.stage c.args.queue.now.items) =
     ap (λ n. between n c.end_over-to.result c.keep_waiting.new.queue.items) (c.first_over-from.ensures ∙ ap (over_from c.args.size c.args.keep) count)

@@ -1,6 +1,7 @@
-use Rattle.std.proofs.Common.{◌≡◌, ℕ, suc, ◌<◌, List, length, map, ◌∙◌, arith, refl, ap, sym, subst, All, drop, take, ◌++◌, [], ◌∷◌, true}
+use Rattle.std.proofs.Common.{◌≡◌, ℕ, suc, ◌<◌, List, length, map, ◌∙◌, arith, refl, ap, sym, subst, All, drop, take, ◌++◌, [], ◌∷◌, true, Some}
 use Rattle.std.specs.Prelude.{option_map, slice_get, filter, not, ◌&&◌}
 use Rattle.std.specs.Vec.{with_item}
+use Rattle.std.proofs.lemmas.Option.{slice_get_read}
 use Rattle.std.proofs.lemmas.List.{length-map}
 use Rattle.pipe_types.specs.declared.room.Sent.{Sent}
 use Rattle.pipe_types.specs.declared.step.Step.TheVariants.{Dispatch}
@@ -13,7 +14,10 @@ use Rattle.core_laws.specs.Columns.{part_of, waiting_parts}
 use Rattle.core_laws.specs.Laws.{IsSentWell}
 use Rattle.core_state.specs.declared.state.Core.{Core}
 use Rattle.core_state.specs.Stands.{Fields}
+use Rattle.core_state.specs.Room.{Roomy}
+use Rattle.core_state.proofs.Rooms.{room_after, room_due}
 use Rattle.core_state.proofs.Steps.{holds_after, unowed_after}
+use Rattle.core_sends.proofs.Roomy.{left_queues}
 use Rattle.core_sends.specs.Batches.{lone_of, IsEndable, not_sent, with_legs, messages_of, subs_at}
 use Rattle.core_sends.specs.Losing.{numbers_in}
 use Rattle.core_sends.specs.Rooms.{planned, served_first}
@@ -274,5 +278,11 @@ returns-clause-stands c =
       closed = c.in_ok-begin_all.ensures.closed;
       all_batches = c.in_ok-begin_all.ensures.len;
     }) in
-    let holds = holds_after core core-new (Dispatch s) x refl c.push_spare.ensures.written c.requires.legal fields in
+    let rows : s.0 < length core.waiting.items = omega (arith, known.within, x.fields.sized.waiting) in
+    let was : slice_get core.waiting.items s.0 ≡ Some c.index_mut.result.now = slice_get_read core.waiting.items (length core.waiting.items) s.0 c.index_mut.result.now refl rows c.index_mut.ensures.value in
+    let room : Roomy core-new t (Dispatch s ∷ before) =
+    room_after core core-new (Dispatch s) x c.requires.legal refl (room_due core (Dispatch s ∷ before) core.journal.spare c.push_spare.new.self.spare x c.requires.spare c.push_spare.ensures.spare)
+    c.leave_batches.ensures.places_capacity c.leave_batches.ensures.settled_capacity refl refl
+    (λ u h. left_queues core s c.index_mut.result.now c.leave_batches.new.queue u x rows was c.leave_batches.ensures.room h) refl in
+    let holds = holds_after core core-new (Dispatch s) x refl c.push_spare.ensures.written c.requires.legal fields room in
     record { holds = holds; unowed = unowed_after core-new t (Dispatch s) before refl c.push_spare.ensures.written refl }

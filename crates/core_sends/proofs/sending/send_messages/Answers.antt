@@ -3,6 +3,7 @@ use Rattle.std.specs.Prelude.{option_map, slice_get}
 use Rattle.std.specs.Option.{option_copied}
 use Rattle.std.specs.Vec.{with_item}
 use Rattle.std.proofs.lemmas.List.{length-map}
+use Rattle.std.proofs.lemmas.Option.{slice_get_read}
 use Rattle.pipe_types.specs.declared.room.Sent.{Sent}
 use Rattle.pipe_types.specs.declared.step.Step.TheVariants.{Dispatch}
 use Rattle.pipe_types.specs.Stages.{spec_of}
@@ -13,7 +14,10 @@ use Rattle.core_laws.specs.Columns.{part_of}
 use Rattle.core_laws.specs.Laws.{IsSentWell}
 use Rattle.core_state.specs.declared.state.Core.{Core}
 use Rattle.core_state.specs.Stands.{Fields}
+use Rattle.core_state.specs.Room.{Roomy}
+use Rattle.core_state.proofs.Rooms.{room_after, room_due}
 use Rattle.core_state.proofs.Steps.{holds_after, unowed_after}
+use Rattle.core_sends.proofs.Roomy.{left_queues}
 use Rattle.core_sends.specs.Losing.{still_waits, numbers_in}
 use Rattle.core_sends.specs.Rooms.{planned}
 use Rattle.core_sends.proofs.AfterSending.{are_moved, sent_fields}
@@ -216,5 +220,11 @@ returns-clause-stands c =
       marks = c.leave.ensures.marked;
       all_settled = c.leave.ensures.settled_len;
     }) in
-    let holds = holds_after core core-new (Dispatch s) x refl c.push_spare.ensures.written c.requires.legal fields in
+    let rows : s.0 < length core.waiting.items = omega (arith, known.within, x.fields.sized.waiting) in
+    let was : slice_get core.waiting.items s.0 ≡ Some c.index_mut.result.now = slice_get_read core.waiting.items (length core.waiting.items) s.0 c.index_mut.result.now refl rows c.index_mut.ensures.value in
+    let room : Roomy core-new t (Dispatch s ∷ before) =
+    room_after core core-new (Dispatch s) x c.requires.legal refl (room_due core (Dispatch s ∷ before) core.journal.spare c.push_spare.new.self.spare x c.requires.spare c.push_spare.ensures.spare)
+    (c.leave.ensures.places_capacity ∙ c.place_all.ensures.capacity) c.leave.ensures.settled_capacity refl refl
+    (λ u h. left_queues core s c.index_mut.result.now c.leave.new.queue u x rows was c.leave.ensures.room h) refl in
+    let holds = holds_after core core-new (Dispatch s) x refl c.push_spare.ensures.written c.requires.legal fields room in
     record { holds = holds; unowed = unowed_after core-new t (Dispatch s) before refl c.push_spare.ensures.written refl }

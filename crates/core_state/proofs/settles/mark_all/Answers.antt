@@ -12,4 +12,5 @@ loop-no-preserved c =
     record {
       marks = λ i. marked_step l.marks.items c.args.numbers.now l.no-index 0 c.args.mark (get_or l.marks.items (n - 1) 0) (omega arith) numbered.0 within (slice_get-get_or l.marks.items (n - 1) 0 within) i ∙ l.invariant.marks i;
       len = search rules;
+      capacity = search rules;
     }

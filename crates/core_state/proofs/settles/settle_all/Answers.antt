@@ -14,4 +14,5 @@ loop-k-preserved c =
     record {
       placed = λ i. settled_step l.places.items (end_at c.args.settled.now) c.args.numbers.now l.k 0 q (get_or l.places.items (n - 1) q) (omega arith) c.requires.apart c.end_of.ensures numbered.0 within (slice_get-get_or l.places.items (n - 1) q within) i ∙ l.invariant.placed i;
       len = search rules;
+      capacity = search rules;
     }

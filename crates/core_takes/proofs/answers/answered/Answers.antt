@@ -11,7 +11,9 @@ use Rattle.core_tables.specs.Tables.{queue_at, list_at}
 use Rattle.core_laws.specs.Columns.{running}
 use Rattle.core_laws.proofs.Lawful.{each_all}
 use Rattle.core_state.specs.declared.state.Core.{Core}
+use Rattle.core_state.proofs.Rooms.{room_after}
 use Rattle.core_state.proofs.Steps.{holds_after}
+use Rattle.core_takes.proofs.Rooming.{done_due, answer_queues}
 use Rattle.core_takes.specs.Replies.{passed_parts, marked, noted, counted_on, HasRow, parted, take_in}
 use Rattle.core_takes.proofs.TakenChunk.{list_read}
 use Rattle.core_takes.proofs.Answered.{known_answer, Answered, answered_fields, counts_fit, rows_there, replies_few}
@@ -100,7 +102,17 @@ queue_passed-requires-clause-within c =
     omega (arith, known.within, x.fields.sized.waiting)
 
 pub queue_passed-requires-clause-room : goal.queue_passed-requires-clause-room
-queue_passed-requires-clause-room c = omega (arith, ap length c.as_slice-4.ensures, c.requires.room)
+queue_passed-requires-clause-room c =
+    let core = c.args.core.now in
+    let s = c.args.stage in
+    let x = c.requires.holds in
+    let known = known_answer core s c.args.replies x c.requires.legal c.requires.calm in
+    λ passes. omega (arith, ap length c.as_slice-4.ensures, known.many, ap length (x.fields.chunks s), x.room.queues s (sym c.has_batchers-passes_on.ensures ∙ passes))
+
+pub push_spare-requires : goal.push_spare-requires
+push_spare-requires c =
+    let x = c.requires.holds in
+    omega (arith, done_due c.args.core.now c.args.stage c.args.replies x c.requires.legal, x.room.steps)
 
 pub count_taken-requires : goal.count_taken-requires
 count_taken-requires c =
@@ -164,4 +176,7 @@ returns-clause-holds c =
     } in
     let fields = answered_fields core s rs b p c.push_spare.new.self c.come_home.new.posts c.count_taken.new.subs c.queue_passed.new.waiting c.clear_chunk.new.chunks c.answer_all.new.places c.mark_all.new.settled c.note_all.new.contents
     x known c.requires.calm c.has_batchers-passes_on.ensures (c.is_parted-by_partition.ensures ∙ ap parted known.spec-is) new in
-    holds_after core core-new (Done s rs) x refl c.push_spare.ensures.written c.requires.legal fields
+    let room = room_after core core-new (Done s rs) x c.requires.legal refl (omega (arith, done_due core s rs x c.requires.legal, x.room.steps, c.push_spare.ensures.spare))
+    c.answer_all.ensures.capacity c.mark_all.ensures.capacity refl c.note_all.ensures.capacity
+    (answer_queues core s c.clear_chunk.new.chunks.items c.queue_passed.new.waiting.items x c.clear_chunk.ensures.cleared c.queue_passed.ensures.rooms) refl in
+    holds_after core core-new (Done s rs) x refl c.push_spare.ensures.written c.requires.legal fields room

@@ -1,14 +1,15 @@
-use Rattle.std.proofs.Common.{◌≡◌, ℕ, suc, ◌≤◌, ◌∷◌, length, take, ◌∙◌, arith, refl, ap, sym, subst, All}
+use Rattle.std.proofs.Common.{◌≡◌, ℕ, suc, ◌≤◌, ◌∷◌, ◌++◌, length, take, ◌∙◌, arith, refl, ap, sym, subst, All}
 use Rattle.std.specs.Prelude.{option_map, slice_get, if◌then◌else◌, ◌==◌}
 use Rattle.std.proofs.lemmas.List.{length-take}
 use Rattle.pipe_types.specs.declared.step.Step.TheVariants.{Take}
 use Rattle.pipe_model.specs.Flow.{inbox, units_on, taken, first_in}
 use Rattle.core_tables.specs.Rows.{taking, post_at}
-use Rattle.core_tables.specs.Tables.{list_at}
+use Rattle.core_tables.specs.Tables.{list_at, queue_at}
 use Rattle.core_state.specs.declared.state.Core.{Core}
 use Rattle.core_state.specs.Stands.{Fields}
 use Rattle.core_state.proofs.Steps.{holds_after}
 use Rattle.core_takes.specs.Takes.{take_of, out_of}
+use Rattle.core_takes.proofs.Rooming.{if_other, take_room}
 use Rattle.core_takes.proofs.Taking.{taken_fields}
 use Rattle.core_takes.proofs.TakenChunk.{known_take, chunk_taken, chunk_is, list_read, size_of}
 use Rattle.core_takes.proofs.starts.start.Goals as goal
@@ -112,4 +113,10 @@ returns-clause-holds c =
     (λ i. c.put_job_out.ensures.posts i ∙ ap (λ rows. if post_at s.0 0 == i then out_of (slice_get rows s.0) else slice_get core.posts.items i) c.deref-3.ensures.value) c.put_job_out.ensures.len in
     let fields : Fields core-new core.topology (Take s u (size_of core s u c.args.most) ∷ core.journal.steps) =
     taken_fields core core.topology core.journal.steps s u (size_of core s u c.args.most) c.push_spare.new.self c.note_take.new.rows c.put_job_out.new.posts c.start_chunk.new.inboxes c.start_chunk.new.chunks c.run_all.new.places x.fields moved in
-    holds_after core core-new (take_of core.topology core.journal.steps s u c.args.most) x refl (c.push_spare.ensures.written ∙ ap (λ m. Take s u m ∷ core.journal.steps) size) c.requires.legal fields
+    let few : length (list_at c.start_chunk.new.chunks.items s) ≤ c.args.most =
+    omega (arith, ap length read, ap length chunk, length-take (size_of core s u c.args.most) (units_on u (inbox core.topology core.journal.steps s))) in
+    let room = take_room core core-new s u (size_of core s u c.args.most) c.args.most x c.requires.processor c.requires.legal c.requires.spare c.push_spare.ensures.spare c.run_all.ensures.capacity
+    refl refl refl refl refl
+    (λ t other. c.start_chunk.ensures.chunks t ∙ if_other (s.0 == t.0) (list_at core.chunks.items t ++ take c.args.most (units_on u (queue_at core.inboxes.items t))) (list_at core.chunks.items t) other)
+    few c.requires.queue in
+    holds_after core core-new (take_of core.topology core.journal.steps s u c.args.most) x refl (c.push_spare.ensures.written ∙ ap (λ m. Take s u m ∷ core.journal.steps) size) c.requires.legal fields room

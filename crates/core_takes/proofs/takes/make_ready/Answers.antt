@@ -1,9 +1,8 @@
-use Rattle.std.proofs.Common.{refl}
-use Rattle.core_takes.proofs.TakenStep.{roomy_stands}
+use Rattle.core_state.proofs.Steps.{still_stands}
 use Rattle.core_takes.proofs.takes.make_ready.Goals as goal
 
 pub returns-clause-stands : goal.returns-clause-stands
-returns-clause-stands c = roomy_stands c.args.core.now c.make_chunk_room.new.chunks c.reserve.new.self c.requires.stands c.make_chunk_room.ensures.same c.make_chunk_room.ensures.len c.reserve.ensures.same_steps
+returns-clause-stands c = still_stands c.make_queue_ready.new.core c.reserve.new.self c.make_queue_ready.ensures.stands c.reserve.ensures.same_steps c.reserve.ensures.spare
 
-pub returns-in_err-make_chunk_room-clause-stands : goal.returns-in_err-make_chunk_room-clause-stands
-returns-in_err-make_chunk_room-clause-stands c = roomy_stands c.args.core.now c.make_chunk_room.new.chunks c.args.core.now.journal c.requires.stands c.make_chunk_room.ensures.same c.make_chunk_room.ensures.len refl
+pub returns-clause-spare : goal.returns-clause-spare
+returns-clause-spare c = c.reserve.ensures.room

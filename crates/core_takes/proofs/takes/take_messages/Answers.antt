@@ -1,4 +1,4 @@
-use Rattle.std.proofs.Common.{◌≡◌, ℕ, ◌≤◌, ◌∷◌, take, ◌∙◌, arith, ap, sym, subst, All}
+use Rattle.std.proofs.Common.{◌≡◌, ℕ, ◌≤◌, ◌∷◌, take, ◌∙◌, ap, sym, subst, All}
 use Rattle.std.proofs.lemmas.List.{take_min}
 use Rattle.pipe_types.specs.declared.topology.Topology.{Topology}
 use Rattle.pipe_model.specs.History.{History}
@@ -33,8 +33,7 @@ make_ready-requires-clause-within c =
     let most = c.most_units-most.result in
     let x = c.requires.stands.holds in
     let first : u ≡ sub_first (inbox core.topology core.journal.steps s) = c.first_sub-sub.ensures ∙ (ap (λ qs. sub_first (queue_at qs s)) c.deref.ensures.value ∙ ap sub_first (x.fields.inboxes s)) in
-    let known = known_take core s u most x c.requires.processor (picked core s u most c.requires.legal first c.most_units-most.ensures).allowed in
-    omega (arith, known.within, x.fields.sized.chunks)
+    (known_take core s u most x c.requires.processor (picked core s u most c.requires.legal first c.most_units-most.ensures).allowed).within
 
 pub start-requires-clause-legal : goal.start-requires-clause-legal
 start-requires-clause-legal c =
