@@ -7,7 +7,8 @@ use Rattle.pipe_edges.specs.declared.source.ByteSource.{Ghosts as SourceOf}
 use Rattle.pipe_edges.specs.LineSource.{line_source, waiting, line_end_of}
 use Rattle.pipe_edges.specs.Paces.{Pace}
 use Rattle.pipe_edges.specs.Pacing.{FetchIsPacedBy, FetchCounts as GivesBy, FetchIsHeldUp as IsHeldUpBy}
-use Rattle.pipe_edges.specs.Fetch.{answer_of, records_in, records_of, FetchHasCause, Remembers}
+use Rattle.pipe_edges.specs.Needed.{ReadsAsNeeded}
+use Rattle.pipe_edges.specs.Fetch.{answer_of, records_in, records_of, text_of, FetchHasCause, Remembers}
 use Rattle.pipe_edges.specs.declared.lines.LineSource.{LineSource}
 use Rattle.pipe_types.specs.Lines.{max_bytes}
 use Rattle.pipe_edges.specs.Texts.{IsLine}
@@ -146,12 +147,14 @@ ok_of x = Ok x
 -- a fetch that answered
 pub fetched_on : {B E : Type 0} (source : SourceOf B) (old new : LineSource B) (max : ℕ) (x : Fetched) (came : _) → came ≡ came_of x
     → Fetches source old new max (ok_of {E = E} x)
+    → ReadsAsNeeded (waiting old) (waiting new) (text_of (line_end_of new) (records_of x))
     → FetchesOn max came (line_seen source old) (line_seen source new)
-fetched_on {E = E} source old new max x came is f = rw is (record {
+fetched_on {E = E} source old new max x came is f needed = rw is (record {
   reads = by_records x (reads_on source old new max (Ok x) f);
   end_stays = stays (λ e. ◌≡◌ {A = Result Fetched E} (Ok x) (Ok (answer_of e))) old new (line_end_of old) refl f.again;
   answer = answered E max _ _ _ _ (waiting new) (line_end_of old) (line_end_of new) x f.cause (known_answer E old new (line_end_of old) x f.again) f.remembers f.each_is_a_line;
   paced = paced (source.paced (line_source old)).pace f.paced;
+  needed = needs x needed;
 })
   where
     counts : (x : Fetched) → GivesBy (source.paced (line_source old)).given (source.paced (line_source new)) (waiting new) x → FetchGives (source.paced (line_source old)).given (line_seen source new) (came_of x)
@@ -173,6 +176,14 @@ fetched_on {E = E} source old new max x came is f = rw is (record {
         → FetchIsPaced p (came_of x) (line_seen source old) (line_seen source new)
     paced None k = k
     paced (Some pace) k = record { kept = k.kept; counted = λ step. counts x (k.counted step); held_up = held_up pace x k.held_up }
+
+    needs : (x : Fetched) → ReadsAsNeeded (waiting old) (waiting new) (text_of (line_end_of new) (records_of x))
+        → ReadsAsNeeded (waiting old) (waiting new) (text_of (line_end_of new) (records_in_outcome (came_of x)))
+    needs (Records rs) k = k
+    needs NotYet k = k
+    needs End k = k
+    needs Fault k = k
+    needs TooLong k = k
 
     by_records : (x : Fetched) → ReadsOn (records_of x) (line_seen source old) (line_seen source new)
         → ReadsOn (records_in_outcome (came_of x)) (line_seen source old) (line_seen source new)

@@ -1,6 +1,8 @@
 //! Fetches.
 
-ghost use Rattle.std.specs.Prelude.{◌≡◌, ◌<◌, OnErr, IfOk};
+ghost use Rattle.std.specs.Prelude.{◌≡◌, ◌<◌, [], OnErr, IfOk};
+ghost use Rattle.pipe_edges.specs.LineSource.{waiting};
+ghost use Rattle.pipe_edges.specs.Needed.{ReadsAsNeeded};
 ghost use Rattle.stage_bodies.specs.Seen.{line_seen};
 ghost use Rattle.stage_bodies.specs.Jobs.{Fetches};
 ghost use Rattle.body_jobs.specs.Fetched.{came_of, IsUnread};
@@ -18,6 +20,7 @@ pub fn fetch<S: ByteSource>(source: &mut LineSource<S>, most: u32) -> Result<Out
         (line_seen S.ByteSource source.old) (line_seen S.ByteSource source.new)) }
     ensures cut_off { OnErr result (IsUnread
         (line_seen S.ByteSource source.old) (line_seen S.ByteSource source.new)) }
+    ensures needed { OnErr result (ReadsAsNeeded (waiting source.old) (waiting source.new) []) }
 {
     match source.fetch(most) {
         Ok(fetched) => Ok(outcome_of(fetched)),

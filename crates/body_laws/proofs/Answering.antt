@@ -4,7 +4,6 @@ use Rattle.std.specs.Prelude.{not, ◌≢◌, ◌&&◌, nat_lt, IfSome, count_by
 use Rattle.std.specs.List.{list_all}
 use Rattle.std.proofs.lemmas.Bool.{eq-eqb, ltb-true}
 use Rattle.std.proofs.lemmas.List.{append-nil, append_assoc}
-use Rattle.std.proofs.lemmas.List.Elements.{All-cons}
 use Rattle.pipe_types.specs.declared.numbers.StageNo.{StageNo}
 use Rattle.pipe_types.specs.declared.numbers.Post.{Post}
 use Rattle.pipe_types.specs.declared.message.Message.{Message}
@@ -25,8 +24,7 @@ use Rattle.pipe_model.specs.Lives.{is_live}
 use Rattle.pipe_model.specs.Posts.{is_out}
 use Rattle.pipe_model.specs.Outside.{fed, source_end, sink_text, text_taken}
 use Rattle.pipe_model.specs.Work.{count, batch_of, own_text}
-use Rattle.pipe_model.specs.Legal.{fetch_out, has_role, is_supervisor_role}
-use Rattle.pipe_edges.specs.Cut.{CutsAll}
+use Rattle.pipe_model.specs.Legal.{has_role, is_supervisor_role}
 use Rattle.pipe_edges.specs.declared.reading.LineEnd.{LineEnd}
 use Rattle.pipe_laws.proofs.Tests.{clash, same_stage-self}
 use Rattle.pipe_laws.specs.Read.{quiets}
@@ -36,8 +34,8 @@ use Rattle.stage_bodies.specs.Seen.{SourceSeen, LineSeen, SinkSeen, BoxSeen}
 use Rattle.stage_bodies.specs.Reads.{AreReadFrom}
 use Rattle.stage_bodies.specs.Jobs.{KeepsBox, ReadsOn, IsFetched, Fetches, Replies, Ends, Writes, text_by, is_bad_end, reset}
 use Rattle.stage_bodies.specs.declared.job.Outcome.TheVariants as came
-use Rattle.body_laws.specs.Counts.{short_writes, calls_of, bad_of, brought, one_more}
-use Rattle.body_laws.specs.Keeps.{IsKnownEnd, AreFirstHeld, KeepsSource, KeepsSink, IsCounted, KeepsCallback}
+use Rattle.body_laws.specs.Counts.{short_writes, calls_of, bad_of, one_more}
+use Rattle.body_laws.specs.Keeps.{IsKnownEnd, KeepsSource, KeepsSink, IsCounted, KeepsCallback}
 use Rattle.body_laws.specs.Ready.{IsArmed}
 use Rattle.body_laws.proofs.Posts.{same_post-self}
 use Rattle.body_laws.proofs.Steps.{is_present}
@@ -74,44 +72,39 @@ source_reads before s records a b c k on stays = record {
   read = subst (λ r. AreReadFrom a.source c (r ++ records)) (append-nil (fed before s)) (on a.source (fed before s ++ []) k.read);
   known = end_known (source_end before s) b.end c.end stays k.known;
   quiet = rise_stays (quiets before s) a.source.waits b.source.waits c.source.waits k.quiet (waits_stay a.source (fed before s ++ []) records b c k.read on);
-  first = k.first;
 }
 
 -- a later journal has them
 pub source_accepts : (before after : History) (s : StageNo) (most : ℕ) (records : List (List ℕ)) (a b c : LineSeen) → fed after s ≡ fed before s ++ records → source_end after s ≡ source_end before s → quiets after s ≡ quiets before s
-    → brought after s ≡ record { asked = fetch_out before s; earlier = fed before s; records = records } ∷ brought before s
-    → most ≡ fetch_out before s → KeepsSource before s [] a b → Fetches most (came.Records records) b c → KeepsSource after s [] a c
-source_accepts before after s most records a b c same_fed same_end same_quiets same_brought is k fetched =
+    → KeepsSource before s [] a b → Fetches most (came.Records records) b c → KeepsSource after s [] a c
+source_accepts before after s most records a b c same_fed same_end same_quiets k fetched =
     let on = source_reads before s records a b c k fetched.reads fetched.end_stays in
     record {
       read = rw same_fed (subst (λ r. AreReadFrom a.source c r) (sym (append-nil (fed before s ++ records))) on.read);
       known = rw same_end on.known;
       quiet = rw same_quiets on.quiet;
-      first = rw same_brought (All-cons (AreFirstHeld a.source) _ _ (record { source = c; read = on.read; all = subst (λ n. CutsAll n records c.waiting) is fetched.answer.2 }) k.first);
     }
 
 -- it has one more quiet
-pub source_rests : (before after : History) (s : StageNo) (most : ℕ) (a b c : LineSeen) → fed after s ≡ fed before s → source_end after s ≡ source_end before s → quiets after s ≡ quiets before s + 1 → brought after s ≡ brought before s
+pub source_rests : (before after : History) (s : StageNo) (most : ℕ) (a b c : LineSeen) → fed after s ≡ fed before s → source_end after s ≡ source_end before s → quiets after s ≡ quiets before s + 1
     → KeepsSource before s [] a b → Fetches most came.NotYet b c → KeepsSource after s [] a c
-source_rests before after s most a b c same_fed same_end same_quiets same_brought k fetched =
+source_rests before after s most a b c same_fed same_end same_quiets k fetched =
     let on = source_reads before s [] a b c k fetched.reads fetched.end_stays in
     record {
       read = rw same_fed on.read;
       known = rw same_end on.known;
       quiet = rw same_quiets (rise_one (quiets before s) a.source.waits b.source.waits c.source.waits k.quiet fetched.answer.0 (waits_stay a.source (fed before s ++ []) [] b c k.read fetched.reads));
-      first = rw same_brought k.first;
     }
 
 -- it has the end
-pub source_ends : (before after : History) (s : StageNo) (most : ℕ) (h : SourceHow) (a b c : LineSeen) → fed after s ≡ fed before s → source_end after s ≡ Some h → quiets after s ≡ quiets before s → brought after s ≡ brought before s
+pub source_ends : (before after : History) (s : StageNo) (most : ℕ) (h : SourceHow) (a b c : LineSeen) → fed after s ≡ fed before s → source_end after s ≡ Some h → quiets after s ≡ quiets before s
     → KeepsSource before s [] a b → Fetches most (came.Ended h) b c → KeepsSource after s [] a c
-source_ends before after s most h a b c same_fed same_end same_quiets same_brought k fetched =
+source_ends before after s most h a b c same_fed same_end same_quiets k fetched =
     let on = source_reads before s [] a b c k fetched.reads fetched.end_stays in
     record {
       read = rw same_fed on.read;
       known = rw same_end (by_how h fetched.answer);
       quiet = rw same_quiets on.quiet;
-      first = rw same_brought k.first;
     }
   where
     by_how : (h : SourceHow) → IsFetched most b.source.waits c.source.waits c.waiting c.end (came.Ended h) → IsKnownEnd (Some h) c.end

@@ -31,7 +31,7 @@ use Rattle.stage_bodies.specs.declared.job.Work.{Work}
 use Rattle.stage_bodies.specs.declared.job.Work.TheVariants as work
 use Rattle.stage_bodies.specs.declared.job.Outcome.{Outcome as Came}
 use Rattle.stage_bodies.specs.declared.job.Outcome.TheVariants as came
-use Rattle.body_laws.specs.Counts.{brought, short_writes, calls_of, bad_of}
+use Rattle.body_laws.specs.Counts.{short_writes, calls_of, bad_of}
 use Rattle.body_laws.specs.Keeps.{has_post, is_silent, KeepsSource, KeepsSink, KeepsCallback, KeepsBody, KeepsPartly, KeepsPost, Keeps}
 use Rattle.body_laws.specs.Ready.{There, IsArmed, IsBodyFor, IsBodyAt, Ready}
 use Rattle.body_laws.proofs.Posts.{same_post-true, some_role, put_has_post}
@@ -197,8 +197,8 @@ batch_armed topology before p body h fit =
 
 -- ---- what the journal says as before, after another step
 
-pub source_as : (h h' : History) (s : StageNo) (a b : LineSeen) → fed h' s ≡ fed h s → source_end h' s ≡ source_end h s → quiets h' s ≡ quiets h s → brought h' s ≡ brought h s → KeepsSource h s [] a b → KeepsSource h' s [] a b
-source_as h h' s a b e f g i k = record { read = rw e k.read; known = rw f k.known; quiet = rw g k.quiet; first = rw i k.first }
+pub source_as : (h h' : History) (s : StageNo) (a b : LineSeen) → fed h' s ≡ fed h s → source_end h' s ≡ source_end h s → quiets h' s ≡ quiets h s → KeepsSource h s [] a b → KeepsSource h' s [] a b
+source_as h h' s a b e f g k = record { read = rw e k.read; known = rw f k.known; quiet = rw g k.quiet }
 
 pub sink_as : (topology : Topology) (h h' : History) (s : StageNo) (a b : SinkSeen) → sink_text topology h' s ≡ sink_text topology h s → short_writes topology h' s ≡ short_writes topology h s → KeepsSink topology h s a b → KeepsSink topology h' s a b
 sink_as topology h h' s a b e f k = record { told = k.told; held = λ t. rw e (k.held t); faults_stay = k.faults_stay; short = rw f k.short }
@@ -224,17 +224,17 @@ no_fetch most o None y f h k = let x : false ≡ true = h in cc
 fetched_body : (topology : Topology) (before : History) (p : Post) (most : ℕ) (o : Came) (a old new : BodySeen) → is_live topology before p.stage ≡ true → most ≡ fetch_out before p.stage → IsSome old.source → IsDone (work.Fetch most) o old new → KeepsBody topology before p a old
     → KeepsBody topology (step_of p o ∷ before) p a new
 fetched_body topology before p most (came.Records records) a old new live is there done k = record {
-  source = both_then (λ x y z h f. source_accepts before (Accept p.stage records ∷ before) p.stage most records x y z (rw (same_stage-self p.stage) refl) refl refl (rw (same_stage-self p.stage) refl) is h f) a.source old.source new.source k.source done.0;
+  source = both_then (λ x y z h f. source_accepts before (Accept p.stage records ∷ before) p.stage most records x y z (rw (same_stage-self p.stage) refl) refl refl h f) a.source old.source new.source k.source done.0;
   sink = subst (λ x. Both (KeepsSink topology (Accept p.stage records ∷ before) p.stage) a.sink x) (sym done.1) (both_map (λ x y h. sink_as topology before (Accept p.stage records ∷ before) p.stage x y refl refl h) a.sink old.sink k.sink);
   callback = subst (λ x. Both (KeepsCallback topology (Accept p.stage records ∷ before) p) a.callback x) (sym done.2) (both_map (λ x y h. callback_as topology before (Accept p.stage records ∷ before) p x y refl (λ now. is_present topology before p.stage live) refl refl h) a.callback old.callback k.callback);
 }
 fetched_body topology before p most came.NotYet a old new live is there done k = record {
-  source = both_then (λ x y z h f. source_rests before (Quiet p.stage ∷ before) p.stage most x y z refl refl (rw (same_stage-self p.stage) refl) refl h f) a.source old.source new.source k.source done.0;
+  source = both_then (λ x y z h f. source_rests before (Quiet p.stage ∷ before) p.stage most x y z refl refl (rw (same_stage-self p.stage) refl) h f) a.source old.source new.source k.source done.0;
   sink = subst (λ x. Both (KeepsSink topology (Quiet p.stage ∷ before) p.stage) a.sink x) (sym done.1) (both_map (λ x y h. sink_as topology before (Quiet p.stage ∷ before) p.stage x y refl refl h) a.sink old.sink k.sink);
   callback = subst (λ x. Both (KeepsCallback topology (Quiet p.stage ∷ before) p) a.callback x) (sym done.2) (both_map (λ x y h. callback_as topology before (Quiet p.stage ∷ before) p x y refl (λ now. is_present topology before p.stage live) refl refl h) a.callback old.callback k.callback);
 }
 fetched_body topology before p most (came.Ended h) a old new live is there done k = record {
-  source = both_then (λ x y z k f. source_ends before (SourceEnd p.stage h ∷ before) p.stage most h x y z refl (rw (same_stage-self p.stage) refl) refl refl k f) a.source old.source new.source k.source done.0;
+  source = both_then (λ x y z k f. source_ends before (SourceEnd p.stage h ∷ before) p.stage most h x y z refl (rw (same_stage-self p.stage) refl) refl k f) a.source old.source new.source k.source done.0;
   sink = subst (λ x. Both (KeepsSink topology (SourceEnd p.stage h ∷ before) p.stage) a.sink x) (sym done.1) (both_map (λ x y k. sink_as topology before (SourceEnd p.stage h ∷ before) p.stage x y refl refl k) a.sink old.sink k.sink);
   callback = subst (λ x. Both (KeepsCallback topology (SourceEnd p.stage h ∷ before) p) a.callback x) (sym done.2) (both_map (λ x y k. callback_as topology before (SourceEnd p.stage h ∷ before) p x y refl (λ now. is_present topology before p.stage live) refl refl k) a.callback old.callback k.callback);
 }
@@ -245,7 +245,7 @@ fetched_body topology before p most (came.Reply reply) a old new live is there d
 chunk_body : (topology : Topology) (before : History) (p : Post) (messages : List Message) (replies : List Reply) (a old new : BodySeen) → p.slot ≡ 0 → is_live topology before p.stage ≡ true → IsDone (work.Chunk messages) (came.Replies replies) old new → KeepsBody topology before p a old
     → KeepsBody topology (Done p.stage replies ∷ before) p a new
 chunk_body topology before p messages replies a old new first live done k = record {
-  source = subst (λ x. Both (KeepsSource (Done p.stage replies ∷ before) p.stage []) a.source x) (sym done.1) (both_map (λ x y h. source_as before (Done p.stage replies ∷ before) p.stage x y refl refl refl refl h) a.source old.source k.source);
+  source = subst (λ x. Both (KeepsSource (Done p.stage replies ∷ before) p.stage []) a.source x) (sym done.1) (both_map (λ x y h. source_as before (Done p.stage replies ∷ before) p.stage x y refl refl refl h) a.source old.source k.source);
   sink = subst (λ x. Both (KeepsSink topology (Done p.stage replies ∷ before) p.stage) a.sink x) (sym done.2) (both_map (λ x y h. sink_as topology before (Done p.stage replies ∷ before) p.stage x y refl refl h) a.sink old.sink k.sink);
   callback = both_then (λ x y z h f. callback_done topology before p messages replies x y z first live h f) a.callback old.callback new.callback k.callback done.0;
 }
@@ -253,7 +253,7 @@ chunk_body topology before p messages replies a old new first live done k = reco
 child_body : (topology : Topology) (before : History) (p : Post) (message : Message) (reply : Reply) (a old new : BodySeen) → has_role topology p.stage is_supervisor_role ≡ true → IsDone (work.Child message) (came.Reply reply) old new → KeepsBody topology before p a old
     → KeepsBody topology (ChildEnd p.stage p.slot reply ∷ before) p a new
 child_body topology before p message reply a old new child done k = record {
-  source = subst (λ x. Both (KeepsSource (ChildEnd p.stage p.slot reply ∷ before) p.stage []) a.source x) (sym done.1) (both_map (λ x y h. source_as before (ChildEnd p.stage p.slot reply ∷ before) p.stage x y refl refl refl refl h) a.source old.source k.source);
+  source = subst (λ x. Both (KeepsSource (ChildEnd p.stage p.slot reply ∷ before) p.stage []) a.source x) (sym done.1) (both_map (λ x y h. source_as before (ChildEnd p.stage p.slot reply ∷ before) p.stage x y refl refl refl h) a.source old.source k.source);
   sink = subst (λ x. Both (KeepsSink topology (ChildEnd p.stage p.slot reply ∷ before) p.stage) a.sink x) (sym done.2) (both_map (λ x y h. sink_as topology before (ChildEnd p.stage p.slot reply ∷ before) p.stage x y refl refl h) a.sink old.sink k.sink);
   callback = both_then (λ x y z h f. callback_child topology before p message reply x y z child h f) a.callback old.callback new.callback k.callback done.0;
 }
@@ -281,7 +281,7 @@ answered_body topology before p (work.Chunk messages) o a old new live is fit do
 answered_body topology before p (work.Batch batch) (came.Wrote bytes end) a old new live is fit done k =
     let f = batch_armed topology before p old is.0 fit in
     record {
-      source = subst (λ x. Both (KeepsSource (Wrote p.stage bytes end ∷ before) p.stage []) a.source x) (sym done.1) (both_map (λ x y h. source_as before (Wrote p.stage bytes end ∷ before) p.stage x y refl refl refl refl h) a.source old.source k.source);
+      source = subst (λ x. Both (KeepsSource (Wrote p.stage bytes end ∷ before) p.stage []) a.source x) (sym done.1) (both_map (λ x y h. source_as before (Wrote p.stage bytes end ∷ before) p.stage x y refl refl refl h) a.source old.source k.source);
       sink = batch_sink topology before p.stage f.spec batch.messages bytes end old new a.sink old.callback new.callback f.is (writers_alone topology p.stage is.0) live is.1.messages f.box done.0 k.sink;
       callback = batch_callback topology before p f.spec batch.messages bytes end old new a.callback old.callback new.callback is.2 f.is is.1.messages live f.box done.0 k.callback;
     }

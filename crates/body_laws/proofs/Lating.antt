@@ -90,17 +90,17 @@ box_same a = record { kind = refl; spec = refl; told = refl; calls = omega arith
 fetched_late : (topology : Topology) (before : History) (p : Post) (most i : ℕ) (o : Came) (a old new : BodySeen) → IsWorkOf topology before p (work.Fetch most) → is_legal topology (late_step p i o ∷ before) ≡ true → IsSome old.source → IsDone (work.Fetch most) o old new → KeepsBody topology before p a old
     → KeepsBody topology (late_step p i o ∷ before) p a new
 fetched_late topology before p most i (came.Records records) a old new is legal there done k = record {
-  source = both_then (λ x y z h f. source_accepts before (late_step p i (came.Records records) ∷ before) p.stage most records x y z (rw (same_stage-self p.stage) refl) refl refl (rw (same_stage-self p.stage) refl) is.1 h f) a.source old.source new.source k.source done.0;
+  source = both_then (λ x y z h f. source_accepts before (late_step p i (came.Records records) ∷ before) p.stage most records x y z (rw (same_stage-self p.stage) refl) refl refl h f) a.source old.source new.source k.source done.0;
   sink = subst (λ x. Both (KeepsSink topology (late_step p i (came.Records records) ∷ before) p.stage) a.sink x) (sym done.1) (both_map (λ x y h. sink_as topology before (late_step p i (came.Records records) ∷ before) p.stage x y refl refl h) a.sink old.sink k.sink);
   callback = subst (λ x. Both (KeepsCallback topology (late_step p i (came.Records records) ∷ before) p) a.callback x) (sym done.2) (both_map (λ x y h. callback_late topology before p i (late.Records records) x y y (uncounted topology before p (work.Fetch most) i (late.Records records) y is legal) h (box_same y)) a.callback old.callback k.callback);
 }
 fetched_late topology before p most i came.NotYet a old new is legal there done k = record {
-  source = both_then (λ x y z h f. source_rests before (late_step p i came.NotYet ∷ before) p.stage most x y z refl refl (rw (same_stage-self p.stage) refl) refl h f) a.source old.source new.source k.source done.0;
+  source = both_then (λ x y z h f. source_rests before (late_step p i came.NotYet ∷ before) p.stage most x y z refl refl (rw (same_stage-self p.stage) refl) h f) a.source old.source new.source k.source done.0;
   sink = subst (λ x. Both (KeepsSink topology (late_step p i came.NotYet ∷ before) p.stage) a.sink x) (sym done.1) (both_map (λ x y h. sink_as topology before (late_step p i came.NotYet ∷ before) p.stage x y refl refl h) a.sink old.sink k.sink);
   callback = subst (λ x. Both (KeepsCallback topology (late_step p i came.NotYet ∷ before) p) a.callback x) (sym done.2) (both_map (λ x y h. callback_late topology before p i late.Quiet x y y (uncounted topology before p (work.Fetch most) i late.Quiet y is legal) h (box_same y)) a.callback old.callback k.callback);
 }
 fetched_late topology before p most i (came.Ended h) a old new is legal there done k = record {
-  source = both_then (λ x y z k f. source_ends before (late_step p i (came.Ended h) ∷ before) p.stage most h x y z refl (rw (same_stage-self p.stage) refl) refl refl k f) a.source old.source new.source k.source done.0;
+  source = both_then (λ x y z k f. source_ends before (late_step p i (came.Ended h) ∷ before) p.stage most h x y z refl (rw (same_stage-self p.stage) refl) refl k f) a.source old.source new.source k.source done.0;
   sink = subst (λ x. Both (KeepsSink topology (late_step p i (came.Ended h) ∷ before) p.stage) a.sink x) (sym done.1) (both_map (λ x y k. sink_as topology before (late_step p i (came.Ended h) ∷ before) p.stage x y refl refl k) a.sink old.sink k.sink);
   callback = subst (λ x. Both (KeepsCallback topology (late_step p i (came.Ended h) ∷ before) p) a.callback x) (sym done.2) (both_map (λ x y k. callback_late topology before p i (late.Source h) x y y (uncounted topology before p (work.Fetch most) i (late.Source h) y is legal) k (box_same y)) a.callback old.callback k.callback);
 }
@@ -121,7 +121,7 @@ late_body : (topology : Topology) (before : History) (p : Post) (w : Work) (i : 
     → KeepsBody topology (late_step p i o ∷ before) p a new
 late_body topology before p (work.Fetch most) i o a old new legal out is fit done k = fetched_late topology before p most i o a old new is legal (source_there topology before p old is.0 fit) done k
 late_body topology before p (work.Chunk messages) i (came.Replies replies) a old new legal out is fit done k = record {
-  source = subst (λ x. Both (KeepsSource (late_step p i (came.Replies replies) ∷ before) p.stage []) a.source x) (sym done.1) (both_map (λ x y h. source_as before (late_step p i (came.Replies replies) ∷ before) p.stage x y refl refl refl refl h) a.source old.source k.source);
+  source = subst (λ x. Both (KeepsSource (late_step p i (came.Replies replies) ∷ before) p.stage []) a.source x) (sym done.1) (both_map (λ x y h. source_as before (late_step p i (came.Replies replies) ∷ before) p.stage x y refl refl refl h) a.source old.source k.source);
   sink = subst (λ x. Both (KeepsSink topology (late_step p i (came.Replies replies) ∷ before) p.stage) a.sink x) (sym done.2) (both_map (λ x y h. sink_as topology before (late_step p i (came.Replies replies) ∷ before) p.stage x y refl refl h) a.sink old.sink k.sink);
   callback = both_then (λ x y z h f. callback_late topology before p i late.Nothing x y z (uncounted topology before p (work.Chunk messages) i late.Nothing z is legal) h f.kept) a.callback old.callback new.callback k.callback done.0;
 }
@@ -129,13 +129,13 @@ late_body topology before p (work.Chunk messages) i o a old new legal out is fit
 late_body topology before p (work.Batch batch) i (came.Wrote bytes end) a old new legal out is fit done k =
     let f = batch_armed topology before p old is.0 fit in
     record {
-      source = subst (λ x. Both (KeepsSource (late_step p i (came.Wrote bytes end) ∷ before) p.stage []) a.source x) (sym done.1) (both_map (λ x y h. source_as before (late_step p i (came.Wrote bytes end) ∷ before) p.stage x y refl refl refl refl h) a.source old.source k.source);
+      source = subst (λ x. Both (KeepsSource (late_step p i (came.Wrote bytes end) ∷ before) p.stage []) a.source x) (sym done.1) (both_map (λ x y h. source_as before (late_step p i (came.Wrote bytes end) ∷ before) p.stage x y refl refl refl h) a.source old.source k.source);
       sink = sink_late topology before p i f.spec batch.messages bytes end old new a.sink old.callback new.callback f.is (writers_alone topology p.stage is.0) (subst (λ n. is_out before (post p.stage n) ≡ true) is.2 out) is.1.messages f.box done.0 k.sink;
       callback = both_then (λ x y z h g. callback_late topology before p i (late.Wrote bytes end) x y z (uncounted topology before p (work.Batch batch) i (late.Wrote bytes end) z is legal) h g.0.kept) a.callback old.callback new.callback k.callback done.0;
     }
 late_body topology before p (work.Batch batch) i o a old new legal out is fit done k = absurd done
 late_body topology before p (work.Child message) i (came.Reply reply) a old new legal out is fit done k = record {
-  source = subst (λ x. Both (KeepsSource (late_step p i (came.Reply reply) ∷ before) p.stage []) a.source x) (sym done.1) (both_map (λ x y h. source_as before (late_step p i (came.Reply reply) ∷ before) p.stage x y refl refl refl refl h) a.source old.source k.source);
+  source = subst (λ x. Both (KeepsSource (late_step p i (came.Reply reply) ∷ before) p.stage []) a.source x) (sym done.1) (both_map (λ x y h. source_as before (late_step p i (came.Reply reply) ∷ before) p.stage x y refl refl refl h) a.source old.source k.source);
   sink = subst (λ x. Both (KeepsSink topology (late_step p i (came.Reply reply) ∷ before) p.stage) a.sink x) (sym done.2) (both_map (λ x y h. sink_as topology before (late_step p i (came.Reply reply) ∷ before) p.stage x y refl refl h) a.sink old.sink k.sink);
   callback = both_then (λ x y z h f. callback_late topology before p i late.Nothing x y z (uncounted topology before p (work.Child message) i late.Nothing z is legal) h (box_reset y z f.kept)) a.callback old.callback new.callback k.callback done.0;
 }

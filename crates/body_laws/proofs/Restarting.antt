@@ -51,7 +51,7 @@ callback_restarts topology before p a b c k r = record {
 }
 
 source_restarts : (before : History) (s : StageNo) (a b : Option LineSeen) → Both (KeepsSource before s []) a b → Both (KeepsSource (Restart s ∷ before) s []) a b
-source_restarts before s a b k = both_map (λ x y h. source_as before (Restart s ∷ before) s x y refl refl refl refl h) a b k
+source_restarts before s a b k = both_map (λ x y h. source_as before (Restart s ∷ before) s x y refl refl refl h) a b k
 
 sink_restarts : (topology : Topology) (before : History) (s : StageNo) (a b : Option SinkSeen) → Both (KeepsSink topology before s) a b → Both (KeepsSink topology (Restart s ∷ before) s) a b
 sink_restarts topology before s a b k = both_map (λ x y h. sink_as topology before (Restart s ∷ before) s x y refl refl h) a b k

@@ -13,7 +13,7 @@ use Rattle.pipe_edges.specs.declared.reading.LineEnd.TheVariants as end
 use Rattle.stage_bodies.specs.Seen.{LineSeen, SinkSeen, BoxSeen, BodySeen}
 use Rattle.stage_bodies.specs.Jobs.{Both}
 use Rattle.stage_bodies.specs.Posts.{place_at}
-use Rattle.body_laws.specs.Keeps.{AreFirstHeld, KeepsSource, KeepsSink, KeepsCallback, KeepsBody, Keeps}
+use Rattle.body_laws.specs.Keeps.{KeepsSource, KeepsSink, KeepsCallback, KeepsBody, Keeps}
 use Rattle.body_laws.specs.Ready.{IsUnused, IsFilled}
 use Rattle.body_laws.proofs.Rises.{rise_none}
 
@@ -35,7 +35,6 @@ source_starts s a empty none = record {
   };
   known = tt;
   quiet = rise_none a.source.waits;
-  first = All-nil (AreFirstHeld a.source);
 }
 
 sink_starts : (topology : Topology) (s : StageNo) (a : SinkSeen) → KeepsSink topology [] s a a

@@ -53,7 +53,6 @@ source_stays topology before step p lost a b st k = record {
   read = rw st.fed k.read;
   known = rw st.end k.known;
   quiet = rw st.quiets k.quiet;
-  first = rw st.brought k.first;
 }
 
 sink_stays : (topology : Topology) (before : History) (step : Step) (p : Post) (a b : SinkSeen) → Stays topology before step p → KeepsSink topology before p.stage a b → KeepsSink topology (step ∷ before) p.stage a b

@@ -25,7 +25,7 @@ use Rattle.pipe_laws.proofs.Allowed.{legal_before, legal_step, unowed, take_fact
 use Rattle.pipe_laws.proofs.Busy.{was_live, two_roles, producer_supervises}
 use Rattle.pipe_laws.proofs.Idle.{processor_supervisor}
 use Rattle.pipe_laws.specs.Read.{quiets}
-use Rattle.body_laws.specs.Counts.{brought, short_writes, calls_of, bad_of}
+use Rattle.body_laws.specs.Counts.{short_writes, calls_of, bad_of}
 use Rattle.body_laws.specs.Keeps.{has_post}
 use Rattle.body_laws.proofs.Posts.{same_post-true, only_slot, out_has_post, no_post_of_control}
 
@@ -55,11 +55,6 @@ quiets_stay : (step : Step) (before : History) (s : StageNo) → tells_of step s
 quiets_stay (Quiet t) before s e = rw e refl
 quiets_stay (Late t slot i late.Quiet) before s e = rw e refl
 quiets_stay _ before s e = refl
-
-brought_stays : (step : Step) (before : History) (s : StageNo) → tells_of step s ≡ false → brought (step ∷ before) s ≡ brought before s
-brought_stays (Accept t records) before s e = rw e refl
-brought_stays (Late t slot i (late.Records records)) before s e = rw e refl
-brought_stays _ before s e = refl
 
 text_stays : (topology : Topology) (step : Step) (before : History) (s : StageNo) → tells_of step s ≡ false → sink_text topology (step ∷ before) s ≡ sink_text topology before s
 text_stays topology (Wrote t bytes end) before s e = rw e refl
@@ -105,7 +100,6 @@ pub record Stays (topology : Topology) (before : History) (step : Step) (p : Pos
   pub fed : fed (step ∷ before) p.stage ≡ fed before p.stage
   pub end : source_end (step ∷ before) p.stage ≡ source_end before p.stage
   pub quiets : quiets (step ∷ before) p.stage ≡ quiets before p.stage
-  pub brought : brought (step ∷ before) p.stage ≡ brought before p.stage
   pub text : sink_text topology (step ∷ before) p.stage ≡ sink_text topology before p.stage
   pub short : short_writes topology (step ∷ before) p.stage ≡ short_writes topology before p.stage
   pub count : count topology (step ∷ before) p.stage ≡ count topology before p.stage
@@ -143,7 +137,6 @@ stays_untold topology before step p h e a = record {
   fed = fed_stays step before p.stage e;
   end = end_stays step before p.stage e;
   quiets = quiets_stay step before p.stage e;
-  brought = brought_stays step before p.stage e;
   text = text_stays topology step before p.stage e;
   short = short_stays topology step before p.stage e;
   count = count_stays topology step before p.stage e;

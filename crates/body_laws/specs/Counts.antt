@@ -1,36 +1,17 @@
 -- What a journal says of the reads, the writes and the answers of a post.
-use Rattle.std.specs.Prelude.{ℕ, ◌+◌, Bool, true, false, if◌then◌else◌, List, [], ◌∷◌, length, nat_lt, not, ◌&&◌, count_by}
+use Rattle.std.specs.Prelude.{ℕ, ◌+◌, Bool, true, false, if◌then◌else◌, [], ◌∷◌, length, nat_lt, not, ◌&&◌, count_by}
 use Rattle.std.specs.List.{list_all}
 use Rattle.pipe_types.specs.declared.numbers.StageNo.{StageNo}
 use Rattle.pipe_types.specs.declared.numbers.Post.{Post}
-use Rattle.pipe_types.specs.declared.step.LateAnswer.TheVariants.{Records, Wrote as WroteLate}
+use Rattle.pipe_types.specs.declared.step.LateAnswer.TheVariants.{Wrote as WroteLate}
 use Rattle.pipe_types.specs.declared.step.Step.{Step}
-use Rattle.pipe_types.specs.declared.step.Step.TheVariants.{Accept, Done, Wrote, ChildEnd, Late}
+use Rattle.pipe_types.specs.declared.step.Step.TheVariants.{Done, Wrote, ChildEnd, Late}
 use Rattle.pipe_types.specs.declared.topology.Topology.{Topology}
 use Rattle.pipe_types.specs.Numbers.{post, same_stage, same_post}
 use Rattle.pipe_model.specs.History.{History}
-use Rattle.pipe_model.specs.Legal.{fetch_out}
-use Rattle.pipe_model.specs.Outside.{fed, text_taken}
+use Rattle.pipe_model.specs.Outside.{text_taken}
 use Rattle.stage_callback.specs.Callbacks.{is_passed}
 use Rattle.stage_bodies.specs.Jobs.{is_bad_end}
-
--- what a fetch of a producer brought: how many it asked for, what was accepted before it, and its records
-pub record Brought : Type 0 where
-  pub asked : ℕ
-  pub earlier : List (List ℕ)
-  pub records : List (List ℕ)
-
-abbrev pub brought_after : History → Step → StageNo → List Brought → List Brought
-brought_after before (Accept s records) p old =
-    if same_stage s p then record { asked = fetch_out before p; earlier = fed before p; records = records } ∷ old else old
-brought_after before (Late s slot i (Records records)) p old =
-    if same_stage s p then record { asked = fetch_out before p; earlier = fed before p; records = records } ∷ old else old
-brought_after before _ p old = old
-
--- what the producer's fetches brought, the last first
-abbrev pub brought : History → (producer : StageNo) → List Brought
-brought [] p = []
-brought (step ∷ before) p = brought_after before step p (brought before p)
 
 abbrev pub one_more : Bool → ℕ → ℕ
 one_more true old = old + 1

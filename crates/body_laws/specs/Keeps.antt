@@ -1,5 +1,5 @@
 -- What a journal has to do with what is seen of bodies.
-use Rattle.std.specs.Prelude.{◌≡◌, ◌≢◌, ◌≤◌, ◌⊎◌, ℕ, Bool, true, false, List, [], ◌++◌, nat_lt, ◌==◌, ◌||◌, All, IsTrue, Option, Some, None}
+use Rattle.std.specs.Prelude.{◌≡◌, ◌≢◌, ◌≤◌, ◌⊎◌, ℕ, Bool, true, false, List, [], ◌++◌, nat_lt, ◌==◌, ◌||◌, IsTrue, Option, Some, None}
 use Rattle.pipe_types.specs.declared.numbers.StageNo.{StageNo}
 use Rattle.pipe_types.specs.declared.numbers.Post.{Post}
 use Rattle.pipe_types.specs.declared.step.SourceHow.{SourceHow}
@@ -19,16 +19,15 @@ use Rattle.pipe_model.specs.Posts.{is_out}
 use Rattle.pipe_model.specs.Outside.{fed, source_end, sink_text}
 use Rattle.pipe_model.specs.Work.{count}
 use Rattle.pipe_model.specs.Legal.{has_role, is_supervisor_role}
-use Rattle.pipe_edges.specs.Cut.{CutsAll}
 use Rattle.pipe_edges.specs.declared.reading.LineEnd.{LineEnd}
 use Rattle.pipe_edges.specs.declared.reading.LineEnd.TheVariants as end
 use Rattle.pipe_laws.specs.Read.{quiets}
 use Rattle.stage_job.specs.Chunks.{RoseBy}
-use Rattle.stage_bodies.specs.Seen.{SourceSeen, LineSeen, SinkSeen, BoxSeen, BodySeen}
+use Rattle.stage_bodies.specs.Seen.{LineSeen, SinkSeen, BoxSeen, BodySeen}
 use Rattle.stage_bodies.specs.Reads.{AreReadFrom}
 use Rattle.stage_bodies.specs.Jobs.{Both, KeepsBox}
 use Rattle.stage_bodies.specs.Posts.{place_at}
-use Rattle.body_laws.specs.Counts.{Brought, brought, short_writes, calls_of, bad_of}
+use Rattle.body_laws.specs.Counts.{short_writes, calls_of, bad_of}
 
 -- ---- posts
 
@@ -55,19 +54,12 @@ IsKnownEnd (Some how.Fault) now = now ≡ Some end.Fault
 IsKnownEnd (Some how.TooLong) now = now ≡ Some end.TooLong
 IsKnownEnd (Some how.Limit) now = ⊥
 
--- they are the first lines that were held: behind them no whole line was held any more, or they are as many as were asked for
-pub record AreFirstHeld (opened : SourceSeen) (fetch : Brought) : Type 0 where
-  pub source : LineSeen
-  pub read : AreReadFrom opened source (fetch.earlier ++ fetch.records)
-  pub all : CutsAll fetch.asked fetch.records source.waiting
-
 -- what was read is what the journal has of the producer, and then what was lost; the end and each quiet have their cause in
--- the source; each fetch brought the first lines that were held
+-- the source
 pub record KeepsSource (before : History) (s : StageNo) (lost : List (List ℕ)) (opened now : LineSeen) : Type 0 where
   pub read : AreReadFrom opened.source now (fed before s ++ lost)
   pub known : IsKnownEnd (source_end before s) now.end
   pub quiet : RoseBy (quiets before s) opened.source.waits now.source.waits
-  pub first : All (AreFirstHeld opened.source) (brought before s)
 
 -- ---- sinks
 

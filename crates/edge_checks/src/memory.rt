@@ -42,7 +42,7 @@ pub fn sink_of(alloc: Global, held: &str, room: usize, acts: &str) -> Result<Mem
     ensures { IfOk result IsUnwritten }
 {
     let script = sink_script(alloc, acts)?;
-    MemSink::new(alloc, bytes_of(alloc, held)?, room, script)
+    MemSink::new(bytes_of(alloc, held)?, room, script)
 }
 
 fn sink_script(alloc: Global, acts: &str) -> Result<SinkScript, AllocError> {
@@ -93,7 +93,7 @@ fn put_hello<K: ByteSink>(told: &mut Told, sink: &mut K) -> Result<(), AllocErro
 /// Tells what the sink holds.
 pub fn tell_held(told: &mut Told, sink: &MemSink) {
     told.add(" ");
-    told.spelled(sink.held().as_slice());
+    told.spelled(sink.held());
 }
 
 /// `clock AT STEP NAP ACTS..`: the readings, `now`, of a clock that is paused between them; the latest and their number.
@@ -107,6 +107,7 @@ pub fn clock(told: &mut Told, acts: &str) {
         nap: millis(nap),
         latest: 0,
         readings: 0,
+        pauses: 0,
     };
     for act in acts.split_whitespace() {
         if act == "now" {

@@ -58,7 +58,7 @@ cut_returned name source a b c x o gives r = record {
 
 -- ---- after the stages before
 
-cut_from : (calls : List (EdgeKind × List ℕ)) (a b : EdgesSeen) (call : Option (EdgeKind × List ℕ)) (cs : List (EdgeKind × List ℕ)) (back : List (List ℕ × SourceSeen)) → Asks calls a b → IsCut b call cs back → IsCut a call cs back
+pub cut_from : (calls : List (EdgeKind × List ℕ)) (a b : EdgesSeen) (call : Option (EdgeKind × List ℕ)) (cs : List (EdgeKind × List ℕ)) (back : List (List ℕ × SourceSeen)) → Asks calls a b → IsCut b call cs back → IsCut a call cs back
 cut_from calls a b call cs back asks (uncalled p q) = uncalled p q
 cut_from calls a b call cs back asks (returned name source p q gives r) = returned name source p q (gives_source_from calls a b name source asks gives) r
 cut_from calls a b call cs back asks (let_go name p q r) = let_go name p q r

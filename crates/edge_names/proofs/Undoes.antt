@@ -1,29 +1,22 @@
 -- What an opening leaves that did not come to its end.
-use Rattle.std.proofs.Common.{◌≡◌, ℕ, suc, ◌+◌, List, [], ◌∷◌, ◌++◌, take, drop, length, refl, ap, sym, ◌∙◌, arith, inl, inr}
-use Rattle.std.specs.Prelude.{slice_get, Option, Some, None, IsTrue}
+use Rattle.std.proofs.Common.{◌≡◌, ℕ, suc, ◌+◌, ◌≤◌, List, [], ◌∷◌, ◌++◌, take, drop, length, refl, ap, sym, ◌∙◌, subst, arith, inl, inr}
+use Rattle.std.specs.Prelude.{slice_get, Option, Some, None}
 use Rattle.std.specs.List.{flat_map}
-use Rattle.std.proofs.lemmas.List.{append-nil, append_assoc, take-append-drop, take_at}
+use Rattle.std.proofs.lemmas.List.{append_assoc, take-append-drop, take_all}
 use Rattle.pipe_types.specs.declared.topology.StageSpec.{StageSpec}
 use Rattle.pipe_types.specs.declared.topology.Topology.{Topology}
 use Rattle.pipe_edges.specs.declared.edges.EdgeKind.{EdgeKind}
-use Rattle.pipe_edges.specs.declared.edges.EdgeKind.TheVariants.{Source}
-use Rattle.stage_bodies.specs.Seen.{SourceSeen, SinkSeen, LineSeen, BodySeen}
+use Rattle.stage_bodies.specs.Seen.{SourceSeen, LineSeen, BodySeen}
 use Rattle.stage_bodies.specs.Jobs.{Both}
 use Rattle.stage_bodies.specs.Posts.{place_at}
 use Rattle.edge_names.specs.Seen.{EdgesSeen}
 use Rattle.edge_names.specs.declared.opening.Unopened.{Unopened}
 use Rattle.edge_names.specs.declared.opening.Unopened.TheVariants.{Failed, OutOfMemory}
-use Rattle.edge_names.specs.Controls.{IsControlOpened, IsStageUndone, IsUndone, control_call, named_control, run_calls}
+use Rattle.edge_names.specs.Controls.{IsControlOpened, IsCutShort, IsStageUndone, IsUndone, control_call, first_sinks, first_sources, named_control, run_calls}
 use Rattle.edge_names.specs.Opened.{AreOpened, Asks, IfCutOff, IfFailed, IsCut, IsCutOff, IsFailed, IsOneCut, IsOneFailed, IsOpened, call_at, calls_of, edge_call, edge_calls, let_go, one, returned, uncalled}
-use Rattle.edge_names.specs.Returned.{GivesBack, IsAskedInPart, sinks_of, sources_of}
-use Rattle.edge_names.proofs.Cuts.{rose_after}
+use Rattle.edge_names.specs.Returned.{GivesBack, sinks_of, sources_of}
+use Rattle.edge_names.proofs.Cuts.{cut_from, rose_after}
 use Rattle.edge_names.proofs.Openings.{asks_more, calls_step, has_sink_from, has_source_from}
-
--- nothing was asked, and no call failed
-pub record IsQuiet (old new : EdgesSeen) : Type 0 where
-  pub same_telling : new.told ≡ old.told
-  pub asked : IsTrue old.told → new.asked ≡ old.asked
-  pub no_fault : new.faults ≡ old.faults
 
 -- ---- after the control source
 
@@ -72,13 +65,6 @@ flat_map_append : {A B : Type 0} (f : A → List B) (xs ys : List A) → flat_ma
 flat_map_append f [] ys = refl
 flat_map_append f (x ∷ xs) ys = ap (λ z. f x ++ z) (flat_map_append f xs ys) ∙ sym (append_assoc (f x) (flat_map f xs) (flat_map f ys))
 
--- the calls of the first stages are the first calls
-pub calls_first : (stages : List StageSpec) (n : ℕ) → take (length (calls_of (take n stages))) (calls_of stages) ≡ calls_of (take n stages)
-calls_first stages n =
-    let all : calls_of stages ≡ calls_of (take n stages) ++ calls_of (drop n stages) =
-    ap calls_of (sym (take-append-drop n stages)) ∙ flat_map_append (λ (s : StageSpec). one (edge_call s)) (take n stages) (drop n stages) in
-    ap (λ z. take (length (calls_of (take n stages))) z) all ∙ take_at (calls_of (take n stages)) (calls_of (drop n stages)) (length (calls_of (take n stages))) refl
-
 -- the calls before that of a stage, its own, and those after it
 pub calls_parts : (stages : List StageSpec) (n : ℕ) (spec : StageSpec) → slice_get stages n ≡ Some spec → calls_of stages ≡ calls_of (take n stages) ++ (one (edge_call spec) ++ calls_of (drop (n + 1) stages))
 calls_parts stages n spec here =
@@ -86,73 +72,132 @@ calls_parts stages n spec here =
     ∙ (flat_map_append (λ (s : StageSpec). one (edge_call s)) (take (n + 1) stages) (drop (n + 1) stages)
     ∙ (ap (λ z. z ++ calls_of (drop (n + 1) stages)) (sym (calls_step stages n spec here)) ∙ append_assoc (calls_of (take n stages)) (one (edge_call spec)) (calls_of (drop (n + 1) stages))))
 
--- the calls that a stage made are all that it makes, or none
-cut_calls : (stages : List StageSpec) (n : ℕ) (spec : StageSpec) (edges : EdgesSeen) (calls : List (EdgeKind × List ℕ)) (back : List (List ℕ × SourceSeen)) → slice_get stages n ≡ Some spec
-    → IsCut edges (edge_call spec) calls back → (m : ℕ) × (calls_of (take n stages) ++ calls ≡ calls_of (take m stages))
-cut_calls stages n spec edges calls back here (uncalled p q) = (n, ap (λ z. calls_of (take n stages) ++ z) p ∙ append-nil (calls_of (take n stages)))
-cut_calls stages n spec edges calls back here (returned name source p q gives r) =
-    (n + 1, ap (λ z. calls_of (take n stages) ++ z) (q ∙ sym (ap one p)) ∙ calls_step stages n spec here)
-cut_calls stages n spec edges calls back here (let_go name p q r) =
-    (n + 1, ap (λ z. calls_of (take n stages) ++ z) (q ∙ sym (ap one p)) ∙ calls_step stages n spec here)
+-- what is still to come after the call that memory was wanting at
+after_cut : (edges : EdgesSeen) (call : Option (EdgeKind × List ℕ)) (calls later : List (EdgeKind × List ℕ)) (back : List (List ℕ × SourceSeen)) → IsCut edges call calls back
+    → (rest : List (EdgeKind × List ℕ)) × (one call ++ later ≡ calls ++ rest)
+after_cut edges call calls later back (uncalled p q) = (one call ++ later, sym (ap (λ z. z ++ (one call ++ later)) p))
+after_cut edges call calls later back (returned name source p q gives r) = (later, ap (λ z. z ++ later) (ap one p ∙ sym q))
+after_cut edges call calls later back (let_go name p q r) = (later, ap (λ z. z ++ later) (ap one p ∙ sym q))
 
--- memory was wanting in opening; whatever was given back, no call was made later
-pub part_cut : (topology : Topology) (a b c : EdgesSeen) (start now : ℕ → Option BodySeen) → IsCutOff topology a b start now → IsQuiet b c → IsAskedInPart (edge_calls topology) a c
-part_cut topology a b c start now cut quiet =
-    let made = cut_calls topology.stages cut.at cut.spec a cut.calls cut.back cut.here cut.cut in
-    record {
-      same_telling = quiet.same_telling ∙ cut.same_telling;
-      count = length (calls_of (take made.0 topology.stages));
-      asked = λ t. quiet.asked (rw cut.same_telling t) ∙ cut.asked t ∙ ap (λ z. a.asked ++ z) (made.1 ∙ sym (calls_first topology.stages made.0));
-      faults_stay = let p = cut.faults_stay in let q = quiet.no_fault in omega (arith, p, q);
-    }
+-- the calls of the control source and of the stages before one, those of its own that were made, and the others
+whole_calls : (topology : Topology) (at : ℕ) (spec : StageSpec) (calls rest : List (EdgeKind × List ℕ)) → slice_get topology.stages at ≡ Some spec
+    → one (edge_call spec) ++ calls_of (drop (at + 1) topology.stages) ≡ calls ++ rest
+    → run_calls topology ≡ (one (control_call topology.control) ++ (calls_of (take at topology.stages) ++ calls)) ++ rest
+whole_calls topology at spec calls rest here to_come =
+    let first = one (control_call topology.control) in
+    let before = calls_of (take at topology.stages) in
+    ap (λ z. first ++ z) (calls_parts topology.stages at spec here ∙ (ap (λ z. before ++ z) to_come ∙ sym (append_assoc before calls rest)))
+    ∙ sym (append_assoc first (before ++ calls) rest)
 
--- a call failed, and there was no memory to give back what was opened
-pub part_failed : (topology : Topology) (name : List ℕ) (a b c : EdgesSeen) (start now : ℕ → Option BodySeen) → IsFailed topology name a b start now → IsQuiet b c → IsAskedInPart (edge_calls topology) a c
-part_failed topology name a b c start now failed quiet =
-    let made : calls_of (take failed.at topology.stages) ++ (failed.kind, name) ∷ [] ≡ calls_of (take (failed.at + 1) topology.stages) =
-    ap (λ z. calls_of (take failed.at topology.stages) ++ z) (sym (ap one failed.call)) ∙ calls_step topology.stages failed.at failed.spec failed.here in
-    record {
-      same_telling = quiet.same_telling ∙ failed.asks.same_telling;
-      count = length (calls_of (take (failed.at + 1) topology.stages));
-      asked = λ t. quiet.asked (rw failed.asks.same_telling t) ∙ failed.asks.asked t ∙ ap (λ z. a.asked ++ z) (made ∙ sym (calls_first topology.stages (failed.at + 1)));
-      faults_stay = let p = failed.asks.faults_stay in let q = quiet.no_fault in omega (arith, p, q);
-    }
+-- ---- what was given back in order
 
-pub quiet_back : (xs : List (List ℕ × SourceSeen)) (ys : List (List ℕ × SinkSeen)) (a b : EdgesSeen) → GivesBack xs ys a b → IsQuiet a b
-quiet_back xs ys a b h = record { same_telling = h.same_telling; asked = h.asked; no_fault = h.no_fault }
+-- all parts are the first so many
+pub all_parts : (topology : Topology) (control : Option LineSeen) (table : ℕ → Option BodySeen) (a b : EdgesSeen) → GivesBack (named_control topology.control control ++ sources_of topology.stages table) (sinks_of topology.stages table) a b
+    → GivesBack (first_sources (suc (length topology.stages)) topology control table) (first_sinks (suc (length topology.stages)) topology table) a b
+all_parts topology control table a b h =
+    let all : topology.stages ≡ take (length topology.stages) topology.stages = sym (take_all (length topology.stages) topology.stages (omega arith)) in
+    subst (λ (xs : List StageSpec). GivesBack (named_control topology.control control ++ sources_of xs table) (sinks_of xs table) a b) all h
 
--- ---- after the call of the control source
-
--- so many of the later calls were made
-pub part_later : (name : Option (List ℕ)) (calls : List (EdgeKind × List ℕ)) (a b c : EdgesSeen) → Asks (one (control_call name)) a b → IsAskedInPart calls b c → IsAskedInPart (one (control_call name) ++ calls) a c
-part_later None calls a b c asks part = record {
-  same_telling = part.same_telling ∙ asks.same_telling;
-  count = part.count;
-  asked = λ t. part.asked (rw asks.same_telling t) ∙ ap (λ z. z ++ take part.count calls) (asks.asked t ∙ append-nil a.asked);
-  faults_stay = let p = asks.faults_stay in let q = part.faults_stay in omega (arith, p, q);
-}
-part_later (Some name) calls a b c asks part = record {
-  same_telling = part.same_telling ∙ asks.same_telling;
-  count = suc part.count;
-  asked = λ t. part.asked (rw asks.same_telling t) ∙ ap (λ z. z ++ take part.count calls) (asks.asked t) ∙ append_assoc a.asked ((Source, name) ∷ []) (take part.count calls);
-  faults_stay = let p = asks.faults_stay in let q = part.faults_stay in omega (arith, p, q);
-}
-
--- memory was wanting at the control source: its call is the first, or none was made
-pub part_first : (name : Option (List ℕ)) (calls : List (EdgeKind × List ℕ)) (a b : EdgesSeen) → IsOneCut (control_call name) a b → IsAskedInPart (one (control_call name) ++ calls) a b
-part_first name calls a b cut =
-    let made = first_calls (control_call name) cut.calls cut.back calls cut.cut in
+-- memory was wanting at the control source
+short_first : (topology : Topology) (a b : EdgesSeen) (start : ℕ → Option BodySeen) → IsOneCut (control_call topology.control) a b → IsCutShort topology start a b
+short_first topology a b start cut =
+    let after = after_cut a (control_call topology.control) cut.calls (edge_calls topology) cut.back cut.cut in
     record {
       same_telling = cut.same_telling;
-      count = made.0;
-      asked = λ t. cut.asked t ∙ ap (λ z. a.asked ++ z) made.1;
+      front = cut.calls;
+      rest = after.0;
+      calls = after.1;
+      asked = cut.asked;
       faults_stay = cut.faults_stay;
+      given_back = inl (record {
+        calls = cut.calls;
+        back = cut.back;
+        cut = cut.cut;
+        to_come = after.1;
+        sources = cut.sources;
+        sinks = cut.sinks;
+      });
     }
-  where
-    first_calls : (call : Option (EdgeKind × List ℕ)) (made : List (EdgeKind × List ℕ)) (back : List (List ℕ × SourceSeen)) (calls : List (EdgeKind × List ℕ)) → IsCut a call made back → (n : ℕ) × (made ≡ take n (one call ++ calls))
-    first_calls call made back calls (uncalled p q) = (0, p)
-    first_calls call made back calls (returned n source p q gives r) = (1, q ∙ ap (λ (o : Option (EdgeKind × List ℕ)). take 1 (one o ++ calls)) (sym p))
-    first_calls call made back calls (let_go n p q r) = (1, q ∙ ap (λ (o : Option (EdgeKind × List ℕ)). take 1 (one o ++ calls)) (sym p))
+
+-- memory was wanting at a stage, and the first parts of what was opened before it were given back
+short_cut : (topology : Topology) (control : Option LineSeen) (n : ℕ) (a b c d : EdgesSeen) (start opened : ℕ → Option BodySeen) → IsControlOpened topology.control a b control → IsCutOff topology b c start opened
+    → GivesBack (first_sources n topology control opened) (first_sinks n topology opened) c d → IsCutShort topology start a d
+short_cut topology control n a b c d start opened first cut back =
+    let own = one (control_call topology.control) in
+    let made = calls_of (take cut.at topology.stages) ++ cut.calls in
+    let sources = first_sources n topology control opened in
+    let sinks = first_sinks n topology opened in
+    let after = after_cut b (edge_call cut.spec) cut.calls (calls_of (drop (cut.at + 1) topology.stages)) cut.back cut.cut in
+    record {
+      same_telling = back.same_telling ∙ cut.same_telling ∙ first.asks.same_telling;
+      front = own ++ made;
+      rest = after.0;
+      calls = whole_calls topology cut.at cut.spec cut.calls after.0 cut.here after.1;
+      asked = λ t. back.asked (rw (cut.same_telling, first.asks.same_telling) t) ∙ cut.asked (rw first.asks.same_telling t)
+          ∙ ap (λ z. z ++ made) (first.asks.asked t) ∙ append_assoc a.asked own made;
+      faults_stay = let p = first.asks.faults_stay in let q = cut.faults_stay in let r = back.no_fault in omega (arith, p, q, r);
+      given_back = inr (record {
+        at = cut.at;
+        spec = cut.spec;
+        here = cut.here;
+        calls = cut.calls;
+        back = cut.back;
+        parts = n;
+        cut = inl (cut_from own a b (edge_call cut.spec) cut.calls cut.back first.asks cut.cut);
+        to_come = after.1;
+        control = control;
+        lines = first.lines;
+        opened = opened;
+        bodies = opened_from topology cut.at own a b start opened first.asks cut.bodies;
+        sources = back.back_sources ∙ ap (λ z. z ++ sources) (cut.sources ∙ ap (λ z. z ++ cut.back) first.asks.sources) ∙ append_assoc a.sources_back cut.back sources;
+        sinks = back.back_sinks ∙ ap (λ z. z ++ sinks) (cut.sinks ∙ first.asks.sinks);
+      });
+    }
+
+-- a call failed, and there was no memory to give back all that was opened
+short_failed : (topology : Topology) (name : List ℕ) (control : Option LineSeen) (n : ℕ) (a b c d : EdgesSeen) (start opened : ℕ → Option BodySeen) → IsControlOpened topology.control a b control → IsFailed topology name b c start opened
+    → n ≤ length topology.stages → GivesBack (first_sources n topology control opened) (first_sinks n topology opened) c d → IsCutShort topology start a d
+short_failed topology name control n a b c d start opened first failed left back =
+    let own = one (control_call topology.control) in
+    let call : List (EdgeKind × List ℕ) = (failed.kind, name) ∷ [] in
+    let made = calls_of (take failed.at topology.stages) ++ call in
+    let sources = first_sources n topology control opened in
+    let sinks = first_sinks n topology opened in
+    let later = calls_of (drop (failed.at + 1) topology.stages) in
+    let to_come : one (edge_call failed.spec) ++ later ≡ call ++ later = ap (λ (o : Option (EdgeKind × List ℕ)). one o ++ later) failed.call in
+    record {
+      same_telling = back.same_telling ∙ failed.asks.same_telling ∙ first.asks.same_telling;
+      front = own ++ made;
+      rest = later;
+      calls = whole_calls topology failed.at failed.spec call later failed.here to_come;
+      asked = λ t. back.asked (rw (failed.asks.same_telling, first.asks.same_telling) t) ∙ failed.asks.asked (rw first.asks.same_telling t)
+          ∙ ap (λ z. z ++ made) (first.asks.asked t) ∙ append_assoc a.asked own made;
+      faults_stay = let p = first.asks.faults_stay in let q = failed.asks.faults_stay in let r = back.no_fault in omega (arith, p, q, r);
+      given_back = inr (record {
+        at = failed.at;
+        spec = failed.spec;
+        here = failed.here;
+        calls = call;
+        back = [];
+        parts = n;
+        cut = inr (record {
+          kind = failed.kind;
+          name = name;
+          is = failed.call;
+          made = refl;
+          none_back = refl;
+          fault = rw back.no_fault (rose_after a.faults b.faults c.faults first.asks.faults_stay failed.fault);
+          some_left = left;
+        });
+        to_come = to_come;
+        control = control;
+        lines = first.lines;
+        opened = opened;
+        bodies = opened_from topology failed.at own a b start opened first.asks failed.bodies;
+        sources = back.back_sources ∙ ap (λ z. z ++ sources) (failed.asks.sources ∙ first.asks.sources);
+        sinks = back.back_sinks ∙ ap (λ z. z ++ sinks) (failed.asks.sinks ∙ first.asks.sinks);
+      });
+    }
 
 -- ---- by what ended the opening
 
@@ -165,19 +210,16 @@ pub undone_first : (u : Unopened) (topology : Topology) (a b : EdgesSeen) (start
 undone_first (Failed name) topology a b start failed = inl failed
 undone_first OutOfMemory topology a b start failed = tt
 
-pub part_first_by : (u : Unopened) (topology : Topology) (a b : EdgesSeen) → IfCutOff u (IsOneCut (control_call topology.control) a b) → IfCutOff u (IsAskedInPart (run_calls topology) a b)
-part_first_by (Failed name) topology a b cut = tt
-part_first_by OutOfMemory topology a b cut = part_first topology.control (edge_calls topology) a b cut
+pub short_first_by : (u : Unopened) (topology : Topology) (a b : EdgesSeen) (start : ℕ → Option BodySeen) → IfCutOff u (IsOneCut (control_call topology.control) a b) → IfCutOff u (IsCutShort topology start a b)
+short_first_by (Failed name) topology a b start cut = tt
+short_first_by OutOfMemory topology a b start cut = short_first topology a b start cut
 
-pub part_by : (u : Unopened) (topology : Topology) (control : Option LineSeen) (a b c d : EdgesSeen) (start opened : ℕ → Option BodySeen) → IsControlOpened topology.control a b control → IfCutOff u (IsCutOff topology b c start opened) → IsQuiet c d
-    → IfCutOff u (IsAskedInPart (run_calls topology) a d)
-part_by (Failed name) topology control a b c d start opened first cut quiet = tt
-part_by OutOfMemory topology control a b c d start opened first cut quiet =
-    part_later topology.control (edge_calls topology) a b d first.asks (part_cut topology b c d start opened cut quiet)
+pub short_by : (u : Unopened) (topology : Topology) (control : Option LineSeen) (n : ℕ) (a b c d : EdgesSeen) (start opened : ℕ → Option BodySeen) → IsControlOpened topology.control a b control → IfCutOff u (IsCutOff topology b c start opened)
+    → GivesBack (first_sources n topology control opened) (first_sinks n topology opened) c d → IfCutOff u (IsCutShort topology start a d)
+short_by (Failed name) topology control n a b c d start opened first cut back = tt
+short_by OutOfMemory topology control n a b c d start opened first cut back = short_cut topology control n a b c d start opened first cut back
 
-pub part_any : (u : Unopened) (topology : Topology) (control : Option LineSeen) (a b c d : EdgesSeen) (start opened : ℕ → Option BodySeen) → IsControlOpened topology.control a b control → IfFailed u (λ name. IsFailed topology name b c start opened)
-    → IfCutOff u (IsCutOff topology b c start opened) → IsQuiet c d → IsAskedInPart (run_calls topology) a d
-part_any (Failed name) topology control a b c d start opened first failed cut quiet =
-    part_later topology.control (edge_calls topology) a b d first.asks (part_failed topology name b c d start opened failed quiet)
-part_any OutOfMemory topology control a b c d start opened first failed cut quiet =
-    part_later topology.control (edge_calls topology) a b d first.asks (part_cut topology b c d start opened cut quiet)
+pub short_any : (u : Unopened) (topology : Topology) (control : Option LineSeen) (n : ℕ) (a b c d : EdgesSeen) (start opened : ℕ → Option BodySeen) → IsControlOpened topology.control a b control → IfFailed u (λ name. IsFailed topology name b c start opened)
+    → IfCutOff u (IsCutOff topology b c start opened) → n ≤ length topology.stages → GivesBack (first_sources n topology control opened) (first_sinks n topology opened) c d → IsCutShort topology start a d
+short_any (Failed name) topology control n a b c d start opened first failed cut left back = short_failed topology name control n a b c d start opened first failed left back
+short_any OutOfMemory topology control n a b c d start opened first failed cut left back = short_cut topology control n a b c d start opened first cut back

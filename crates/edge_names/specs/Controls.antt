@@ -1,5 +1,5 @@
 -- The control source, which is opened and given back by its name, before all that the stages name.
-use Rattle.std.specs.Prelude.{◌≡◌, ◌≤◌, ◌⊎◌, ℕ, zero, suc, List, [], ◌∷◌, ◌++◌, length, take, slice_get, IsTrue, Option, Some, None, option_map}
+use Rattle.std.specs.Prelude.{◌≡◌, ◌≤◌, ◌⊎◌, ◌+◌, ℕ, zero, suc, List, [], ◌∷◌, ◌++◌, length, take, drop, slice_get, IsTrue, Option, Some, None, option_map}
 use Rattle.pipe_types.specs.Counts.{Rose}
 use Rattle.pipe_types.specs.declared.topology.StageSpec.{StageSpec}
 use Rattle.pipe_types.specs.declared.topology.Topology.{Topology}
@@ -7,7 +7,7 @@ use Rattle.pipe_edges.specs.declared.edges.EdgeKind.{EdgeKind}
 use Rattle.pipe_edges.specs.declared.edges.EdgeKind.TheVariants.{Source}
 use Rattle.stage_bodies.specs.Seen.{SourceSeen, SinkSeen, LineSeen, BodySeen}
 use Rattle.edge_names.specs.Seen.{EdgesSeen}
-use Rattle.edge_names.specs.Opened.{AreOpened, Asks, HasSource, IsOneFailed, calls_of, edge_call, edge_calls, one}
+use Rattle.edge_names.specs.Opened.{AreOpened, Asks, HasSource, IsCut, IsOneFailed, calls_of, edge_call, edge_calls, one}
 use Rattle.edge_names.specs.Returned.{GivesBack, sources_of, sinks_of}
 
 -- ---- calls
@@ -73,3 +73,54 @@ pub record IsStageUndone (topology : Topology) (name : List ℕ) (start : ℕ �
 -- the call of the control source failed by this name, and nothing was given back; or the call of a stage did
 abbrev pub IsUndone : Topology → (name : List ℕ) → (start : ℕ → Option BodySeen) → (old new : EdgesSeen) → Type 0
 IsUndone topology name start old new = IsOneFailed (control_call topology.control) name old new ⊎ IsStageUndone topology name start old new
+
+-- ---- what is cut short
+
+-- memory was wanting at the control source, with these calls still to come: nothing was opened, or it was, and went back or was
+-- let go
+pub record IsControlCut (topology : Topology) (rest : List (EdgeKind × List ℕ)) (old new : EdgesSeen) : Type 0 where
+  pub calls : List (EdgeKind × List ℕ)
+  pub back : List (List ℕ × SourceSeen)
+  pub cut : IsCut old (control_call topology.control) calls back
+  pub to_come : run_calls topology ≡ calls ++ rest
+  pub sources : new.sources_back ≡ old.sources_back ++ back
+  pub sinks : new.sinks_back ≡ old.sinks_back
+
+-- the call of a stage failed, and some of what was opened was not given back
+pub record IsFailedInPart (topology : Topology) (call : Option (EdgeKind × List ℕ)) (calls : List (EdgeKind × List ℕ)) (back : List (List ℕ × SourceSeen)) (parts : ℕ) (old new : EdgesSeen) : Type 0 where
+  pub kind : EdgeKind
+  pub name : List ℕ
+  pub is : call ≡ Some (kind, name)
+  pub made : calls ≡ (kind, name) ∷ []
+  pub none_back : back ≡ []
+  pub fault : Rose old.faults new.faults
+  pub some_left : parts ≤ length topology.stages
+
+-- opening ended at a stage, with these calls still to come: memory was wanting there, or its call failed and then memory was
+-- wanting. What its own call opened went back first, and then, unread, unwritten and in order, the first parts of what was
+-- opened before it
+pub record IsStageCut (topology : Topology) (start : ℕ → Option BodySeen) (rest : List (EdgeKind × List ℕ)) (old new : EdgesSeen) : Type 0 where
+  pub at : ℕ
+  pub spec : StageSpec
+  pub here : slice_get topology.stages at ≡ Some spec
+  pub calls : List (EdgeKind × List ℕ)
+  pub back : List (List ℕ × SourceSeen)
+  pub parts : ℕ
+  pub cut : IsCut old (edge_call spec) calls back ⊎ IsFailedInPart topology (edge_call spec) calls back parts old new
+  pub to_come : one (edge_call spec) ++ calls_of (drop (at + 1) topology.stages) ≡ calls ++ rest
+  pub control : Option LineSeen
+  pub lines : HasSource old (control_call topology.control) None control
+  pub opened : ℕ → Option BodySeen
+  pub bodies : AreOpened topology at old start opened
+  pub sources : new.sources_back ≡ old.sources_back ++ (back ++ first_sources parts topology control opened)
+  pub sinks : new.sinks_back ≡ old.sinks_back ++ first_sinks parts topology opened
+
+-- memory was wanting: so many of the first calls were made, and what they opened was given back, all of it or the first parts
+pub record IsCutShort (topology : Topology) (start : ℕ → Option BodySeen) (old new : EdgesSeen) : Type 0 where
+  pub same_telling : new.told ≡ old.told
+  pub front : List (EdgeKind × List ℕ)
+  pub rest : List (EdgeKind × List ℕ)
+  pub calls : run_calls topology ≡ front ++ rest
+  pub asked : IsTrue old.told → new.asked ≡ old.asked ++ front
+  pub faults_stay : old.faults ≤ new.faults
+  pub given_back : IsControlCut topology rest old new ⊎ IsStageCut topology start rest old new

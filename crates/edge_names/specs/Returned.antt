@@ -1,5 +1,5 @@
 -- What a run gives back by name, stage by stage.
-use Rattle.std.specs.Prelude.{◌≡◌, ◌<◌, ◌≤◌, ◌++◌, ℕ, List, [], ◌∷◌, length, take, Option, Some, None, option_map, IsTrue}
+use Rattle.std.specs.Prelude.{◌≡◌, ◌<◌, ◌++◌, ℕ, List, [], ◌∷◌, length, take, Option, Some, None, option_map, IsTrue}
 use Rattle.std.specs.List.{flat_map}
 use Rattle.pipe_types.specs.Numbers.{post}
 use Rattle.pipe_types.specs.declared.topology.StageSpec.{StageSpec}
@@ -61,12 +61,3 @@ pub record IsBackInPart (topology : Topology) (table : ℕ → Option BodySeen) 
 -- every body has the callback that it had
 abbrev pub KeepsCallbacks : (old new : ℕ → Option BodySeen) → Type 0
 KeepsCallbacks old new = (at : ℕ) → Both (λ before now. now.callback ≡ before.callback) (old at) (new at)
-
--- ---- what is asked
-
--- memory was wanting: so many of the first calls were made
-pub record IsAskedInPart (calls : List (EdgeKind × List ℕ)) (old new : EdgesSeen) : Type 0 where
-  pub same_telling : new.told ≡ old.told
-  pub count : ℕ
-  pub asked : IsTrue old.told → new.asked ≡ old.asked ++ take count calls
-  pub faults_stay : old.faults ≤ new.faults

@@ -4,9 +4,9 @@ ghost use Rattle.std.specs.Prelude.{◌≡◌, ◌==◌, ℕ, None, Some, if◌t
 ghost use Rattle.pipe_types.specs.Sound.{IsSound};
 ghost use Rattle.stage_bodies.specs.Seen.{line_seen, body_at, with_source, with_sink};
 ghost use Rattle.pipe_edges.specs.declared.edges.EdgeKind.TheVariants.{Source, Sink};
-ghost use Rattle.edge_names.specs.Controls.{IsUndone, control_call, run_calls};
+ghost use Rattle.edge_names.specs.Controls.{IsCutShort, IsUndone, control_call, run_calls};
 ghost use Rattle.edge_names.specs.Opened.{Asks, AreHome, AreOpened, HasSource, IfCutOff, IfFailed, IsCutOff, IsFailed, OpensOne, edge_calls, edge_call};
-ghost use Rattle.edge_names.specs.Returned.{IsAskedInPart, KeepsCallbacks};
+ghost use Rattle.edge_names.specs.Returned.{KeepsCallbacks};
 
 use crate::back::give_back;
 use crate::control::open_control;
@@ -177,7 +177,7 @@ pub fn open_or_give_back<E: Edges, B: Houses<E::Source, E::Sink>>(
         (option_map (line_seen E.Source.ByteSource) control)) }
     ensures opened { OnOk result (AreOpened topology.now (length topology.now.stages) (⟦<E as SeenEdges>⟧.seen edges.old) (body_at B.look bodies.old.items) (body_at B.look bodies.new.items)) }
     ensures undone { IfErr result (λ e. IfFailed e (λ name. IsUndone topology.now name (body_at B.look bodies.old.items) (⟦<E as SeenEdges>⟧.seen edges.old) (⟦<E as SeenEdges>⟧.seen edges.new))) }
-    ensures in_part { IfErr result (λ e. IfCutOff e (IsAskedInPart (run_calls topology.now) (⟦<E as SeenEdges>⟧.seen edges.old) (⟦<E as SeenEdges>⟧.seen edges.new))) }
+    ensures in_part { IfErr result (λ e. IfCutOff e (IsCutShort topology.now (body_at B.look bodies.old.items) (⟦<E as SeenEdges>⟧.seen edges.old) (⟦<E as SeenEdges>⟧.seen edges.new))) }
     ensures len { length bodies.new.items ≡ length bodies.old.items }
     ensures callbacks { KeepsCallbacks (body_at B.look bodies.old.items) (body_at B.look bodies.new.items) }
 {

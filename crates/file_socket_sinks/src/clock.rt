@@ -17,18 +17,21 @@ pub struct RealClock {
     start: Duration,
     latest: u64,
     readings: u64,
+    pauses: u64,
 }
 
 impl RealClock {
     pub fn new(rt: &HostRuntime) -> RealClock
         ensures latest { ⟦<RealClock as Clock>⟧.latest result ≡ 0 }
         ensures readings { ⟦<RealClock as Clock>⟧.readings result ≡ 0 }
+        ensures pauses { ⟦<RealClock as Clock>⟧.pauses result ≡ 0 }
     {
         RealClock {
             rt: *rt,
             start: rt.monotonic().unwrap_or(Duration::ZERO),
             latest: 0,
             readings: 0,
+            pauses: 0,
         }
     }
 
@@ -48,6 +51,8 @@ impl Clock for RealClock {
 
     ghost readings = { λ c. c.readings };
 
+    ghost pauses = { λ c. c.pauses };
+
     fn now(&mut self) -> u64 {
         let now = self.reading();
         self.latest = self.latest.max(now);
@@ -57,5 +62,6 @@ impl Clock for RealClock {
 
     fn pause(&mut self) {
         self.rt.sleep(Duration::from_millis(PAUSE_MS));
+        self.pauses = self.pauses.saturating_add(1);
     }
 }

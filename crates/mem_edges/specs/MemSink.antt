@@ -5,7 +5,7 @@ use Rattle.mem_edges.specs.declared.sink.SinkAct.{SinkAct}
 
 -- all the bytes that it holds
 abbrev pub held_by : MemSink → List ℕ
-held_by k = k.held
+held_by k = k.held.items
 
 -- how many further bytes fit
 abbrev pub room_of : MemSink → ℕ

@@ -6,6 +6,7 @@ use Rattle.pipe_edges.specs.declared.edges.EdgeKind.{EdgeKind}
 use Rattle.pipe_edges.specs.declared.edges.EdgeEnd.{EdgeEnd}
 use Rattle.pipe_edges.specs.declared.edges.EdgeEnd.TheVariants.{Failed, OutOfMemory}
 use Rattle.mem_edges.specs.declared.named.Named.{Named}
+use Rattle.mem_edges.specs.Scripts.{counted_once}
 use Rattle.mem_edges.specs.Shelf.{under, is_free, given_back}
 
 -- the newest under this name is open now, and nothing else changed
@@ -47,5 +48,14 @@ FreeAgain (Err _) kind name before now = FreeAsBefore before now
 
 -- a call that fails is noted and counted, and for want of memory neither
 abbrev pub RefusalEnd : List (EdgeKind × List ℕ) → List (EdgeKind × List ℕ) → ℕ → ℕ → EdgeKind × List ℕ → EdgeEnd → Type 0
-RefusalEnd asked asked' faults faults' call Failed = (asked' ≡ asked ++ call ∷ []) × Rose faults faults' × (faults ≤ faults')
+RefusalEnd asked asked' faults faults' call Failed = (asked' ≡ asked ++ call ∷ []) × Rose faults faults' × (faults ≤ faults') × (faults' ≡ counted_once faults)
 RefusalEnd asked asked' faults faults' call OutOfMemory = (asked' ≡ asked) × (faults' ≡ faults)
+
+-- the faults of edges after a call, one more just where it failed
+abbrev pub faults_after_call : {T : Type 0} → Result T EdgeEnd → ℕ → ℕ
+faults_after_call (Err Failed) faults = counted_once faults
+faults_after_call _ faults = faults
+
+-- what was opened has what stood under the name, seen so
+abbrev pub PlaysAgain : {T A : Type 0} → (T → A) → (name : List ℕ) → List (Named T) → T → Type 0
+PlaysAgain look name shelf item = option_map (λ (e : Named _). look e.item) (under name shelf) ≡ Some (look item)

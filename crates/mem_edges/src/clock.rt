@@ -2,6 +2,7 @@
 
 ghost use Rattle.std.specs.Prelude.{◌≡◌, ◌+◌, ◌^◌, ◌-◌, min, max};
 ghost use Rattle.pipe_types.specs.Counts.{Rose};
+ghost use Rattle.mem_edges.specs.Scripts.{counted_once};
 
 use pipe_edges::Clock;
 
@@ -14,6 +15,7 @@ pub struct MemClock {
     pub nap: u64,
     pub latest: u64,
     pub readings: u64,
+    pub pauses: u64,
 }
 
 impl Clock for MemClock {
@@ -21,11 +23,16 @@ impl Clock for MemClock {
 
     ghost readings = { λ c. c.readings };
 
+    ghost pauses = { λ c. c.pauses };
+
     fn now(&mut self) -> u64
         ensures latest { self.new.latest ≡ max self.old.latest result }
         ensures readings { Rose self.old.readings self.new.readings }
+        ensures pauses { self.new.pauses ≡ self.old.pauses }
         ensures answer { result ≡ self.old.at }
         ensures steps { self.new.at ≡ min (self.old.at + self.old.step) (2 ^ 64 - 1) }
+        ensures counted { self.new.readings ≡ counted_once self.old.readings }
+        ensures rest { (self.new.step ≡ self.old.step) × (self.new.nap ≡ self.old.nap) }
     {
         let now = self.at;
         self.at = self.at.saturating_add(self.step);
@@ -37,8 +44,12 @@ impl Clock for MemClock {
     fn pause(&mut self)
         ensures latest { self.new.latest ≡ self.old.latest }
         ensures readings { self.new.readings ≡ self.old.readings }
+        ensures pauses { Rose self.old.pauses self.new.pauses }
         ensures naps { self.new.at ≡ min (self.old.at + self.old.nap) (2 ^ 64 - 1) }
+        ensures counted { self.new.pauses ≡ counted_once self.old.pauses }
+        ensures rest { (self.new.step ≡ self.old.step) × (self.new.nap ≡ self.old.nap) }
     {
         self.at = self.at.saturating_add(self.nap);
+        self.pauses = self.pauses.saturating_add(1);
     }
 }

@@ -5,12 +5,12 @@ ghost use Rattle.pipe_edges.specs.declared.edges.EdgeKind.TheVariants.{File, Sou
 ghost use Rattle.pipe_types.specs.Counts.{Rose};
 ghost use Rattle.pipe_edges.specs.Paces.{unpaced};
 ghost use Rattle.pipe_edges.specs.Named.{IsFreshSource, GivesSource, GivesSink, asked_after, StandsAsBefore, OthersStand, KeepsBack, AddsBack, EdgeHasCause};
-ghost use Rattle.mem_edges.specs.MemSource.{taken_of, left_of, all_bytes};
-ghost use Rattle.mem_edges.specs.MemSink.{held_by};
+ghost use Rattle.mem_edges.specs.MemSource.{taken_of, left_of, all_bytes, acts as source_acts};
+ghost use Rattle.mem_edges.specs.MemSink.{held_by, room_of, acts as sink_acts};
 ghost use Rattle.mem_edges.specs.Calls.{calls_in};
 ghost use Rattle.mem_edges.specs.Refusals.{RefusesExactly};
 ghost use Rattle.mem_edges.specs.Place.{IsFreePlace};
-ghost use Rattle.mem_edges.specs.Opens.{Opens, FreeAsBefore, FreeAfter, FreeAgain, RefusalEnd};
+ghost use Rattle.mem_edges.specs.Opens.{Opens, FreeAsBefore, FreeAfter, FreeAgain, RefusalEnd, PlaysAgain, faults_after_call};
 ghost use Rattle.mem_edges.specs.MemEdges.{named_in, is_free_in, asked_in, sources_given_back, sinks_given_back, fails_of, fails_next as fails_next_of, refuses};
 
 use crate::edges::{Call, MemEdges};
@@ -94,8 +94,10 @@ impl Edges for MemEdges {
         ensures faults_stay { self.old.faults ≤ self.new.faults }
         ensures cause { EdgeHasCause self.old.faults self.new.faults result }
         ensures fails { fails_of self.new ≡ fails_of self.old }
+        ensures counted { self.new.faults ≡ faults_after_call result self.old.faults }
         ensures refused { RefusesExactly (refuses self.old Source name.now) result }
         ensures free { FreeAfter result Source name.now (is_free_in self.old) (is_free_in self.new) }
+        ensures script { IfOk result (PlaysAgain source_acts name.now self.old.sources.items) }
     {
         let place = if self.fails_next() {
             None
@@ -130,8 +132,11 @@ impl Edges for MemEdges {
         ensures faults_stay { self.old.faults ≤ self.new.faults }
         ensures cause { EdgeHasCause self.old.faults self.new.faults result }
         ensures fails { fails_of self.new ≡ fails_of self.old }
+        ensures counted { self.new.faults ≡ faults_after_call result self.old.faults }
         ensures refused { RefusesExactly (refuses self.old Sink name.now) result }
         ensures free { FreeAfter result Sink name.now (is_free_in self.old) (is_free_in self.new) }
+        ensures script { IfOk result (PlaysAgain sink_acts name.now self.old.sinks.items) }
+        ensures room { IfOk result (PlaysAgain room_of name.now self.old.sinks.items) }
     {
         let place = if self.fails_next() {
             None
@@ -165,6 +170,7 @@ impl Edges for MemEdges {
         ensures faults_stay { self.old.faults ≤ self.new.faults }
         ensures cause { EdgeHasCause self.old.faults self.new.faults result }
         ensures fails { fails_of self.new ≡ fails_of self.old }
+        ensures counted { self.new.faults ≡ faults_after_call result self.old.faults }
         ensures refused { RefusesExactly (refuses self.old File name.now) result }
         ensures free { FreeAsBefore (is_free_in self.old) (is_free_in self.new) }
     {

@@ -1,14 +1,13 @@
 //! A sink in memory.
 
-ghost use Rattle.std.specs.Prelude.{◌≡◌, ◌<◌, ◌≤◌, ◌+◌, ◌-◌, true, List, drop, length, ◌++◌, IfOk, OnOk, OnErr};
+ghost use Rattle.std.specs.Prelude.{◌≡◌, ◌<◌, ◌≤◌, ◌+◌, ◌-◌, true, List, drop, length, vec_len, vec_capacity, IfOk};
 ghost use Rattle.pipe_edges.specs.Writes.{WritesBytes, WriteIsCounted, WriteHasCause};
-ghost use Rattle.mem_edges.specs.Scripts.{write_count, TakesBy, room_after};
+ghost use Rattle.mem_edges.specs.Scripts.{write_count, TakesBy, room_after, faults_after_write};
 
 use pipe_edges::{ByteSink, WriteEnd};
 use pipe_types::bytes::Bytes;
 use std::alloc::{AllocError, Global};
 use std::marker::Model;
-use std::mem;
 
 /// What a sink does at one write: it takes so many bytes, 0 counting as 1, or fails.
 #[derive(Clone, Copy, PartialEq, Eq)]
@@ -51,25 +50,20 @@ impl SinkScript {
 /// fits a write fails.
 #[derive(Drop)]
 pub struct MemSink {
-    alloc: Global,
-    held: Bytes,
+    held: Vec<u8>,
     room: usize,
     script: SinkScript,
     next: usize,
     faults: u64,
     ghost within: { next ≤ length script },
+    ghost room_is_there: { vec_len held + room ≤ vec_capacity held },
 }
 
 impl MemSink {
     ghost use Rattle.mem_edges.specs.MemSink.{held_by, room_of, acts, acts_left, IsUnwritten};
 
     /// Holds these bytes, and takes memory for `room` further ones.
-    pub fn new(
-        alloc: Global,
-        held: Bytes,
-        room: usize,
-        script: SinkScript,
-    ) -> Result<MemSink, AllocError>
+    pub fn new(held: Bytes, room: usize, script: SinkScript) -> Result<MemSink, AllocError>
         ensures held { IfOk result (λ k. held_by k ≡ held) }
         ensures room { IfOk result (λ k. room_of k ≡ room) }
         ensures acts { IfOk result (λ k. acts k ≡ script) }
@@ -78,8 +72,7 @@ impl MemSink {
         let mut bytes = held.into_vec();
         bytes.reserve(room)?;
         Ok(MemSink {
-            alloc,
-            held: Bytes::from_vec(bytes),
+            held: bytes,
             room,
             script,
             next: 0,
@@ -88,17 +81,17 @@ impl MemSink {
     }
 
     /// All the bytes that it holds.
-    pub fn held(&self) -> &Bytes
+    pub fn held(&self) -> &[u8]
         ensures { result.now ≡ held_by self.now }
     {
-        &self.held
+        self.held.as_slice()
     }
 
     // Plays the next act, which allows at most so many of `size` bytes.
     fn play(&mut self, size: usize) -> usize
         ensures count { result ≡ write_count (acts_left self.old) size }
         ensures acts { acts_left self.new ≡ drop 1 (acts_left self.old) }
-        ensures rest { (held_by self.new ≡ held_by self.old) × (room_of self.new ≡ room_of self.old)
+        ensures rest { (self.new.held ≡ self.old.held) × (room_of self.new ≡ room_of self.old)
             × (self.new.faults ≡ self.old.faults) }
     {
         if self.next == self.script.as_slice().len() {
@@ -115,11 +108,13 @@ impl MemSink {
     // A sink that holds the same bytes, with the same room and script, which answered no write.
     pub(crate) fn again(&self, alloc: Global) -> Result<MemSink, AllocError>
         ensures held { IfOk result (λ k. held_by k ≡ held_by self.now) }
+        ensures room { IfOk result (λ k. room_of k ≡ room_of self.now) }
+        ensures acts { IfOk result (λ k. acts k ≡ acts self.now) }
         ensures unwritten { IfOk result IsUnwritten }
     {
         let held = Bytes::from_vec(Vec::from_slice(alloc, self.held.as_slice())?);
         let script = SinkScript::from_vec(Vec::from_slice(alloc, self.script.as_slice())?);
-        MemSink::new(alloc, held, self.room, script)
+        MemSink::new(held, self.room, script)
     }
 }
 
@@ -141,25 +136,18 @@ impl ByteSink for MemSink {
         ensures takes { TakesBy (acts_left self.old) (length piece.now) (room_of self.old) result }
         ensures room { room_of self.new ≡ room_after (room_of self.old) result }
         ensures acts { acts_left self.new ≡ drop 1 (acts_left self.old) }
+        ensures faults { self.new.faults ≡ faults_after_write result self.old.faults }
     {
         let most = self.play(piece.len());
         let count = most.min(self.room);
-        if count == 0 || append(self.alloc, &mut self.held, &piece[..count]).is_err() {
+        if count == 0 {
             self.faults = self.faults.saturating_add(1);
             return WriteEnd::Failed;
+        }
+        if self.held.extend_from_slice(&piece[..count]).is_err() {
+            unreachable!();
         }
         self.room -= count;
         WriteEnd::Took(count)
     }
-}
-
-// Adds bytes at the end. For want of memory nothing is added.
-fn append(alloc: Global, held: &mut Bytes, more: &[u8]) -> Result<(), AllocError>
-    ensures ok { OnOk result (held.new ≡ held.old ++ more.now) }
-    ensures err { OnErr result (held.new ≡ held.old) }
-{
-    let mut bytes = mem::replace(held, Bytes::from_vec(Vec::new(alloc))).into_vec();
-    let added = bytes.extend_from_slice(more);
-    *held = Bytes::from_vec(bytes);
-    added
 }

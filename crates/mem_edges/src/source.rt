@@ -2,7 +2,7 @@
 
 ghost use Rattle.std.specs.Prelude.{◌≡◌, ◌<◌, ◌≤◌, ◌+◌, true, [], List, take, drop, length, IfOk};
 ghost use Rattle.pipe_edges.specs.Reads.{ReadsBytes, ReadIsCounted, ReadHasCause};
-ghost use Rattle.mem_edges.specs.Scripts.{read_answer, IsGift};
+ghost use Rattle.mem_edges.specs.Scripts.{read_answer, IsGift, faults_after_read, waits_after_read};
 
 use pipe_edges::{ByteSource, ReadEnd};
 use pipe_types::bytes::Bytes;
@@ -82,6 +82,7 @@ impl MemSource {
     // A source of the same bytes and the same script, of which none was read.
     pub(crate) fn again(&self, alloc: Global) -> Result<MemSource, AllocError>
         ensures bytes { IfOk result (λ s. all_bytes s ≡ all_bytes self.now) }
+        ensures acts { IfOk result (λ s. acts s ≡ acts self.now) }
         ensures unread { IfOk result IsUnread }
     {
         let bytes = Bytes::from_vec(Vec::from_slice(alloc, self.bytes.as_slice())?);
@@ -112,6 +113,8 @@ impl ByteSource for MemSource {
         ensures cause { ReadHasCause self.old.faults self.new.faults self.old.waits self.new.waits result }
         ensures answer { result ≡ read_answer (acts_left self.old) (length piece.old) (length (left_of self.old)) }
         ensures acts { acts_left self.new ≡ drop 1 (acts_left self.old) }
+        ensures faults { self.new.faults ≡ faults_after_read result self.old.faults }
+        ensures waits { self.new.waits ≡ waits_after_read result self.old.waits }
     {
         let mut most = usize::MAX;
         if self.next < self.script.as_slice().len() {

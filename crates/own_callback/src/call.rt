@@ -84,6 +84,7 @@ pub fn run_with<
         nap: 0,
         latest: 0,
         readings: 0,
+        pauses: 0,
     };
     let end = run_program::<R, MemEdges, C, B, MemClock>(
         rt, alloc, &words, stock, &mut edges, clock, &mut out, &mut err,
@@ -133,7 +134,6 @@ pub(crate) fn output(alloc: Global) -> Result<MemSink, AllocError>
     ensures unwritten { IfOk result IsUnwritten }
 {
     MemSink::new(
-        alloc,
         Bytes::from_vec(Vec::new(alloc)),
         ROOM,
         SinkScript::from_vec(Vec::new(alloc)),

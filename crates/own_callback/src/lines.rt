@@ -52,18 +52,19 @@ pub fn run_lines<
         nap: 0,
         latest: 0,
         readings: 0,
+        pauses: 0,
     };
     let end = run_program::<R, MemEdges, C, B, MemClock>(
         rt, alloc, &words, stock, &mut edges, clock, &mut out, &mut err,
     );
-    let (acknowledgements, report) = parts_of(alloc, out.held().as_slice())?;
+    let (acknowledgements, report) = parts_of(alloc, out.held())?;
     Ok(LinesEnd {
         status: end.status,
         acknowledgements,
         report,
         s: held_under(alloc, &edges, "mem:s")?,
         t: held_under(alloc, &edges, "mem:t")?,
-        errors: copy_bytes(alloc, err.held().as_slice())?,
+        errors: copy_bytes(alloc, err.held())?,
         topology: end.topology,
         journal: end.journal,
         stock: end.stock,
@@ -103,7 +104,7 @@ fn held_under(alloc: Global, edges: &MemEdges, name: &str) -> Result<Bytes, Allo
 {
     let name = text(alloc, name)?;
     match edges.sink(&name) {
-        Some(sink) => copy_bytes(alloc, sink.held().as_slice()),
+        Some(sink) => copy_bytes(alloc, sink.held()),
         None => Ok(Bytes::from_vec(Vec::new(alloc))),
     }
 }

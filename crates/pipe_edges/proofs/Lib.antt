@@ -3,3 +3,4 @@ pub mod SearchLaws
 pub mod HandLaws
 pub mod PutLaws
 pub mod PaceLaws
+pub mod NeedLaws

@@ -5,6 +5,7 @@ pub mod Paces
 pub mod Pacing
 pub mod Texts
 pub mod Handed
+pub mod Needed
 pub mod Cut
 pub mod Held
 pub mod Stop

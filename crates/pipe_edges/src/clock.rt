@@ -11,13 +11,18 @@ pub trait Clock {
     /// How often it was read.
     ghost readings: { Self → ℕ };
 
+    /// How often it paused.
+    ghost pauses: { Self → ℕ };
+
     /// The time in milliseconds.
     fn now(&mut self) -> u64
         ensures latest { latest self.new ≡ max (latest self.old) result }
-        ensures readings { Rose (readings self.old) (readings self.new) };
+        ensures readings { Rose (readings self.old) (readings self.new) }
+        ensures pauses { pauses self.new ≡ pauses self.old };
 
     /// Lets some time pass.
     fn pause(&mut self)
         ensures latest { latest self.new ≡ latest self.old }
-        ensures readings { readings self.new ≡ readings self.old };
+        ensures readings { readings self.new ≡ readings self.old }
+        ensures pauses { Rose (pauses self.old) (pauses self.new) };
 }

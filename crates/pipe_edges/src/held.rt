@@ -1,6 +1,6 @@
 //! The bytes that were read and stand behind the lines that were handed out.
 
-ghost use Rattle.std.specs.Prelude.{◌≡◌, ◌<◌, ◌≤◌, ◌++◌, [], List, ℕ, length, take, drop, vec_len, IsTrue, IfOk, IfSome, IfNone, OnErr, All};
+ghost use Rattle.std.specs.Prelude.{◌≡◌, ◌<◌, ◌≤◌, ◌+◌, ◌++◌, [], List, ℕ, length, take, drop, vec_len, IsTrue, IfOk, IfSome, IfNone, OnErr, All};
 ghost use Rattle.pipe_edges.specs.Texts.{HasNoLf, IsLine, ended};
 ghost use Rattle.pipe_edges.specs.Cut.{EndsAt, IsSearched, CutsLines, CutsAll};
 ghost use Rattle.pipe_edges.specs.Handed.{Handed};
@@ -162,6 +162,7 @@ impl Held {
         ensures grows { IfOk result (ReadGrows (B.told source.old) self.old self.new (B.left source.new)) }
         ensures cause { IfOk result (ReadHasCause (B.faults source.old) (B.faults source.new)
             (B.waits source.old) (B.waits source.new)) }
+        ensures at_most { length self.new ≤ length self.old + 8192 }
         ensures paced { IfOk result (ReadIsHeld B.ByteSource source.old source.new self.old self.new) }
     {
         drop_front(&mut self.bytes, self.start);

@@ -5,6 +5,7 @@ ghost use Rattle.pipe_types.specs.Lines.{lines};
 ghost use Rattle.pipe_edges.specs.declared.reading.LineEnd.TheVariants.{End, TooLong};
 ghost use Rattle.pipe_edges.specs.Texts.{IsLine, BeginsTooLong};
 ghost use Rattle.pipe_edges.specs.Handed.{Handed};
+ghost use Rattle.pipe_edges.specs.Needed.{ReadsAsNeeded};
 ghost use Rattle.pipe_edges.specs.Pacing.{FetchIsPaced, IsToldAt};
 ghost use Rattle.pipe_edges.specs.Fetch.{answer_of, records_in, text_of, FetchHasCause, Remembers};
 
@@ -83,6 +84,10 @@ impl<B: ByteSource> LineSource<B> {
             (waiting self.old) (waiting self.new) result }
         // It reads only where no whole line is held, nor more bytes than a line may have.
         ensures unread { ¬ IsLine (waiting self.old) → line_source self.new ≡ line_source self.old }
+
+        // It reads only behind a part of a line: before the last 8,192 bytes at most that it read, no LF was held.
+        ensures needed { ReadsAsNeeded (waiting self.old) (waiting self.new)
+            (text_of (line_end_of self.new) (records_in result)) }
 
         ensures remembers { Remembers (line_end_of self.new) result }
         ensures again { IfSome (line_end_of self.old) (λ e. (result ≡ Ok (answer_of e)) × (self.new ≡ self.old)) }

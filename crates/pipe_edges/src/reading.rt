@@ -3,6 +3,7 @@
 ghost use Rattle.std.specs.Prelude.{◌≡◌, ◌<◌, ℕ, IfOk};
 ghost use Rattle.pipe_edges.specs.Texts.{IsLine};
 ghost use Rattle.pipe_edges.specs.Handed.{Handed};
+ghost use Rattle.pipe_edges.specs.Needed.{ReadsAsNeeded};
 ghost use Rattle.pipe_edges.specs.Fetch.{answer_of};
 ghost use Rattle.pipe_edges.specs.Pacing.{RoundIsPaced, as_round};
 ghost use Rattle.pipe_edges.specs.Stop.{fetched_of, end_of, text_in, text_in_round, StopHasCause, RoundHasCause};
@@ -85,6 +86,7 @@ pub fn read_on<B: ByteSource>(
         (text_in result) }
     ensures cause { IfOk result (StopHasCause B.ByteSource source.old source.new held.new max) }
     ensures paced { RoundIsPaced B.ByteSource source.old source.new held.old held.new (as_round result) }
+    ensures needed { ReadsAsNeeded held.old held.new (text_in result) }
     ensures unread { ¬ IsLine held.old → source.new ≡ source.old }
 {
     loop {
@@ -107,6 +109,7 @@ fn go_round<B: ByteSource>(
     ensures cause { IfOk result (RoundHasCause B.ByteSource source.old source.new
         held.old held.new max) }
     ensures paced { RoundIsPaced B.ByteSource source.old source.new held.old held.new result }
+    ensures needed { ReadsAsNeeded held.old held.new (text_in_round result) }
     ensures unread { ¬ IsLine held.old → source.new ≡ source.old }
 {
     let records = held.take_lines(max)?;
@@ -131,6 +134,7 @@ fn read_round<B: ByteSource>(
     ensures cause { (max : ℕ) → IfOk result (RoundHasCause B.ByteSource source.old source.new
         held.old held.new max) }
     ensures paced { RoundIsPaced B.ByteSource source.old source.new held.old held.new result }
+    ensures needed { ReadsAsNeeded held.old held.new (text_in_round result) }
 {
     // The list is made before the read, so that nothing can fail after it.
     let mut last = Vec::with_capacity(alloc, 1)?;

@@ -1,19 +1,19 @@
 -- The calls that a run makes by name, and those that it gives up after.
 use Rattle.std.proofs.Common.{◌≡◌, ℕ, suc, ◌+◌, ◌∷◌, ◌++◌, List, [], take, drop, length, Bool, arith, refl, ap, sym, ◌∙◌, subst, inl, inr}
-use Rattle.std.specs.Prelude.{IsTrue, Option, Some, None, option_map}
-use Rattle.std.proofs.lemmas.List.{append_assoc}
+use Rattle.std.specs.Prelude.{◌⊎◌, IsTrue, Option, Some, None, option_map}
+use Rattle.std.proofs.lemmas.List.{append-nil, append_assoc}
 use Rattle.pipe_types.specs.declared.topology.Topology.{Topology}
 use Rattle.pipe_model.specs.History.{History}
 use Rattle.pipe_edges.specs.declared.edges.EdgeKind.{EdgeKind}
 use Rattle.stage_bodies.specs.Seen.{SourceSeen, SinkSeen, LineSeen, BodySeen}
 use Rattle.edge_names.specs.Seen.{EdgesSeen}
-use Rattle.edge_names.specs.Controls.{IsStageUndone, IsUndone, control_call, first_sources, first_sinks}
-use Rattle.edge_names.specs.Opened.{Asks, IsOneFailed, calls_of, edge_calls, one}
+use Rattle.edge_names.specs.Controls.{IsControlCut, IsCutShort, IsStageCut, IsStageUndone, IsUndone, control_call, first_sources, first_sinks, run_calls}
+use Rattle.edge_names.specs.Opened.{Asks, IsOneFailed, calls_of, edge_calls, one, uncalled}
 use Rattle.edge_names.specs.Returned.{GivesBack}
 use Rattle.edge_names.proofs.Undoes.{calls_parts}
 use Rattle.box_stock.specs.Lends.{AreHandedOut}
-use Rattle.pipe_run.specs.Outside.{AreAsked, AreUsed, HasControl, IsControlUnopened, IsOutside, IsStageUnopened}
-use Rattle.pipe_run.specs.Whole.{HasFailed}
+use Rattle.pipe_run.specs.Outside.{AreAsked, AreUsed, HasControl, IsControlUnopened, IsOpenedInPart, IsOutside, IsStageUnopened}
+use Rattle.pipe_run.specs.Whole.{HasFailed, HasWanted}
 
 unopened_control : (topology : Topology) (name : List ℕ) (old new : EdgesSeen) → IsOneFailed (control_call topology.control) name old new → IsControlUnopened topology name (edge_calls topology) old new
 unopened_control topology name old new failed = record {
@@ -75,6 +75,37 @@ failed_by topology name start old new handed (inr u) =
       fault = u.fault;
       back = inr (unopened_stage topology name start old new handed u);
     }
+
+-- memory was wanting before anything was asked
+pub unasked : (topology : Topology) (edges : EdgesSeen) → HasWanted topology edges edges
+unasked topology edges = record {
+  front = [];
+  rest = run_calls topology;
+  calls = refl;
+  asks = record { same_telling = refl; asked = λ t. sym (append-nil edges.asked); faults_stay = omega arith };
+  back = inl (record {
+    calls = [];
+    back = [];
+    cut = uncalled refl refl;
+    to_come = refl;
+    sources = sym (append-nil edges.sources_back);
+    sinks = refl;
+  });
+}
+
+-- memory was wanting in opening
+pub wanted : (topology : Topology) (start : ℕ → Option BodySeen) (old new : EdgesSeen) → AreHandedOut topology start → IsCutShort topology start old new → HasWanted topology old new
+wanted topology start old new handed cut = record {
+  front = cut.front;
+  rest = cut.rest;
+  calls = cut.calls;
+  asks = record { same_telling = cut.same_telling; asked = cut.asked; faults_stay = cut.faults_stay };
+  back = by_part cut.given_back;
+}
+  where
+    by_part : IsControlCut topology cut.rest old new ⊎ IsStageCut topology start cut.rest old new → IsOpenedInPart topology cut.rest old new
+    by_part (inl control) = inl control
+    by_part (inr stage) = inr (start, handed, stage)
 
 -- what was opened was asked for, and nothing more
 pub asked_all : (calls : List (EdgeKind × List ℕ)) (sources : List (List ℕ × SourceSeen)) (sinks : List (List ℕ × SinkSeen)) (old mid new : EdgesSeen) → Asks calls old mid → GivesBack sources sinks mid new → AreAsked calls old new

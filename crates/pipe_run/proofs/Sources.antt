@@ -125,5 +125,4 @@ source_read topology before s lost edges name opened now legal role own in_fetch
   same_telling = k.read.same_telling;
   same_bytes = λ t. all_bytes opened.source now (fed before s ++ lost) gives.source.nothing_taken k.read t;
   reads = reads_source topology before s lost edges name opened now legal role own in_fetch gives k;
-  first = k.first;
 }

@@ -1,5 +1,5 @@
 -- What a run read of its sources, and wrote to its sinks.
-use Rattle.std.specs.Prelude.{◌≡◌, ◌≤◌, ◌⊎◌, ◌+◌, ◌++◌, ℕ, suc, drop, Bool, List, length, slice_get, All, IsTrue, Option, Some, None}
+use Rattle.std.specs.Prelude.{◌≡◌, ◌≤◌, ◌⊎◌, ◌+◌, ◌++◌, ℕ, suc, drop, Bool, List, length, slice_get, IsTrue, Option, Some, None}
 use Rattle.pipe_types.specs.Counts.{Rose}
 use Rattle.pipe_types.specs.declared.numbers.StageNo.{StageNo}
 use Rattle.pipe_types.specs.declared.step.SourceHow.TheVariants.{End, Fault, TooLong}
@@ -16,15 +16,14 @@ use Rattle.pipe_laws.specs.Read.{quiets}
 use Rattle.stage_job.specs.Chunks.{RoseBy}
 use Rattle.stage_bodies.specs.Seen.{SourceSeen, SinkSeen, LineSeen, BodySeen}
 use Rattle.stage_bodies.specs.Posts.{place_at}
-use Rattle.body_laws.specs.Counts.{brought, short_writes}
-use Rattle.body_laws.specs.Keeps.{AreFirstHeld}
+use Rattle.body_laws.specs.Counts.{short_writes}
 use Rattle.body_laws.specs.Ready.{There}
 use Rattle.run_pipe.specs.Obeyed.{IsControlRead}
 use Rattle.edge_names.specs.Seen.{EdgesSeen}
 use Rattle.edge_names.specs.Named.{GivesSource, GivesSink}
 use Rattle.edge_names.specs.Opened.{AreOpened, HasSource, call_in, calls_of, edge_call, edge_calls}
 use Rattle.edge_names.specs.Returned.{source_in, sink_in, sources_of, sinks_of}
-use Rattle.edge_names.specs.Controls.{control_call, named_control, first_sources, first_sinks}
+use Rattle.edge_names.specs.Controls.{IsControlCut, IsStageCut, control_call, named_control, first_sources, first_sinks}
 use Rattle.box_stock.specs.Lends.{AreHandedOut}
 
 -- the records are the first lines of what the source gave and has left: all of them, none too long, where it ended; all
@@ -37,15 +36,13 @@ pub record ReadsSource (before : History) (p : StageNo) (source : SourceSeen) : 
   pub fault : source_end before p ≡ Some Fault → Rose 0 source.faults
   pub quiet : RoseBy (quiets before p) 0 source.waits
 
--- the source that was opened under this name has the bytes that stood there, the journal's records are its lines, and each
--- fetch brought the first lines that were held
+-- the source that was opened under this name has the bytes that stood there, and the journal's records are its lines
 pub record IsSourceRead (edges : EdgesSeen) (before : History) (p : StageNo) (name : List ℕ) (source : SourceSeen) : Type 0 where
   pub opened : SourceSeen
   pub given : GivesSource edges name opened
   pub same_telling : source.told ≡ opened.told
   pub same_bytes : IsTrue opened.told → source.taken ++ source.left ≡ opened.left
   pub reads : ReadsSource before p source
-  pub first : All (AreFirstHeld opened) (brought before p)
 
 -- the control source that was opened under this name has the bytes that stood there, and the control steps of the journal are
 -- those of its lines
@@ -118,6 +115,13 @@ pub record IsStageUnopened (topology : Topology) (name : List ℕ) (rest : List 
 -- a call that opens failed by this name, with these calls still to come, and what was opened before it was given back
 abbrev pub IsUnopened : Topology → (name : List ℕ) → (rest : List (EdgeKind × List ℕ)) → (old new : EdgesSeen) → Type 0
 IsUnopened topology name rest old new = IsControlUnopened topology name rest old new ⊎ IsStageUnopened topology name rest old new
+
+-- memory was wanting before all was opened, with these calls still to come, and what was opened was given back, unread and
+-- unwritten: all of it or the first parts
+abbrev pub IsOpenedInPart : Topology → (rest : List (EdgeKind × List ℕ)) → (old new : EdgesSeen) → Type 0
+IsOpenedInPart topology rest old new =
+    IsControlCut topology rest old new
+    ⊎ ((start : ℕ → Option BodySeen) × AreHandedOut topology start × IsStageCut topology start rest old new)
 
 -- these calls by name were made, of edges that tell as before
 pub record AreAsked (calls : List (EdgeKind × List ℕ)) (old new : EdgesSeen) : Type 0 where

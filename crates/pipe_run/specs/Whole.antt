@@ -11,7 +11,7 @@ use Rattle.pipe_laws.specs.Read.{HasNoControl}
 use Rattle.run_pipe.specs.Clocks.{ClockSeen, KeepsClock, KeepsClockPartly}
 use Rattle.edge_names.specs.Seen.{EdgesSeen}
 use Rattle.edge_names.specs.Controls.{run_calls}
-use Rattle.pipe_run.specs.Outside.{AreAsked, IsOutside, IsUnopened}
+use Rattle.pipe_run.specs.Outside.{AreAsked, IsOpenedInPart, IsOutside, IsUnopened}
 use Rattle.pipe_run.specs.declared.run.NoRun.{NoRun}
 use Rattle.pipe_run.specs.declared.run.NoRun.TheVariants.{Unopened, OutOfMemory}
 
@@ -43,6 +43,14 @@ pub record HasFailed (topology : Topology) (name : List ℕ) (old new : EdgesSee
   pub asks : AreAsked (front ++ (kind, name) ∷ []) old new
   pub fault : Rose old.faults new.faults
   pub back : IsUnopened topology name rest old new
+
+-- memory was wanting before the run began: so many of the calls were made, and what they opened was given back
+pub record HasWanted (topology : Topology) (old new : EdgesSeen) : Type 0 where
+  pub front : List (EdgeKind × List ℕ)
+  pub rest : List (EdgeKind × List ℕ)
+  pub calls : run_calls topology ≡ front ++ rest
+  pub asks : AreAsked front old new
+  pub back : IsOpenedInPart topology rest old new
 
 abbrev pub IfUnopened : NoRun → (List ℕ → Type 0) → Type 0
 IfUnopened (Unopened name) P = P name

@@ -9,13 +9,12 @@ ghost use Rattle.body_laws.specs.Ready.{IsFilled};
 ghost use Rattle.run_pipe.specs.Keeping.{IsFresh};
 ghost use Rattle.run_pipe.specs.Clocks.{clock_seen};
 ghost use Rattle.run_pipe.specs.Ends.{HasEnded};
-ghost use Rattle.edge_names.specs.Controls.{run_calls};
-ghost use Rattle.edge_names.specs.Returned.{IsAskedInPart, KeepsCallbacks};
+ghost use Rattle.edge_names.specs.Returned.{KeepsCallbacks};
 ghost use Rattle.box_stock.specs.Homes.{Suffices};
 ghost use Rattle.box_stock.specs.Lends.{AreHandedOut, AreStillThere, IsSameBox, box_at, kinds_of};
 ghost use Rattle.pipe_run.specs.Boxes.{AreBoxesLeft, AreSameBoxes, LeavesCallbacks};
 ghost use Rattle.pipe_run.specs.Steps.{WentOn};
-ghost use Rattle.pipe_run.specs.Whole.{IsRunOf, HasFailed, HasCome, IfUnopened, IfWanting};
+ghost use Rattle.pipe_run.specs.Whole.{IsRunOf, HasFailed, HasWanted, HasCome, IfUnopened, IfWanting};
 
 use box_stock::{Boxed, Carries, Lent, hand_out, take_back};
 use core_state::Core;
@@ -93,7 +92,7 @@ pub fn run_topology<
     ensures ended { IfOk result.run (λ run. IfOk run.end (HasEnded topology run.core.journal.steps)) }
     ensures boxes { IfOk result.run (λ run. AreBoxesLeft (is_ok run.end) topology run.core.journal.steps (map C.seen stock.items) (map C.seen result.stock.items)) }
     ensures failed { IfErr result.run (λ e. IfUnopened e (λ name. HasFailed topology name (⟦<E as SeenEdges>⟧.seen edges.old) (⟦<E as SeenEdges>⟧.seen edges.new))) }
-    ensures wanting { IfErr result.run (λ e. IfWanting e (IsAskedInPart (run_calls topology) (⟦<E as SeenEdges>⟧.seen edges.old) (⟦<E as SeenEdges>⟧.seen edges.new))) }
+    ensures wanting { IfErr result.run (λ e. IfWanting e (HasWanted topology (⟦<E as SeenEdges>⟧.seen edges.old) (⟦<E as SeenEdges>⟧.seen edges.new))) }
     ensures same_boxes { OnErr result.run (AreSameBoxes (map C.seen stock.items) (map C.seen result.stock.items)) }
     ensures same_clock { OnErr result.run (result.clock ≡ clock) }
 {
@@ -138,7 +137,7 @@ fn run_bodies<
     ensures ended { IfOk result.run (λ run. IfOk run.end (HasEnded topology run.core.journal.steps)) }
     ensures boxes { IfOk result.run (λ run. LeavesCallbacks (is_ok run.end) topology run.core.journal.steps (body_at B.look bodies.items) (body_at B.look result.bodies.items)) }
     ensures failed { IfErr result.run (λ e. IfUnopened e (λ name. HasFailed topology name (⟦<E as SeenEdges>⟧.seen edges.old) (⟦<E as SeenEdges>⟧.seen edges.new))) }
-    ensures wanting { IfErr result.run (λ e. IfWanting e (IsAskedInPart (run_calls topology) (⟦<E as SeenEdges>⟧.seen edges.old) (⟦<E as SeenEdges>⟧.seen edges.new))) }
+    ensures wanting { IfErr result.run (λ e. IfWanting e (HasWanted topology (⟦<E as SeenEdges>⟧.seen edges.old) (⟦<E as SeenEdges>⟧.seen edges.new))) }
     ensures same_callbacks { OnErr result.run (KeepsCallbacks (body_at B.look bodies.items) (body_at B.look result.bodies.items)) }
     ensures same_clock { OnErr result.run (result.clock ≡ clock) }
 {

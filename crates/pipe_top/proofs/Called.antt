@@ -1,7 +1,8 @@
 -- What a call comes to after a call by name that gave nothing back.
-use Rattle.std.proofs.Common.{◌≡◌, ℕ, suc, ◌≤◌, List, [], ◌∷◌, ◌++◌, take, Bool, Option, Some, None, ◌∙◌, ap, inl, inr, arith}
-use Rattle.std.specs.Prelude.{◌⊎◌, IsTrue}
+use Rattle.std.proofs.Common.{◌≡◌, ℕ, suc, ◌≤◌, List, [], ◌∷◌, ◌++◌, take, Bool, true, false, Option, Some, None, ◌∙◌, ap, inl, inr, arith}
+use Rattle.std.specs.Prelude.{◌⊎◌, All, IsTrue}
 use Rattle.std.proofs.lemmas.List.{append_assoc}
+use Rattle.std.proofs.lemmas.List.Elements.{All-cons}
 use Rattle.pipe_types.specs.Counts.{Rose}
 use Rattle.pipe_types.specs.declared.numbers.StageNo.{StageNo}
 use Rattle.pipe_types.specs.declared.topology.Topology.{Topology}
@@ -15,12 +16,12 @@ use Rattle.stage_bodies.specs.Posts.{place_at}
 use Rattle.body_laws.specs.Ready.{There}
 use Rattle.edge_names.specs.Seen.{EdgesSeen}
 use Rattle.edge_names.specs.Named.{GivesSource, GivesSink}
-use Rattle.edge_names.specs.Opened.{HasSource, HasSink, IsOpened, AreOpened, call_at}
-use Rattle.edge_names.specs.Controls.{control_call, named_control, first_sources, first_sinks}
+use Rattle.edge_names.specs.Opened.{HasSource, HasSink, IsCut, IsOpened, AreOpened, call_at, edge_call, let_go, returned, uncalled}
+use Rattle.edge_names.specs.Controls.{IsFailedInPart, IsStageCut, control_call, named_control, first_sources, first_sinks}
 use Rattle.edge_names.specs.Returned.{source_in, sink_in, sources_of, sinks_of}
-use Rattle.pipe_run.specs.Outside.{IsSourceRead, IsSinkWritten, AreUsed, IsControlUsed, HasControl, IsOutside, IsStageUnopened, IsUnopened}
+use Rattle.pipe_run.specs.Outside.{IsSourceRead, IsSinkWritten, AreUsed, IsControlUsed, HasControl, IsOpenedInPart, IsOutside, IsStageUnopened, IsUnopened}
 use Rattle.pipe_top.specs.Cases.{Case, NoCommand, NoTopology as BadTopology, TooFew, Checks, Upgrades, Runs}
-use Rattle.pipe_top.specs.Runs.{OutsideSeen, IsUntouched, IsNothingBack, IsGivenUp, HasRunOrNot, IsOutsideOf, FailsAt}
+use Rattle.pipe_top.specs.Runs.{OutsideSeen, IsUntouched, IsNothingBack, IsBrokenOff, IsGivenUp, HasRunOrNot, IsOutsideOf, FailsAt}
 use Rattle.pipe_top.specs.Flows.{IsEarly, Outcome, AskedBy, ComesBy}
 use Rattle.run_verdicts.specs.declared.verdict.Refusal.TheVariants.{Usage, Topology as NoTopology, Stock, Edge, Memory}
 use Rattle.run_verdicts.specs.declared.verdict.Verdict.{Verdict}
@@ -99,7 +100,6 @@ source_read old new before p name source same x = record {
   same_telling = x.same_telling;
   same_bytes = x.same_bytes;
   reads = x.reads;
-  first = x.first;
 }
 
 control_used : (topology : Topology) (old new : EdgesSeen) (before : History) (name : List ℕ) (source : SourceSeen) → SameNames old new → IsControlUsed topology new before name source → IsControlUsed topology old before name source
@@ -157,12 +157,13 @@ fails_as told told' call calls asked middle asked' f f' f'' name same at_least f
 
 -- ---- the outside
 
--- what became of the edges by a call by name that gave nothing back
+-- what became of the edges by a call by name that read a file
 pub record Called (old new : EdgesSeen) (call : EdgeKind × List ℕ) : Type 0 where
   pub names : SameNames old new
   pub same_sources : new.sources_back ≡ old.sources_back
   pub same_sinks : new.sinks_back ≡ old.sinks_back
   pub faults_stay : old.faults ≤ new.faults
+  pub is_file : call.0 ≡ File
   pub one_call : IsTrue old.told → new.asked ≡ old.asked ++ call ∷ []
 
 abbrev with_edges : OutsideSeen → EdgesSeen → OutsideSeen
@@ -223,9 +224,76 @@ given_up_as topology call calls old middle new c x = record {
   back = given_back_as (x.fails.kind ≡ File) topology x.name x.fails.rest call old middle new c x.back;
 }
 
+cut_as : (old new : EdgesSeen) (call : Option (EdgeKind × List ℕ)) (calls : List (EdgeKind × List ℕ)) (back : List (List ℕ × SourceSeen)) → SameNames old new → IsCut new call calls back → IsCut old call calls back
+cut_as old new call calls back same (uncalled p q) = uncalled p q
+cut_as old new call calls back same (returned name source p q gives r) = returned name source p q (gives_source old new name source same gives) r
+cut_as old new call calls back same (let_go name p q r) = let_go name p q r
+
+failed_in_part_as : (topology : Topology) (of : Option (EdgeKind × List ℕ)) (calls : List (EdgeKind × List ℕ)) (back : List (List ℕ × SourceSeen)) (parts : ℕ) (call : EdgeKind × List ℕ) (old middle new : EdgesSeen) → Called old middle call
+    → IsFailedInPart topology of calls back parts middle new → IsFailedInPart topology of calls back parts old new
+failed_in_part_as topology of calls back parts call old middle new c x = record {
+  kind = x.kind;
+  name = x.name;
+  is = x.is;
+  made = x.made;
+  none_back = x.none_back;
+  fault = rose_from old.faults middle.faults new.faults c.faults_stay x.fault;
+  some_left = x.some_left;
+}
+
+either_as : (topology : Topology) (of : Option (EdgeKind × List ℕ)) (calls : List (EdgeKind × List ℕ)) (back : List (List ℕ × SourceSeen)) (parts : ℕ) (call : EdgeKind × List ℕ) (old middle new : EdgesSeen) → Called old middle call
+    → IsCut middle of calls back ⊎ IsFailedInPart topology of calls back parts middle new → IsCut old of calls back ⊎ IsFailedInPart topology of calls back parts old new
+either_as topology of calls back parts call old middle new c (inl x) = inl (cut_as old middle of calls back c.names x)
+either_as topology of calls back parts call old middle new c (inr x) = inr (failed_in_part_as topology of calls back parts call old middle new c x)
+
+stage_cut_as : (topology : Topology) (start : ℕ → Option BodySeen) (rest : List (EdgeKind × List ℕ)) (call : EdgeKind × List ℕ) (old middle new : EdgesSeen) → Called old middle call
+    → IsStageCut topology start rest middle new → IsStageCut topology start rest old new
+stage_cut_as topology start rest call old middle new c x = record {
+  at = x.at;
+  spec = x.spec;
+  here = x.here;
+  calls = x.calls;
+  back = x.back;
+  parts = x.parts;
+  cut = either_as topology (edge_call x.spec) x.calls x.back x.parts call old middle new c x.cut;
+  to_come = x.to_come;
+  control = x.control;
+  lines = has_source old middle (control_call topology.control) None x.control c.names x.lines;
+  opened = x.opened;
+  bodies = are_opened topology x.at old middle start x.opened c.names x.bodies;
+  sources = x.sources ∙ ap (λ l. l ++ (x.back ++ first_sources x.parts topology x.control x.opened)) c.same_sources;
+  sinks = x.sinks ∙ ap (λ l. l ++ first_sinks x.parts topology x.opened) c.same_sinks;
+}
+
+opened_in_part_as : (topology : Topology) (rest : List (EdgeKind × List ℕ)) (call : EdgeKind × List ℕ) (old middle new : EdgesSeen) → Called old middle call
+    → IsOpenedInPart topology rest middle new → IsOpenedInPart topology rest old new
+opened_in_part_as topology rest call old middle new c (inl x) = inl (record {
+  calls = x.calls;
+  back = x.back;
+  cut = cut_as old middle (control_call topology.control) x.calls x.back c.names x.cut;
+  to_come = x.to_come;
+  sources = x.sources ∙ ap (λ l. l ++ x.back) c.same_sources;
+  sinks = x.sinks ∙ c.same_sinks;
+})
+opened_in_part_as topology rest call old middle new c (inr x) = inr (x.0, x.1, stage_cut_as topology x.0 rest call old middle new c x.2)
+
+broken_off_as : (topology : Topology) (call : EdgeKind × List ℕ) (calls : List (EdgeKind × List ℕ)) (old middle new : EdgesSeen) → Called old middle call → IsBrokenOff calls topology middle new → IsBrokenOff (call ∷ calls) topology old new
+broken_off_as topology call calls old middle new c x = record {
+  front = call ∷ x.front;
+  rest = x.rest;
+  parts = ap (λ l. call ∷ l) x.parts;
+  asked = λ t. x.asked (rw c.names.same_telling t) ∙ ap (λ l. l ++ x.front) (c.one_call t) ∙ append_assoc old.asked (call ∷ []) x.front;
+  back = by_back x.back;
+}
+  where
+    by_back : (All (λ (f : EdgeKind × List ℕ). f.0 ≡ File) x.front × IsNothingBack middle new) ⊎ IsOpenedInPart topology x.rest middle new
+        → (All (λ (f : EdgeKind × List ℕ). f.0 ≡ File) (call ∷ x.front) × IsNothingBack old new) ⊎ IsOpenedInPart topology x.rest old new
+    by_back (inl b) = inl (All-cons (λ (f : EdgeKind × List ℕ). f.0 ≡ File) call x.front c.is_file b.0, (b.1.0 ∙ c.same_sources, b.1.1 ∙ c.same_sinks))
+    by_back (inr b) = inr (opened_in_part_as topology x.rest call old middle new c b)
+
 given_or_wanting : (memory : Type 0) (topology : Topology) (call : EdgeKind × List ℕ) (calls : List (EdgeKind × List ℕ)) (old middle new : EdgesSeen) → Called old middle call
-    → memory ⊎ IsGivenUp calls topology middle new → memory ⊎ IsGivenUp (call ∷ calls) topology old new
-given_or_wanting memory topology call calls old middle new c (inl m) = inl m
+    → (memory × IsBrokenOff calls topology middle new) ⊎ IsGivenUp calls topology middle new → (memory × IsBrokenOff (call ∷ calls) topology old new) ⊎ IsGivenUp (call ∷ calls) topology old new
+given_or_wanting memory topology call calls old middle new c (inl m) = inl (m.0, broken_off_as topology call calls old middle new c m.1)
 given_or_wanting memory topology call calls old middle new c (inr x) = inr (given_up_as topology call calls old middle new c x)
 
 run_or_not_as : (memory : Type 0) (wanted : Topology) (topology : Option Topology) (before : History) (call : EdgeKind × List ℕ) (calls : List (EdgeKind × List ℕ)) (old : OutsideSeen) (middle : EdgesSeen) (new : OutsideSeen)

@@ -17,7 +17,7 @@ use Rattle.config_flow.specs.Flow.{flow_topology_of}
 use Rattle.pipe_config.specs.File.{topology_of_file}
 use Rattle.pipe_top.specs.Cases.{Case, NoCommand, NoTopology as BadTopology, TooFew, Checks, Upgrades, Runs, case_of, run_case, unless_short, for_topology, report_alone}
 use Rattle.run_verdicts.specs.Verdicts.{Adds, AddsPrefix, out_text_of, err_text_of, status_in, FaultBy, QuietBy, UnlessNine}
-use Rattle.pipe_top.specs.Runs.{OutsideSeen, IsRunOrNone, IsEndOf, IsOwnTopology, IsStatusOf, IsReportOf, IsRefusal, IsRefused, Lost, IsUntouched, HasUsed, HasNotBegun, HasRunOrNot, IsGivenUp, IsOutsideOf, IsRefusalStatus, IsUnopenedStatus, IsOr, Asks, FailsAt, NamesFault, IsEdgeLine, BeginsLine, out_text, text_of_call, case_line, error_text}
+use Rattle.pipe_top.specs.Runs.{OutsideSeen, IsRunOrNone, IsEndOf, IsOwnTopology, IsStatusOf, IsReportOf, IsRefusal, IsRefused, Lost, IsUntouched, HasUsed, HasNotBegun, HasRunOrNot, IsBrokenOff, IsGivenUp, IsOutsideOf, IsRefusalStatus, IsUnopenedStatus, IsOr, Asks, FailsAt, NamesFault, IsEdgeLine, BeginsLine, out_text, text_of_call, case_line, error_text}
 use Rattle.pipe_top.specs.Flows.{Outcome, IsEarly, AskedBy}
 use Rattle.run_verdicts.specs.declared.verdict.Refusal.{Refusal}
 use Rattle.run_verdicts.specs.declared.verdict.Refusal.TheVariants.{Usage, Topology as NoTopology, Stock, Edge, Memory}
@@ -463,8 +463,8 @@ used_as memory wanting so wanted before old new used = record {
 not_begun_as : (memory wanting : Type 0) → (memory → wanting) → (calls : List (EdgeKind × List ℕ)) (wanted : Topology) (old new : OutsideSeen) → HasNotBegun memory calls wanted old new → HasNotBegun wanting calls wanted old new
 not_begun_as memory wanting so calls wanted old new n = record { edges = by_edges n.edges; clock = n.clock; boxes = n.boxes }
   where
-    by_edges : memory ⊎ IsGivenUp calls wanted old.edges new.edges → wanting ⊎ IsGivenUp calls wanted old.edges new.edges
-    by_edges (inl m) = inl (so m)
+    by_edges : (memory × IsBrokenOff calls wanted old.edges new.edges) ⊎ IsGivenUp calls wanted old.edges new.edges → (wanting × IsBrokenOff calls wanted old.edges new.edges) ⊎ IsGivenUp calls wanted old.edges new.edges
+    by_edges (inl m) = inl (so m.0, m.1)
     by_edges (inr given) = inr given
 
 run_or_not_as : (memory wanting : Type 0) → (memory → wanting) → (calls : List (EdgeKind × List ℕ)) (wanted : Topology) (topology : Option Topology) (before : History) (old new : OutsideSeen)

@@ -1,7 +1,7 @@
 -- What comes of a topology that is to run: it is refused, what it names is not opened, or it runs.
-use Rattle.std.proofs.Common.{◌≡◌, ℕ, List, [], ◌++◌, length, Bool, false, Option, Some, None, refl, sym, ◌∙◌, ap, inl, inr, arith}
+use Rattle.std.proofs.Common.{◌≡◌, ℕ, List, [], ◌++◌, length, take, Bool, false, Option, Some, None, refl, sym, ◌∙◌, ap, inl, inr, arith}
 use Rattle.std.specs.Prelude.{unwrap_or}
-use Rattle.std.proofs.lemmas.List.{append-nil, take_all}
+use Rattle.std.proofs.lemmas.List.{append-nil, take_all, take_at}
 use Rattle.pipe_types.specs.Counts.{Rose}
 use Rattle.pipe_types.specs.Sound.{IsSound}
 use Rattle.pipe_types.specs.declared.topology.Topology.{Topology}
@@ -13,10 +13,9 @@ use Rattle.pipe_laws.specs.Followed.{FollowsMoves}
 use Rattle.pipe_laws.specs.Read.{HasNoControl}
 use Rattle.pipe_laws.proofs.Claims.{keeps_claims}
 use Rattle.edge_names.specs.Controls.{run_calls}
-use Rattle.edge_names.specs.Returned.{IsAskedInPart}
 use Rattle.topology_needs.specs.declared.stock.Shortage.{Shortage}
 use Rattle.pipe_run.specs.Boxes.{AreBoxesLeft, AreSameBoxes}
-use Rattle.pipe_run.specs.Whole.{IsRunOf, HasFailed}
+use Rattle.pipe_run.specs.Whole.{IsRunOf, HasFailed, HasWanted}
 use Rattle.pipe_top.specs.Cases.{Runs, unless_short, opening_calls}
 use Rattle.pipe_top.specs.Runs.{OutsideSeen, IsUntouched, IsRun, FailsAt}
 use Rattle.pipe_top.specs.Flows.{AskedBy, ComesBy, IsJudgement, refusal_in}
@@ -131,17 +130,20 @@ unopened old new shows wanted name topology before verdict a clock boxes is none
 
 -- memory was wanting before all was opened
 pub unopened_memory : (old new : OutsideSeen) (shows : Shows) (wanted : Topology) (topology : Option Topology) (before : History) (verdict : Verdict)
-    → IsAskedInPart (run_calls wanted) old.edges new.edges → new.clock ≡ old.clock → AreSameBoxes old.boxes new.boxes
+    → HasWanted wanted old.edges new.edges → new.clock ≡ old.clock → AreSameBoxes old.boxes new.boxes
     → verdict ≡ Refused Memory → (topology ≡ None) × (before ≡ [])
     → ComesBy old new (Runs shows wanted) (run_calls wanted) topology before verdict
 unopened_memory old new shows wanted topology before verdict a clock boxes is none =
     rw (is, none.0) (record {
       outcome = inl none.1;
       outside = record {
-        edges = inl refl;
+        edges = inl (refl, record { front = a.front; rest = a.rest; parts = a.calls; asked = a.asks.asked; back = inr a.back });
         clock = clock;
         boxes = boxes;
       };
-      asked_by = λ t. record { count = a.count; is = a.asked t };
-      same_telling = a.same_telling;
+      asked_by = λ t. record {
+        count = length a.front;
+        is = a.asks.asked t ∙ ap (λ x. old.edges.asked ++ x) (sym (ap (take (length a.front)) a.calls ∙ take_at a.front a.rest (length a.front) refl));
+      };
+      same_telling = a.asks.same_telling;
     })

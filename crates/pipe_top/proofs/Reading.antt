@@ -24,7 +24,7 @@ use Rattle.run_verdicts.specs.declared.verdict.Refusal.{Refusal}
 use Rattle.run_verdicts.specs.declared.verdict.Refusal.TheVariants.{Usage, Topology as NoTopology, Stock, Edge, Memory}
 use Rattle.run_verdicts.specs.declared.verdict.Verdict.{Verdict}
 use Rattle.run_verdicts.specs.declared.verdict.Verdict.TheVariants.{Refused}
-use Rattle.pipe_top.proofs.Unused.{asks_none, outside_of_none, wanting}
+use Rattle.pipe_top.proofs.Unused.{asks_none, off_file, off_unasked, outside_of_none, wanting}
 use Rattle.pipe_top.proofs.Called.{Called, after_call}
 
 -- ---- no run
@@ -58,7 +58,8 @@ unread : (old new : OutsideSeen) (go : Topology → Case) (name : List ℕ) (ref
 unread old new go name Memory topology before verdict is none same r =
     let case = for_topology (topology_of_file r.file) go in
     wanting old new case ((File, name) ∷ opening_calls case) topology before verdict is none same
-    (λ t. one_of_more (File, name) (opening_calls case) old.edges.asked new.edges.asked (r.asked_by t)) r.same_telling
+    (λ t. one_of_more (File, name) (opening_calls case) old.edges.asked new.edges.asked (r.asked_by t))
+    (off_file name (opening_calls case) old.edges new.edges r.asked_by (same.sources, same.sinks)) r.same_telling
 unread old new go name (Edge other) topology before verdict is none same r =
     let case = for_topology (topology_of_file r.file) go in
     let calls = (File, name) ∷ opening_calls case in
@@ -99,6 +100,7 @@ called_file old new name topology r = record {
   same_sources = r.same_sources;
   same_sinks = r.same_sinks;
   faults_stay = r.faults_stay;
+  is_file = refl;
   one_call = r.asked_by;
 }
 
@@ -115,7 +117,8 @@ checked_only : (old new : OutsideSeen) (wanted : Topology) (topology : Option To
     → IsCheckedOrNot wanted topology before verdict → IsUntouched old new → new.edges.asked ≡ old.edges.asked → new.edges.told ≡ old.edges.told
     → ComesBy old new (Checks wanted) [] topology before verdict
 checked_only old new wanted topology before verdict (inl r) same asked telling =
-    wanting old new (Checks wanted) [] topology before verdict r.refused (r.no_topology, r.no_step) same (λ t. rw asked (asks_none [] old.edges.asked)) telling
+    wanting old new (Checks wanted) [] topology before verdict r.refused (r.no_topology, r.no_step) same (λ t. rw asked (asks_none [] old.edges.asked))
+    (off_unasked [] old.edges new.edges asked (same.sources, same.sinks)) telling
 checked_only old new wanted topology before verdict (inr r) same asked telling = record {
   outcome = inr r;
   outside = same;
@@ -153,7 +156,8 @@ came_to_nothing old new command boxes topology before verdict is none same asked
       text = [];
       is_file = f.1;
       comes = wanting old new (case_of command f.0 [] boxes) (calls_of command (case_of command f.0 [] boxes)) topology before verdict is none same
-          (λ t. rw asked (asks_none (calls_of command (case_of command f.0 [] boxes)) old.edges.asked)) telling;
+          (λ t. rw asked (asks_none (calls_of command (case_of command f.0 [] boxes)) old.edges.asked))
+          (off_unasked (calls_of command (case_of command f.0 [] boxes)) old.edges new.edges asked (same.sources, same.sinks)) telling;
     }
 
 -- the words are no command

@@ -30,7 +30,7 @@ use Rattle.stage_bodies.specs.Seen.{SourceSeen, SinkSeen, BoxSeen}
 use Rattle.pipe_run.specs.Clocks.{ClockSeen}
 use Rattle.edge_names.specs.Seen.{EdgesSeen}
 use Rattle.pipe_run.specs.Boxes.{AreBoxesLeft, AreSameBoxes}
-use Rattle.pipe_run.specs.Outside.{IsOutside, IsUnopened}
+use Rattle.pipe_run.specs.Outside.{IsOpenedInPart, IsOutside, IsUnopened}
 use Rattle.pipe_run.specs.Whole.{HasCome, IsTimeOf}
 use Rattle.pipe_top.specs.Cases.{calls_of, Case, NoCommand, NoTopology, TooFew, Checks, Upgrades, Runs}
 use Rattle.run_verdicts.specs.Texts.{run_text}
@@ -171,10 +171,19 @@ pub record IsGivenUp (calls : List (EdgeKind × List ℕ)) (topology : Topology)
   pub fails : FailsAt old.told calls old.asked new.asked (Rose old.faults new.faults) name
   pub back : ((fails.kind ≡ File) × IsNothingBack old new) ⊎ IsUnopened topology name fails.rest old new
 
+-- memory was wanting before the run began: so many of the calls were made, and no source or sink was opened, or what was opened
+-- was given back, unread and unwritten, as far as there was memory for that
+pub record IsBrokenOff (calls : List (EdgeKind × List ℕ)) (topology : Topology) (old new : EdgesSeen) : Type 0 where
+  pub front : List (EdgeKind × List ℕ)
+  pub rest : List (EdgeKind × List ℕ)
+  pub parts : calls ≡ front ++ rest
+  pub asked : IsTrue old.told → new.asked ≡ old.asked ++ front
+  pub back : (All (λ call. call.0 ≡ File) front × IsNothingBack old new) ⊎ IsOpenedInPart topology rest old new
+
 -- a run did not begin, since memory was wanting or a call by name failed: the clock was not used, and the boxes are the same,
 -- though some may be armed
 pub record HasNotBegun (memory : Type 0) (calls : List (EdgeKind × List ℕ)) (topology : Topology) (old new : OutsideSeen) : Type 0 where
-  pub edges : memory ⊎ IsGivenUp calls topology old.edges new.edges
+  pub edges : (memory × IsBrokenOff calls topology old.edges new.edges) ⊎ IsGivenUp calls topology old.edges new.edges
   pub clock : new.clock ≡ old.clock
   pub boxes : AreSameBoxes old.boxes new.boxes
 

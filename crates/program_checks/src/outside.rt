@@ -69,7 +69,7 @@ pub fn held_under<'a>(
 
 /// What was written.
 pub fn shown(sink: &MemSink) -> &str {
-    str::from_utf8(sink.held().as_slice()).unwrap_or("no text")
+    str::from_utf8(sink.held()).unwrap_or("no text")
 }
 
 fn text_of(alloc: Global, text: &str) -> Result<Text, AllocError>
@@ -167,7 +167,7 @@ fn sink_of(alloc: Global, acts: &str) -> Result<MemSink, AllocError>
     ensures { IfOk result IsUnwritten }
 {
     let script = sink_script(alloc, acts)?;
-    MemSink::new(alloc, Bytes::from_vec(Vec::new(alloc)), ROOM, script)
+    MemSink::new(Bytes::from_vec(Vec::new(alloc)), ROOM, script)
 }
 
 // A number takes so many bytes; another word fails.
@@ -194,5 +194,6 @@ pub fn clock(nap: u64) -> MemClock {
         nap,
         latest: 0,
         readings: 0,
+        pauses: 0,
     }
 }

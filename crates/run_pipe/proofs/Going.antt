@@ -36,6 +36,7 @@ use Rattle.stage_holds.specs.Answers.{with_answered, IsAlwaysRecorded}
 use Rattle.stage_holds.specs.Homes.{IsBack}
 use Rattle.stage_holds.specs.Holds.{AddsHold, AreHome, OutsAre, Holds}
 use Rattle.stage_holds.specs.Parts.{PartsSeen}
+use Rattle.stage_holds.specs.Rows.{KeepsRows}
 use Rattle.stage_holds.specs.Nexts.{IsByMove, HasPausedAt, job_of, post_of}
 use Rattle.stage_holds.specs.Nexts as next_job
 use Rattle.stage_holds.specs.declared.holding.Next.{Next}
@@ -224,6 +225,7 @@ pub record Held {B : Type 0} (look : B → BodySeen) (brought : Option (Home B))
   pub by_move : IfOk came (IsByMove topology new.steps)
   pub one_line : controls new.steps ≤ controls old.steps + 1
   pub row : AtJob came (λ load. 1 ≤ topology.idle_limit → quiet_row new.steps < topology.idle_limit)
+  pub rows : OnOk came (KeepsRows topology.idle_limit brought old.steps new.steps)
   pub paused : came ≡ Ok next.Paused → (may_pause new.steps ≡ 0) × (brought ≡ None → 2 * work_left topology new.steps < rounds_left topology old.steps)
   pub adds : AddsHold (post_of brought) (job_of came) old.steps new.steps
   pub homes : AreHome (post_of brought) (job_of came) old.home new.home
@@ -256,6 +258,7 @@ held_by {B} look brought came old new sound legal free h = record {
   by_move = h.by_move;
   one_line = h.one_line;
   row = h.row;
+  rows = h.rows;
   paused = λ is. (pause_none old.topology new.steps (subst (λ (r : Came B). IfOk r (IsByMove old.topology new.steps)) is h.by_move), h.paused is);
   adds = h.adds;
   homes = h.homes;
@@ -368,6 +371,7 @@ module _ {B : Type 0} (look : B → BodySeen) (brought : Option (Home B)) (came 
         one_line = held.one_line;
         row = λ start. subst (λ (r : Round (Load B)). IfJob r (λ load. 1 ≤ old.topology.idle_limit → quiet_row new.steps < old.topology.idle_limit)) (sym is)
             (to_round came (λ load. 1 ≤ old.topology.idle_limit → quiet_row new.steps < old.topology.idle_limit) held.row);
+        rows = λ start memory. where_held came (KeepsRows old.topology.idle_limit brought old.steps new.steps) (subst HasMemory end memory) held.rows;
         lessens = λ row goes. subst (λ (r : Round (Load B)). holds_left old.topology new.steps (begins_job r) < holds_left old.topology old.steps (is_some brought)) (sym is)
             (less_by old.topology old.steps new.steps brought came held.sound held.legal held.adds.begins held.cut_off held.recorded held.paused row (subst Goes is goes));
         away = subst (λ (j : Option Post). AreAway (post_of brought) j (away_of old) (away_of new)) same moved;

@@ -60,6 +60,7 @@ nothing_home look p w ended = record {
   cut_off = tt;
   one_line = omega arith;
   row = λ going. tt;
+  rows = λ going memory. not_going p.end ended going;
   lessens = λ row goes. absurd goes;
   away = λ post. (λ c. inr (c, λ e. none-some post e), ⊎_elim (λ (e : None ≡ Some post). absurd (none-some post e)) (λ (u : Contains (away_of p) post × (None ≢ Some post)). u.0));
 }
@@ -193,6 +194,7 @@ module _ {B T F : Type 0} (look : B → BodySeen) (home : Home B) (p : PipeState
     cut_off = λ fails. ended;
     one_line = let e = c.adds_answer.same_controls in omega (arith, e);
     row = λ going. tt;
+    rows = λ going memory. not_going p.end ended going;
     lessens = λ row goes. absurd goes;
     away = subst (λ (n : ℕ). AreAway (Some home.post) None (away_of p) (away_in topology back n)) (sym same_places)
         (subst (λ (t : Topology). AreAway (Some home.post) None (away_of p) (away_in t back p.places)) (sym same)

@@ -20,12 +20,14 @@ use Rattle.stage_holds.specs.declared.loads.Home.{Home}
 use Rattle.stage_workers.specs.Rounds.{brought_post}
 use Rattle.stage_workers.specs.declared.shift.Round.{Round}
 use Rattle.stage_workers.specs.declared.shift.Round.TheVariants.{Job, Waits, Again, Ended}
+use Rattle.stage_holds.specs.Rows.{RowsWithin}
 use Rattle.run_pipe.specs.Ends.{HasMemory}
 use Rattle.run_pipe.specs.Seen.{PipeState, away_of}
 use Rattle.run_pipe.specs.Measure.{holds_left}
 use Rattle.run_pipe.specs.Stems.{Stems}
 use Rattle.run_pipe.specs.Jobs.{IsLoadOf, IsHomeOf, IsBrought}
 use Rattle.run_pipe.specs.Rounded.{Rounded}
+use Rattle.run_pipe.specs.Rounds.{IsOn}
 use Rattle.run_pipe.specs.Runs.{RanToEnd}
 use Rattle.run_pipe.proofs.Backs.{if_some, worked}
 use Rattle.run_pipe.proofs.Outs.{no_truth}
@@ -41,9 +43,14 @@ pub record IsLimited {B : Type 0} (now : PipeState) (brought : Option (Home B)) 
   pub limit : 1 ≤ now.topology.idle_limit
   pub row : IsSome brought → quiet_row now.steps < now.topology.idle_limit
 
+-- a pipe that had not ended has not, and no row of quiet answers is longer than the limit
+abbrev pub RowsFrom : (first now : PipeState) → Type 0
+RowsFrom first now = first.end ≡ None → RowsWithin now.topology.idle_limit first.steps → (now.end ≡ None) × RowsWithin now.topology.idle_limit now.steps
+
 pub record InHandLimited {B : Type 0} (look : B → BodySeen) (first now : PipeState) (brought : Option (Home B)) : Type 0 where
   pub hand : InHand look first now brought
   pub limited : IsLimited now brought
+  pub rows : RowsFrom first now
 
 not_in_none : {A : Type 0} (p : Post) → Contains [] p → A
 not_in_none p c = let l = c.1 in absurd (omega arith)
@@ -157,3 +164,14 @@ module _ {B : Type 0} (look : B → BodySeen) (first now : PipeState) (brought :
 
     pub less_again : Rounded look brought Again now new → (opened : PipeState) × Stems opened first → IsLimited now brought → holds_left new.topology new.steps false < holds_left now.topology now.steps (is_some brought)
     less_again r o l = subst (λ (t : Topology). holds_left t new.steps false < holds_left now.topology now.steps (is_some brought)) (sym (same Again r o)) (r.lessens l.row tt)
+
+    -- rows of quiet answers
+    pub rows_then : (round : Round (Load B)) → Rounded look brought round now new → (opened : PipeState) × Stems opened first → IsLimited now brought → RowsFrom first now
+        → first.end ≡ None → HasMemory new.end → RowsWithin new.topology.idle_limit first.steps → RowsWithin new.topology.idle_limit new.steps
+    rows_then round r o l before going wanting rows =
+        let topology = same round r o in
+        let k = before going (subst (λ (t : Topology). RowsWithin t.idle_limit first.steps) topology rows) in
+        subst (λ (t : Topology). RowsWithin t.idle_limit new.steps) (sym topology) (r.rows k.0 wanting l.limit l.row k.1)
+
+    pub rows_on : (round : Round (Load B)) → IsOn round → Rounded look brought round now new → (opened : PipeState) × Stems opened first → IsLimited now brought → RowsFrom first now → RowsFrom first new
+    rows_on round on r o l before going rows = ((r.on on).1, rows_then round r o l before going (memory (r.on on).1) rows)

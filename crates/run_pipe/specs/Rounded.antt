@@ -11,6 +11,7 @@ use Rattle.stage_bodies.specs.Seen.{BodySeen}
 use Rattle.stage_holds.specs.Answers.{with_answered, IsAlwaysRecorded}
 use Rattle.stage_holds.specs.Holds.{AddsHold}
 use Rattle.stage_holds.specs.Nexts.{HasPausedAt}
+use Rattle.stage_holds.specs.Rows.{KeepsRows}
 use Rattle.stage_holds.specs.declared.loads.Load.{Load}
 use Rattle.stage_holds.specs.declared.loads.Home.{Home}
 use Rattle.run_pipe.specs.Seen.{PipeState, away_of}
@@ -33,7 +34,7 @@ AddsOnly topology old new brought = (new ≡ old) ⊎ IsSomeAnd brought (λ home
 -- post is away where the worker goes away with its body, or where it was away and was not brought.
 -- The pipe has ended just where there is nothing to do any more, and is whole. The worker waits where the next move is to wait for
 -- the jobs that are out, and lets time pass where it was a pause. Where it brings an answer that is work, and begins a job or lets
--- time pass, fewer holds are left.
+-- time pass, fewer holds are left. Where it finds a shorter row of quiet answers, no row grows beyond the idle limit.
 pub record Rounded {B : Type 0} (look : B → BodySeen) (brought : Option (Home B)) (round : Round (Load B)) (old new : PipeState) : Type 0 where
   pub stems : (opened : PipeState) (seen : History) → Stems opened old → IsBrought look opened seen old.steps brought → Stems opened new
   pub load : (opened : PipeState) (seen : History) → Stems opened old → IsBrought look opened seen old.steps brought → IfJob round (IsLoadOf look opened new.steps)
@@ -50,4 +51,5 @@ pub record Rounded {B : Type 0} (look : B → BodySeen) (brought : Option (Home 
   pub waits : IsWaiting round → (move new.topology new.steps ≡ JobsOut) × (jobs_out new.topology new.steps ≡ true)
   pub pauses : HasPaused round → HasPausedAt new.topology new.steps
   pub row : old.end ≡ None → IfJob round (λ load. 1 ≤ old.topology.idle_limit → quiet_row new.steps < old.topology.idle_limit)
+  pub rows : old.end ≡ None → HasMemory new.end → KeepsRows old.topology.idle_limit brought old.steps new.steps
   pub lessens : (IsSome brought → quiet_row old.steps < old.topology.idle_limit) → Goes round → holds_left old.topology new.steps (begins_job round) < holds_left old.topology old.steps (is_some brought)

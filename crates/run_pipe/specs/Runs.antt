@@ -1,5 +1,5 @@
 -- What a run of a pipe comes to.
-use Rattle.std.specs.Prelude.{◌≡◌, ℕ, [], IsSome, IfOk, Result}
+use Rattle.std.specs.Prelude.{◌≡◌, ℕ, [], None, IsSome, IfOk, Result}
 use Rattle.std.specs.declared.alloc.AllocError.{AllocError}
 use Rattle.pipe_model.specs.Begins.{BeginsWith}
 use Rattle.pipe_laws.specs.Followed.{FollowsMoves}
@@ -7,7 +7,8 @@ use Rattle.body_laws.specs.Keeps.{Keeps}
 use Rattle.stage_moves.specs.Keeping.{KeepsControlOn}
 use Rattle.stage_moves.specs.Clocks.{KeepsClockOn}
 use Rattle.run_pipe.specs.declared.ends.RunEnd.{RunEnd}
-use Rattle.run_pipe.specs.Ends.{HasEnded}
+use Rattle.stage_holds.specs.Rows.{RowsWithin}
+use Rattle.run_pipe.specs.Ends.{HasEnded, HasMemory}
 use Rattle.run_pipe.specs.Seen.{PipeState, away_of}
 use Rattle.run_pipe.specs.Stems.{Stems}
 use Rattle.run_pipe.specs.Whole.{IsWhole}
@@ -19,6 +20,10 @@ pub record RanToEnd (old new : PipeState) : Type 0 where
   pub over : IsSome new.end
   pub none_away : away_of new ≡ []
   pub whole : IsWhole new
+
+-- where the pipe had not ended, and memory was not wanting, no more quiet answers stand in a row than the idle limit
+abbrev pub IsIdleWithin : (old new : PipeState) → Type 0
+IsIdleWithin old new = old.end ≡ None → HasMemory new.end → RowsWithin new.topology.idle_limit old.steps → RowsWithin new.topology.idle_limit new.steps
 
 -- steps were added, each of the pipeline's own as the next move when it came; the bodies, the control source and the clock stand where the
 -- journal leaves them; each body that was at home is; and the run ended as it says

@@ -1,7 +1,7 @@
 //! A run by one worker.
 
 ghost use Rattle.std.specs.Prelude.{◌≡◌, ◌≤◌, []};
-ghost use Rattle.run_pipe.specs.Runs.{RanToEnd};
+ghost use Rattle.run_pipe.specs.Runs.{RanToEnd, IsIdleWithin};
 ghost use Rattle.run_pipe.specs.Seen.{PipeState, state_of, away_of};
 ghost use Rattle.run_pipe.specs.Stems.{Stems};
 
@@ -23,6 +23,8 @@ pub fn run_here<R: Wait, B: Works, S: ByteSource, C: Clock, W: Watch>(
     requires stems { (opened : PipeState) × Stems opened (state_of pipe.old) }
     requires none_away { away_of (state_of pipe.old) ≡ [] }
     ensures ran { RanToEnd (state_of pipe.old) (state_of pipe.new) }
+    // Where there is an idle limit, no row of quiet answers grows beyond it.
+    ensures rows { 1 ≤ pipe.old.topology.idle_limit → IsIdleWithin (state_of pipe.old) (state_of pipe.new) }
 {
     if pipe.has_idle_limit() {
         run_to_end(alloc, pipe);
@@ -40,6 +42,7 @@ pub fn run_to_end<B: Works, S: ByteSource, C: Clock, W: Watch>(
     requires stems { (opened : PipeState) × Stems opened (state_of pipe.old) }
     requires none_away { away_of (state_of pipe.old) ≡ [] }
     ensures ran { RanToEnd (state_of pipe.old) (state_of pipe.new) }
+    ensures rows { IsIdleWithin (state_of pipe.old) (state_of pipe.new) }
 {
     let mut brought = None;
     loop {

@@ -2,7 +2,8 @@
 
 ghost use Rattle.std.specs.Prelude.{◌≡◌, ◌<◌, ◌++◌, ℕ, List, Some, IfOk, IfSome};
 ghost use Rattle.pipe_edges.specs.LineSource.{line_source, waiting, line_end_of};
-ghost use Rattle.pipe_edges.specs.Fetch.{records_in};
+ghost use Rattle.pipe_edges.specs.Needed.{ReadsAsNeeded};
+ghost use Rattle.pipe_edges.specs.Fetch.{records_in, text_of};
 ghost use Rattle.source_lines.specs.Read.{IsReadFrom, IsFetchAnswer};
 
 use pipe_edges::{ByteSource, Fetched, LineSource};
@@ -20,6 +21,9 @@ pub fn read_lines<B: ByteSource>(
         → IsReadFrom B.ByteSource opened source.old records
         → IsReadFrom B.ByteSource opened source.new (records ++ records_in result) }
     ensures end_stays { IfSome (line_end_of source.old) (λ end. line_end_of source.new ≡ Some end) }
+    // It reads no more than the records need.
+    ensures needed { ReadsAsNeeded (waiting source.old) (waiting source.new)
+        (text_of (line_end_of source.new) (records_in result)) }
     // Fewer than `max` only where no whole line is held any more.
     ensures answer { IfOk result (IsFetchAnswer max (B.waits (line_source source.old))
         (B.waits (line_source source.new)) (waiting source.new) (line_end_of source.new)) }

@@ -15,6 +15,8 @@ use Rattle.pipe_types.specs.declared.topology.Kind.TheVariants.{Own}
 use Rattle.pipe_model.specs.Content.{has_crash}
 use Rattle.pipe_model.specs.Work.{is_end_by, is_write_end, own_text, is_failed_by_sink}
 use Rattle.pipe_edges.specs.Cut.{CutsAll}
+use Rattle.pipe_edges.specs.Needed.{ReadsAsNeeded}
+use Rattle.pipe_edges.specs.Fetch.{text_of}
 use Rattle.pipe_edges.specs.Paces.{Pace, KeepsPace}
 use Rattle.pipe_edges.specs.Pacing.{IsInStep, Gives, IsHeldUp}
 use Rattle.pipe_edges.specs.declared.reading.LineEnd.{LineEnd}
@@ -83,12 +85,13 @@ abbrev pub FetchIsPaced : Option Pace → Came → (old new : LineSeen) → Type
 FetchIsPaced None result old new = new.source.paced ≡ old.source.paced
 FetchIsPaced (Some pace) result old new = FetchKeepsPace pace result old new
 
--- a fetch of at most so many records, and what it came to
+-- a fetch of at most so many records, and what it came to: no more is read than the records need
 pub record Fetches (most : ℕ) (result : Came) (old new : LineSeen) : Type 0 where
   pub reads : ReadsOn (records_of result) old new
   pub end_stays : IfSome old.end (λ e. new.end ≡ Some e)
   pub answer : IsFetched most old.source.waits new.source.waits new.waiting new.end result
   pub paced : FetchIsPaced old.source.paced.pace result old new
+  pub needed : ReadsAsNeeded old.waiting new.waiting (text_of new.end (records_of result))
 
 -- ---- callbacks
 

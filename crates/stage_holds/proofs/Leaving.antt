@@ -35,6 +35,7 @@ use Rattle.std.specs.Prelude.{Result, Ok, Err}
 use Rattle.std.specs.Result.{IsErr}
 use Rattle.stage_holds.specs.declared.loads.Load.{Load}
 use Rattle.stage_holds.specs.Holds.{AddsHold, AreHome, OutsAre, Leaves, LeavesOn}
+use Rattle.stage_holds.specs.Rows.{RowsWithin}
 use Rattle.stage_holds.proofs.Outing.{begun_outs}
 
 pub record Gone (topology : Topology) (before after : History) (home away : ℕ → Option BodySeen) (job : Job) (body : BodySeen) : Type 0 where
@@ -131,6 +132,9 @@ module _ {topology : Topology} {before after : History} {home away : ℕ → Opt
 
   pub goes_row : 1 ≤ topology.idle_limit → quiet_row after < topology.idle_limit
   goes_row limit = subst (λ h. quiet_row h < topology.idle_limit) (sym g.began.is) (g.began.row limit)
+
+  pub goes_rows : 1 ≤ topology.idle_limit → RowsWithin topology.idle_limit before → RowsWithin topology.idle_limit after
+  goes_rows limit r = let low = g.began.row limit in subst (λ (h : History). RowsWithin topology.idle_limit h) (sym g.began.is) (r, omega (arith, low))
 
   pub goes_within : Within topology 1 before after
   goes_within =
@@ -246,6 +250,7 @@ leaves_by look load topology before after home away g = record {
   within = goes_within g;
   outs = goes_outs g;
   row = goes_row g;
+  rows = goes_rows g;
   homes = leaves_home load.job.post home away g.gone;
 }
 

@@ -64,7 +64,6 @@ told_source before s now (Some old) (Some lines) k = record {
   };
   known = k.known;
   quiet = k.quiet;
-  first = k.first;
 }
 
 told_kept : (topology : Topology) (before : History) (p : Post) (now : ℕ) (opened : Option BodySeen) (body : BodySeen)
@@ -101,5 +100,6 @@ leaves_told look job body told now topology before after home away is x = record
   within = x.within;
   outs = x.outs;
   row = x.row;
+  rows = x.rows;
   homes = x.homes;
 }

@@ -7,6 +7,7 @@ ghost use Rattle.stage_bodies.specs.Seen.{body_at, line_seen};
 ghost use Rattle.body_laws.specs.Ready.{Ready};
 ghost use Rattle.stage_moves.specs.Clocks.{clock_seen};
 ghost use Rattle.stage_holds.specs.Holds.{Holds, IsHome};
+ghost use Rattle.stage_holds.specs.Nexts.{HasSlept};
 ghost use Rattle.stage_holds.specs.Parts.{parts_by};
 
 use crate::homes::come_home;
@@ -52,6 +53,8 @@ pub fn hold<B: Works, S: ByteSource, C: Clock>(
     ensures stands { Stands core.new }
     ensures holds { Holds B.look brought result (parts_by B.look (line_seen S.ByteSource) (clock_seen C.latest C.readings) core.old bodies.old.items control.old clock.old)
         (parts_by B.look (line_seen S.ByteSource) (clock_seen C.latest C.readings) core.new bodies.new.items control.new clock.new) }
+    // It answers that time has passed only behind a pause of the clock.
+    ensures slept { HasSlept result (C.pauses clock.old) (C.pauses clock.new) }
 {
     match brought {
         Some(home) => {
@@ -74,6 +77,7 @@ fn set_out<B: Works, S: ByteSource, C: Clock>(
     ensures stands { Stands core.new }
     ensures holds { Holds B.look None result (parts_by B.look (line_seen S.ByteSource) (clock_seen C.latest C.readings) core.old bodies.old.items control.old clock.old)
         (parts_by B.look (line_seen S.ByteSource) (clock_seen C.latest C.readings) core.new bodies.new.items control.new clock.new) }
+    ensures slept { HasSlept result (C.pauses clock.old) (C.pauses clock.new) }
 {
     if is_halted(core) {
         return Ok(rest_halted(core));

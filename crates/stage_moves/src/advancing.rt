@@ -45,6 +45,7 @@ pub fn advance<B: Works, S: ByteSource, C: Clock>(
     ensures silent { AddsSilently core.old.journal.steps core.new.journal.steps }
     ensures clock { (opened : ClockSeen) → KeepsClock core.old.journal.steps opened (clock_seen C.latest C.readings clock.old)
         → KeepsClockAheadOn result core.new.journal.steps opened (clock_seen C.latest C.readings clock.new) }
+    ensures no_pause { C.pauses clock.new ≡ C.pauses clock.old }
     ensures control { (opened : Option LineSeen)
         → KeepsControl core.old.topology core.old.journal.steps 0 opened (option_map (line_seen S.ByteSource) control.old)
         → KeepsControlOn result core.old.topology core.new.journal.steps 1 opened (option_map (line_seen S.ByteSource) control.new) }

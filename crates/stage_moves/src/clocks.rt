@@ -1,6 +1,7 @@
 //! The time of a run.
 
 ghost use Rattle.std.specs.Prelude.{◌≡◌, false};
+ghost use Rattle.pipe_types.specs.Counts.{Rose};
 ghost use Rattle.pipe_model.specs.Legal.{happened, is_halt};
 ghost use Rattle.core_state.specs.Stands.{Stands};
 ghost use Rattle.stage_moves.specs.Clocks.{clock_seen, IsRead, IsPaused};
@@ -19,6 +20,7 @@ pub(crate) fn read_clock<C: Clock>(core: &mut Core, clock: &mut C) -> Result<(),
     ensures topology { core.new.topology ≡ core.old.topology }
     ensures waits { Waits core.old.topology core.old.journal.steps core.new.journal.steps }
     ensures read { IsRead result core.old.journal.steps core.new.journal.steps (clock_seen C.latest C.readings clock.old) (clock_seen C.latest C.readings clock.new) }
+    ensures no_pause { C.pauses clock.new ≡ C.pauses clock.old }
 {
     let reading = clock.now();
     if reading > core.now() {
@@ -35,6 +37,7 @@ pub fn pause<C: Clock>(core: &mut Core, clock: &mut C) -> Result<(), AllocError>
     ensures topology { core.new.topology ≡ core.old.topology }
     ensures waits { Waits core.old.topology core.old.journal.steps core.new.journal.steps }
     ensures paused { IsPaused result core.old.journal.steps core.new.journal.steps (clock_seen C.latest C.readings clock.old) (clock_seen C.latest C.readings clock.new) }
+    ensures slept { Rose (C.pauses clock.old) (C.pauses clock.new) }
 {
     clock.pause();
     let reading = clock.now();

@@ -1,11 +1,10 @@
-use Rattle.std.proofs.Common.{◌++◌, length}
+use Rattle.std.proofs.Common.{suc, length}
 use Rattle.std.specs.Prelude.{option_map}
 use Rattle.stage_bodies.specs.Seen.{body_at, line_seen, source_seen, sink_seen}
 use Rattle.edge_names.specs.Seen.{edges_seen}
-use Rattle.edge_names.specs.Controls.{control_call, named_control, first_sources, first_sinks}
+use Rattle.edge_names.specs.Controls.{control_call}
 use Rattle.edge_names.specs.Opened.{one}
-use Rattle.edge_names.specs.Returned.{sources_of, sinks_of}
-use Rattle.edge_names.proofs.Undoes.{opened_from, part_any, part_by, part_first_by, quiet_back, undone_by, undone_first}
+use Rattle.edge_names.proofs.Undoes.{all_parts, opened_from, short_any, short_by, short_first_by, undone_by, undone_first}
 use Rattle.edge_names.proofs.opening.open_or_give_back.Goals as goal
 
 pub returns-in-Ok-open_stages-clause-opened : goal.returns-in-Ok-open_stages-clause-opened
@@ -49,8 +48,8 @@ returns-in-Ok-give_back-clause-in_part g c =
     let opened = body_at g.B.Works.look c.open_stages.new.bodies.items in
     let failed = seen c.open_stages.new.edges in
     let new = seen c.give_back.new.edges in
-    let quiet = quiet_back (named_control topology.control control ++ sources_of topology.stages opened) (sinks_of topology.stages opened) failed new c.in-Ok-give_back.ensures.back in
-    part_by c.in-Err-open_stages.unopened topology control old mid failed new start opened c.in-Ok.ensures.opened c.in-Err-open_stages.ensures.cut_off quiet
+    let all = all_parts topology control opened failed new c.in-Ok-give_back.ensures.back in
+    short_by c.in-Err-open_stages.unopened topology control (suc (length topology.stages)) old mid failed new start opened c.in-Ok.ensures.opened c.in-Err-open_stages.ensures.cut_off all
 
 pub returns-in-Err-give_back-clause-in_part : goal.returns-in-Err-give_back-clause-in_part
 returns-in-Err-give_back-clause-in_part g c =
@@ -67,8 +66,7 @@ returns-in-Err-give_back-clause-in_part g c =
     let failed = seen c.open_stages.new.edges in
     let new = seen c.give_back.new.edges in
     let part = c.in-Err-give_back.ensures.in_part in
-    let quiet = quiet_back (first_sources part.parts topology control opened) (first_sinks part.parts topology opened) failed new part.back in
-    part_any c.in-Err-open_stages.unopened topology control old mid failed new start opened c.in-Ok.ensures.opened c.in-Err-open_stages.ensures.failed c.in-Err-open_stages.ensures.cut_off quiet
+    short_any c.in-Err-open_stages.unopened topology control part.parts old mid failed new start opened c.in-Ok.ensures.opened c.in-Err-open_stages.ensures.failed c.in-Err-open_stages.ensures.cut_off part.some_left part.back
 
 pub returns-in-Err-clause-undone : goal.returns-in-Err-clause-undone
 returns-in-Err-clause-undone g c =
@@ -91,4 +89,5 @@ returns-in-Err-clause-in_part g c =
     let topology = c.args.topology.now in
     let old = seen c.args.edges.now in
     let mid = seen c.open_control.new.edges in
-    part_first_by c.in-Err.unopened topology old mid c.in-Err.ensures.cut_off
+    let start = body_at g.B.Works.look c.args.bodies.now.items in
+    short_first_by c.in-Err.unopened topology old mid start c.in-Err.ensures.cut_off

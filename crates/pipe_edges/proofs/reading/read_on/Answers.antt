@@ -2,6 +2,7 @@ use Rattle.std.proofs.Common.{[], refl, rules}
 use Rattle.pipe_edges.specs.Handed.{Handed}
 use Rattle.pipe_edges.proofs.HandLaws.{handed_more}
 use Rattle.pipe_edges.proofs.PaceLaws.{round_more}
+use Rattle.pipe_edges.proofs.NeedLaws.{needed_more, no_text}
 use Rattle.pipe_edges.proofs.reading.read_on.Goals as goal
 
 pub loop-stop-preserved : goal.loop-stop-preserved
@@ -14,6 +15,7 @@ loop-stop-preserved g c =
           round_more _ _ (source.waits c.args.source.now) (source.waits c.loop-stop.source) (source.waits c.go_round.new.source)
           (source.paced c.args.source.now) (source.paced c.loop-stop.source) (source.paced c.go_round.new.source) c.args.held.now c.loop-stop.held c.go_round.new.held _
           refl handed.waits_stay c.loop-stop.invariant.paced (rw c.in_default.is at c.in_ok-stop.ensures.paced);
+      needed = needed_more _ _ _ _ c.loop-stop.invariant.needed (rw c.in_default.is at c.in_ok-stop.ensures.needed);
       unread = search rules;
     }
 
@@ -23,3 +25,14 @@ returns-in-Some-clause-paced g c =
     round_more _ _ (source.waits c.args.source.now) (source.waits c.loop-stop.source) (source.waits c.go_round.new.source)
     (source.paced c.args.source.now) (source.paced c.loop-stop.source) (source.paced c.go_round.new.source) c.args.held.now c.loop-stop.held c.go_round.new.held _
     refl c.go_round.ensures.handed.waits_stay c.loop-stop.invariant.paced (rw c.in-Some.is at c.in_ok-stop.ensures.paced)
+
+pub returns-in-Some-clause-needed : goal.returns-in-Some-clause-needed
+returns-in-Some-clause-needed g c = needed_more _ _ _ _ c.loop-stop.invariant.needed (rw c.in-Some.is at c.in_ok-stop.ensures.needed)
+
+pub returns-in_err-stop-clause-handed : goal.returns-in_err-stop-clause-handed
+returns-in_err-stop-clause-handed g c =
+    rw (no_text c.from_residual.result c.from_residual.ensures.0) (handed_more c.loop-stop.invariant.handed c.in_err-stop.ensures.handed)
+
+pub returns-in_err-stop-clause-needed : goal.returns-in_err-stop-clause-needed
+returns-in_err-stop-clause-needed g c =
+    rw (no_text c.from_residual.result c.from_residual.ensures.0) (needed_more _ _ _ _ c.loop-stop.invariant.needed c.in_err-stop.ensures.needed)

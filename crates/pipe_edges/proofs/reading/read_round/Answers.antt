@@ -1,7 +1,8 @@
-use Rattle.std.proofs.Common.{◌<◌, length}
+use Rattle.std.proofs.Common.{◌<◌, [], length}
 use Rattle.pipe_edges.specs.Pacing.{ReadIsHeld}
 use Rattle.pipe_edges.specs.declared.source.ReadEnd.TheVariants.{Got, Empty, Failed}
 use Rattle.pipe_edges.proofs.PaceLaws.{got_round, empty_round, failed_round}
+use Rattle.pipe_edges.proofs.NeedLaws.{needed_once}
 use Rattle.pipe_edges.proofs.reading.read_round.Goals as goal
 
 pub returns-in-Got-clause-paced : goal.returns-in-Got-clause-paced
@@ -19,3 +20,8 @@ pub returns-in-Failed-clause-paced : goal.returns-in-Failed-clause-paced
 returns-in-Failed-clause-paced g c =
     let read : ReadIsHeld g.B.ByteSource c.args.source.now c.read_from.new.source c.args.held.now c.read_from.new.self Failed = rw c.in-Failed.is at c.in_ok-read_from.ensures.paced in
     failed_round _ _ _ _ _ _ c.args.held.now c.read_from.new.self read.piece c.requires.unbroken read.added read.paced
+
+pub returns-in-Got-clause-needed : goal.returns-in-Got-clause-needed
+returns-in-Got-clause-needed g c =
+    let read = c.read_from.ensures in
+    needed_once c.args.held.now c.read_from.new.self [] read.handed.part c.requires read.handed.all_kept read.at_most

@@ -6,11 +6,11 @@ use Rattle.stage_bodies.specs.Seen.{body_at, line_seen, source_seen, sink_seen}
 use Rattle.run_pipe.specs.Clocks.{clock_seen}
 use Rattle.run_pipe.specs.Ends.{HasEnded}
 use Rattle.edge_names.specs.Seen.{edges_seen}
-use Rattle.edge_names.specs.Controls.{IsUndone, control_call, run_calls}
+use Rattle.edge_names.specs.Controls.{IsCutShort, IsUndone, control_call, run_calls}
 use Rattle.edge_names.specs.Opened.{AreOpened, Asks, HasSource}
 use Rattle.box_stock.proofs.Filled.{filled, homes}
 use Rattle.pipe_run.specs.Steps.{WentOn}
-use Rattle.pipe_run.proofs.Calls.{failed_by}
+use Rattle.pipe_run.proofs.Calls.{failed_by, unasked, wanted}
 use Rattle.pipe_run.proofs.Controls.{unread}
 use Rattle.pipe_run.proofs.Wholes.{run_leaves, run_of}
 use Rattle.pipe_run.proofs.run.run_bodies.Goals as goal
@@ -105,3 +105,24 @@ returns-in-Err-Failed-clause-failed g c =
     let undone = rw c.in-Err-Failed.field-0-is at c.in-Err-Failed.ensures.undone in
     let failed = failed_by c.args.topology c.in-Err-Failed.name table old new c.requires.handed (subst (λ (t : Topology). IsUndone t c.in-Err-Failed.name table old new) same undone) in
     rw c.in-Err-Failed.field-0-is failed
+
+pub returns-in_default-clause-wanting : goal.returns-in_default-clause-wanting
+returns-in_default-clause-wanting g c =
+    let e = g.E.Edges in
+    let s = g.E.Source.ByteSource in
+    let k = g.E.Sink.ByteSink in
+    let seen = edges_seen e.told e.named e.asked e.faults e.sources_back e.sinks_back (source_seen s) (sink_seen k.told k.held k.faults) in
+    unasked c.args.topology (seen c.args.edges.now)
+
+pub returns-clause-wanting : goal.returns-clause-wanting
+returns-clause-wanting g c =
+    let e = g.E.Edges in
+    let s = g.E.Source.ByteSource in
+    let k = g.E.Sink.ByteSink in
+    let seen = edges_seen e.told e.named e.asked e.faults e.sources_back e.sinks_back (source_seen s) (sink_seen k.told k.held k.faults) in
+    let same = c.topology.ensures ∙ c.in-Ok.ensures.topology in
+    let table = body_at g.B.Works.look c.args.bodies.items in
+    let old = seen c.args.edges.now in
+    let new = seen c.open_or_give_back.new.edges in
+    let cut = rw c.in-Err-OutOfMemory.field-0-is at c.in-Err-OutOfMemory.ensures.in_part in
+    wanted c.args.topology table old new c.requires.handed (subst (λ (t : Topology). IsCutShort t table old new) same cut)

@@ -1,5 +1,7 @@
-use Rattle.stage_bodies.specs.Seen.{body_at}
+use Rattle.stage_bodies.specs.Seen.{body_at, source_seen, sink_seen}
+use Rattle.edge_names.specs.Seen.{edges_seen}
 use Rattle.box_stock.proofs.Staying.{still}
+use Rattle.pipe_run.proofs.Calls.{unasked}
 use Rattle.pipe_run.proofs.Stocks.{IsTakenBack, boxes_unlent}
 use Rattle.pipe_run.proofs.Wholes.{left_by, remain_by, same_by}
 use Rattle.pipe_run.proofs.run.run_topology.Goals as goal
@@ -41,3 +43,11 @@ returns-in-Ok-clause-same_boxes g c =
 
 pub returns-in-Err-clause-same_boxes : goal.returns-in-Err-clause-same_boxes
 returns-in-Err-clause-same_boxes g c = boxes_unlent g.C.Boxed.seen c.args.stock.items c.in-Err.stock.items c.in-Err.ensures.back.0 c.in-Err.ensures.back.1
+
+pub returns-in-Err-clause-wanting : goal.returns-in-Err-clause-wanting
+returns-in-Err-clause-wanting g c =
+    let e = g.E.Edges in
+    let s = g.E.Source.ByteSource in
+    let k = g.E.Sink.ByteSink in
+    let seen = edges_seen e.told e.named e.asked e.faults e.sources_back e.sinks_back (source_seen s) (sink_seen k.told k.held k.faults) in
+    unasked c.args.topology (seen c.args.edges.now)

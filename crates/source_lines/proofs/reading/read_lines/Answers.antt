@@ -20,3 +20,6 @@ returns-clause-read g c opened records before =
       paced = f.paced;
     })
     before
+
+pub returns-clause-needed : goal.returns-clause-needed
+returns-clause-needed g c = c.fetch.ensures.needed
