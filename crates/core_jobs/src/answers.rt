@@ -1,6 +1,6 @@
 //! The answers to jobs.
 
-ghost use Rattle.std.specs.Prelude.{◌≡◌, ◌∷◌, ◌≤◌, OnOk, OnErr, IsOk, IsTrue};
+ghost use Rattle.std.specs.Prelude.{◌≡◌, ◌∷◌, ◌≤◌, is_ok, OnOk, OnErr, IsOk, IsTrue};
 ghost use Rattle.pipe_types.specs.declared.step.Step.TheVariants.{Accept, Done, Wrote, ChildEnd};
 ghost use Rattle.pipe_model.specs.Content.{has_crash};
 ghost use Rattle.pipe_model.specs.Legal.{allows};
@@ -75,10 +75,7 @@ fn reply(core: &mut Core, stage: StageNo, replies: ReplyList) -> Result<(), Allo
         crash_chunk(core, stage, replies);
         return Ok(());
     }
-    match answer(core, stage, replies) {
-        Ok(()) => Ok(()),
-        Err((_, failed)) => Err(failed),
-    }
+    let_go(answer(core, stage, replies))
 }
 
 fn end_batch(core: &mut Core, stage: StageNo, bytes: u64, end: BatchEnd) -> Result<(), AllocError>
@@ -93,10 +90,7 @@ fn end_batch(core: &mut Core, stage: StageNo, bytes: u64, end: BatchEnd) -> Resu
         crash_batch(core, stage);
         return Ok(());
     }
-    match wrote(core, stage, end, bytes) {
-        Ok(()) => Ok(()),
-        Err((_, failed)) => Err(failed),
-    }
+    let_go(wrote(core, stage, end, bytes))
 }
 
 fn end_child(core: &mut Core, stage: StageNo, slot: u16, reply: Reply) -> Result<(), AllocError>
@@ -107,7 +101,14 @@ fn end_child(core: &mut Core, stage: StageNo, slot: u16, reply: Reply) -> Result
     ensures topology { core.new.topology ≡ core.old.topology }
     ensures stands { Stands core.new }
 {
-    match child_end(core, stage, slot, reply) {
+    let_go(child_end(core, stage, slot, reply))
+}
+
+/// The answer of a call without what it gives back where it is refused.
+fn let_go<T: Drop>(answer: Result<(), (T, AllocError)>) -> Result<(), AllocError>
+    ensures { is_ok result ≡ is_ok answer }
+{
+    match answer {
         Ok(()) => Ok(()),
         Err((_, failed)) => Err(failed),
     }

@@ -30,3 +30,6 @@ pub returns-clause-appended : goal.returns-clause-appended
 returns-clause-appended c =
     c.wrote.ensures.appended
     ∙ without_kill (is_crashed_end c.args.end) c.args.stage (Wrote c.args.stage c.args.bytes c.args.end ∷ c.args.core.now.journal.steps) (sym c.has_crashed.ensures ∙ c.if-has_crashed.false)
+
+pub returns-clause-ok : goal.returns-clause-ok
+returns-clause-ok c = c.let_go.ensures ∙ c.wrote.ensures.ok

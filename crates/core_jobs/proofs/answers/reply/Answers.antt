@@ -21,3 +21,6 @@ returns-clause-appended c =
     c.answer.ensures.appended
     ∙ without_kill (has_crash c.args.replies) c.args.stage (Done c.args.stage c.args.replies ∷ c.args.core.now.journal.steps)
     (crash_read c.args.replies c.as_slice.result.now c.any_crashed.result false c.as_slice.ensures c.any_crashed.ensures c.if-any_crashed.false)
+
+pub returns-clause-ok : goal.returns-clause-ok
+returns-clause-ok c = c.let_go.ensures ∙ c.answer.ensures.ok
