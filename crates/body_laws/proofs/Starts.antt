@@ -10,6 +10,7 @@ use Rattle.pipe_types.specs.declared.topology.Topology.{Topology}
 use Rattle.pipe_edges.specs.Texts.{IsLine}
 use Rattle.pipe_edges.specs.declared.reading.LineEnd.{LineEnd}
 use Rattle.pipe_edges.specs.declared.reading.LineEnd.TheVariants as end
+use Rattle.stage_callback.proofs.Resets.{none_counted}
 use Rattle.stage_bodies.specs.Seen.{LineSeen, SinkSeen, BoxSeen, BodySeen}
 use Rattle.stage_bodies.specs.Jobs.{Both}
 use Rattle.stage_bodies.specs.Posts.{place_at}
@@ -42,10 +43,12 @@ sink_starts topology s a = record { told = refl; held = λ t. sym (append-nil a.
 
 callback_starts : (topology : Topology) (p : Post) (a : BoxSeen) → IfSome (Some a) (λ box. (box.kind ≡ Own → ⊥) → box.count ≡ 0) → KeepsCallback topology [] p a a
 callback_starts topology p a zero_count = record {
-  kept = record { kind = refl; spec = refl; told = refl; calls = omega arith; bad = omega arith; no_calls = λ own. refl; no_bad = λ own. refl };
+  kept = record { kind = refl; spec = refl; law = refl; told = refl; calls = omega arith; bad = omega arith; no_calls = λ own. refl; no_bad = λ own. refl };
   count = λ own calm live. zero_count own;
   calls = λ own. rise_none a.calls;
   bad = λ own. rise_none a.bad;
+  resets = λ own. none_counted a.resets a.resets refl;
+  lawful = tt;
 }
 
 body_starts : (topology : Topology) (p : Post) (a : BodySeen) → IsUnused a → KeepsBody topology [] p a a

@@ -69,6 +69,8 @@ callback_stays topology before step p a b st k = record {
   count = counted_stays topology before step p b st k.count;
   calls = λ own. rw st.calls (k.calls own);
   bad = λ own. rw st.bad (k.bad own);
+  resets = λ own. rw st.resets (k.resets own);
+  lawful = (k.lawful, st.lawful a.law);
 }
 
 pub body_stays : (topology : Topology) (before : History) (step : Step) (p : Post) (a b : BodySeen) → Stays topology before step p → KeepsBody topology before p a b → KeepsBody topology (step ∷ before) p a b

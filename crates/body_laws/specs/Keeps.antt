@@ -22,12 +22,14 @@ use Rattle.pipe_model.specs.Legal.{has_role, is_supervisor_role}
 use Rattle.pipe_edges.specs.declared.reading.LineEnd.{LineEnd}
 use Rattle.pipe_edges.specs.declared.reading.LineEnd.TheVariants as end
 use Rattle.pipe_laws.specs.Read.{quiets}
+use Rattle.stage_callback.specs.Laws.{RoseExactly}
 use Rattle.stage_job.specs.Chunks.{RoseBy}
 use Rattle.stage_bodies.specs.Seen.{LineSeen, SinkSeen, BoxSeen, BodySeen}
 use Rattle.stage_bodies.specs.Reads.{AreReadFrom}
 use Rattle.stage_bodies.specs.Jobs.{Both, KeepsBox}
 use Rattle.stage_bodies.specs.Posts.{place_at}
-use Rattle.body_laws.specs.Counts.{short_writes, calls_of, bad_of}
+use Rattle.body_laws.specs.Counts.{short_writes, calls_of, bad_of, resets_of}
+use Rattle.body_laws.specs.Lawful.{AreLawfulAnswers}
 
 -- ---- posts
 
@@ -78,12 +80,15 @@ abbrev pub IsCounted : Topology → History → StageNo → BoxSeen → Type 0
 IsCounted topology before s box =
     box.kind ≢ Own → has_role topology s is_supervisor_role ≡ false → (is_live topology before s || is_out before (post s 0)) ≡ true → box.count ≡ count topology before s
 
--- it is the same callback, counted as the journal says; a user's own counted each call and each bad answer of the journal
+-- it is the same callback, counted as the journal says; a user's own counted each call and each bad answer of the journal, and
+-- just its resets; what the journal says that it answered is lawful for what it was shown
 pub record KeepsCallback (topology : Topology) (before : History) (p : Post) (opened now : BoxSeen) : Type 0 where
   pub kept : KeepsBox opened now
   pub count : IsCounted topology before p.stage now
   pub calls : now.kind ≡ Own → RoseBy (calls_of before p) opened.calls now.calls
   pub bad : now.kind ≡ Own → RoseBy (bad_of before p) opened.bad now.bad
+  pub resets : now.kind ≡ Own → RoseExactly (resets_of topology before p) opened.resets now.resets
+  pub lawful : AreLawfulAnswers topology before p opened.law
 
 -- ---- bodies
 

@@ -4,7 +4,7 @@ ghost use Rattle.std.specs.Prelude.{◌≡◌, ◌∷◌, ◌++◌, ◌+◌, ◌
 ghost use Rattle.std.specs.VecDeque.{deque_len, deque_capacity};
 ghost use Rattle.pipe_model.specs.History.{bytes_in};
 ghost use Rattle.pipe_model.specs.Legal.{allows};
-ghost use Rattle.core_tables.specs.Tables.{spare_at, spare_in};
+ghost use Rattle.core_tables.specs.Tables.{spare_at};
 ghost use Rattle.core_laws.specs.Enrolled.{record_part, queued};
 ghost use Rattle.core_state.specs.Stands.{Holds, Stands};
 ghost use Rattle.core_accepts.specs.Records.{HasParts};

@@ -16,7 +16,7 @@ use Rattle.pipe_types.specs.declared.topology.Topology.{Topology}
 use Rattle.pipe_types.specs.declared.topology.StageSpec.{StageSpec}
 use Rattle.pipe_types.specs.declared.topology.Role.{Role}
 use Rattle.pipe_types.specs.declared.topology.Role.TheVariants.{Producer, Processor, Supervisor, Batcher, BatchProcessor}
-use Rattle.pipe_types.specs.declared.step.Step.TheVariants.{Close, Dispatch}
+use Rattle.pipe_types.specs.declared.step.Step.TheVariants.{Close}
 use Rattle.pipe_types.specs.Numbers.{same_stage}
 use Rattle.pipe_types.specs.Stages.{spec_of}
 use Rattle.pipe_types.specs.Sound.{IsSound, by_demand, by_broadcast, by_partition, batch_processors}

@@ -1,8 +1,8 @@
 -- The batch that a batch processor answers.
-use Rattle.std.proofs.Common.{◌≡◌, ℕ, zero, suc, set, ◌+◌, ◌≤◌, List, [], ◌∷◌, ◌++◌, map, length, Bool, true, false, refl, ap, sym, ◌∙◌, subst, Some, None, Option, arith}
-use Rattle.std.specs.Prelude.{slice_get, option_map, if◌then◌else◌, ◌==◌, ◌&&◌, ◌||◌, not, is_some, bytes_eq}
+use Rattle.std.proofs.Common.{◌≡◌, ℕ, zero, suc, set, ◌+◌, ◌≤◌, List, [], ◌∷◌, map, length, Bool, true, false, refl, ap, sym, ◌∙◌, subst, Some, None, Option, arith}
+use Rattle.std.specs.Prelude.{slice_get, if◌then◌else◌, ◌==◌, ◌&&◌, ◌||◌, not, is_some}
 use Rattle.std.proofs.lemmas.Bool.{eqb-true, eq-eqb, false_from_ne_true}
-use Rattle.std.proofs.lemmas.List.{length-map, append-nil}
+use Rattle.std.proofs.lemmas.List.{length-map}
 use Rattle.pipe_types.specs.declared.numbers.StageNo.{StageNo}
 use Rattle.pipe_types.specs.declared.numbers.SubNo.{SubNo}
 use Rattle.pipe_types.specs.declared.topology.Topology.{Topology}
@@ -11,18 +11,15 @@ use Rattle.pipe_types.specs.declared.topology.Role.{Role}
 use Rattle.pipe_types.specs.declared.topology.Role.TheVariants.{Producer, Processor, Supervisor, Batcher, BatchProcessor}
 use Rattle.pipe_types.specs.declared.message.Outcome.{Outcome}
 use Rattle.pipe_types.specs.declared.message.BatchEnd.TheVariants.{Outcomes}
-use Rattle.pipe_types.specs.declared.message.Why.{Why}
-use Rattle.pipe_types.specs.declared.step.Step.TheVariants.{Fetch, Take, Child, Close, Dispatch, Wrote, Kill, Halt}
-use Rattle.pipe_types.specs.declared.room.Sent.{Sent as SentUnit}
+use Rattle.pipe_types.specs.declared.step.Step.TheVariants.{Fetch, Take, Child, Wrote}
 use Rattle.pipe_types.specs.Numbers.{same_stage, same_sub, post, batch_no}
 use Rattle.pipe_types.specs.Stages.{spec_of, feeds, option_feeds}
 use Rattle.pipe_types.specs.Sound.{IsSound}
-use Rattle.pipe_model.specs.History.{History, closed, incarnation}
+use Rattle.pipe_model.specs.History.{History}
 use Rattle.pipe_model.specs.Posts.{is_out, last_take, answers}
-use Rattle.pipe_model.specs.Lives.{KillSet, reason_in, kill_set}
-use Rattle.pipe_model.specs.Content.{content, gathers, key_in}
-use Rattle.pipe_model.specs.Flow.{place, batch, view_of, sent_to, is_batcher, among, numbers_in, first_in, closing, subs_of, deliveries, next_units, change_place, new_batch, is_gathered_in, batch_waits_in, waits_in, runs_in, is_empty}
-use Rattle.pipe_model.specs.Batches.{Batch, BatchPlace, AtBatcher, Sent, Dropped, Leg, LegPlace, InInbox, AtWork, Answered, LegLost, on_legs, leg_taken, leg_answered, leg_lost, batch_on_legs, batch_sent, batch_killed, new_legs, dropped_in, is_settled, is_leg_open}
+use Rattle.pipe_model.specs.Content.{content}
+use Rattle.pipe_model.specs.Flow.{place, batch, sent_to, is_batcher, among, numbers_in, first_in, runs_in, is_empty}
+use Rattle.pipe_model.specs.Batches.{Batch, BatchPlace, AtBatcher, Sent, Dropped, Leg, LegPlace, InInbox, AtWork, Answered, LegLost, on_legs, leg_answered, is_settled, is_leg_open}
 use Rattle.pipe_model.specs.Work.{taken_units, batch_of, count, messages_of}
 use Rattle.pipe_model.specs.Counting.{as_number}
 use Rattle.pipe_types.specs.declared.message.Place.TheVariants.{InBatch}
@@ -35,20 +32,17 @@ use Rattle.pipe_laws.proofs.Tests.{clash, and_left, and_right, same_stage-true, 
 use Rattle.pipe_laws.proofs.Lists.{Each, each_weaker, each_both, each_map, weigh}
 use Rattle.pipe_laws.proofs.Allowed.{legal_before, legal_step, WroteFacts, wrote_facts, fetch_role, child_facts}
 use Rattle.pipe_laws.proofs.Accepted.{placed_content}
-use Rattle.pipe_laws.proofs.Entries.{EntryFits, entries_fit, is_waiting, waiting_each}
-use Rattle.pipe_laws.proofs.Places.{IsOn, sends_on}
+use Rattle.pipe_laws.proofs.Entries.{EntryFits, entries_fit}
 use Rattle.pipe_laws.proofs.Levels.{rank, feeds_down}
 use Rattle.pipe_laws.proofs.Busy.{Busy, busy, work_weight, two_roles}
-use Rattle.queue_laws.proofs.Apart.{Apart, apart_kept, apart_mapped}
+use Rattle.queue_laws.proofs.Apart.{Apart, apart_mapped}
 use Rattle.queue_laws.proofs.AtWork.{last_one, calm_batch}
 use Rattle.queue_laws.proofs.BatchWork.{WorksTaken, batch_work, writer_rank, writes_produces}
-use Rattle.queue_laws.proofs.Batched.{BatchHolds, batch_holds, BatchListed, PlaceListed, LegListed, batch_listed}
+use Rattle.queue_laws.proofs.Batched.{BatchHolds, batch_holds, BatchListed, LegListed, batch_listed}
 use Rattle.queue_laws.proofs.Counts.{TookBy, took}
 use Rattle.queue_laws.proofs.Distinct.{itself}
-use Rattle.queue_laws.proofs.Gathering.{gathers_once}
 use Rattle.queue_laws.proofs.OneLeg.{leg_to, BatchOnce, legs_once}
 use Rattle.queue_laws.proofs.Roles.{rank_batcher}
-use Rattle.queue_laws.proofs.Singles.{none_of}
 use Rattle.queue_laws.proofs.Sounds.{fits}
 use Rattle.queue_laws.proofs.Writes.{of_entry}
 use Rattle.stage_laws.proofs.Bounds.{few_numbers}

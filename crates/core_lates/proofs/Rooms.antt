@@ -10,7 +10,7 @@ use Rattle.pipe_types.specs.declared.step.LateAnswer.TheVariants.{Records}
 use Rattle.pipe_types.specs.declared.step.Step.{Step}
 use Rattle.pipe_types.specs.declared.step.Step.TheVariants.{Done, Wrote, Late}
 use Rattle.pipe_types.specs.Numbers.{post, same_stage}
-use Rattle.pipe_model.specs.History.{History, accepted}
+use Rattle.pipe_model.specs.History.{accepted}
 use Rattle.pipe_model.specs.Legal.{allows, fetches_out}
 use Rattle.pipe_model.specs.Posts.{is_out}
 use Rattle.pipe_laws.proofs.Allowed.{done_facts, wrote_facts, late_facts}

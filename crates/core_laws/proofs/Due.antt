@@ -1,7 +1,7 @@
 -- What a step does to the number of live stages and of posts that are out.
-use Rattle.std.proofs.Common.{◌≡◌, ℕ, ◌+◌, ◌*◌, ◌<◌, ◌≤◌, List, [], ◌∷◌, length, Bool, true, false, refl, ap, sym, ◌∙◌, subst, arith, Some, None, Option}
+use Rattle.std.proofs.Common.{◌≡◌, ℕ, ◌+◌, ◌*◌, ◌<◌, ◌≤◌, ◌∷◌, length, Bool, true, false, refl, ap, sym, ◌∙◌, subst, arith, Some, None, Option}
 use Rattle.std.specs.Prelude.{sum_by, not, is_none, is_some, ◌&&◌, ◌||◌, ◌==◌, if◌then◌else◌}
-use Rattle.std.proofs.lemmas.Bool.{eqb-true, eq-eqb}
+use Rattle.std.proofs.lemmas.Bool.{eqb-true}
 use Rattle.pipe_types.specs.declared.message.Why.{Why}
 use Rattle.pipe_types.specs.declared.numbers.StageNo.{StageNo}
 use Rattle.pipe_types.specs.declared.numbers.Post.{Post}
@@ -16,17 +16,16 @@ use Rattle.pipe_types.specs.Stages.{spec_of}
 use Rattle.pipe_model.specs.Counting.{as_number}
 use Rattle.pipe_model.specs.History.{History, controls}
 use Rattle.pipe_model.specs.Posts.{is_out, puts_out, answers, slots}
-use Rattle.pipe_model.specs.Lives.{is_live, is_alive, death, death_after, kill_set, reason_in}
+use Rattle.pipe_model.specs.Lives.{is_live, death, death_after, kill_set, reason_in}
 use Rattle.pipe_model.specs.Legal.{is_legal, allows, has_role, has_ended, is_producer_role, is_current, is_limit, same_truth}
 use Rattle.pipe_laws.proofs.Allowed.{unowed}
 use Rattle.pipe_laws.proofs.Tests.{and_left, and_right, both, same_stage-true, same_stage-self, clash}
-use Rattle.pipe_laws.proofs.Lists.{Each, each_always}
+use Rattle.pipe_laws.proofs.Lists.{each_always}
 use Rattle.pipe_laws.proofs.Chunks.{kill_kills}
 use Rattle.queue_laws.proofs.Roles.{some_spec}
-use Rattle.stage_laws.specs.Numbered.{IsNumberedTopology}
 use Rattle.core_laws.specs.Due.{posts_out, due_at, due_steps}
 use Rattle.core_laws.proofs.Past.{IsPost, out_post}
-use Rattle.core_laws.proofs.Sums.{sum_drop, sum_le, sum_17, sum_1, number_small, slot_found, stage_found}
+use Rattle.core_laws.proofs.Sums.{sum_drop, sum_17, sum_1, number_small, slot_found, stage_found}
 
 -- at most 17 for each stage
 pub due_within : (topology : Topology) (before : History) → due_steps topology before ≤ 17 * length topology.stages
@@ -131,8 +130,8 @@ kill_due topology before s why live =
         omega (
           arith,
           counted (is_live topology (Kill s why ∷ before) t) (is_live topology before t) (same_stage t s) (less t)
-          (λ same. ap (is_live topology before) (same_stage-true t s same) ∙ live)
-          (λ same. ap (is_live topology (Kill s why ∷ before)) (same_stage-true t s same) ∙ kill_kills topology before s why)
+              (λ same. ap (is_live topology before) (same_stage-true t s same) ∙ live)
+              (λ same. ap (is_live topology (Kill s why ∷ before)) (same_stage-true t s same) ∙ kill_kills topology before s why),
         )
 
     drop : sum_by (λ (x : StageSpec). due_at topology (Kill s why ∷ before) x.no) topology.stages + sum_by (λ (x : StageSpec). as_number (same_stage x.no s)) topology.stages

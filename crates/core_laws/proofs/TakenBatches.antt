@@ -1,7 +1,7 @@
 -- The batch that a batch processor took last, while other steps come.
-use Rattle.std.proofs.Common.{◌≡◌, ℕ, zero, suc, ◌+◌, ◌≤◌, List, [], ◌∷◌, length, Bool, true, false, refl, ap, sym, ◌∙◌, Some, None, Option, arith, subst, take}
-use Rattle.std.specs.Prelude.{if◌then◌else◌, ◌==◌, ◌&&◌, ◌||◌, not, filter, map}
-use Rattle.std.proofs.lemmas.Bool.{ne_eqb, eqb-true}
+use Rattle.std.proofs.Common.{◌≡◌, ℕ, zero, suc, ◌+◌, ◌≤◌, List, [], ◌∷◌, length, Bool, true, false, refl, ap, sym, ◌∙◌, Some, None, Option, arith, take}
+use Rattle.std.specs.Prelude.{if◌then◌else◌, ◌==◌, ◌&&◌, ◌||◌, not, filter}
+use Rattle.std.proofs.lemmas.Bool.{ne_eqb}
 use Rattle.pipe_types.specs.declared.numbers.StageNo.{StageNo}
 use Rattle.pipe_types.specs.declared.numbers.SubNo.{SubNo}
 use Rattle.pipe_types.specs.declared.topology.Topology.{Topology}
@@ -11,18 +11,17 @@ use Rattle.pipe_types.specs.declared.topology.Role.TheVariants.{Producer, Proces
 use Rattle.pipe_types.specs.declared.step.Step.{Step}
 use Rattle.pipe_types.specs.declared.step.Step.TheVariants.{Fetch, Take, Child, Close}
 use Rattle.pipe_types.specs.Numbers.{post, same_stage, same_sub}
-use Rattle.pipe_types.specs.Sound.{IsSound}
 use Rattle.pipe_types.specs.Stages.{spec_of}
 use Rattle.pipe_model.specs.History.{History, closed}
 use Rattle.pipe_model.specs.Flow.{inbox, sent_to, batch, view_of, closing, first_in, units_on}
 use Rattle.pipe_model.specs.Legal.{is_legal, allows, has_role, is_producer_role, is_supervisor_role, is_batch_processor_role}
 use Rattle.pipe_model.specs.Posts.{is_out, puts_out, answers}
 use Rattle.pipe_model.specs.Standing.{in_inbox}
-use Rattle.pipe_model.specs.Taken.{Closed, closed_as}
+use Rattle.pipe_model.specs.Taken.{closed_as}
 use Rattle.pipe_model.specs.Work.{taken_units}
 use Rattle.pipe_laws.proofs.Tests.{and_left, and_right, clash, same_stage-true}
 use Rattle.pipe_laws.proofs.Lists.{Each, each_weaker, each_map}
-use Rattle.pipe_laws.proofs.Allowed.{legal_before, legal_step, child_facts, fetch_role}
+use Rattle.pipe_laws.proofs.Allowed.{legal_before, child_facts, fetch_role}
 use Rattle.pipe_laws.proofs.Busy.{two_roles}
 use Rattle.pipe_laws.proofs.Entries.{EntryFits, entries_fit, sent_exists}
 use Rattle.pipe_laws.proofs.Levels.{rank, rank_in, rank_of, feeds_down}

@@ -6,8 +6,8 @@ ghost use Rattle.restart_core.specs.Restarts.{RestartLimit as Limit, Remembers};
 ghost use Rattle.core_state.specs.Stands.{Stands, limit_seen};
 
 use crate::renewing::{note_restart, renew_all};
-use core_state::{Core, MOST_DUE};
 use core_state::limits::limit_of;
+use core_state::{Core, MOST_DUE};
 use pipe_types::numbers::StageNo;
 use pipe_types::step::Step;
 use restart_core::Restarts;

@@ -1,5 +1,5 @@
 -- What a step leaves of the room that was made before.
-use Rattle.std.proofs.Common.{◌≡◌, ℕ, ◌+◌, ◌*◌, ◌≤◌, ◌∷◌, List, length, Bool, true, false, refl, ap, sym, ◌∙◌, subst, arith}
+use Rattle.std.proofs.Common.{◌≡◌, ℕ, ◌+◌, ◌≤◌, ◌∷◌, length, Bool, true, false, refl, ap, sym, ◌∙◌, subst, arith}
 use Rattle.std.specs.Prelude.{vec_capacity, ◌==◌}
 use Rattle.std.specs.declared.alloc.Global.{Global}
 use Rattle.std.specs.declared.vec.Vec.{Vec}
@@ -12,12 +12,11 @@ use Rattle.pipe_types.specs.declared.step.SourceHow.{SourceHow}
 use Rattle.pipe_types.specs.declared.step.Step.TheVariants.{Fetch, SourceEnd}
 use Rattle.pipe_types.specs.declared.topology.Topology.{Topology}
 use Rattle.pipe_types.specs.Numbers.{post}
-use Rattle.pipe_types.specs.Sound.{IsSound}
 use Rattle.pipe_types.specs.Stages.{spec_of}
 use Rattle.pipe_journal.specs.Recorded.{Recorded}
 use Rattle.pipe_model.specs.Flow.{has_batchers_in}
 use Rattle.pipe_model.specs.History.{History}
-use Rattle.pipe_model.specs.Legal.{allows, is_legal, has_role, is_batch_processor_role}
+use Rattle.pipe_model.specs.Legal.{allows, has_role, is_batch_processor_role}
 use Rattle.pipe_model.specs.Posts.{is_out, puts_out}
 use Rattle.stage_laws.proofs.Records.{booked_step}
 use Rattle.core_tables.specs.declared.rows.ContentRow.{ContentRow}
@@ -110,8 +109,8 @@ pub room_beside : (core new : Core) (step : Step) → Holds core → allows core
 room_beside core new step x allowed none due places settled producers contents chunks waiting ends =
     room_after core new step x allowed none due (ap (λ v. vec_capacity v) places) (ap (λ v. vec_capacity v) settled) (ap (λ v. vec_capacity v) producers) (ap (λ v. vec_capacity v) contents)
     (λ s h.
-      subst (λ (v : Vec (Vec ℕ Global) Global). length (list_at v.items s) ≤ spare_at new.waiting.items s) (sym chunks)
-      (subst (λ (v : Vec (VecDeque (ℕ × ℕ) Global) Global). length (list_at core.chunks.items s) ≤ spare_at v.items s) (sym waiting) (x.room.queues s h)))
+    subst (λ (v : Vec (Vec ℕ Global) Global). length (list_at v.items s) ≤ spare_at new.waiting.items s) (sym chunks)
+    (subst (λ (v : Vec (VecDeque (ℕ × ℕ) Global) Global). length (list_at core.chunks.items s) ≤ spare_at v.items s) (sym waiting) (x.room.queues s h)))
     ends
 
 -- where the journal alone made room

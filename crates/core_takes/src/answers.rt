@@ -38,7 +38,7 @@ pub fn answer(
 }
 
 /// Appends the replies to the chunk that is out, of which none is a crash, into the room that the take made.
-pub fn answered(core: &mut Core, stage: StageNo, replies: ReplyList)
+fn answered(core: &mut Core, stage: StageNo, replies: ReplyList)
     requires holds { Holds core.old }
     requires legal { IsTrue (allows core.old.topology core.old.journal.steps (Step.Done stage replies)) }
     requires calm { has_crash replies ≡ false }

@@ -1,10 +1,10 @@
 //! Connections over loopback. The system picks each port.
 
 use super::devices::{tell_sink, tell_source};
-use super::stories::story;
+use super::stories::{story, tell_read};
 use super::texts::halves;
-use file_socket_sinks::{RealEdges, RealSource};
-use pipe_edges::{Edges, PutEnd, put_all};
+use file_socket_sinks::{Reader, RealEdges, RealSource};
+use pipe_edges::{ByteSource, EdgeEnd, Edges, PutEnd, put_all};
 use pipe_types::bytes::{Bytes, Text};
 use std::io::Write;
 use std::net::{TcpListener, TcpStream};
@@ -13,6 +13,9 @@ use std::thread::Threads;
 use std::time::Duration;
 use std::{io, thread};
 use told_text::Told;
+
+/// How often a read of a peer waits depends on the machine.
+const UNTOLD: &str = "";
 
 /// How many bytes are more than the system keeps for a peer that reads none.
 const MANY: usize = 33_554_432;
@@ -51,7 +54,7 @@ pub fn listen<R: Threads + Sync>(rt: &HostRuntime, threads: &R, told: &mut Told)
     let opened = RealEdges::new(rt).open_source(&name);
     told.flag(TcpStream::connect(rt, ("127.0.0.1", port)).is_err());
     if let Ok(source) = opened {
-        story(told, source, 2);
+        story(told, source, 2, UNTOLD);
     }
     told.flag(peer.join(threads));
     Ok(())
@@ -73,7 +76,7 @@ pub fn connect(rt: &HostRuntime, told: &mut Told, acts: &str) -> io::Result<()> 
             if !accept_and_send(listener, b"a\nb") {
                 told.add(" no peer");
             }
-            story(told, source, 2);
+            story(told, source, 2, UNTOLD);
         }
         Err(_) => told.add(" no source"),
     }
@@ -95,10 +98,38 @@ pub fn early<R: Threads + Sync>(rt: &HostRuntime, threads: &R, told: &mut Told) 
     let opened = RealEdges::new(rt).open_source(&name);
     let peer = thread::spawn(threads, move || accept_and_send(listener, b"one\ntwo\n"))?;
     match opened {
-        Ok(source) => story(told, source, 2),
+        Ok(source) => story(told, source, 2, UNTOLD),
         Err(_) => told.add(" no source"),
     }
     told.flag(peer.join(threads));
+    Ok(())
+}
+
+/// `silent`: what a read of a peer that sent nothing comes to, and one after it sent three bytes; as the source of a stage,
+/// and as that of control lines.
+pub fn silent(rt: &HostRuntime, told: &mut Told) -> io::Result<()> {
+    let (listener, name) = listening(rt, "127.0.0.1:0", "127.0.0.1")?;
+    let mut edges = RealEdges::new(rt);
+    let opened = edges.open_source(&name);
+    read_twice(told, opened, &listener)?;
+    let opened = edges.open_control(&name);
+    read_twice(told, opened, &listener)
+}
+
+fn read_twice(
+    told: &mut Told,
+    opened: Result<RealSource<Reader>, EdgeEnd>,
+    listener: &TcpListener,
+) -> io::Result<()> {
+    let (mut far, _) = listener.accept()?;
+    let Ok(mut source) = opened else {
+        told.add(" no source");
+        return Ok(());
+    };
+    let mut piece = [0; 8];
+    tell_read(told, source.read(&mut piece));
+    far.write_all(b"abc")?;
+    tell_read(told, source.read(&mut piece));
     Ok(())
 }
 
@@ -107,7 +138,7 @@ pub fn reset(rt: &HostRuntime, told: &mut Told) -> io::Result<()> {
     let (near, far) = two_ends(rt)?;
     let source = RealSource::new(near.try_clone()?);
     leave_unread(told, near, far)?;
-    story(told, source, 2);
+    story(told, source, 2, UNTOLD);
     Ok(())
 }
 

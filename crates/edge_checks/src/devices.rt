@@ -110,7 +110,7 @@ pub fn kept(rt: &HostRuntime, told: &mut Told) -> io::Result<()> {
 /// Opens the source and tells its story.
 pub fn read_lines(rt: &HostRuntime, told: &mut Told, name: &Text) {
     match RealEdges::new(rt).open_source(name) {
-        Ok(source) => story(told, source, 2),
+        Ok(source) => story(told, source, 2, "?"),
         Err(_) => told.add(" no source"),
     }
 }

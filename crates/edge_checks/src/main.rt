@@ -64,6 +64,7 @@ fn run<R: Threads + Sync>(
         "kept" => devices::kept(rt, told),
         "listen" => connections::listen(rt, waits, told),
         "early" => connections::early(rt, waits, told),
+        "silent" => connections::silent(rt, told),
         "reset" => connections::reset(rt, told),
         "hang_up" => connections::hang_up(rt, waits, told),
         "refused" => connections::refused(rt, told),

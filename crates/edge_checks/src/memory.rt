@@ -65,7 +65,7 @@ pub fn lines(told: &mut Told, acts: &str) -> Result<(), AllocError> {
     let (most, rest) = halves(acts);
     let (bytes, acts) = halves(rest);
     let source = source_of(told.alloc, bytes, acts)?;
-    story(told, source, count(most));
+    story(told, source, count(most), "?");
     Ok(())
 }
 

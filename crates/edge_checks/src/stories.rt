@@ -6,36 +6,41 @@ use pipe_edges::{ByteSource, Fetched, LineSource, ReadEnd, WriteEnd};
 use pipe_types::bytes::BytesList;
 use told_text::Told;
 
-/// Tells what fetches of at most so many records come to, until an end: each record with a bar, where a read would wait a
-/// question mark, and the end.
-pub fn story<B: ByteSource + Drop>(told: &mut Told, source: B, most: u32)
+/// Tells what fetches of at most so many records come to, until an end: each record with a bar, where a read would wait the
+/// mark, and the end.
+pub fn story<B: ByteSource + Drop>(told: &mut Told, source: B, most: u32, wait: &str)
     requires { 0 < most }
 {
     match LineSource::new(told.alloc, source) {
         Ok(mut lines) => {
             told.add(" ");
-            tell_lines(told, &mut lines, most);
+            tell_lines(told, &mut lines, most, wait);
         }
         Err(_) => told.add(" no memory"),
     }
 }
 
-fn tell_lines<B: ByteSource>(told: &mut Told, lines: &mut LineSource<B>, most: u32)
+fn tell_lines<B: ByteSource>(told: &mut Told, lines: &mut LineSource<B>, most: u32, wait: &str)
     requires { 0 < most }
 {
     for _ in 0..1000 {
-        if !tell_fetch(told, lines, most) {
+        if !tell_fetch(told, lines, most, wait) {
             break;
         }
     }
 }
 
 // Tells a fetch, and says whether others follow.
-fn tell_fetch<B: ByteSource>(told: &mut Told, lines: &mut LineSource<B>, most: u32) -> bool
+fn tell_fetch<B: ByteSource>(
+    told: &mut Told,
+    lines: &mut LineSource<B>,
+    most: u32,
+    wait: &str,
+) -> bool
     requires { 0 < most }
 {
     match lines.fetch(most) {
-        Ok(fetched) => goes_on(told, &fetched),
+        Ok(fetched) => goes_on(told, &fetched, wait),
         Err(_) => {
             told.cut();
             false
@@ -43,10 +48,10 @@ fn tell_fetch<B: ByteSource>(told: &mut Told, lines: &mut LineSource<B>, most: u
     }
 }
 
-fn goes_on(told: &mut Told, fetched: &Fetched) -> bool {
+fn goes_on(told: &mut Told, fetched: &Fetched, wait: &str) -> bool {
     match fetched {
         Fetched::Records(records) => tell_records(told, records),
-        Fetched::NotYet => told.add("?"),
+        Fetched::NotYet => told.add(wait),
         Fetched::End => told.add("end"),
         Fetched::Fault => told.add("fault"),
         Fetched::TooLong => told.add("long"),

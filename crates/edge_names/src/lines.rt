@@ -18,10 +18,11 @@ pub(crate) fn copy_text(alloc: Global, text: &Text) -> Result<Text, AllocError>
     Ok(Text::from_string(String::from_str(alloc, text.as_str())?))
 }
 
-/// Opens the source of this name, to be read by lines.
+/// Opens the source of this name, as the control source or as that of a stage, to be read by lines.
 pub(crate) fn open_lines<E: Edges>(
     alloc: Global,
     name: &Text,
+    is_control: bool,
     edges: &mut E,
 ) -> Result<LineSource<E::Source>, Unopened>
     ensures asks { OnOk result (Asks ((Source, name.now) ∷ []) (⟦<E as SeenEdges>⟧.seen edges.old) (⟦<E as SeenEdges>⟧.seen edges.new)) }
@@ -33,7 +34,7 @@ pub(crate) fn open_lines<E: Edges>(
     let Ok(source_name) = copy_text(alloc, name) else {
         return Err(Unopened::OutOfMemory);
     };
-    match open_source(name, edges) {
+    match open_source(name, is_control, edges) {
         Ok(source) => match lines_of(alloc, name, source, edges) {
             Ok(lines) => Ok(lines),
             Err(AllocError) => Err(Unopened::OutOfMemory),

@@ -74,7 +74,7 @@ fn open_source_into<E: Edges, B: Houses<E::Source, E::Sink>>(
     ensures same { OnErr result (bodies.new.items ≡ bodies.old.items) }
     ensures len { length bodies.new.items ≡ length bodies.old.items }
 {
-    match open_lines(alloc, name, edges) {
+    match open_lines(alloc, name, false, edges) {
         Ok(lines) => {
             set_source(bodies, at, lines);
             Ok(())

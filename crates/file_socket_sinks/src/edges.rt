@@ -8,6 +8,7 @@ ghost use Rattle.file_socket_sinks.specs.Came.{OpenCameTo};
 use crate::opened::OpenFiles;
 use crate::output::{RealOut, Writer};
 use crate::source::{Reader, RealSource};
+use crate::waits::{OF_CONTROL, OF_STAGES};
 use pipe_edges::{EdgeEnd, Edges, MAX_FILE_BYTES};
 use pipe_types::bytes::{Bytes, Text};
 use std::alloc::{AllocError, Global};
@@ -110,7 +111,12 @@ impl Edges for RealEdges {
     ghost sinks_back = { λ e. given_in e.sinks.items };
 
     fn open_source(&mut self, name: &Text) -> Result<RealSource<Reader>, EdgeEnd> {
-        let reader = Reader::open(&self.rt, &mut self.opened, name.as_str());
+        let reader = Reader::open(&self.rt, &mut self.opened, name.as_str(), OF_STAGES);
+        Ok(RealSource::new(count(&mut self.faults, reader)?))
+    }
+
+    fn open_control(&mut self, name: &Text) -> Result<RealSource<Reader>, EdgeEnd> {
+        let reader = Reader::open(&self.rt, &mut self.opened, name.as_str(), OF_CONTROL);
         Ok(RealSource::new(count(&mut self.faults, reader)?))
     }
 

@@ -14,6 +14,7 @@ mod opened;
 mod output;
 mod source;
 mod streams;
+mod waits;
 
 pub use clock::RealClock;
 pub use edges::{GivenBack, RealEdges};
@@ -22,3 +23,4 @@ pub use opened::{Identity, OpenFiles};
 pub use output::{RealOut, Writer};
 pub use source::{Reader, RealSource, read_end};
 pub use streams::take_closed_streams;
+pub use waits::Patience;

@@ -8,50 +8,88 @@ ghost use Rattle.file_socket_sinks.specs.Names.{IsSourceName};
 
 use crate::names::SourceName;
 use crate::opened::OpenFiles;
+use crate::waits::{Patience, Waits};
 use pipe_edges::{ByteSource, ReadEnd};
 use std::fs::File;
 use std::io;
 use std::io::{ErrorKind, Read, Stdin};
 use std::net::TcpStream;
+use std::os::fd::{AsRawFd, RawFd};
 
 /// A file, a connection or standard input.
 #[derive(Drop)]
-pub enum Reader {
+enum Stream {
     File(File),
     Connection(TcpStream),
     Input(Stdin),
 }
 
+impl AsRawFd for Stream {
+    fn as_raw_fd(&self) -> RawFd {
+        match self {
+            Stream::File(file) => file.as_raw_fd(),
+            Stream::Connection(stream) => stream.as_raw_fd(),
+            Stream::Input(input) => input.as_raw_fd(),
+        }
+    }
+}
+
+impl Read for Stream {
+    fn read(&mut self, piece: &mut [u8]) -> io::Result<usize> {
+        match self {
+            Stream::File(file) => file.read(piece),
+            Stream::Connection(stream) => stream.read(piece),
+            Stream::Input(input) => input.read(piece),
+        }
+    }
+}
+
+/// A file, a connection or standard input, of which a read waits no longer than its patience lasts: then it is
+/// `WouldBlock`. A regular file is read at once.
+#[derive(Drop)]
+pub struct Reader {
+    stream: Stream,
+    waits: Option<Waits>,
+}
+
 impl Reader {
     /// Opens what the name of a source says, and waits for the peer where that is a connection. Of a listener's
     /// connections one is accepted. What is open already is `ResourceBusy`, and a name of another form `InvalidInput`.
-    pub fn open(rt: &HostRuntime, opened: &mut OpenFiles, name: &str) -> io::Result<Reader>
+    pub fn open(
+        rt: &HostRuntime,
+        opened: &mut OpenFiles,
+        name: &str,
+        patience: Patience,
+    ) -> io::Result<Reader>
         ensures { IfOk result (λ _. IsSourceName name.now) }
     {
-        match SourceName::parse(name) {
+        let stream = match SourceName::parse(name) {
             Some(SourceName::File(path)) => {
                 let file = File::open(rt, path)?;
                 opened.add_source(&file.metadata()?)?;
-                Ok(Reader::File(file))
+                Stream::File(file)
             }
             Some(SourceName::Input) => {
                 opened.add_input(rt)?;
-                Ok(Reader::Input(rt.stdin()))
+                Stream::Input(rt.stdin())
             }
-            Some(SourceName::Connect(peer)) => Ok(Reader::Connection(peer.connect(rt)?)),
-            Some(SourceName::Listen(own)) => Ok(Reader::Connection(own.accept(rt)?)),
-            None => Err(io::Error::from(ErrorKind::InvalidInput)),
-        }
+            Some(SourceName::Connect(peer)) => Stream::Connection(peer.connect(rt)?),
+            Some(SourceName::Listen(own)) => Stream::Connection(own.accept(rt)?),
+            None => return Err(io::Error::from(ErrorKind::InvalidInput)),
+        };
+        let waits = Waits::new(rt, stream.as_raw_fd(), patience)?;
+        Ok(Reader { stream, waits })
     }
 }
 
 impl Read for Reader {
     fn read(&mut self, piece: &mut [u8]) -> io::Result<usize> {
-        match self {
-            Reader::File(file) => file.read(piece),
-            Reader::Connection(stream) => stream.read(piece),
-            Reader::Input(input) => input.read(piece),
+        if let Some(waits) = &mut self.waits
+            && !waits.is_ready(self.stream.as_raw_fd())?
+        {
+            return Err(io::Error::from(ErrorKind::WouldBlock));
         }
+        self.stream.read(piece)
     }
 }
 

@@ -67,6 +67,23 @@ pub trait Edges {
         ensures faults_stay { faults self.old ≤ faults self.new }
         ensures cause { EdgeHasCause (faults self.old) (faults self.new) result };
 
+    /// Opens the control source of this name, as `open_source` does. It is read between the jobs of a run, which stand still
+    /// meanwhile: where reads may wait, an implementation opens it so that a read answers `Empty` at once.
+    fn open_control(&mut self, name: &Text) -> Result<Self::Source, EdgeEnd>
+        ensures same_telling { told self.new ≡ told self.old }
+        ensures fresh { IfOk result (IsFreshSource Self.Source.taken Self.Source.faults Self.Source.waits Self.Source.paced) }
+        ensures given { IsTrue (told self.old)
+            → IfOk result (GivesSource Self.Source.told Self.Source.left (named self.old EdgeKind.Source name.now)) }
+        ensures stands { IsTrue (told self.old) → StandsAsBefore (named self.old) (named self.new) }
+        ensures asked { IsTrue (told self.old)
+            → asked self.new ≡ asked_after result EdgeKind.Source name.now (asked self.old) }
+        ensures back { KeepsBack sources_back sinks_back self.old self.new }
+        ensures faults_stay { faults self.old ≤ faults self.new }
+        ensures cause { EdgeHasCause (faults self.old) (faults self.new) result }
+    {
+        self.open_source(name)
+    }
+
     /// Opens the sink of this name, which has counted nothing.
     fn open_sink(&mut self, name: &Text) -> Result<Self::Sink, EdgeEnd>
         ensures same_telling { told self.new ≡ told self.old }

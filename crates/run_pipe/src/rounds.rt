@@ -54,6 +54,10 @@ impl<B: Works, S: ByteSource, C: Clock, W: Watch> Shift for Pipe<B, S, C, W> {
         self.hold(brought)
     }
 
+    fn is_silent(&self) -> bool {
+        self.core.totals.quiet > 0
+    }
+
     fn run(alloc: Global, load: Load<B>) -> Home<B> {
         load.work(alloc)
     }

@@ -1,5 +1,5 @@
 -- What a worker does after it tried to take the value.
-use Rattle.std.specs.Prelude.{ℕ, Bool, true, false, Option, Some, None, IfSome, option_map}
+use Rattle.std.specs.Prelude.{ℕ, Bool, Option, Some, None, IfSome, option_map}
 use Rattle.pipe_types.specs.declared.numbers.Post.{Post}
 use Rattle.stage_workers.specs.declared.shift.Round.{Round}
 use Rattle.stage_workers.specs.declared.shift.Round.TheVariants as round
@@ -24,9 +24,3 @@ after_round (round.Job load) news is_still = Job load
 after_round round.Waits news is_still = Sleeps news is_still
 after_round round.Again news is_still = Again
 after_round round.Ended news is_still = Ends
-
--- there may be something to do for another worker: another job, or to end
-abbrev pub is_news : {L : Type 0} → Round L → Bool
-is_news (round.Job load) = true
-is_news round.Ended = true
-is_news _ = false

@@ -59,6 +59,11 @@ pub trait Shift: Held {
         ensures own_job { IfSome (job_post load_post result) (λ post. IsOwnJob (brought_post home_post brought) (Self.steps self.old) (Self.steps self.new) post) }
         ensures away { AreAway (brought_post home_post brought) (job_post load_post result) (Self.away self.old) (Self.away self.new) };
 
+    /// Whether sources were found empty since anything else happened. The next job is then no news to another worker.
+    fn is_silent(&self) -> bool {
+        false
+    }
+
     /// Does the job.
     fn run(alloc: Global, load: Self::Load) -> Self::Home
         requires away { (origin : Self.Start) × (seen : History) × is_load_of origin seen load }

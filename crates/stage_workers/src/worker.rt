@@ -3,7 +3,7 @@
 ghost use Rattle.std.specs.Prelude.{◌≡◌, ◌-◌, ◌≤◌, false, true, IfSome, nat_le};
 ghost use Rattle.pipeline_turn.specs.Seats.{IsIdle, IsSameSeat};
 ghost use Rattle.stage_workers.specs.Rounds.{job_post, brought_post};
-ghost use Rattle.stage_workers.specs.Holds.{post_after, Comes, after_round, is_news};
+ghost use Rattle.stage_workers.specs.Holds.{post_after, Comes, after_round};
 
 use crate::shift::{Round, Shift};
 use pipe_types::numbers::Post;
@@ -44,26 +44,16 @@ fn job_for<H: Shift>(round: &Round<H::Load>) -> Option<Post>
     }
 }
 
-/// Whether there may be something to do for another worker: another job, or to end.
-fn is_news<L>(round: &Round<L>) -> bool
-    ensures { result ≡ is_news round.now }
-{
-    match round {
-        Round::Job(_) => true,
-        Round::Ended => true,
-        Round::Waits => false,
-        Round::Again => false,
-    }
-}
-
-/// Tells another worker where there is news for it.
-fn tell_of<H: Shift>(turn: &Turn<H>, seat: &mut Seat<H>, round: &Round<H::Load>)
+/// Tells another worker where there may be something to do for it: another job, or to end.
+fn tell_of<H: Shift>(turn: &Turn<H>, seat: &mut Seat<H>, round: &Round<H::Load>, is_silent: bool)
     requires of_this_turn { seat.old.turn ≡ turn.now.identity }
     requires holding { seat.old.holds ≡ true }
     ensures { seat.new ≡ seat.old }
 {
-    if is_news(round) {
-        turn.tell(seat);
+    match round {
+        Round::Job(_) if !is_silent => turn.tell(seat),
+        Round::Ended => turn.tell(seat),
+        _ => {}
     }
 }
 
@@ -100,7 +90,7 @@ fn hold<H: Shift>(
     let before = value.journal().len();
     let round = value.round(brought);
     let is_still = is_reading(before, value.journal().len());
-    tell_of(turn, seat, &round);
+    tell_of(turn, seat, &round, value.is_silent());
     let news = turn.news(seat);
     let job = job_for::<H>(&round);
     turn.give(seat, value, job);

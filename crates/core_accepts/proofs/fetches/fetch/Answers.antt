@@ -1,4 +1,4 @@
-use Rattle.std.proofs.Common.{◌≡◌, ◌+◌, ap, sym, ◌∙◌, subst, ℕ}
+use Rattle.std.proofs.Common.{◌+◌, ap, sym, ◌∙◌, subst, ℕ}
 use Rattle.pipe_types.specs.declared.step.Step.TheVariants.{Fetch}
 use Rattle.pipe_model.specs.Legal.{allows}
 use Rattle.core_laws.specs.Due.{booked}

@@ -1,6 +1,4 @@
-use Rattle.std.proofs.Common.{◌≡◌, ◌≤◌, ◌+◌, refl, arith}
-use Rattle.pipe_model.specs.History.{accepted}
-use Rattle.pipe_model.specs.Legal.{fetches_out}
+use Rattle.std.proofs.Common.{refl, arith}
 use Rattle.stage_laws.proofs.Records.{accepted_within, limit_within}
 use Rattle.core_state.proofs.Roomy.{roomy}
 use Rattle.core_accepts.proofs.Making.{holds_on_ok}
