@@ -246,9 +246,12 @@ callback_wrote topology before p spec bytes end with_sink asked a b c first e is
   bad = λ own. let own_before : b.kind ≡ Own = sym done.kept.kind ∙ own in
       rw (self_post p first) (rise_if (is_bad_end end) (bad_of before p) a.bad b.bad c.bad (k.bad own_before) (λ bad. done.bad own_before bad) done.kept.bad);
   resets = λ own. subst (λ n. RoseExactly (resets_of topology before p) a.resets n) (sym resets) (k.resets (sym done.kept.kind ∙ own));
-  lawful = (k.lawful, λ same.
-      lawful_write topology before p.stage asked with_sink (text_by b.kind b asked.messages end) bytes end b.law a.law k.kept.law is sinks
-      (text_is_taken topology before p.stage end spec asked.messages b e calm (is_present topology before p.stage live) is.messages armed) lawful);
+  lawful = (
+    k.lawful,
+    λ same.
+        lawful_write topology before p.stage asked with_sink (text_by b.kind b asked.messages end) bytes end b.law a.law k.kept.law is sinks
+        (text_is_taken topology before p.stage end spec asked.messages b e calm (is_present topology before p.stage live) is.messages armed) lawful,
+  );
 }
 
 pub callback_child : (topology : Topology) (before : History) (p : Post) (message : Message) (reply : Reply) (a b c : BoxSeen) → has_role topology p.stage is_supervisor_role ≡ true → message ∷ [] ≡ child_of before p.stage p.slot → KeepsCallback topology before p a b → Replies 1 (message ∷ []) (reply ∷ []) (reset b) c

@@ -148,8 +148,8 @@ batch_late topology before p i spec asked bytes end old new (Some a) (Some b) (S
     callback_late topology before p i (late.Wrote bytes end) a b c (counts c) k done.0.kept
     (λ own r. none_more topology before p i (late.Wrote bytes end) a b c calm r (none_counted b.resets c.resets done.3))
     (λ same one.
-        lawful_write topology before p.stage asked (is_some old.sink) (text_by b.kind b asked.messages end) bytes end b.law a.law same is sinks
-        (text_is_taken topology before p.stage end spec asked.messages b e calm (or_right (is_live topology before p.stage) (is_out before (post p.stage 0)) out) is.messages armed) done.2)
+    lawful_write topology before p.stage asked (is_some old.sink) (text_by b.kind b asked.messages end) bytes end b.law a.law same is sinks
+    (text_is_taken topology before p.stage end spec asked.messages b e calm (or_right (is_live topology before p.stage) (is_out before (post p.stage 0)) out) is.messages armed) done.2)
 batch_late topology before p i spec asked bytes end old new None (Some b) (Some c) e calm out is sinks armed counts done k = absurd k
 batch_late topology before p i spec asked bytes end old new a (Some b) None e calm out is sinks armed counts done k = absurd done
 batch_late topology before p i spec asked bytes end old new a None y e calm out is sinks armed counts done k = absurd armed

@@ -13,7 +13,8 @@ use pipe_types::numbers::MsgNo;
 use pipe_types::reason::Reason;
 use pipe_types::topology::{Kind, StageSpec};
 use stage_callback::{
-    BatchReply, Callback, FailedReply, Prepared, Said, copy_message, copy_spec, count_reset, unarmed,
+    BatchReply, Callback, FailedReply, Prepared, Said, copy_message, copy_spec, count_reset,
+    unarmed,
 };
 use std::alloc::{AllocError, Global};
 use told_text::Told;

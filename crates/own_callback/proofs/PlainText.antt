@@ -1,5 +1,5 @@
 -- What a callback with the law of plain text writes.
-use Rattle.std.proofs.Common.{◌≡◌, ◌≤◌, ℕ, zero, suc, Bool, true, false, List, [], ◌∷◌, ◌++◌, length, take, replicate, refl, ap, ◌∙◌, subst, Option, Some, None, IfSome, Result}
+use Rattle.std.proofs.Common.{◌≡◌, ◌≤◌, ℕ, zero, suc, Bool, true, false, List, [], ◌∷◌, ◌++◌, length, map, take, replicate, refl, ap, ◌∙◌, subst, Option, Some, None, IfSome, Result}
 use Rattle.std.specs.Prelude.{if◌then◌else◌, ◌==◌, ◌&&◌, IfOk, slice_get}
 use Rattle.std.specs.List.{list_all}
 use Rattle.std.proofs.lemmas.Bool.{and_parts, and_from}
@@ -29,6 +29,7 @@ use Rattle.own_handler.specs.Judged.{judged_batch, judged_raised}
 use Rattle.own_handler.specs.declared.handler.BatchAnswer.TheVariants as answer
 use Rattle.box_stock.specs.Homes.{post_for}
 use Rattle.pipe_top.specs.Boxes.{AreBoxesLeft, IsBoxLeft, kinds}
+use Rattle.own_callback.specs.declared.call.Came.{Came}
 use Rattle.own_callback.specs.Plain.{is_plain_byte, is_plain_text, has_plain_payload, plain_law, WritesPlainText}
 
 -- ---- one batch
@@ -123,7 +124,11 @@ some_plain : (o : Option Topology) (before : History) (old new : List BoxSeen) �
 some_plain (Some topology) before old new left = writes_plain topology before old new left
 some_plain None before old new left = tt
 
--- where a whole run left the callbacks so, under a status below 5
-pub run_plain : (status : ℕ) (o : Option Topology) (before : History) (old new : List BoxSeen) → (status ≤ 4 → IfSome o (λ topology. AreBoxesLeft true topology before old new))
-    → status ≤ 4 → IfSome o (λ topology. WritesPlainText topology before old)
-run_plain status o before old new left low = some_plain o before old new (left low)
+-- where a call left the callbacks so
+pub came_plain : {C E : Type 0} (seen : C → BoxSeen) (old : List BoxSeen) (result : Result (Came C) E)
+    → IfOk result (λ came. came.status ≤ 4 → IfSome came.topology (λ topology. AreBoxesLeft true topology came.journal.steps old (map seen came.stock.items)))
+    → IfOk result (λ came. came.status ≤ 4 → IfSome came.topology (λ topology. WritesPlainText topology came.journal.steps old))
+came_plain seen old result left =
+    IfOk-weaker result (λ came. came.status ≤ 4 → IfSome came.topology (λ topology. AreBoxesLeft true topology came.journal.steps old (map seen came.stock.items)))
+    (λ came. came.status ≤ 4 → IfSome came.topology (λ topology. WritesPlainText topology came.journal.steps old))
+    (λ came h low. some_plain came.topology came.journal.steps old (map seen came.stock.items) (h low)) left

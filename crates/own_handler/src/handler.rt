@@ -67,6 +67,5 @@ pub trait Handler: Drop {
     /// Begins anew, when its stage is started or restarted.
     fn reset(&mut self)
         ensures same_law { law self.new ≡ law self.old }
-    {
-    }
+    {}
 }
