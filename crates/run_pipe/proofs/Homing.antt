@@ -1,6 +1,6 @@
 -- A round of a pipe that has ended: what is brought comes home with its answer, and nothing else is added.
-use Rattle.std.proofs.Common.{◌≡◌, ◌≢◌, ◌≤◌, ⊎_elim, inl, inr, arith, ℕ, ◌<◌, true, false, sym, refl, ◌∙◌, subst, Option, Some, None, Result, Ok, Err, Contains}
-use Rattle.std.specs.Prelude.{IfSome, IsSome, is_some, option_map, max, IfOk, IsOkAnd, OnOk, OnErr}
+use Rattle.std.proofs.Common.{◌≡◌, ◌≢◌, ⊎_elim, inl, inr, arith, ℕ, ◌<◌, true, false, sym, refl, ◌∙◌, subst, Option, Some, None, Result, Ok, Err, Contains}
+use Rattle.std.specs.Prelude.{IfSome, IsSome, is_some, option_map, IfOk, IsOkAnd, OnOk, OnErr}
 use Rattle.std.specs.Result.{IsErr}
 use Rattle.std.proofs.lemmas.Option.{none-some}
 use Rattle.std.specs.declared.alloc.AllocError.{AllocError}
@@ -14,7 +14,6 @@ use Rattle.pipe_model.specs.Posts.{is_out}
 use Rattle.pipe_laws.specs.Followed.{FollowsMoves}
 use Rattle.pipeline_turn.specs.Jobs.{AreAway}
 use Rattle.pipeline_turn.proofs.Journals.{begins_itself, begins_through}
-use Rattle.stage_job.specs.Chunks.{RoseBy}
 use Rattle.stage_bodies.specs.Seen.{LineSeen, BodySeen}
 use Rattle.stage_bodies.specs.Posts.{place_at, brings_records}
 use Rattle.stage_bodies.specs.declared.job.Answer.{Answer}
@@ -92,16 +91,16 @@ module _ {B : Type 0} (look : B → BodySeen) (brought : Option (Home B)) (p : P
 
 clock_answered : (end : Option (Result RunEnd AllocError)) (a m : History) (opened clock : ClockSeen) → now m ≡ now a → jobs_begun m ≡ jobs_begun a → KeepsClockTo end a opened clock → KeepsClockTo end m opened clock
 clock_answered None a m opened clock time jobs k = record {
-  latest = subst (λ (n : ℕ). clock.latest ≡ max opened.latest n) (sym time) k.latest;
-  readings = subst (λ (n : ℕ). RoseBy n opened.readings clock.readings) (sym jobs) k.readings;
+  latest = rw time k.latest;
+  readings = rw jobs k.readings;
 }
 clock_answered (Some (Ok e)) a m opened clock time jobs k = record {
-  latest = subst (λ (n : ℕ). clock.latest ≡ max opened.latest n) (sym time) k.latest;
-  readings = subst (λ (n : ℕ). RoseBy n opened.readings clock.readings) (sym jobs) k.readings;
+  latest = rw time k.latest;
+  readings = rw jobs k.readings;
 }
 clock_answered (Some (Err e)) a m opened clock time jobs k = record {
-  latest = subst (λ (n : ℕ). max opened.latest n ≤ clock.latest) (sym time) k.latest;
-  readings = subst (λ (n : ℕ). RoseBy n opened.readings clock.readings) (sym jobs) k.readings;
+  latest = rw time k.latest;
+  readings = rw jobs k.readings;
 }
 
 control_answered : (end : Option (Result RunEnd AllocError)) (topology : Topology) (a m : History) (opened lines : Option LineSeen) → AddsAnswer topology a m → KeepsControlTo end topology a opened lines → KeepsControlTo end topology m opened lines
@@ -137,7 +136,7 @@ with_home p topology after back places = record p { topology = topology; steps =
 module _ {B T F : Type 0} (look : B → BodySeen) (home : Home B) (p : PipeState) (topology : Topology) (after : History) (back : ℕ → Option BodySeen) (places : ℕ) (result : Result T F)
     (w : IsWhole p) (g : Brings look (Some home) p) (ended : IsSome p.end) (same : topology ≡ p.topology) (same_places : places ≡ p.places) (legal : is_legal p.topology after ≡ true)
     (c : Comes result home.post home.answer (look home.body) p.topology p.steps p.home after back) where
-  new : PipeState
+  abbrev pub new : PipeState
   new = with_home p topology after back places
 
   first : IsBackNow look g.opened p.steps home
@@ -147,12 +146,12 @@ module _ {B T F : Type 0} (look : B → BodySeen) (home : Home B) (p : PipeState
   out = subst (λ (q : Post). is_out p.steps q ≡ true) (sym first.back.post) first.back.away.out
 
   -- the pipe has ended for want of memory, since a job was out
-  no_memory : {A : Type 0} → HasMemory p.end → A
+  no_memory : HasMemory p.end → ⊥
   no_memory memory = none_out_ended p.topology p.steps p.end g.sound g.legal ended w.ended memory home.post out
 
-  short_ended : (end : Option (Result RunEnd AllocError)) → ({A : Type 0} → HasMemory end → A) → IfSome end (λ e. IfOk e (HasEnded topology after))
+  short_ended : (end : Option (Result RunEnd AllocError)) → (HasMemory end → ⊥) → IfSome end (λ e. IfOk e (HasEnded topology after))
   short_ended None none = tt
-  short_ended (Some (Ok e)) none = none tt
+  short_ended (Some (Ok e)) none = absurd (none tt)
   short_ended (Some (Err e)) none = tt
 
   pub home_whole : IsWhole new
@@ -160,7 +159,7 @@ module _ {B T F : Type 0} (look : B → BodySeen) (home : Home B) (p : PipeState
     follows = subst (λ (t : Topology). FollowsMoves t after) (sym same) (c.follows w.follows);
     ready = subst (λ (t : Topology). Ready t after back) (sym same) c.ready;
     ended = short_ended p.end no_memory;
-    outs = λ memory. no_memory memory;
+    outs = λ memory. absurd (no_memory memory);
   }
 
   stems_on : (opened : PipeState) (seen : History) → Stems opened p → IsBrought look opened seen p.steps (Some home) → Stems opened new
