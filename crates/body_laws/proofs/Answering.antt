@@ -122,24 +122,16 @@ source_ends before after s most h a b c same_fed same_end same_quiets k fetched 
 
 -- ---- sinks
 
--- these bytes were written, and the journal does not have them
-pub sink_writes : (topology : Topology) (before : History) (s : StageNo) (bytes : ℕ) (text : List ℕ) (a b c : SinkSeen) → KeepsSink topology before s [] a b → Writes bytes text b c → KeepsSink topology before s (take bytes text) a c
-sink_writes topology before s bytes text a b c k written = record {
-  told = written.told ∙ k.told;
-  held = λ t. written.held (rw k.told t) ∙ ap (λ z. z ++ take bytes text) (k.held t) ∙ append_assoc a.held (sink_text topology before s ++ []) (take bytes text) ∙ ap (λ z. a.held ++ (z ++ take bytes text)) (append-nil (sink_text topology before s));
-  faults_stay = let one = k.faults_stay in let two = written.faults_stay in omega (arith, one, two);
-  short = rise_stays (short_writes topology before s) a.faults b.faults c.faults k.short written.faults_stay;
-}
-
--- a later journal has them
+-- the bytes that were written are those of a later journal
 pub sink_wrote : (topology : Topology) (before after : History) (s : StageNo) (bytes : ℕ) (text : List ℕ) (end : BatchEnd) (a b c : SinkSeen) → sink_text topology after s ≡ sink_text topology before s ++ take bytes (text_taken topology before s end)
-    → short_writes topology after s ≡ one_more (nat_lt bytes (length (text_taken topology before s end))) (short_writes topology before s) → text ≡ text_taken topology before s end → KeepsSink topology before s [] a b → Writes bytes text b c → KeepsSink topology after s [] a c
+    → short_writes topology after s ≡ one_more (nat_lt bytes (length (text_taken topology before s end))) (short_writes topology before s) → text ≡ text_taken topology before s end → KeepsSink topology before s a b → Writes bytes text b c → KeepsSink topology after s a c
 sink_wrote topology before after s bytes text end a b c same_text same_short is k written =
-    let on = sink_writes topology before s bytes text a b c k written in
     record {
-      told = on.told;
-      held = λ t. rw same_text (on.held t ∙ ap (λ z. a.held ++ (sink_text topology before s ++ take bytes z)) is ∙ ap (λ z. a.held ++ z) (sym (append-nil (sink_text topology before s ++ take bytes (text_taken topology before s end)))));
-      faults_stay = on.faults_stay;
+      told = written.told ∙ k.told;
+      held = λ t.
+          rw same_text
+          (written.held (rw k.told t) ∙ ap (λ z. z ++ take bytes text) (k.held t) ∙ append_assoc a.held (sink_text topology before s) (take bytes text) ∙ ap (λ z. a.held ++ (sink_text topology before s ++ take bytes z)) is);
+      faults_stay = let one = k.faults_stay in let two = written.faults_stay in omega (arith, one, two);
       short = rw same_short (rise_if (nat_lt bytes (length (text_taken topology before s end))) (short_writes topology before s) a.faults b.faults c.faults k.short
           (λ low. written.short (subst (λ z. bytes < length z) (sym is) (ltb-true bytes (length (text_taken topology before s end)) low))) written.faults_stay);
     }

@@ -1,5 +1,5 @@
 -- The late answer of a killed incarnation, and its body.
-use Rattle.std.proofs.Common.{◌≡◌, ℕ, ◌<◌, List, [], ◌∷◌, Bool, true, false, refl, ap, sym, ◌∙◌, subst, Some, None, Option, arith}
+use Rattle.std.proofs.Common.{◌≡◌, ℕ, ◌<◌, [], ◌∷◌, Bool, true, false, refl, ap, sym, ◌∙◌, subst, Some, None, Option, arith}
 use Rattle.std.specs.Prelude.{not, ◌&&◌, ◌||◌, ◌==◌, if◌then◌else◌, IsSome, is_some}
 use Rattle.std.proofs.lemmas.Bool.{eq-eqb, or_right}
 use Rattle.pipe_types.specs.declared.numbers.StageNo.{StageNo}
@@ -114,17 +114,17 @@ fetched_late : (topology : Topology) (before : History) (p : Post) (most i : ℕ
     → KeepsBody topology (late_step p i o ∷ before) p a new
 fetched_late topology before p most i (came.Records records) a old new is legal there done k = record {
   source = both_then (λ x y z h f. source_accepts before (late_step p i (came.Records records) ∷ before) p.stage most records x y z (rw (same_stage-self p.stage) refl) refl refl h f) a.source old.source new.source k.source done.0;
-  sink = subst (λ x. Both (KeepsSink topology (late_step p i (came.Records records) ∷ before) p.stage []) a.sink x) (sym done.1) (both_map (λ x y h. sink_as topology before (late_step p i (came.Records records) ∷ before) p.stage x y refl refl h) a.sink old.sink k.sink);
+  sink = subst (λ x. Both (KeepsSink topology (late_step p i (came.Records records) ∷ before) p.stage) a.sink x) (sym done.1) (both_map (λ x y h. sink_as topology before (late_step p i (came.Records records) ∷ before) p.stage x y refl refl h) a.sink old.sink k.sink);
   callback = subst (λ x. Both (KeepsCallback topology (late_step p i (came.Records records) ∷ before) p) a.callback x) (sym done.2) (both_map (λ x y h. callback_late topology before p i (late.Records records) x y y (uncounted topology before p (work.Fetch most) i (late.Records records) y is legal) h (box_same y) (λ own r. none_more topology before p i (late.Records records) x y y (producers_alone topology p.stage is.0) r (none_counted y.resets y.resets refl)) (λ same. tt)) a.callback old.callback k.callback);
 }
 fetched_late topology before p most i came.NotYet a old new is legal there done k = record {
   source = both_then (λ x y z h f. source_rests before (late_step p i came.NotYet ∷ before) p.stage most x y z refl refl (rw (same_stage-self p.stage) refl) h f) a.source old.source new.source k.source done.0;
-  sink = subst (λ x. Both (KeepsSink topology (late_step p i came.NotYet ∷ before) p.stage []) a.sink x) (sym done.1) (both_map (λ x y h. sink_as topology before (late_step p i came.NotYet ∷ before) p.stage x y refl refl h) a.sink old.sink k.sink);
+  sink = subst (λ x. Both (KeepsSink topology (late_step p i came.NotYet ∷ before) p.stage) a.sink x) (sym done.1) (both_map (λ x y h. sink_as topology before (late_step p i came.NotYet ∷ before) p.stage x y refl refl h) a.sink old.sink k.sink);
   callback = subst (λ x. Both (KeepsCallback topology (late_step p i came.NotYet ∷ before) p) a.callback x) (sym done.2) (both_map (λ x y h. callback_late topology before p i late.Quiet x y y (uncounted topology before p (work.Fetch most) i late.Quiet y is legal) h (box_same y) (λ own r. none_more topology before p i late.Quiet x y y (producers_alone topology p.stage is.0) r (none_counted y.resets y.resets refl)) (λ same. tt)) a.callback old.callback k.callback);
 }
 fetched_late topology before p most i (came.Ended h) a old new is legal there done k = record {
   source = both_then (λ x y z k f. source_ends before (late_step p i (came.Ended h) ∷ before) p.stage most h x y z refl (rw (same_stage-self p.stage) refl) refl k f) a.source old.source new.source k.source done.0;
-  sink = subst (λ x. Both (KeepsSink topology (late_step p i (came.Ended h) ∷ before) p.stage []) a.sink x) (sym done.1) (both_map (λ x y k. sink_as topology before (late_step p i (came.Ended h) ∷ before) p.stage x y refl refl k) a.sink old.sink k.sink);
+  sink = subst (λ x. Both (KeepsSink topology (late_step p i (came.Ended h) ∷ before) p.stage) a.sink x) (sym done.1) (both_map (λ x y k. sink_as topology before (late_step p i (came.Ended h) ∷ before) p.stage x y refl refl k) a.sink old.sink k.sink);
   callback = subst (λ x. Both (KeepsCallback topology (late_step p i (came.Ended h) ∷ before) p) a.callback x) (sym done.2) (both_map (λ x y k. callback_late topology before p i (late.Source h) x y y (uncounted topology before p (work.Fetch most) i (late.Source h) y is legal) k (box_same y) (λ own r. none_more topology before p i (late.Source h) x y y (producers_alone topology p.stage is.0) r (none_counted y.resets y.resets refl)) (λ same. tt)) a.callback old.callback k.callback);
 }
 fetched_late topology before p most i (came.Replies replies) a old new is legal there done k = absurd (no_fetch most (came.Replies replies) old.source new.source (λ b c f. f.answer) there done.0)
@@ -132,8 +132,8 @@ fetched_late topology before p most i (came.Wrote bytes end) a old new is legal 
 fetched_late topology before p most i (came.Reply reply) a old new is legal there done k = absurd (no_fetch most (came.Reply reply) old.source new.source (λ b c f. f.answer) there done.0)
 
 sink_late : (topology : Topology) (before : History) (p : Post) (i : ℕ) (spec : StageSpec) (asked : Batch) (bytes : ℕ) (end : BatchEnd) (old new : BodySeen) (a : Option SinkSeen) (x y : Option BoxSeen) → spec_of topology p.stage ≡ Some spec → has_role topology p.stage is_supervisor_role ≡ false
-    → is_out before (post p.stage 0) ≡ true → asked.messages ≡ batch_of topology before p.stage → There x (IsArmed topology before p.stage spec) → Both (EndsIn asked bytes end old new) x y → Both (KeepsSink topology before p.stage []) a old.sink
-    → Both (KeepsSink topology (late_step p i (came.Wrote bytes end) ∷ before) p.stage []) a new.sink
+    → is_out before (post p.stage 0) ≡ true → asked.messages ≡ batch_of topology before p.stage → There x (IsArmed topology before p.stage spec) → Both (EndsIn asked bytes end old new) x y → Both (KeepsSink topology before p.stage) a old.sink
+    → Both (KeepsSink topology (late_step p i (came.Wrote bytes end) ∷ before) p.stage) a new.sink
 sink_late topology before p i spec asked bytes end old new a (Some b) (Some c) e calm out is armed done k =
     both_then (λ x y z h w. sink_wrote topology before (late_step p i (came.Wrote bytes end) ∷ before) p.stage bytes (text_by b.kind b asked.messages end) end x y z (rw (same_stage-self p.stage) refl) (rw (same_stage-self p.stage) refl)
     (text_is_taken topology before p.stage end spec asked.messages b e calm (or_right (is_live topology before p.stage) (is_out before (post p.stage 0)) out) is armed) h w) a old.sink new.sink k done.1
@@ -159,7 +159,7 @@ late_body : (topology : Topology) (before : History) (p : Post) (w : Work) (i : 
 late_body topology before p (work.Fetch most) i o a old new legal out is fit done k = fetched_late topology before p most i o a old new is legal (source_there topology before p old is.0 fit) done k
 late_body topology before p (work.Chunk messages) i (came.Replies replies) a old new legal out is fit done k = record {
   source = subst (λ x. Both (KeepsSource (late_step p i (came.Replies replies) ∷ before) p.stage []) a.source x) (sym done.1) (both_map (λ x y h. source_as before (late_step p i (came.Replies replies) ∷ before) p.stage x y refl refl refl h) a.source old.source k.source);
-  sink = subst (λ x. Both (KeepsSink topology (late_step p i (came.Replies replies) ∷ before) p.stage []) a.sink x) (sym done.2) (both_map (λ x y h. sink_as topology before (late_step p i (came.Replies replies) ∷ before) p.stage x y refl refl h) a.sink old.sink k.sink);
+  sink = subst (λ x. Both (KeepsSink topology (late_step p i (came.Replies replies) ∷ before) p.stage) a.sink x) (sym done.2) (both_map (λ x y h. sink_as topology before (late_step p i (came.Replies replies) ∷ before) p.stage x y refl refl h) a.sink old.sink k.sink);
   callback = both_then (λ x y z h f. callback_late topology before p i late.Nothing x y z (uncounted topology before p (work.Chunk messages) i late.Nothing z is legal) h f.kept (λ own r. none_more topology before p i late.Nothing x y z (processors_alone topology p.stage is.0) r (f.resets own)) (λ same. tt)) a.callback old.callback new.callback k.callback done.0;
 }
 late_body topology before p (work.Chunk messages) i o a old new legal out is fit done k = absurd done
@@ -175,7 +175,7 @@ late_body topology before p (work.Batch batch) i (came.Wrote bytes end) a old ne
 late_body topology before p (work.Batch batch) i o a old new legal out is fit done k = absurd done
 late_body topology before p (work.Child message) i (came.Reply reply) a old new legal out is fit done k = record {
   source = subst (λ x. Both (KeepsSource (late_step p i (came.Reply reply) ∷ before) p.stage []) a.source x) (sym done.1) (both_map (λ x y h. source_as before (late_step p i (came.Reply reply) ∷ before) p.stage x y refl refl refl h) a.source old.source k.source);
-  sink = subst (λ x. Both (KeepsSink topology (late_step p i (came.Reply reply) ∷ before) p.stage []) a.sink x) (sym done.2) (both_map (λ x y h. sink_as topology before (late_step p i (came.Reply reply) ∷ before) p.stage x y refl refl h) a.sink old.sink k.sink);
+  sink = subst (λ x. Both (KeepsSink topology (late_step p i (came.Reply reply) ∷ before) p.stage) a.sink x) (sym done.2) (both_map (λ x y h. sink_as topology before (late_step p i (came.Reply reply) ∷ before) p.stage x y refl refl h) a.sink old.sink k.sink);
   callback = both_then (λ x y z h f. callback_late topology before p i late.Nothing x y z (uncounted topology before p (work.Child message) i late.Nothing z is legal) h (box_reset y z f.kept) (λ own r. one_reset topology before p i late.Nothing x y z is.0 r (f.resets own)) (λ same. tt)) a.callback old.callback new.callback k.callback done.0;
 }
 late_body topology before p (work.Child message) i o a old new legal out is fit done k = absurd done

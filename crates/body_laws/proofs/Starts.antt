@@ -38,7 +38,7 @@ source_starts s a empty none = record {
   quiet = rise_none a.source.waits;
 }
 
-sink_starts : (topology : Topology) (s : StageNo) (a : SinkSeen) → KeepsSink topology [] s [] a a
+sink_starts : (topology : Topology) (s : StageNo) (a : SinkSeen) → KeepsSink topology [] s a a
 sink_starts topology s a = record { told = refl; held = λ t. sym (append-nil a.held); faults_stay = omega arith; short = rise_none a.faults }
 
 callback_starts : (topology : Topology) (p : Post) (a : BoxSeen) → IfSome (Some a) (λ box. (box.kind ≡ Own → ⊥) → box.count ≡ 0) → KeepsCallback topology [] p a a
@@ -62,7 +62,7 @@ body_starts topology p a unused = record {
     by_source (Some lines) empty none = source_starts p.stage lines empty none
     by_source None empty none = tt
 
-    by_sink : (x : Option SinkSeen) → Both (KeepsSink topology [] p.stage []) x x
+    by_sink : (x : Option SinkSeen) → Both (KeepsSink topology [] p.stage) x x
     by_sink (Some sink) = sink_starts topology p.stage sink
     by_sink None = tt
 

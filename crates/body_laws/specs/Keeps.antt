@@ -65,11 +65,10 @@ pub record KeepsSource (before : History) (s : StageNo) (lost : List (List ℕ))
 
 -- ---- sinks
 
--- behind what it held stands the text of the stage, and then what more was written; each write of less than its text has
--- its cause in the sink
-pub record KeepsSink (topology : Topology) (before : History) (s : StageNo) (more : List ℕ) (opened now : SinkSeen) : Type 0 where
+-- behind what it held stands the text of the stage; each write of less than its text has its cause in the sink
+pub record KeepsSink (topology : Topology) (before : History) (s : StageNo) (opened now : SinkSeen) : Type 0 where
   pub told : now.told ≡ opened.told
-  pub held : IsTrue opened.told → now.held ≡ opened.held ++ (sink_text topology before s ++ more)
+  pub held : IsTrue opened.told → now.held ≡ opened.held ++ sink_text topology before s
   pub faults_stay : opened.faults ≤ now.faults
   pub short : RoseBy (short_writes topology before s) opened.faults now.faults
 
@@ -96,13 +95,13 @@ pub record KeepsCallback (topology : Topology) (before : History) (p : Post) (op
 -- the body stands where the journal leaves it
 pub record KeepsBody (topology : Topology) (before : History) (p : Post) (opened now : BodySeen) : Type 0 where
   pub source : Both (KeepsSource before p.stage []) opened.source now.source
-  pub sink : Both (KeepsSink topology before p.stage []) opened.sink now.sink
+  pub sink : Both (KeepsSink topology before p.stage) opened.sink now.sink
   pub callback : Both (KeepsCallback topology before p) opened.callback now.callback
 
--- the same, where an answer is not in the journal: its source may have given more lines, and its sink may have got more bytes
+-- the same, where a job was cut off, or the records that it brought are not in the journal: its source may have given more lines
 pub record KeepsPartly (topology : Topology) (before : History) (p : Post) (opened now : BodySeen) : Type 0 where
   pub source : Both (λ old new. (lost : List (List ℕ)) × KeepsSource before p.stage lost old new) opened.source now.source
-  pub sink : Both (λ old new. (more : List ℕ) × KeepsSink topology before p.stage more old new) opened.sink now.sink
+  pub sink : Both (KeepsSink topology before p.stage) opened.sink now.sink
   pub callback : Both KeepsBox opened.callback now.callback
 
 abbrev pub KeepsPost : Topology → History → Post → (out : Bool) → Option BodySeen → Option BodySeen → Type 0

@@ -8,7 +8,6 @@ use Rattle.std.proofs.lemmas.Result.{IfOk-weaker}
 use Rattle.pipe_types.specs.declared.numbers.StageNo.{StageNo}
 use Rattle.pipe_types.specs.declared.numbers.Post.{Post}
 use Rattle.pipe_types.specs.declared.message.Message.{Message}
-use Rattle.pipe_types.specs.declared.message.Outcome.{Outcome}
 use Rattle.pipe_types.specs.declared.message.Outcome.TheVariants.{Successful}
 use Rattle.pipe_types.specs.declared.message.BatchEnd.{BatchEnd}
 use Rattle.pipe_types.specs.declared.message.BatchEnd.TheVariants.{Outcomes, Crashed as CrashedEnd}
@@ -80,9 +79,9 @@ plain_front (suc n) (byte ∷ text) plain =
     and_from (is_plain_byte byte) (is_plain_text (take n text)) parts.0 (plain_front n text parts.1)
 
 plain_more : (b : Bool) (old text : List ℕ) (bytes : ℕ) → is_plain_text old ≡ true → (b ≡ true → is_plain_text text ≡ true) → is_plain_text (if b then old ++ take bytes text else old) ≡ true
-plain_more true old text bytes plain then =
-    list_all-append is_plain_byte old (take bytes text) ∙ and_from (is_plain_text old) (is_plain_text (take bytes text)) plain (plain_front bytes text (then refl))
-plain_more false old text bytes plain then = plain
+plain_more true old text bytes plain more =
+    list_all-append is_plain_byte old (take bytes text) ∙ and_from (is_plain_text old) (is_plain_text (take bytes text)) plain (plain_front bytes text (more refl))
+plain_more false old text bytes plain more = plain
 
 plain_end : (messages : List Message) (reply : BatchReply) (handled : BatchEnd) (text : List ℕ) → IsEndBy plain_law messages reply handled text → is_plain_text (text_by reply) ≡ true → is_plain_text text ≡ true
 plain_end messages (Answered given answered) (Outcomes settled) text by plain = ap is_plain_text by.1 ∙ plain

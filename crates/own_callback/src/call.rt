@@ -155,7 +155,6 @@ pub(crate) fn bytes(alloc: Global, text: &str) -> Result<Bytes, AllocError>
 
 /// Runs as `run_with` does. What a stage wrote whose callback has the law of `PlainLines` is plain text: the law alone shows
 /// it, from what `run_with` says of callbacks.
-#[tactic(auto, using(crate::proofs::PlainText::came_plain))]
 pub fn run_plain<
     R: Threads + Wait + Sync,
     C: Boxed,

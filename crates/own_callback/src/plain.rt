@@ -96,7 +96,7 @@ impl Callback for PlainLines {
 }
 
 /// The answer to a batch of these messages.
-#[tactic(auto, using(crate::proofs::PlainText::all_plain, crate::proofs::PlainText::none_plain))]
+#[tactic(auto, using(crate::proofs::PlainText::none_plain))]
 fn write_plain(alloc: Global, messages: &[Message]) -> Result<BatchReply, AllocError>
     ensures shape { IfOk result (λ reply. IsTrue (is_batch_answer messages.now reply)) }
     ensures own_text { IfOk result (λ reply. HasOwnText messages.now reply) }
