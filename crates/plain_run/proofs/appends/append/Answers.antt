@@ -1,4 +1,4 @@
-use Rattle.std.proofs.Common.{true, sym, ◌∙◌}
+use Rattle.std.proofs.Common.{sym, ◌∙◌}
 use Rattle.plain_run.proofs.Judging.{run_kept}
 use Rattle.plain_run.proofs.appends.append.Goals as goal
 

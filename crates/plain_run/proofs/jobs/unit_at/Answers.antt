@@ -1,4 +1,4 @@
-use Rattle.std.proofs.Common.{◌≡◌, ℕ, Option, ◌∙◌, ap, sym, true, false}
+use Rattle.std.proofs.Common.{◌≡◌, ℕ, Option, ◌∙◌, ap, sym}
 use Rattle.std.specs.Prelude.{slice_get, option_to_list}
 use Rattle.pipe_model.specs.Posts.{in_slot}
 use Rattle.core_tables.specs.Rows.{post_at}
