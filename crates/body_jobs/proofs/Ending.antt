@@ -181,7 +181,7 @@ ends_so {messages = messages} {h = h} {text = text} {old = old} has_sink bytes e
   by_answers = λ told.
       let more = handled.by_answers told in
       let w : is_write_end has_sink h text bytes end ≡ true = write_ends has_sink h text bytes end handled.no_text written in
-      (more.0, more.1, rw (more.2, more.3) at w);
+      (more.0, h, more.1, more.2, rw more.3 at w);
 }
 
 -- its text

@@ -1,5 +1,5 @@
 -- The end of a batch by its callback.
-use Rattle.std.proofs.Common.{◌≡◌, ◌≢◌, ℕ, Bool, true, false, ◌==◌, List, [], ◌∷◌, ◌++◌, map, length, refl, sym, ap, ◌∙◌, append_assoc, append-nil, arith, cond, Option}
+use Rattle.std.proofs.Common.{◌≡◌, ◌≢◌, ℕ, Bool, true, false, ◌==◌, List, [], ◌∷◌, ◌++◌, map, length, refl, sym, ap, ◌∙◌, append_assoc, append-nil, arith, cond, Option, Some}
 use Rattle.std.specs.List.{list_all, list_any}
 use Rattle.std.proofs.lemmas.List.{length-map}
 use Rattle.std.proofs.lemmas.Bool.{and_parts, and_from, eqb-true, eq-eqb}
@@ -22,7 +22,9 @@ use Rattle.stage_job.specs.Chunks.{never_crashes}
 use Rattle.stage_job.proofs.CalmRules.{rules_calm}
 use Rattle.stage_job.proofs.CallCounts.{rose_after}
 use Rattle.stage_bodies.specs.Seen.{BoxSeen}
-use Rattle.stage_bodies.specs.Told.{outcomes_by, raised_with}
+use Rattle.stage_job.specs.Told.{before}
+use Rattle.stage_job.proofs.ToldSteps.{before_none}
+use Rattle.stage_bodies.specs.Told.{end_with, outcomes_by, raised_with}
 use Rattle.stage_bodies.specs.Jobs.{is_bad_end}
 use Rattle.body_jobs.specs.Batches.{Asks, Settles, Handles}
 use Rattle.body_jobs.proofs.Children.{kept_on}
@@ -135,11 +137,12 @@ handles_answered {messages = messages} {old = old} {middle = middle} {new = new}
           rose_after old.bad middle.bad new.bad a.kept.bad settles.kept.bad (a.bad own (sym (same_all settled os settles.same) ∙ not_successes settled bad));
       by_answers = λ told.
           let more = settles.by_answers (rw a.kept.told told) in
-          (said.Batch (batch.Answered os text) ∷ more.0, told_answered _ _ _ _ (a.answered told) more.0 more.1, ap Outcomes (by_all more.0 more.2), refl);
+          (said.Batch (batch.Answered os text) ∷ more.0, told_answered _ _ _ _ (a.answered told) more.0 more.1, by_all more.0 more.2, refl);
     }
   where
-    by_all : (answers : List Said) → ((others : List Outcome) (later : List Said) → outcomes_by (os ++ others) (answers ++ later) ≡ settled ++ outcomes_by others later) → settled ≡ outcomes_by os answers
-    by_all answers made = sym (append-nil settled) ∙ (sym (made [] []) ∙ (ap (λ x. outcomes_by x (answers ++ [])) (append-nil os) ∙ ap (outcomes_by os) (append-nil answers)))
+    by_all : (answers : List Said) → ((others : List Outcome) (later : List Said) → outcomes_by (os ++ others) (answers ++ later) ≡ before settled (outcomes_by others later)) → end_with (outcomes_by os answers) ≡ Some (Outcomes settled)
+    by_all answers made =
+        ap end_with (ap (λ x. outcomes_by x answers) (sym (append-nil os)) ∙ (ap (outcomes_by (os ++ [])) (sym (append-nil answers)) ∙ (made [] [] ∙ before_none settled)))
 
 -- one reason for every message
 pub handles_raised : {messages : List Message} {old middle new : BoxSeen} (reply : BatchReply) (why : List ℕ) (os settled : List Outcome) (text : List ℕ) → reply ≡ batch.Raised why → os ≡ raised_with why messages → text ≡ []
@@ -165,7 +168,7 @@ handles_raised {messages = messages} {old = old} {middle = middle} {new = new} r
       bad = λ own bad. rose_after old.bad middle.bad new.bad a.kept.bad settles.kept.bad (a.bad own refl);
       by_answers = λ told.
           let more = settles.by_answers (rw a.kept.told told) in
-          (said.Batch (batch.Raised why) ∷ more.0, told_answered _ _ _ _ (a.answered told) more.0 more.1, ap Outcomes (by_all more.0 more.2), no_text);
+          (said.Batch (batch.Raised why) ∷ more.0, told_answered _ _ _ _ (a.answered told) more.0 more.1, by_all more.0 more.2, no_text);
     }
   where
     raised_map : (failed : Option (List ℕ)) (ms : List Message) → map (outcome_with failed) (raised_with why ms) ≡ map (λ m. Failed (reason_of failed why)) ms
@@ -185,8 +188,9 @@ handles_raised {messages = messages} {old = old} {middle = middle} {new = new} r
         let tail : map is_successful os ≡ map is_successful (raised_with why ms) = cc in
         rw head (none_raised ms os tail)
 
-    by_all : (answers : List Said) → ((others : List Outcome) (later : List Said) → outcomes_by (raised_with why messages ++ others) (answers ++ later) ≡ settled ++ outcomes_by others later) → settled ≡ outcomes_by (raised_with why messages) answers
-    by_all answers made = sym (append-nil settled) ∙ (sym (made [] []) ∙ (ap (λ x. outcomes_by x (answers ++ [])) (append-nil (raised_with why messages)) ∙ ap (outcomes_by (raised_with why messages)) (append-nil answers)))
+    by_all : (answers : List Said) → ((others : List Outcome) (later : List Said) → outcomes_by (raised_with why messages ++ others) (answers ++ later) ≡ before settled (outcomes_by others later)) → end_with (outcomes_by (raised_with why messages) answers) ≡ Some (Outcomes settled)
+    by_all answers made =
+        ap end_with (ap (λ x. outcomes_by x answers) (sym (append-nil (raised_with why messages))) ∙ (ap (outcomes_by (raised_with why messages ++ [])) (sym (append-nil answers)) ∙ (made [] [] ∙ before_none settled)))
 
 -- a crash
 pub handles_crashed : {messages : List Message} {old new : BoxSeen} (reply : BatchReply) (text : List ℕ) → reply ≡ batch.Crashed → text ≡ [] → Asks messages reply old new → Handles messages Crashed text old new

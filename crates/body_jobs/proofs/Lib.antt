@@ -3,3 +3,4 @@ pub mod Ending
 pub mod Handling
 pub mod Settling
 pub mod Sources
+pub mod Lawful

@@ -12,7 +12,8 @@ use Rattle.stage_callback.specs.declared.answers.FailedReply.{FailedReply}
 use Rattle.stage_callback.specs.declared.answers.FailedReply.TheVariants as failed
 use Rattle.stage_callback.specs.declared.answers.Said.{Said}
 use Rattle.stage_callback.specs.declared.answers.Said.TheVariants as said
-use Rattle.stage_job.specs.Told.{reason_by}
+use Rattle.stage_job.specs.Told.{before, reason_by}
+use Rattle.stage_job.proofs.ToldSteps.{before_both}
 use Rattle.stage_bodies.specs.Seen.{BoxSeen}
 use Rattle.stage_bodies.specs.Told.{outcomes_by}
 use Rattle.stage_bodies.specs.Jobs.{KeepsBox}
@@ -44,6 +45,7 @@ kept_as : (box : BoxSeen) → KeepsBox box box
 kept_as box = record {
   kind = refl;
   spec = refl;
+  law = refl;
   told = refl;
   calls = omega arith;
   bad = omega arith;
@@ -77,9 +79,9 @@ settles_more {old = old} {middle = middle} {new = new} first first' then then' a
   by_answers = λ told. told_on (a.by_answers told) (b.by_answers (rw a.kept.told told));
 }
   where
-    told_on : (answers : List Said) × (middle.said ≡ old.said ++ answers) × ((others : List Outcome) (later : List Said) → outcomes_by (first ++ others) (answers ++ later) ≡ first' ++ outcomes_by others later)
-        → (answers : List Said) × (new.said ≡ middle.said ++ answers) × ((others : List Outcome) (later : List Said) → outcomes_by (then ++ others) (answers ++ later) ≡ then' ++ outcomes_by others later)
-        → (answers : List Said) × (new.said ≡ old.said ++ answers) × ((others : List Outcome) (later : List Said) → outcomes_by ((first ++ then) ++ others) (answers ++ later) ≡ (first' ++ then') ++ outcomes_by others later)
+    told_on : (answers : List Said) × (middle.said ≡ old.said ++ answers) × ((others : List Outcome) (later : List Said) → outcomes_by (first ++ others) (answers ++ later) ≡ before first' (outcomes_by others later))
+        → (answers : List Said) × (new.said ≡ middle.said ++ answers) × ((others : List Outcome) (later : List Said) → outcomes_by (then ++ others) (answers ++ later) ≡ before then' (outcomes_by others later))
+        → (answers : List Said) × (new.said ≡ old.said ++ answers) × ((others : List Outcome) (later : List Said) → outcomes_by ((first ++ then) ++ others) (answers ++ later) ≡ before (first' ++ then') (outcomes_by others later))
     told_on (xs, grown, made) (ys, grown', made') = (
       xs ++ ys,
       grown' ∙ (ap (λ t. t ++ ys) grown ∙ append_assoc old.said xs ys),
@@ -87,8 +89,8 @@ settles_more {old = old} {middle = middle} {new = new} first first' then then' a
           ap (λ os. outcomes_by os ((xs ++ ys) ++ later)) (append_assoc first then others)
           ∙ (ap (outcomes_by (first ++ (then ++ others))) (append_assoc xs ys later)
           ∙ (made (then ++ others) (ys ++ later)
-          ∙ (ap (λ os. first' ++ os) (made' others later)
-          ∙ sym (append_assoc first' then' (outcomes_by others later))))),
+          ∙ (ap (before first') (made' others later)
+          ∙ before_both first' then' (outcomes_by others later)))),
     )
 
 -- the next message

@@ -1,5 +1,5 @@
 -- What a callback makes of a batch, and a sink of its text.
-use Rattle.std.specs.Prelude.{◌≡◌, ◌≢◌, ◌<◌, ◌⊎◌, ℕ, Bool, true, false, if◌then◌else◌, List, [], ◌∷◌, ◌++◌, length, map, IsTrue}
+use Rattle.std.specs.Prelude.{◌≡◌, ◌≢◌, ◌<◌, ◌⊎◌, ℕ, Bool, true, false, if◌then◌else◌, List, [], ◌∷◌, ◌++◌, length, map, IsTrue, Some}
 use Rattle.std.specs.List.{list_all}
 use Rattle.pipe_types.specs.Counts.{Rose}
 use Rattle.pipe_types.specs.Handlers.{batch_answer_by, count_after_batch, end_by, text_by, outcome_with, is_own_outcome, is_own_end, is_successful}
@@ -17,6 +17,7 @@ use Rattle.stage_callback.specs.declared.answers.Said.{Said}
 use Rattle.stage_callback.specs.declared.answers.Said.TheVariants as said
 use Rattle.stage_job.specs.Chunks.{never_crashes}
 use Rattle.stage_bodies.specs.Seen.{BoxSeen}
+use Rattle.stage_job.specs.Told.{before}
 use Rattle.stage_bodies.specs.Told.{outcomes_by, end_told, text_told}
 use Rattle.stage_bodies.specs.Jobs.{KeepsBox, is_bad_end}
 
@@ -46,7 +47,7 @@ pub record Settles (outcomes settled : List Outcome) (old new : BoxSeen) : Type 
   pub by_answers :
       IsTrue old.told
       → (answers : List Said) × (new.said ≡ old.said ++ answers)
-      × ((others : List Outcome) (later : List Said) → outcomes_by (outcomes ++ others) (answers ++ later) ≡ settled ++ outcomes_by others later)
+      × ((others : List Outcome) (later : List Said) → outcomes_by (outcomes ++ others) (answers ++ later) ≡ before settled (outcomes_by others later))
 
 -- the end of a batch and its text, before a sink has a say
 pub record Handles (messages : List Message) (end : BatchEnd) (text : List ℕ) (old new : BoxSeen) : Type 0 where
@@ -61,7 +62,7 @@ pub record Handles (messages : List Message) (end : BatchEnd) (text : List ℕ) 
   pub calm : old.kind ≢ Own → IsTrue (never_crashes old.spec.rules) → end ≢ Crashed
   pub calls : old.kind ≡ Own → Rose old.calls new.calls
   pub bad : old.kind ≡ Own → is_bad_end end ≡ true → Rose old.bad new.bad
-  pub by_answers : IsTrue old.told → (answers : List Said) × (new.said ≡ old.said ++ answers) × (end ≡ end_told messages answers) × (text ≡ text_told answers)
+  pub by_answers : IsTrue old.told → (answers : List Said) × (new.said ≡ old.said ++ answers) × (end_told messages answers ≡ Some end) × (text ≡ text_told answers)
 
 -- success becomes the sink's failure
 abbrev pub by_sink : Outcome → Outcome

@@ -2,7 +2,10 @@
 
 ghost use Rattle.std.specs.Prelude.{◌≡◌, ◌∷◌, [], IfOk, length, map};
 ghost use Rattle.stage_bodies.specs.Told.{raised_with};
+ghost use Rattle.stage_bodies.specs.Lawful.{AreSettled, IsLawfullyHandled, IsSettled};
 ghost use Rattle.stage_bodies.specs.Jobs.{KeepsBox};
+ghost use Rattle.stage_callback.specs.Laws.{KeepsBatch, KeepsFailed};
+ghost use Rattle.stage_job.specs.Lawful.{IsReasonLeft};
 ghost use Rattle.stage_job.specs.Told.{reason_by};
 ghost use Rattle.body_jobs.specs.Batches.{Asks, AsksFailed, Settles, Handles};
 ghost use Rattle.body_jobs.specs.Boxes.{box_of};
@@ -20,12 +23,14 @@ pub(crate) fn handle_batch(
     callback: &mut Box<dyn Callback + Send>,
     batch: &Batch,
 ) -> Result<(BatchEnd, Bytes), AllocError>
-    ensures kept { let old = box_of (kind callback.old) (spec callback.old) (count callback.old) (calls callback.old) (bad callback.old) (told callback.old) (said callback.old) in
-        let new = box_of (kind callback.new) (spec callback.new) (count callback.new) (calls callback.new) (bad callback.new) (told callback.new) (said callback.new) in
+    ensures kept { let old = box_of (kind callback.old) (spec callback.old) (count callback.old) (calls callback.old) (bad callback.old) (resets callback.old) (law callback.old) (told callback.old) (said callback.old) in
+        let new = box_of (kind callback.new) (spec callback.new) (count callback.new) (calls callback.new) (bad callback.new) (resets callback.new) (law callback.new) (told callback.new) (said callback.new) in
         KeepsBox old new }
-    ensures done { let old = box_of (kind callback.old) (spec callback.old) (count callback.old) (calls callback.old) (bad callback.old) (told callback.old) (said callback.old) in
-        let new = box_of (kind callback.new) (spec callback.new) (count callback.new) (calls callback.new) (bad callback.new) (told callback.new) (said callback.new) in
+    ensures done { let old = box_of (kind callback.old) (spec callback.old) (count callback.old) (calls callback.old) (bad callback.old) (resets callback.old) (law callback.old) (told callback.old) (said callback.old) in
+        let new = box_of (kind callback.new) (spec callback.new) (count callback.new) (calls callback.new) (bad callback.new) (resets callback.new) (law callback.new) (told callback.new) (said callback.new) in
         IfOk result (λ r. Handles batch.now.messages r.0 r.1 old new) }
+    ensures same_resets { resets callback.new ≡ resets callback.old }
+    ensures lawful { IfOk result (λ r. IsLawfullyHandled (law callback.old) batch.now r.0 r.1) }
 {
     let messages = batch.messages.as_slice();
     match ask(callback, batch)? {
@@ -51,12 +56,14 @@ pub(crate) fn handle_batch(
 
 /// Calls `batch`.
 fn ask(callback: &mut Box<dyn Callback + Send>, batch: &Batch) -> Result<BatchReply, AllocError>
-    ensures kept { let old = box_of (kind callback.old) (spec callback.old) (count callback.old) (calls callback.old) (bad callback.old) (told callback.old) (said callback.old) in
-        let new = box_of (kind callback.new) (spec callback.new) (count callback.new) (calls callback.new) (bad callback.new) (told callback.new) (said callback.new) in
+    ensures kept { let old = box_of (kind callback.old) (spec callback.old) (count callback.old) (calls callback.old) (bad callback.old) (resets callback.old) (law callback.old) (told callback.old) (said callback.old) in
+        let new = box_of (kind callback.new) (spec callback.new) (count callback.new) (calls callback.new) (bad callback.new) (resets callback.new) (law callback.new) (told callback.new) (said callback.new) in
         KeepsBox old new }
-    ensures done { let old = box_of (kind callback.old) (spec callback.old) (count callback.old) (calls callback.old) (bad callback.old) (told callback.old) (said callback.old) in
-        let new = box_of (kind callback.new) (spec callback.new) (count callback.new) (calls callback.new) (bad callback.new) (told callback.new) (said callback.new) in
+    ensures done { let old = box_of (kind callback.old) (spec callback.old) (count callback.old) (calls callback.old) (bad callback.old) (resets callback.old) (law callback.old) (told callback.old) (said callback.old) in
+        let new = box_of (kind callback.new) (spec callback.new) (count callback.new) (calls callback.new) (bad callback.new) (resets callback.new) (law callback.new) (told callback.new) (said callback.new) in
         IfOk result (λ reply. Asks batch.now.messages reply old new) }
+    ensures same_resets { resets callback.new ≡ resets callback.old }
+    ensures lawful { IfOk result (λ reply. KeepsBatch (law callback.old) batch.now reply) }
 {
     match callback.batch(batch) {
         Ok(reply) => Ok(reply),
@@ -83,12 +90,14 @@ fn settle_all(
     outcomes: &[Outcome],
 ) -> Result<OutcomeList, AllocError>
     requires { length messages.now ≡ length outcomes.now }
-    ensures kept { let old = box_of (kind callback.old) (spec callback.old) (count callback.old) (calls callback.old) (bad callback.old) (told callback.old) (said callback.old) in
-        let new = box_of (kind callback.new) (spec callback.new) (count callback.new) (calls callback.new) (bad callback.new) (told callback.new) (said callback.new) in
+    ensures kept { let old = box_of (kind callback.old) (spec callback.old) (count callback.old) (calls callback.old) (bad callback.old) (resets callback.old) (law callback.old) (told callback.old) (said callback.old) in
+        let new = box_of (kind callback.new) (spec callback.new) (count callback.new) (calls callback.new) (bad callback.new) (resets callback.new) (law callback.new) (told callback.new) (said callback.new) in
         KeepsBox old new }
-    ensures done { let old = box_of (kind callback.old) (spec callback.old) (count callback.old) (calls callback.old) (bad callback.old) (told callback.old) (said callback.old) in
-        let new = box_of (kind callback.new) (spec callback.new) (count callback.new) (calls callback.new) (bad callback.new) (told callback.new) (said callback.new) in
+    ensures done { let old = box_of (kind callback.old) (spec callback.old) (count callback.old) (calls callback.old) (bad callback.old) (resets callback.old) (law callback.old) (told callback.old) (said callback.old) in
+        let new = box_of (kind callback.new) (spec callback.new) (count callback.new) (calls callback.new) (bad callback.new) (resets callback.new) (law callback.new) (told callback.new) (said callback.new) in
         IfOk result (λ settled. Settles outcomes.now settled old new) }
+    ensures same_resets { resets callback.new ≡ resets callback.old }
+    ensures lawful { IfOk result (AreSettled (law callback.old) messages.now outcomes.now) }
 {
     let mut settled = Vec::with_capacity(alloc, outcomes.len())?;
     for at in 0..outcomes.len() {
@@ -104,12 +113,14 @@ fn settle(
     no: MsgNo,
     outcome: Outcome,
 ) -> Result<Outcome, AllocError>
-    ensures kept { let old = box_of (kind callback.old) (spec callback.old) (count callback.old) (calls callback.old) (bad callback.old) (told callback.old) (said callback.old) in
-        let new = box_of (kind callback.new) (spec callback.new) (count callback.new) (calls callback.new) (bad callback.new) (told callback.new) (said callback.new) in
+    ensures kept { let old = box_of (kind callback.old) (spec callback.old) (count callback.old) (calls callback.old) (bad callback.old) (resets callback.old) (law callback.old) (told callback.old) (said callback.old) in
+        let new = box_of (kind callback.new) (spec callback.new) (count callback.new) (calls callback.new) (bad callback.new) (resets callback.new) (law callback.new) (told callback.new) (said callback.new) in
         KeepsBox old new }
-    ensures done { let old = box_of (kind callback.old) (spec callback.old) (count callback.old) (calls callback.old) (bad callback.old) (told callback.old) (said callback.old) in
-        let new = box_of (kind callback.new) (spec callback.new) (count callback.new) (calls callback.new) (bad callback.new) (told callback.new) (said callback.new) in
+    ensures done { let old = box_of (kind callback.old) (spec callback.old) (count callback.old) (calls callback.old) (bad callback.old) (resets callback.old) (law callback.old) (told callback.old) (said callback.old) in
+        let new = box_of (kind callback.new) (spec callback.new) (count callback.new) (calls callback.new) (bad callback.new) (resets callback.new) (law callback.new) (told callback.new) (said callback.new) in
         IfOk result (λ settled. Settles (outcome ∷ []) (settled ∷ []) old new) }
+    ensures same_resets { resets callback.new ≡ resets callback.old }
+    ensures lawful { IfOk result (IsSettled (law callback.old) no outcome) }
 {
     match outcome {
         Outcome::Successful => Ok(Outcome::Successful),
@@ -126,12 +137,14 @@ fn reason_left(
     no: MsgNo,
     why: Reason,
 ) -> Result<Reason, AllocError>
-    ensures kept { let old = box_of (kind callback.old) (spec callback.old) (count callback.old) (calls callback.old) (bad callback.old) (told callback.old) (said callback.old) in
-        let new = box_of (kind callback.new) (spec callback.new) (count callback.new) (calls callback.new) (bad callback.new) (told callback.new) (said callback.new) in
+    ensures kept { let old = box_of (kind callback.old) (spec callback.old) (count callback.old) (calls callback.old) (bad callback.old) (resets callback.old) (law callback.old) (told callback.old) (said callback.old) in
+        let new = box_of (kind callback.new) (spec callback.new) (count callback.new) (calls callback.new) (bad callback.new) (resets callback.new) (law callback.new) (told callback.new) (said callback.new) in
         KeepsBox old new }
-    ensures done { let old = box_of (kind callback.old) (spec callback.old) (count callback.old) (calls callback.old) (bad callback.old) (told callback.old) (said callback.old) in
-        let new = box_of (kind callback.new) (spec callback.new) (count callback.new) (calls callback.new) (bad callback.new) (told callback.new) (said callback.new) in
+    ensures done { let old = box_of (kind callback.old) (spec callback.old) (count callback.old) (calls callback.old) (bad callback.old) (resets callback.old) (law callback.old) (told callback.old) (said callback.old) in
+        let new = box_of (kind callback.new) (spec callback.new) (count callback.new) (calls callback.new) (bad callback.new) (resets callback.new) (law callback.new) (told callback.new) (said callback.new) in
         IfOk result (λ reason. Settles (Outcome.Failed why ∷ []) (Outcome.Failed reason ∷ []) old new) }
+    ensures same_resets { resets callback.new ≡ resets callback.old }
+    ensures lawful { IfOk result (IsReasonLeft (law callback.old) no why) }
 {
     match show_failed(callback, no, why) {
         Ok(by) => Ok(reason_after(by, why)),
@@ -145,12 +158,14 @@ fn show_failed(
     no: MsgNo,
     why: Reason,
 ) -> Result<FailedReply, AllocError>
-    ensures kept { let old = box_of (kind callback.old) (spec callback.old) (count callback.old) (calls callback.old) (bad callback.old) (told callback.old) (said callback.old) in
-        let new = box_of (kind callback.new) (spec callback.new) (count callback.new) (calls callback.new) (bad callback.new) (told callback.new) (said callback.new) in
+    ensures kept { let old = box_of (kind callback.old) (spec callback.old) (count callback.old) (calls callback.old) (bad callback.old) (resets callback.old) (law callback.old) (told callback.old) (said callback.old) in
+        let new = box_of (kind callback.new) (spec callback.new) (count callback.new) (calls callback.new) (bad callback.new) (resets callback.new) (law callback.new) (told callback.new) (said callback.new) in
         KeepsBox old new }
-    ensures done { let old = box_of (kind callback.old) (spec callback.old) (count callback.old) (calls callback.old) (bad callback.old) (told callback.old) (said callback.old) in
-        let new = box_of (kind callback.new) (spec callback.new) (count callback.new) (calls callback.new) (bad callback.new) (told callback.new) (said callback.new) in
+    ensures done { let old = box_of (kind callback.old) (spec callback.old) (count callback.old) (calls callback.old) (bad callback.old) (resets callback.old) (law callback.old) (told callback.old) (said callback.old) in
+        let new = box_of (kind callback.new) (spec callback.new) (count callback.new) (calls callback.new) (bad callback.new) (resets callback.new) (law callback.new) (told callback.new) (said callback.new) in
         IfOk result (λ by. AsksFailed by old new) }
+    ensures same_resets { resets callback.new ≡ resets callback.old }
+    ensures lawful { IfOk result (λ by. KeepsFailed (law callback.old) no why by) }
 {
     match callback.failed(no, &why) {
         Ok(by) => Ok(by),

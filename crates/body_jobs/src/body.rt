@@ -28,6 +28,8 @@ impl<S: ByteSource + Drop, K: ByteSink + Drop> Works for Body<S, K> {
         count = (Callback-box c).count c.value;
         calls = (Callback-box c).calls c.value;
         bad = (Callback-box c).bad c.value;
+        resets = (Callback-box c).resets c.value;
+        law = (Callback-box c).law c.value;
         told = (Callback-box c).told c.value;
         said = (Callback-box c).said c.value;
       }) b.callback;
@@ -65,7 +67,7 @@ impl<S: ByteSource + Drop, K: ByteSink + Drop> Body<S, K> {
         ensures { let box = Callback-box callback in
             let value = callback.value in
             ⟦<Body<S, K> as Works>⟧.look self.new
-            ≡ with_callback (box_of (box.kind value) (box.spec value) (box.count value) (box.calls value) (box.bad value) (box.told value) (box.said value)) (⟦<Body<S, K> as Works>⟧.look self.old) }
+            ≡ with_callback (box_of (box.kind value) (box.spec value) (box.count value) (box.calls value) (box.bad value) (box.resets value) (box.law value) (box.told value) (box.said value)) (⟦<Body<S, K> as Works>⟧.look self.old) }
     {
         self.callback = Some(callback);
     }
@@ -73,7 +75,7 @@ impl<S: ByteSource + Drop, K: ByteSink + Drop> Body<S, K> {
     /// Takes the callback out.
     pub fn take_box(&mut self) -> Option<Box<dyn Callback + Send>>
         ensures out { option_map (λ c. let box = Callback-box c in let value = c.value in
-            box_of (box.kind value) (box.spec value) (box.count value) (box.calls value) (box.bad value) (box.told value) (box.said value)) result
+            box_of (box.kind value) (box.spec value) (box.count value) (box.calls value) (box.bad value) (box.resets value) (box.law value) (box.told value) (box.said value)) result
             ≡ (⟦<Body<S, K> as Works>⟧.look self.old).callback }
         ensures rest { ⟦<Body<S, K> as Works>⟧.look self.new ≡ record (⟦<Body<S, K> as Works>⟧.look self.old) { callback = None } }
     {

@@ -85,8 +85,8 @@ fn answer_child<S: ByteSource + Drop, K: ByteSink + Drop>(
 
 /// Counts from 0.
 pub(crate) fn start_over(callback: &mut Box<dyn Callback + Send>)
-    ensures { let old = box_of (kind callback.old) (spec callback.old) (count callback.old) (calls callback.old) (bad callback.old) (told callback.old) (said callback.old) in
-        let new = box_of (kind callback.new) (spec callback.new) (count callback.new) (calls callback.new) (bad callback.new) (told callback.new) (said callback.new) in
+    ensures { let old = box_of (kind callback.old) (spec callback.old) (count callback.old) (calls callback.old) (bad callback.old) (resets callback.old) (law callback.old) (told callback.old) (said callback.old) in
+        let new = box_of (kind callback.new) (spec callback.new) (count callback.new) (calls callback.new) (bad callback.new) (resets callback.new) (law callback.new) (told callback.new) (said callback.new) in
         IsReset old new }
 {
     callback.reset();

@@ -134,9 +134,9 @@ built_in Lines spec seen messages replies other is = ap (same_replies replies) (
 built_in Own spec seen messages replies other is = absurd (other refl)
 
 -- the replies of a callback that is armed with the spec are the handler's
-replies_are_handled : (spec : StageSpec) (seen : ℕ) (messages : List Message) (replies : List Reply) (b c : BoxSeen) → b.spec ≡ spec → b.kind ≡ spec.kind → (b.kind ≢ Own → b.count ≡ seen) → list_all (is_message_for spec.batchers) messages ≡ true
-    → Replies messages replies b c → are_replies_by spec.kind spec seen messages replies ≡ true
-replies_are_handled spec seen messages replies b c armed kind counted fit done = by_kind spec.kind kind
+replies_are_handled : (begun : ℕ) (spec : StageSpec) (seen : ℕ) (messages : List Message) (replies : List Reply) (b c : BoxSeen) → b.spec ≡ spec → b.kind ≡ spec.kind → (b.kind ≢ Own → b.count ≡ seen) → list_all (is_message_for spec.batchers) messages ≡ true
+    → Replies begun messages replies b c → are_replies_by spec.kind spec seen messages replies ≡ true
+replies_are_handled begun spec seen messages replies b c armed kind counted fit done = by_kind spec.kind kind
   where
     by_kind : (k : Kind) → b.kind ≡ k → are_replies_by k spec seen messages replies ≡ true
     by_kind Own e = subst (λ x. are_replies_by Own x seen messages replies ≡ true) armed (done.shape e (subst (λ x. list_all (is_message_for x.batchers) messages ≡ true) (sym armed) fit))
@@ -148,8 +148,8 @@ replies_are_handled spec seen messages replies b c armed kind counted fit done =
         built_in Lines spec seen messages replies (λ x. cc) (done.by_rules other ∙ ap (λ n. chunk_replies b.spec n messages) (counted other) ∙ ap (λ x. chunk_replies x seen messages) armed)
 
 handled_by : (topology : Topology) (before : History) (s : StageNo) (spec : StageSpec) (messages : List Message) (replies : List Reply) (x y : Option BoxSeen) → has_role topology s is_supervisor_role ≡ false → is_live topology before s ≡ true → list_all (is_message_for spec.batchers) messages ≡ true
-    → There x (IsArmed topology before s spec) → Both (Replies messages replies) x y → are_replies_by spec.kind spec (count topology before s) messages replies ≡ true
-handled_by topology before s spec messages replies (Some b) (Some c) calm live fit armed done = replies_are_handled spec (count topology before s) messages replies b c armed.spec armed.kind (λ own. armed.count own calm (is_present topology before s live)) fit done
+    → There x (IsArmed topology before s spec) → Both (Replies 0 messages replies) x y → are_replies_by spec.kind spec (count topology before s) messages replies ≡ true
+handled_by topology before s spec messages replies (Some b) (Some c) calm live fit armed done = replies_are_handled 0 spec (count topology before s) messages replies b c armed.spec armed.kind (λ own. armed.count own calm (is_present topology before s live)) fit done
 handled_by topology before s spec messages replies (Some b) None calm live fit armed done = absurd done
 handled_by topology before s spec messages replies None y calm live fit armed done = absurd armed
 
@@ -174,8 +174,8 @@ child_fits topology before s slot spec sound legal handles = by_slot (in_slot be
     by_slot (Some n) e = rw e (messages_fit topology before spec (n ∷ []) sound legal handles)
 
 child_by : (topology : Topology) (before : History) (s : StageNo) (spec : StageSpec) (messages : List Message) (replies : List Reply) (x y : Option BoxSeen) → list_all (is_message_for spec.batchers) messages ≡ true
-    → There x (IsArmed topology before s spec) → Both (λ b c. Replies messages replies (reset b) c) x y → are_replies_by spec.kind spec 0 messages replies ≡ true
-child_by topology before s spec messages replies (Some b) (Some c) fit armed done = replies_are_handled spec 0 messages replies (reset b) c armed.spec armed.kind (λ own. refl) fit done
+    → There x (IsArmed topology before s spec) → Both (λ b c. Replies 1 messages replies (reset b) c) x y → are_replies_by spec.kind spec 0 messages replies ≡ true
+child_by topology before s spec messages replies (Some b) (Some c) fit armed done = replies_are_handled 1 spec 0 messages replies (reset b) c armed.spec armed.kind (λ own. refl) fit done
 child_by topology before s spec messages replies (Some b) None fit armed done = absurd done
 child_by topology before s spec messages replies None y fit armed done = absurd armed
 
@@ -192,30 +192,30 @@ child_row topology before p message reply old new sound legal live current is fi
 
 -- ---- batches
 
-end_is_handled : (topology : Topology) (before : History) (s : StageNo) (spec : StageSpec) (messages : List Message) (bytes : ℕ) (end : BatchEnd) (old new : BodySeen) (x y : Option BoxSeen) → has_role topology s is_supervisor_role ≡ false → is_live topology before s ≡ true → is_some old.sink ≡ is_some spec.edge
-    → There x (IsArmed topology before s spec) → Both (EndsIn messages bytes end old new) x y → is_end_by spec.kind (is_some spec.edge) spec (count topology before s) messages bytes end ≡ true
-end_is_handled topology before s spec messages bytes end old new (Some b) (Some c) calm live sink armed done = by_kind spec.kind armed.kind
+end_is_handled : (topology : Topology) (before : History) (s : StageNo) (spec : StageSpec) (asked : Batch) (bytes : ℕ) (end : BatchEnd) (old new : BodySeen) (x y : Option BoxSeen) → has_role topology s is_supervisor_role ≡ false → is_live topology before s ≡ true → is_some old.sink ≡ is_some spec.edge
+    → There x (IsArmed topology before s spec) → Both (EndsIn asked bytes end old new) x y → is_end_by spec.kind (is_some spec.edge) spec (count topology before s) asked.messages bytes end ≡ true
+end_is_handled topology before s spec asked bytes end old new (Some b) (Some c) calm live sink armed done = by_kind spec.kind armed.kind
   where
-    ended : is_end_by b.kind (is_some spec.edge) spec b.count messages bytes end ≡ true
-    ended = subst (λ h. is_end_by b.kind h spec b.count messages bytes end ≡ true) sink (subst (λ x. is_end_by b.kind (is_some old.sink) x b.count messages bytes end ≡ true) armed.spec done.0.ended)
+    ended : is_end_by b.kind (is_some spec.edge) spec b.count asked.messages bytes end ≡ true
+    ended = subst (λ h. is_end_by b.kind h spec b.count asked.messages bytes end ≡ true) sink (subst (λ x. is_end_by b.kind (is_some old.sink) x b.count asked.messages bytes end ≡ true) armed.spec done.0.ended)
 
-    by_kind : (k : Kind) → b.kind ≡ k → is_end_by k (is_some spec.edge) spec (count topology before s) messages bytes end ≡ true
-    by_kind Own e = subst (λ k. is_end_by k (is_some spec.edge) spec b.count messages bytes end ≡ true) e ended
+    by_kind : (k : Kind) → b.kind ≡ k → is_end_by k (is_some spec.edge) spec (count topology before s) asked.messages bytes end ≡ true
+    by_kind Own e = subst (λ k. is_end_by k (is_some spec.edge) spec b.count asked.messages bytes end ≡ true) e ended
     by_kind Steps e =
         let other : b.kind ≢ Own = λ own. let x : Steps ≡ Own = sym e ∙ own in cc in
-        subst (λ n. is_end_by Steps (is_some spec.edge) spec n messages bytes end ≡ true) (armed.count other calm (is_present topology before s live)) (subst (λ k. is_end_by k (is_some spec.edge) spec b.count messages bytes end ≡ true) e ended)
+        subst (λ n. is_end_by Steps (is_some spec.edge) spec n asked.messages bytes end ≡ true) (armed.count other calm (is_present topology before s live)) (subst (λ k. is_end_by k (is_some spec.edge) spec b.count asked.messages bytes end ≡ true) e ended)
     by_kind Lines e =
         let other : b.kind ≢ Own = λ own. let x : Lines ≡ Own = sym e ∙ own in cc in
-        subst (λ n. is_end_by Lines (is_some spec.edge) spec n messages bytes end ≡ true) (armed.count other calm (is_present topology before s live)) (subst (λ k. is_end_by k (is_some spec.edge) spec b.count messages bytes end ≡ true) e ended)
-end_is_handled topology before s spec messages bytes end old new (Some b) None calm live sink armed done = absurd done
-end_is_handled topology before s spec messages bytes end old new None y calm live sink armed done = absurd armed
+        subst (λ n. is_end_by Lines (is_some spec.edge) spec n asked.messages bytes end ≡ true) (armed.count other calm (is_present topology before s live)) (subst (λ k. is_end_by k (is_some spec.edge) spec b.count asked.messages bytes end ≡ true) e ended)
+end_is_handled topology before s spec asked bytes end old new (Some b) None calm live sink armed done = absurd done
+end_is_handled topology before s spec asked bytes end old new None y calm live sink armed done = absurd armed
 
 batch_row : (topology : Topology) (before : History) (p : Post) (batch : Batch) (bytes : ℕ) (end : BatchEnd) (old new : BodySeen) → is_live topology before p.stage ≡ true → is_current before p.stage p.slot ≡ true
     → IsWorkOf topology before p (work.Batch batch) → IsBodyAt topology before p old → IsDone (work.Batch batch) (came.Wrote bytes end) old new → may_come topology before (Wrote p.stage bytes end) ≡ true
 batch_row topology before p batch bytes end old new live current is fit done =
     let f = fit_of topology before p is_batch_processor_role old is.0 fit in
     let holds = batch_for topology before p.stage f.spec f.spec.role old f.role f.holds in
-    let handled = end_is_handled topology before p.stage f.spec batch.messages bytes end old new old.callback new.callback (writers_alone topology p.stage is.0) live holds.1 holds.0 done.0 in
+    let handled = end_is_handled topology before p.stage f.spec batch bytes end old new old.callback new.callback (writers_alone topology p.stage is.0) live holds.1 holds.0 done.0 in
     both (is_live topology before p.stage) _ live (both (has_role topology p.stage is_batch_processor_role) _ is.0 (both (is_current before p.stage 0) _ (current_first before p is.2 current)
     (subst (λ o. is_batch_handled o (count topology before p.stage) (batch_of topology before p.stage) bytes end ≡ true) (sym f.is) (subst (λ ms. is_end_by f.spec.kind (is_some f.spec.edge) f.spec (count topology before p.stage) ms bytes end ≡ true) is.1.messages handled))))
 
@@ -247,7 +247,7 @@ no_crash_fetch most (came.Replies replies) old new there done = fetched (is_cras
 no_crash_fetch most (came.Wrote bytes end) old new there done = fetched (is_crash (came.Wrote bytes end) ≡ false) most (came.Wrote bytes end) old.source new.source (λ b c f. absurd f.answer) there done.0
 no_crash_fetch most (came.Reply reply) old new there done = refl
 
-chunk_calm : (topology : Topology) (before : History) (s : StageNo) (spec : StageSpec) (messages : List Message) (replies : List Reply) (x y : Option BoxSeen) → spec.kind ≢ Own → never_crashes spec.rules ≡ true → There x (IsArmed topology before s spec) → Both (Replies messages replies) x y → has_crash replies ≡ false
+chunk_calm : (topology : Topology) (before : History) (s : StageNo) (spec : StageSpec) (messages : List Message) (replies : List Reply) (x y : Option BoxSeen) → spec.kind ≢ Own → never_crashes spec.rules ≡ true → There x (IsArmed topology before s spec) → Both (Replies 0 messages replies) x y → has_crash replies ≡ false
 chunk_calm topology before s spec messages replies (Some b) (Some c) other calm armed done = done.calm (λ own. other (sym armed.kind ∙ own)) (subst (λ x. never_crashes x.rules ≡ true) (sym armed.spec) calm)
 chunk_calm topology before s spec messages replies (Some b) None other calm armed done = absurd done
 chunk_calm topology before s spec messages replies None y other calm armed done = absurd armed
@@ -256,10 +256,10 @@ end_calm : (e : BatchEnd) → (e ≡ end.Crashed → ⊥) → is_crashed_end e �
 end_calm end.Crashed not_so = absurd (not_so refl)
 end_calm (end.Outcomes outcomes) not_so = refl
 
-batch_calm : (topology : Topology) (before : History) (s : StageNo) (spec : StageSpec) (messages : List Message) (bytes : ℕ) (e : BatchEnd) (old new : BodySeen) (x y : Option BoxSeen) → spec.kind ≢ Own → never_crashes spec.rules ≡ true → There x (IsArmed topology before s spec) → Both (EndsIn messages bytes e old new) x y → is_crashed_end e ≡ false
-batch_calm topology before s spec messages bytes e old new (Some b) (Some c) other calm armed done = end_calm e (done.0.calm (λ own. other (sym armed.kind ∙ own)) (subst (λ x. never_crashes x.rules ≡ true) (sym armed.spec) calm))
-batch_calm topology before s spec messages bytes e old new (Some b) None other calm armed done = absurd done
-batch_calm topology before s spec messages bytes e old new None y other calm armed done = absurd armed
+batch_calm : (topology : Topology) (before : History) (s : StageNo) (spec : StageSpec) (asked : Batch) (bytes : ℕ) (e : BatchEnd) (old new : BodySeen) (x y : Option BoxSeen) → spec.kind ≢ Own → never_crashes spec.rules ≡ true → There x (IsArmed topology before s spec) → Both (EndsIn asked bytes e old new) x y → is_crashed_end e ≡ false
+batch_calm topology before s spec asked bytes e old new (Some b) (Some c) other calm armed done = end_calm e (done.0.calm (λ own. other (sym armed.kind ∙ own)) (subst (λ x. never_crashes x.rules ≡ true) (sym armed.spec) calm))
+batch_calm topology before s spec asked bytes e old new (Some b) None other calm armed done = absurd done
+batch_calm topology before s spec asked bytes e old new None y other calm armed done = absurd armed
 
 -- a built-in callback whose rules never crash does not
 pub no_crash : (topology : Topology) (before : History) (job : Job) (o : Came) (old new : BodySeen) → IsWorkOf topology before job.post job.work → IsBodyAt topology before job.post old → IsDone job.work o old new
@@ -276,7 +276,7 @@ no_crash topology before job o old new is fit done calm = by_work job.work o is 
     by_work (work.Batch batch) (came.Wrote bytes e) is done =
         let armed = batch_armed topology before job.post old is.0 fit in
         let so = calm armed.spec armed.is in
-        batch_calm topology before job.post.stage armed.spec batch.messages bytes e old new old.callback new.callback so.0 so.1 armed.box done.0
+        batch_calm topology before job.post.stage armed.spec batch bytes e old new old.callback new.callback so.0 so.1 armed.box done.0
     by_work (work.Batch batch) o is done = absurd done
     by_work (work.Child message) (came.Reply reply) is done = refl
     by_work (work.Child message) o is done = absurd done

@@ -6,6 +6,7 @@ use Rattle.std.proofs.lemmas.Bool.{eq-eqb, ltb-true}
 use Rattle.std.proofs.lemmas.List.{append-nil, append_assoc}
 use Rattle.pipe_types.specs.declared.numbers.StageNo.{StageNo}
 use Rattle.pipe_types.specs.declared.numbers.Post.{Post}
+use Rattle.pipe_types.specs.declared.message.Batch.{Batch}
 use Rattle.pipe_types.specs.declared.message.Message.{Message}
 use Rattle.pipe_types.specs.declared.message.Reply.{Reply}
 use Rattle.pipe_types.specs.declared.message.BatchEnd.{BatchEnd}
@@ -23,18 +24,24 @@ use Rattle.pipe_model.specs.History.{History}
 use Rattle.pipe_model.specs.Lives.{is_live}
 use Rattle.pipe_model.specs.Posts.{is_out}
 use Rattle.pipe_model.specs.Outside.{fed, source_end, sink_text, text_taken}
-use Rattle.pipe_model.specs.Work.{count, batch_of, own_text}
+use Rattle.pipe_model.specs.Taken.{IsTaken}
+use Rattle.pipe_model.specs.Work.{count, batch_of, own_text, chunk_of, child_of}
 use Rattle.pipe_model.specs.Legal.{has_role, is_supervisor_role}
 use Rattle.pipe_edges.specs.declared.reading.LineEnd.{LineEnd}
 use Rattle.pipe_laws.proofs.Tests.{clash, same_stage-self}
 use Rattle.pipe_laws.specs.Read.{quiets}
 use Rattle.stage_callback.specs.Callbacks.{is_passed}
+use Rattle.stage_callback.specs.Laws.{Law, RoseExactly}
+use Rattle.stage_callback.proofs.Resets.{counted_on}
 use Rattle.stage_job.specs.Chunks.{RoseBy}
+use Rattle.stage_job.specs.Lawful.{AreLawful}
+use Rattle.stage_bodies.specs.Lawful.{IsLawfulEnd}
 use Rattle.stage_bodies.specs.Seen.{SourceSeen, LineSeen, SinkSeen, BoxSeen}
 use Rattle.stage_bodies.specs.Reads.{AreReadFrom}
 use Rattle.stage_bodies.specs.Jobs.{KeepsBox, ReadsOn, IsFetched, Fetches, Replies, Ends, Writes, text_by, is_bad_end, reset}
 use Rattle.stage_bodies.specs.declared.job.Outcome.TheVariants as came
-use Rattle.body_laws.specs.Counts.{short_writes, calls_of, bad_of, one_more}
+use Rattle.body_laws.specs.Counts.{short_writes, calls_of, bad_of, one_more, resets_of}
+use Rattle.body_laws.specs.Lawful.{has_sink, IsLawfulWrite}
 use Rattle.body_laws.specs.Keeps.{IsKnownEnd, KeepsSource, KeepsSink, IsCounted, KeepsCallback}
 use Rattle.body_laws.specs.Ready.{IsArmed}
 use Rattle.body_laws.proofs.Posts.{same_post-self}
@@ -115,24 +122,16 @@ source_ends before after s most h a b c same_fed same_end same_quiets k fetched 
 
 -- ---- sinks
 
--- these bytes were written, and the journal does not have them
-pub sink_writes : (topology : Topology) (before : History) (s : StageNo) (bytes : ℕ) (text : List ℕ) (a b c : SinkSeen) → KeepsSink topology before s [] a b → Writes bytes text b c → KeepsSink topology before s (take bytes text) a c
-sink_writes topology before s bytes text a b c k written = record {
-  told = written.told ∙ k.told;
-  held = λ t. written.held (rw k.told t) ∙ ap (λ z. z ++ take bytes text) (k.held t) ∙ append_assoc a.held (sink_text topology before s ++ []) (take bytes text) ∙ ap (λ z. a.held ++ (z ++ take bytes text)) (append-nil (sink_text topology before s));
-  faults_stay = let one = k.faults_stay in let two = written.faults_stay in omega (arith, one, two);
-  short = rise_stays (short_writes topology before s) a.faults b.faults c.faults k.short written.faults_stay;
-}
-
--- a later journal has them
+-- the bytes that were written are those of a later journal
 pub sink_wrote : (topology : Topology) (before after : History) (s : StageNo) (bytes : ℕ) (text : List ℕ) (end : BatchEnd) (a b c : SinkSeen) → sink_text topology after s ≡ sink_text topology before s ++ take bytes (text_taken topology before s end)
-    → short_writes topology after s ≡ one_more (nat_lt bytes (length (text_taken topology before s end))) (short_writes topology before s) → text ≡ text_taken topology before s end → KeepsSink topology before s [] a b → Writes bytes text b c → KeepsSink topology after s [] a c
+    → short_writes topology after s ≡ one_more (nat_lt bytes (length (text_taken topology before s end))) (short_writes topology before s) → text ≡ text_taken topology before s end → KeepsSink topology before s a b → Writes bytes text b c → KeepsSink topology after s a c
 sink_wrote topology before after s bytes text end a b c same_text same_short is k written =
-    let on = sink_writes topology before s bytes text a b c k written in
     record {
-      told = on.told;
-      held = λ t. rw same_text (on.held t ∙ ap (λ z. a.held ++ (sink_text topology before s ++ take bytes z)) is ∙ ap (λ z. a.held ++ z) (sym (append-nil (sink_text topology before s ++ take bytes (text_taken topology before s end)))));
-      faults_stay = on.faults_stay;
+      told = written.told ∙ k.told;
+      held = λ t.
+          rw same_text
+          (written.held (rw k.told t) ∙ ap (λ z. z ++ take bytes text) (k.held t) ∙ append_assoc a.held (sink_text topology before s) (take bytes text) ∙ ap (λ z. a.held ++ (sink_text topology before s ++ take bytes z)) is);
+      faults_stay = let one = k.faults_stay in let two = written.faults_stay in omega (arith, one, two);
       short = rw same_short (rise_if (nat_lt bytes (length (text_taken topology before s end))) (short_writes topology before s) a.faults b.faults c.faults k.short
           (λ low. written.short (subst (λ z. bytes < length z) (sym is) (ltb-true bytes (length (text_taken topology before s end)) low))) written.faults_stay);
     }
@@ -162,6 +161,7 @@ pub box_then : (a b c : BoxSeen) → KeepsBox a b → KeepsBox b c → KeepsBox 
 box_then a b c h k = record {
   kind = k.kind ∙ h.kind;
   spec = k.spec ∙ h.spec;
+  law = k.law ∙ h.law;
   told = k.told ∙ h.told;
   calls = let one = h.calls in let two = k.calls in omega (arith, one, two);
   bad = let one = h.bad in let two = k.bad in omega (arith, one, two);
@@ -174,6 +174,7 @@ pub box_reset : (a b : BoxSeen) → KeepsBox (reset a) b → KeepsBox a b
 box_reset a b k = record {
   kind = k.kind;
   spec = k.spec;
+  law = k.law;
   told = k.told;
   calls = k.calls;
   bad = k.bad;
@@ -185,7 +186,7 @@ pub self_post : (p : Post) → p.slot ≡ 0 → same_post p (post p.stage 0) ≡
 self_post p e = rw (same_stage-self p.stage) (eq-eqb p.slot 0 e)
 
 -- the count after replies
-pub counts_done : (topology : Topology) (before : History) (s : StageNo) (messages : List Message) (replies : List Reply) (b c : BoxSeen) → is_live topology before s ≡ true → IsCounted topology before s b → Replies messages replies b c → IsCounted topology (Done s replies ∷ before) s c
+pub counts_done : (topology : Topology) (before : History) (s : StageNo) (messages : List Message) (replies : List Reply) (b c : BoxSeen) → is_live topology before s ≡ true → IsCounted topology before s b → Replies 0 messages replies b c → IsCounted topology (Done s replies ∷ before) s c
 counts_done topology before s messages replies b c live counted_so done = λ own calm now.
     let built_in : b.kind ≢ Own = λ e. own (done.kept.kind ∙ e) in
     let is : b.count ≡ count topology before s = counted_so built_in calm (is_present topology before s live) in
@@ -201,41 +202,70 @@ counts_wrote topology before s spec bytes end has_sink messages b c e is live ar
     done.count built_in small ∙ ap (λ n. count_after_batch b.spec n messages) same ∙ ap (λ x. count_after_batch x (count topology before s) messages) armed.spec
     ∙ ap (λ ms. count_after_batch spec (count topology before s) ms) is ∙ sym (count_wrote topology before s bytes end spec e)
 
-pub callback_done : (topology : Topology) (before : History) (p : Post) (messages : List Message) (replies : List Reply) (a b c : BoxSeen) → p.slot ≡ 0 → is_live topology before p.stage ≡ true → KeepsCallback topology before p a b → Replies messages replies b c
-    → KeepsCallback topology (Done p.stage replies ∷ before) p a c
-callback_done topology before p messages replies a b c first live k done = record {
+-- no reset more
+pub resets_on : (n : ℕ) (a b c : BoxSeen) → RoseExactly n a.resets b.resets → RoseExactly 0 b.resets c.resets → RoseExactly n a.resets c.resets
+resets_on n a b c first then = subst (λ m. RoseExactly m a.resets c.resets) (omega arith) (counted_on n 0 a.resets b.resets c.resets first then)
+
+-- the end of a batch that was taken
+pub lawful_write : (topology : Topology) (before : History) (s : StageNo) (asked : Batch) (with_sink : Bool) (text : List ℕ) (bytes : ℕ) (end : BatchEnd) (old law : Law) → old ≡ law → IsTaken topology before s asked → with_sink ≡ has_sink (spec_of topology s)
+    → text ≡ text_taken topology before s end → IsLawfulEnd old asked with_sink text bytes end → IsLawfulWrite topology before s bytes end law
+lawful_write topology before s asked with_sink text bytes end old law same taken sinks texts lawful = record {
+  asked = asked;
+  taken = taken;
+  lawful =
+      subst (λ t. IsLawfulEnd law asked (has_sink (spec_of topology s)) t bytes end) texts
+      (subst (λ b. IsLawfulEnd law asked b text bytes end) sinks (subst (λ l. IsLawfulEnd l asked with_sink text bytes end) same lawful));
+}
+
+pub callback_done : (topology : Topology) (before : History) (p : Post) (messages : List Message) (replies : List Reply) (a b c : BoxSeen) → p.slot ≡ 0 → messages ≡ chunk_of topology before p.stage → is_live topology before p.stage ≡ true → KeepsCallback topology before p a b
+    → Replies 0 messages replies b c → KeepsCallback topology (Done p.stage replies ∷ before) p a c
+callback_done topology before p messages replies a b c first is live k done = record {
   kept = box_then a b c k.kept done.kept;
   count = counts_done topology before p.stage messages replies b c live k.count done;
   calls = λ own. let own_before : b.kind ≡ Own = sym done.kept.kind ∙ own in
       rw (self_post p first) (rise_more (calls_of before p) (count_by is_passed replies) a.calls b.calls c.calls (k.calls own_before) (done.calls own_before) done.kept.calls);
   bad = λ own. let own_before : b.kind ≡ Own = sym done.kept.kind ∙ own in
       rw (self_post p first) (rise_if (not (list_all is_passed replies)) (bad_of before p) a.bad b.bad c.bad (k.bad own_before) (λ some. done.bad own_before (turned (list_all is_passed replies) some)) done.kept.bad);
+  resets = λ own. let own_before : b.kind ≡ Own = sym done.kept.kind ∙ own in
+      resets_on (resets_of topology before p) a b c (k.resets own_before) (done.resets own_before);
+  lawful = (k.lawful, λ same. subst (λ ms. AreLawful a.law ms replies) is (subst (λ law. AreLawful law messages replies) k.kept.law done.lawful));
 }
   where
     turned : (t : Bool) → not t ≡ true → t ≡ false
     turned true e = cc
     turned false e = refl
 
-pub callback_wrote : (topology : Topology) (before : History) (p : Post) (spec : StageSpec) (bytes : ℕ) (end : BatchEnd) (has_sink : Bool) (messages : List Message) (a b c : BoxSeen) → p.slot ≡ 0 → spec_of topology p.stage ≡ Some spec → messages ≡ batch_of topology before p.stage
-    → is_live topology before p.stage ≡ true → IsArmed topology before p.stage spec b → KeepsCallback topology before p a b → Ends messages bytes end has_sink b c → KeepsCallback topology (Wrote p.stage bytes end ∷ before) p a c
-callback_wrote topology before p spec bytes end has_sink messages a b c first e is live armed k done = record {
+pub callback_wrote : (topology : Topology) (before : History) (p : Post) (spec : StageSpec) (bytes : ℕ) (end : BatchEnd) (with_sink : Bool) (asked : Batch) (a b c : BoxSeen) → p.slot ≡ 0 → spec_of topology p.stage ≡ Some spec → IsTaken topology before p.stage asked
+    → with_sink ≡ has_sink (spec_of topology p.stage) → has_role topology p.stage is_supervisor_role ≡ false → is_live topology before p.stage ≡ true → IsArmed topology before p.stage spec b → KeepsCallback topology before p a b → Ends asked.messages bytes end with_sink b c → IsLawfulEnd b.law asked with_sink (text_by b.kind b asked.messages end) bytes end → c.resets ≡ b.resets
+    → KeepsCallback topology (Wrote p.stage bytes end ∷ before) p a c
+callback_wrote topology before p spec bytes end with_sink asked a b c first e is sinks calm live armed k done lawful resets = record {
   kept = box_then a b c k.kept done.kept;
-  count = counts_wrote topology before p.stage spec bytes end has_sink messages b c e is live armed done;
+  count = counts_wrote topology before p.stage spec bytes end with_sink asked.messages b c e is.messages live armed done;
   calls = λ own. let own_before : b.kind ≡ Own = sym done.kept.kind ∙ own in
       rw (self_post p first) (rise_one (calls_of before p) a.calls b.calls c.calls (k.calls own_before) (done.calls own_before) done.kept.calls);
   bad = λ own. let own_before : b.kind ≡ Own = sym done.kept.kind ∙ own in
       rw (self_post p first) (rise_if (is_bad_end end) (bad_of before p) a.bad b.bad c.bad (k.bad own_before) (λ bad. done.bad own_before bad) done.kept.bad);
+  resets = λ own. subst (λ n. RoseExactly (resets_of topology before p) a.resets n) (sym resets) (k.resets (sym done.kept.kind ∙ own));
+  lawful = (
+    k.lawful,
+    λ same.
+        lawful_write topology before p.stage asked with_sink (text_by b.kind b asked.messages end) bytes end b.law a.law k.kept.law is sinks
+        (text_is_taken topology before p.stage end spec asked.messages b e calm (is_present topology before p.stage live) is.messages armed) lawful,
+  );
 }
 
-pub callback_child : (topology : Topology) (before : History) (p : Post) (message : Message) (reply : Reply) (a b c : BoxSeen) → has_role topology p.stage is_supervisor_role ≡ true → KeepsCallback topology before p a b → Replies (message ∷ []) (reply ∷ []) (reset b) c
+pub callback_child : (topology : Topology) (before : History) (p : Post) (message : Message) (reply : Reply) (a b c : BoxSeen) → has_role topology p.stage is_supervisor_role ≡ true → message ∷ [] ≡ child_of before p.stage p.slot → KeepsCallback topology before p a b → Replies 1 (message ∷ []) (reply ∷ []) (reset b) c
     → KeepsCallback topology (ChildEnd p.stage p.slot reply ∷ before) p a c
-callback_child topology before p message reply a b c child k done = record {
+callback_child topology before p message reply a b c child is k done = record {
   kept = box_then a b c k.kept (box_reset b c done.kept);
   count = λ own calm live. clash (has_role topology p.stage is_supervisor_role) child calm;
   calls = λ own. let own_before : b.kind ≡ Own = sym done.kept.kind ∙ own in
       rw (same_post-self p) (subst (λ n. RoseBy n a.calls c.calls) (one_passed reply (calls_of before p)) (rise_more (calls_of before p) (count_by is_passed (reply ∷ [])) a.calls b.calls c.calls (k.calls own_before) (done.calls own_before) done.kept.calls));
   bad = λ own. let own_before : b.kind ≡ Own = sym done.kept.kind ∙ own in
       rw (same_post-self p) (rise_if (not (is_passed reply)) (bad_of before p) a.bad b.bad c.bad (k.bad own_before) (λ some. done.bad own_before (turned (is_passed reply) some)) done.kept.bad);
+  resets = λ own. let own_before : b.kind ≡ Own = sym done.kept.kind ∙ own in
+      rw (same_post-self p) (counted_on (resets_of topology before p) 1 a.resets b.resets c.resets (k.resets own_before) (done.resets own_before));
+  lawful = (k.lawful, λ same. subst (λ ms. AreLawful a.law ms (reply ∷ [])) is (subst (λ law. AreLawful law (message ∷ []) (reply ∷ [])) k.kept.law done.lawful));
 }
   where
     turned : (t : Bool) → not t ≡ true → (t && true) ≡ false

@@ -1,8 +1,9 @@
 -- The bodies of posts when their jobs begin, and what answers leave of them.
-use Rattle.std.proofs.Common.{◌≡◌, ℕ, List, [], ◌∷◌, take, Bool, true, false, refl, ap, sym, ◌∙◌, subst, Some, None, Option}
+use Rattle.std.proofs.Common.{◌≡◌, ℕ, List, [], ◌∷◌, Bool, true, false, refl, ap, sym, ◌∙◌, subst, Some, None, Option}
 use Rattle.std.specs.Prelude.{not, IsSome, is_some, ◌||◌, IfSome}
 use Rattle.pipe_types.specs.declared.numbers.StageNo.{StageNo}
 use Rattle.pipe_types.specs.declared.numbers.Post.{Post}
+use Rattle.pipe_types.specs.declared.message.Batch.{Batch}
 use Rattle.pipe_types.specs.declared.message.Message.{Message}
 use Rattle.pipe_types.specs.declared.message.Reply.{Reply}
 use Rattle.pipe_types.specs.declared.message.BatchEnd.{BatchEnd}
@@ -19,25 +20,28 @@ use Rattle.pipe_model.specs.History.{History}
 use Rattle.pipe_model.specs.Lives.{is_live, restarts}
 use Rattle.pipe_model.specs.Posts.{puts_out, answers, is_out}
 use Rattle.pipe_model.specs.Outside.{fed, source_end, sink_text}
-use Rattle.pipe_model.specs.Work.{count, batch_of}
+use Rattle.pipe_model.specs.Taken.{IsTaken}
+use Rattle.pipe_model.specs.Work.{count, batch_of, chunk_of, child_of}
 use Rattle.pipe_model.specs.Legal.{fetch_out, is_legal, allows, has_role, has_ended, is_producer_role, is_processor_role, is_supervisor_role, is_batch_processor_role}
 use Rattle.pipe_laws.proofs.Tests.{clash, and_left, and_right, not_true, same_stage-self}
 use Rattle.pipe_laws.proofs.Allowed.{legal_step, unowed, take_facts, child_facts}
 use Rattle.pipe_laws.specs.Read.{quiets}
 use Rattle.stage_bodies.specs.Seen.{LineSeen, SinkSeen, BoxSeen, BodySeen}
 use Rattle.stage_bodies.specs.Jobs.{Both, KeepsBox, Fetches, EndsIn, Writes, IsDone, IsCutOff, records_of, text_by, Fits}
-use Rattle.stage_bodies.specs.Posts.{place_at, IsWorkOf, step_of}
+use Rattle.stage_bodies.specs.Posts.{place_at, IsWorkOf, step_of, brings_records}
 use Rattle.stage_bodies.specs.declared.job.Work.{Work}
 use Rattle.stage_bodies.specs.declared.job.Work.TheVariants as work
 use Rattle.stage_bodies.specs.declared.job.Outcome.{Outcome as Came}
 use Rattle.stage_bodies.specs.declared.job.Outcome.TheVariants as came
-use Rattle.body_laws.specs.Counts.{short_writes, calls_of, bad_of}
+use Rattle.stage_callback.specs.Laws.{Law}
+use Rattle.body_laws.specs.Counts.{short_writes, calls_of, bad_of, resets_of}
+use Rattle.body_laws.specs.Lawful.{has_sink, AreLawfulAnswers}
 use Rattle.body_laws.specs.Keeps.{has_post, is_silent, KeepsSource, KeepsSink, KeepsCallback, KeepsBody, KeepsPartly, KeepsPost, Keeps}
 use Rattle.body_laws.specs.Ready.{There, IsArmed, IsBodyFor, IsBodyAt, Ready}
 use Rattle.body_laws.proofs.Posts.{same_post-true, some_role, put_has_post}
 use Rattle.body_laws.proofs.Steps.{writers_alone, stays, is_present}
 use Rattle.body_laws.proofs.Staying.{both_map, both_then, there_map, Quietly, post_stays, ready_stays}
-use Rattle.body_laws.proofs.Answering.{source_reads, source_accepts, source_rests, source_ends, sink_writes, sink_wrote, text_is_taken, callback_done, callback_wrote, callback_child, counts_done, counts_wrote, box_then, box_reset}
+use Rattle.body_laws.proofs.Answering.{source_reads, source_accepts, source_rests, source_ends, sink_wrote, text_is_taken, callback_done, callback_wrote, callback_child, counts_done, counts_wrote, box_then}
 
 -- ---- silent steps
 
@@ -195,21 +199,29 @@ batch_armed topology before p body h fit =
     let f = fit_of topology before p is_batch_processor_role body h fit in
     record { spec = f.spec; is = f.is; box = (batch_for topology before p.stage f.spec f.spec.role body f.role f.holds).0 }
 
+-- a batch processor writes to a sink where its spec names one
+pub sinks_as : (topology : Topology) (before : History) (p : Post) (body : BodySeen) → has_role topology p.stage is_batch_processor_role ≡ true → IsBodyAt topology before p body → is_some body.sink ≡ has_sink (spec_of topology p.stage)
+sinks_as topology before p body h fit =
+    let f = fit_of topology before p is_batch_processor_role body h fit in
+    (batch_for topology before p.stage f.spec f.spec.role body f.role f.holds).1 ∙ ap has_sink (sym f.is)
+
 -- ---- what the journal says as before, after another step
 
 pub source_as : (h h' : History) (s : StageNo) (a b : LineSeen) → fed h' s ≡ fed h s → source_end h' s ≡ source_end h s → quiets h' s ≡ quiets h s → KeepsSource h s [] a b → KeepsSource h' s [] a b
 source_as h h' s a b e f g k = record { read = rw e k.read; known = rw f k.known; quiet = rw g k.quiet }
 
-pub sink_as : (topology : Topology) (h h' : History) (s : StageNo) (a b : SinkSeen) → sink_text topology h' s ≡ sink_text topology h s → short_writes topology h' s ≡ short_writes topology h s → KeepsSink topology h s [] a b → KeepsSink topology h' s [] a b
+pub sink_as : (topology : Topology) (h h' : History) (s : StageNo) (a b : SinkSeen) → sink_text topology h' s ≡ sink_text topology h s → short_writes topology h' s ≡ short_writes topology h s → KeepsSink topology h s a b → KeepsSink topology h' s a b
 sink_as topology h h' s a b e f k = record { told = k.told; held = λ t. rw e (k.held t); faults_stay = k.faults_stay; short = rw f k.short }
 
 callback_as : (topology : Topology) (h h' : History) (p : Post) (a b : BoxSeen) → count topology h' p.stage ≡ count topology h p.stage → ((is_live topology h' p.stage || is_out h' (post p.stage 0)) ≡ true → (is_live topology h p.stage || is_out h (post p.stage 0)) ≡ true) → calls_of h' p ≡ calls_of h p → bad_of h' p ≡ bad_of h p
-    → KeepsCallback topology h p a b → KeepsCallback topology h' p a b
-callback_as topology h h' p a b e l f g k = record {
+    → resets_of topology h' p ≡ resets_of topology h p → ((law : Law) → AreLawfulAnswers topology h p law → AreLawfulAnswers topology h' p law) → KeepsCallback topology h p a b → KeepsCallback topology h' p a b
+callback_as topology h h' p a b e l f g i lawful k = record {
   kept = k.kept;
   count = λ own calm now. k.count own calm (l now) ∙ sym e;
   calls = λ own. rw f (k.calls own);
   bad = λ own. rw g (k.bad own);
+  resets = λ own. rw i (k.resets own);
+  lawful = lawful a.law k.lawful;
 }
 
 -- ---- no other answers
@@ -225,68 +237,68 @@ fetched_body : (topology : Topology) (before : History) (p : Post) (most : ℕ) 
     → KeepsBody topology (step_of p o ∷ before) p a new
 fetched_body topology before p most (came.Records records) a old new live is there done k = record {
   source = both_then (λ x y z h f. source_accepts before (Accept p.stage records ∷ before) p.stage most records x y z (rw (same_stage-self p.stage) refl) refl refl h f) a.source old.source new.source k.source done.0;
-  sink = subst (λ x. Both (KeepsSink topology (Accept p.stage records ∷ before) p.stage []) a.sink x) (sym done.1) (both_map (λ x y h. sink_as topology before (Accept p.stage records ∷ before) p.stage x y refl refl h) a.sink old.sink k.sink);
-  callback = subst (λ x. Both (KeepsCallback topology (Accept p.stage records ∷ before) p) a.callback x) (sym done.2) (both_map (λ x y h. callback_as topology before (Accept p.stage records ∷ before) p x y refl (λ now. is_present topology before p.stage live) refl refl h) a.callback old.callback k.callback);
+  sink = subst (λ x. Both (KeepsSink topology (Accept p.stage records ∷ before) p.stage) a.sink x) (sym done.1) (both_map (λ x y h. sink_as topology before (Accept p.stage records ∷ before) p.stage x y refl refl h) a.sink old.sink k.sink);
+  callback = subst (λ x. Both (KeepsCallback topology (Accept p.stage records ∷ before) p) a.callback x) (sym done.2) (both_map (λ x y h. callback_as topology before (Accept p.stage records ∷ before) p x y refl (λ now. is_present topology before p.stage live) refl refl refl (λ law are. (are, tt)) h) a.callback old.callback k.callback);
 }
 fetched_body topology before p most came.NotYet a old new live is there done k = record {
   source = both_then (λ x y z h f. source_rests before (Quiet p.stage ∷ before) p.stage most x y z refl refl (rw (same_stage-self p.stage) refl) h f) a.source old.source new.source k.source done.0;
-  sink = subst (λ x. Both (KeepsSink topology (Quiet p.stage ∷ before) p.stage []) a.sink x) (sym done.1) (both_map (λ x y h. sink_as topology before (Quiet p.stage ∷ before) p.stage x y refl refl h) a.sink old.sink k.sink);
-  callback = subst (λ x. Both (KeepsCallback topology (Quiet p.stage ∷ before) p) a.callback x) (sym done.2) (both_map (λ x y h. callback_as topology before (Quiet p.stage ∷ before) p x y refl (λ now. is_present topology before p.stage live) refl refl h) a.callback old.callback k.callback);
+  sink = subst (λ x. Both (KeepsSink topology (Quiet p.stage ∷ before) p.stage) a.sink x) (sym done.1) (both_map (λ x y h. sink_as topology before (Quiet p.stage ∷ before) p.stage x y refl refl h) a.sink old.sink k.sink);
+  callback = subst (λ x. Both (KeepsCallback topology (Quiet p.stage ∷ before) p) a.callback x) (sym done.2) (both_map (λ x y h. callback_as topology before (Quiet p.stage ∷ before) p x y refl (λ now. is_present topology before p.stage live) refl refl refl (λ law are. (are, tt)) h) a.callback old.callback k.callback);
 }
 fetched_body topology before p most (came.Ended h) a old new live is there done k = record {
   source = both_then (λ x y z k f. source_ends before (SourceEnd p.stage h ∷ before) p.stage most h x y z refl (rw (same_stage-self p.stage) refl) refl k f) a.source old.source new.source k.source done.0;
-  sink = subst (λ x. Both (KeepsSink topology (SourceEnd p.stage h ∷ before) p.stage []) a.sink x) (sym done.1) (both_map (λ x y k. sink_as topology before (SourceEnd p.stage h ∷ before) p.stage x y refl refl k) a.sink old.sink k.sink);
-  callback = subst (λ x. Both (KeepsCallback topology (SourceEnd p.stage h ∷ before) p) a.callback x) (sym done.2) (both_map (λ x y k. callback_as topology before (SourceEnd p.stage h ∷ before) p x y refl (λ now. is_present topology before p.stage live) refl refl k) a.callback old.callback k.callback);
+  sink = subst (λ x. Both (KeepsSink topology (SourceEnd p.stage h ∷ before) p.stage) a.sink x) (sym done.1) (both_map (λ x y k. sink_as topology before (SourceEnd p.stage h ∷ before) p.stage x y refl refl k) a.sink old.sink k.sink);
+  callback = subst (λ x. Both (KeepsCallback topology (SourceEnd p.stage h ∷ before) p) a.callback x) (sym done.2) (both_map (λ x y k. callback_as topology before (SourceEnd p.stage h ∷ before) p x y refl (λ now. is_present topology before p.stage live) refl refl refl (λ law are. (are, tt)) k) a.callback old.callback k.callback);
 }
 fetched_body topology before p most (came.Replies replies) a old new live is there done k = absurd (no_fetch most (came.Replies replies) old.source new.source (λ b c f. f.answer) there done.0)
 fetched_body topology before p most (came.Wrote bytes end) a old new live is there done k = absurd (no_fetch most (came.Wrote bytes end) old.source new.source (λ b c f. f.answer) there done.0)
 fetched_body topology before p most (came.Reply reply) a old new live is there done k = absurd (no_fetch most (came.Reply reply) old.source new.source (λ b c f. f.answer) there done.0)
 
-chunk_body : (topology : Topology) (before : History) (p : Post) (messages : List Message) (replies : List Reply) (a old new : BodySeen) → p.slot ≡ 0 → is_live topology before p.stage ≡ true → IsDone (work.Chunk messages) (came.Replies replies) old new → KeepsBody topology before p a old
+chunk_body : (topology : Topology) (before : History) (p : Post) (messages : List Message) (replies : List Reply) (a old new : BodySeen) → p.slot ≡ 0 → messages ≡ chunk_of topology before p.stage → is_live topology before p.stage ≡ true → IsDone (work.Chunk messages) (came.Replies replies) old new → KeepsBody topology before p a old
     → KeepsBody topology (Done p.stage replies ∷ before) p a new
-chunk_body topology before p messages replies a old new first live done k = record {
+chunk_body topology before p messages replies a old new first is live done k = record {
   source = subst (λ x. Both (KeepsSource (Done p.stage replies ∷ before) p.stage []) a.source x) (sym done.1) (both_map (λ x y h. source_as before (Done p.stage replies ∷ before) p.stage x y refl refl refl h) a.source old.source k.source);
-  sink = subst (λ x. Both (KeepsSink topology (Done p.stage replies ∷ before) p.stage []) a.sink x) (sym done.2) (both_map (λ x y h. sink_as topology before (Done p.stage replies ∷ before) p.stage x y refl refl h) a.sink old.sink k.sink);
-  callback = both_then (λ x y z h f. callback_done topology before p messages replies x y z first live h f) a.callback old.callback new.callback k.callback done.0;
+  sink = subst (λ x. Both (KeepsSink topology (Done p.stage replies ∷ before) p.stage) a.sink x) (sym done.2) (both_map (λ x y h. sink_as topology before (Done p.stage replies ∷ before) p.stage x y refl refl h) a.sink old.sink k.sink);
+  callback = both_then (λ x y z h f. callback_done topology before p messages replies x y z first is live h f) a.callback old.callback new.callback k.callback done.0;
 }
 
-child_body : (topology : Topology) (before : History) (p : Post) (message : Message) (reply : Reply) (a old new : BodySeen) → has_role topology p.stage is_supervisor_role ≡ true → IsDone (work.Child message) (came.Reply reply) old new → KeepsBody topology before p a old
+child_body : (topology : Topology) (before : History) (p : Post) (message : Message) (reply : Reply) (a old new : BodySeen) → has_role topology p.stage is_supervisor_role ≡ true → message ∷ [] ≡ child_of before p.stage p.slot → IsDone (work.Child message) (came.Reply reply) old new → KeepsBody topology before p a old
     → KeepsBody topology (ChildEnd p.stage p.slot reply ∷ before) p a new
-child_body topology before p message reply a old new child done k = record {
+child_body topology before p message reply a old new child is done k = record {
   source = subst (λ x. Both (KeepsSource (ChildEnd p.stage p.slot reply ∷ before) p.stage []) a.source x) (sym done.1) (both_map (λ x y h. source_as before (ChildEnd p.stage p.slot reply ∷ before) p.stage x y refl refl refl h) a.source old.source k.source);
-  sink = subst (λ x. Both (KeepsSink topology (ChildEnd p.stage p.slot reply ∷ before) p.stage []) a.sink x) (sym done.2) (both_map (λ x y h. sink_as topology before (ChildEnd p.stage p.slot reply ∷ before) p.stage x y refl refl h) a.sink old.sink k.sink);
-  callback = both_then (λ x y z h f. callback_child topology before p message reply x y z child h f) a.callback old.callback new.callback k.callback done.0;
+  sink = subst (λ x. Both (KeepsSink topology (ChildEnd p.stage p.slot reply ∷ before) p.stage) a.sink x) (sym done.2) (both_map (λ x y h. sink_as topology before (ChildEnd p.stage p.slot reply ∷ before) p.stage x y refl refl h) a.sink old.sink k.sink);
+  callback = both_then (λ x y z h f. callback_child topology before p message reply x y z child is h f) a.callback old.callback new.callback k.callback done.0;
 }
 
 -- the sink and the callback of a batch
-batch_sink : (topology : Topology) (before : History) (s : StageNo) (spec : StageSpec) (messages : List Message) (bytes : ℕ) (end : BatchEnd) (old new : BodySeen) (a : Option SinkSeen) (x y : Option BoxSeen) → spec_of topology s ≡ Some spec → has_role topology s is_supervisor_role ≡ false → is_live topology before s ≡ true
-    → messages ≡ batch_of topology before s → There x (IsArmed topology before s spec) → Both (EndsIn messages bytes end old new) x y → Both (KeepsSink topology before s []) a old.sink → Both (KeepsSink topology (Wrote s bytes end ∷ before) s []) a new.sink
-batch_sink topology before s spec messages bytes end old new a (Some b) (Some c) e calm live is armed done k =
-    both_then (λ x y z h w. sink_wrote topology before (Wrote s bytes end ∷ before) s bytes (text_by b.kind b messages end) end x y z (rw (same_stage-self s) refl) (rw (same_stage-self s) refl) (text_is_taken topology before s end spec messages b e calm (is_present topology before s live) is armed) h w) a old.sink new.sink k done.1
-batch_sink topology before s spec messages bytes end old new a (Some b) None e calm live is armed done k = absurd done
-batch_sink topology before s spec messages bytes end old new a None y e calm live is armed done k = absurd armed
+batch_sink : (topology : Topology) (before : History) (s : StageNo) (spec : StageSpec) (asked : Batch) (bytes : ℕ) (end : BatchEnd) (old new : BodySeen) (a : Option SinkSeen) (x y : Option BoxSeen) → spec_of topology s ≡ Some spec → has_role topology s is_supervisor_role ≡ false → is_live topology before s ≡ true
+    → asked.messages ≡ batch_of topology before s → There x (IsArmed topology before s spec) → Both (EndsIn asked bytes end old new) x y → Both (KeepsSink topology before s) a old.sink → Both (KeepsSink topology (Wrote s bytes end ∷ before) s) a new.sink
+batch_sink topology before s spec asked bytes end old new a (Some b) (Some c) e calm live is armed done k =
+    both_then (λ x y z h w. sink_wrote topology before (Wrote s bytes end ∷ before) s bytes (text_by b.kind b asked.messages end) end x y z (rw (same_stage-self s) refl) (rw (same_stage-self s) refl) (text_is_taken topology before s end spec asked.messages b e calm (is_present topology before s live) is armed) h w) a old.sink new.sink k done.1
+batch_sink topology before s spec asked bytes end old new a (Some b) None e calm live is armed done k = absurd done
+batch_sink topology before s spec asked bytes end old new a None y e calm live is armed done k = absurd armed
 
-batch_callback : (topology : Topology) (before : History) (p : Post) (spec : StageSpec) (messages : List Message) (bytes : ℕ) (end : BatchEnd) (old new : BodySeen) (a x y : Option BoxSeen) → p.slot ≡ 0 → spec_of topology p.stage ≡ Some spec
-    → messages ≡ batch_of topology before p.stage → is_live topology before p.stage ≡ true → There x (IsArmed topology before p.stage spec) → Both (EndsIn messages bytes end old new) x y → Both (KeepsCallback topology before p) a x → Both (KeepsCallback topology (Wrote p.stage bytes end ∷ before) p) a y
-batch_callback topology before p spec messages bytes end old new (Some a) (Some b) (Some c) first e is live armed done k = callback_wrote topology before p spec bytes end (is_some old.sink) messages a b c first e is live armed k done.0
-batch_callback topology before p spec messages bytes end old new None (Some b) (Some c) first e is live armed done k = absurd k
-batch_callback topology before p spec messages bytes end old new a (Some b) None first e is live armed done k = absurd done
-batch_callback topology before p spec messages bytes end old new a None y first e is live armed done k = absurd armed
+batch_callback : (topology : Topology) (before : History) (p : Post) (spec : StageSpec) (asked : Batch) (bytes : ℕ) (end : BatchEnd) (old new : BodySeen) (a x y : Option BoxSeen) → p.slot ≡ 0 → spec_of topology p.stage ≡ Some spec
+    → IsTaken topology before p.stage asked → is_some old.sink ≡ has_sink (spec_of topology p.stage) → has_role topology p.stage is_supervisor_role ≡ false → is_live topology before p.stage ≡ true → There x (IsArmed topology before p.stage spec) → Both (EndsIn asked bytes end old new) x y → Both (KeepsCallback topology before p) a x → Both (KeepsCallback topology (Wrote p.stage bytes end ∷ before) p) a y
+batch_callback topology before p spec asked bytes end old new (Some a) (Some b) (Some c) first e is sinks calm live armed done k = callback_wrote topology before p spec bytes end (is_some old.sink) asked a b c first e is sinks calm live armed k done.0 done.2 done.3
+batch_callback topology before p spec asked bytes end old new None (Some b) (Some c) first e is sinks calm live armed done k = absurd k
+batch_callback topology before p spec asked bytes end old new a (Some b) None first e is sinks calm live armed done k = absurd done
+batch_callback topology before p spec asked bytes end old new a None y first e is sinks calm live armed done k = absurd armed
 
 pub answered_body : (topology : Topology) (before : History) (p : Post) (w : Work) (o : Came) (a old new : BodySeen) → is_live topology before p.stage ≡ true → IsWorkOf topology before p w → IsBodyAt topology before p old → IsDone w o old new
     → KeepsBody topology before p a old → KeepsBody topology (step_of p o ∷ before) p a new
 answered_body topology before p (work.Fetch most) o a old new live is fit done k = fetched_body topology before p most o a old new live is.1 (source_there topology before p old is.0 fit) done k
-answered_body topology before p (work.Chunk messages) (came.Replies replies) a old new live is fit done k = chunk_body topology before p messages replies a old new is.2 live done k
+answered_body topology before p (work.Chunk messages) (came.Replies replies) a old new live is fit done k = chunk_body topology before p messages replies a old new is.2 is.1 live done k
 answered_body topology before p (work.Chunk messages) o a old new live is fit done k = absurd done
 answered_body topology before p (work.Batch batch) (came.Wrote bytes end) a old new live is fit done k =
     let f = batch_armed topology before p old is.0 fit in
     record {
       source = subst (λ x. Both (KeepsSource (Wrote p.stage bytes end ∷ before) p.stage []) a.source x) (sym done.1) (both_map (λ x y h. source_as before (Wrote p.stage bytes end ∷ before) p.stage x y refl refl refl h) a.source old.source k.source);
-      sink = batch_sink topology before p.stage f.spec batch.messages bytes end old new a.sink old.callback new.callback f.is (writers_alone topology p.stage is.0) live is.1.messages f.box done.0 k.sink;
-      callback = batch_callback topology before p f.spec batch.messages bytes end old new a.callback old.callback new.callback is.2 f.is is.1.messages live f.box done.0 k.callback;
+      sink = batch_sink topology before p.stage f.spec batch bytes end old new a.sink old.callback new.callback f.is (writers_alone topology p.stage is.0) live is.1.messages f.box done.0 k.sink;
+      callback = batch_callback topology before p f.spec batch bytes end old new a.callback old.callback new.callback is.2 f.is is.1 (sinks_as topology before p old is.0 fit) (writers_alone topology p.stage is.0) live f.box done.0 k.callback;
     }
 answered_body topology before p (work.Batch batch) o a old new live is fit done k = absurd done
-answered_body topology before p (work.Child message) (came.Reply reply) a old new live is fit done k = child_body topology before p message reply a old new is.0 done k
+answered_body topology before p (work.Child message) (came.Reply reply) a old new live is fit done k = child_body topology before p message reply a old new is.0 is.1 done k
 answered_body topology before p (work.Child message) o a old new live is fit done k = absurd done
 
 -- ---- what it holds then
@@ -307,10 +319,10 @@ armed_after topology h h' s spec (Some b) (Some c) f k armed = f b c k armed
 armed_after topology h h' s spec (Some b) None f k armed = absurd k
 armed_after topology h h' s spec None y f k armed = absurd armed
 
-pub sink_same : (messages : List Message) (bytes : ℕ) (end : BatchEnd) (old new : BodySeen) (x y : Option BoxSeen) → IsSome x → Both (EndsIn messages bytes end old new) x y → is_some new.sink ≡ is_some old.sink
-sink_same messages bytes end old new (Some b) (Some c) h k = some_same (Writes bytes (text_by b.kind b messages end)) old.sink new.sink k.1
-sink_same messages bytes end old new (Some b) None h k = absurd k
-sink_same messages bytes end old new None y h k = let x : false ≡ true = h in cc
+pub sink_same : (asked : Batch) (bytes : ℕ) (end : BatchEnd) (old new : BodySeen) (x y : Option BoxSeen) → IsSome x → Both (EndsIn asked bytes end old new) x y → is_some new.sink ≡ is_some old.sink
+sink_same asked bytes end old new (Some b) (Some c) h k = some_same (Writes bytes (text_by b.kind b asked.messages end)) old.sink new.sink k.1
+sink_same asked bytes end old new (Some b) None h k = absurd k
+sink_same asked bytes end old new None y h k = let x : false ≡ true = h in cc
 
 pub there_some : {A : Type 0} (P : A → Type 0) (x : Option A) → There x P → IsSome x
 there_some P (Some a) h = refl
@@ -341,7 +353,7 @@ answered_fit topology before p (work.Batch batch) (came.Wrote bytes end) old new
       armed_after topology before (Wrote p.stage bytes end ∷ before) p.stage f.spec old.callback new.callback
           (λ b c d armed. record { spec = d.0.kept.spec ∙ armed.spec; kind = d.0.kept.kind ∙ armed.kind; count = counts_wrote topology before p.stage f.spec bytes end (is_some old.sink) batch.messages b c f.is is.1.messages live armed d.0 })
           done.0 holds.0,
-      sink_same batch.messages bytes end old new old.callback new.callback (there_some (IsArmed topology before p.stage f.spec) old.callback holds.0) done.0 ∙ holds.1,
+      sink_same batch bytes end old new old.callback new.callback (there_some (IsArmed topology before p.stage f.spec) old.callback holds.0) done.0 ∙ holds.1,
     ))
 answered_fit topology before p (work.Batch batch) o old new live is fit done = absurd done
 answered_fit topology before p (work.Child message) (came.Reply reply) old new live is fit done =
@@ -353,46 +365,27 @@ answered_fit topology before p (work.Child message) (came.Reply reply) old new l
     done.0 (child_for topology before p.stage f.spec f.spec.role old f.role f.holds)))
 answered_fit topology before p (work.Child message) o old new live is fit done = absurd done
 
--- ---- the body with an answer that the journal does not have
+-- ---- the body that brought records which the journal does not have
 
-batch_part : (topology : Topology) (before : History) (s : StageNo) (messages : List Message) (bytes : ℕ) (end : BatchEnd) (old new : BodySeen) (a : Option SinkSeen) (x y : Option BoxSeen) → IsSome x → Both (EndsIn messages bytes end old new) x y → Both (KeepsSink topology before s []) a old.sink
-    → Both (λ b c. (more : List ℕ) × KeepsSink topology before s more b c) a new.sink
-batch_part topology before s messages bytes end old new a (Some b) (Some c) h done k =
-    both_then (λ x y z h w. (take bytes (text_by b.kind b messages end), sink_writes topology before s bytes (text_by b.kind b messages end) x y z h w)) a old.sink new.sink k done.1
-batch_part topology before s messages bytes end old new a (Some b) None h done k = absurd done
-batch_part topology before s messages bytes end old new a None y h done k = let x : false ≡ true = h in cc
-
-pub unrecorded_body : (topology : Topology) (before : History) (p : Post) (w : Work) (o : Came) (a old new : BodySeen) → IsWorkOf topology before p w → IsBodyAt topology before p old → IsDone w o old new → KeepsBody topology before p a old → KeepsPartly topology before p a new
-unrecorded_body topology before p (work.Fetch most) o a old new is fit done k = record {
+pub unrecorded_body : (topology : Topology) (before : History) (p : Post) (w : Work) (o : Came) (a old new : BodySeen) → brings_records o ≡ true → IsDone w o old new → KeepsBody topology before p a old → KeepsPartly topology before p a new
+unrecorded_body topology before p (work.Fetch most) o a old new brings done k = record {
   source = both_then (λ x y z h f. (records_of o, source_reads before p.stage (records_of o) x y z h f.reads f.end_stays)) a.source old.source new.source k.source done.0;
-  sink = subst (λ x. Both (λ b c. (more : List ℕ) × KeepsSink topology before p.stage more b c) a.sink x) (sym done.1) (both_map (λ x y h. ([], h)) a.sink old.sink k.sink);
+  sink = subst (Both (KeepsSink topology before p.stage) a.sink) (sym done.1) k.sink;
   callback = subst (λ x. Both KeepsBox a.callback x) (sym done.2) (both_map (λ x y h. h.kept) a.callback old.callback k.callback);
 }
-unrecorded_body topology before p (work.Chunk messages) (came.Replies replies) a old new is fit done k = record {
-  source = subst (λ x. Both (λ b c. (lost : List (List ℕ)) × KeepsSource before p.stage lost b c) a.source x) (sym done.1) (both_map (λ x y h. ([], h)) a.source old.source k.source);
-  sink = subst (λ x. Both (λ b c. (more : List ℕ) × KeepsSink topology before p.stage more b c) a.sink x) (sym done.2) (both_map (λ x y h. ([], h)) a.sink old.sink k.sink);
-  callback = both_then (λ x y z h f. box_then x y z h.kept f.kept) a.callback old.callback new.callback k.callback done.0;
-}
-unrecorded_body topology before p (work.Chunk messages) o a old new is fit done k = absurd done
-unrecorded_body topology before p (work.Batch batch) (came.Wrote bytes end) a old new is fit done k = record {
-  source = subst (λ x. Both (λ b c. (lost : List (List ℕ)) × KeepsSource before p.stage lost b c) a.source x) (sym done.1) (both_map (λ x y h. ([], h)) a.source old.source k.source);
-  sink = batch_part topology before p.stage batch.messages bytes end old new a.sink old.callback new.callback (there_some (IsArmed topology before p.stage (batch_armed topology before p old is.0 fit).spec) old.callback (batch_armed topology before p old is.0 fit).box) done.0 k.sink;
-  callback = both_then (λ x y z h f. box_then x y z h.kept f.0.kept) a.callback old.callback new.callback k.callback done.0;
-}
-unrecorded_body topology before p (work.Batch batch) o a old new is fit done k = absurd done
-unrecorded_body topology before p (work.Child message) (came.Reply reply) a old new is fit done k = record {
-  source = subst (λ x. Both (λ b c. (lost : List (List ℕ)) × KeepsSource before p.stage lost b c) a.source x) (sym done.1) (both_map (λ x y h. ([], h)) a.source old.source k.source);
-  sink = subst (λ x. Both (λ b c. (more : List ℕ) × KeepsSink topology before p.stage more b c) a.sink x) (sym done.2) (both_map (λ x y h. ([], h)) a.sink old.sink k.sink);
-  callback = both_then (λ x y z h f. box_then x y z h.kept (box_reset y z f.kept)) a.callback old.callback new.callback k.callback done.0;
-}
-unrecorded_body topology before p (work.Child message) o a old new is fit done k = absurd done
+unrecorded_body topology before p (work.Chunk messages) (came.Records records) a old new brings done k = absurd done
+unrecorded_body topology before p (work.Chunk messages) o a old new brings done k = let x : false ≡ true = brings in cc
+unrecorded_body topology before p (work.Batch batch) (came.Records records) a old new brings done k = absurd done
+unrecorded_body topology before p (work.Batch batch) o a old new brings done k = let x : false ≡ true = brings in cc
+unrecorded_body topology before p (work.Child message) (came.Records records) a old new brings done k = absurd done
+unrecorded_body topology before p (work.Child message) o a old new brings done k = let x : false ≡ true = brings in cc
 
 -- ---- the body after want of memory
 
 pub cut_body : (topology : Topology) (before : History) (p : Post) (a old new : BodySeen) → IsCutOff old new → KeepsBody topology before p a old → KeepsPartly topology before p a new
 cut_body topology before p a old new cut k = record {
   source = both_then (λ x y z h f. ([], source_reads before p.stage [] x y z h f.0 f.1)) a.source old.source new.source k.source cut.source;
-  sink = subst (λ x. Both (λ b c. (more : List ℕ) × KeepsSink topology before p.stage more b c) a.sink x) (sym cut.sink) (both_map (λ x y h. ([], h)) a.sink old.sink k.sink);
+  sink = subst (Both (KeepsSink topology before p.stage) a.sink) (sym cut.sink) k.sink;
   callback = both_then (λ x y z h f. box_then x y z h.kept f) a.callback old.callback new.callback k.callback cut.callback;
 }
 

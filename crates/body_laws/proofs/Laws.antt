@@ -16,7 +16,7 @@ use Rattle.pipe_laws.proofs.Tests.{clash, same_stage-self}
 use Rattle.pipe_laws.proofs.Allowed.{legal_before}
 use Rattle.stage_bodies.specs.Seen.{BodySeen}
 use Rattle.stage_bodies.specs.Jobs.{Both, IsDone, IsCutOff}
-use Rattle.stage_bodies.specs.Posts.{place_at, IsWorkOf, IsOutNow, IsJobOf, step_of}
+use Rattle.stage_bodies.specs.Posts.{place_at, IsWorkOf, IsOutNow, IsJobOf, step_of, brings_records}
 use Rattle.stage_bodies.specs.declared.job.Answer.{Answer}
 use Rattle.stage_bodies.specs.declared.job.Job.{Job}
 use Rattle.stage_bodies.specs.declared.job.Work.{Work}
@@ -67,12 +67,12 @@ cut_keeps topology before p old new opened now after sound out cut stood moved k
     keeps_back topology before p new opened now after sound out.slot (out_now topology before p out) moved
     (both_part topology before p (opened (place_at p)) old new (λ a k. cut_body topology before p a old new cut k) stood) keeps
 
-pub unrecorded_keeps : (topology : Topology) (before : History) (job : Job) (o : Came) (old new : BodySeen) (opened now after : ℕ → Option BodySeen) → IsSound topology → IsJobOf topology before job → IsBodyAt topology before job.post old
-    → IsDone job.work o old new → Both (KeepsBody topology before job.post) (opened (place_at job.post)) (Some old) → ((s : ℕ) → after s ≡ (if place_at job.post == s then Some new else now s))
+pub unrecorded_keeps : (topology : Topology) (before : History) (job : Job) (o : Came) (old new : BodySeen) (opened now after : ℕ → Option BodySeen) → IsSound topology → IsJobOf topology before job
+    → brings_records o ≡ true → IsDone job.work o old new → Both (KeepsBody topology before job.post) (opened (place_at job.post)) (Some old) → ((s : ℕ) → after s ≡ (if place_at job.post == s then Some new else now s))
     → Keeps topology before opened now → Keeps topology before opened after
-unrecorded_keeps topology before job o old new opened now after sound is fit done stood moved keeps =
+unrecorded_keeps topology before job o old new opened now after sound is brings done stood moved keeps =
     keeps_back topology before job.post new opened now after sound is.out.slot (out_now topology before job.post is.out) moved
-    (both_part topology before job.post (opened (place_at job.post)) old new (λ a k. unrecorded_body topology before job.post job.work o a old new is.work fit done k) stood) keeps
+    (both_part topology before job.post (opened (place_at job.post)) old new (λ a k. unrecorded_body topology before job.post job.work o a old new brings done k) stood) keeps
 
 -- ---- it comes back with an answer that the journal has
 

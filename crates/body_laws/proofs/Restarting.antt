@@ -18,10 +18,12 @@ use Rattle.pipe_model.specs.Legal.{is_legal, needs_restart, no_post_out}
 use Rattle.pipe_laws.proofs.Tests.{and_left, and_right, not_true, same_stage-true, same_stage-self}
 use Rattle.pipe_laws.proofs.Allowed.{legal_step, unowed}
 use Rattle.stage_laws.proofs.FewSlots.{none_any, slot_case}
+use Rattle.stage_callback.proofs.Resets.{counted_on}
+use Rattle.pipe_types.specs.declared.topology.Kind.TheVariants.{Own}
 use Rattle.stage_bodies.specs.Seen.{LineSeen, SinkSeen, BoxSeen, BodySeen}
 use Rattle.stage_bodies.specs.Jobs.{Both, IsReset, IsResetBody}
 use Rattle.stage_bodies.specs.Posts.{place_at}
-use Rattle.body_laws.specs.Counts.{calls_of, bad_of}
+use Rattle.body_laws.specs.Counts.{calls_of, bad_of, resets_of}
 use Rattle.body_laws.specs.Keeps.{has_post, KeepsSource, KeepsSink, KeepsCallback, KeepsBody, KeepsPost, Keeps}
 use Rattle.body_laws.specs.Lates.{AreReset}
 use Rattle.body_laws.specs.Ready.{There, IsArmed, IsBodyFor, IsBodyAt, Ready}
@@ -48,18 +50,22 @@ callback_restarts topology before p a b c k r = record {
   count = λ own calm present. r.zero ∙ sym (count_none topology before p.stage);
   calls = λ own. rise_stays (calls_of before p) a.calls b.calls c.calls (k.calls (sym r.kept.kind ∙ own)) r.kept.calls;
   bad = λ own. rise_stays (bad_of before p) a.bad b.bad c.bad (k.bad (sym r.kept.kind ∙ own)) r.kept.bad;
+  resets = λ own.
+      let own_before : b.kind ≡ Own = sym r.kept.kind ∙ own in
+      rw (same_stage-self p.stage) (counted_on (resets_of topology before p) 1 a.resets b.resets c.resets (k.resets own_before) (r.resets own_before));
+  lawful = (k.lawful, tt);
 }
 
 source_restarts : (before : History) (s : StageNo) (a b : Option LineSeen) → Both (KeepsSource before s []) a b → Both (KeepsSource (Restart s ∷ before) s []) a b
 source_restarts before s a b k = both_map (λ x y h. source_as before (Restart s ∷ before) s x y refl refl refl h) a b k
 
-sink_restarts : (topology : Topology) (before : History) (s : StageNo) (a b : Option SinkSeen) → Both (KeepsSink topology before s []) a b → Both (KeepsSink topology (Restart s ∷ before) s []) a b
+sink_restarts : (topology : Topology) (before : History) (s : StageNo) (a b : Option SinkSeen) → Both (KeepsSink topology before s) a b → Both (KeepsSink topology (Restart s ∷ before) s) a b
 sink_restarts topology before s a b k = both_map (λ x y h. sink_as topology before (Restart s ∷ before) s x y refl refl h) a b k
 
 body_restarts : (topology : Topology) (before : History) (p : Post) (a b c : BodySeen) → KeepsBody topology before p a b → IsResetBody b c → KeepsBody topology (Restart p.stage ∷ before) p a c
 body_restarts topology before p a b c k r = record {
   source = source_restarts before p.stage a.source c.source (subst (λ o. Both (KeepsSource before p.stage []) a.source o) (sym r.source) k.source);
-  sink = sink_restarts topology before p.stage a.sink c.sink (subst (λ o. Both (KeepsSink topology before p.stage []) a.sink o) (sym r.sink) k.sink);
+  sink = sink_restarts topology before p.stage a.sink c.sink (subst (λ o. Both (KeepsSink topology before p.stage) a.sink o) (sym r.sink) k.sink);
   callback = both_then (λ x y z h g. callback_restarts topology before p x y z h g) a.callback b.callback c.callback k.callback r.callback;
 }
 

@@ -10,6 +10,7 @@ use Rattle.pipe_types.specs.declared.topology.Topology.{Topology}
 use Rattle.pipe_edges.specs.Texts.{IsLine}
 use Rattle.pipe_edges.specs.declared.reading.LineEnd.{LineEnd}
 use Rattle.pipe_edges.specs.declared.reading.LineEnd.TheVariants as end
+use Rattle.stage_callback.proofs.Resets.{none_counted}
 use Rattle.stage_bodies.specs.Seen.{LineSeen, SinkSeen, BoxSeen, BodySeen}
 use Rattle.stage_bodies.specs.Jobs.{Both}
 use Rattle.stage_bodies.specs.Posts.{place_at}
@@ -37,15 +38,17 @@ source_starts s a empty none = record {
   quiet = rise_none a.source.waits;
 }
 
-sink_starts : (topology : Topology) (s : StageNo) (a : SinkSeen) → KeepsSink topology [] s [] a a
+sink_starts : (topology : Topology) (s : StageNo) (a : SinkSeen) → KeepsSink topology [] s a a
 sink_starts topology s a = record { told = refl; held = λ t. sym (append-nil a.held); faults_stay = omega arith; short = rise_none a.faults }
 
 callback_starts : (topology : Topology) (p : Post) (a : BoxSeen) → IfSome (Some a) (λ box. (box.kind ≡ Own → ⊥) → box.count ≡ 0) → KeepsCallback topology [] p a a
 callback_starts topology p a zero_count = record {
-  kept = record { kind = refl; spec = refl; told = refl; calls = omega arith; bad = omega arith; no_calls = λ own. refl; no_bad = λ own. refl };
+  kept = record { kind = refl; spec = refl; law = refl; told = refl; calls = omega arith; bad = omega arith; no_calls = λ own. refl; no_bad = λ own. refl };
   count = λ own calm live. zero_count own;
   calls = λ own. rise_none a.calls;
   bad = λ own. rise_none a.bad;
+  resets = λ own. none_counted a.resets a.resets refl;
+  lawful = tt;
 }
 
 body_starts : (topology : Topology) (p : Post) (a : BodySeen) → IsUnused a → KeepsBody topology [] p a a
@@ -59,7 +62,7 @@ body_starts topology p a unused = record {
     by_source (Some lines) empty none = source_starts p.stage lines empty none
     by_source None empty none = tt
 
-    by_sink : (x : Option SinkSeen) → Both (KeepsSink topology [] p.stage []) x x
+    by_sink : (x : Option SinkSeen) → Both (KeepsSink topology [] p.stage) x x
     by_sink (Some sink) = sink_starts topology p.stage sink
     by_sink None = tt
 

@@ -55,8 +55,8 @@ source_stays topology before step p lost a b st k = record {
   quiet = rw st.quiets k.quiet;
 }
 
-sink_stays : (topology : Topology) (before : History) (step : Step) (p : Post) (more : List ℕ) (a b : SinkSeen) → Stays topology before step p → KeepsSink topology before p.stage more a b → KeepsSink topology (step ∷ before) p.stage more a b
-sink_stays topology before step p more a b st k = record {
+sink_stays : (topology : Topology) (before : History) (step : Step) (p : Post) (a b : SinkSeen) → Stays topology before step p → KeepsSink topology before p.stage a b → KeepsSink topology (step ∷ before) p.stage a b
+sink_stays topology before step p a b st k = record {
   told = k.told;
   held = λ t. rw st.text (k.held t);
   faults_stay = k.faults_stay;
@@ -69,19 +69,21 @@ callback_stays topology before step p a b st k = record {
   count = counted_stays topology before step p b st k.count;
   calls = λ own. rw st.calls (k.calls own);
   bad = λ own. rw st.bad (k.bad own);
+  resets = λ own. rw st.resets (k.resets own);
+  lawful = (k.lawful, st.lawful a.law);
 }
 
 pub body_stays : (topology : Topology) (before : History) (step : Step) (p : Post) (a b : BodySeen) → Stays topology before step p → KeepsBody topology before p a b → KeepsBody topology (step ∷ before) p a b
 body_stays topology before step p a b st k = record {
   source = both_map (λ x y h. source_stays topology before step p [] x y st h) a.source b.source k.source;
-  sink = both_map (λ x y h. sink_stays topology before step p [] x y st h) a.sink b.sink k.sink;
+  sink = both_map (λ x y h. sink_stays topology before step p x y st h) a.sink b.sink k.sink;
   callback = both_map (λ x y h. callback_stays topology before step p x y st h) a.callback b.callback k.callback;
 }
 
 pub partly_stays : (topology : Topology) (before : History) (step : Step) (p : Post) (a b : BodySeen) → Stays topology before step p → KeepsPartly topology before p a b → KeepsPartly topology (step ∷ before) p a b
 partly_stays topology before step p a b st k = record {
   source = both_map (λ x y h. (h.0, source_stays topology before step p h.0 x y st h.1)) a.source b.source k.source;
-  sink = both_map (λ x y h. (h.0, sink_stays topology before step p h.0 x y st h.1)) a.sink b.sink k.sink;
+  sink = both_map (λ x y h. sink_stays topology before step p x y st h) a.sink b.sink k.sink;
   callback = k.callback;
 }
 
@@ -116,7 +118,7 @@ out_as topology before p b c x y e k = rw e k
 pub whole_is_part : (topology : Topology) (before : History) (p : Post) (a b : BodySeen) → KeepsBody topology before p a b → KeepsPartly topology before p a b
 whole_is_part topology before p a b k = record {
   source = both_map (λ x y h. ([], h)) a.source b.source k.source;
-  sink = both_map (λ x y h. ([], h)) a.sink b.sink k.sink;
+  sink = k.sink;
   callback = both_map (λ x y h. h.kept) a.callback b.callback k.callback;
 }
 

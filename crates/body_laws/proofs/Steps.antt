@@ -25,7 +25,9 @@ use Rattle.pipe_laws.proofs.Allowed.{legal_before, legal_step, unowed, take_fact
 use Rattle.pipe_laws.proofs.Busy.{was_live, two_roles, producer_supervises}
 use Rattle.pipe_laws.proofs.Idle.{processor_supervisor}
 use Rattle.pipe_laws.specs.Read.{quiets}
-use Rattle.body_laws.specs.Counts.{short_writes, calls_of, bad_of}
+use Rattle.stage_callback.specs.Laws.{Law}
+use Rattle.body_laws.specs.Counts.{short_writes, calls_of, bad_of, resets_of}
+use Rattle.body_laws.specs.Lawful.{IsLawfulStep}
 use Rattle.body_laws.specs.Keeps.{has_post}
 use Rattle.body_laws.proofs.Posts.{same_post-true, only_slot, out_has_post, no_post_of_control}
 
@@ -91,6 +93,19 @@ bad_stays (Wrote t bytes end) before p e = rw e refl
 bad_stays (ChildEnd t slot reply) before p e = rw e refl
 bad_stays _ before p e = refl
 
+resets_stay : (topology : Topology) (step : Step) (before : History) (p : Post) → answers step p ≡ false → restarts step p.stage ≡ false → resets_of topology (step ∷ before) p ≡ resets_of topology before p
+resets_stay topology (Restart t) before p e r = rw r refl
+resets_stay topology (ChildEnd t slot reply) before p e r = rw e refl
+resets_stay topology (Late t slot i answer) before p e r = rw e refl
+resets_stay topology _ before p e r = refl
+
+lawful_stays : (topology : Topology) (step : Step) (before : History) (p : Post) (law : Law) → tells_of step p.stage ≡ false → answers step p ≡ false → IsLawfulStep topology before step p law
+lawful_stays topology (Done t replies) before p law e a = λ is. clash (same_stage t p.stage) is e
+lawful_stays topology (Wrote t bytes end) before p law e a = λ is. clash (same_stage t p.stage) is e
+lawful_stays topology (Late t slot i (late.Wrote bytes end)) before p law e a = λ is. clash (same_stage t p.stage) is e
+lawful_stays topology (ChildEnd t slot reply) before p law e a = λ is. clash (same_post p (post t slot)) is a
+lawful_stays topology _ before p law e a = tt
+
 restart_stays : (step : Step) (s : StageNo) → tells_of step s ≡ false → restarts step s ≡ false
 restart_stays (Restart t) s e = e
 restart_stays _ s e = refl
@@ -106,6 +121,8 @@ pub record Stays (topology : Topology) (before : History) (step : Step) (p : Pos
   pub present : (is_live topology (step ∷ before) p.stage || is_out (step ∷ before) (post p.stage 0)) ≡ true → (is_live topology before p.stage || is_out before (post p.stage 0)) ≡ true
   pub calls : calls_of (step ∷ before) p ≡ calls_of before p
   pub bad : bad_of (step ∷ before) p ≡ bad_of before p
+  pub resets : resets_of topology (step ∷ before) p ≡ resets_of topology before p
+  pub lawful : (law : Law) → IsLawfulStep topology before step p law
 
 put_live : (topology : Topology) (before : History) (step : Step) (s : StageNo) (slot : ℕ) → allows topology before step ≡ true → puts_out step (post s slot) ≡ true → is_live topology before s ≡ true
 put_live topology before (Fetch t n) s slot h e =
@@ -143,6 +160,8 @@ stays_untold topology before step p h e a = record {
   present = present_stays topology before step p.stage h (restart_stays step p.stage e);
   calls = calls_stay step before p a;
   bad = bad_stays step before p a;
+  resets = resets_stay topology step before p a (restart_stays step p.stage e);
+  lawful = λ law. lawful_stays topology step before p law e a;
 }
 
 -- ---- a step that answers another post tells nothing of this one

@@ -5,10 +5,11 @@ use Rattle.pipe_types.specs.declared.numbers.StageNo.{StageNo}
 use Rattle.pipe_types.specs.declared.numbers.Post.{Post}
 use Rattle.pipe_types.specs.declared.step.LateAnswer.TheVariants.{Wrote as WroteLate}
 use Rattle.pipe_types.specs.declared.step.Step.{Step}
-use Rattle.pipe_types.specs.declared.step.Step.TheVariants.{Done, Wrote, ChildEnd, Late}
+use Rattle.pipe_types.specs.declared.step.Step.TheVariants.{Done, Wrote, ChildEnd, Late, Restart}
 use Rattle.pipe_types.specs.declared.topology.Topology.{Topology}
 use Rattle.pipe_types.specs.Numbers.{post, same_stage, same_post}
 use Rattle.pipe_model.specs.History.{History}
+use Rattle.pipe_model.specs.Legal.{has_role, is_supervisor_role}
 use Rattle.pipe_model.specs.Outside.{text_taken}
 use Rattle.stage_callback.specs.Callbacks.{is_passed}
 use Rattle.stage_bodies.specs.Jobs.{is_bad_end}
@@ -51,3 +52,15 @@ bad_after _ p old = old
 abbrev pub bad_of : History → Post → ℕ
 bad_of [] p = 0
 bad_of (step ∷ before) p = bad_after step p (bad_of before p)
+
+abbrev pub resets_after : Topology → Step → Post → ℕ → ℕ
+resets_after topology (Restart s) p old = one_more (same_stage p.stage s) old
+resets_after topology (ChildEnd s slot reply) p old = one_more (same_post p (post s slot)) old
+resets_after topology (Late s slot i answer) p old = one_more (same_post p (post s slot) && has_role topology s is_supervisor_role) old
+resets_after topology _ p old = old
+
+-- the resets of the post's callback: one for each restart of its stage, and one for each message of a child that was answered,
+-- also late
+abbrev pub resets_of : Topology → History → Post → ℕ
+resets_of topology [] p = 0
+resets_of topology (step ∷ before) p = resets_after topology step p (resets_of topology before p)

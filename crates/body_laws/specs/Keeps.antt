@@ -22,12 +22,14 @@ use Rattle.pipe_model.specs.Legal.{has_role, is_supervisor_role}
 use Rattle.pipe_edges.specs.declared.reading.LineEnd.{LineEnd}
 use Rattle.pipe_edges.specs.declared.reading.LineEnd.TheVariants as end
 use Rattle.pipe_laws.specs.Read.{quiets}
+use Rattle.stage_callback.specs.Laws.{RoseExactly}
 use Rattle.stage_job.specs.Chunks.{RoseBy}
 use Rattle.stage_bodies.specs.Seen.{LineSeen, SinkSeen, BoxSeen, BodySeen}
 use Rattle.stage_bodies.specs.Reads.{AreReadFrom}
 use Rattle.stage_bodies.specs.Jobs.{Both, KeepsBox}
 use Rattle.stage_bodies.specs.Posts.{place_at}
-use Rattle.body_laws.specs.Counts.{short_writes, calls_of, bad_of}
+use Rattle.body_laws.specs.Counts.{short_writes, calls_of, bad_of, resets_of}
+use Rattle.body_laws.specs.Lawful.{AreLawfulAnswers}
 
 -- ---- posts
 
@@ -63,11 +65,10 @@ pub record KeepsSource (before : History) (s : StageNo) (lost : List (List ℕ))
 
 -- ---- sinks
 
--- behind what it held stands the text of the stage, and then what more was written; each write of less than its text has
--- its cause in the sink
-pub record KeepsSink (topology : Topology) (before : History) (s : StageNo) (more : List ℕ) (opened now : SinkSeen) : Type 0 where
+-- behind what it held stands the text of the stage; each write of less than its text has its cause in the sink
+pub record KeepsSink (topology : Topology) (before : History) (s : StageNo) (opened now : SinkSeen) : Type 0 where
   pub told : now.told ≡ opened.told
-  pub held : IsTrue opened.told → now.held ≡ opened.held ++ (sink_text topology before s ++ more)
+  pub held : IsTrue opened.told → now.held ≡ opened.held ++ sink_text topology before s
   pub faults_stay : opened.faults ≤ now.faults
   pub short : RoseBy (short_writes topology before s) opened.faults now.faults
 
@@ -79,25 +80,28 @@ abbrev pub IsCounted : Topology → History → StageNo → BoxSeen → Type 0
 IsCounted topology before s box =
     box.kind ≢ Own → has_role topology s is_supervisor_role ≡ false → (is_live topology before s || is_out before (post s 0)) ≡ true → box.count ≡ count topology before s
 
--- it is the same callback, counted as the journal says; a user's own counted each call and each bad answer of the journal
+-- it is the same callback, counted as the journal says; a user's own counted each call and each bad answer of the journal, and
+-- just its resets; what the journal says that it answered is lawful for what it was shown
 pub record KeepsCallback (topology : Topology) (before : History) (p : Post) (opened now : BoxSeen) : Type 0 where
   pub kept : KeepsBox opened now
   pub count : IsCounted topology before p.stage now
   pub calls : now.kind ≡ Own → RoseBy (calls_of before p) opened.calls now.calls
   pub bad : now.kind ≡ Own → RoseBy (bad_of before p) opened.bad now.bad
+  pub resets : now.kind ≡ Own → RoseExactly (resets_of topology before p) opened.resets now.resets
+  pub lawful : AreLawfulAnswers topology before p opened.law
 
 -- ---- bodies
 
 -- the body stands where the journal leaves it
 pub record KeepsBody (topology : Topology) (before : History) (p : Post) (opened now : BodySeen) : Type 0 where
   pub source : Both (KeepsSource before p.stage []) opened.source now.source
-  pub sink : Both (KeepsSink topology before p.stage []) opened.sink now.sink
+  pub sink : Both (KeepsSink topology before p.stage) opened.sink now.sink
   pub callback : Both (KeepsCallback topology before p) opened.callback now.callback
 
--- the same, where an answer is not in the journal: its source may have given more lines, and its sink may have got more bytes
+-- the same, where a job was cut off, or the records that it brought are not in the journal: its source may have given more lines
 pub record KeepsPartly (topology : Topology) (before : History) (p : Post) (opened now : BodySeen) : Type 0 where
   pub source : Both (λ old new. (lost : List (List ℕ)) × KeepsSource before p.stage lost old new) opened.source now.source
-  pub sink : Both (λ old new. (more : List ℕ) × KeepsSink topology before p.stage more old new) opened.sink now.sink
+  pub sink : Both (KeepsSink topology before p.stage) opened.sink now.sink
   pub callback : Both KeepsBox opened.callback now.callback
 
 abbrev pub KeepsPost : Topology → History → Post → (out : Bool) → Option BodySeen → Option BodySeen → Type 0

@@ -1,4 +1,5 @@
 pub mod Counts
+pub mod Lawful
 pub mod Keeps
 pub mod Ready
 pub mod Lates

@@ -29,7 +29,7 @@ ghost use Rattle.stage_callback.specs.Callbacks.{is_message_for};
 ghost use Rattle.stage_job.specs.Chunks.{never_crashes};
 ghost use Rattle.stage_bodies.specs.Seen.{BodySeen};
 ghost use Rattle.stage_bodies.specs.Jobs.{Both, Fits, IsDone, IsCutOff};
-ghost use Rattle.stage_bodies.specs.Posts.{place_at, IsWorkOf, IsOutNow, IsJobOf, step_of, is_crash};
+ghost use Rattle.stage_bodies.specs.Posts.{place_at, IsWorkOf, IsOutNow, IsJobOf, step_of, is_crash, brings_records};
 ghost use Rattle.stage_bodies.specs.declared.job.Answer.{Answer};
 ghost use Rattle.stage_bodies.specs.declared.job.Job.{Job};
 ghost use Rattle.stage_bodies.specs.declared.job.Outcome.{Outcome as Came};
@@ -163,10 +163,10 @@ pub fn cut_off_jobs_keep_bodies()
         Keeps topology before opened now → Keeps topology before opened after }
 {}
 
-/// So does a job whose answer is not recorded: its records are lost, and its bytes are more than the journal has.
+/// So does a job that brought records which are not recorded: they are lost.
 pub fn unrecorded_answers_keep_bodies()
     ensures { (topology : Topology) (before : History) (job : Job) (outcome : Came) (old new : BodySeen) (opened now after : ℕ → Option BodySeen) →
-        IsSound topology → IsJobOf topology before job → IsBodyAt topology before job.post old → IsDone job.work outcome old new →
+        IsSound topology → IsJobOf topology before job → IsTrue (brings_records outcome) → IsDone job.work outcome old new →
         Both (KeepsBody topology before job.post) (opened (place_at job.post)) (Some old) →
         ((s : ℕ) → after s ≡ (if place_at job.post == s then Some new else now s)) →
         Keeps topology before opened now → Keeps topology before opened after }

@@ -31,7 +31,7 @@ on_err (Ok x) p = tt
 on_err (Err e) p = p
 
 pub same_box : (x : BoxSeen) → IsSameBox x x
-same_box x = record { kind = refl; told = refl; said = λ t. refl; calls = omega arith; bad = omega arith }
+same_box x = record { kind = refl; law = refl; resets = refl; told = refl; said = λ t. refl; calls = omega arith; bad = omega arith }
 
 same_with : (o : Option StageSpec) (x y : BoxSeen) → IsArmedWith o x y → IsSameBox x y
 same_with (Some spec) x y fresh = fresh.same

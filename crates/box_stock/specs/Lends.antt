@@ -27,6 +27,8 @@ kinds_of seen stock = map (λ box. (seen box).kind) stock
 -- the same callback, whatever it was armed with since
 pub record IsSameBox (old new : BoxSeen) : Type 0 where
   pub kind : new.kind ≡ old.kind
+  pub law : new.law ≡ old.law
+  pub resets : new.resets ≡ old.resets
   pub told : new.told ≡ old.told
   pub said : IsTrue old.told → new.said ≡ old.said
   pub calls : old.calls ≤ new.calls

@@ -33,6 +33,8 @@ impl Boxed for Box<dyn Callback + Send> {
       count = (Callback-box c).count c.value;
       calls = (Callback-box c).calls c.value;
       bad = (Callback-box c).bad c.value;
+      resets = (Callback-box c).resets c.value;
+      law = (Callback-box c).law c.value;
       told = (Callback-box c).told c.value;
       said = (Callback-box c).said c.value;
     } };

@@ -66,6 +66,15 @@ other_keeps topology before step jobs None None other goes none k = no_control b
 other_keeps topology before step jobs (Some a) None other goes none k = absurd k
 other_keeps topology before step jobs None (Some b) other goes none k = absurd k
 
+-- the same of what is kept in part
+pub other_keeps_partly : (topology : Topology) (before : History) (step : Step) (opened now : Option LineSeen) → is_control step ≡ false → ends_source (stage 0) step ≡ false → begins step ≡ false
+    → KeepsControlPartly topology before opened now → KeepsControlPartly topology (step ∷ before) opened now
+other_keeps_partly topology before step (Some a) (Some b) other goes none k =
+    (k.0, passed topology before step 0 0 k.0 a b other goes (other_tries step before 0 (stays_open step before goes) (no_job step before none) (other_controls step (controls before) other)) k.1)
+other_keeps_partly topology before step None None other goes none k = no_control before step other goes k
+other_keeps_partly topology before step (Some a) None other goes none k = absurd k
+other_keeps_partly topology before step None (Some b) other goes none k = absurd k
+
 pub job_keeps : (topology : Topology) (before : History) (step : Step) (opened now : Option LineSeen) → begins step ≡ true → KeepsControl topology before 1 opened now → KeepsControl topology (step ∷ before) 0 opened now
 job_keeps topology before step (Some a) (Some b) job k =
     passed topology before step 0 1 [] a b (job_is_no_control step job) (job_is_no_end step job)

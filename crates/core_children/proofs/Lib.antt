@@ -4,3 +4,4 @@ pub mod Next
 pub mod Changed
 pub mod Ended
 pub mod Rooming
+pub mod InSlot

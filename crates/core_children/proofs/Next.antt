@@ -225,7 +225,7 @@ child_seen table s k = by (slice_get table s.0)
     by (Some held) = refl
 
 -- a supervisor has as many slots as its greatest demand
-slots_len : (core : Core) (s : StageNo) → Holds core → has_role core.topology s is_supervisor_role ≡ true → s.0 ≤ length core.topology.stages → length (slots_at core.children.items s) ≡ max_of (spec_of core.topology s)
+pub slots_len : (core : Core) (s : StageNo) → Holds core → has_role core.topology s is_supervisor_role ≡ true → s.0 ≤ length core.topology.stages → length (slots_at core.children.items s) ≡ max_of (spec_of core.topology s)
 slots_len core s x role within = by (spec_of core.topology s) refl
   where
     by : (o : Option StageSpec) → spec_of core.topology s ≡ o → length (slots_at core.children.items s) ≡ max_of o
@@ -259,12 +259,12 @@ number_below : (k n : ℕ) → k < n → nat_lt k n ≡ true
 number_below k n h = grind (arith, nat_tests)
 
 -- what is known of a start that is not of the slot's own message
-record New (topology : Topology) (before : History) (s : StageNo) (slot : ℕ) : Type 0 where
+pub record New (topology : Topology) (before : History) (s : StageNo) (slot : ℕ) : Type 0 where
   pub least : 1 ≤ first_unit (inbox topology before s)
   pub below : slot < max_of (spec_of topology s)
   pub accepted : is_some (content before (first_unit (inbox topology before s))) ≡ true
 
-new_start : (topology : Topology) (before : History) (s : StageNo) (m : MsgNo) (slot : ℕ) → allows topology before (Child s m slot) ≡ true → runs_number topology before s (in_slot before s slot) ≡ false → New topology before s slot
+pub new_start : (topology : Topology) (before : History) (s : StageNo) (m : MsgNo) (slot : ℕ) → allows topology before (Child s m slot) ≡ true → runs_number topology before s (in_slot before s slot) ≡ false → New topology before s slot
 new_start topology before s m slot allowed idle =
     let facts = child_facts topology before s m slot allowed in
     let raw = new_row topology before s m slot allowed idle in

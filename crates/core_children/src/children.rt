@@ -112,7 +112,7 @@ fn first_no(inboxes: &[VecDeque<(SubNo, u32)>], stage: StageNo) -> u32
 }
 
 /// The subscription of the first unit in the stage's inbox, and one of stage 0 where the inbox is empty.
-fn first_sub(inboxes: &[VecDeque<(SubNo, u32)>], stage: StageNo) -> SubNo
+pub(crate) fn first_sub(inboxes: &[VecDeque<(SubNo, u32)>], stage: StageNo) -> SubNo
     requires { stage.0 < length inboxes.now }
     ensures { result ≡ sub_first (queue_at inboxes.now stage) }
 {
@@ -127,7 +127,7 @@ fn first_sub(inboxes: &[VecDeque<(SubNo, u32)>], stage: StageNo) -> SubNo
 }
 
 /// Makes room for the step and those that may be due then, and for one message in the stage's chunk. The core stands as it did.
-fn make_ready(core: &mut Core, stage: StageNo) -> Result<(), AllocError>
+pub(crate) fn make_ready(core: &mut Core, stage: StageNo) -> Result<(), AllocError>
     requires stands { Stands core.old }
     requires within { stage.0 ≤ length core.old.topology.stages }
     ensures room { OnOk result (1 ≤ room_at core.new.chunks.items stage) }

@@ -6,8 +6,10 @@
 pub mod children;
 pub mod endings;
 mod ends;
+pub mod named;
 pub mod slots;
 pub mod starts;
 
 pub use children::{ChildWork, child_start};
 pub use endings::child_end;
+pub use named::child_start_in;

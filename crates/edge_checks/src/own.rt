@@ -13,7 +13,8 @@ use pipe_types::numbers::MsgNo;
 use pipe_types::reason::Reason;
 use pipe_types::topology::{Kind, StageSpec};
 use stage_callback::{
-    BatchReply, Callback, FailedReply, Prepared, Said, copy_message, copy_spec, unarmed,
+    BatchReply, Callback, FailedReply, Prepared, Said, copy_message, copy_spec, count_reset,
+    unarmed,
 };
 use std::alloc::{AllocError, Global};
 use told_text::Told;
@@ -25,6 +26,7 @@ struct Watcher {
     spec: StageSpec,
     calls: u64,
     bad: u64,
+    resets: u64,
     said: Vec<Said>,
 }
 
@@ -49,6 +51,8 @@ impl Callback for Watcher {
 
     ghost bad = { λ w. w.bad };
 
+    ghost resets = { λ w. w.resets };
+
     ghost told = { λ _. true };
 
     ghost said = { λ w. w.said.items };
@@ -62,7 +66,9 @@ impl Callback for Watcher {
         Ok(())
     }
 
-    fn reset(&mut self) {}
+    fn reset(&mut self) {
+        count_reset(&mut self.resets);
+    }
 
     fn prepare(&mut self, _messages: &[Message]) -> Result<Prepared, AllocError> {
         self.said.push(Said::Prepared(Prepared::Ready))?;
@@ -117,6 +123,7 @@ fn watching(alloc: Global) -> Watcher {
         spec: unarmed(alloc, Kind::Own),
         calls: 0,
         bad: 0,
+        resets: 0,
         said: Vec::new(alloc),
     }
 }

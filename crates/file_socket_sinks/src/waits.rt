@@ -73,9 +73,7 @@ impl Waits {
         self.next_ms = if is_ready {
             self.patience.first_ms
         } else {
-            self.next_ms
-                .saturating_mul(2)
-                .min(self.patience.longest_ms)
+            self.next_ms.saturating_mul(2).min(self.patience.longest_ms)
         };
         Ok(is_ready)
     }

@@ -16,7 +16,7 @@ use Rattle.pipe_laws.proofs.Allowed.{legal_before}
 use Rattle.pipe_laws.proofs.Ends.{halted_dead}
 use Rattle.stage_bodies.specs.Seen.{BodySeen}
 use Rattle.stage_bodies.specs.Jobs.{Both, IsDone, IsCutOff}
-use Rattle.stage_bodies.specs.Posts.{place_at, IsJobOf, step_of}
+use Rattle.stage_bodies.specs.Posts.{place_at, IsJobOf, step_of, brings_records}
 use Rattle.stage_bodies.specs.declared.job.Answer.{Answer}
 use Rattle.stage_bodies.specs.declared.job.Job.{Job}
 use Rattle.stage_bodies.specs.declared.job.Outcome.{Outcome as Came}
@@ -158,11 +158,11 @@ cut_home topology before job old new opened now after sound away cut moved keeps
     keeps_back topology before job.post new opened now after sound away.slot away.out moved
     (both_part topology before job.post (opened (place_at job.post)) old new (λ a k. cut_body topology before job.post a old new cut k) away.kept) keeps
 
-pub unrecorded_home : (topology : Topology) (before : History) (job : Job) (outcome : Came) (old new : BodySeen) (opened now after : ℕ → Option BodySeen) → IsSound topology → IsAway topology before (opened (place_at job.post)) job old → IsDone job.work outcome old new
-    → ((s : ℕ) → after s ≡ (if place_at job.post == s then Some new else now s)) → Keeps topology before opened now → Keeps topology before opened after
-unrecorded_home topology before job outcome old new opened now after sound away done moved keeps =
+pub unrecorded_home : (topology : Topology) (before : History) (job : Job) (outcome : Came) (old new : BodySeen) (opened now after : ℕ → Option BodySeen) → IsSound topology → IsAway topology before (opened (place_at job.post)) job old → brings_records outcome ≡ true
+    → IsDone job.work outcome old new → ((s : ℕ) → after s ≡ (if place_at job.post == s then Some new else now s)) → Keeps topology before opened now → Keeps topology before opened after
+unrecorded_home topology before job outcome old new opened now after sound away brings done moved keeps =
     keeps_back topology before job.post new opened now after sound away.slot away.out moved
-    (both_part topology before job.post (opened (place_at job.post)) old new (λ a k. unrecorded_body topology before job.post job.work outcome a old new away.work away.ready done k) away.kept) keeps
+    (both_part topology before job.post (opened (place_at job.post)) old new (λ a k. unrecorded_body topology before job.post job.work outcome a old new brings done k) away.kept) keeps
 
 pub home_ready : (topology : Topology) (before : History) (opened : Option BodySeen) (job : Job) (old new : BodySeen) (now after : ℕ → Option BodySeen) → IsSound topology → IsAway topology before opened job old → ((s : ℕ) → after s ≡ (if place_at job.post == s then Some new else now s))
     → Ready topology before now → Ready topology before after

@@ -52,31 +52,31 @@ fetched_fits topology before s most o None y role fits there done = let x : fals
 
 -- ---- batches
 
-end_fits : (topology : Topology) (before : History) (s : StageNo) (spec : StageSpec) (messages : List Message) (bytes : ℕ) (end : BatchEnd) (old new : BodySeen) (x y : Option BoxSeen) → has_role topology s is_supervisor_role ≡ false → is_out before (post s 0) ≡ true → is_some old.sink ≡ is_some spec.edge
-    → There x (IsArmed topology before s spec) → Both (EndsIn messages bytes end old new) x y → is_end_by spec.kind (is_some spec.edge) spec (count topology before s) messages bytes end ≡ true
-end_fits topology before s spec messages bytes end old new (Some b) (Some c) calm out sink armed done = by_kind spec.kind armed.kind
+end_fits : (topology : Topology) (before : History) (s : StageNo) (spec : StageSpec) (asked : Batch) (bytes : ℕ) (end : BatchEnd) (old new : BodySeen) (x y : Option BoxSeen) → has_role topology s is_supervisor_role ≡ false → is_out before (post s 0) ≡ true → is_some old.sink ≡ is_some spec.edge
+    → There x (IsArmed topology before s spec) → Both (EndsIn asked bytes end old new) x y → is_end_by spec.kind (is_some spec.edge) spec (count topology before s) asked.messages bytes end ≡ true
+end_fits topology before s spec asked bytes end old new (Some b) (Some c) calm out sink armed done = by_kind spec.kind armed.kind
   where
-    ended : is_end_by b.kind (is_some spec.edge) spec b.count messages bytes end ≡ true
-    ended = subst (λ h. is_end_by b.kind h spec b.count messages bytes end ≡ true) sink (subst (λ x. is_end_by b.kind (is_some old.sink) x b.count messages bytes end ≡ true) armed.spec done.0.ended)
+    ended : is_end_by b.kind (is_some spec.edge) spec b.count asked.messages bytes end ≡ true
+    ended = subst (λ h. is_end_by b.kind h spec b.count asked.messages bytes end ≡ true) sink (subst (λ x. is_end_by b.kind (is_some old.sink) x b.count asked.messages bytes end ≡ true) armed.spec done.0.ended)
 
-    counted : (k : Kind) → b.kind ≡ k → b.kind ≢ Own → is_end_by k (is_some spec.edge) spec (count topology before s) messages bytes end ≡ true
+    counted : (k : Kind) → b.kind ≡ k → b.kind ≢ Own → is_end_by k (is_some spec.edge) spec (count topology before s) asked.messages bytes end ≡ true
     counted k e other =
-        subst (λ n. is_end_by k (is_some spec.edge) spec n messages bytes end ≡ true) (armed.count other calm (or_right (is_live topology before s) (is_out before (post s 0)) out))
-        (subst (λ k. is_end_by k (is_some spec.edge) spec b.count messages bytes end ≡ true) e ended)
+        subst (λ n. is_end_by k (is_some spec.edge) spec n asked.messages bytes end ≡ true) (armed.count other calm (or_right (is_live topology before s) (is_out before (post s 0)) out))
+        (subst (λ k. is_end_by k (is_some spec.edge) spec b.count asked.messages bytes end ≡ true) e ended)
 
-    by_kind : (k : Kind) → b.kind ≡ k → is_end_by k (is_some spec.edge) spec (count topology before s) messages bytes end ≡ true
-    by_kind Own e = subst (λ k. is_end_by k (is_some spec.edge) spec b.count messages bytes end ≡ true) e ended
+    by_kind : (k : Kind) → b.kind ≡ k → is_end_by k (is_some spec.edge) spec (count topology before s) asked.messages bytes end ≡ true
+    by_kind Own e = subst (λ k. is_end_by k (is_some spec.edge) spec b.count asked.messages bytes end ≡ true) e ended
     by_kind Steps e = counted Steps e (λ own. let x : Steps ≡ Own = sym e ∙ own in cc)
     by_kind Lines e = counted Lines e (λ own. let x : Lines ≡ Own = sym e ∙ own in cc)
-end_fits topology before s spec messages bytes end old new (Some b) None calm out sink armed done = absurd done
-end_fits topology before s spec messages bytes end old new None y calm out sink armed done = absurd armed
+end_fits topology before s spec asked bytes end old new (Some b) None calm out sink armed done = absurd done
+end_fits topology before s spec asked bytes end old new None y calm out sink armed done = absurd armed
 
 batch_fits : (topology : Topology) (before : History) (p : Post) (batch : Batch) (bytes : ℕ) (end : BatchEnd) (old new : BodySeen) → is_out before p ≡ true → IsWorkOf topology before p (work.Batch batch) → IsBodyAt topology before p old → IsDone (work.Batch batch) (came.Wrote bytes end) old new
     → late_fits topology before p.stage (late_of (came.Wrote bytes end)) ≡ true
 batch_fits topology before p batch bytes end old new out is fit done =
     let f = fit_of topology before p is_batch_processor_role old is.0 fit in
     let holds = batch_for topology before p.stage f.spec f.spec.role old f.role f.holds in
-    let ended = end_fits topology before p.stage f.spec batch.messages bytes end old new old.callback new.callback (writers_alone topology p.stage is.0) (subst (λ n. is_out before (post p.stage n) ≡ true) is.2 out) holds.1 holds.0 done.0 in
+    let ended = end_fits topology before p.stage f.spec batch bytes end old new old.callback new.callback (writers_alone topology p.stage is.0) (subst (λ n. is_out before (post p.stage n) ≡ true) is.2 out) holds.1 holds.0 done.0 in
     both (has_role topology p.stage is_batch_processor_role) _ is.0
     (subst (λ o. is_batch_handled o (count topology before p.stage) (batch_of topology before p.stage) bytes end ≡ true) (sym f.is) (subst (λ ms. is_end_by f.spec.kind (is_some f.spec.edge) f.spec (count topology before p.stage) ms bytes end ≡ true) is.1.messages ended))
 

@@ -16,7 +16,7 @@ ghost use Rattle.pipe_model.specs.Legal.{is_legal, allows, owed};
 ghost use Rattle.pipe_model.specs.Posts.{answers, puts_out};
 ghost use Rattle.stage_bodies.specs.Seen.{BodySeen};
 ghost use Rattle.stage_bodies.specs.Jobs.{Both, IsDone, IsCutOff};
-ghost use Rattle.stage_bodies.specs.Posts.{place_at, IsJobOf, step_of};
+ghost use Rattle.stage_bodies.specs.Posts.{place_at, IsJobOf, step_of, brings_records};
 ghost use Rattle.stage_bodies.specs.declared.job.Answer.{Answer};
 ghost use Rattle.stage_bodies.specs.declared.job.Job.{Job};
 ghost use Rattle.stage_bodies.specs.declared.job.Outcome.{Outcome as Came};
@@ -146,10 +146,10 @@ pub fn cut_off_jobs_bring_bodies_home()
         Keeps topology before opened now → Keeps topology before opened after }
 {}
 
-/// So does a job whose answer is not recorded: its records are lost, and its bytes are more than the journal has.
+/// So does a job that brought records which are not recorded: they are lost.
 pub fn unrecorded_answers_bring_bodies_home()
     ensures { (topology : Topology) (before : History) (job : Job) (outcome : Came) (old new : BodySeen) (opened now after : ℕ → Option BodySeen) →
-        IsSound topology → IsAway topology before (opened (place_at job.post)) job old → IsDone job.work outcome old new →
+        IsSound topology → IsAway topology before (opened (place_at job.post)) job old → IsTrue (brings_records outcome) → IsDone job.work outcome old new →
         ((s : ℕ) → after s ≡ (if place_at job.post == s then Some new else now s)) →
         Keeps topology before opened now → Keeps topology before opened after }
 {}

@@ -1,3 +1,4 @@
 pub mod Cased
 pub mod Commanded
 pub mod Names
+pub mod PlainText

@@ -14,6 +14,7 @@ ghost use Rattle.box_stock.specs.Lends.{kinds_of};
 ghost use Rattle.pipe_top.specs.Boxes.{AreBoxesLeft};
 ghost use Rattle.pipe_top.specs.Runs.{IsRunOrNone, IsEndOf, IsStatusOf, out_text};
 ghost use Rattle.own_callback.specs.Came.{run_words, case_of_file};
+ghost use Rattle.own_callback.specs.Plain.{WritesPlainText};
 
 use box_stock::{Boxed, Carries};
 use mem_edges::{CallList, MemClock, MemEdges, MemSink, MemSource, SinkScript, SourceScript};
@@ -150,4 +151,26 @@ pub(crate) fn bytes(alloc: Global, text: &str) -> Result<Bytes, AllocError>
     ensures { IfOk result (λ copy. copy ≡ text.now) }
 {
     Ok(Bytes::from_vec(Vec::from_slice(alloc, text.as_bytes())?))
+}
+
+/// Runs as `run_with` does. What a stage wrote whose callback has the law of `PlainLines` is plain text: the law alone shows
+/// it, from what `run_with` says of callbacks.
+pub fn run_plain<
+    R: Threads + Wait + Sync,
+    C: Boxed,
+    B: Carries<C> + Houses<MemSource, MemSink> + Send,
+>(
+    rt: &R,
+    alloc: Global,
+    workers: u16,
+    file: &str,
+    lines: &str,
+    stock: Vec<C>,
+) -> Result<Came<C>, AllocError>
+    requires least { 1 ≤ workers }
+    requires most { workers ≤ 16 }
+    ensures plain { IfOk result (λ came. came.status ≤ 4 → IfSome came.topology (λ topology.
+        WritesPlainText topology came.journal.steps (map C.seen stock.items))) }
+{
+    run_with::<R, C, B>(rt, alloc, workers, file, lines, stock)
 }

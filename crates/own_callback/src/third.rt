@@ -7,7 +7,7 @@ use pipe_types::message::{Batch, BatchReply, Message, Reply};
 use pipe_types::numbers::MsgNo;
 use pipe_types::reason::Reason;
 use pipe_types::topology::{Kind, StageSpec};
-use stage_callback::{Callback, FailedReply, Prepared, copy_spec, unarmed};
+use stage_callback::{Callback, FailedReply, Prepared, copy_spec, count_reset, unarmed};
 use std::alloc::{AllocError, Global};
 
 /// Passes each message, and crashes at the third one since it was armed or reset. It crashes at each batch.
@@ -18,6 +18,7 @@ pub struct ThirdCrashes {
     seen: u64,
     calls: u64,
     bad: u64,
+    resets: u64,
 }
 
 impl ThirdCrashes {
@@ -33,6 +34,7 @@ impl ThirdCrashes {
             seen: 0,
             calls: 0,
             bad: 0,
+            resets: 0,
         }
     }
 }
@@ -47,6 +49,8 @@ impl Callback for ThirdCrashes {
     ghost calls = { λ c. c.calls };
 
     ghost bad = { λ c. c.bad };
+
+    ghost resets = { λ c. c.resets };
 
     ghost told = { λ _. false };
 
@@ -63,6 +67,7 @@ impl Callback for ThirdCrashes {
     }
 
     fn reset(&mut self) {
+        count_reset(&mut self.resets);
         self.seen = 0;
     }
 

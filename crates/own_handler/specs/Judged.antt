@@ -15,6 +15,7 @@ use Rattle.stage_callback.specs.declared.answers.Prepared.{Prepared}
 use Rattle.stage_callback.specs.declared.answers.Prepared.TheVariants as prepared
 use Rattle.stage_callback.specs.declared.answers.FailedReply.{FailedReply}
 use Rattle.stage_callback.specs.declared.answers.FailedReply.TheVariants as failed
+use Rattle.stage_callback.specs.Laws.{Law, MessageForm, free}
 use Rattle.own_handler.specs.declared.handler.BatchAnswer.{BatchAnswer}
 use Rattle.own_handler.specs.declared.handler.BatchAnswer.TheVariants as answer
 
@@ -36,6 +37,10 @@ pub record IsJudged (gives : Reply → Type 0) (batchers : ℕ) (m : Message) (a
   pub given : Reply
   pub meant : gives given
   pub is : answered ≡ judged_reply batchers m given
+
+-- the law of a box, by what its handler says of replies to messages
+abbrev pub law_of : List MessageForm → Law
+law_of forms = record free { messages = forms }
 
 -- an outcome for each message, none with the reason of a sink; the text is the payload and LF of each successful message
 abbrev pub judged_outcomes : List Message → List Outcome → BatchReply

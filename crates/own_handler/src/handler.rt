@@ -1,6 +1,7 @@
 //! What a user writes of a callback.
 
-ghost use Rattle.std.specs.Prelude.{IfOk};
+ghost use Rattle.std.specs.Prelude.{◌≡◌, List, [], IfOk};
+ghost use Rattle.stage_callback.specs.Laws.{AllAllow, MessageForm};
 ghost use Rattle.pipe_types.specs.declared.message.Message.{Message};
 ghost use Rattle.pipe_types.specs.declared.message.Reply.{Reply};
 
@@ -32,25 +33,39 @@ pub trait Handler: Drop {
     /// `impl` that leaves it out says nothing, and owes nothing.
     ghost message_gives: { Self → Message → Reply → Self → Type 0 } = { λ _ _ _ _. Unit {0} };
 
+    /// What is said of each reply, whatever was handled before: no call changes it. An `impl` that leaves it out says nothing.
+    /// It stands in the law of the box.
+    ghost law: { Self → List MessageForm } = { λ _. [] };
+
     /// Handles one message.
     fn message(&mut self, message: Message) -> Result<Reply, AllocError>
-        ensures { IfOk result (λ reply. message_gives self.old message reply self.new) };
+        ensures gives { IfOk result (λ reply. message_gives self.old message reply self.new) }
+        ensures lawful { IfOk result (λ reply. AllAllow (law self.old) message reply) }
+        ensures same_law { law self.new ≡ law self.old };
 
     /// Looks at a chunk, before its messages one by one.
-    fn prepare(&mut self, _messages: &[Message]) -> Result<Prepared, AllocError> {
+    fn prepare(&mut self, _messages: &[Message]) -> Result<Prepared, AllocError>
+        ensures same_law { law self.new ≡ law self.old }
+    {
         Ok(Prepared::Ready)
     }
 
     /// Handles a batch. Its text is the payload and LF of each successful message.
-    fn batch(&mut self, _batch: &Batch) -> Result<BatchAnswer, AllocError> {
+    fn batch(&mut self, _batch: &Batch) -> Result<BatchAnswer, AllocError>
+        ensures same_law { law self.new ≡ law self.old }
+    {
         Ok(BatchAnswer::Successful)
     }
 
     /// Looks at a message that failed.
-    fn failed(&mut self, _no: MsgNo, _reason: &Reason) -> Result<FailedReply, AllocError> {
+    fn failed(&mut self, _no: MsgNo, _reason: &Reason) -> Result<FailedReply, AllocError>
+        ensures same_law { law self.new ≡ law self.old }
+    {
         Ok(FailedReply::Keep)
     }
 
     /// Begins anew, when its stage is started or restarted.
-    fn reset(&mut self) {}
+    fn reset(&mut self)
+        ensures same_law { law self.new ≡ law self.old }
+    {}
 }

@@ -123,7 +123,7 @@ fn are_successful(outcomes: &[Outcome]) -> bool
 }
 
 /// Whether a batch was answered, and every message is successful.
-pub(crate) fn is_all_successful(reply: &BatchReply) -> bool
+pub fn is_all_successful(reply: &BatchReply) -> bool
     ensures { result ≡ is_all_successful_in reply.now }
 {
     match reply {
@@ -190,8 +190,8 @@ fn judge_raised(why: Reason) -> BatchReply
     }
 }
 
-/// The answer to a batch.
-pub(crate) fn judge_batch(
+/// The answer that a box makes of its handler's answer to a batch: the same, or where the shape is wrong a crash.
+pub fn judge_batch(
     alloc: Global,
     messages: &[Message],
     answer: BatchAnswer,

@@ -5,7 +5,8 @@ ghost use Rattle.pipe_types.specs.Handlers.{counted, is_own_reply};
 ghost use Rattle.pipe_types.specs.Counts.{Rose};
 ghost use Rattle.pipe_types.specs.declared.topology.Kind.TheVariants.{Own};
 ghost use Rattle.stage_callback.specs.Callbacks.{is_passed as is_passed_in, is_all_successful as is_all_successful_in, is_batch_answer, HasOwnText};
-ghost use Rattle.own_handler.specs.Judged.{IsJudged, counted_unless};
+ghost use Rattle.stage_callback.specs.Laws.{Keeps};
+ghost use Rattle.own_handler.specs.Judged.{IsJudged, counted_unless, law_of};
 
 use crate::Handler;
 use crate::judge::{
@@ -15,7 +16,7 @@ use pipe_types::message::{Batch, BatchReply, Message, Reply};
 use pipe_types::numbers::MsgNo;
 use pipe_types::reason::Reason;
 use pipe_types::topology::{Kind, StageSpec};
-use stage_callback::{Callback, FailedReply, Prepared, copy_spec, unarmed};
+use stage_callback::{Callback, FailedReply, Prepared, copy_spec, count_reset, unarmed};
 use std::alloc::{AllocError, Global};
 
 /// A handler as a callback of the kind `own`.
@@ -25,6 +26,7 @@ pub struct OwnBox<H> {
     spec: StageSpec,
     calls: u64,
     bad: u64,
+    resets: u64,
     pub handler: H,
 }
 
@@ -34,6 +36,8 @@ impl<H: Handler> OwnBox<H> {
         ensures kind { ⟦<OwnBox<H> as Callback>⟧.kind result ≡ Kind.Own }
         ensures calls { ⟦<OwnBox<H> as Callback>⟧.calls result ≡ 0 }
         ensures bad { ⟦<OwnBox<H> as Callback>⟧.bad result ≡ 0 }
+        ensures resets { ⟦<OwnBox<H> as Callback>⟧.resets result ≡ 0 }
+        ensures law { ⟦<OwnBox<H> as Callback>⟧.law result ≡ law_of (H.law handler) }
         ensures handler { result.handler ≡ handler }
     {
         OwnBox {
@@ -41,6 +45,7 @@ impl<H: Handler> OwnBox<H> {
             spec: unarmed(alloc, Kind::Own),
             calls: 0,
             bad: 0,
+            resets: 0,
             handler,
         }
     }
@@ -48,9 +53,12 @@ impl<H: Handler> OwnBox<H> {
     /// Handles one message, as `message` of the callback does: the call is counted, and its answer where it is no pass.
     pub fn handle(&mut self, message: Message) -> Result<Reply, AllocError>
         ensures same_spec { ⟦<OwnBox<H> as Callback>⟧.spec self.new ≡ ⟦<OwnBox<H> as Callback>⟧.spec self.old }
+        ensures same_law { ⟦<OwnBox<H> as Callback>⟧.law self.new ≡ ⟦<OwnBox<H> as Callback>⟧.law self.old }
+        ensures same_resets { ⟦<OwnBox<H> as Callback>⟧.resets self.new ≡ ⟦<OwnBox<H> as Callback>⟧.resets self.old }
         // It is what the handler gave, as it is or as a crash.
         ensures judged { IfOk result (λ reply. IsJudged (λ given. H.message_gives self.old.handler message given self.new.handler)
             (⟦<OwnBox<H> as Callback>⟧.spec self.old).batchers message reply) }
+        ensures lawful { IfOk result (λ reply. Keeps (⟦<OwnBox<H> as Callback>⟧.law self.old) message reply) }
         ensures shape { IfOk result (λ reply. IsTrue (is_own_reply (⟦<OwnBox<H> as Callback>⟧.spec self.old).batchers message reply)) }
         ensures calls { OnOk result (⟦<OwnBox<H> as Callback>⟧.calls self.new ≡ counted (⟦<OwnBox<H> as Callback>⟧.calls self.old) 1) }
         ensures bad { IfOk result (λ reply.
@@ -72,6 +80,8 @@ impl<H: Handler> OwnBox<H> {
     /// successful.
     pub fn handle_batch(&mut self, batch: &Batch) -> Result<BatchReply, AllocError>
         ensures same_spec { ⟦<OwnBox<H> as Callback>⟧.spec self.new ≡ ⟦<OwnBox<H> as Callback>⟧.spec self.old }
+        ensures same_law { ⟦<OwnBox<H> as Callback>⟧.law self.new ≡ ⟦<OwnBox<H> as Callback>⟧.law self.old }
+        ensures same_resets { ⟦<OwnBox<H> as Callback>⟧.resets self.new ≡ ⟦<OwnBox<H> as Callback>⟧.resets self.old }
         ensures shape { IfOk result (λ reply. IsTrue (is_batch_answer batch.now.messages reply)) }
         ensures own_text { IfOk result (λ reply. HasOwnText batch.now.messages reply) }
         ensures calls { OnOk result (⟦<OwnBox<H> as Callback>⟧.calls self.new ≡ counted (⟦<OwnBox<H> as Callback>⟧.calls self.old) 1) }
@@ -91,7 +101,7 @@ impl<H: Handler> OwnBox<H> {
 }
 
 /// Counts an answer other than success.
-fn count_answer(bad: &mut u64, success: bool)
+pub fn count_answer(bad: &mut u64, success: bool)
     ensures count { bad.new ≡ counted_unless success bad.old }
     ensures never_falls { bad.old ≤ bad.new }
     ensures rose { success ≡ false → Rose bad.old bad.new }
@@ -103,7 +113,7 @@ fn count_answer(bad: &mut u64, success: bool)
 }
 
 /// Counts a call.
-fn count_call(calls: &mut u64)
+pub fn count_call(calls: &mut u64)
     ensures count { calls.new ≡ counted calls.old 1 }
     ensures never_falls { calls.old ≤ calls.new }
     ensures rose { Rose calls.old calls.new }
@@ -122,6 +132,10 @@ impl<H: Handler> Callback for OwnBox<H> {
 
     ghost bad = { λ b. b.bad };
 
+    ghost resets = { λ b. b.resets };
+
+    ghost law = { λ b. law_of (H.law b.handler) };
+
     ghost told = { λ _. false };
 
     ghost said = { λ _. [] };
@@ -137,6 +151,7 @@ impl<H: Handler> Callback for OwnBox<H> {
     }
 
     fn reset(&mut self) {
+        count_reset(&mut self.resets);
         self.handler.reset();
     }
 

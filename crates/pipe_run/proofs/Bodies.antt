@@ -1,6 +1,6 @@
 -- What the bodies hold of what their stages opened by name.
 use Rattle.std.proofs.Common.{◌≡◌, ℕ, List, [], length, Bool, true, false, arith, refl, ap, sym, ◌∙◌, subst, inl, inr, Option, Some, None}
-use Rattle.std.specs.Prelude.{IsTrue, IsSome, ◌⊎◌, option_map}
+use Rattle.std.specs.Prelude.{IsSome, ◌⊎◌, option_map}
 use Rattle.std.proofs.lemmas.Bool.{ne_eqb}
 use Rattle.pipe_types.specs.Numbers.{stage, post, same_stage}
 use Rattle.pipe_types.specs.Sound.{IsSound}
@@ -13,10 +13,8 @@ use Rattle.pipe_types.specs.declared.topology.StageSpec.{StageSpec}
 use Rattle.pipe_types.specs.declared.topology.Topology.{Topology}
 use Rattle.pipe_model.specs.History.{History}
 use Rattle.pipe_model.specs.Legal.{is_legal, has_role, is_producer_role, is_batch_processor_role}
-use Rattle.pipe_model.specs.Moves.{jobs_out}
 use Rattle.pipe_model.specs.Posts.{is_out}
 use Rattle.stage_laws.proofs.Numbering.{numbered_topology}
-use Rattle.move_laws.proofs.Still.{slot_none}
 use Rattle.pipe_edges.specs.declared.edges.EdgeKind.{EdgeKind}
 use Rattle.pipe_edges.specs.declared.edges.EdgeKind.TheVariants.{Source, Sink}
 use Rattle.stage_bodies.specs.Seen.{SinkSeen, LineSeen, BodySeen}
@@ -30,7 +28,7 @@ use Rattle.edge_names.specs.Named.{GivesSink}
 use Rattle.edge_names.specs.Opened.{AreHome, AreOpened, GivesLines, IsOpened, call_by, call_in, edge_call}
 use Rattle.edge_names.specs.Returned.{source_in, sink_in}
 use Rattle.edge_names.proofs.Openings.{opened_stage, given_source, given_sink}
-use Rattle.pipe_run.specs.Outside.{AreUsed, IsSourceRead, IsSinkWritten, IsSinkWrittenBy}
+use Rattle.pipe_run.specs.Outside.{AreUsed, IsSourceRead, IsSinkWritten}
 use Rattle.pipe_run.proofs.Sources.{source_read}
 use Rattle.pipe_run.proofs.Sinks.{sink_written}
 
@@ -158,59 +156,42 @@ source_kept topology before p true lines (Some b) (Some c) has some (inr k) = so
 source_kept topology before p out lines (Some b) None has some k = let x : false ≡ true = some in cc
 source_kept topology before p out lines None n has some k = absurd has
 
-record IsSinkKept (topology : Topology) (before : History) (s : StageNo) (out : Bool) (opened : SinkSeen) (body : Option BodySeen) : Type 0 where
+record IsSinkKept (topology : Topology) (before : History) (s : StageNo) (opened : SinkSeen) (body : Option BodySeen) : Type 0 where
   pub now : SinkSeen
   pub is : sink_in body ≡ Some now
-  pub more : List ℕ
-  pub all : out ≡ false → more ≡ []
-  pub keeps : KeepsSink topology before s more opened now
+  pub keeps : KeepsSink topology before s opened now
 
-sink_whole : (topology : Topology) (before : History) (s : StageNo) (out : Bool) (sink : SinkSeen) (c : BodySeen) (x y : Option SinkSeen) → x ≡ Some sink → c.sink ≡ y → Both (KeepsSink topology before s []) x y
-    → IsSinkKept topology before s out sink (Some c)
-sink_whole topology before s out sink c (Some a) (Some now) e is h = record {
+sink_here : (topology : Topology) (before : History) (s : StageNo) (sink : SinkSeen) (c : BodySeen) (x y : Option SinkSeen) → x ≡ Some sink → c.sink ≡ y → Both (KeepsSink topology before s) x y
+    → IsSinkKept topology before s sink (Some c)
+sink_here topology before s sink c (Some a) (Some now) e is h = record {
   now = now;
   is = is;
-  more = [];
-  all = λ home. refl;
-  keeps = let same : a ≡ sink = cc in subst (λ z. KeepsSink topology before s [] z now) same h;
+  keeps = let same : a ≡ sink = cc in subst (λ z. KeepsSink topology before s z now) same h;
 }
-sink_whole topology before s out sink c (Some a) None e is h = absurd h
-sink_whole topology before s out sink c None y e is h = cc
+sink_here topology before s sink c (Some a) None e is h = absurd h
+sink_here topology before s sink c None y e is h = cc
 
-sink_partly : (topology : Topology) (before : History) (s : StageNo) (sink : SinkSeen) (c : BodySeen) (x y : Option SinkSeen) → x ≡ Some sink → c.sink ≡ y
-    → Both (λ old new. (more : List ℕ) × KeepsSink topology before s more old new) x y → IsSinkKept topology before s true sink (Some c)
-sink_partly topology before s sink c (Some a) (Some now) e is h = record {
-  now = now;
-  is = is;
-  more = h.0;
-  all = λ home. cc;
-  keeps = let same : a ≡ sink = cc in subst (λ z. KeepsSink topology before s h.0 z now) same h.1;
-}
-sink_partly topology before s sink c (Some a) None e is h = absurd h
-sink_partly topology before s sink c None y e is h = cc
-
-sink_kept : (topology : Topology) (before : History) (p : Post) (out : Bool) (sink : SinkSeen) (o n : Option BodySeen) → There o (λ b. b.sink ≡ Some sink) → IsSome n → KeepsPost topology before p out o n → IsSinkKept topology before p.stage out sink n
-sink_kept topology before p false sink (Some b) (Some c) has some k = sink_whole topology before p.stage false sink c b.sink c.sink has refl k.sink
+sink_kept : (topology : Topology) (before : History) (p : Post) (out : Bool) (sink : SinkSeen) (o n : Option BodySeen) → There o (λ b. b.sink ≡ Some sink) → IsSome n → KeepsPost topology before p out o n → IsSinkKept topology before p.stage sink n
+sink_kept topology before p false sink (Some b) (Some c) has some k = sink_here topology before p.stage sink c b.sink c.sink has refl k.sink
 sink_kept topology before p true sink (Some b) (Some c) has some (inl none) = cc
-sink_kept topology before p true sink (Some b) (Some c) has some (inr k) = sink_partly topology before p.stage sink c b.sink c.sink has refl k.sink
+sink_kept topology before p true sink (Some b) (Some c) has some (inr k) = sink_here topology before p.stage sink c b.sink c.sink has refl k.sink
 sink_kept topology before p out sink (Some b) None has some k = let x : false ≡ true = some in cc
 sink_kept topology before p out sink None n has some k = absurd has
 
 -- ---- all
 
 -- a run of which the bodies keep the journal, after everything was opened
-pub record IsRunFrom (whole : Bool) (topology : Topology) (edges : EdgesSeen) (before : History) (table opened bodies : ℕ → Option BodySeen) : Type 0 where
+pub record IsRunFrom (topology : Topology) (edges : EdgesSeen) (before : History) (table opened bodies : ℕ → Option BodySeen) : Type 0 where
   pub sound : IsSound topology
   pub legal : is_legal topology before ≡ true
   pub home : AreHome topology table
   pub opens : AreOpened topology (length topology.stages) edges table opened
   pub keeps : Keeps topology before opened bodies
   pub stay : (at : ℕ) → IsSome (opened at) → IsSome (bodies at)
-  pub none_out : IsTrue whole → jobs_out topology before ≡ false
 
-sources_used : (whole : Bool) (topology : Topology) (edges : EdgesSeen) (before : History) (table opened bodies : ℕ → Option BodySeen) → IsRunFrom whole topology edges before table opened bodies
+sources_used : (topology : Topology) (edges : EdgesSeen) (before : History) (table opened bodies : ℕ → Option BodySeen) → IsRunFrom topology edges before table opened bodies
     → (s : StageNo) (name : List ℕ) → call_in (spec_of topology s) ≡ Some (Source, name) → There (source_in (bodies (place_at (post s 0)))) (IsSourceRead edges before s name)
-sources_used whole topology edges before table opened bodies run s name e =
+sources_used topology edges before table opened bodies run s name e =
     let at = place_at (post s 0) in
     let c = call_of topology s Source name e in
     let numbered = numbered_topology topology run.sound in
@@ -224,14 +205,9 @@ sources_used whole topology edges before table opened bodies run s name e =
     there_at (IsSourceRead edges before s name) (source_in (bodies at)) kept.now.source kept.is
     (source_read topology before s kept.lost edges name o.lines kept.now run.legal role own kept.in_fetch o.gives kept.keeps)
 
-written_by : (whole : Bool) (topology : Topology) (edges : EdgesSeen) (before : History) (s : StageNo) (name more : List ℕ) (sink : SinkSeen) → (IsTrue whole → more ≡ []) → IsSinkWritten topology edges before s name more sink
-    → IsSinkWrittenBy whole topology edges before s name sink
-written_by true topology edges before s name more sink none h = subst (λ x. IsSinkWritten topology edges before s name x sink) (none refl) h
-written_by false topology edges before s name more sink none h = (more, h)
-
-sinks_used : (whole : Bool) (topology : Topology) (edges : EdgesSeen) (before : History) (table opened bodies : ℕ → Option BodySeen) → IsRunFrom whole topology edges before table opened bodies
-    → (s : StageNo) (name : List ℕ) → call_in (spec_of topology s) ≡ Some (Sink, name) → There (sink_in (bodies (place_at (post s 0)))) (IsSinkWrittenBy whole topology edges before s name)
-sinks_used whole topology edges before table opened bodies run s name e =
+sinks_used : (topology : Topology) (edges : EdgesSeen) (before : History) (table opened bodies : ℕ → Option BodySeen) → IsRunFrom topology edges before table opened bodies
+    → (s : StageNo) (name : List ℕ) → call_in (spec_of topology s) ≡ Some (Sink, name) → There (sink_in (bodies (place_at (post s 0)))) (IsSinkWritten topology edges before s name)
+sinks_used topology edges before table opened bodies run s name e =
     let at = place_at (post s 0) in
     let c = call_of topology s Sink name e in
     let numbered = numbered_topology topology run.sound in
@@ -241,10 +217,9 @@ sinks_used whole topology edges before table opened bodies run s name e =
     let o = sink_opened edges name (table at) (opened at) (run.home s c.spec c.found some) both in
     let there = run.stay at (some_from (λ b. b.sink ≡ Some o.sink) (opened at) o.has) in
     let kept = sink_kept topology before (post s 0) (is_out before (post s 0)) o.sink (opened at) (bodies at) o.has there (run.keeps (post s 0) (first_post topology s is_batch_processor_role batch_post role)) in
-    let home = λ (w : IsTrue whole). slot_none topology before s c.spec 0 (run.none_out w) c.found (omega arith) in
-    there_at (IsSinkWrittenBy whole topology edges before s name) (sink_in (bodies at)) kept.now kept.is
-    (written_by whole topology edges before s name kept.more kept.now (λ w. kept.all (home w)) (sink_written topology before s edges name kept.more o.sink kept.now o.gives kept.keeps))
+    there_at (IsSinkWritten topology edges before s name) (sink_in (bodies at)) kept.now kept.is
+    (sink_written topology before s edges name o.sink kept.now o.gives kept.keeps)
 
-pub used : (whole : Bool) (topology : Topology) (edges : EdgesSeen) (before : History) (table opened bodies : ℕ → Option BodySeen) → IsRunFrom whole topology edges before table opened bodies → AreUsed whole topology edges before bodies
-used whole topology edges before table opened bodies run =
-    record { sources = sources_used whole topology edges before table opened bodies run; sinks = sinks_used whole topology edges before table opened bodies run }
+pub used : (topology : Topology) (edges : EdgesSeen) (before : History) (table opened bodies : ℕ → Option BodySeen) → IsRunFrom topology edges before table opened bodies → AreUsed topology edges before bodies
+used topology edges before table opened bodies run =
+    record { sources = sources_used topology edges before table opened bodies run; sinks = sinks_used topology edges before table opened bodies run }

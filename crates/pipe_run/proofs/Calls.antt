@@ -116,7 +116,7 @@ asked_all calls sources sinks old mid new asks back = record {
 }
 
 pub outside : (whole : Bool) (topology : Topology) (before : History) (calls : List (EdgeKind × List ℕ)) (old mid new : EdgesSeen) (control : Option LineSeen) (bodies : ℕ → Option BodySeen) (n : ℕ) → (IsTrue whole → n ≡ suc (length topology.stages))
-    → HasControl topology old before topology.control control → AreUsed whole topology old before bodies
+    → HasControl topology old before topology.control control → AreUsed topology old before bodies
     → Asks calls old mid → GivesBack (first_sources n topology control bodies) (first_sinks n topology bodies) mid new → IsOutside whole topology before old new
 outside whole topology before calls old mid new control bodies n all obeyed used asks back = record {
   control = control;

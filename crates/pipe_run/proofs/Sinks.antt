@@ -11,9 +11,9 @@ use Rattle.edge_names.specs.Seen.{EdgesSeen}
 use Rattle.edge_names.specs.Named.{GivesSink}
 use Rattle.pipe_run.specs.Outside.{IsSinkWritten}
 
-pub sink_written : (topology : Topology) (before : History) (s : StageNo) (edges : EdgesSeen) (name more : List ℕ) (opened now : SinkSeen) → GivesSink edges name opened → KeepsSink topology before s more opened now
-    → IsSinkWritten topology edges before s name more now
-sink_written topology before s edges name more opened now gives k = record {
+pub sink_written : (topology : Topology) (before : History) (s : StageNo) (edges : EdgesSeen) (name : List ℕ) (opened now : SinkSeen) → GivesSink edges name opened → KeepsSink topology before s opened now
+    → IsSinkWritten topology edges before s name now
+sink_written topology before s edges name opened now gives k = record {
   opened = opened;
   given = gives;
   same_telling = k.told;

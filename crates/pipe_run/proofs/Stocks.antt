@@ -25,6 +25,9 @@ use Rattle.box_stock.specs.declared.handing.Slip.{Slip}
 use Rattle.box_stock.specs.declared.handing.Slip.TheVariants.{Lent, Kept}
 use Rattle.box_stock.proofs.Located.{home_found, post_of}
 use Rattle.pipe_run.specs.Boxes.{AreBoxesLeft, AreSameBoxes, IsBoxArmed, IsBoxLeft, IsBoxUsedBy, KeepsCallbackBy, LeavesCallbacks, kinds}
+use Rattle.stage_callback.specs.Laws.{RoseExactly}
+use Rattle.body_laws.specs.Counts.{resets_of}
+use Rattle.body_laws.specs.Lawful.{AreLawfulAnswers}
 use Rattle.pipe_run.proofs.Callbacks.{post_spec, same_callback}
 
 -- ---- one box
@@ -36,6 +39,7 @@ rise_from n a b c le (inr full) = inr full
 armed_as : (topology : Topology) (p : Post) (spec : StageSpec) (old armed last : BoxSeen) → spec_of topology p.stage ≡ Some spec → IsFreshBox spec old armed → KeepsBox armed last → IsBoxArmed topology p old last
 armed_as topology p spec old armed last found f k = record {
   kind = k.kind ∙ f.same.kind;
+  law = k.law ∙ f.same.law;
   told = k.told ∙ f.same.told;
   spec = found ∙ ap Some (sym (k.spec ∙ f.spec));
   calls = omega (arith, f.same.calls, k.calls);
@@ -49,6 +53,8 @@ used_as true topology before p spec old armed last found f k = record {
   count = k.count;
   calls = λ own. rise_from _ old.calls armed.calls last.calls f.same.calls (k.calls own);
   bad = λ own. rise_from _ old.bad armed.bad last.bad f.same.bad (k.bad own);
+  resets = λ own. subst (λ n. RoseExactly (resets_of topology before p) n last.resets) f.same.resets (k.resets own);
+  lawful = subst (λ law. AreLawfulAnswers topology before p law) f.same.law k.lawful;
 }
 used_as false topology before p spec old armed last found f k = armed_as topology p spec old armed last found f k
 
@@ -78,7 +84,7 @@ box_left seen whole topology before home table final None (Some slip) new posts 
 box_left seen whole topology before home table final None None new posts leaves h is = subst (λ o. Both (IsBoxLeft whole topology before home) None o) (sym is) tt
 
 same_box : (a : BoxSeen) → IsSameBox a a
-same_box a = record { kind = refl; told = refl; said = λ t. refl; calls = omega arith; bad = omega arith }
+same_box a = record { kind = refl; law = refl; resets = refl; told = refl; said = λ t. refl; calls = omega arith; bad = omega arith }
 
 armed_same : (o : Option StageSpec) (old new : BoxSeen) → IsArmedWith o old new → IsSameBox old new
 armed_same (Some spec) old new h = h.same

@@ -30,21 +30,20 @@ pub run_of : (whole : Bool) (topology : Topology) (before : History) (table open
     → AreOpened topology (length topology.stages) old table opened → HasSource old (control_call topology.control) None fresh → Asks (run_calls topology) old mid → WentOn whole topology before opened final fresh mid new clock clock'
     → IsRunOf whole topology before old new clock clock'
 run_of whole topology before table opened final fresh old mid new clock clock' sound legal handed opens lines asks went =
-    let from : IsRunFrom whole topology old before table opened went.bodies = record {
+    let from : IsRunFrom topology old before table opened went.bodies = record {
       sound = sound;
       legal = legal;
       home = homes topology table handed;
       opens = opens;
       keeps = went.keeps;
       stay = went.stay;
-      none_out = went.none_out;
     } in
     let obeyed = has_control topology old before topology.control fresh went.control lines went.obeyed in
     record {
       follows = went.follows;
       control = λ none. no_control topology old before topology.control fresh went.control none lines went.obeyed;
       ended = went.ended;
-      outside = outside whole topology before (run_calls topology) old mid new went.control went.bodies went.parts went.all obeyed (used whole topology old before table opened went.bodies from) asks went.back;
+      outside = outside whole topology before (run_calls topology) old mid new went.control went.bodies went.parts went.all obeyed (used topology old before table opened went.bodies from) asks went.back;
       time = went.time;
       asks = asked_all (run_calls topology) (first_sources went.parts topology went.control went.bodies) (first_sinks went.parts topology went.bodies) old mid new asks went.back;
     }

@@ -6,31 +6,36 @@ use Rattle.pipe_types.specs.declared.topology.Kind.TheVariants.{Own}
 use Rattle.pipe_types.specs.declared.topology.Topology.{Topology}
 use Rattle.pipe_types.specs.Stages.{spec_of}
 use Rattle.pipe_model.specs.History.{History}
+use Rattle.stage_callback.specs.Laws.{RoseExactly}
 use Rattle.stage_job.specs.Chunks.{RoseBy}
 use Rattle.stage_bodies.specs.Seen.{BoxSeen, BodySeen}
 use Rattle.stage_bodies.specs.Jobs.{Both, KeepsBox}
 use Rattle.stage_bodies.specs.Posts.{place_at}
-use Rattle.body_laws.specs.Counts.{calls_of, bad_of}
+use Rattle.body_laws.specs.Counts.{calls_of, bad_of, resets_of}
+use Rattle.body_laws.specs.Lawful.{AreLawfulAnswers}
 use Rattle.body_laws.specs.Keeps.{IsCounted, KeepsCallback, has_post}
 use Rattle.body_laws.specs.Ready.{There}
 use Rattle.box_stock.specs.Homes.{post_for}
 use Rattle.box_stock.specs.Lends.{IsSameBox, callback_in}
 
--- the same callback, armed with the spec of the stage; its counts did not fall
+-- the same callback with the same law, armed with the spec of the stage; its counts did not fall
 pub record IsBoxArmed (topology : Topology) (p : Post) (old new : BoxSeen) : Type 0 where
   pub kind : new.kind ≡ old.kind
+  pub law : new.law ≡ old.law
   pub told : new.told ≡ old.told
   pub spec : spec_of topology p.stage ≡ Some new.spec
   pub calls : old.calls ≤ new.calls
   pub bad : old.bad ≤ new.bad
 
 -- it was used by the post as the journal says: a built-in kind has the journal's count, and a user's own counted each call and
--- each bad answer of the journal
+-- each bad answer of the journal, and just its resets; what the journal says that it answered is lawful for what it was shown
 pub record IsBoxUsed (topology : Topology) (before : History) (p : Post) (old new : BoxSeen) : Type 0 where
   pub armed : IsBoxArmed topology p old new
   pub count : IsCounted topology before p.stage new
   pub calls : new.kind ≡ Own → RoseBy (calls_of before p) old.calls new.calls
   pub bad : new.kind ≡ Own → RoseBy (bad_of before p) old.bad new.bad
+  pub resets : new.kind ≡ Own → RoseExactly (resets_of topology before p) old.resets new.resets
+  pub lawful : AreLawfulAnswers topology before p old.law
 
 abbrev pub IsBoxUsedBy : (whole : Bool) → Topology → History → Post → (old new : BoxSeen) → Type 0
 IsBoxUsedBy true topology before p old new = IsBoxUsed topology before p old new

@@ -1,5 +1,5 @@
 -- What a run read of its sources, and wrote to its sinks.
-use Rattle.std.specs.Prelude.{◌≡◌, ◌≤◌, ◌⊎◌, ◌+◌, ◌++◌, ℕ, suc, drop, Bool, true, false, List, [], length, slice_get, IsTrue, Option, Some, None}
+use Rattle.std.specs.Prelude.{◌≡◌, ◌≤◌, ◌⊎◌, ◌+◌, ◌++◌, ℕ, suc, drop, Bool, List, length, slice_get, IsTrue, Option, Some, None}
 use Rattle.pipe_types.specs.Counts.{Rose}
 use Rattle.pipe_types.specs.declared.numbers.StageNo.{StageNo}
 use Rattle.pipe_types.specs.declared.step.SourceHow.TheVariants.{End, Fault, TooLong}
@@ -59,26 +59,21 @@ HasControl topology edges before (Some name) (Some lines) = IsControlUsed topolo
 HasControl topology edges before None None = Unit {0}
 HasControl topology edges before _ _ = ⊥
 
--- the sink that was opened under this name holds what it held then, then the journal's text, and then what more was written;
--- each write of less than its text has its cause in the sink, whose count was 0
-pub record IsSinkWritten (topology : Topology) (edges : EdgesSeen) (before : History) (s : StageNo) (name more : List ℕ) (sink : SinkSeen) : Type 0 where
+-- the sink that was opened under this name holds what it held then, and then exactly the journal's text; each write of less than
+-- its text has its cause in the sink, whose count was 0
+pub record IsSinkWritten (topology : Topology) (edges : EdgesSeen) (before : History) (s : StageNo) (name : List ℕ) (sink : SinkSeen) : Type 0 where
   pub opened : SinkSeen
   pub given : GivesSink edges name opened
   pub same_telling : sink.told ≡ opened.told
-  pub held : IsTrue opened.told → sink.held ≡ opened.held ++ (sink_text topology before s ++ more)
+  pub held : IsTrue opened.told → sink.held ≡ opened.held ++ sink_text topology before s
   pub short : RoseBy (short_writes topology before s) 0 sink.faults
 
--- where memory was wanting, an answer may be in no journal, and its bytes are more than the journal has
-abbrev pub IsSinkWrittenBy : (whole : Bool) → Topology → EdgesSeen → History → StageNo → (name : List ℕ) → SinkSeen → Type 0
-IsSinkWrittenBy true topology edges before s name sink = IsSinkWritten topology edges before s name [] sink
-IsSinkWrittenBy false topology edges before s name sink = (more : List ℕ) × IsSinkWritten topology edges before s name more sink
-
 -- the bodies of the stages hold what was opened by name, each source read and each sink written as the journal says
-pub record AreUsed (whole : Bool) (topology : Topology) (edges : EdgesSeen) (before : History) (bodies : ℕ → Option BodySeen) : Type 0 where
+pub record AreUsed (topology : Topology) (edges : EdgesSeen) (before : History) (bodies : ℕ → Option BodySeen) : Type 0 where
   pub sources : (s : StageNo) (name : List ℕ) → call_in (spec_of topology s) ≡ Some (Source, name)
       → There (source_in (bodies (place_at (post s 0)))) (IsSourceRead edges before s name)
   pub sinks : (s : StageNo) (name : List ℕ) → call_in (spec_of topology s) ≡ Some (Sink, name)
-      → There (sink_in (bodies (place_at (post s 0)))) (IsSinkWrittenBy whole topology edges before s name)
+      → There (sink_in (bodies (place_at (post s 0)))) (IsSinkWritten topology edges before s name)
 
 -- everything that was opened by name was read and written as the journal says, and then given back, the control source first
 -- and then what the stages opened, in their order: all of it, unless memory was wanting
@@ -86,7 +81,7 @@ pub record IsOutside (whole : Bool) (topology : Topology) (before : History) (ol
   pub control : Option LineSeen
   pub obeyed : HasControl topology old before topology.control control
   pub bodies : ℕ → Option BodySeen
-  pub used : AreUsed whole topology old before bodies
+  pub used : AreUsed topology old before bodies
   pub parts : ℕ
   pub all : IsTrue whole → parts ≡ suc (length topology.stages)
   pub sources : new.sources_back ≡ old.sources_back ++ first_sources parts topology control bodies

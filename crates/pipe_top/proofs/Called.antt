@@ -19,7 +19,7 @@ use Rattle.edge_names.specs.Named.{GivesSource, GivesSink}
 use Rattle.edge_names.specs.Opened.{HasSource, HasSink, IsCut, IsOpened, AreOpened, call_at, edge_call, let_go, returned, uncalled}
 use Rattle.edge_names.specs.Controls.{IsFailedInPart, IsStageCut, control_call, named_control, first_sources, first_sinks}
 use Rattle.edge_names.specs.Returned.{source_in, sink_in, sources_of, sinks_of}
-use Rattle.pipe_run.specs.Outside.{IsSourceRead, IsSinkWritten, IsSinkWrittenBy, AreUsed, IsControlUsed, HasControl, IsOpenedInPart, IsOutside, IsStageUnopened, IsUnopened}
+use Rattle.pipe_run.specs.Outside.{IsSourceRead, IsSinkWritten, AreUsed, IsControlUsed, HasControl, IsOpenedInPart, IsOutside, IsStageUnopened, IsUnopened}
 use Rattle.pipe_top.specs.Cases.{Case, NoCommand, NoTopology as BadTopology, TooFew, Checks, Upgrades, Runs}
 use Rattle.pipe_top.specs.Runs.{OutsideSeen, IsUntouched, IsNothingBack, IsBrokenOff, IsGivenUp, HasRunOrNot, IsOutsideOf, FailsAt}
 use Rattle.pipe_top.specs.Flows.{IsEarly, Outcome, AskedBy, ComesBy}
@@ -117,9 +117,9 @@ has_control topology old new before None None same h = tt
 has_control topology old new before (Some name) None same h = absurd h
 has_control topology old new before None (Some lines) same h = absurd h
 
-sink_written : (topology : Topology) (old new : EdgesSeen) (before : History) (s : StageNo) (name more : List ℕ) (sink : SinkSeen) → SameNames old new
-    → IsSinkWritten topology new before s name more sink → IsSinkWritten topology old before s name more sink
-sink_written topology old new before s name more sink same x = record {
+sink_written : (topology : Topology) (old new : EdgesSeen) (before : History) (s : StageNo) (name : List ℕ) (sink : SinkSeen) → SameNames old new
+    → IsSinkWritten topology new before s name sink → IsSinkWritten topology old before s name sink
+sink_written topology old new before s name sink same x = record {
   opened = x.opened;
   given = gives_sink old new name x.opened same x.given;
   same_telling = x.same_telling;
@@ -127,20 +127,15 @@ sink_written topology old new before s name more sink same x = record {
   short = x.short;
 }
 
-sink_written_by : (whole : Bool) (topology : Topology) (old new : EdgesSeen) (before : History) (s : StageNo) (name : List ℕ) (sink : SinkSeen) → SameNames old new
-    → IsSinkWrittenBy whole topology new before s name sink → IsSinkWrittenBy whole topology old before s name sink
-sink_written_by true topology old new before s name sink same x = sink_written topology old new before s name [] sink same x
-sink_written_by false topology old new before s name sink same x = (x.0, sink_written topology old new before s name x.0 sink same x.1)
-
-are_used : (whole : Bool) (topology : Topology) (old new : EdgesSeen) (before : History) (bodies : ℕ → Option BodySeen) → SameNames old new
-    → AreUsed whole topology new before bodies → AreUsed whole topology old before bodies
-are_used whole topology old new before bodies same x = record {
+are_used : (topology : Topology) (old new : EdgesSeen) (before : History) (bodies : ℕ → Option BodySeen) → SameNames old new
+    → AreUsed topology new before bodies → AreUsed topology old before bodies
+are_used topology old new before bodies same x = record {
   sources = λ s name call.
       there_as (IsSourceRead new before s name) (IsSourceRead old before s name) (source_in (bodies (place_at (post s 0))))
       (λ source. source_read old new before s name source same) (x.sources s name call);
   sinks = λ s name call.
-      there_as (IsSinkWrittenBy whole topology new before s name) (IsSinkWrittenBy whole topology old before s name) (sink_in (bodies (place_at (post s 0))))
-      (λ sink. sink_written_by whole topology old new before s name sink same) (x.sinks s name call);
+      there_as (IsSinkWritten topology new before s name) (IsSinkWritten topology old before s name) (sink_in (bodies (place_at (post s 0))))
+      (λ sink. sink_written topology old new before s name sink same) (x.sinks s name call);
 }
 
 -- ---- a call that failed
@@ -180,7 +175,7 @@ outside_as whole topology before call old middle new c x = record {
   control = x.control;
   obeyed = has_control topology old middle before topology.control x.control c.names x.obeyed;
   bodies = x.bodies;
-  used = are_used whole topology old middle before x.bodies c.names x.used;
+  used = are_used topology old middle before x.bodies c.names x.used;
   parts = x.parts;
   all = x.all;
   sources = x.sources ∙ ap (λ l. l ++ first_sources x.parts topology x.control x.bodies) c.same_sources;

@@ -26,7 +26,7 @@ asks_none calls asked = record { count = 0; is = sym (append-nil asked) }
 
 same_box : (o : Option BoxSeen) → Both IsSameBox o o
 same_box None = tt
-same_box (Some box) = record { kind = refl; told = refl; said = λ t. refl; calls = omega arith; bad = omega arith }
+same_box (Some box) = record { kind = refl; law = refl; resets = refl; told = refl; said = λ t. refl; calls = omega arith; bad = omega arith }
 
 same_boxes : (boxes : List BoxSeen) → AreSameBoxes boxes boxes
 same_boxes boxes = record { as_many = refl; each = λ k. same_box (slice_get boxes k) }

@@ -1,0 +1,11 @@
+pub mod Flowing
+pub mod Working
+pub mod Gives
+pub mod Keeping
+pub mod Taking
+pub mod Owing
+pub mod Crashing
+pub mod Beginning
+pub mod Judging
+pub mod Naming
+pub mod Legality

@@ -4,6 +4,21 @@
 //! whether it is; `chunk` says which message a job that is out works on at a place. A step costs what the run spent on it.
 #![tactic(auto)]
 
+mod accepts;
+mod after;
+mod answers;
+mod appends;
+mod batches;
+mod children;
+mod clocks;
+mod flows;
+mod folds;
+mod given;
+mod jobs;
+mod judges;
 mod run;
+mod takes;
+mod works;
 
+pub use folds::are_legal;
 pub use run::PlainRun;

@@ -1,10 +1,15 @@
 //! The run.
 
-ghost use Rattle.std.specs.Prelude.{◌≡◌, ◌∷◌, [], true, IfOk, IfErr, OnOk, OnErr, Ok};
+ghost use Rattle.std.specs.Prelude.{◌≡◌, ◌∷◌, [], true, false, IfOk, IfErr, OnErr, Ok};
 ghost use Rattle.pipe_types.specs.Sound.{IsSound};
 ghost use Rattle.pipe_model.specs.Legal.{allows, is_legal};
-ghost use Rattle.plain_run.specs.Jobs.{named_at};
+ghost use Rattle.core_state.specs.Stands.{Stands};
+ghost use Rattle.plain_run.specs.Jobs.{named_at as named_at_as};
 
+use crate::after::After;
+use crate::jobs::named_at;
+use crate::judges::judge;
+use crate::works::{Works, new_works};
 use core_state::Core;
 use pipe_journal::Journal;
 use pipe_types::numbers::{MsgNo, Post, StageNo};
@@ -17,17 +22,19 @@ use std::marker::Model;
 #[derive(Drop)]
 pub struct PlainRun {
     core: Core,
+    works: Works,
+    after: After,
 }
 
 impl Model for PlainRun {
-    ghost use Rattle.core_state.specs.Stands.{Holds};
+    ghost use Rattle.plain_run.specs.Runs.{IsRun};
     ghost use Rattle.plain_run.specs.Seen.{RunSeen};
 
     ghost Value = { RunSeen };
 
     ghost view = { λ r. record { topology = r.core.topology; steps = r.core.journal.steps } };
 
-    ghost invariant = { λ r. Holds r.core };
+    ghost invariant = { λ r. IsRun r.core r.works r.after };
 }
 
 impl PlainRun {
@@ -39,8 +46,30 @@ impl PlainRun {
         ensures returned { IfErr result (λ refused. refused.0 ≡ topology) }
     {
         match Core::new(alloc, topology) {
-            Ok(core) => Ok(PlainRun { core }),
+            Ok(core) => PlainRun::begin(alloc, core),
             Err(refused) => Err(refused),
+        }
+    }
+
+    /// A run over a core without a step.
+    fn begin(alloc: Global, core: Core) -> Result<PlainRun, (Topology, AllocError)>
+        requires stands { Stands core }
+        requires empty { core.journal.steps ≡ [] }
+        ensures topology { IfOk result (λ run. run.topology ≡ core.topology) }
+        ensures steps { IfOk result (λ run. run.steps ≡ []) }
+        ensures returned { IfErr result (λ refused. refused.0 ≡ core.topology) }
+    {
+        let count = core.topology.stages.as_slice().len() + 1;
+        match new_works(alloc, count) {
+            Ok(works) => Ok(PlainRun {
+                core,
+                works,
+                after: After::Free,
+            }),
+            Err(failed) => {
+                let (topology, _) = core.into_parts();
+                Err((topology, failed))
+            }
         }
     }
 
@@ -48,24 +77,29 @@ impl PlainRun {
     /// wanting, the steps are as they were.
     pub fn step(&mut self, step: &Step) -> Result<bool, AllocError>
         ensures told { IfOk result (λ yes. yes ≡ allows self.old.topology self.old.steps step.now) }
-        ensures appended { result ≡ Ok true → self.new.steps ≡ step.now ∷ self.old.steps }
+        ensures appended { IfOk result (λ yes. yes ≡ true → self.new.steps ≡ step.now ∷ self.old.steps) }
         ensures refused { IfOk result (λ yes. yes ≡ false → self.new.steps ≡ self.old.steps) }
         ensures unchanged { OnErr result (self.new.steps ≡ self.old.steps) }
         ensures topology { self.new.topology ≡ self.old.topology }
     {
-        let _step = step;
-        let _same = self.core.journal();
-        unreachable!()
+        let next = judge(&mut self.core, &mut self.works, self.after, step)?;
+        let legal = next.is_some();
+        self.after = next.unwrap_or(self.after);
+        Ok(legal)
     }
 
     /// Number and producer of the message at that place, from 0, of the chunk or the child that is out at the post.
     pub fn chunk(&self, post: Post, at: u32) -> Option<(MsgNo, StageNo)>
-        ensures { result ≡ named_at self.now.topology self.now.steps post at }
+        ensures { result ≡ named_at_as self.now.topology self.now.steps post at }
     {
-        let _core = self.core.journal();
-        let _post = post;
-        let _at = at;
-        unreachable!()
+        self.message_at(post, at as usize)
+    }
+
+    /// The same, by a place in memory.
+    pub fn message_at(&self, post: Post, at: usize) -> Option<(MsgNo, StageNo)>
+        ensures { result ≡ named_at_as self.now.topology self.now.steps post at }
+    {
+        named_at(&self.core, &self.works, post, at)
     }
 
     /// The steps so far.
@@ -75,6 +109,13 @@ impl PlainRun {
         ensures legal { is_legal self.now.topology self.now.steps ≡ true }
     {
         self.core.journal()
+    }
+
+    /// The topology.
+    pub fn topology(&self) -> &Topology
+        ensures { result.now ≡ self.now.topology }
+    {
+        self.core.topology()
     }
 
     /// The topology and the steps so far.

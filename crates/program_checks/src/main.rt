@@ -2,8 +2,8 @@
 //!
 //! A case begins with its title and is lines that give it texts under names (`case.rt`). A line `call WORDS` then calls
 //! the program with these words, `own N` runs callbacks of one's own on N workers, `handlers N` runs the lines of the case with
-//! N handlers that pass all, and `made N WORDS` calls the program on so many topologies that rules of the case make
-//! (`making.rt`) and has the slow machine judge them.
+//! N handlers that pass all, `plain N` with N callbacks that write plain text, and `made N WORDS` calls the program on so many
+//! topologies that rules of the case make (`making.rt`) and has the slow machine judge them.
 #![tactic(auto)]
 
 mod calls;
@@ -45,6 +45,8 @@ fn obey<R: Threads + Wait + Sync>(
         own::run_own(rt, waits, case, rest)
     } else if word == "handlers" {
         own::run_passing(rt, waits, case, rest)
+    } else if word == "plain" {
+        own::run_plain_lines(rt, waits, case, rest)
     } else if word == "made" {
         made::run_made(rt, waits, case, rest)
     } else if word == "case" {

@@ -7,7 +7,7 @@ use pipe_types::message::{Batch, BatchReply, Message, Reply};
 use pipe_types::numbers::MsgNo;
 use pipe_types::reason::Reason;
 use pipe_types::topology::{Kind, StageSpec};
-use stage_callback::{Callback, FailedReply, Prepared, copy_spec, unarmed};
+use stage_callback::{Callback, FailedReply, Prepared, copy_spec, count_reset, unarmed};
 use std::alloc::{AllocError, Global};
 use std::sync::Arc;
 use std::sync::atomic::{AtomicU64, Ordering};
@@ -35,6 +35,7 @@ pub struct Meets {
     looks: u64,
     calls: u64,
     bad: u64,
+    resets: u64,
 }
 
 impl Meets {
@@ -53,6 +54,7 @@ impl Meets {
             looks,
             calls: 0,
             bad: 0,
+            resets: 0,
         }
     }
 
@@ -82,6 +84,8 @@ impl Callback for Meets {
 
     ghost bad = { λ c. c.bad };
 
+    ghost resets = { λ c. c.resets };
+
     ghost told = { λ _. false };
 
     ghost said = { λ _. [] };
@@ -95,7 +99,9 @@ impl Callback for Meets {
         Ok(())
     }
 
-    fn reset(&mut self) {}
+    fn reset(&mut self) {
+        count_reset(&mut self.resets);
+    }
 
     fn prepare(&mut self, _messages: &[Message]) -> Result<Prepared, AllocError> {
         Ok(Prepared::Ready)

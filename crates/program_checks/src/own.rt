@@ -8,7 +8,7 @@ use super::meets::Meets;
 use super::outside::shown;
 use body_jobs::Body;
 use mem_edges::{MemSink, MemSource};
-use own_callback::{Came, LinesEnd, ThirdCrashes, run_lines, run_with};
+use own_callback::{Came, LinesEnd, PlainLines, ThirdCrashes, run_lines, run_with};
 use own_handler::{OwnBox, PassAll};
 use pipe_types::bytes::Bytes;
 use std::io;
@@ -104,6 +104,29 @@ pub fn run_passing<R: Threads + Wait + Sync>(
     for _ in 0..number(count) {
         stock.push(Box::new(rt.alloc(), OwnBox::new(rt.alloc(), PassAll))?)?;
     }
+    run_stock(rt, waits, case, stock)
+}
+
+/// The same with so many callbacks that write plain text.
+pub fn run_plain_lines<R: Threads + Wait + Sync>(
+    rt: &HostRuntime,
+    waits: &R,
+    case: &Case,
+    count: &str,
+) -> io::Result<()> {
+    let mut stock: Vec<Handler> = Vec::new(rt.alloc());
+    for _ in 0..number(count) {
+        stock.push(Box::new(rt.alloc(), PlainLines::new(rt.alloc()))?)?;
+    }
+    run_stock(rt, waits, case, stock)
+}
+
+fn run_stock<R: Threads + Wait + Sync>(
+    rt: &HostRuntime,
+    waits: &R,
+    case: &Case,
+    stock: Vec<Handler>,
+) -> io::Result<()> {
     let end = run_lines::<_, _, Body<MemSource, MemSink>>(
         waits,
         rt.alloc(),

@@ -32,7 +32,7 @@ use Rattle.body_laws.proofs.Posts.{out_has_post}
 use Rattle.stage_moves.specs.Keeping.{KeepsControl, KeepsControlOn}
 use Rattle.job_laws.specs.Away.{IsAway}
 use Rattle.stage_moves.specs.Clocks.{ClockSeen, KeepsClock, KeepsClockOn}
-use Rattle.stage_holds.specs.Answers.{with_answered}
+use Rattle.stage_holds.specs.Answers.{with_answered, IsAlwaysRecorded}
 use Rattle.stage_holds.specs.Homes.{IsBack}
 use Rattle.stage_holds.specs.Holds.{AddsHold, AreHome, OutsAre, Holds}
 use Rattle.stage_holds.specs.Parts.{PartsSeen}
@@ -219,6 +219,7 @@ pub record Held {B : Type 0} (look : B → BodySeen) (brought : Option (Home B))
       → AtJob came (λ load. IsAway topology new.steps (opened (place_at load.job.post)) load.job (look load.body))
   pub fits : AtJob came (λ load. Fits load.job.work (look load.body))
   pub recorded : OnOk came (IsRecorded topology old.steps new.steps brought)
+  pub always : IfSome brought (λ home. IsAlwaysRecorded topology old.steps new.steps home.answer)
   pub cut_off : IfSome brought (λ home. IsErr home.answer → IsErr came)
   pub outs : OnOk came (OutsAre (post_of brought) (job_of came) old.steps new.steps)
   pub by_move : IfOk came (IsByMove topology new.steps)
@@ -251,6 +252,7 @@ held_by {B} look brought came old new sound legal free h = record {
   load = h.load;
   fits = h.fits;
   recorded = h.recorded;
+  always = h.always;
   cut_off = h.cut_off;
   outs = h.outs;
   by_move = h.by_move;
@@ -357,6 +359,7 @@ module _ {B : Type 0} (look : B → BodySeen) (brought : Option (Home B)) (came 
         load = λ opened seen s b. subst (λ (r : Round (Load B)). IfJob r (IsLoadOf look opened new.steps)) (sym is) (loads look brought came opened old new (at_opened opened s) s (back opened seen s b) (places ∙ s.places));
         adds = subst (λ (j : Option Post). AddsHold (post_of brought) j old.steps new.steps) same held.adds;
         recorded = λ start memory. where_held came (IsRecorded old.topology old.steps new.steps brought) (subst HasMemory end memory) held.recorded;
+        always = held.always;
         ended = λ some. not_going old.end some going;
         on = λ o. (going, end ∙ on_by came (subst IsOn is o));
         over = λ o. subst (λ (e : Option (Result RunEnd AllocError)). IsSome e) (sym end) (over_by came (subst IsOver is o));

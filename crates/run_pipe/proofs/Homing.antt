@@ -1,75 +1,43 @@
--- A round of a pipe that has ended: the body that is brought is put to its place, and no step is added.
-use Rattle.std.proofs.Common.{◌≡◌, ◌≢◌, ⊎_elim, inr, arith, ℕ, ◌==◌, ◌<◌, Bool, true, false, if◌then◌else◌, sym, ap, refl, ◌∙◌, subst, Option, Some, None, Result, Ok, Err, Contains, eq-eqb, ne_eqb}
-use Rattle.std.specs.Prelude.{IfSome, IsSome, is_some, option_map}
+-- A round of a pipe that has ended: what is brought comes home with its answer, and nothing else is added.
+use Rattle.std.proofs.Common.{◌≡◌, ◌≢◌, ⊎_elim, inl, inr, arith, ℕ, ◌<◌, true, false, sym, refl, ◌∙◌, subst, Option, Some, None, Result, Ok, Err, Contains}
+use Rattle.std.specs.Prelude.{IfSome, IsSome, is_some, option_map, IfOk, IsOkAnd, OnOk, OnErr}
+use Rattle.std.specs.Result.{IsErr}
 use Rattle.std.proofs.lemmas.Option.{none-some}
 use Rattle.std.specs.declared.alloc.AllocError.{AllocError}
-use mathlib.Core.Logic.{dite}
-use native.Mathlib.Decide.{ℕ_discrete}
 use Rattle.pipe_types.specs.declared.numbers.Post.{Post}
 use Rattle.pipe_types.specs.declared.topology.Topology.{Topology}
 use Rattle.pipe_types.specs.Sound.{IsSound}
-use Rattle.pipe_model.specs.History.{History}
+use Rattle.pipe_model.specs.Begins.{BeginsWith}
+use Rattle.pipe_model.specs.History.{History, now}
 use Rattle.pipe_model.specs.Legal.{is_legal}
+use Rattle.pipe_model.specs.Posts.{is_out}
+use Rattle.pipe_laws.specs.Followed.{FollowsMoves}
 use Rattle.pipeline_turn.specs.Jobs.{AreAway}
-use Rattle.stage_bodies.specs.Seen.{BodySeen}
-use Rattle.stage_bodies.specs.Posts.{place_at}
+use Rattle.pipeline_turn.proofs.Journals.{begins_itself, begins_through}
+use Rattle.stage_bodies.specs.Seen.{LineSeen, BodySeen}
+use Rattle.stage_bodies.specs.Posts.{place_at, brings_records}
 use Rattle.stage_bodies.specs.declared.job.Answer.{Answer}
-use Rattle.body_laws.specs.Keeps.{Keeps}
 use Rattle.body_laws.specs.Ready.{Ready}
-use Rattle.job_laws.specs.Away.{IsAway}
-use Rattle.job_laws.proofs.Away.{unrecorded_home, cut_home, home_ready}
+use Rattle.stage_moves.specs.Clocks.{ClockSeen}
+use Rattle.stage_moves.specs.Steps.{jobs_begun}
+use Rattle.stage_holds.specs.Answers.{with_answered, IsAlwaysRecorded}
 use Rattle.stage_holds.specs.Homes.{IsBack}
-use Rattle.stage_holds.specs.Holds.{AreHome, IsHome}
+use Rattle.stage_holds.specs.Holds.{AddsAnswer, Comes, IsHome}
 use Rattle.stage_holds.specs.declared.loads.Home.{Home}
 use Rattle.run_pipe.specs.declared.ends.RunEnd.{RunEnd}
 use Rattle.run_pipe.specs.Away.{away_in}
+use Rattle.run_pipe.specs.Ends.{HasEnded, HasMemory}
 use Rattle.run_pipe.specs.Whole.{IsWhole}
 use Rattle.run_pipe.specs.Seen.{PipeState, away_of}
-use Rattle.run_pipe.specs.Stems.{Stems}
+use Rattle.run_pipe.specs.Stems.{Stems, KeepsClockTo, KeepsControlTo}
 use Rattle.run_pipe.specs.Jobs.{IsBrought}
-use Rattle.run_pipe.specs.Rounded.{Rounded}
+use Rattle.run_pipe.specs.Rounded.{AddsOnly, Rounded}
 use Rattle.stage_holds.specs.declared.loads.Load.{Load}
 use Rattle.stage_workers.specs.declared.shift.Round.{Round}
 use Rattle.stage_workers.specs.declared.shift.Round.TheVariants.{Ended}
-use Rattle.run_pipe.proofs.Gone.{some_same, moves}
+use Rattle.run_pipe.proofs.Gone.{moves}
 use Rattle.run_pipe.proofs.Outs.{none_out_ended}
 use Rattle.run_pipe.proofs.Backs.{if_some, IsBackNow, brought_now, adds_nothing}
-
--- the body at one place, and the others as they were
-abbrev pub Table : Post → BodySeen → (now after : ℕ → Option BodySeen) → Type 0
-Table p body now after = (s : ℕ) → after s ≡ (if place_at p == s then Some body else now s)
-
-module _ (p : Post) (body : BodySeen) (now after : ℕ → Option BodySeen) (table : Table p body now after) where
-  at_self : (s : ℕ) → place_at p ≡ s → after s ≡ Some body
-  at_self s e = table s ∙ ap (λ (b : Bool). if b then Some body else now s) (eq-eqb (place_at p) s e)
-
-  at_other : (s : ℕ) → place_at p ≢ s → after s ≡ now s
-  at_other s differ = table s ∙ ap (λ (b : Bool). if b then Some body else now s) (ne_eqb (place_at p) s differ)
-
-  -- a place that is empty then was so before, and is another
-  was_none : (s : ℕ) → after s ≡ None → (now s ≡ None) × (place_at p ≢ s)
-  was_none s none = dite (ℕ_discrete (place_at p) s)
-      (λ e. absurd (none-some body (sym none ∙ at_self s e)))
-      (λ differ. (sym (at_other s differ) ∙ none, differ))
-
-  comes_home : AreHome (Some p) None now after
-  comes_home s = (
-    λ none. let w = was_none s none in inr (w.0, λ e. w.1 (some_same (place_at p) s e)),
-    ⊎_elim (λ (e : option_map place_at None ≡ Some s). absurd (none-some s e))
-        (λ (u : (now s ≡ None) × (option_map place_at (Some p) ≢ Some s)). at_other s (λ e. u.1 (ap Some e)) ∙ u.0),
-  )
-
-  keeps_on : {E : Type 0} (topology : Topology) (steps : History) (opened : ℕ → Option BodySeen) (answer : Result Answer E) → IsSound topology → IsBack {E = E} topology steps (opened (place_at p)) p answer body → Keeps topology steps opened now → Keeps topology steps opened after
-  keeps_on {E = E} topology steps opened (Ok a) sound b k =
-      unrecorded_home topology steps b.job a.outcome b.old body opened now after sound (subst (λ (q : Post). IsAway topology steps (opened (place_at q)) b.job b.old) b.post b.away) b.outcome.1 (subst (λ (q : Post). Table q body now after) b.post table) k
-  keeps_on {E = E} topology steps opened (Err e) sound b k =
-      cut_home topology steps b.job b.old body opened now after sound (subst (λ (q : Post). IsAway topology steps (opened (place_at q)) b.job b.old) b.post b.away) b.outcome (subst (λ (q : Post). Table q body now after) b.post table) k
-
-  ready_on : {E : Type 0} (topology : Topology) (steps : History) (opened : Option BodySeen) (answer : Result Answer E) → IsSound topology → IsBack {E = E} topology steps opened p answer body → Ready topology steps now → Ready topology steps after
-  ready_on topology steps opened answer sound b r = home_ready topology steps opened b.job b.old body now after sound b.away (subst (λ (q : Post). Table q body now after) b.post table) r
-
-abbrev pub with_home : PipeState → (ℕ → Option BodySeen) → (places : ℕ) → PipeState
-with_home p after places = record p { home = after; places = places }
 
 pub not_going : {A : Type 0} (end : Option (Result RunEnd AllocError)) → IsSome end → end ≡ None → A
 not_going None some e = let x : false ≡ true = some in cc
@@ -81,7 +49,8 @@ nothing_home look p w ended = record {
   load = λ opened seen s b. tt;
   adds = adds_nothing None p.steps;
   recorded = λ going memory. tt;
-  ended = λ some. (refl, refl);
+  always = tt;
+  ended = λ some. (refl, inl refl);
   on = λ o. absurd o;
   over = λ o. ended;
   whole = w;
@@ -118,51 +87,118 @@ module _ {B : Type 0} (look : B → BodySeen) (brought : Option (Home B)) (p : P
       })
       (backs look brought g.opened p g.seen g.sound g.legal g.stems g.is_brought)
 
--- the pipe stays whole
-pub home_whole : {B : Type 0} (look : B → BodySeen) (home : Home B) (p : PipeState) (after : ℕ → Option BodySeen) (places : ℕ) → IsWhole p → Brings look (Some home) p → IsSome p.end → Table home.post (look home.body) p.home after → IsWhole (with_home p after places)
-home_whole look home p after places w g ended table =
-    let k = backs look (Some home) g.opened p g.seen g.sound g.legal g.stems g.is_brought in
-    let at_opened = subst (λ (t : Topology). Ready t p.steps p.home) g.stems.topology w.ready in
-    let sound = subst IsSound g.stems.topology g.sound in
-    record {
-      follows = w.follows;
-      ready = subst (λ (t : Topology). Ready t p.steps after) (sym g.stems.topology)
-          (ready_on home.post (look home.body) p.home after table g.opened.topology p.steps (g.opened.home (place_at home.post)) home.answer sound k.back at_opened);
-      ended = w.ended;
-      outs = λ memory q out. none_out_ended p.topology p.steps p.end g.sound g.legal ended w.ended memory q out;
-    }
+-- ---- what the clock and the control source have to do with it
 
-pub one_home : {B : Type 0} (look : B → BodySeen) (home : Home B) (p : PipeState) (after : ℕ → Option BodySeen) (places : ℕ) → IsWhole p → Brings look (Some home) p → IsSome p.end → Table home.post (look home.body) p.home after → places ≡ p.places → Rounded look (Some home) Ended p (with_home p after places)
-one_home look home p after places w g ended table same =
-    let first = backs look (Some home) g.opened p g.seen g.sound g.legal g.stems g.is_brought in
-    record {
-      stems = λ opened seen s b. let k = backs look (Some home) opened p seen g.sound g.legal s b in
-          let sound = subst IsSound s.topology g.sound in record {
-            topology = s.topology;
-            places = same ∙ s.places;
-            begins = s.begins;
-            keeps = keeps_on home.post (look home.body) p.home after table opened.topology p.steps opened.home home.answer sound k.back s.keeps;
-            only_posts = λ at was none. s.only_posts at was (was_none home.post (look home.body) p.home after table at none).0;
-            clock = s.clock;
-            control = s.control;
-          };
-      load = λ opened seen s b. tt;
-      adds = adds_nothing (Some home.post) p.steps;
-      recorded = λ going memory. not_going p.end ended going;
-      ended = λ some. (refl, refl);
-      on = λ o. absurd o;
-      over = λ o. ended;
-      whole = home_whole look home p after places w g ended table;
-      waits = λ w. absurd w;
-      pauses = λ p. absurd p;
-      cut_off = λ fails. ended;
-      one_line = omega arith;
-      row = λ going. tt;
-      rows = λ going memory. not_going p.end ended going;
-      lessens = λ row goes. absurd goes;
-      away = subst (λ (n : ℕ). AreAway (Some home.post) None (away_of p) (away_in p.topology after n)) (sym same)
-          (moves p.topology p.home after p.places (Some home.post) None (comes_home home.post (look home.body) p.home after table) first.slot tt);
-    }
+clock_answered : (end : Option (Result RunEnd AllocError)) (a m : History) (opened clock : ClockSeen) → now m ≡ now a → jobs_begun m ≡ jobs_begun a → KeepsClockTo end a opened clock → KeepsClockTo end m opened clock
+clock_answered None a m opened clock time jobs k = record {
+  latest = rw time k.latest;
+  readings = rw jobs k.readings;
+}
+clock_answered (Some (Ok e)) a m opened clock time jobs k = record {
+  latest = rw time k.latest;
+  readings = rw jobs k.readings;
+}
+clock_answered (Some (Err e)) a m opened clock time jobs k = record {
+  latest = rw time k.latest;
+  readings = rw jobs k.readings;
+}
+
+control_answered : (end : Option (Result RunEnd AllocError)) (topology : Topology) (a m : History) (opened lines : Option LineSeen) → AddsAnswer topology a m → KeepsControlTo end topology a opened lines → KeepsControlTo end topology m opened lines
+control_answered None topology a m opened lines adds k = adds.control 0 opened lines k
+control_answered (Some (Ok e)) topology a m opened lines adds k = adds.control 0 opened lines k
+control_answered (Some (Err e)) topology a m opened lines adds k = adds.control_partly opened lines k
+
+-- ---- the answer
+
+adds_only : {B T F : Type 0} (result : Result T F) (topology : Topology) (old new : History) (home : Home B) → OnOk result (IfOk home.answer (λ given. new ≡ with_answered topology old given)) → OnErr result (new ≡ old) → (IsErr home.answer → IsErr result)
+    → AddsOnly topology old new (Some home)
+adds_only {F = F} (Ok t) topology old new home recorded refused cut = inr (by home.answer recorded cut)
+  where
+    by : (answer : Result Answer AllocError) → IfOk answer (λ given. new ≡ with_answered topology old given) → (IsErr answer → false ≡ true) → IsOkAnd answer (λ given. new ≡ with_answered topology old given)
+    by (Ok a) is cut = is
+    by (Err e) is cut = let x : false ≡ true = cut refl in cc
+adds_only (Err e) topology old new home recorded refused cut = inl refused
+
+always_begins : {E : Type 0} (topology : Topology) (old new : History) (answer : Result Answer E) → IfOk answer (λ given. brings_records given.outcome ≡ false → new ≡ with_answered topology old given) → IsAlwaysRecorded topology old new answer
+always_begins topology old new (Ok a) is = λ none. subst (BeginsWith new) (is none) (begins_itself new)
+always_begins topology old new (Err e) is = tt
+
+none_is : (at : ℕ) → option_map place_at None ≡ Some at → ⊥
+none_is at e = none-some at e
+
+-- ---- the pipe
+
+-- what comes home to a pipe with these steps and bodies
+abbrev pub with_home : PipeState → Topology → History → (ℕ → Option BodySeen) → (places : ℕ) → PipeState
+with_home p topology after back places = record p { topology = topology; steps = after; home = back; places = places }
+
+-- a job has come home to a pipe that has ended
+module _ {B T F : Type 0} (look : B → BodySeen) (home : Home B) (p : PipeState) (topology : Topology) (after : History) (back : ℕ → Option BodySeen) (places : ℕ) (result : Result T F)
+    (w : IsWhole p) (g : Brings look (Some home) p) (ended : IsSome p.end) (same : topology ≡ p.topology) (same_places : places ≡ p.places) (legal : is_legal p.topology after ≡ true)
+    (c : Comes result home.post home.answer (look home.body) p.topology p.steps p.home after back) where
+  abbrev pub new : PipeState
+  new = with_home p topology after back places
+
+  first : IsBackNow look g.opened p.steps home
+  first = backs look (Some home) g.opened p g.seen g.sound g.legal g.stems g.is_brought
+
+  out : is_out p.steps home.post ≡ true
+  out = subst (λ (q : Post). is_out p.steps q ≡ true) (sym first.back.post) first.back.away.out
+
+  -- the pipe has ended for want of memory, since a job was out
+  no_memory : HasMemory p.end → ⊥
+  no_memory memory = none_out_ended p.topology p.steps p.end g.sound g.legal ended w.ended memory home.post out
+
+  short_ended : (end : Option (Result RunEnd AllocError)) → (HasMemory end → ⊥) → IfSome end (λ e. IfOk e (HasEnded topology after))
+  short_ended None none = tt
+  short_ended (Some (Ok e)) none = absurd (none tt)
+  short_ended (Some (Err e)) none = tt
+
+  pub home_whole : IsWhole new
+  home_whole = record {
+    follows = subst (λ (t : Topology). FollowsMoves t after) (sym same) (c.follows w.follows);
+    ready = subst (λ (t : Topology). Ready t after back) (sym same) c.ready;
+    ended = short_ended p.end no_memory;
+    outs = λ memory. absurd (no_memory memory);
+  }
+
+  stems_on : (opened : PipeState) (seen : History) → Stems opened p → IsBrought look opened seen p.steps (Some home) → Stems opened new
+  stems_on opened seen s b =
+      let k = backs look (Some home) opened p seen g.sound g.legal s b in
+      let on = subst (λ (t : Topology). Comes result home.post home.answer (look home.body) t p.steps p.home after back) s.topology c in
+      record {
+        topology = same ∙ s.topology;
+        places = same_places ∙ s.places;
+        begins = begins_through after p.steps opened.steps c.adds.begins s.begins;
+        keeps = on.keeps opened.home s.keeps k.back;
+        only_posts = λ at was none. ⊎_elim (λ (e : option_map place_at None ≡ Some at). absurd (none_is at e))
+            (λ (u : (p.home at ≡ None) × (option_map place_at (Some home.post) ≢ Some at)). s.only_posts at was u.0) ((c.homes at).0 none);
+        clock = clock_answered p.end p.steps after opened.clock p.clock c.adds_answer.same_time c.adds_answer.same_jobs s.clock;
+        control = control_answered p.end opened.topology p.steps after opened.control p.control on.adds_answer s.control;
+      }
+
+  pub one_home : Rounded look (Some home) Ended p new
+  one_home = record {
+    stems = stems_on;
+    load = λ opened seen s b. tt;
+    adds = c.adds;
+    recorded = λ going memory. not_going p.end ended going;
+    always = always_begins p.topology p.steps after home.answer c.always;
+    ended = λ some. (refl, adds_only result p.topology p.steps after home c.recorded c.refused c.cut_off);
+    on = λ o. absurd o;
+    over = λ o. ended;
+    whole = home_whole;
+    waits = λ w. absurd w;
+    pauses = λ p. absurd p;
+    cut_off = λ fails. ended;
+    one_line = let e = c.adds_answer.same_controls in omega (arith, e);
+    row = λ going. tt;
+    rows = λ going memory. not_going p.end ended going;
+    lessens = λ row goes. absurd goes;
+    away = subst (λ (n : ℕ). AreAway (Some home.post) None (away_of p) (away_in topology back n)) (sym same_places)
+        (subst (λ (t : Topology). AreAway (Some home.post) None (away_of p) (away_in t back p.places)) (sym same)
+        (moves p.topology p.home back p.places (Some home.post) None c.homes first.slot tt));
+  }
 
 -- what is known of a pipe by its fields
 pub brings_at : {B : Type 0} (look : B → BodySeen) (brought : Option (Home B)) (now fields : PipeState) → now ≡ fields → IsSound fields.topology → is_legal fields.topology fields.steps ≡ true

@@ -1,13 +1,11 @@
 //! A hold of a pipe.
 
-ghost use Rattle.std.specs.Prelude.{◌≡◌, ◌≢◌, ◌<◌, ◌==◌, ℕ, true, Some, IfSome, length, if◌then◌else◌};
+ghost use Rattle.std.specs.Prelude.{◌≡◌, ◌≢◌, true, Some, IfSome, IsSome};
 ghost use Rattle.pipe_types.specs.declared.numbers.Post.{Post as PostSeen};
 ghost use Rattle.pipe_model.specs.Begins.{BeginsWith};
 ghost use Rattle.pipe_model.specs.Posts.{is_out};
 ghost use Rattle.pipeline_turn.specs.Jobs.{IsUndone, IsUnanswered, IsOwnJob, AreAway};
 ghost use Rattle.pipe_model.specs.History.{History};
-ghost use Rattle.stage_bodies.specs.Seen.{body_at};
-ghost use Rattle.stage_bodies.specs.Posts.{place_at};
 ghost use Rattle.run_pipe.specs.Jobs.{IsLoadOf, IsHomeOf, IsBrought};
 ghost use Rattle.run_pipe.specs.Rounded.{Rounded};
 ghost use Rattle.run_pipe.specs.Rounds.{round_of, end_of};
@@ -20,8 +18,8 @@ use crate::pipe::Pipe;
 use journal_watch::Watch;
 use pipe_edges::{ByteSource, Clock};
 use pipe_types::numbers::Post;
-use stage_bodies::{Works, place_of, put_back};
-use stage_holds::{Home, Load, Next, hold};
+use stage_bodies::Works;
+use stage_holds::{Home, Load, Next, come_home, hold};
 use stage_workers::{Round, Shift};
 use std::alloc::{AllocError, Global};
 
@@ -73,13 +71,7 @@ impl<B: Works, S: ByteSource, C: Clock, W: Watch> Pipe<B, S, C, W> {
         ensures rounded { Rounded B.look brought result (state_of self.old) (state_of self.new) }
     {
         if self.end.is_some() {
-            match brought {
-                Some(home) => {
-                    put_home(&mut self.bodies, home);
-                    return Round::Ended;
-                }
-                None => return Round::Ended,
-            }
+            return self.take_home(brought);
         }
         let came = hold(
             &mut self.core,
@@ -92,21 +84,22 @@ impl<B: Works, S: ByteSource, C: Clock, W: Watch> Pipe<B, S, C, W> {
         self.end = end;
         round
     }
-}
 
-/// Puts the body of what is brought to its place. The answer is not recorded.
-fn put_home<B: Works>(bodies: &mut Vec<Option<B>>, home: Home<B>)
-    requires within { place_at home.post < length bodies.old.items }
-    ensures len { length bodies.new.items ≡ length bodies.old.items }
-    ensures table { (s : ℕ) → body_at B.look bodies.new.items s ≡ (if place_at home.post == s then Some (B.look home.body) else body_at B.look bodies.old.items s) }
-{
-    let Home {
-        post,
-        answer: _,
-        body,
-    } = home;
-    let at = place_of(post);
-    put_back(bodies, at, body);
+    /// What is brought to a pipe that has ended comes home, and its answer is recorded. Where memory is wanting for the records that it
+    /// brings, they are lost: the pipe has ended for want of memory already.
+    fn take_home(&mut self, brought: Option<Home<B>>) -> Round<Load<B>>
+        requires ended { IsSome self.old.end }
+        requires home { (opened : PipeState) × (seen : History) × Stems opened (state_of self.old) × IsBrought B.look opened seen self.old.steps brought }
+        ensures rounded { Rounded B.look brought result (state_of self.old) (state_of self.new) }
+    {
+        match brought {
+            Some(home) => {
+                let _ = come_home(&mut self.core, &mut self.bodies, home);
+                Round::Ended
+            }
+            None => Round::Ended,
+        }
+    }
 }
 
 /// What a worker does after a hold, and how the run has ended then, if it has.

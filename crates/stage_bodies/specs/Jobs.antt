@@ -4,6 +4,7 @@ use Rattle.std.specs.List.{list_all}
 use Rattle.pipe_types.specs.Counts.{Rose}
 use Rattle.pipe_types.specs.Lines.{max_bytes}
 use Rattle.pipe_types.specs.Handlers.{chunk_replies, batch_text, counted, count_after_batch, are_own_replies, is_successful}
+use Rattle.pipe_types.specs.declared.message.Batch.{Batch}
 use Rattle.pipe_types.specs.declared.message.Message.{Message}
 use Rattle.pipe_types.specs.declared.message.Reply.{Reply}
 use Rattle.pipe_types.specs.declared.message.Outcome.{Outcome}
@@ -22,12 +23,15 @@ use Rattle.pipe_edges.specs.Pacing.{IsInStep, Gives, IsHeldUp}
 use Rattle.pipe_edges.specs.declared.reading.LineEnd.{LineEnd}
 use Rattle.pipe_edges.specs.declared.reading.LineEnd.TheVariants as end
 use Rattle.stage_callback.specs.Callbacks.{is_message_for, is_passed}
+use Rattle.stage_callback.specs.Laws.{RoseExactly}
 use Rattle.stage_callback.specs.declared.answers.Said.{Said}
 use Rattle.stage_job.specs.Chunks.{never_crashes, RoseBy}
+use Rattle.stage_job.specs.Lawful.{AreLawful}
 use Rattle.stage_job.specs.Told.{chunk_by}
 use Rattle.stage_bodies.specs.Seen.{SourceSeen, LineSeen, SinkSeen, BoxSeen, BodySeen}
 use Rattle.stage_bodies.specs.Reads.{AreReadFrom}
 use Rattle.stage_bodies.specs.Told.{end_told, text_told}
+use Rattle.stage_bodies.specs.Lawful.{IsLawfulEnd}
 use Rattle.stage_bodies.specs.declared.job.Work.{Work}
 use Rattle.stage_bodies.specs.declared.job.Work.TheVariants as work
 use Rattle.stage_bodies.specs.declared.job.Outcome.{Outcome as Came}
@@ -95,36 +99,41 @@ pub record Fetches (most : ℕ) (result : Came) (old new : LineSeen) : Type 0 wh
 
 -- ---- callbacks
 
--- it is the same callback, armed as before, and its counts do not fall; a built-in kind counts no calls
+-- it is the same callback, armed as before and with the same law, and its counts do not fall; a built-in kind counts no calls
 pub record KeepsBox (old new : BoxSeen) : Type 0 where
   pub kind : new.kind ≡ old.kind
   pub spec : new.spec ≡ old.spec
+  pub law : new.law ≡ old.law
   pub told : new.told ≡ old.told
   pub calls : old.calls ≤ new.calls
   pub bad : old.bad ≤ new.bad
   pub no_calls : old.kind ≢ Own → new.calls ≡ old.calls
   pub no_bad : old.kind ≢ Own → new.bad ≡ old.bad
 
--- the replies to a chunk: of a built-in kind those of its rules, counted on from its count; of a user's own kind of the form
--- that it keeps, with a call counted for each that passed, and a bad answer where one did not
-pub record Replies (messages : List Message) (replies : List Reply) (old new : BoxSeen) : Type 0 where
+-- the replies to a chunk, behind so many resets: of a built-in kind those of its rules, counted on from its count; of a user's
+-- own kind of the form that it keeps, with a call counted for each that passed, and a bad answer where one did not. Each is
+-- lawful for its message
+pub record Replies (begun : ℕ) (messages : List Message) (replies : List Reply) (old new : BoxSeen) : Type 0 where
   pub kept : KeepsBox old new
   pub by_rules : old.kind ≢ Own → replies ≡ chunk_replies old.spec old.count messages
   pub count : old.kind ≢ Own → old.count < 2 ^ 64 → new.count ≡ counted old.count (length replies)
   pub calm : old.kind ≢ Own → IsTrue (never_crashes old.spec.rules) → has_crash replies ≡ false
   pub shape : old.kind ≡ Own → IsTrue (list_all (is_message_for old.spec.batchers) messages) → IsTrue (are_own_replies old.spec.batchers messages replies)
+  pub lawful : AreLawful old.law messages replies
+  pub resets : old.kind ≡ Own → RoseExactly begun old.resets new.resets
   pub calls : old.kind ≡ Own → RoseBy (count_by is_passed replies) old.calls new.calls
   pub bad : old.kind ≡ Own → list_all is_passed replies ≡ false → Rose old.bad new.bad
-  pub by_answers : IsTrue old.told → (answers : List Said) × (new.said ≡ old.said ++ answers) × (replies ≡ chunk_by answers)
+  pub by_answers : IsTrue old.told → (answers : List Said) × (new.said ≡ old.said ++ answers) × (chunk_by answers ≡ Some replies)
 
 -- the same callback with its count at 0, as each run of a child begins
 abbrev pub reset : BoxSeen → BoxSeen
 reset box = record box { count = 0 }
 
--- the same callback, which counts from 0 again and gave no answer
+-- the same callback, which counts from 0 again, counted the reset and gave no answer
 pub record IsReset (old new : BoxSeen) : Type 0 where
   pub kept : KeepsBox old new
   pub zero : new.count ≡ 0
+  pub resets : old.kind ≡ Own → RoseExactly 1 old.resets new.resets
   pub no_answer : IsTrue old.told → new.said ≡ old.said
 
 -- the callback is reset, and the source and the sink are as they were
@@ -173,7 +182,7 @@ pub record Ends (messages : List Message) (bytes : ℕ) (end : BatchEnd) (has_si
   pub bad : old.kind ≡ Own → is_bad_end end ≡ true → Rose old.bad new.bad
   pub by_answers :
       IsTrue old.told
-      → (answers : List Said) × (new.said ≡ old.said ++ answers) × IsTrue (is_write_end has_sink (end_told messages answers) (text_told answers) bytes end)
+      → (answers : List Said) × (told : BatchEnd) × (new.said ≡ old.said ++ answers) × (end_told messages answers ≡ Some told) × IsTrue (is_write_end has_sink told (text_told answers) bytes end)
 
 -- ---- jobs
 
@@ -183,21 +192,23 @@ Fits (work.Fetch most) body = (1 ≤ most) × IsSome body.source
 Fits (work.Batch batch) body = IsSome body.callback × IfSome body.callback (λ box. box.kind ≡ box.spec.kind)
 Fits _ body = IsSome body.callback
 
--- what the callback of the body left, seen from the sink
-abbrev pub EndsIn : List Message → (bytes : ℕ) → BatchEnd → BodySeen → BodySeen → BoxSeen → BoxSeen → Type 0
-EndsIn messages bytes end old new before after =
-    Ends messages bytes end (is_some old.sink) before after × Both (Writes bytes (text_by before.kind before messages end)) old.sink new.sink
+-- what the callback of the body left, seen from the sink; the end is lawful for the batch, and no reset was counted
+abbrev pub EndsIn : Batch → (bytes : ℕ) → BatchEnd → BodySeen → BodySeen → BoxSeen → BoxSeen → Type 0
+EndsIn batch bytes end old new before after =
+    Ends batch.messages bytes end (is_some old.sink) before after
+    × Both (Writes bytes (text_by before.kind before batch.messages end)) old.sink new.sink
+    × IsLawfulEnd before.law batch (is_some old.sink) (text_by before.kind before batch.messages end) bytes end × (after.resets ≡ before.resets)
 
 -- the work came to this answer, and what it did not use is as it was
 abbrev pub IsDone : Work → Came → BodySeen → BodySeen → Type 0
 IsDone (work.Fetch most) result old new =
     Both (Fetches most result) old.source new.source × (new.sink ≡ old.sink) × (new.callback ≡ old.callback)
 IsDone (work.Chunk messages) (came.Replies replies) old new =
-    Both (Replies messages replies) old.callback new.callback × (new.source ≡ old.source) × (new.sink ≡ old.sink)
+    Both (Replies 0 messages replies) old.callback new.callback × (new.source ≡ old.source) × (new.sink ≡ old.sink)
 IsDone (work.Batch batch) (came.Wrote bytes end) old new =
-    Both (EndsIn batch.messages bytes end old new) old.callback new.callback × (new.source ≡ old.source)
+    Both (EndsIn batch bytes end old new) old.callback new.callback × (new.source ≡ old.source)
 IsDone (work.Child message) (came.Reply reply) old new =
-    Both (λ before after. Replies (message ∷ []) (reply ∷ []) (reset before) after) old.callback new.callback × (new.source ≡ old.source) × (new.sink ≡ old.sink)
+    Both (λ before after. Replies 1 (message ∷ []) (reply ∷ []) (reset before) after) old.callback new.callback × (new.source ≡ old.source) × (new.sink ≡ old.sink)
 IsDone _ _ old new = ⊥
 
 -- memory was wanting: no line is gone, an end stays known, nothing was written, and the callback is the same

@@ -2,5 +2,6 @@ pub mod Seen
 pub mod Moments
 pub mod Reads
 pub mod Told
+pub mod Lawful
 pub mod Jobs
 pub mod Posts

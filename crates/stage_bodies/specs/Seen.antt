@@ -8,6 +8,7 @@ use Rattle.pipe_edges.specs.LineSource.{line_source, waiting, line_end_of}
 use Rattle.pipe_edges.specs.declared.lines.LineSource.{LineSource}
 use Rattle.pipe_edges.specs.declared.reading.LineEnd.{LineEnd}
 use Rattle.stage_callback.specs.declared.answers.Said.{Said}
+use Rattle.stage_callback.specs.Laws.{Law}
 
 -- a source of bytes: whether it tells them, what was read and what is left, its faults and its waits, and its gate
 pub record SourceSeen : Type 0 where
@@ -48,6 +49,8 @@ pub record BoxSeen : Type 0 where
   pub count : ℕ
   pub calls : ℕ
   pub bad : ℕ
+  pub resets : ℕ
+  pub law : Law
   pub told : Bool
   pub said : List Said
 

@@ -1,2 +1,3 @@
 pub mod BatchSteps
+pub mod Resets
 pub mod Shapes

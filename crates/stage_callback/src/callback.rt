@@ -6,6 +6,7 @@ ghost use Rattle.pipe_types.specs.declared.topology.Kind.{Kind};
 ghost use Rattle.pipe_types.specs.declared.topology.StageSpec.{StageSpec};
 ghost use Rattle.stage_callback.specs.declared.answers.Said.{Said};
 ghost use Rattle.stage_callback.specs.Callbacks.{can_arm, is_message_for, is_passed, is_ready, is_all_successful, is_prepared_answer, is_batch_answer, is_failed_answer, HasOwnText, failed_reply, said_with};
+ghost use Rattle.stage_callback.specs.Laws.{Keeps, KeepsBatch, KeepsChunk, KeepsFailed, Law, RoseExactly, free};
 ghost use Rattle.pipe_types.specs.Counts.{Rose};
 
 use crate::{BatchReply, FailedReply, Prepared};
@@ -19,8 +20,8 @@ use std::alloc::AllocError;
 ///
 /// The built-in kinds, `Kind::Steps` and `Kind::Lines`, answer by the rules of the spec that they were armed with.
 /// A callback of the kind `Kind::Own` answers as it likes, within the shapes stated here, never with the reason
-/// `sink`, and counts its calls and its answers other than success. Every error is want of memory, and the callback is
-/// then as it was.
+/// `sink`, and counts its calls, its answers other than success, and how often it was reset. What else it says of its
+/// answers is its `law`, which no call changes. Every error is want of memory, and the callback is then as it was.
 pub trait Callback: Drop {
     /// Which of the three kinds it is.
     ghost kind: { Self → Kind };
@@ -38,6 +39,12 @@ pub trait Callback: Drop {
     /// How many answers other than success a user's own kind has given.
     ghost bad: { Self → ℕ };
 
+    /// How often a user's own kind was reset.
+    ghost resets: { Self → ℕ };
+
+    /// What it says of its answers to what it is shown. An `impl` that leaves it out says nothing, and owes nothing.
+    ghost law: { Self → Law } = { λ _. free };
+
     /// Whether it tells its answers.
     ghost told: { Self → Bool };
 
@@ -51,6 +58,8 @@ pub trait Callback: Drop {
     fn arm(&mut self, stage: &StageSpec) -> Result<(), AllocError>
         requires { IsTrue (can_arm stage.now) }
         ensures same_kind { (kind self.new ≡ kind self.old) × (told self.new ≡ told self.old) }
+        ensures same_law { law self.new ≡ law self.old }
+        ensures same_resets { resets self.new ≡ resets self.old }
         ensures armed { OnOk result ((spec self.new ≡ stage.now) × (count self.new ≡ 0)) }
         ensures never_fall { (calls self.old ≤ calls self.new) × (bad self.old ≤ bad self.new) }
         ensures built_in { kind self.old ≢ Kind.Own
@@ -62,6 +71,8 @@ pub trait Callback: Drop {
     /// Counts from 0.
     fn reset(&mut self)
         ensures same_kind { (kind self.new ≡ kind self.old) × (told self.new ≡ told self.old) }
+        ensures same_law { law self.new ≡ law self.old }
+        ensures resets { kind self.old ≡ Kind.Own → RoseExactly 1 (resets self.old) (resets self.new) }
         ensures same_spec { spec self.new ≡ spec self.old }
         ensures count { count self.new ≡ 0 }
         ensures never_fall { (calls self.old ≤ calls self.new) × (bad self.old ≤ bad self.new) }
@@ -72,8 +83,11 @@ pub trait Callback: Drop {
     /// Shows it a chunk, before its messages one by one. A built-in kind is always ready.
     fn prepare(&mut self, messages: &[Message]) -> Result<Prepared, AllocError>
         ensures same_kind { (kind self.new ≡ kind self.old) × (told self.new ≡ told self.old) }
+        ensures same_law { law self.new ≡ law self.old }
+        ensures same_resets { resets self.new ≡ resets self.old }
         ensures same_spec { spec self.new ≡ spec self.old }
         ensures shape { IfOk result (λ answer. IsTrue (is_prepared_answer answer)) }
+        ensures lawful { IfOk result (λ answer. KeepsChunk (law self.old) messages.now answer) }
         ensures built_in { kind self.old ≢ Kind.Own → IfOk result (λ answer.
             (answer ≡ Prepared.Ready) × (count self.new ≡ count self.old)) }
         ensures no_counts { kind self.old ≢ Kind.Own
@@ -88,10 +102,13 @@ pub trait Callback: Drop {
     /// Handles one message.
     fn message(&mut self, message: Message) -> Result<Reply, AllocError>
         ensures same_kind { (kind self.new ≡ kind self.old) × (told self.new ≡ told self.old) }
+        ensures same_law { law self.new ≡ law self.old }
+        ensures same_resets { resets self.new ≡ resets self.old }
         ensures same_spec { spec self.new ≡ spec self.old }
         // A message that passes stays the same message, for one of the stage's batchers, and not too long.
         ensures shape { IsTrue (is_message_for (spec self.old).batchers message)
             → IfOk result (λ reply. IsTrue (is_own_reply (spec self.old).batchers message reply)) }
+        ensures lawful { IfOk result (λ reply. Keeps (law self.old) message reply) }
         ensures built_in { kind self.old ≢ Kind.Own → IfOk result (λ reply.
             (reply ≡ eval (spec self.old) (count self.old) message)
             × (count self.new ≡ counted (count self.old) 1)) }
@@ -109,9 +126,12 @@ pub trait Callback: Drop {
     /// Handles a batch, and gives its text: of a user's own kind the payload and LF of each successful message.
     fn batch(&mut self, batch: &Batch) -> Result<BatchReply, AllocError>
         ensures same_kind { (kind self.new ≡ kind self.old) × (told self.new ≡ told self.old) }
+        ensures same_law { law self.new ≡ law self.old }
+        ensures same_resets { resets self.new ≡ resets self.old }
         ensures same_spec { spec self.new ≡ spec self.old }
         // One outcome a message, none with the reason `sink`.
         ensures shape { IfOk result (λ reply. IsTrue (is_batch_answer batch.now.messages reply)) }
+        ensures lawful { IfOk result (λ reply. KeepsBatch (law self.old) batch.now reply) }
         ensures built_in { kind self.old ≢ Kind.Own → IfOk result (λ reply.
             (reply ≡ batch_answer_by (kind self.old) (spec self.old) (count self.old) batch.now.messages)
             × (count self.new ≡ count_after_batch (spec self.old) (count self.old) batch.now.messages)) }
@@ -130,8 +150,11 @@ pub trait Callback: Drop {
     /// Shows it a message that failed. A built-in kind gives its spec's reason, where it has one.
     fn failed(&mut self, no: MsgNo, reason: &Reason) -> Result<FailedReply, AllocError>
         ensures same_kind { (kind self.new ≡ kind self.old) × (told self.new ≡ told self.old) }
+        ensures same_law { law self.new ≡ law self.old }
+        ensures same_resets { resets self.new ≡ resets self.old }
         ensures same_spec { spec self.new ≡ spec self.old }
         ensures shape { kind self.old ≡ Kind.Own → IfOk result (λ answer. IsTrue (is_failed_answer answer)) }
+        ensures lawful { IfOk result (λ answer. KeepsFailed (law self.old) no reason.now answer) }
         ensures built_in { kind self.old ≢ Kind.Own → IfOk result (λ answer.
             (answer ≡ failed_reply (spec self.old).failed) × (count self.new ≡ count self.old)) }
         ensures no_counts { kind self.old ≢ Kind.Own

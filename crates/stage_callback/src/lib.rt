@@ -2,7 +2,8 @@
 //!
 //! `Callback` is the trait, used as `Box<dyn Callback + Send>`. `StepsBox` and `LinesBox` are the built-in kinds: each
 //! answer of theirs, and the count of messages that it leaves, is exactly the definition of the built-in handlers.
-//! A user's own kind keeps the shapes of the answers and counts its calls and every answer that is no success.
+//! A user's own kind keeps the shapes of the answers, counts its calls, every answer that is no success and its resets, and may
+//! say in its `law` which answers it gives to what.
 #![tactic(auto)]
 
 mod answers;
@@ -12,6 +13,7 @@ mod callback;
 mod copies;
 mod handler;
 mod lines;
+mod reset_count;
 mod rules;
 mod steps;
 
@@ -21,4 +23,5 @@ pub use callback::Callback;
 pub use copies::{copy_message, copy_spec, unarmed};
 pub use lines::LinesBox;
 pub use pipe_types::message::BatchReply;
+pub use reset_count::count_reset;
 pub use steps::StepsBox;

@@ -43,6 +43,8 @@ impl Callback for LinesBox {
 
     ghost bad = { λ _. 0 };
 
+    ghost resets = { λ _. 0 };
+
     ghost told = { λ _. false };
 
     ghost said = { λ _. [] };

@@ -42,6 +42,8 @@ impl Callback for StepsBox {
 
     ghost bad = { λ _. 0 };
 
+    ghost resets = { λ _. 0 };
+
     ghost told = { λ _. false };
 
     ghost said = { λ _. [] };

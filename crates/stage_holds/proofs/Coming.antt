@@ -1,6 +1,6 @@
 -- A job comes home with its body.
 use Rattle.std.proofs.Common.{◌≡◌, ℕ, ◌≤◌, ◌∷◌, Bool, true, false, refl, ap, sym, ◌∙◌, subst, inl, Some, None, Option, arith}
-use Rattle.std.specs.Prelude.{◌==◌, ◌≢◌, ◌&&◌, if◌then◌else◌, Result, Ok, Err, OnOk, OnErr}
+use Rattle.std.specs.Prelude.{◌==◌, ◌≢◌, ◌&&◌, if◌then◌else◌, Result, Ok, Err, IfOk, OnOk, OnErr}
 use Rattle.pipe_types.specs.declared.numbers.Post.{Post}
 use Rattle.pipe_types.specs.declared.message.Why.TheVariants.{Crash}
 use Rattle.pipe_types.specs.declared.step.Step.{Step}
@@ -13,7 +13,7 @@ use Rattle.pipe_model.specs.Posts.{puts_out, answers}
 use Rattle.pipe_model.specs.Legal.{is_legal, allows, owed}
 use Rattle.pipe_laws.specs.Followed.{FollowsMoves, IsNextMove}
 use Rattle.stage_bodies.specs.Seen.{BodySeen}
-use Rattle.stage_bodies.specs.Posts.{place_at, step_of}
+use Rattle.stage_bodies.specs.Posts.{place_at, step_of, brings_records}
 use Rattle.stage_bodies.specs.declared.job.Answer.{Answer}
 use Rattle.stage_bodies.specs.declared.job.Job.{Job}
 use Rattle.stage_bodies.specs.declared.job.Outcome.{Outcome as Came}
@@ -27,7 +27,7 @@ use Rattle.core_jobs.specs.Recorded.{with_answer}
 use Rattle.stage_moves.specs.Steps.{jobs_begun}
 use Rattle.job_laws.specs.Away.{IsAway, IsAnswerTo, is_from_live}
 use Rattle.job_laws.proofs.Away.{home_ready, unrecorded_home, cut_home, live_home, live_home_ready, late_home, late_home_ready, live_recorded, late_recorded}
-use Rattle.stage_moves.proofs.Controls.{IsOther, other_step, other_count}
+use Rattle.stage_moves.proofs.Controls.{IsOther, other_step, other_step_partly, other_count}
 use Rattle.stage_moves.proofs.Goings.{silent_one}
 use Rattle.stage_moves.proofs.Results.{by_result}
 use Rattle.stage_moves.proofs.Answering.{with_cases, none_more, answer_next, answer_begins, answer_time, answer_other}
@@ -64,22 +64,22 @@ table_at : (home back : ℕ → Option BodySeen) (body : BodySeen) (p : Post) (j
 table_at home back body p job e t = subst (λ q. Table q body home back) e t
 
 pub no_answer : (topology : Topology) (h : History) → AddsAnswer topology h h
-no_answer topology h = record { same_time = refl; same_jobs = refl; same_controls = refl; control = λ jobs opened lines k. k }
+no_answer topology h = record { same_time = refl; same_jobs = refl; same_controls = refl; control = λ jobs opened lines k. k; control_partly = λ opened lines k. k }
 
 -- no step was added
 pub unrecorded : {E : Type 0} (topology : Topology) (h : History) (home back : ℕ → Option BodySeen) (p : Post) (answer : Result Answer E) (body : BodySeen) (opened : Option BodySeen)
-    → IsSound topology → Ready topology h home → IsBack topology h opened p answer body → Table p body home back → Returned topology h home p answer body h back
-unrecorded {E = E} topology h home back p answer body opened sound ready b table = record {
+    → IsSound topology → Ready topology h home → IsBack topology h opened p answer body → IfOk answer (λ a. brings_records a.outcome ≡ true) → Table p body home back → Returned topology h home p answer body h back
+unrecorded {E = E} topology h home back p answer body opened sound ready b brings table = record {
   follows = λ f. f;
   ready = home_ready topology h opened b.job b.old body home back sound b.away (table_at home back body p b.job b.post table) ready;
-  keeps = λ all k c. by_outcome answer all k c;
+  keeps = λ all k c. by_outcome answer brings all k c;
   adds = nothing_added (Some p) h;
   adds_answer = no_answer topology h;
 }
   where
-    by_outcome : (answer : Result Answer E) (all : ℕ → Option BodySeen) → Keeps topology h all home → IsBack topology h (all (place_at p)) p answer body → Keeps topology h all back
-    by_outcome (Ok a) all k c = unrecorded_home topology h c.job a.outcome c.old body all home back sound (away_at {E = E} topology h all p (Ok a) body c) c.outcome.1 (table_at home back body p c.job c.post table) k
-    by_outcome (Err e) all k c = cut_home topology h c.job c.old body all home back sound (away_at {E = E} topology h all p (Err e) body c) c.outcome (table_at home back body p c.job c.post table) k
+    by_outcome : (answer : Result Answer E) → IfOk answer (λ a. brings_records a.outcome ≡ true) → (all : ℕ → Option BodySeen) → Keeps topology h all home → IsBack topology h (all (place_at p)) p answer body → Keeps topology h all back
+    by_outcome (Ok a) brings all k c = unrecorded_home topology h c.job a.outcome c.old body all home back sound (away_at {E = E} topology h all p (Ok a) body c) brings c.outcome.1 (table_at home back body p c.job c.post table) k
+    by_outcome (Err e) brings all k c = cut_home topology h c.job c.old body all home back sound (away_at {E = E} topology h all p (Err e) body c) c.outcome (table_at home back body p c.job c.post table) k
 
 -- ---- a step that the answer owes
 
@@ -96,6 +96,7 @@ owed_too topology h home back p answer body step after sound legal silent posts 
     same_jobs = jobs ∙ c.adds_answer.same_jobs;
     same_controls = other_count after step other ∙ c.adds_answer.same_controls;
     control = λ n opened lines k. other_step topology after step n opened lines other (c.adds_answer.control n opened lines k);
+    control_partly = λ opened lines k. other_step_partly topology after step opened lines other (c.adds_answer.control_partly opened lines k);
   };
 }
 
@@ -122,6 +123,7 @@ live_first {E = E} topology h home back p answer body opened sound before ready 
     same_jobs = answer_begins h answer.post answer.outcome;
     same_controls = other_count h (step_of answer.post answer.outcome) (answer_other answer.post answer.outcome low);
     control = λ n source lines k. other_step topology h (step_of answer.post answer.outcome) n source lines (answer_other answer.post answer.outcome low) k;
+    control_partly = λ source lines k. other_step_partly topology h (step_of answer.post answer.outcome) source lines (answer_other answer.post answer.outcome low) k;
   };
 }
   where
@@ -155,6 +157,7 @@ late_first {E = E} topology h home back p answer body opened sound before ready 
     same_jobs = none_more (jobs_begun h);
     same_controls = other_count h (late_step answer.post answer.incarnation answer.outcome) (late_other answer.post answer.incarnation answer.outcome low);
     control = λ n source lines k. other_step topology h (late_step answer.post answer.incarnation answer.outcome) n source lines (late_other answer.post answer.incarnation answer.outcome low) k;
+    control_partly = λ source lines k. other_step_partly topology h (late_step answer.post answer.incarnation answer.outcome) source lines (late_other answer.post answer.incarnation answer.outcome low) k;
   };
 }
   where
@@ -184,14 +187,22 @@ recorded {E = E} topology h home back p answer body opened sound before ready b 
         (λ s after k c. owed_too topology h home back p (Ok answer) body (Kill s Crash) after sound k refl (λ q. (refl, refl)) (record { control = refl; ends = refl; jobless = refl }) refl (none_more (jobs_begun after)) tt c))
     by_time false e l = subst goal (sym (rw e refl)) (late_first topology h home back p answer body opened sound before ready b table l)
 
+both_err : {T E : Type 0} (r : Result T E) (A B : Type 0) → OnErr r A → OnErr r B → OnErr r (A × B)
+both_err (Ok x) A B a b = tt
+both_err (Err e) A B a b = (a, b)
+
 pub comes_home : {T E F : Type 0} (topology other : Topology) (h after : History) (home back : ℕ → Option BodySeen) (p : Post) (answer : Answer) (body : BodySeen) (opened : Option BodySeen) (r : Result T F)
     → IsSound topology → is_legal topology h ≡ true → Ready topology h home → IsBack {E = E} topology h opened p (Ok answer) body → Table p body home back → other ≡ topology → is_legal other after ≡ true
-    → OnOk r (after ≡ with_answered topology h answer) → OnErr r (after ≡ h) → Returned {E = E} topology h home p (Ok answer) body after back
-comes_home {E = E} topology other h after home back p answer body opened r sound before ready b table same legal ok err =
-    by_result (Returned {E = E} topology h home p (Ok answer) body after back) (after ≡ with_answered topology h answer) (after ≡ h) r ok err
+    → OnOk r (after ≡ with_answered topology h answer) → OnErr r (after ≡ h) → OnErr r (brings_records answer.outcome ≡ true) → Returned {E = E} topology h home p (Ok answer) body after back
+comes_home {E = E} topology other h after home back p answer body opened r sound before ready b table same legal ok err refused =
+    by_result (Returned {E = E} topology h home p (Ok answer) body after back) (after ≡ with_answered topology h answer) ((after ≡ h) × (brings_records answer.outcome ≡ true)) r ok (both_err r (after ≡ h) (brings_records answer.outcome ≡ true) err refused)
     (λ e. subst (λ x. Returned {E = E} topology h home p (Ok answer) body x back) (sym e)
     (recorded topology h home back p answer body opened sound before ready b table (subst (λ x. is_legal topology x ≡ true) e (subst (λ o. is_legal o after ≡ true) same legal))))
-    (λ e. subst (λ x. Returned {E = E} topology h home p (Ok answer) body x back) (sym e) (unrecorded topology h home back p (Ok answer) body opened sound ready b table))
+    (λ e. subst (λ x. Returned {E = E} topology h home p (Ok answer) body x back) (sym e.0) (unrecorded topology h home back p (Ok answer) body opened sound ready b e.1 table))
+
+-- it is of a stage
+pub stage_of : {E : Type 0} (topology : Topology) (h : History) (p : Post) (answer : Answer) (body : BodySeen) (opened : Option BodySeen) → IsSound topology → is_legal topology h ≡ true → IsBack {E = E} topology h opened p (Ok answer) body → 1 ≤ answer.post.stage.0
+stage_of topology h p answer body opened sound legal b = subst (λ r. 1 ≤ r.stage.0) (sym b.outcome.0.post) (low_of topology h b.job b.old opened sound legal b.away)
 
 -- the answer may be recorded
 pub may_record : {E : Type 0} (topology : Topology) (h : History) (p : Post) (answer : Answer) (body : BodySeen) (opened : Option BodySeen) → IsSound topology → is_legal topology h ≡ true → owed topology h ≡ None
@@ -204,3 +215,13 @@ may_record {E = E} topology h p answer body opened sound legal free b = by_time 
 
 pub table_of : (p : Post) (at : ℕ) (body : BodySeen) (home back : ℕ → Option BodySeen) → at ≡ place_at p → ((s : ℕ) → back s ≡ (if at == s then Some body else home s)) → Table p body home back
 table_of p at body home back e moved = λ s. moved s ∙ ap (λ a. if a == s then Some body else home s) e
+
+-- an answer that is refused only where it brings records is recorded where it brings none
+pub always_recorded : {T E : Type 0} (topology : Topology) (h after : History) (answer : Answer) (r : Result T E) → OnOk r (after ≡ with_answered topology h answer) → OnErr r (brings_records answer.outcome ≡ true)
+    → brings_records answer.outcome ≡ false → after ≡ with_answered topology h answer
+always_recorded topology h after answer (Ok x) ok refused none = ok
+always_recorded topology h after answer (Err e) ok refused none = let y : true ≡ false = sym refused ∙ none in cc
+
+pub same_err : {T E : Type 0} (r : Result T E) (h : History) → OnErr r (h ≡ h)
+same_err (Ok x) h = tt
+same_err (Err e) h = refl

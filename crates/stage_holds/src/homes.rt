@@ -1,8 +1,9 @@
 //! What comes home: the body to its place, and the answer into the journal.
 
-ghost use Rattle.std.specs.Prelude.{◌≡◌, length, IsTrue, OnOk, OnErr};
+ghost use Rattle.std.specs.Prelude.{◌≡◌, ◌≤◌, length, IsTrue, OnOk, OnErr};
 ghost use Rattle.pipe_model.specs.Legal.{allows};
 ghost use Rattle.core_state.specs.Stands.{Stands};
+ghost use Rattle.stage_bodies.specs.Posts.{brings_records};
 ghost use Rattle.stage_bodies.specs.Seen.{body_at};
 ghost use Rattle.body_laws.specs.Lates.{late_of};
 ghost use Rattle.body_laws.specs.Ready.{Ready};
@@ -18,8 +19,9 @@ use stage_bodies::{Answer, Outcome, Works, place_of, put_back};
 use std::alloc::AllocError;
 
 /// Puts the body back to its place, and records the answer: live, or late where the stage was killed since. The error is want
-/// of memory, in the job or for the record: the body is at home, and no step was added.
-pub(crate) fn come_home<B: Works>(
+/// of memory, in the job or for the records that it brings: the body is at home, and no step was added. Every other answer is
+/// recorded.
+pub fn come_home<B: Works>(
     core: &mut Core,
     bodies: &mut Vec<Option<B>>,
     home: Home<B>,
@@ -42,8 +44,10 @@ pub(crate) fn come_home<B: Works>(
 fn record(core: &mut Core, answer: Answer) -> Result<(), AllocError>
     requires stands { Stands core.old }
     requires legal { IsTrue (allows core.old.topology core.old.journal.steps (answer_step core.old.topology core.old.journal.steps answer)) }
+    requires stage { 1 ≤ answer.post.stage.0 }
     ensures appended { OnOk result (core.new.journal.steps ≡ with_answered core.old.topology core.old.journal.steps answer) }
     ensures unchanged { OnErr result (core.new.journal.steps ≡ core.old.journal.steps) }
+    ensures refused { OnErr result (IsTrue (brings_records answer.outcome)) }
     ensures topology { core.new.topology ≡ core.old.topology }
     ensures stands { Stands core.new }
 {

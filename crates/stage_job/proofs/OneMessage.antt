@@ -1,5 +1,5 @@
 -- The reply to a message alone.
-use Rattle.std.proofs.Common.{◌≡◌, ℕ, Bool, true, false, cond, List, [], ◌∷◌, ◌++◌, map, refl, sym, ap, ◌∙◌, append-nil}
+use Rattle.std.proofs.Common.{◌≡◌, ℕ, Bool, true, false, cond, List, [], ◌∷◌, ◌++◌, map, refl, sym, ap, ◌∙◌, append-nil, Some}
 use Rattle.pipe_types.specs.declared.message.Message.{Message}
 use Rattle.pipe_types.specs.declared.message.Reply.{Reply}
 use Rattle.pipe_types.specs.declared.message.Reply.TheVariants as reply
@@ -32,19 +32,19 @@ one_calm spec spec_now count m reply same calm is =
 -- the answers to one message make its reply
 pub one_told : (first middle now : List Said) (shown : Prepared) (reply : Reply) → shown ≡ prepared.Ready → middle ≡ first ++ said.Prepared shown ∷ []
     → (answers : List Said) × (now ≡ middle ++ answers) × MakeReply answers reply
-    → (answers : List Said) × (now ≡ first ++ answers) × (reply ∷ [] ≡ chunk_by answers)
+    → (answers : List Said) × (now ≡ first ++ answers) × (chunk_by answers ≡ Some (reply ∷ []))
 one_told first middle now shown reply ready one (answers, grown, makes) = (
   said.Prepared prepared.Ready ∷ answers,
   told_after first middle now (said.Prepared prepared.Ready) answers (one ∙ ap (λ p. first ++ said.Prepared p ∷ []) ready) grown,
-  sym (ap replies_by (sym (append-nil answers)) ∙ makes []),
+  ap replies_by (sym (append-nil answers)) ∙ makes [],
 )
 
 -- the answers to a message that was not handled make its reply
 pub raised_told : (first middle now : List Said) (shown : Prepared) (why reason : List ℕ) → shown ≡ prepared.Raised why → middle ≡ first ++ said.Prepared shown ∷ []
     → (by : FailedReply) × (now ≡ middle ++ said.Failed by ∷ []) × (reason ≡ reason_by by why)
-    → (answers : List Said) × (now ≡ first ++ answers) × (reply.Raised reason ∷ [] ≡ chunk_by answers)
+    → (answers : List Said) × (now ≡ first ++ answers) × (chunk_by answers ≡ Some (reply.Raised reason ∷ []))
 raised_told first middle now shown why reason raised one (by, grown, is) = (
   said.Prepared (prepared.Raised why) ∷ said.Failed by ∷ [],
   told_after first middle now (said.Prepared (prepared.Raised why)) (said.Failed by ∷ []) (one ∙ ap (λ p. first ++ said.Prepared p ∷ []) raised) grown,
-  ap (λ w. reply.Raised w ∷ []) is,
+  ap (λ w. Some (reply.Raised w ∷ [])) (sym is),
 )

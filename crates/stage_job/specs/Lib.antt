@@ -1,3 +1,4 @@
 pub mod Boxes
 pub mod Chunks
 pub mod Told
+pub mod Lawful

@@ -1,13 +1,15 @@
 //! A chunk of a processor through its callback.
 
-ghost use Rattle.std.specs.Prelude.{◌≡◌, ◌≢◌, ◌≤◌, ◌<◌, ◌^◌, false, List, [], ◌∷◌, ◌++◌, IsTrue, IfOk, OnOk, length, count_by};
+ghost use Rattle.std.specs.Prelude.{◌≡◌, ◌≢◌, ◌≤◌, ◌<◌, ◌^◌, false, List, [], ◌∷◌, ◌++◌, Some, IsTrue, IfOk, OnOk, length, count_by};
 ghost use Rattle.std.specs.List.{list_all};
 ghost use Rattle.pipe_types.specs.Counts.{Rose};
 ghost use Rattle.pipe_types.specs.Handlers.{eval, counted, with_reason, reason_of, chunk_replies, is_crashed, is_own_reason, is_own_reply, are_own_replies};
 ghost use Rattle.pipe_model.specs.Content.{has_crash};
 ghost use Rattle.stage_callback.specs.Callbacks.{is_message_for, is_passed, is_ready, is_prepared_answer};
+ghost use Rattle.stage_callback.specs.Laws.{Keeps, KeepsChunk};
 ghost use Rattle.stage_callback.specs.declared.answers.FailedReply.{FailedReply};
 ghost use Rattle.stage_callback.specs.declared.answers.Said.{Said};
+ghost use Rattle.stage_job.specs.Lawful.{AreLawful, AreRepliesTo, IsLawful, IsRaised, IsReasonLeft};
 ghost use Rattle.stage_job.specs.Told.{chunk_by, replies_by, raised_by, reason_by, MakeReply};
 ghost use Rattle.stage_job.specs.Chunks.{never_crashes, RoseBy};
 
@@ -33,6 +35,7 @@ pub fn run_chunk(
 ) -> Result<ReplyList, AllocError>
     ensures same { (kind callback.new ≡ kind callback.old) × (spec callback.new ≡ spec callback.old)
         × (told callback.new ≡ told callback.old) }
+    ensures same_law { (law callback.new ≡ law callback.old) × (resets callback.new ≡ resets callback.old) }
     ensures replies { kind callback.old ≢ Kind.Own → IfOk result (λ r.
         r ≡ chunk_replies (spec callback.old) (count callback.old) messages) }
     ensures count { kind callback.old ≢ Kind.Own → count callback.old < 2 ^ 64 → IfOk result (λ r.
@@ -49,9 +52,11 @@ pub fn run_chunk(
         RoseBy (count_by is_passed r) (calls callback.old) (calls callback.new)) }
     ensures bad { kind callback.old ≡ Kind.Own → IfOk result (λ r.
         list_all is_passed r ≡ false → Rose (bad callback.old) (bad callback.new)) }
-    // Where it tells its answers, the replies are made of those that it gave in this call.
+    // Each reply is lawful for its message, by what was answered to the chunk.
+    ensures lawful { IfOk result (AreLawful (law callback.old) messages) }
+    // Where it tells its answers, the replies are made of all that it gave in this call.
     ensures by_answers { IsTrue (told callback.old) → IfOk result (λ r. (answers : List Said)
-        × (said callback.new ≡ said callback.old ++ answers) × (r ≡ chunk_by answers)) }
+        × (said callback.new ≡ said callback.old ++ answers) × (chunk_by answers ≡ Some r)) }
 {
     let messages = messages.into_vec();
     if messages.is_empty() {
@@ -71,6 +76,7 @@ pub fn run_message(
 ) -> Result<Reply, AllocError>
     ensures same { (kind callback.new ≡ kind callback.old) × (spec callback.new ≡ spec callback.old)
         × (told callback.new ≡ told callback.old) }
+    ensures same_law { (law callback.new ≡ law callback.old) × (resets callback.new ≡ resets callback.old) }
     ensures replies { kind callback.old ≢ Kind.Own → IfOk result (λ r.
         r ∷ [] ≡ chunk_replies (spec callback.old) (count callback.old) (message ∷ [])) }
     ensures count { kind callback.old ≢ Kind.Own → IfOk result (λ r.
@@ -86,8 +92,9 @@ pub fn run_message(
         RoseBy (count_by is_passed (r ∷ [])) (calls callback.old) (calls callback.new)) }
     ensures bad { kind callback.old ≡ Kind.Own → IfOk result (λ r.
         is_passed r ≡ false → Rose (bad callback.old) (bad callback.new)) }
+    ensures lawful { IfOk result (λ r. AreLawful (law callback.old) (message ∷ []) (r ∷ [])) }
     ensures by_answers { IsTrue (told callback.old) → IfOk result (λ r. (answers : List Said)
-        × (said callback.new ≡ said callback.old ++ answers) × (r ∷ [] ≡ chunk_by answers)) }
+        × (said callback.new ≡ said callback.old ++ answers) × (chunk_by answers ≡ Some (r ∷ []))) }
 {
     match show(callback, slice::from_ref(&message))? {
         Prepared::Ready => answer(callback, message),
@@ -103,6 +110,7 @@ fn show(
 ) -> Result<Prepared, AllocError>
     ensures same { (kind callback.new ≡ kind callback.old) × (spec callback.new ≡ spec callback.old)
         × (told callback.new ≡ told callback.old) }
+    ensures same_law { (law callback.new ≡ law callback.old) × (resets callback.new ≡ resets callback.old) }
     ensures built_in { kind callback.old ≢ Kind.Own → IfOk result (λ answer.
         (answer ≡ Prepared.Ready) × (count callback.new ≡ count callback.old)) }
     ensures no_counts { kind callback.old ≢ Kind.Own
@@ -111,6 +119,7 @@ fn show(
     ensures shape { IfOk result (λ answer. IsTrue (is_prepared_answer answer)) }
     ensures bad { kind callback.old ≡ Kind.Own → IfOk result (λ answer.
         is_ready answer ≡ false → Rose (bad callback.old) (bad callback.new)) }
+    ensures lawful { IfOk result (λ answer. KeepsChunk (law callback.old) messages.now answer) }
     ensures said { IsTrue (told callback.old) → IfOk result (λ answer.
         said callback.new ≡ said callback.old ++ Said.Prepared answer ∷ []) }
 {
@@ -125,6 +134,7 @@ fn answer_all(
 ) -> Result<ReplyList, AllocError>
     ensures same { (kind callback.new ≡ kind callback.old) × (spec callback.new ≡ spec callback.old)
         × (told callback.new ≡ told callback.old) }
+    ensures same_law { (law callback.new ≡ law callback.old) × (resets callback.new ≡ resets callback.old) }
     ensures replies { kind callback.old ≢ Kind.Own → IfOk result (λ r.
         r ≡ chunk_replies (spec callback.old) (count callback.old) messages.items) }
     ensures count { kind callback.old ≢ Kind.Own → count callback.old < 2 ^ 64 → IfOk result (λ r.
@@ -138,8 +148,9 @@ fn answer_all(
         RoseBy (count_by is_passed r) (calls callback.old) (calls callback.new)) }
     ensures bad { kind callback.old ≡ Kind.Own → IfOk result (λ r.
         list_all is_passed r ≡ false → Rose (bad callback.old) (bad callback.new)) }
+    ensures lawful { IfOk result (AreRepliesTo (IsLawful (law callback.old)) messages.items) }
     ensures by_answers { IsTrue (told callback.old) → IfOk result (λ r. (answers : List Said)
-        × (said callback.new ≡ said callback.old ++ answers) × (r ≡ replies_by answers)) }
+        × (said callback.new ≡ said callback.old ++ answers) × (replies_by answers ≡ Some r)) }
 {
     let mut replies = Vec::with_capacity(alloc, messages.len())?;
     for message in messages {
@@ -168,14 +179,16 @@ fn raise_all(
 ) -> Result<ReplyList, AllocError>
     ensures same { (kind callback.new ≡ kind callback.old) × (spec callback.new ≡ spec callback.old)
         × (told callback.new ≡ told callback.old) }
+    ensures same_law { (law callback.new ≡ law callback.old) × (resets callback.new ≡ resets callback.old) }
     ensures no_counts { kind callback.old ≢ Kind.Own
         → (calls callback.new ≡ calls callback.old) × (bad callback.new ≡ bad callback.old) }
     ensures never_fall { (calls callback.old ≤ calls callback.new) × (bad callback.old ≤ bad callback.new) }
     ensures shape { kind callback.old ≡ Kind.Own → IsTrue (is_own_reason why)
         → IsTrue (list_all (is_message_for (spec callback.old).batchers) messages.now) → IfOk result (λ r. IsTrue (are_own_replies (spec callback.old).batchers messages.now r)) }
     ensures none_passed { IfOk result (λ r. count_by is_passed r ≡ 0) }
+    ensures lawful { IfOk result (AreRepliesTo (IsRaised (law callback.old) why) messages.now) }
     ensures by_answers { IsTrue (told callback.old) → IfOk result (λ r. (answers : List Said)
-        × (said callback.new ≡ said callback.old ++ answers) × (r ≡ raised_by why answers)) }
+        × (said callback.new ≡ said callback.old ++ answers) × (raised_by why answers ≡ Some r)) }
 {
     let mut replies = Vec::with_capacity(alloc, messages.len())?;
     for message in messages {
@@ -189,6 +202,7 @@ fn raise_all(
 fn answer(callback: &mut Box<dyn Callback + Send>, message: Message) -> Result<Reply, AllocError>
     ensures same { (kind callback.new ≡ kind callback.old) × (spec callback.new ≡ spec callback.old)
         × (told callback.new ≡ told callback.old) }
+    ensures same_law { (law callback.new ≡ law callback.old) × (resets callback.new ≡ resets callback.old) }
     ensures built_in { kind callback.old ≢ Kind.Own → IfOk result (λ reply.
         (reply ≡ with_reason (spec callback.old).failed (eval (spec callback.old) (count callback.old) message))
         × (count callback.new ≡ counted (count callback.old) 1)) }
@@ -200,6 +214,7 @@ fn answer(callback: &mut Box<dyn Callback + Send>, message: Message) -> Result<R
     ensures calls { kind callback.old ≡ Kind.Own → OnOk result (Rose (calls callback.old) (calls callback.new)) }
     ensures bad { kind callback.old ≡ Kind.Own → IfOk result (λ reply.
         is_passed reply ≡ false → Rose (bad callback.old) (bad callback.new)) }
+    ensures lawful { IfOk result (IsLawful (law callback.old) message) }
     ensures by_answers { IsTrue (told callback.old) → IfOk result (λ reply. (answers : List Said)
         × (said callback.new ≡ said callback.old ++ answers) × MakeReply answers reply) }
 {
@@ -216,6 +231,7 @@ fn answer(callback: &mut Box<dyn Callback + Send>, message: Message) -> Result<R
 fn ask(callback: &mut Box<dyn Callback + Send>, message: Message) -> Result<Reply, AllocError>
     ensures same { (kind callback.new ≡ kind callback.old) × (spec callback.new ≡ spec callback.old)
         × (told callback.new ≡ told callback.old) }
+    ensures same_law { (law callback.new ≡ law callback.old) × (resets callback.new ≡ resets callback.old) }
     ensures built_in { kind callback.old ≢ Kind.Own → IfOk result (λ reply.
         (reply ≡ eval (spec callback.old) (count callback.old) message)
         × (count callback.new ≡ counted (count callback.old) 1)) }
@@ -227,6 +243,7 @@ fn ask(callback: &mut Box<dyn Callback + Send>, message: Message) -> Result<Repl
     ensures calls { kind callback.old ≡ Kind.Own → OnOk result (Rose (calls callback.old) (calls callback.new)) }
     ensures bad { kind callback.old ≡ Kind.Own → IfOk result (λ reply.
         is_passed reply ≡ false → Rose (bad callback.old) (bad callback.new)) }
+    ensures lawful { IfOk result (λ reply. Keeps (law callback.old) message reply) }
     ensures said { IsTrue (told callback.old) → IfOk result (λ reply.
         said callback.new ≡ said callback.old ++ Said.Message reply ∷ []) }
 {
@@ -241,6 +258,7 @@ pub fn reason_for(
 ) -> Result<Reason, AllocError>
     ensures same { (kind callback.new ≡ kind callback.old) × (spec callback.new ≡ spec callback.old)
         × (told callback.new ≡ told callback.old) }
+    ensures same_law { (law callback.new ≡ law callback.old) × (resets callback.new ≡ resets callback.old) }
     ensures built_in { kind callback.old ≢ Kind.Own → IfOk result (λ reason.
         (reason ≡ reason_of (spec callback.old).failed why) × (count callback.new ≡ count callback.old)) }
     ensures no_counts { kind callback.old ≢ Kind.Own
@@ -248,6 +266,7 @@ pub fn reason_for(
     ensures never_fall { (calls callback.old ≤ calls callback.new) × (bad callback.old ≤ bad callback.new) }
     ensures own_reason { kind callback.old ≡ Kind.Own → IsTrue (is_own_reason why)
         → IfOk result (λ reason. IsTrue (is_own_reason reason)) }
+    ensures lawful { IfOk result (IsReasonLeft (law callback.old) no why) }
     ensures by_answer { IsTrue (told callback.old) → IfOk result (λ reason. (by : FailedReply)
         × (said callback.new ≡ said callback.old ++ Said.Failed by ∷ []) × (reason ≡ reason_by by why)) }
 {

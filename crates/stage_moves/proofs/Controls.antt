@@ -12,7 +12,7 @@ use Rattle.stage_bodies.specs.Seen.{LineSeen}
 use Rattle.control_lines.specs.Steps.{begins, AddsControl}
 use Rattle.control_lines.specs.Keeping.{KeepsControl, KeepsControlPartly, KeepsControlOn}
 use Rattle.control_lines.proofs.Steps.{other_controls, one_control, job_is_no_control}
-use Rattle.control_lines.proofs.Kept.{other_keeps, jobless_keeps, kept_partly}
+use Rattle.control_lines.proofs.Kept.{other_keeps, other_keeps_partly, jobless_keeps, kept_partly}
 
 -- a step that does not come from the control source and begins no job
 pub record IsOther (step : Step) : Type 0 where
@@ -22,6 +22,9 @@ pub record IsOther (step : Step) : Type 0 where
 
 pub other_step : (topology : Topology) (before : History) (step : Step) (jobs : ℕ) (opened lines : Option LineSeen) → IsOther step → KeepsControl topology before jobs opened lines → KeepsControl topology (step ∷ before) jobs opened lines
 other_step topology before step jobs opened lines other k = other_keeps topology before step jobs opened lines other.control other.ends other.jobless k
+
+pub other_step_partly : (topology : Topology) (before : History) (step : Step) (opened lines : Option LineSeen) → IsOther step → KeepsControlPartly topology before opened lines → KeepsControlPartly topology (step ∷ before) opened lines
+other_step_partly topology before step opened lines other k = other_keeps_partly topology before step opened lines other.control other.ends other.jobless k
 
 -- ---- how many control steps there are
 

@@ -1,4 +1,5 @@
-use Rattle.std.proofs.Common.{take}
+use Rattle.std.proofs.Common.{◌≡◌, take}
+use Rattle.stage_bodies.specs.Lawful.{AreSettled}
 use Rattle.body_jobs.specs.Batches.{Settles}
 use Rattle.body_jobs.specs.Boxes.{box_of}
 use Rattle.body_jobs.proofs.batch.settle_all.Given as goal
@@ -9,5 +10,11 @@ invariant-loop-at g l =
     let now = goal.Callback-dyn g (l.callback.vtable, l.callback.value) in
     let a = l.initial.callback.value in
     let b = l.callback.value in
-    Settles (take l.at l.outcomes) l.settled.items (box_of (first.kind a) (first.spec a) (first.count a) (first.calls a) (first.bad a) (first.told a) (first.said a))
-    (box_of (now.kind b) (now.spec b) (now.count b) (now.calls b) (now.bad b) (now.told b) (now.said b))
+    record {
+      settles :
+          Settles (take l.at l.outcomes) l.settled.items
+          (box_of (first.kind a) (first.spec a) (first.count a) (first.calls a) (first.bad a) (first.resets a) (first.law a) (first.told a) (first.said a))
+          (box_of (now.kind b) (now.spec b) (now.count b) (now.calls b) (now.bad b) (now.resets b) (now.law b) (now.told b) (now.said b));
+      lawful : AreSettled (first.law a) (take l.at l.messages) (take l.at l.outcomes) l.settled.items;
+      resets : now.resets b ≡ first.resets a;
+    }

@@ -3,7 +3,9 @@ use Rattle.std.proofs.lemmas.List.{nil_from_length}
 use Rattle.std.specs.Vec.Iter.{into_iter_items}
 use Rattle.stage_job.proofs.CallCounts.{one_call_more}
 use Rattle.stage_job.proofs.ChunkSteps.{built_in_next, own_next, all_answered, all_fit}
+use Rattle.stage_job.specs.Lawful.{IsLawful}
 use Rattle.stage_job.specs.Told.{replies_by}
+use Rattle.stage_job.proofs.LawfulSteps.{all_replied, reply_next}
 use Rattle.stage_job.proofs.ToldSteps.{told_more, all_told}
 use Rattle.stage_job.proofs.chunk.answer_all.Goals as goal
 
@@ -22,6 +24,8 @@ loop-message-preserved g c =
       same_kind = answered.same.0 ∙ so_far.same_kind;
       same_spec = answered.same.1 ∙ so_far.same_spec;
       same_told = answered.same.2 ∙ so_far.same_told;
+      same_law = answered.same_law.0 ∙ so_far.same_law;
+      same_resets = answered.same_law.1 ∙ so_far.same_resets;
       built_in = λ not_own.
           built_in_next spec (now.spec c.loop-message.callback.value) (first.count c.args.callback.now.value) c.args.messages.items c.in-Some.message _ _ _ _ _ _ c.in_ok-reply.reply
           so_far.same_spec c.in-Some.ensures.steps.0 c.in_ok-push.ensures.items (answered.built_in (rw so_far.same_kind not_own)) calm (so_far.built_in not_own);
@@ -33,6 +37,9 @@ loop-message-preserved g c =
       own = λ is_own.
           own_next spec.batchers c.args.messages.items c.in-Some.message _ _ _ _ c.in_ok-reply.reply
           c.in-Some.ensures.steps.0 c.in_ok-push.ensures.items (rw so_far.same_spec at (answered.shape (so_far.same_kind ∙ is_own))) calm (so_far.own is_own);
+      lawful =
+          reply_next (IsLawful (first.law c.args.callback.now.value)) c.args.messages.items c.in-Some.message _ _ _ _ c.in_ok-reply.reply
+          c.in-Some.ensures.steps.0 c.in_ok-push.ensures.items (rw so_far.same_law at answered.lawful) so_far.lawful;
       counts = λ is_own.
           rw c.in_ok-push.ensures.items
           (one_call_more _ _ _ _ _ _ _ c.in_ok-reply.reply answered.never_fall.0 (answered.calls (so_far.same_kind ∙ is_own)) so_far.bad_kept answered.never_fall.1 (answered.bad (so_far.same_kind ∙ is_own)) (so_far.counts is_own));
@@ -60,3 +67,15 @@ returns-then-crashed-clause-by_answers g c = λ is_told.
     let so_far = c.loop-message.invariant in
     let more = told_more replies_by _ _ _ _ c.in_ok-reply.reply (c.in_ok-reply.ensures.by_answers (rw so_far.same_told is_told)) (so_far.told is_told) in
     rw (c.from_vec.ensures, c.in_ok-push.ensures.items) (all_told replies_by _ _ _ refl more)
+
+pub returns-clause-lawful : goal.returns-clause-lawful
+returns-clause-lawful g c =
+    rw c.from_vec-2.ensures (all_replied _ _ _ _ c.loop-message.invariant.lawful)
+
+pub returns-then-crashed-clause-lawful : goal.returns-then-crashed-clause-lawful
+returns-then-crashed-clause-lawful g c =
+    let first = goal.Callback-dyn g (c.args.callback.now.vtable, c.args.callback.now.value) in
+    let so_far = c.loop-message.invariant in
+    let more = reply_next (IsLawful (first.law c.args.callback.now.value)) c.args.messages.items c.in-Some.message _ _ _ _ c.in_ok-reply.reply
+    c.in-Some.ensures.steps.0 refl (rw so_far.same_law at c.in_ok-reply.ensures.lawful) so_far.lawful in
+    rw (c.from_vec.ensures, c.in_ok-push.ensures.items) (all_replied _ _ _ _ more)
