@@ -4,7 +4,7 @@ mod Gathering
 mod Joining
 pub mod Removing
 pub mod Closing
-pub mod Outcomes
+mod Outcomes
 pub mod Writing
 mod Written
 pub mod Rooming

@@ -1,3 +1,4 @@
+mod Outcomes
 pub mod Passing
 pub mod Contents
 pub mod Producers
