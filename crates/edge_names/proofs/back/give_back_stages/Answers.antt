@@ -8,6 +8,7 @@ use Rattle.edge_names.proofs.back.give_back_stages.Goals as goal
 
 pub loop-spec-preserved : goal.loop-spec-preserved
 loop-spec-preserved g c =
+    let feeds = g.S.Supply.feeds c.args.supply.now in
     let e = g.E.Edges in
     let s = g.E.Source.ByteSource in
     let k = g.E.Sink.ByteSink in
@@ -26,6 +27,6 @@ loop-spec-preserved g c =
     record {
       len = c.in-Ok.ensures.len ∙ x.len;
       rest = rest_turn topology n at spec was now next numbered here c.place_of-at.ensures x.rest c.in-Ok.ensures.others;
-      back = back_turn topology n at spec was now (seen c.args.edges.now) (seen c.loop-spec.edges) (seen c.back_stage.new.edges) numbered here c.place_of-at.ensures x.rest x.back c.in-Ok.ensures.back;
+      back = back_turn feeds topology n at spec was now (seen c.args.edges.now) (seen c.loop-spec.edges) (seen c.back_stage.new.edges) numbered here c.place_of-at.ensures x.rest x.back c.in-Ok.ensures.back;
       callbacks = callbacks_more was now next x.callbacks c.in-Ok.ensures.callbacks;
     }

@@ -6,6 +6,7 @@ use Rattle.edge_names.proofs.back.give_back_stages.Given as goal
 
 abbrev pub invariant-loop-spec : goal.invariant-loop-spec
 invariant-loop-spec g l =
+    let feeds = g.S.Supply.feeds l.fn.supply in
     let e = g.E.Edges in
     let s = g.E.Source.ByteSource in
     let k = g.E.Sink.ByteSink in
@@ -16,6 +17,6 @@ invariant-loop-spec g l =
     record {
       len : length l.bodies.items ≡ length l.fn.bodies.items;
       rest : (s : ℕ) → (l.spec-index + 1) * 16 ≤ s → now s ≡ was s;
-      back : GivesBack (sources_of done was) (sinks_of done was) (seen l.fn.edges) (seen l.edges);
+      back : GivesBack (sources_of feeds done was) (sinks_of feeds done was) (seen l.fn.edges) (seen l.edges);
       callbacks : KeepsCallbacks was now;
     }
