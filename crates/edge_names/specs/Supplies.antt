@@ -1,8 +1,11 @@
 -- How the stages of a run come to what stands in their bodies.
-use Rattle.std.specs.Prelude.{◌≡◌, ℕ, List, [], ◌∷◌, Option, Some, None, IsTrue}
+use Rattle.std.specs.Prelude.{◌≡◌, ℕ, List, [], ◌∷◌, Option, Some, None, IsTrue, IsSome}
 use Rattle.pipe_types.specs.declared.topology.Role.{Role}
 use Rattle.pipe_types.specs.declared.topology.Role.TheVariants.{Producer, BatchProcessor}
 use Rattle.pipe_types.specs.declared.topology.StageSpec.{StageSpec}
+use Rattle.pipe_types.specs.declared.topology.Topology.{Topology}
+use Rattle.pipe_types.specs.declared.numbers.StageNo.{StageNo}
+use Rattle.pipe_types.specs.Stages.{spec_of}
 use Rattle.pipe_edges.specs.Paces.{unpaced}
 use Rattle.pipe_edges.specs.declared.edges.EdgeKind.{EdgeKind}
 use Rattle.pipe_edges.specs.declared.edges.EdgeKind.TheVariants.{Source, Sink}
@@ -55,6 +58,10 @@ feed_by None = None
 -- each producer opens the source that it names
 abbrev pub by_name : StageSpec → Option Feed
 by_name spec = feed_by spec.edge
+
+-- every producer has its source
+abbrev pub FeedsProducers : (StageSpec → Option Feed) → Topology → Type 0
+FeedsProducers feeds topology = (s : StageNo) (spec : StageSpec) → spec_of topology s ≡ Some spec → spec.role ≡ Producer → IsSome (feeds spec)
 
 -- ---- sources
 
