@@ -258,15 +258,23 @@ given_sink edges name old (Some sink) h = (sink, refl, h)
 given_sink edges name old None h = absurd h
 
 -- a call by name opens what is supplied
+abbrev kind_in : Option (EdgeKind × List ℕ) → EdgeKind
+kind_in (Some call) = call.0
+kind_in None = File
+
+abbrev name_in : Option (EdgeKind × List ℕ) → List ℕ
+name_in (Some call) = call.1
+name_in None = []
+
 pub call_opens_source : (what : Option Supplied) (name : List ℕ) → call_for what ≡ Some (Source, name) → what ≡ Some (Fed (Opened name))
-call_opens_source (Some (Fed (Opened n))) name e = let same : n ≡ name = cc in ap (λ z. Some (Fed (Opened z))) same
+call_opens_source (Some (Fed (Opened n))) name e = let same : n ≡ name = ap name_in e in ap (λ z. Some (Fed (Opened z))) same
 call_opens_source (Some (Fed (Made bytes))) name e = cc
-call_opens_source (Some (Written n)) name e = cc
+call_opens_source (Some (Written n)) name e = let kind : Sink ≡ Source = ap kind_in e in cc
 call_opens_source None name e = cc
 
 pub call_opens_sink : (what : Option Supplied) (name : List ℕ) → call_for what ≡ Some (Sink, name) → what ≡ Some (Written name)
-call_opens_sink (Some (Written n)) name e = let same : n ≡ name = cc in ap (λ z. Some (Written z)) same
-call_opens_sink (Some (Fed (Opened n))) name e = cc
+call_opens_sink (Some (Written n)) name e = let same : n ≡ name = ap name_in e in ap (λ z. Some (Written z)) same
+call_opens_sink (Some (Fed (Opened n))) name e = let kind : Source ≡ Sink = ap kind_in e in cc
 call_opens_sink (Some (Fed (Made bytes))) name e = cc
 call_opens_sink None name e = cc
 

@@ -1,6 +1,6 @@
 //! How the producers of a run come to their sources.
 
-ghost use Rattle.std.specs.Prelude.{◌≡◌, ◌≢◌, [], None, Some, Option, option_map, IfOk, IfErr, OnOk, OnErr};
+ghost use Rattle.std.specs.Prelude.{[], None, Some, Option, option_map, IfOk, IfErr, OnOk, OnErr};
 ghost use Rattle.pipe_types.specs.declared.topology.StageSpec.{StageSpec};
 ghost use Rattle.stage_bodies.specs.Seen.{line_seen};
 ghost use Rattle.edge_names.specs.Supplies.{Feed, by_name, call_for, fed};
@@ -17,7 +17,7 @@ use std::alloc::{AllocError, Global};
 /// Supplies producers with their sources, and gives back what they opened.
 pub trait Supply<E: Edges> {
     /// What producers read.
-    type Source: ByteSource + Send + Drop;
+    type Source: ByteSource + Drop;
 
     /// How each producer comes to its source.
     ghost feeds: { Self → StageSpec → Option Feed };

@@ -29,9 +29,10 @@ use Rattle.body_laws.specs.Ready.{There}
 use Rattle.body_laws.proofs.Posts.{some_role}
 use Rattle.pipe_laws.proofs.Tests.{and_left, and_right, clash, same_stage-true}
 use Rattle.edge_names.specs.Seen.{EdgesSeen}
-use Rattle.edge_names.specs.Opened.{call_by, call_in, edge_call}
+use Rattle.edge_names.specs.Opened.{supplied_in}
+use Rattle.edge_names.specs.Supplies.{Feed, Opened, Fed, by_name, fed, feed_by, supplied, supplied_by}
 use Rattle.edge_names.specs.Controls.{named_control, first_sources}
-use Rattle.edge_names.specs.Returned.{named_source, source_in, sources_of, with_name}
+use Rattle.edge_names.specs.Returned.{fed_back, named_source, source_in, sources_of}
 use Rattle.pipe_run.specs.Outside.{HasControl, IsOutside, IsSourceRead, ReadsSource}
 use Rattle.pipe_run.specs.Whole.{HasCome}
 use Rattle.run_verdicts.specs.Verdicts.{status_in}
@@ -68,21 +69,21 @@ All-back P [] ys each = each
 All-back P (x ∷ xs) ys each = All-back P xs ys (All-tail P x (xs ++ ys) each)
 
 -- what holds of all that was given back holds of the source of each stage
-given_of : (P : List ℕ × SourceSeen → Type 0) (bodies : ℕ → Option BodySeen) (s : StageNo) (spec : StageSpec) (stages : List StageSpec) → spec_in stages s ≡ Some spec → All P (sources_of stages bodies)
-    → All P (named_source (edge_call spec) (bodies (place_at (post s 0))))
+given_of : (P : List ℕ × SourceSeen → Type 0) (bodies : ℕ → Option BodySeen) (s : StageNo) (spec : StageSpec) (stages : List StageSpec) → spec_in stages s ≡ Some spec → All P (sources_of by_name stages bodies)
+    → All P (named_source (supplied by_name spec) (bodies (place_at (post s 0))))
 given_of P bodies s spec [] found each = cc
 given_of P bodies s spec (x ∷ stages) found each =
-    either (same_stage x.no s) refl found (All-front P (named_source (edge_call x) (bodies (place_at (post x.no 0)))) (sources_of stages bodies) each)
-    (λ is. given_of P bodies s spec stages is (All-back P (named_source (edge_call x) (bodies (place_at (post x.no 0)))) (sources_of stages bodies) each))
+    either (same_stage x.no s) refl found (All-front P (named_source (supplied by_name x) (bodies (place_at (post x.no 0)))) (sources_of by_name stages bodies) each)
+    (λ is. given_of P bodies s spec stages is (All-back P (named_source (supplied by_name x) (bodies (place_at (post x.no 0)))) (sources_of by_name stages bodies) each))
   where
     either : (b : Bool) → same_stage x.no s ≡ b → (if b then Some x else find (λ y. same_stage y.no s) stages) ≡ Some spec
-        → All P (named_source (edge_call x) (bodies (place_at (post x.no 0))))
-        → (find (λ y. same_stage y.no s) stages ≡ Some spec → All P (named_source (edge_call spec) (bodies (place_at (post s 0)))))
-        → All P (named_source (edge_call spec) (bodies (place_at (post s 0))))
+        → All P (named_source (supplied by_name x) (bodies (place_at (post x.no 0))))
+        → (find (λ y. same_stage y.no s) stages ≡ Some spec → All P (named_source (supplied by_name spec) (bodies (place_at (post s 0)))))
+        → All P (named_source (supplied by_name spec) (bodies (place_at (post s 0))))
     either true e is first rest =
         let same : x ≡ spec = cc in
         let at : x.no ≡ s = same_stage-true x.no s e in
-        subst (λ y. All P (named_source (edge_call y) (bodies (place_at (post s 0))))) same (subst (λ t. All P (named_source (edge_call x) (bodies (place_at (post t 0))))) at first)
+        subst (λ y. All P (named_source (supplied by_name y) (bodies (place_at (post s 0))))) same (subst (λ t. All P (named_source (supplied by_name x) (bodies (place_at (post t 0))))) at first)
     either false e is first rest = rest is
 
 producer_is : (r : Role) → is_producer_role r ≡ true → r ≡ Producer
@@ -98,9 +99,9 @@ has_edge topology p spec sound found producer =
     let fields : is_producer_in topology.stages spec ≡ true = fields_of topology p spec Producer sound found producer in
     and_right (is_size spec.size) _ (and_right (by_demand spec spec.dispatch || (by_partition (length (processors topology.stages)) spec spec.dispatch && nat_le spec.field 255)) _ (and_left ((by_demand spec spec.dispatch || (by_partition (length (processors topology.stages)) spec spec.dispatch && nat_le spec.field 255)) && (is_size spec.size && is_some spec.edge)) _ fields))
 
-source_well_read : (topology : Topology) (before : History) (old new : EdgesSeen) (p : StageNo) (spec : StageSpec) (name : List ℕ) (o : Option SourceSeen) → (outside : IsOutside true topology before old new)
-    → source_in (outside.bodies (place_at (post p 0))) ≡ o → edge_call spec ≡ Some (Source, name) → There o (IsSourceRead old before p name)
-    → All (λ (given : List ℕ × SourceSeen). IsFaultless given.1) (named_source (edge_call spec) (outside.bodies (place_at (post p 0)))) → IsWellRead before p
+source_well_read : (topology : Topology) (before : History) (old new : EdgesSeen) (p : StageNo) (spec : StageSpec) (name : List ℕ) (o : Option SourceSeen) → (outside : IsOutside by_name true topology before old new)
+    → source_in (outside.bodies (place_at (post p 0))) ≡ o → supplied by_name spec ≡ Some (Fed (Opened name)) → There o (IsSourceRead old before p name)
+    → All (λ (given : List ℕ × SourceSeen). IsFaultless given.1) (named_source (supplied by_name spec) (outside.bodies (place_at (post p 0)))) → IsWellRead before p
 source_well_read topology before old new p spec name None outside is call there each = absurd there
 source_well_read topology before old new p spec name (Some source) outside is call there each = record {
   source = source;
@@ -108,18 +109,18 @@ source_well_read topology before old new p spec name (Some source) outside is ca
   fine = All-head (λ (given : List ℕ × SourceSeen). IsFaultless given.1) (name, source) [] (subst (All (λ (given : List ℕ × SourceSeen). IsFaultless given.1)) given each);
 }
   where
-    given : named_source (edge_call spec) (outside.bodies (place_at (post p 0))) ≡ (name, source) ∷ []
-    given = ap (λ c. named_source c (outside.bodies (place_at (post p 0)))) call ∙ ap (with_name name) is
+    given : named_source (supplied by_name spec) (outside.bodies (place_at (post p 0))) ≡ (name, source) ∷ []
+    given = ap (λ c. named_source c (outside.bodies (place_at (post p 0)))) call ∙ ap (fed_back (Some (Fed (Opened name)))) is
 
 -- all that a whole run gave back, the control source first
-given_back : (P : List ℕ × SourceSeen → Type 0) (topology : Topology) (before : History) (old new : EdgesSeen) → (outside : IsOutside true topology before old new)
+given_back : (P : List ℕ × SourceSeen → Type 0) (topology : Topology) (before : History) (old new : EdgesSeen) → (outside : IsOutside by_name true topology before old new)
     → ((back : List (List ℕ × SourceSeen)) → new.sources_back ≡ old.sources_back ++ back → All P back)
-    → All P (named_control topology.control outside.control ++ sources_of topology.stages outside.bodies)
+    → All P (named_control topology.control outside.control ++ sources_of by_name topology.stages outside.bodies)
 given_back P topology before old new outside each =
-    let first : All P (first_sources (suc (length topology.stages)) topology outside.control outside.bodies) =
-    subst (λ n. All P (first_sources n topology outside.control outside.bodies)) (outside.all refl) (each (first_sources outside.parts topology outside.control outside.bodies) outside.sources)
+    let first : All P (first_sources by_name (suc (length topology.stages)) topology outside.control outside.bodies) =
+    subst (λ n. All P (first_sources by_name n topology outside.control outside.bodies)) (outside.all refl) (each (first_sources by_name outside.parts topology outside.control outside.bodies) outside.sources)
     in
-    subst (λ stages. All P (named_control topology.control outside.control ++ sources_of stages outside.bodies)) (take_all (length topology.stages) topology.stages (omega arith)) first
+    subst (λ stages. All P (named_control topology.control outside.control ++ sources_of by_name stages outside.bodies)) (take_all (length topology.stages) topology.stages (omega arith)) first
 
 -- the control source did not end with a fault or with a line that is too long
 abbrev IsControlFine : History → Type 0
@@ -139,20 +140,20 @@ control_well_read topology before edges None None none used each end is = let no
 control_well_read topology before edges (Some name) None none used each end is = absurd used
 control_well_read topology before edges None (Some now) none used each end is = absurd used
 
-pub control_fine : (topology : Topology) (before : History) (old new : EdgesSeen) → (topology.control ≡ None → HasNoControl before) → IsOutside true topology before old new → AreFaultless old new → IsControlFine before
+pub control_fine : (topology : Topology) (before : History) (old new : EdgesSeen) → (topology.control ≡ None → HasNoControl before) → IsOutside by_name true topology before old new → AreFaultless old new → IsControlFine before
 control_fine topology before old new none outside faultless =
     control_well_read topology before old topology.control outside.control none outside.obeyed
-    (All-front (λ (given : List ℕ × SourceSeen). IsFaultless given.1) (named_control topology.control outside.control) (sources_of topology.stages outside.bodies)
+    (All-front (λ (given : List ℕ × SourceSeen). IsFaultless given.1) (named_control topology.control outside.control) (sources_of by_name topology.stages outside.bodies)
     (given_back (λ given. IsFaultless given.1) topology before old new outside faultless))
 
-pub well_read : (topology : Topology) (before : History) (old new : EdgesSeen) → IsSound topology → IsOutside true topology before old new → AreFaultless old new → AreWellRead topology before
+pub well_read : (topology : Topology) (before : History) (old new : EdgesSeen) → IsSound topology → IsOutside by_name true topology before old new → AreFaultless old new → AreWellRead topology before
 well_read topology before old new sound outside faultless p role =
     let found = some_role topology p is_producer_role role in
     by_edge found.0 found.1 (producer_is found.0.role found.2) found.0.edge refl
   where
-    back : All (λ (given : List ℕ × SourceSeen). IsFaultless given.1) (sources_of topology.stages outside.bodies)
+    back : All (λ (given : List ℕ × SourceSeen). IsFaultless given.1) (sources_of by_name topology.stages outside.bodies)
     back =
-        All-back (λ (given : List ℕ × SourceSeen). IsFaultless given.1) (named_control topology.control outside.control) (sources_of topology.stages outside.bodies)
+        All-back (λ (given : List ℕ × SourceSeen). IsFaultless given.1) (named_control topology.control outside.control) (sources_of by_name topology.stages outside.bodies)
         (given_back (λ given. IsFaultless given.1) topology before old new outside faultless)
 
     by_edge : (spec : StageSpec) → spec_of topology p ≡ Some spec → spec.role ≡ Producer → (o : Option (List ℕ)) → spec.edge ≡ o → IsWellRead before p
@@ -160,9 +161,9 @@ well_read topology before old new sound outside faultless p role =
         let some : is_some spec.edge ≡ true = has_edge topology p spec sound found producer in
         clash (is_some spec.edge) some (ap is_some is)
     by_edge spec found producer (Some name) is =
-        let call : edge_call spec ≡ Some (Source, name) = ap (λ r. call_by r spec.edge) producer ∙ ap (call_by Producer) is in
+        let call : supplied by_name spec ≡ Some (Fed (Opened name)) = ap (λ r. supplied_by r (feed_by spec.edge) spec.edge) producer ∙ ap (λ o. fed (feed_by o)) is in
         source_well_read topology before old new p spec name (source_in (outside.bodies (place_at (post p 0)))) outside refl call
-        (outside.used.sources p name (ap call_in found ∙ call))
+        (outside.used.sources p (Opened name) (ap (supplied_in by_name) found ∙ call))
         (given_of (λ given. IsFaultless given.1) outside.bodies p spec topology.stages found back)
 
 -- ---- how it ended
@@ -230,10 +231,10 @@ memory_or topology fails before verdict status is (inl memory) calm = wanting to
 memory_or topology fails before verdict status is (inr f) calm = absurd (calm f.name f.so)
 
 -- where memory was not wanting, all was used
-all_used : (memory : Type 0) (topology : Topology) (before : History) (old new : OutsideSeen) → HasUsed memory topology before old new → (memory → ⊥) → IsOutside true topology before old.edges new.edges
+all_used : (memory : Type 0) (topology : Topology) (before : History) (old new : OutsideSeen) → HasUsed memory topology before old new → (memory → ⊥) → IsOutside by_name true topology before old.edges new.edges
 all_used memory topology before old new used never = by_whole used.whole used.wanting used.outside
   where
-    by_whole : (b : Bool) → (b ≡ false → memory) → IsOutside b topology before old.edges new.edges → IsOutside true topology before old.edges new.edges
+    by_whole : (b : Bool) → (b ≡ false → memory) → IsOutside by_name b topology before old.edges new.edges → IsOutside by_name true topology before old.edges new.edges
     by_whole true w outside = outside
     by_whole false w outside = absurd (never (w refl))
 
@@ -259,7 +260,7 @@ complete_in (Runs shows wanted) fails calls topology before verdict status old n
 
     by_run : Reported shows wanted before verdict ⊎ (verdict ≡ Refused Memory) → IsComplete wanted before status
     by_run (inl v) =
-        let whole : IsOutside true wanted before old.edges new.edges = all_used (verdict ≡ Refused Memory) wanted before old new used (done_is_no_refusal verdict v.texts v.status v.is) in
+        let whole : IsOutside by_name true wanted before old.edges new.edges = all_used (verdict ≡ Refused Memory) wanted before old new used (done_is_no_refusal verdict v.texts v.status v.is) in
         rw (is ∙ ap status_in v.is) (ended_whole wanted before v.status r.sound r.run v.report.ended (well_read wanted before old.edges new.edges r.sound whole fine) (control_fine wanted before old.edges new.edges r.run.control whole fine))
     by_run (inr memory) = wanting wanted before status (is ∙ ap status_in memory)
 

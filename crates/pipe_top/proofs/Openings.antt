@@ -12,6 +12,7 @@ use Rattle.core_state.specs.Stands.{Stands}
 use Rattle.pipe_laws.specs.Followed.{FollowsMoves}
 use Rattle.pipe_laws.specs.Read.{HasNoControl}
 use Rattle.pipe_laws.proofs.Claims.{keeps_claims}
+use Rattle.edge_names.specs.Supplies.{by_name}
 use Rattle.edge_names.specs.Controls.{run_calls}
 use Rattle.topology_needs.specs.declared.stock.Shortage.{Shortage}
 use Rattle.pipe_run.specs.Boxes.{AreBoxesLeft, AreSameBoxes}
@@ -80,9 +81,9 @@ unrun topology sound = record {
 
 -- what was named was opened
 pub ran : (old new : OutsideSeen) (shows : Shows) (wanted : Topology) (whole : Bool) (core : Core) (topology : Option Topology) (before : History) (verdict : Verdict)
-    → core.topology ≡ wanted → Stands core → IsRunOf whole wanted core.journal.steps old.edges new.edges old.clock new.clock → AreBoxesLeft whole wanted core.journal.steps old.boxes new.boxes
+    → core.topology ≡ wanted → Stands core → IsRunOf by_name whole wanted core.journal.steps old.edges new.edges old.clock new.clock → AreBoxesLeft whole wanted core.journal.steps old.boxes new.boxes
     → topology ≡ Some core.topology → before ≡ core.journal.steps → IsJudgement verdict shows core.topology core.journal.steps → (whole ≡ false → verdict ≡ Refused Memory)
-    → ComesBy old new (Runs shows wanted) (run_calls wanted) topology before verdict
+    → ComesBy old new (Runs shows wanted) (run_calls by_name wanted) topology before verdict
 ran old new shows wanted whole core topology before verdict same stands r boxes own steps judged wanting =
     let run : IsRun wanted core.journal.steps = rw same at (run_by core stands (rw same r.follows) (rw same r.control)) in
     rw (own ∙ ap Some same, steps) (record {
@@ -99,17 +100,17 @@ ran old new shows wanted whole core topology before verdict same stands r boxes 
         time = r.time;
         boxes = boxes;
       };
-      asked_by = λ t. all_asked verdict (run_calls wanted) old.edges.asked new.edges.asked (r.asks.asked t);
+      asked_by = λ t. all_asked verdict (run_calls by_name wanted) old.edges.asked new.edges.asked (r.asks.asked t);
       same_telling = r.asks.same_telling;
     })
 
 -- a call by this name failed
 pub unopened : (old new : OutsideSeen) (shows : Shows) (wanted : Topology) (name : List ℕ) (topology : Option Topology) (before : History) (verdict : Verdict)
-    → HasFailed wanted name old.edges new.edges → new.clock ≡ old.clock → AreSameBoxes old.boxes new.boxes
+    → HasFailed by_name wanted name old.edges new.edges → new.clock ≡ old.clock → AreSameBoxes old.boxes new.boxes
     → verdict ≡ Refused (Edge name) → (topology ≡ None) × (before ≡ [])
-    → ComesBy old new (Runs shows wanted) (run_calls wanted) topology before verdict
+    → ComesBy old new (Runs shows wanted) (run_calls by_name wanted) topology before verdict
 unopened old new shows wanted name topology before verdict a clock boxes is none =
-    let failed : FailsAt old.edges.told (run_calls wanted) old.edges.asked new.edges.asked (Rose old.edges.faults new.edges.faults) name = record {
+    let failed : FailsAt old.edges.told (run_calls by_name wanted) old.edges.asked new.edges.asked (Rose old.edges.faults new.edges.faults) name = record {
       kind = a.kind;
       front = a.front;
       rest = a.rest;
@@ -130,9 +131,9 @@ unopened old new shows wanted name topology before verdict a clock boxes is none
 
 -- memory was wanting before all was opened
 pub unopened_memory : (old new : OutsideSeen) (shows : Shows) (wanted : Topology) (topology : Option Topology) (before : History) (verdict : Verdict)
-    → HasWanted wanted old.edges new.edges → new.clock ≡ old.clock → AreSameBoxes old.boxes new.boxes
+    → HasWanted by_name wanted old.edges new.edges → new.clock ≡ old.clock → AreSameBoxes old.boxes new.boxes
     → verdict ≡ Refused Memory → (topology ≡ None) × (before ≡ [])
-    → ComesBy old new (Runs shows wanted) (run_calls wanted) topology before verdict
+    → ComesBy old new (Runs shows wanted) (run_calls by_name wanted) topology before verdict
 unopened_memory old new shows wanted topology before verdict a clock boxes is none =
     rw (is, none.0) (record {
       outcome = inl none.1;

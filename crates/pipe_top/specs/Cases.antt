@@ -7,6 +7,7 @@ use Rattle.config_table.specs.declared.fault.ConfigFault.{ConfigFault}
 use Rattle.pipe_config.specs.File.{topology_of_file}
 use Rattle.config_flow.specs.Flow.{flow_topology_of}
 use Rattle.program_words.specs.Words.{Command, Flow, Check, Run, Upgrade}
+use Rattle.edge_names.specs.Supplies.{by_name}
 use Rattle.edge_names.specs.Controls.{run_calls}
 use Rattle.topology_needs.specs.declared.stock.Boxes.{Boxes}
 use Rattle.topology_needs.specs.declared.stock.Shortage.{Shortage}
@@ -68,7 +69,7 @@ file_calls (Some name) = (File, name) ∷ []
 
 -- the calls that open what a run reads and writes: the control source first, if one is named, and then in stage order
 abbrev pub opening_calls : Case → List (EdgeKind × List ℕ)
-opening_calls (Runs shows topology) = run_calls topology
+opening_calls (Runs shows topology) = run_calls by_name topology
 opening_calls _ = []
 
 -- the calls by name: first the topology file is read, where one is named, and then the sources and sinks of a run are opened

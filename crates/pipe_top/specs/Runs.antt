@@ -30,6 +30,7 @@ use Rattle.stage_bodies.specs.Seen.{SourceSeen, SinkSeen, BoxSeen}
 use Rattle.pipe_run.specs.Clocks.{ClockSeen}
 use Rattle.edge_names.specs.Seen.{EdgesSeen}
 use Rattle.pipe_run.specs.Boxes.{AreBoxesLeft, AreSameBoxes}
+use Rattle.edge_names.specs.Supplies.{by_name}
 use Rattle.pipe_run.specs.Outside.{IsOpenedInPart, IsOutside, IsUnopened}
 use Rattle.pipe_run.specs.Whole.{HasCome, IsTimeOf}
 use Rattle.pipe_top.specs.Cases.{calls_of, Case, NoCommand, NoTopology, TooFew, Checks, Upgrades, Runs}
@@ -157,7 +158,7 @@ pub record IsUntouched (old new : OutsideSeen) : Type 0 where
 pub record HasUsed (memory : Type 0) (topology : Topology) (before : History) (old new : OutsideSeen) : Type 0 where
   pub whole : Bool
   pub wanting : whole ≡ false → memory
-  pub outside : IsOutside whole topology before old.edges new.edges
+  pub outside : IsOutside by_name whole topology before old.edges new.edges
   pub time : IsTimeOf whole before old.clock new.clock
   pub boxes : AreBoxesLeft whole topology before old.boxes new.boxes
 
@@ -169,7 +170,7 @@ IsNothingBack old new = (new.sources_back ≡ old.sources_back) × (new.sinks_ba
 pub record IsGivenUp (calls : List (EdgeKind × List ℕ)) (topology : Topology) (old new : EdgesSeen) : Type 0 where
   pub name : List ℕ
   pub fails : FailsAt old.told calls old.asked new.asked (Rose old.faults new.faults) name
-  pub back : ((fails.kind ≡ File) × IsNothingBack old new) ⊎ IsUnopened topology name fails.rest old new
+  pub back : ((fails.kind ≡ File) × IsNothingBack old new) ⊎ IsUnopened by_name topology name fails.rest old new
 
 -- memory was wanting before the run began: so many of the calls were made, and no source or sink was opened, or what was opened
 -- was given back, unread and unwritten, as far as there was memory for that
@@ -178,7 +179,7 @@ pub record IsBrokenOff (calls : List (EdgeKind × List ℕ)) (topology : Topolog
   pub rest : List (EdgeKind × List ℕ)
   pub parts : calls ≡ front ++ rest
   pub asked : IsTrue old.told → new.asked ≡ old.asked ++ front
-  pub back : (All (λ call. call.0 ≡ File) front × IsNothingBack old new) ⊎ IsOpenedInPart topology rest old new
+  pub back : (All (λ call. call.0 ≡ File) front × IsNothingBack old new) ⊎ IsOpenedInPart by_name topology rest old new
 
 -- a run did not begin, since memory was wanting or a call by name failed: the clock was not used, and the boxes are the same,
 -- though some may be armed

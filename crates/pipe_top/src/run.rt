@@ -4,6 +4,7 @@ ghost use Rattle.std.specs.Prelude.{◌≡◌, ◌≢◌, ◌⊎◌, ◌≤◌, 
 ghost use Rattle.pipe_types.specs.Sound.{IsSound};
 ghost use Rattle.core_state.specs.Stands.{Stands};
 ghost use Rattle.pipe_run.specs.Clocks.{clock_seen};
+ghost use Rattle.edge_names.specs.Supplies.{by_name};
 ghost use Rattle.edge_names.specs.Controls.{run_calls};
 ghost use Rattle.box_stock.specs.Homes.{Suffices};
 ghost use Rattle.box_stock.specs.Lends.{kinds_of};
@@ -14,7 +15,7 @@ ghost use Rattle.pipe_top.specs.Flows.{IsJudgement, ComesBy, refusal_in};
 
 use box_stock::{Boxed, Carries, boxes_in};
 use core_state::Core;
-use edge_names::SeenEdges;
+use edge_names::{ByName, SeenEdges};
 use journal_texts::status::status;
 use pipe_edges::{Clock, Edges};
 use pipe_journal::Journal;
@@ -116,10 +117,10 @@ fn run_supplied<
     ensures comes { ComesBy
         (record { edges = ⟦<E as SeenEdges>⟧.seen edges.old; clock = clock_seen K.latest K.readings clock; boxes = map C.seen stock.items })
         (record { edges = ⟦<E as SeenEdges>⟧.seen edges.new; clock = clock_seen K.latest K.readings result.clock; boxes = map C.seen result.stock.items })
-        (Runs shows topology) (run_calls topology) result.topology result.journal.steps result.verdict }
+        (Runs shows topology) (run_calls by_name topology) result.topology result.journal.steps result.verdict }
 {
-    let Ended { run, stock, clock } = run_topology::<R, E, C, B, K>(
-        rt, alloc, topology, workers, stock, edges, clock,
+    let Ended { run, stock, clock } = run_topology::<R, E, ByName, C, B, K>(
+        rt, alloc, &ByName, topology, workers, stock, edges, clock,
     );
     match run {
         Ok(run) => conclude(alloc, run, shows, stock, clock),

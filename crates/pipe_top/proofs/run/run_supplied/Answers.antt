@@ -1,6 +1,10 @@
 use Rattle.std.proofs.Common.{is_ok, refl}
+use Rattle.box_stock.proofs.Filled.{names_feed}
 use Rattle.pipe_top.proofs.Openings.{ran, unopened, unopened_memory}
 use Rattle.pipe_top.proofs.run.run_supplied.Goals as goal
+
+pub run_topology-run-requires-clause-fed : goal.run_topology-run-requires-clause-fed
+run_topology-run-requires-clause-fed g c κs within = names_feed c.args.topology c.requires.sound
 
 pub returns-in-Ok : goal.returns-in-Ok
 returns-in-Ok g c =
