@@ -1,5 +1,5 @@
 pub mod Openings
 pub mod Returns
-mod Cuts
+pub mod Cuts
 pub mod Undoes
 pub mod Supplying
