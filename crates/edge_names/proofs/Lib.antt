@@ -2,4 +2,3 @@ pub mod Openings
 pub mod Returns
 pub mod Cuts
 pub mod Undoes
-pub mod Supplying

@@ -16,15 +16,11 @@ use Rattle.stage_bodies.specs.Jobs.{Both}
 use Rattle.stage_bodies.specs.Posts.{place_at}
 use Rattle.edge_names.specs.Seen.{EdgesSeen}
 use Rattle.edge_names.specs.Named.{GivesSource, GivesSink}
-use Rattle.edge_names.specs.Supplies.{Feed, Opened, Made, Supplied, Fed, Written, IsMade, by_name, call_for, call_of, supplied}
+use Rattle.edge_names.specs.Supplies.{Feed, Opened, Made, Supplied, Fed, Written, IsMade, call_for, call_of, supplied}
 use Rattle.edge_names.specs.declared.opening.Unopened.{Unopened}
 use Rattle.edge_names.specs.declared.opening.Unopened.TheVariants.{Failed, OutOfMemory}
 
 -- ---- calls
-
--- the call that a stage makes where each producer opens the source that it names
-abbrev pub edge_call : StageSpec → Option (EdgeKind × List ℕ)
-edge_call spec = call_of by_name spec
 
 abbrev pub one : {A : Type 0} → Option A → List A
 one (Some x) = x ∷ []
