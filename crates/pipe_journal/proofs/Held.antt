@@ -1,7 +1,7 @@
 -- What the entries stand for, whatever is added to their store.
 use Rattle.std.proofs.Common.{◌≡◌, ℕ, zero, suc, ◌<◌, length, arith, ◌∷◌, ◌++◌, [], List, map, reverse, Some, refl, sym, ap, ◌∙◌, subst}
 use Rattle.std.specs.Prelude.{slice_get, Option, IsSome, unwrap_or}
-use Rattle.slab.specs.Slab.{Slab, get, ContainsKey}
+use Rattle.slab.specs.Slab.{Slab, ContainsKey}
 use Rattle.std.proofs.lemmas.List.{map_push, reverse-append, reverse-reverse, length-map, length-reverse}
 use Rattle.std.proofs.lemmas.Option.{slice_get-map}
 use Rattle.std.specs.Option.{option_map}

@@ -96,7 +96,8 @@ impl Store {
     {
         let mut outcomes = outcomes.into_vec();
         outcomes.shrink_to_fit();
-        self.outcomes.insert_reserved(OutcomeList::from_vec(outcomes))
+        self.outcomes
+            .insert_reserved(OutcomeList::from_vec(outcomes))
     }
 
     /// Moves the late answer in, and answers its key.
