@@ -1,19 +1,20 @@
 -- Which open batch may close.
 use Rattle.std.proofs.Common.{◌≡◌, ℕ, zero, suc, ◌+◌, ◌<◌, ◌≤◌, List, [], ◌∷◌, ◌++◌, length, map, take, get_or, Bool, true, false, cond, not, ◌||◌, refl, ap, sym, ◌∙◌, subst, Some, None, Option, Vec, Global, All, slice_get, arith}
-use Rattle.std.specs.Prelude.{nat_le, min, ◌==◌, is_some, unwrap_or}
+use Rattle.std.specs.Prelude.{nat_le, ◌==◌, is_some, unwrap_or}
 use Rattle.std.specs.Map.{values_of}
 use Rattle.std.proofs.lemmas.Bool.{true≢false}
 use Rattle.std.proofs.lemmas.Bool.Decides.{nat_tests}
 use Rattle.std.proofs.lemmas.List.{take_all}
-use Rattle.std.proofs.lemmas.List.Elements.{All-more}
+use Rattle.std.proofs.lemmas.List.Elements.{All-more, All-cons, All-nil}
 use Rattle.std.proofs.lemmas.Option.{get_or_from_slice_get, slice_get_within}
 use Rattle.pipe_types.specs.declared.numbers.MsgNo.{MsgNo}
 use Rattle.pipe_types.specs.declared.message.Trigger.{Trigger}
+use Rattle.pipe_types.specs.declared.message.Trigger.TheVariants.{Size, Flush, Timeout}
 use Rattle.batcher.specs.declared.Closable.{Closable}
 use Rattle.batcher.specs.declared.messages.Messages.{Messages}
 use Rattle.batcher.specs.Batches.{OpenBatch, Batches, first_of, trigger_of, IsClosable}
-use Rattle.batcher.specs.Seen.{seen, batch_in, batch_of, is_ready, AreMarked, IsKept}
-use Rattle.batcher.proofs.Gathers.{Entries, or_left, or_right}
+use Rattle.batcher.specs.Seen.{seen, batch_in, batch_of, is_ready, ready_in, ticks_of, Rise, first_has_passed, IsKept}
+use Rattle.batcher.proofs.Gathers.{Entries}
 
 -- the messages at a place are those of the batch there
 pub seen_at : (es : Entries) (i : ℕ) (m : Messages) → slice_get (values_of es) i ≡ Some m → (k : List ℕ) × (slice_get (seen es) i ≡ Some (batch_in k m))
@@ -67,19 +68,39 @@ not_none_at held now dry c first is e none =
 pub closable_within : (held : Batches) (now : ℕ) (dry : Bool) (c : Closable) → IsClosable held now dry c → c.at < length held.batches
 closable_within held now dry c is = slice_get_within held.batches c.at is.batch is.there
 
--- one batch more
-pub marked_more : (size : ℕ) (may : Bool) (from : ℕ) (batches : List OpenBatch) (i : ℕ) (batch : OpenBatch) → slice_get batches i ≡ Some batch
-    → AreMarked size may from (take i batches) → AreMarked size (may || is_ready size batch) (min from batch.opened) (take (i + 1) batches)
-marked_more size may from batches i batch there marked = record {
-  unready = λ unset. more (λ b. is_ready size b ≡ false) batches i batch there (or_right may (is_ready size batch) unset) (marked.unready (or_left may (is_ready size batch) unset));
-  later = more (λ b. min from batch.opened ≤ b.opened) batches i batch there (omega arith) (λ k d within. let early = marked.later k d within in omega arith);
-}
+-- where none is ready, all are in the order of their ticks, and the first has not been open for so long, none has a trigger
+none_ready : (size : ℕ) (batches : List OpenBatch) → ready_in size batches ≤ 0 → All (λ b. is_ready size b ≡ false) batches
+none_ready size [] none = All-nil (λ b. is_ready size b ≡ false)
+none_ready size (batch ∷ batches) none = by (is_ready size batch) refl none
+  where
+    by : (b : Bool) → is_ready size batch ≡ b → cond b (suc (ready_in size batches)) (ready_in size batches) ≤ 0 → All (λ b. is_ready size b ≡ false) (batch ∷ batches)
+    by true e le = absurd (omega (arith, le))
+    by false e le = All-cons (λ b. is_ready size b ≡ false) batch batches e (none_ready size batches le)
 
-pub marks_same : (size : ℕ) (may may' : Bool) (from from' : ℕ) (batches : List OpenBatch) → may ≡ may' → from ≡ from' → AreMarked size may from batches → AreMarked size may' from' batches
-marks_same size may may' from from' batches e f marked = record {
-  unready = λ unset. marked.unready (e ∙ unset);
-  later = λ k d within. let early = marked.later k d within in omega (arith, f, early);
-}
+none_earlier : (from to : ℕ) (batches : List OpenBatch) → Rise from to (ticks_of batches) → All (λ b. from ≤ b.opened) batches
+none_earlier from to [] rise = All-nil (λ b. from ≤ b.opened)
+none_earlier from to (batch ∷ batches) rise =
+    All-cons (λ b. from ≤ b.opened) batch batches rise.0
+    (λ k d within. let later = none_earlier batch.opened to batches rise.1 k d within in omega (arith, later, rise.0))
 
-pub kept_same : (size : ℕ) (may may' : Bool) (from from' : ℕ) (batches : List OpenBatch) → may ≡ may' → from ≡ from' → IsKept size may from batches → IsKept size may' from' batches
-kept_same size may may' from from' batches e f kept = record { begun = kept.begun; marked = marks_same size may may' from from' batches e f kept.marked }
+first_earliest : (from to timeout now : ℕ) (batches : List OpenBatch) → Rise from to (ticks_of batches) → first_has_passed timeout now batches ≡ false → All (λ b. nat_le (b.opened + timeout) now ≡ false) batches
+first_earliest from to timeout now [] rise not_yet = All-nil (λ b. nat_le (b.opened + timeout) now ≡ false)
+first_earliest from to timeout now (batch ∷ batches) rise not_yet =
+    All-cons (λ b. nat_le (b.opened + timeout) now ≡ false) batch batches not_yet
+    (λ k d within. let later = none_earlier batch.opened to batches rise.1 k d within in grind (arith, nat_tests, later, not_yet))
+
+pub none_yet : (held : Batches) (now ready newest : ℕ) (in_order : Bool) → IsKept held.batch_size ready in_order newest held.batches → ready ≡ 0 → in_order ≡ true → first_has_passed held.batch_timeout now held.batches ≡ false
+    → All (λ batch. trigger_of held now false batch ≡ None) held.batches
+none_yet held now ready newest in_order kept none set not_yet k d within =
+    by (length batch.numbers == held.batch_size) batch.flush (nat_le (batch.opened + held.batch_timeout) now)
+    (none_ready held.batch_size held.batches (let few = kept.within (omega (arith, none)) in omega (arith, none, few)) k d within)
+    (first_earliest 0 newest held.batch_timeout now held.batches (kept.rise set) not_yet k d within)
+  where
+    abbrev batch : OpenBatch
+    batch = get_or held.batches k d
+
+    by : (full flush passed : Bool) → (full || flush) ≡ false → passed ≡ false → cond full (Some Size) (cond (flush || false) (Some Flush) (cond passed (Some Timeout) None)) ≡ None
+    by true flush passed e f = absurd (true≢false e)
+    by false true passed e f = absurd (true≢false e)
+    by false false true e f = absurd (true≢false f)
+    by false false false e f = refl
