@@ -1,6 +1,6 @@
 -- Which open batch may close.
-use Rattle.std.proofs.Common.{◌≡◌, ℕ, zero, suc, ◌+◌, ◌<◌, ◌≤◌, List, [], ◌∷◌, ◌++◌, length, map, take, get_or, Bool, true, false, cond, not, ◌||◌, refl, ap, sym, ◌∙◌, subst, Some, None, Option, Vec, Global, All, slice_get, arith}
-use Rattle.std.specs.Prelude.{nat_le, ◌==◌, is_some, unwrap_or}
+use Rattle.std.proofs.Common.{◌≡◌, ℕ, zero, suc, ◌+◌, ◌<◌, ◌≤◌, List, [], ◌∷◌, ◌++◌, length, map, take, drop, get_or, Bool, true, false, cond, not, ◌||◌, refl, ap, sym, ◌∙◌, subst, Some, None, Option, Vec, Global, All, slice_get, arith}
+use Rattle.std.specs.Prelude.{nat_le, ◌==◌, is_some, unwrap_or, option_map}
 use Rattle.std.specs.Map.{values_of}
 use Rattle.std.proofs.lemmas.Bool.{true≢false}
 use Rattle.std.proofs.lemmas.Bool.Decides.{nat_tests}
@@ -24,6 +24,13 @@ seen_at (entry ∷ es) zero m e = (entry.0.items, λ i. Some (batch_in entry.0.i
     some_is : (x y : Messages) → Some x ≡ Some y → x ≡ y
     some_is x y e = ap (λ o. unwrap_or o x) e
 seen_at (entry ∷ es) (suc i) m e = seen_at es i m e
+
+-- the first of the entries that are left stands at its place
+pub shown_at : (es left : Entries) (at : ℕ) (entry : Vec ℕ Global × Messages) → entry ∷ left ≡ drop at es → (slice_get (values_of es) at ≡ Some entry.1) × (left ≡ drop (suc at) es)
+shown_at [] left zero entry e = absurd (true≢false (ap (λ es. is_some (slice_get es 0)) e))
+shown_at [] left (suc at) entry e = absurd (true≢false (ap (λ es. is_some (slice_get es 0)) e))
+shown_at (first ∷ es) left zero entry e = (sym (ap (λ es. option_map (λ e. e.1) (slice_get es 0)) e), ap (drop 1) e)
+shown_at (first ∷ es) left (suc at) entry e = shown_at es left at entry e
 
 pub more : (P : OpenBatch → Type 0) (batches : List OpenBatch) (i : ℕ) (batch : OpenBatch) → slice_get batches i ≡ Some batch → P batch → All P (take i batches) → All P (take (i + 1) batches)
 more P batches i batch there holds every =

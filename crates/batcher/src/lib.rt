@@ -125,14 +125,14 @@ impl Batcher {
         if !dry && self.ready == 0 && self.in_order && !self.first_has_passed(now) {
             return None;
         }
-        let mut at = 0;
         if let Some(batches) = self.batches.map() {
-            for (_, messages) in batches.iter() {
+            let mut entries = batches.iter();
+            for at in 0..batches.len() {
+                let (_, messages) = entries.next().unwrap();
                 if let Some(trigger) = self.trigger(messages, now, dry) {
                     let first = messages.first();
                     return Some(Closable { at, first, trigger });
                 }
-                at = at.saturating_add(1);
             }
         }
         None
@@ -146,13 +146,13 @@ impl Batcher {
         ensures earliest { IfSome result (λ c. All (λ batch. first_of batch ≡ first.0 → trigger_of self.now now dry batch ≡ None) (take c.at self.now.batches)) }
         ensures none { IsNone result ↔ All (λ batch. first_of batch ≡ first.0 → trigger_of self.now now dry batch ≡ None) self.now.batches }
     {
-        let mut at = 0;
         if let Some(batches) = self.batches.map() {
-            for (_, messages) in batches.iter() {
+            let mut entries = batches.iter();
+            for at in 0..batches.len() {
+                let (_, messages) = entries.next().unwrap();
                 if let Some(trigger) = self.trigger_at(messages, first, now, dry) {
                     return Some(Closable { at, first, trigger });
                 }
-                at = at.saturating_add(1);
             }
         }
         None

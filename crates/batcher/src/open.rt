@@ -1,10 +1,11 @@
 //! The open batches by their keys, in the order in which they were opened.
 
-ghost use Rattle.std.specs.Prelude.{◌≡◌, ◌-◌, ◌^◌, not, ◌==◌, ◌∷◌, [], ◌++◌, ℕ, ◌<◌, ◌||◌, Bool, nat_lt, All, List, Vec, length, bytes_eq, remove, slice_get, option_map, option_copied, IfOk, OnOk, OnErr, IfSome, IfNone, Some, None, if◌then◌else◌};
+ghost use Rattle.std.specs.Prelude.{◌≡◌, ◌-◌, ◌^◌, not, ◌==◌, ◌∷◌, [], ◌++◌, ℕ, ◌<◌, ◌||◌, Bool, nat_lt, All, List, Vec, length, bytes_eq, remove, slice_get, vec_capacity, ◌≤◌, option_map, option_copied, IfOk, OnOk, OnErr, IfSome, IfNone, Some, None, if◌then◌else◌};
 ghost use Rattle.std.specs.Global.{Global};
 ghost use Rattle.std.specs.Map.{lookup, keys_of};
+ghost use Rattle.std.specs.List.{IsDistinct};
 ghost use Rattle.batcher.specs.Batches.{gathered};
-ghost use Rattle.batcher.specs.Seen.{seen, more_ready, IsKept, PopsNumber, entries_of, batch_in};
+ghost use Rattle.batcher.specs.Seen.{seen, more_ready, IsKept, PopsNumber, entries_of, batch_in, HasRoom};
 ghost use Rattle.batcher.specs.declared.messages.Messages.{Messages};
 
 use crate::messages::Messages;
@@ -129,14 +130,10 @@ impl OpenBatches {
         ensures entry { slice_get self.old at ≡ Some result }
         ensures entries { self.new ≡ remove self.old at }
     {
-        let batches = self.batches.as_mut().unwrap();
-        if at == 0 {
-            return batches.pop_mru().unwrap();
+        match &mut self.batches {
+            Some(batches) => remove_in(batches, &mut self.copy, at),
+            None => unreachable!(),
         }
-        let (key, _) = batches.iter().nth(at).unwrap();
-        self.copy.clear();
-        self.copy.extend_from_slice(key.as_slice()).unwrap();
-        batches.pop_entry(self.copy.as_slice()).unwrap()
     }
 
     /// Takes the last number out of the last batch, which keeps its place. There is a batch, and each has a number.
@@ -145,13 +142,10 @@ impl OpenBatches {
         requires begun { All (λ batch. 0 < length batch.numbers) (seen self.old) }
         ensures { PopsNumber self.old self.new result }
     {
-        let batches = self.batches.as_mut().unwrap();
-        let (key, _) = batches.peek_lru().unwrap();
-        self.copy.clear();
-        self.copy.extend_from_slice(key.as_slice()).unwrap();
-        let messages = batches.peek_mut(self.copy.as_slice()).unwrap();
-        messages.flush = false;
-        messages.numbers.pop().unwrap()
+        match &mut self.batches {
+            Some(batches) => pop_number_in(batches, &mut self.copy),
+            None => unreachable!(),
+        }
     }
 
     /// Removes the last batch where it has no message.
@@ -216,6 +210,58 @@ fn begin_in(
     batches.put(copy, messages)?;
     batches.demote(key);
     Ok(())
+}
+
+/// Takes out the batch at this place.
+fn remove_in(
+    batches: &mut LruCache<Vec<u8>, Messages>,
+    copy: &mut Vec<u8>,
+    at: usize,
+) -> (Vec<u8>, Messages)
+    requires within { at < length batches.old.entries }
+    requires room { HasRoom (vec_capacity copy.old) batches.old }
+    ensures entry { slice_get batches.old.entries at ≡ Some result }
+    ensures entries { batches.new.entries ≡ remove batches.old.entries at }
+    ensures room { HasRoom (vec_capacity copy.new) batches.new }
+{
+    if at == 0 {
+        return batches.pop_mru().unwrap();
+    }
+    copy_key(batches, copy, at);
+    batches.pop_entry(copy.as_slice()).unwrap()
+}
+
+/// Copies the key of the batch at this place.
+fn copy_key(batches: &LruCache<Vec<u8>, Messages>, copy: &mut Vec<u8>, at: usize)
+    requires within { at < length batches.now.entries }
+    requires room { HasRoom (vec_capacity copy.old) batches.now }
+    ensures copied { IfSome (slice_get batches.now.entries at) (λ entry. copy.new.items ≡ entry.0.items) }
+    ensures capacity { vec_capacity copy.old ≤ vec_capacity copy.new }
+    ensures apart { IsDistinct (λ (j k : Vec ℕ Global). bytes_eq j.items k.items) (keys_of batches.now.entries) }
+{
+    let last = batches.len() - 1;
+    let (key, _) = if at == last {
+        batches.peek_lru().unwrap()
+    } else {
+        batches.iter().nth(at).unwrap()
+    };
+    copy.clear();
+    copy.extend_from_slice(key.as_slice()).unwrap();
+}
+
+/// Takes the last number out of the last batch.
+fn pop_number_in(batches: &mut LruCache<Vec<u8>, Messages>, copy: &mut Vec<u8>) -> u32
+    requires some { 0 < length batches.old.entries }
+    requires begun { All (λ batch. 0 < length batch.numbers) (seen batches.old.entries) }
+    requires room { HasRoom (vec_capacity copy.old) batches.old }
+    ensures popped { PopsNumber batches.old.entries batches.new.entries result }
+    ensures room { HasRoom (vec_capacity copy.new) batches.new }
+{
+    let last = batches.len() - 1;
+    copy_key(batches, copy, last);
+    let messages = batches.peek_mut(copy.as_slice()).unwrap();
+    messages.flush = false;
+    messages.numbers.pop().unwrap()
 }
 
 /// Whether the last batch has no message.
