@@ -1,6 +1,6 @@
 -- Where the numbers of each producer ascend already, the acknowledgements are one entry for each producer of a verdict.
 use Rattle.std.proofs.Common.{◌≡◌, ℕ, zero, suc, ◌+◌, ◌<◌, ◌≤◌, Bool, true, false, List, [], ◌∷◌, ◌++◌, length, map, get_or, refl, ap, sym, ◌∙◌, subst, All, inl, inr, cond, arith}
-use Rattle.std.specs.Prelude.{◌↔◌, ◌⊎◌, ◌&&◌, ◌||◌, ◌==◌, not, filter, Contains}
+use Rattle.std.specs.Prelude.{◌⊎◌, ◌&&◌, ◌||◌, ◌==◌, not, filter, Contains}
 use Rattle.std.specs.List.{flat_map, list_any, sum_by}
 use Rattle.std.specs.List.Sorted.{IsPermutation, IsNonDecreasing, IsStrictlyIncreasing}
 use Rattle.std.proofs.lemmas.Bool.{eq-eqb, ne_eqb, cases_eq, cases_lt}
@@ -67,11 +67,11 @@ as_they_were numbers sorted ascend are =
 -- Producers
 
 split : (n p : ℕ) (ns : List ℕ) → Contains (n ∷ ns) p → (n ≡ p) ⊎ Contains ns p
-split n p ns c = at c.0 c.1 c.2
+split n p ns c = by_index c.0 c.1 c.2
   where
-    at : (k : ℕ) → k < suc (length ns) → get_or (n ∷ ns) k p ≡ p → (n ≡ p) ⊎ Contains ns p
-    at zero within is = inl is
-    at (suc k) within is = inr (k, omega arith, is)
+    by_index : (k : ℕ) → k < suc (length ns) → get_or (n ∷ ns) k p ≡ p → (n ≡ p) ⊎ Contains ns p
+    by_index zero within is = inl is
+    by_index (suc k) within is = inr (k, omega arith, is)
 
 first_in : (n : ℕ) (ns : List ℕ) → Contains (n ∷ ns) n
 first_in n ns = (zero, omega arith, refl)
@@ -88,7 +88,9 @@ climbs : (floor : ℕ) (ns : List ℕ) → (0 < length ns → floor ≤ get_or n
 climbs floor [] first rising = tt
 climbs floor (n ∷ ns) first rising = (
   first (omega arith),
-  climbs (n + 1) ns (λ some. let e : n < get_or ns 0 0 = rising 0 (omega arith) in omega arith) (λ k within. rising (suc k) (omega arith)),
+  climbs (n + 1) ns (λ some. let e : n < get_or ns 0 0 = rising 0 (omega arith) in omega arith) (λ k within.
+  let shift : suc k + 1 ≡ suc (k + 1) = omega arith in
+  subst (λ (j : ℕ). get_or (n ∷ ns) (suc k) 0 < get_or (n ∷ ns) j 0) shift (rising (suc k) (omega arith))),
 )
 
 above : (floor p : ℕ) (ns : List ℕ) → Climbs floor ns → Contains ns p → floor ≤ p
@@ -108,7 +110,7 @@ or_true true b e = refl
 or_true false b e = e
 
 abbrev producers_in : List Verdict → List ℕ
-producers_in verdicts = map (λ v. v.producer.0) verdicts
+producers_in verdicts = map (λ (v : Verdict). v.producer.0) verdicts
 
 has_at : (p : ℕ) (verdicts : List Verdict) (k : ℕ) → k < length (producers_in verdicts) → get_or (producers_in verdicts) k p ≡ p → has verdicts p ≡ true
 has_at p [] k within is = absurd (omega arith)
@@ -167,6 +169,9 @@ producer_in ack = ack.producer.0
 abbrev stage_in : StageNo → ℕ
 stage_in stage = stage.0
 
+abbrev stage_numbered : ℕ → StageNo
+stage_numbered n = record { 0 = n }
+
 module _ (verdicts : List Verdict) (ascend : (p : StageNo) → IsNonDecreasing (successful_of verdicts p) × IsNonDecreasing (failed_of verdicts p)) where
   -- an entry for each of these stages that has a verdict
   abbrev pub entries : List StageNo → List Acknowledgement
@@ -184,7 +189,7 @@ module _ (verdicts : List Verdict) (ascend : (p : StageNo) → IsNonDecreasing (
   one_ack : (s : StageNo) (a : Acknowledgement) → a.producer.0 ≡ s.0 → IsAcknowledgement verdicts a
       → a ≡ record { producer = s; successful = successful_of verdicts s; failed = failed_of verdicts s }
   one_ack s a e is =
-      let p : a.producer ≡ s = ap (λ (n : ℕ). record { 0 = n }) e in
+      let p : a.producer ≡ s = ap stage_numbered e in
       let won = as_they_were (successful_of verdicts a.producer) a.successful (ascend a.producer).0 is.successful ∙ ap (successful_of verdicts) p in
       let lost = as_they_were (failed_of verdicts a.producer) a.failed (ascend a.producer).1 is.failed ∙ ap (failed_of verdicts) p in
       λ i. record { producer = p i; successful = won i; failed = lost i }
@@ -266,8 +271,8 @@ module _ (verdicts : List Verdict) (ascend : (p : StageNo) → IsNonDecreasing (
           (λ i. first i ∷ later i) ∙ ap (λ es. es ++ entries stages) (sym (is_entry s verdicts h))
 
   -- the acknowledgements of these verdicts are the entries of the stages, of which each producer is one
-  pub are_entries : (acks : List Acknowledgement) (stages : List StageNo) → Climbs 0 (map (λ s. s.0) stages)
-      → ((p : ℕ) → Contains (map (λ v. v.producer.0) verdicts) p → Contains (map (λ s. s.0) stages) p)
+  pub are_entries : (acks : List Acknowledgement) (stages : List StageNo) → Climbs 0 (map (λ (s : StageNo). s.0) stages)
+      → ((p : ℕ) → Contains (map (λ (v : Verdict). v.producer.0) verdicts) p → Contains (map (λ (s : StageNo). s.0) stages) p)
       → AreAcknowledgements verdicts acks → acks ≡ entries stages
   are_entries acks stages up stand are =
       listed 0 stages acks
