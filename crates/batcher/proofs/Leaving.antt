@@ -16,7 +16,7 @@ use Rattle.batcher.specs.Seen.{seen, batch_in, batch_of, is_ready, ready_in, les
 use Rattle.batcher.proofs.Gathers.{Entries}
 use Rattle.batcher.proofs.Closing.{seen_at}
 
-map-remove : {X Y : Type 0} (f : X → Y) (xs : List X) (i : ℕ) → map f (remove xs i) ≡ remove (map f xs) i
+pub map-remove : {X Y : Type 0} (f : X → Y) (xs : List X) (i : ℕ) → map f (remove xs i) ≡ remove (map f xs) i
 map-remove f [] zero = refl
 map-remove f [] (suc i) = refl
 map-remove f (x ∷ xs) zero = refl

@@ -1,6 +1,7 @@
 -- What the entries of the map say.
 use Rattle.std.specs.Prelude.{◌≡◌, ℕ, suc, ◌+◌, ◌-◌, ◌^◌, ◌<◌, ◌≤◌, ◌==◌, ◌||◌, ◌&&◌, if◌then◌else◌, nat_lt, nat_le, Bool, true, false, List, [], ◌∷◌, ◌++◌, length, map, All, Vec, Option, None, Some}
 use Rattle.std.specs.Global.{Global}
+use Rattle.std.specs.Map.{keys_of}
 use Rattle.lru.specs.LruCache.{LruCache}
 use Rattle.batcher.specs.declared.messages.Messages.{Messages}
 use Rattle.batcher.specs.Batches.{OpenBatch}
@@ -62,7 +63,7 @@ entries_of (Some batches) = batches.entries
 
 -- there is room for a copy of each key, and the map drops no batch by itself
 pub record HasRoom (capacity : ℕ) (batches : LruCache (Vec ℕ Global) Messages) : Type 0 where
-  pub keys : All (λ entry. length entry.0.items ≤ capacity) batches.entries
+  pub keys : All (λ key. length key.items ≤ capacity) (keys_of batches.entries)
   pub wide : batches.cap ≡ 2 ^ 64 - 1
 
 -- the last number of the last batch is taken out, which then does not end in flush mode
