@@ -1,7 +1,7 @@
 //! The open batches of one batcher.
 //!
 //! A `Batcher` keeps one open batch for each key, in the order in which they were opened, and of each message its number
-//! alone: no payload comes here, and a key is copied once, for the message that opens its batch. `closable` gives the
+//! alone: no payload comes here, and a key takes memory for the message that opens its batch alone. `closable` gives the
 //! first open batch for which a trigger holds. Only `gather` takes memory, and after want of it nothing has changed.
 #![tactic(auto)]
 
@@ -116,7 +116,7 @@ impl Batcher {
 
     /// The first open batch for which a trigger holds, size before flush before timeout, with that trigger. `dry` says
     /// that nothing more comes to the batcher. In constant time where no batch is full, ends in flush mode or was opened
-    /// long enough ago.
+    /// long enough ago, unless ticks have fallen or messages were dumped.
     pub fn closable(&self, now: u64, dry: bool) -> Option<Closable>
         ensures closable { IfSome result (IsClosable self.now now dry) }
         ensures first { IfSome result (λ c. All (λ batch. trigger_of self.now now dry batch ≡ None) (take c.at self.now.batches)) }
@@ -193,7 +193,11 @@ impl Batcher {
         }
         let n = self.batches.pop_number();
         self.batches.remove_empty();
-        self.ready = if self.batches.is_empty() { 0 } else { usize::MAX };
+        self.ready = if self.batches.is_empty() {
+            0
+        } else {
+            usize::MAX
+        };
         Some(MsgNo(n))
     }
 

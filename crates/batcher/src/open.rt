@@ -87,7 +87,12 @@ impl OpenBatches {
     }
 
     /// Puts a message into the batch of its key, where there is one, and gives the number of messages that it then has.
-    pub(crate) fn join(&mut self, key: &[u8], n: u32, flush: bool) -> Result<Option<usize>, AllocError>
+    pub(crate) fn join(
+        &mut self,
+        key: &[u8],
+        n: u32,
+        flush: bool,
+    ) -> Result<Option<usize>, AllocError>
         ensures joined { IfOk result (λ r. IfSome r (λ len. (now : ℕ) → seen self.new ≡ gathered key.now n flush now (seen self.old))) }
         ensures kept { IfOk result (λ r. IfSome r (λ len. (size ready newest : ℕ) (in_order : Bool) → IsKept size ready in_order newest (seen self.old) → IsKept size (more_ready ready (len == size || flush)) in_order newest (seen self.new))) }
         ensures absent { IfOk result (λ r. IfNone r (lookup (λ k. bytes_eq key.now k.items) self.old ≡ None)) }
