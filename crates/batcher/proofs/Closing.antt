@@ -99,13 +99,10 @@ first_earliest from to timeout now (batch ∷ batches) rise not_yet =
 pub none_yet : (held : Batches) (now ready newest : ℕ) (in_order : Bool) → IsKept held.batch_size ready in_order newest held.batches → ready ≡ 0 → in_order ≡ true → first_has_passed held.batch_timeout now held.batches ≡ false
     → All (λ batch. trigger_of held now false batch ≡ None) held.batches
 none_yet held now ready newest in_order kept none set not_yet k d within =
-    by (length batch.numbers == held.batch_size) batch.flush (nat_le (batch.opened + held.batch_timeout) now)
+    by (length (get_or held.batches k d).numbers == held.batch_size) (get_or held.batches k d).flush (nat_le ((get_or held.batches k d).opened + held.batch_timeout) now)
     (none_ready held.batch_size held.batches (let few = kept.within (omega (arith, none)) in omega (arith, none, few)) k d within)
     (first_earliest 0 newest held.batch_timeout now held.batches (kept.rise set) not_yet k d within)
   where
-    abbrev batch : OpenBatch
-    batch = get_or held.batches k d
-
     by : (full flush passed : Bool) → (full || flush) ≡ false → passed ≡ false → cond full (Some Size) (cond (flush || false) (Some Flush) (cond passed (Some Timeout) None)) ≡ None
     by true flush passed e f = absurd (true≢false e)
     by false true passed e f = absurd (true≢false e)

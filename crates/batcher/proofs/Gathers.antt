@@ -145,21 +145,22 @@ rise_push : (from to now : ℕ) (ticks : List ℕ) → to ≤ now → Rise from 
 rise_push from to now [] le rise = (omega (arith, le, rise), omega arith)
 rise_push from to now (tick ∷ ticks) le rise = (rise.0, rise_push tick to now ticks le rise.1)
 
+-- a batch of one message
+abbrev pub one_in : (key : List ℕ) (n : ℕ) (flush : Bool) (now : ℕ) → OpenBatch
+one_in key n flush now = record { key = key; numbers = n ∷ []; flush = flush; opened = now }
+
 -- what is kept of all open batches, after one was begun
 pub begun_kept : (size ready newest n now : ℕ) (in_order flush : Bool) (key : List ℕ) (batches : List OpenBatch)
     → IsKept size ready in_order newest batches
-    → IsKept size (more_ready ready (1 == size || flush)) (in_order && nat_le newest now) now (batches ++ record { key = key; numbers = n ∷ []; flush = flush; opened = now } ∷ [])
+    → IsKept size (more_ready ready (1 == size || flush)) (in_order && nat_le newest now) now (batches ++ one_in key n flush now ∷ [])
 begun_kept size ready newest n now in_order flush key batches kept = record {
-  begun = All-append (λ b. 0 < length b.numbers) batches (batch ∷ []) kept.begun (All-cons (λ b. 0 < length b.numbers) batch [] (omega arith) (All-nil (λ b. 0 < length b.numbers)));
-  within = more_within (2 ^ 64 - 1) ready (ready_in size batches) (ready_in size (batches ++ batch ∷ [])) (1 == size || flush) (ready_push size batches batch) kept.within;
+  begun = All-append (λ b. 0 < length b.numbers) batches (one_in key n flush now ∷ []) kept.begun (All-cons (λ b. 0 < length b.numbers) (one_in key n flush now) [] (omega arith) (All-nil (λ b. 0 < length b.numbers)));
+  within = more_within (2 ^ 64 - 1) ready (ready_in size batches) (ready_in size (batches ++ one_in key n flush now ∷ [])) (1 == size || flush) (ready_push size batches (one_in key n flush now)) kept.within;
   rise = λ set.
-      subst (Rise 0 now) (sym (map-append (λ (b : OpenBatch). b.opened) batches (batch ∷ [])))
+      subst (Rise 0 now) (sym (map-append (λ (b : OpenBatch). b.opened) batches (one_in key n flush now ∷ [])))
       (rise_push 0 newest now (ticks_of batches) (later (nat_le newest now) refl (and_right in_order (nat_le newest now) set)) (kept.rise (and_left in_order (nat_le newest now) set)));
 }
   where
-    batch : OpenBatch
-    batch = record { key = key; numbers = n ∷ []; flush = flush; opened = now }
-
     and_left : (a b : Bool) → (a && b) ≡ true → a ≡ true
     and_left true b e = refl
     and_left false b e = e

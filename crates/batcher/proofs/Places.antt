@@ -84,13 +84,10 @@ room_removed capacity capacity' at old new e cap more room = record {
   wide = cap ∙ room.wide;
 }
   where
-    P : Vec ℕ Global → Type 0
-    P key = length key.items ≤ capacity
-
-    fewer : All P (keys_of new.entries)
+    fewer : All (λ key. length key.items ≤ capacity) (keys_of new.entries)
     fewer =
-        subst (All P) (sym (ap keys_of e ∙ map-remove (λ (x : Vec ℕ Global × Messages). x.0) old.entries at))
-        (All-append P (take at (keys_of old.entries)) (drop (suc at) (keys_of old.entries)) (All-take P at (keys_of old.entries) room.keys) (All-drop P (suc at) (keys_of old.entries) room.keys))
+        subst (All (λ key. length key.items ≤ capacity)) (sym (ap keys_of e ∙ map-remove (λ (x : Vec ℕ Global × Messages). x.0) old.entries at))
+        (All-append (λ key. length key.items ≤ capacity) (take at (keys_of old.entries)) (drop (suc at) (keys_of old.entries)) (All-take (λ key. length key.items ≤ capacity) at (keys_of old.entries) room.keys) (All-drop (λ key. length key.items ≤ capacity) (suc at) (keys_of old.entries) room.keys))
 
 pub room_kept : (capacity capacity' : ℕ) (old new : LruCache (Vec ℕ Global) Messages) → keys_of new.entries ≡ keys_of old.entries → new.cap ≡ old.cap → capacity ≤ capacity' → HasRoom capacity old → HasRoom capacity' new
 room_kept capacity capacity' old new e cap more room = record {
@@ -102,10 +99,7 @@ pub room_begun : (capacity capacity' : ℕ) (old new : LruCache (Vec ℕ Global)
     → capacity ≤ capacity' → length k.items ≤ capacity' → HasRoom capacity old → HasRoom capacity' new
 room_begun capacity capacity' old new k v e cap more fits room = record {
   keys =
-      subst (All P) (sym (ap keys_of e ∙ map-append (λ (x : Vec ℕ Global × Messages). x.0) old.entries ((k, v) ∷ [])))
-      (All-append P (keys_of old.entries) (k ∷ []) (λ k d within. let before = room.keys k d within in omega (arith, more, before)) (All-cons P k [] fits (All-nil P)));
+      subst (All (λ key. length key.items ≤ capacity')) (sym (ap keys_of e ∙ map-append (λ (x : Vec ℕ Global × Messages). x.0) old.entries ((k, v) ∷ [])))
+      (All-append (λ key. length key.items ≤ capacity') (keys_of old.entries) (k ∷ []) (λ k d within. let before = room.keys k d within in omega (arith, more, before)) (All-cons (λ key. length key.items ≤ capacity') k [] fits (All-nil (λ key. length key.items ≤ capacity'))));
   wide = cap ∙ room.wide;
 }
-  where
-    P : Vec ℕ Global → Type 0
-    P key = length key.items ≤ capacity'
