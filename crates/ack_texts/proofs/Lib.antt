@@ -1,5 +1,6 @@
 pub mod Settling
 pub mod Rows
+pub mod Ascending
 pub mod Texts
 pub mod Grouping
 pub mod Writing

@@ -10,13 +10,15 @@ use Rattle.pipe_types.specs.declared.message.Place.TheVariants.{Waiting, Inbox, 
 use Rattle.pipe_types.specs.declared.message.Outcome.TheVariants.{Successful, Failed}
 use Rattle.pipe_types.specs.declared.state.PlaceRow.{PlaceRow}
 use Rattle.pipe_types.specs.Numbers.{same_stage}
+use Rattle.pipe_types.specs.Handlers.{is_successful}
 use Rattle.pipe_model.specs.History.{History}
 use Rattle.pipe_model.specs.Content.{producer_of}
 use Rattle.pipe_model.specs.Flow.{place}
 use Rattle.pipe_model.specs.Places.{ArePlaces, settled_at}
 use Rattle.pipe_model.specs.Acknowledgements.{is_acked_successful, is_acked_failed, is_producer}
-use Rattle.ack_texts.specs.declared.groups.AckedMessage.{AckedMessage}
-use Rattle.ack_texts.specs.Groups.{acked_in, acked_of, acked_at, group, successful_of, failed_of}
+use Rattle.message_ack.specs.declared.verdicts.Verdict.{Verdict}
+use Rattle.message_ack.specs.Groups.{successful_of, failed_of}
+use Rattle.ack_texts.specs.Groups.{verdict_in, verdict_of, verdict_by, verdicts_by}
 use Rattle.ack_texts.proofs.Settling.{IsSide, settles, settled_in}
 
 -- the two sides
@@ -43,89 +45,89 @@ failed_is_side (Some (Gathered t)) h = refl
 failed_is_side (Some (InBatch b)) h = refl
 failed_is_side (Some (Lost l)) h = refl
 
--- the numbers of the producer's messages of the group that pass
-abbrev passing : (AckedMessage → Bool) → StageNo → List AckedMessage → List ℕ
-passing test p messages = map (λ message. message.no.0) (filter (λ message. same_stage message.producer p && test message) messages)
+-- the numbers of the producer's verdicts that pass
+abbrev passing : (Verdict → Bool) → StageNo → List Verdict → List ℕ
+passing test p verdicts = map (λ verdict. verdict.no.0) (filter (λ verdict. same_stage verdict.producer p && test verdict) verdicts)
 
--- a test of places and one of acknowledged messages that agree
-Agree : (side : Option Place → Bool) (test : AckedMessage → Bool) → Type 0
-Agree side test = (m : MsgNo) (q p : StageNo) (place : Place) (numbers : List ℕ) (messages : List AckedMessage) → numbers ≡ passing test p messages
-    → cond (same_stage q p && side (Some place)) (m.0 ∷ numbers) numbers ≡ passing test p (cons_option (acked_in m q place) messages)
+-- a test of places and one of verdicts that agree
+Agree : (side : Option Place → Bool) (test : Verdict → Bool) → Type 0
+Agree side test = (m : MsgNo) (q p : StageNo) (place : Place) (numbers : List ℕ) (verdicts : List Verdict) → numbers ≡ passing test p verdicts
+    → cond (same_stage q p && side (Some place)) (m.0 ∷ numbers) numbers ≡ passing test p (cons_option (verdict_in m q place) verdicts)
 
 and_false : (b : Bool) → (b && false) ≡ false
 and_false true = refl
 and_false false = refl
 
--- a message that does not pass is left out
-left_out : (test : AckedMessage → Bool) (p : StageNo) (message : AckedMessage) (messages : List AckedMessage) → (same_stage message.producer p && test message) ≡ false → passing test p messages ≡ passing test p (message ∷ messages)
-left_out test p message messages e =
-    sym (ap (λ t. map (λ (m : AckedMessage). m.no.0) (cond t (message ∷ filter (λ m. same_stage m.producer p && test m) messages) (filter (λ m. same_stage m.producer p && test m) messages))) e)
+-- a verdict that does not pass is left out
+left_out : (test : Verdict → Bool) (p : StageNo) (verdict : Verdict) (verdicts : List Verdict) → (same_stage verdict.producer p && test verdict) ≡ false → passing test p verdicts ≡ passing test p (verdict ∷ verdicts)
+left_out test p verdict verdicts e =
+    sym (ap (λ t. map (λ (m : Verdict). m.no.0) (cond t (verdict ∷ filter (λ m. same_stage m.producer p && test m) verdicts) (filter (λ m. same_stage m.producer p && test m) verdicts))) e)
 
-successful_agree : Agree is_acked_successful (λ message. message.is_successful)
+successful_agree : Agree is_acked_successful (λ verdict. is_successful verdict.outcome)
 unfolding Agree
-successful_agree m q p (Acked Successful) numbers messages e = by_stage (same_stage q p && true)
+successful_agree m q p (Acked Successful) numbers verdicts e = by_stage (same_stage q p && true)
   where
-    by_stage : (b : Bool) → cond b (m.0 ∷ numbers) numbers ≡ map (λ (message : AckedMessage). message.no.0) (cond b (record { no = m; producer = q; is_successful = true } ∷ filter (λ message. same_stage message.producer p && message.is_successful) messages) (filter (λ message. same_stage message.producer p && message.is_successful) messages))
+    by_stage : (b : Bool) → cond b (m.0 ∷ numbers) numbers ≡ map (λ (verdict : Verdict). verdict.no.0) (cond b (record { no = m; producer = q; outcome = Successful } ∷ filter (λ verdict. same_stage verdict.producer p && is_successful verdict.outcome) verdicts) (filter (λ verdict. same_stage verdict.producer p && is_successful verdict.outcome) verdicts))
     by_stage true = ap (λ ns. m.0 ∷ ns) e
     by_stage false = e
-successful_agree m q p (Acked (Failed why)) numbers messages e =
+successful_agree m q p (Acked (Failed why)) numbers verdicts e =
     ap (λ t. cond t (m.0 ∷ numbers) numbers) (and_false (same_stage q p))
-    ∙ (e ∙ left_out (λ message. message.is_successful) p (record { no = m; producer = q; is_successful = false }) messages (and_false (same_stage q p)))
-successful_agree m q p (Waiting t) numbers messages e = ap (λ t. cond t (m.0 ∷ numbers) numbers) (and_false (same_stage q p)) ∙ e
-successful_agree m q p (Inbox u) numbers messages e = ap (λ t. cond t (m.0 ∷ numbers) numbers) (and_false (same_stage q p)) ∙ e
-successful_agree m q p (Running t) numbers messages e = ap (λ t. cond t (m.0 ∷ numbers) numbers) (and_false (same_stage q p)) ∙ e
-successful_agree m q p (Gathered t) numbers messages e = ap (λ t. cond t (m.0 ∷ numbers) numbers) (and_false (same_stage q p)) ∙ e
-successful_agree m q p (InBatch b) numbers messages e = ap (λ t. cond t (m.0 ∷ numbers) numbers) (and_false (same_stage q p)) ∙ e
-successful_agree m q p (Lost l) numbers messages e = ap (λ t. cond t (m.0 ∷ numbers) numbers) (and_false (same_stage q p)) ∙ e
+    ∙ (e ∙ left_out (λ verdict. is_successful verdict.outcome) p (record { no = m; producer = q; outcome = Failed why }) verdicts (and_false (same_stage q p)))
+successful_agree m q p (Waiting t) numbers verdicts e = ap (λ t. cond t (m.0 ∷ numbers) numbers) (and_false (same_stage q p)) ∙ e
+successful_agree m q p (Inbox u) numbers verdicts e = ap (λ t. cond t (m.0 ∷ numbers) numbers) (and_false (same_stage q p)) ∙ e
+successful_agree m q p (Running t) numbers verdicts e = ap (λ t. cond t (m.0 ∷ numbers) numbers) (and_false (same_stage q p)) ∙ e
+successful_agree m q p (Gathered t) numbers verdicts e = ap (λ t. cond t (m.0 ∷ numbers) numbers) (and_false (same_stage q p)) ∙ e
+successful_agree m q p (InBatch b) numbers verdicts e = ap (λ t. cond t (m.0 ∷ numbers) numbers) (and_false (same_stage q p)) ∙ e
+successful_agree m q p (Lost l) numbers verdicts e = ap (λ t. cond t (m.0 ∷ numbers) numbers) (and_false (same_stage q p)) ∙ e
 
-failed_agree : Agree is_acked_failed (λ message. not message.is_successful)
+failed_agree : Agree is_acked_failed (λ verdict. not (is_successful verdict.outcome))
 unfolding Agree
-failed_agree m q p (Acked (Failed why)) numbers messages e = by_stage (same_stage q p && true)
+failed_agree m q p (Acked (Failed why)) numbers verdicts e = by_stage (same_stage q p && true)
   where
-    by_stage : (b : Bool) → cond b (m.0 ∷ numbers) numbers ≡ map (λ (message : AckedMessage). message.no.0) (cond b (record { no = m; producer = q; is_successful = false } ∷ filter (λ message. same_stage message.producer p && not message.is_successful) messages) (filter (λ message. same_stage message.producer p && not message.is_successful) messages))
+    by_stage : (b : Bool) → cond b (m.0 ∷ numbers) numbers ≡ map (λ (verdict : Verdict). verdict.no.0) (cond b (record { no = m; producer = q; outcome = Failed why } ∷ filter (λ verdict. same_stage verdict.producer p && not (is_successful verdict.outcome)) verdicts) (filter (λ verdict. same_stage verdict.producer p && not (is_successful verdict.outcome)) verdicts))
     by_stage true = ap (λ ns. m.0 ∷ ns) e
     by_stage false = e
-failed_agree m q p (Acked Successful) numbers messages e =
+failed_agree m q p (Acked Successful) numbers verdicts e =
     ap (λ t. cond t (m.0 ∷ numbers) numbers) (and_false (same_stage q p))
-    ∙ (e ∙ left_out (λ message. not message.is_successful) p (record { no = m; producer = q; is_successful = true }) messages (and_false (same_stage q p)))
-failed_agree m q p (Waiting t) numbers messages e = ap (λ t. cond t (m.0 ∷ numbers) numbers) (and_false (same_stage q p)) ∙ e
-failed_agree m q p (Inbox u) numbers messages e = ap (λ t. cond t (m.0 ∷ numbers) numbers) (and_false (same_stage q p)) ∙ e
-failed_agree m q p (Running t) numbers messages e = ap (λ t. cond t (m.0 ∷ numbers) numbers) (and_false (same_stage q p)) ∙ e
-failed_agree m q p (Gathered t) numbers messages e = ap (λ t. cond t (m.0 ∷ numbers) numbers) (and_false (same_stage q p)) ∙ e
-failed_agree m q p (InBatch b) numbers messages e = ap (λ t. cond t (m.0 ∷ numbers) numbers) (and_false (same_stage q p)) ∙ e
-failed_agree m q p (Lost l) numbers messages e = ap (λ t. cond t (m.0 ∷ numbers) numbers) (and_false (same_stage q p)) ∙ e
+    ∙ (e ∙ left_out (λ verdict. not (is_successful verdict.outcome)) p (record { no = m; producer = q; outcome = Successful }) verdicts (and_false (same_stage q p)))
+failed_agree m q p (Waiting t) numbers verdicts e = ap (λ t. cond t (m.0 ∷ numbers) numbers) (and_false (same_stage q p)) ∙ e
+failed_agree m q p (Inbox u) numbers verdicts e = ap (λ t. cond t (m.0 ∷ numbers) numbers) (and_false (same_stage q p)) ∙ e
+failed_agree m q p (Running t) numbers verdicts e = ap (λ t. cond t (m.0 ∷ numbers) numbers) (and_false (same_stage q p)) ∙ e
+failed_agree m q p (Gathered t) numbers verdicts e = ap (λ t. cond t (m.0 ∷ numbers) numbers) (and_false (same_stage q p)) ∙ e
+failed_agree m q p (InBatch b) numbers verdicts e = ap (λ t. cond t (m.0 ∷ numbers) numbers) (and_false (same_stage q p)) ∙ e
+failed_agree m q p (Lost l) numbers verdicts e = ap (λ t. cond t (m.0 ∷ numbers) numbers) (and_false (same_stage q p)) ∙ e
 
 -- All rows
 
-module _ (topology : Topology) (before : History) (at : ℕ) (p : StageNo) (side : Option Place → Bool) (test : AckedMessage → Bool) (agree : Agree side test) where
+module _ (topology : Topology) (before : History) (at : ℕ) (p : StageNo) (side : Option Place → Bool) (test : Verdict → Bool) (agree : Agree side test) where
   -- one row more
-  one_row : (row : PlaceRow) (numbers : List ℕ) (messages : List AckedMessage)
-      → producer_of before row.no.0 ≡ Some row.producer → place topology before row.no.0 ≡ Some row.place → row.at ≡ settled_at topology before row.no.0 → numbers ≡ passing test p messages
-      → cond (settles topology before at p side row.no.0) (row.no.0 ∷ numbers) numbers ≡ passing test p (cons_option (acked_at at row) messages)
+  one_row : (row : PlaceRow) (numbers : List ℕ) (verdicts : List Verdict)
+      → producer_of before row.no.0 ≡ Some row.producer → place topology before row.no.0 ≡ Some row.place → row.at ≡ settled_at topology before row.no.0 → numbers ≡ passing test p verdicts
+      → cond (settles topology before at p side row.no.0) (row.no.0 ∷ numbers) numbers ≡ passing test p (cons_option (verdict_by at row) verdicts)
   unfolding Agree
-  one_row row numbers messages made placed settled e =
+  one_row row numbers verdicts made placed settled e =
       ap (λ (t : Bool). cond t (row.no.0 ∷ numbers) numbers) (λ i. is_producer (made i) p && (sym settled i == at && side (placed i)))
       ∙ by_at (row.at == at)
     where
-      by_at : (b : Bool) → cond (same_stage row.producer p && (b && side (Some row.place))) (row.no.0 ∷ numbers) numbers ≡ passing test p (cons_option (if b then acked_of row else None) messages)
-      by_at true = agree row.no row.producer p row.place numbers messages e
+      by_at : (b : Bool) → cond (same_stage row.producer p && (b && side (Some row.place))) (row.no.0 ∷ numbers) numbers ≡ passing test p (cons_option (if b then verdict_of row else None) verdicts)
+      by_at true = agree row.no row.producer p row.place numbers verdicts e
       by_at false = ap (λ t. cond t (row.no.0 ∷ numbers) numbers) (and_false (same_stage row.producer p)) ∙ e
 
   all_rows : (rows : List PlaceRow)
       → All (λ row. producer_of before row.no.0 ≡ Some row.producer) rows → All (λ row. place topology before row.no.0 ≡ Some row.place) rows → All (λ row. row.at ≡ settled_at topology before row.no.0) rows
-      → filter (settles topology before at p side) (map (λ row. row.no.0) rows) ≡ passing test p (group rows at)
+      → filter (settles topology before at p side) (map (λ row. row.no.0) rows) ≡ passing test p (verdicts_by rows at)
   all_rows [] made placed settled = refl
   all_rows (row ∷ rows) made placed settled =
-      one_row row _ (group rows at) (made 0 row (omega arith)) (placed 0 row (omega arith)) (settled 0 row (omega arith))
+      one_row row _ (verdicts_by rows at) (made 0 row (omega arith)) (placed 0 row (omega arith)) (settled 0 row (omega arith))
       (all_rows rows (λ k d within. made (suc k) d (omega arith)) (λ k d within. placed (suc k) d (omega arith)) (λ k d within. settled (suc k) d (omega arith)))
 
-  row_numbers : (rows : List PlaceRow) → ArePlaces topology before rows → settled_in topology before at p side ≡ passing test p (group rows at)
+  row_numbers : (rows : List PlaceRow) → ArePlaces topology before rows → settled_in topology before at p side ≡ passing test p (verdicts_by rows at)
   row_numbers rows are =
       ap (filter (settles topology before at p side)) (sym are.numbers) ∙ all_rows rows are.produced are.placed are.settled
 
 -- what a step settled so stands in its group
-pub successful_numbers : (topology : Topology) (before : History) (rows : List PlaceRow) (at : ℕ) (p : StageNo) → ArePlaces topology before rows → settled_in topology before at p is_acked_successful ≡ successful_of (group rows at) p
-successful_numbers topology before rows at p are = row_numbers topology before at p is_acked_successful (λ message. message.is_successful) successful_agree rows are
+pub successful_numbers : (topology : Topology) (before : History) (rows : List PlaceRow) (at : ℕ) (p : StageNo) → ArePlaces topology before rows → settled_in topology before at p is_acked_successful ≡ successful_of (verdicts_by rows at) p
+successful_numbers topology before rows at p are = row_numbers topology before at p is_acked_successful (λ verdict. is_successful verdict.outcome) successful_agree rows are
 
-pub failed_numbers : (topology : Topology) (before : History) (rows : List PlaceRow) (at : ℕ) (p : StageNo) → ArePlaces topology before rows → settled_in topology before at p is_acked_failed ≡ failed_of (group rows at) p
-failed_numbers topology before rows at p are = row_numbers topology before at p is_acked_failed (λ message. not message.is_successful) failed_agree rows are
+pub failed_numbers : (topology : Topology) (before : History) (rows : List PlaceRow) (at : ℕ) (p : StageNo) → ArePlaces topology before rows → settled_in topology before at p is_acked_failed ≡ failed_of (verdicts_by rows at) p
+failed_numbers topology before rows at p are = row_numbers topology before at p is_acked_failed (λ verdict. not (is_successful verdict.outcome)) failed_agree rows are

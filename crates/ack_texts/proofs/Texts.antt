@@ -1,4 +1,4 @@
--- The text of the acknowledgements from the groups.
+-- The text of the acknowledgements from the verdicts of each step.
 use Rattle.std.proofs.Common.{◌≡◌, ℕ, zero, suc, ◌<◌, List, [], ◌∷◌, ◌++◌, length, map, true, false, refl, ap, sym, ◌∙◌, append-nil, Some, Option, arith}
 use Rattle.std.specs.List.{flat_map}
 use Rattle.std.proofs.lemmas.Bool.{ne_eqb}
@@ -19,7 +19,7 @@ use Rattle.pipe_model.specs.History.{History}
 use Rattle.pipe_model.specs.Places.{ArePlaces}
 use Rattle.pipe_model.specs.Acknowledgements.{Acknowledgement, acknowledgements, acknowledged_by, settled_by, entry, is_acked_successful, is_acked_failed}
 use Rattle.journal_texts.specs.Acks.{name_in, ack_line, ack_text}
-use Rattle.ack_texts.specs.Groups.{group, indices, line_if_any, lines_of}
+use Rattle.ack_texts.specs.Groups.{verdicts_by, indices, line_if_any, lines_of}
 use Rattle.ack_texts.proofs.Settling.{settled_in, settled_before, settled_last}
 use Rattle.ack_texts.proofs.Rows.{successful_is_side, failed_is_side, successful_numbers, failed_numbers}
 
@@ -120,17 +120,17 @@ module _ (topology : Topology) where
       ∙ (ap (λ text. flat_map (λ at. settled_lines (step ∷ before) at topology.stages) (indices (length before)) ++ text) (sym (append-nil (settled_lines (step ∷ before) (length before) topology.stages)))
       ∙ sym (flat_map-append (λ at. settled_lines (step ∷ before) at topology.stages) (indices (length before)) (length before ∷ []))))
 
-  group_lines : (before : History) (rows : List PlaceRow) (at : ℕ) → ArePlaces topology before rows → settled_lines before at topology.stages ≡ lines_of topology.stages (group rows at)
-  group_lines before rows at are =
+  verdict_lines : (before : History) (rows : List PlaceRow) (at : ℕ) → ArePlaces topology before rows → settled_lines before at topology.stages ≡ lines_of topology.stages (verdicts_by rows at)
+  verdict_lines before rows at are =
       flat_agree _ _ (λ spec.
       let won = successful_numbers topology before rows at spec.no are in
       let lost = failed_numbers topology before rows at spec.no are in
       λ i. line_if_any spec.name (won i) (lost i)) topology.stages
 
--- the text of the acknowledgements is the lines of the groups
+-- the text of the acknowledgements is the lines of the verdicts of each step
 pub by_groups : (topology : Topology) (before : History) (rows : List PlaceRow) → IsSound topology → ArePlaces topology before rows
-    → flat_map (lines_of topology.stages) (map (group rows) (indices (length before))) ≡ ack_text topology before
+    → flat_map (lines_of topology.stages) (map (verdicts_by rows) (indices (length before))) ≡ ack_text topology before
 by_groups topology before rows sound are =
-    flat_map-map (lines_of topology.stages) (group rows) (indices (length before))
-    ∙ (below (λ at. lines_of topology.stages (group rows at)) (λ at. settled_lines topology before at topology.stages) (length before) (λ at low. sym (group_lines topology before rows at are))
+    flat_map-map (lines_of topology.stages) (verdicts_by rows) (indices (length before))
+    ∙ (below (λ at. lines_of topology.stages (verdicts_by rows at)) (λ at. settled_lines topology before at topology.stages) (length before) (λ at low. sym (verdict_lines topology before rows at are))
     ∙ sym (by_steps topology (ascending_found 0 topology.stages (sound_ascends topology sound)) before))

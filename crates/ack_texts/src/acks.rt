@@ -5,7 +5,7 @@ ghost use Rattle.std.specs.List.{flat_map};
 ghost use Rattle.pipe_types.specs.Sound.{IsSound};
 ghost use Rattle.pipe_model.specs.Places.{ArePlaces};
 ghost use Rattle.journal_texts.specs.Acks.{ack_text as text_of_acks};
-ghost use Rattle.ack_texts.specs.Groups.{group, indices, lines_of};
+ghost use Rattle.ack_texts.specs.Groups.{AscendFrom, indices, lines_of, verdicts_by};
 
 use crate::groups::groups_by_step;
 use crate::lines::put_lines;
@@ -16,17 +16,19 @@ use pipe_types::topology::{StageSpec, Topology};
 use std::alloc::{AllocError, Global};
 
 /// The lines of what each of so many steps acknowledged.
+#[tactic(auto, using(crate::proofs::Ascending::steps_in_order))]
 pub(crate) fn text_of_rows(
     alloc: Global,
     stages: &[StageSpec],
     rows: &[PlaceRow],
     steps: usize,
 ) -> Result<Vec<u8>, AllocError>
-    ensures { IfOk result (λ text. text.items ≡ flat_map (lines_of stages.now) (map (group rows.now) (indices steps))) }
+    requires { AscendFrom 0 (map (λ row. row.no.0) rows.now) }
+    ensures { IfOk result (λ text. text.items ≡ flat_map (lines_of stages.now) (map (verdicts_by rows.now) (indices steps))) }
 {
     let groups = groups_by_step(alloc, rows, steps)?;
     let mut out = Vec::new(alloc);
-    put_lines(alloc, &mut out, stages, &groups)?;
+    put_lines(alloc, &mut out, stages, rows, &groups)?;
     Ok(out)
 }
 

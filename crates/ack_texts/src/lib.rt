@@ -2,8 +2,8 @@
 //!
 //! `ack_text` writes exactly the text that the specification of `journal_texts` defines: a line for each
 //! acknowledgement, in the order of the steps. It groups the acknowledged messages by the step that acknowledged them,
-//! in time linear in messages and steps for each stage. The journal need not be legal. Only want of memory makes it
-//! fail.
+//! and `message_ack` makes the acknowledgements of each step. The journal need not be legal. Only want of memory makes
+//! it fail.
 #![tactic(auto)]
 
 mod acks;

@@ -1,47 +1,24 @@
 //! The lines of the acknowledgements.
 
-ghost use Rattle.std.specs.Prelude.{◌≡◌, ◌++◌, IfOk, OnOk, codes};
+ghost use Rattle.std.specs.Prelude.{◌≡◌, ◌++◌, All, IfOk, OnOk, codes, find, map, option_copied};
 ghost use Rattle.std.specs.List.{flat_map};
+ghost use Rattle.pipe_types.specs.Numbers.{same_stage};
 ghost use Rattle.journal_texts.specs.Acks.{ack_line};
-ghost use Rattle.ack_texts.specs.Groups.{lists, has_any_of, successful_of, failed_of, line_of, lines_of};
+ghost use Rattle.ack_texts.specs.Groups.{InOrder, line_of, lines_of, verdicts_in};
 
-use crate::groups::AckedMessage;
+use crate::groups::verdicts_of;
 use crate::words::{put, put_numbers};
-use pipe_types::numbers::StageNo;
+use message_ack::{Ack, Verdict, group};
+use pipe_types::numbers::{MsgNo, StageNo};
+use pipe_types::state::PlaceRow;
 use pipe_types::topology::StageSpec;
 use std::alloc::{AllocError, Global};
 
-/// Whether there is a message of the producer.
-fn has_any(group: &[AckedMessage], producer: StageNo) -> bool
-    ensures { result ≡ has_any_of group.now producer }
+/// The acknowledgement to the producer.
+fn find_ack(acks: &[Ack], producer: StageNo) -> Option<&Ack>
+    ensures { option_copied result ≡ find (λ ack. same_stage ack.producer producer) acks.now }
 {
-    group.iter().any(|message| message.producer.0 == producer.0)
-}
-
-/// The numbers of the producer's messages that succeeded, in their order.
-fn successful(
-    alloc: Global,
-    group: &[AckedMessage],
-    producer: StageNo,
-) -> Result<Vec<u32>, AllocError>
-    ensures { IfOk result (λ numbers. numbers.items ≡ successful_of group.now producer) }
-{
-    group
-        .iter()
-        .filter(|message| message.producer.0 == producer.0 && message.is_successful)
-        .map(|message| message.no.0)
-        .collect(alloc)
-}
-
-/// The numbers of the producer's messages that failed, in their order.
-fn failed(alloc: Global, group: &[AckedMessage], producer: StageNo) -> Result<Vec<u32>, AllocError>
-    ensures { IfOk result (λ numbers. numbers.items ≡ failed_of group.now producer) }
-{
-    group
-        .iter()
-        .filter(|message| message.producer.0 == producer.0 && !message.is_successful)
-        .map(|message| message.no.0)
-        .collect(alloc)
+    acks.iter().find(|ack| ack.producer.0 == producer.0)
 }
 
 /// Writes the line of an acknowledgement.
@@ -49,10 +26,10 @@ fn failed(alloc: Global, group: &[AckedMessage], producer: StageNo) -> Result<Ve
 fn put_line(
     out: &mut Vec<u8>,
     name: &[u8],
-    successful: &[u32],
-    failed: &[u32],
+    successful: &[MsgNo],
+    failed: &[MsgNo],
 ) -> Result<(), AllocError>
-    ensures { OnOk result (out.new.items ≡ out.old.items ++ ack_line name.now successful.now failed.now) }
+    ensures { OnOk result (out.new.items ≡ out.old.items ++ ack_line name.now (map (λ no. no.0) successful.now) (map (λ no. no.0) failed.now)) }
 {
     put(out, b"ack ")?;
     put(out, name)?;
@@ -63,53 +40,64 @@ fn put_line(
     put(out, b"\n")
 }
 
-/// Writes the stage's line, where the step acknowledged messages of it.
-fn put_line_of(
-    alloc: Global,
-    out: &mut Vec<u8>,
-    spec: &StageSpec,
-    group: &[AckedMessage],
-) -> Result<(), AllocError>
-    ensures { OnOk result (out.new.items ≡ out.old.items ++ line_of group.now spec.now) }
+/// Writes the stage's line, where one of the acknowledgements is to it.
+fn put_line_of(out: &mut Vec<u8>, spec: &StageSpec, acks: &[Ack]) -> Result<(), AllocError>
+    ensures { OnOk result (out.new.items ≡ out.old.items ++ line_of acks.now spec.now) }
 {
-    if !has_any(group, spec.no) {
+    let Some(ack) = find_ack(acks, spec.no) else {
         return Ok(());
-    }
-    let successful = successful(alloc, group, spec.no)?;
-    let failed = failed(alloc, group, spec.no)?;
-    put_line(out, spec.name.as_str().as_bytes(), &successful, &failed)
+    };
+    put_line(
+        out,
+        spec.name.as_str().as_bytes(),
+        ack.successful.as_slice(),
+        ack.failed.as_slice(),
+    )
 }
 
-/// Writes the lines of what one step acknowledged, in the order of the stages.
+/// Writes the lines of these acknowledgements, in the order of the stages.
+fn put_acks(out: &mut Vec<u8>, stages: &[StageSpec], acks: &[Ack]) -> Result<(), AllocError>
+    ensures { OnOk result (out.new.items ≡ out.old.items ++ flat_map (line_of acks.now) stages.now) }
+{
+    for spec in stages {
+        put_line_of(out, spec, acks)?;
+    }
+    Ok(())
+}
+
+/// Writes the lines of what these verdicts acknowledge, in the order of the stages.
 #[tactic(auto, using(crate::proofs::Writing::no_lines))]
 fn put_lines_of(
     alloc: Global,
     out: &mut Vec<u8>,
     stages: &[StageSpec],
-    group: &[AckedMessage],
+    verdicts: &[Verdict],
 ) -> Result<(), AllocError>
-    ensures { OnOk result (out.new.items ≡ out.old.items ++ lines_of stages.now group.now) }
+    requires { InOrder verdicts.now }
+    ensures { OnOk result (out.new.items ≡ out.old.items ++ lines_of stages.now verdicts.now) }
 {
-    if group.is_empty() {
+    if verdicts.is_empty() {
         return Ok(());
     }
-    for spec in stages {
-        put_line_of(alloc, out, spec, group)?;
-    }
+    let acks = group(alloc, verdicts)?;
+    put_acks(out, stages, acks.as_slice())?;
     Ok(())
 }
 
-/// Writes the lines of what each step acknowledged.
+/// Writes the lines of what each step acknowledged, of which a group has the places of the rows.
 pub(crate) fn put_lines(
     alloc: Global,
     out: &mut Vec<u8>,
     stages: &[StageSpec],
-    groups: &[Vec<AckedMessage>],
+    rows: &[PlaceRow],
+    groups: &[Vec<usize>],
 ) -> Result<(), AllocError>
-    ensures { OnOk result (out.new.items ≡ out.old.items ++ flat_map (lines_of stages.now) (lists groups.now)) }
+    requires { All InOrder (verdicts_in rows.now groups.now) }
+    ensures { OnOk result (out.new.items ≡ out.old.items ++ flat_map (lines_of stages.now) (verdicts_in rows.now groups.now)) }
 {
-    for group in groups {
-        put_lines_of(alloc, out, stages, group)?;
+    for places in groups {
+        let verdicts = verdicts_of(alloc, rows, places)?;
+        put_lines_of(alloc, out, stages, &verdicts)?;
     }
     Ok(())
 }

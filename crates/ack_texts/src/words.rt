@@ -1,10 +1,11 @@
 //! Bytes and numbers, written at the end of a text.
 
-ghost use Rattle.std.specs.Prelude.{◌≡◌, ◌++◌, OnOk, decimal, codes};
+ghost use Rattle.std.specs.Prelude.{◌≡◌, ◌++◌, OnOk, decimal, codes, map};
 ghost use Rattle.journal_texts.specs.Words.{next_text, more_text};
 ghost use Rattle.journal_texts.specs.Acks.{numbers_text};
 
 use itoa::Buffer;
+use pipe_types::numbers::MsgNo;
 use std::alloc::AllocError;
 
 /// Writes the bytes.
@@ -30,23 +31,23 @@ fn put_next_number(out: &mut Vec<u8>, n: u32) -> Result<(), AllocError>
     put_number(out, n)
 }
 
-fn put_more_numbers(out: &mut Vec<u8>, numbers: &[u32]) -> Result<(), AllocError>
-    ensures { OnOk result (out.new.items ≡ out.old.items ++ more_text decimal numbers.now) }
+fn put_more_numbers(out: &mut Vec<u8>, numbers: &[MsgNo]) -> Result<(), AllocError>
+    ensures { OnOk result (out.new.items ≡ out.old.items ++ more_text decimal (map (λ no. no.0) numbers.now)) }
 {
-    for n in numbers {
-        put_next_number(out, *n)?;
+    for no in numbers {
+        put_next_number(out, no.0)?;
     }
     Ok(())
 }
 
 /// Writes the numbers, joined by commas, and `-` for none.
 #[tactic(auto, using(std::proofs::lemmas::List::append_assoc))]
-pub(crate) fn put_numbers(out: &mut Vec<u8>, numbers: &[u32]) -> Result<(), AllocError>
-    ensures { OnOk result (out.new.items ≡ out.old.items ++ numbers_text numbers.now) }
+pub(crate) fn put_numbers(out: &mut Vec<u8>, numbers: &[MsgNo]) -> Result<(), AllocError>
+    ensures { OnOk result (out.new.items ≡ out.old.items ++ numbers_text (map (λ no. no.0) numbers.now)) }
 {
     match numbers.split_first() {
         Some((first, others)) => {
-            put_number(out, *first)?;
+            put_number(out, first.0)?;
             put_more_numbers(out, others)
         }
         None => put(out, b"-"),

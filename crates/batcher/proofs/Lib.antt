@@ -1,4 +1,5 @@
 pub mod Gathers
 pub mod Closing
 pub mod Leaving
+pub mod Places
 pub mod Journals

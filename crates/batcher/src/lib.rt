@@ -1,19 +1,20 @@
 //! The open batches of one batcher.
 //!
 //! A `Batcher` keeps one open batch for each key, in the order in which they were opened, and of each message its number
-//! alone: no payload comes here, and a key is copied once, for the message that opens its batch. `closable` gives the
+//! alone: no payload comes here, and a key takes memory for the message that opens its batch alone. `closable` gives the
 //! first open batch for which a trigger holds. Only `gather` takes memory, and after want of it nothing has changed.
 #![tactic(auto)]
 
 ghost use Rattle.std.specs.Prelude.{◌≡◌, ◌+◌, ◌-◌, ◌<◌, ◌↔◌, nat_le, ◌++◌, [], take, drop, remove, length, slice_get, option_map, All, IsTrue, IsNone, IfSome, IfNone, OnOk, OnErr, option_to_list};
 ghost use Rattle.std.specs.List.{flat_map};
 ghost use Rattle.batcher.specs.Batches.{fits as key_fits, gathered, trigger_of, first_of, left_of, numbers_in, IsClosable};
-ghost use Rattle.batcher.specs.Seen.{batch_in};
+ghost use Rattle.batcher.specs.Seen.{batch_in, first_has_passed};
 
 mod messages;
+mod open;
 
-use indexmap::IndexMap;
 use messages::Messages;
+use open::OpenBatches;
 use pipe_types::bytes::Bytes;
 use pipe_types::message::Trigger;
 use pipe_types::numbers::{BatchNo, MsgNo};
@@ -44,11 +45,12 @@ pub struct Batcher {
     alloc: Global,
     batch_size: u32,
     batch_timeout: u64,
-    batches: IndexMap<Vec<u8>, Messages>,
-    /// Where this is not set, no open batch is full or ends in flush mode.
-    may_be_ready: bool,
-    /// No open batch was opened before this tick.
-    opened_from: u64,
+    batches: OpenBatches,
+    /// No more open batches are full or end in flush mode. The largest number says that it is not known.
+    ready: usize,
+    /// Where this is set, the open batches were opened in the order of their ticks, none after the newest.
+    in_order: bool,
+    newest: u64,
 }
 
 impl Model for Batcher {
@@ -57,9 +59,9 @@ impl Model for Batcher {
 
     ghost Value = { Batches };
 
-    ghost view = { λ b. record { batch_size = b.batch_size; batch_timeout = b.batch_timeout; batches = seen b.batches.entries } };
+    ghost view = { λ b. record { batch_size = b.batch_size; batch_timeout = b.batch_timeout; batches = seen b.batches } };
 
-    ghost invariant = { λ b. IsKept b.batch_size b.may_be_ready b.opened_from (seen b.batches.entries) };
+    ghost invariant = { λ b. IsKept b.batch_size b.ready b.in_order b.newest (seen b.batches) };
 }
 
 impl Batcher {
@@ -71,9 +73,10 @@ impl Batcher {
             alloc,
             batch_size,
             batch_timeout,
-            batches: IndexMap::new(alloc),
-            may_be_ready: false,
-            opened_from: u64::MAX,
+            batches: OpenBatches::new(alloc),
+            ready: 0,
+            in_order: true,
+            newest: 0,
         }
     }
 
@@ -97,32 +100,42 @@ impl Batcher {
         ensures gathered { OnOk result (self.new ≡ record self.old { batches = gathered key.now no.0 flush now self.old.batches }) }
         ensures unchanged { OnErr result (self.new ≡ self.old) }
     {
-        let len = messages::gather(self.alloc, &mut self.batches, key, no.0, flush, now)?;
+        let len = match self.batches.join(key, no.0, flush)? {
+            Some(len) => len,
+            None => {
+                self.batches.begin(self.alloc, key, no.0, flush, now)?;
+                self.in_order = messages::is_both(self.in_order, self.newest <= now);
+                self.newest = now;
+                let is_ready = messages::is_either(1 == self.batch_size, flush);
+                self.ready = messages::more_ready(self.ready, is_ready);
+                return Ok(());
+            }
+        };
         let is_ready = messages::is_either(len == self.batch_size as usize, flush);
-        self.may_be_ready = messages::is_either(self.may_be_ready, is_ready);
-        self.opened_from = self.opened_from.min(now);
+        self.ready = messages::more_ready(self.ready, is_ready);
         Ok(())
     }
 
     /// The first open batch for which a trigger holds, size before flush before timeout, with that trigger. `dry` says
     /// that nothing more comes to the batcher. In constant time where no batch is full, ends in flush mode or was opened
-    /// long enough ago.
+    /// long enough ago, unless ticks have fallen or messages were dumped.
     pub fn closable(&self, now: u64, dry: bool) -> Option<Closable>
         ensures closable { IfSome result (IsClosable self.now now dry) }
         ensures first { IfSome result (λ c. All (λ batch. trigger_of self.now now dry batch ≡ None) (take c.at self.now.batches)) }
         ensures none { IsNone result ↔ All (λ batch. trigger_of self.now now dry batch ≡ None) self.now.batches }
     {
-        if !dry && !self.may_be_ready && !has_passed(self.opened_from, self.batch_timeout, now) {
+        if !dry && self.ready == 0 && self.in_order && !self.first_has_passed(now) {
             return None;
         }
-        for at in 0..self.batches.len() {
-            let messages = &self.batches[at];
+        let Some(batches) = self.batches.map() else {
+            return None;
+        };
+        let mut entries = batches.iter();
+        for at in 0..batches.len() {
+            let (_, messages) = entries.next().unwrap();
             if let Some(trigger) = self.trigger(messages, now, dry) {
-                return Some(Closable {
-                    at,
-                    first: messages.first(),
-                    trigger,
-                });
+                let first = messages.first();
+                return Some(Closable { at, first, trigger });
             }
         }
         None
@@ -136,8 +149,12 @@ impl Batcher {
         ensures earliest { IfSome result (λ c. All (λ batch. first_of batch ≡ first.0 → trigger_of self.now now dry batch ≡ None) (take c.at self.now.batches)) }
         ensures none { IsNone result ↔ All (λ batch. first_of batch ≡ first.0 → trigger_of self.now now dry batch ≡ None) self.now.batches }
     {
-        for at in 0..self.batches.len() {
-            let messages = &self.batches[at];
+        let Some(batches) = self.batches.map() else {
+            return None;
+        };
+        let mut entries = batches.iter();
+        for at in 0..batches.len() {
+            let (_, messages) = entries.next().unwrap();
             if let Some(trigger) = self.trigger_at(messages, first, now, dry) {
                 return Some(Closable { at, first, trigger });
             }
@@ -145,7 +162,8 @@ impl Batcher {
         None
     }
 
-    /// Takes out the open batch at this place. The others keep their order.
+    /// Takes out the open batch at this place: the first in constant time, another in time for its place. The others keep their
+    /// order. It takes no memory.
     pub fn close(&mut self, at: usize, no: BatchNo, trigger: Trigger) -> ClosedBatch
         requires { at < length self.old.batches }
         ensures no { result.no ≡ no }
@@ -154,10 +172,10 @@ impl Batcher {
         ensures numbers { IfSome (slice_get self.old.batches at) (λ batch. result.numbers.items ≡ batch.numbers) }
         ensures batches { self.new ≡ record self.old { batches = remove self.old.batches at } }
     {
-        let (key, messages) = self.batches.shift_remove_index(at).unwrap();
-        let marks = messages::find_marks(&self.batches, self.batch_size as usize);
-        self.may_be_ready = marks.may_be_ready;
-        self.opened_from = marks.opened_from;
+        let (key, messages) = self.batches.remove(at);
+        let was_ready = messages.is_ready(self.batch_size as usize);
+        self.ready = messages::less_ready(self.ready, was_ready);
+        self.in_order = messages::is_either(self.in_order, self.batches.is_empty());
         ClosedBatch {
             no,
             key: Bytes::from_vec(key),
@@ -178,15 +196,20 @@ impl Batcher {
         if self.batches.is_empty() {
             return None;
         }
-        let n = messages::pop_number(&mut self.batches);
-        messages::remove_empty(&mut self.batches);
-        if self.batches.is_empty() {
-            self.may_be_ready = false;
-            self.opened_from = u64::MAX;
-        } else {
-            self.may_be_ready = true;
-        }
+        let n = self.batches.pop_number();
+        self.batches.remove_empty();
+        self.ready = messages::ready_in_rest(self.batches.is_empty());
         Some(MsgNo(n))
+    }
+
+    /// Whether the batch that was opened first has been open so long.
+    fn first_has_passed(&self, now: u64) -> bool
+        ensures { result ≡ first_has_passed self.now.batch_timeout now self.now.batches }
+    {
+        match self.batches.first() {
+            Some(messages) => has_passed(messages.opened, self.batch_timeout, now),
+            None => false,
+        }
     }
 
     /// The first trigger that holds of an open batch, where it begins with this message.

@@ -14,8 +14,6 @@ use Rattle.pipe_types.specs.declared.topology.Topology.{Topology}
 use Rattle.pipe_types.specs.Numbers.{post}
 use Rattle.pipe_types.specs.Sound.{IsSound, has_fields_of, is_producer_in, by_demand, by_partition, is_size, processors}
 use Rattle.pipe_types.specs.Stages.{spec_of}
-use Rattle.pipe_edges.specs.declared.edges.EdgeKind.{EdgeKind}
-use Rattle.pipe_edges.specs.declared.edges.EdgeKind.TheVariants.{Source, Sink}
 use Rattle.stage_bodies.specs.Seen.{BoxSeen, BodySeen, LineSeen, SinkSeen}
 use Rattle.stage_bodies.specs.Jobs.{Both}
 use Rattle.stage_bodies.specs.Posts.{place_at}
@@ -24,7 +22,8 @@ use Rattle.body_laws.specs.Keeps.{has_slot, has_post, has_post_in}
 use Rattle.body_laws.specs.Ready.{There, IsArmed, IsBodyFor, IsBodyAt, IsUnused, IsFilled}
 use Rattle.body_laws.proofs.Posts.{few_slots}
 use Rattle.edge_names.specs.Seen.{EdgesSeen}
-use Rattle.edge_names.specs.Opened.{AreHome, AreOpened, HasSource, HasSink, IsOpened, call_by, call_at, call_in}
+use Rattle.edge_names.specs.Supplies.{Feed, Opened, Made, Supplied, Fed, Written, FeedsProducers, by_name, fed, feed_by, supplied_by, written}
+use Rattle.edge_names.specs.Opened.{AreHome, AreOpened, HasFeed, HasSink, IsOpened, supplied_at, supplied_in}
 use Rattle.box_stock.specs.Lends.{AreHandedOut, IsBodyBefore, bare_body, body_with}
 
 -- ---- edges
@@ -73,16 +72,16 @@ before_with : (spec : StageSpec) (o : Option BoxSeen) (old : BodySeen) → There
 before_with spec None old held = absurd held
 before_with spec (Some box) old (is, own, kind, count) = record { box = box; is = is; own = own; kind = kind; count = count }
 
-no_source : (edges : EdgesSeen) (call : Option (EdgeKind × List ℕ)) (old new : Option LineSeen) → (call ≡ None) ⊎ ((name : List ℕ) × (call ≡ Some (Sink, name))) → HasSource edges call old new → new ≡ old
-no_source edges call old new (inl none) h = subst (λ c. HasSource edges c old new) none h
-no_source edges call old new (inr some) h = subst (λ c. HasSource edges c old new) some.1 h
+no_source : (edges : EdgesSeen) (what : Option Supplied) (old new : Option LineSeen) → (what ≡ None) ⊎ ((name : List ℕ) × (what ≡ Some (Written name))) → HasFeed edges what old new → new ≡ old
+no_source edges what old new (inl none) h = subst (λ c. HasFeed edges c old new) none h
+no_source edges what old new (inr some) h = subst (λ c. HasFeed edges c old new) some.1 h
 
--- a body with a box keeps it, where its stage opens no source
-still_with : (edges : EdgesSeen) (spec : StageSpec) (call : Option (EdgeKind × List ℕ)) (box : BoxSeen) (old new : BodySeen) → (call ≡ None) ⊎ ((name : List ℕ) × (call ≡ Some (Sink, name)))
-    → old ≡ body_with box → box.spec ≡ spec → box.kind ≡ spec.kind → box.count ≡ 0 → IsOpened edges call old new → IsWith spec box new
-still_with edges spec call box old new calls is own kind count opened = record {
+-- a body with a box keeps it, where its stage is supplied with no source
+still_with : (edges : EdgesSeen) (spec : StageSpec) (what : Option Supplied) (box : BoxSeen) (old new : BodySeen) → (what ≡ None) ⊎ ((name : List ℕ) × (what ≡ Some (Written name)))
+    → old ≡ body_with box → box.spec ≡ spec → box.kind ≡ spec.kind → box.count ≡ 0 → IsOpened edges what old new → IsWith spec box new
+still_with edges spec what box old new calls is own kind count opened = record {
   callback = opened.callback ∙ ap (λ (b : BodySeen). b.callback) is;
-  source = no_source edges call old.source new.source calls opened.source ∙ ap (λ (b : BodySeen). b.source) is;
+  source = no_source edges what old.source new.source calls opened.source ∙ ap (λ (b : BodySeen). b.source) is;
   spec_of_box = own;
   kind = kind;
   count = count;
@@ -93,90 +92,83 @@ record IsFreshSource (source : Option LineSeen) : Type 0 where
   pub waiting : IfSome source (λ lines. lines.waiting ≡ [])
   pub end : IfSome source (λ lines. lines.end ≡ None)
 
-fresh_source : (edges : EdgesSeen) (name : List ℕ) (old new : Option LineSeen) → HasSource edges (Some (Source, name)) old new → IsFreshSource new
-fresh_source edges name old (Some lines) h = record { some = refl; waiting = h.nothing_waits; end = h.no_end }
-fresh_source edges name old None h = absurd h
+fresh_source : (edges : EdgesSeen) (feed : Feed) (old new : Option LineSeen) → HasFeed edges (Some (Fed feed)) old new → IsFreshSource new
+fresh_source edges (Opened name) old (Some lines) h = record { some = refl; waiting = h.nothing_waits; end = h.no_end }
+fresh_source edges (Made bytes) old (Some lines) h = record { some = refl; waiting = h.nothing_waits; end = h.no_end }
+fresh_source edges feed old None h = absurd h
 
-sink_there : (edges : EdgesSeen) (name : List ℕ) (old new : Option SinkSeen) → HasSink edges (Some (Sink, name)) old new → is_some new ≡ true
+sink_there : (edges : EdgesSeen) (name : List ℕ) (old new : Option SinkSeen) → HasSink edges (Some (Written name)) old new → is_some new ≡ true
 sink_there edges name old (Some sink) h = refl
 sink_there edges name old None h = absurd h
 
 -- ---- by role
 
-ready_producer : (topology : Topology) (edges : EdgesSeen) (s : StageNo) (spec : StageSpec) (call : Option (EdgeKind × List ℕ)) (edge : Option (List ℕ)) (old new : BodySeen)
-    → is_some edge ≡ true → call ≡ call_by Producer edge → old ≡ bare_body → IsOpened edges call old new → IsReadyBody topology s spec Producer new
-ready_producer topology edges s spec call None old new some calls is opened = cc
-ready_producer topology edges s spec call (Some name) old new some calls is opened =
-    let fresh = fresh_source edges name old.source new.source (subst (λ c. HasSource edges c old.source new.source) calls opened.source) in
+ready_producer : (topology : Topology) (edges : EdgesSeen) (s : StageNo) (spec : StageSpec) (what : Option Supplied) (feed : Option Feed) (old new : BodySeen)
+    → IsSome feed → what ≡ fed feed → old ≡ bare_body → IsOpened edges what old new → IsReadyBody topology s spec Producer new
+ready_producer topology edges s spec what None old new some fits is opened = cc
+ready_producer topology edges s spec what (Some feed) old new some fits is opened =
+    let fresh = fresh_source edges feed old.source new.source (subst (λ c. HasFeed edges c old.source new.source) fits opened.source) in
     let none : new.callback ≡ None = opened.callback ∙ ap (λ (b : BodySeen). b.callback) is in
     record {
       ready = fresh.some;
       unused = record { waiting = fresh.waiting; end = fresh.end; count = subst (λ o. IfSome o (λ (b : BoxSeen). b.kind ≢ Own → b.count ≡ 0)) (sym none) tt };
     }
 
-ready_batch : (topology : Topology) (edges : EdgesSeen) (s : StageNo) (spec : StageSpec) (call : Option (EdgeKind × List ℕ)) (edge : Option (List ℕ)) (box : BoxSeen) (old new : BodySeen)
-    → spec.edge ≡ edge → call ≡ call_by BatchProcessor edge → old ≡ body_with box → box.spec ≡ spec → box.kind ≡ spec.kind → box.count ≡ 0 → IsOpened edges call old new → IsReadyBody topology s spec BatchProcessor new
-ready_batch topology edges s spec call None box old new edge calls is own kind count opened =
-    let w = still_with edges spec call box old new (inl calls) is own kind count opened in
+ready_batch : (topology : Topology) (edges : EdgesSeen) (s : StageNo) (spec : StageSpec) (what : Option Supplied) (edge : Option (List ℕ)) (box : BoxSeen) (old new : BodySeen)
+    → spec.edge ≡ edge → what ≡ written edge → old ≡ body_with box → box.spec ≡ spec → box.kind ≡ spec.kind → box.count ≡ 0 → IsOpened edges what old new → IsReadyBody topology s spec BatchProcessor new
+ready_batch topology edges s spec what None box old new edge calls is own kind count opened =
+    let w = still_with edges spec what box old new (inl calls) is own kind count opened in
     let same : new.sink ≡ old.sink = subst (λ c. HasSink edges c old.sink new.sink) calls opened.sink in
     let none : is_some new.sink ≡ is_some spec.edge = ap is_some (same ∙ ap (λ (b : BodySeen). b.sink) is) ∙ sym (ap is_some edge) in
     record { ready = (with_box topology s spec box new w, none); unused = unused_with spec box new w }
-ready_batch topology edges s spec call (Some name) box old new edge calls is own kind count opened =
-    let w = still_with edges spec call box old new (inr (name, calls)) is own kind count opened in
+ready_batch topology edges s spec what (Some name) box old new edge calls is own kind count opened =
+    let w = still_with edges spec what box old new (inr (name, calls)) is own kind count opened in
     let there : is_some new.sink ≡ true = sink_there edges name old.sink new.sink (subst (λ c. HasSink edges c old.sink new.sink) calls opened.sink) in
     let some : is_some new.sink ≡ is_some spec.edge = there ∙ sym (ap is_some edge) in
     record { ready = (with_box topology s spec box new w, some); unused = unused_with spec box new w }
 
-ready_by : (topology : Topology) (edges : EdgesSeen) (s : StageNo) (spec : StageSpec) (call : Option (EdgeKind × List ℕ)) (slot : ℕ) (r : Role) (old new : BodySeen)
-    → has_slot r spec.max slot ≡ true → has_fields_of topology.stages r spec ≡ true → (slot ≡ 0 → call ≡ call_by r spec.edge) → (call_by r spec.edge ≡ None → call ≡ None)
-    → IsBodyBefore spec r old → IsOpened edges call old new → IsReadyBody topology s spec r new
-ready_by topology edges s spec call slot Producer old new seat fields first other held opened =
-    ready_producer topology edges s spec call spec.edge old new (has_edge topology.stages spec fields) (first (eqb-true slot 0 seat)) held opened
-ready_by topology edges s spec call slot Processor old new seat fields first other held opened =
+ready_by : (topology : Topology) (edges : EdgesSeen) (s : StageNo) (spec : StageSpec) (what : Option Supplied) (feed : Option Feed) (slot : ℕ) (r : Role) (old new : BodySeen)
+    → has_slot r spec.max slot ≡ true → (r ≡ Producer → IsSome feed) → (slot ≡ 0 → what ≡ supplied_by r feed spec.edge) → (supplied_by r feed spec.edge ≡ None → what ≡ None)
+    → IsBodyBefore spec r old → IsOpened edges what old new → IsReadyBody topology s spec r new
+ready_by topology edges s spec what feed slot Producer old new seat feeds first other held opened =
+    ready_producer topology edges s spec what feed old new (feeds refl) (first (eqb-true slot 0 seat)) held opened
+ready_by topology edges s spec what feed slot Processor old new seat feeds first other held opened =
     let box = before_with spec old.callback old held in
-    let w = still_with edges spec call box.box old new (inl (other (no_call_processor spec.edge))) box.is box.own box.kind box.count opened in
+    let w = still_with edges spec what box.box old new (inl (other refl)) box.is box.own box.kind box.count opened in
     record { ready = with_box topology s spec box.box new w; unused = unused_with spec box.box new w }
-  where
-    no_call_processor : (edge : Option (List ℕ)) → call_by Processor edge ≡ None
-    no_call_processor (Some name) = refl
-    no_call_processor None = refl
-ready_by topology edges s spec call slot Supervisor old new seat fields first other held opened =
+ready_by topology edges s spec what feed slot Supervisor old new seat feeds first other held opened =
     let box = before_with spec old.callback old held in
-    let w = still_with edges spec call box.box old new (inl (other (no_call_supervisor spec.edge))) box.is box.own box.kind box.count opened in
+    let w = still_with edges spec what box.box old new (inl (other refl)) box.is box.own box.kind box.count opened in
     record { ready = with_box topology s spec box.box new w; unused = unused_with spec box.box new w }
-  where
-    no_call_supervisor : (edge : Option (List ℕ)) → call_by Supervisor edge ≡ None
-    no_call_supervisor (Some name) = refl
-    no_call_supervisor None = refl
-ready_by topology edges s spec call slot Batcher old new seat fields first other held opened = cc
-ready_by topology edges s spec call slot BatchProcessor old new seat fields first other held opened =
+ready_by topology edges s spec what feed slot Batcher old new seat feeds first other held opened = cc
+ready_by topology edges s spec what feed slot BatchProcessor old new seat feeds first other held opened =
     let box = before_with spec old.callback old held in
-    ready_batch topology edges s spec call spec.edge box.box old new refl (first (eqb-true slot 0 seat)) box.is box.own box.kind box.count opened
+    ready_batch topology edges s spec what spec.edge box.box old new refl (first (eqb-true slot 0 seat)) box.is box.own box.kind box.count opened
 
 -- ---- all
 
-call_of_zero : (t u : Bool) (x : Option (EdgeKind × List ℕ)) → t ≡ true → u ≡ true → (if t && u then x else None) ≡ x
-call_of_zero true true x e h = refl
-call_of_zero true false x e h = cc
-call_of_zero false u x e h = cc
+supplied_zero : (t u : Bool) (x : Option Supplied) → t ≡ true → u ≡ true → (if t && u then x else None) ≡ x
+supplied_zero true true x e h = refl
+supplied_zero true false x e h = cc
+supplied_zero false u x e h = cc
 
-call_of_none : (t : Bool) (x : Option (EdgeKind × List ℕ)) → x ≡ None → (if t then x else None) ≡ None
-call_of_none true x none = none
-call_of_none false x none = refl
+supplied_none : (t : Bool) (x : Option Supplied) → x ≡ None → (if t then x else None) ≡ None
+supplied_none true x none = none
+supplied_none false x none = refl
 
-ready_post : (topology : Topology) (edges : EdgesSeen) (p : Post) (sound : IsSound topology) → has_post topology p ≡ true → (o : Option StageSpec) → spec_of topology p.stage ≡ o → (x y : Option BodySeen)
-    → There x (λ body. There o (λ spec. IsBodyBefore spec spec.role body)) → Both (IsOpened edges (call_at topology (length topology.stages) p)) x y
+ready_post : (feeds : StageSpec → Option Feed) (topology : Topology) (edges : EdgesSeen) (p : Post) (sound : IsSound topology) → FeedsProducers feeds topology → has_post topology p ≡ true → (o : Option StageSpec) → spec_of topology p.stage ≡ o → (x y : Option BodySeen)
+    → There x (λ body. There o (λ spec. IsBodyBefore spec spec.role body)) → Both (IsOpened edges (supplied_at feeds topology (length topology.stages) p)) x y
     → There y (λ body. There o (λ spec. IsReadyBody topology p.stage spec spec.role body))
-ready_post topology edges p sound post o is None y held opened = absurd held
-ready_post topology edges p sound post None is (Some old) y held opened = absurd held
-ready_post topology edges p sound post (Some spec) is (Some old) None held opened = absurd opened
-ready_post topology edges p sound post (Some spec) is (Some old) (Some new) held opened =
+ready_post feeds topology edges p sound feed post o is None y held opened = absurd held
+ready_post feeds topology edges p sound feed post None is (Some old) y held opened = absurd held
+ready_post feeds topology edges p sound feed post (Some spec) is (Some old) None held opened = absurd opened
+ready_post feeds topology edges p sound feed post (Some spec) is (Some old) (Some new) held opened =
     let slot : has_slot spec.role spec.max p.slot ≡ true = sym (ap (λ q. has_post_in q p.slot) is) ∙ post in
     let within = ((numbered_topology topology sound).within p.stage spec is).1 in
-    let called : call_in (spec_of topology p.stage) ≡ call_by spec.role spec.edge = ap call_in is in
-    ready_by topology edges p.stage spec (call_at topology (length topology.stages) p) p.slot spec.role old new slot (sound_fields topology p.stage spec sound is)
-    (λ first. call_of_zero (p.slot == 0) (nat_le p.stage.0 (length topology.stages)) (call_in (spec_of topology p.stage)) (eq-eqb p.slot 0 first) (le-leb p.stage.0 (length topology.stages) within) ∙ called)
-    (λ none. call_of_none (p.slot == 0 && nat_le p.stage.0 (length topology.stages)) (call_in (spec_of topology p.stage)) (called ∙ none))
+    let fits : supplied_in feeds (spec_of topology p.stage) ≡ supplied_by spec.role (feeds spec) spec.edge = ap (supplied_in feeds) is in
+    ready_by topology edges p.stage spec (supplied_at feeds topology (length topology.stages) p) (feeds spec) p.slot spec.role old new slot (feed p.stage spec is)
+    (λ first. supplied_zero (p.slot == 0) (nat_le p.stage.0 (length topology.stages)) (supplied_in feeds (spec_of topology p.stage)) (eq-eqb p.slot 0 first) (le-leb p.stage.0 (length topology.stages) within) ∙ fits)
+    (λ none. supplied_none (p.slot == 0 && nat_le p.stage.0 (length topology.stages)) (supplied_in feeds (spec_of topology p.stage)) (fits ∙ none))
     held opened
 
 there_map : {A : Type 0} (P Q : A → Type 0) (o : Option A) → ((x : A) → P x → Q x) → There o P → There o Q
@@ -189,11 +181,11 @@ if_there (Some body) None topology s h = absurd h
 if_there (Some body) (Some sp) topology s h = h.unused
 
 -- a table that was handed out is filled once everything is opened
-pub filled : (topology : Topology) (edges : EdgesSeen) (table now : ℕ → Option BodySeen) → IsSound topology → AreHandedOut topology table
-    → AreOpened topology (length topology.stages) edges table now → IsFilled topology now
-filled topology edges table now sound handed opened =
+pub filled : (feeds : StageSpec → Option Feed) (topology : Topology) (edges : EdgesSeen) (table now : ℕ → Option BodySeen) → IsSound topology → FeedsProducers feeds topology → AreHandedOut topology table
+    → AreOpened feeds topology (length topology.stages) edges table now → IsFilled topology now
+filled feeds topology edges table now sound feed handed opened =
     let all = λ (p : Post) (post : has_post topology p ≡ true).
-    ready_post topology edges p sound post (spec_of topology p.stage) refl (table (place_at p)) (now (place_at p)) (handed.posts p post) (opened p (few_slots topology p sound post)) in
+    ready_post feeds topology edges p sound feed post (spec_of topology p.stage) refl (table (place_at p)) (now (place_at p)) (handed.posts p post) (opened p (few_slots topology p sound post)) in
     record {
       ready = λ p post out.
           there_map (λ body. There (spec_of topology p.stage) (λ spec. IsReadyBody topology p.stage spec spec.role body)) (IsBodyAt topology [] p) (now (place_at p))
@@ -202,26 +194,35 @@ filled topology edges table now sound handed opened =
       unused = λ p post. if_there (now (place_at p)) (spec_of topology p.stage) topology p.stage (all p post);
     }
 
+-- ---- sources by name
+
+-- a sound topology names the source of each producer
+name_by : (topology : Topology) (spec : StageSpec) (r : Role) → has_fields_of topology.stages r spec ≡ true → r ≡ Producer → (edge : Option (List ℕ)) → spec.edge ≡ edge → IsSome (feed_by edge)
+name_by topology spec Producer fields is (Some name) e = refl
+name_by topology spec Producer fields is None e = absurd (let some : is_some spec.edge ≡ true = has_edge topology.stages spec fields in let none : is_some spec.edge ≡ false = ap is_some e in cc)
+name_by topology spec Processor fields is edge e = cc
+name_by topology spec Supervisor fields is edge e = cc
+name_by topology spec Batcher fields is edge e = cc
+name_by topology spec BatchProcessor fields is edge e = cc
+
+pub names_feed : (topology : Topology) → IsSound topology → FeedsProducers by_name topology
+names_feed topology sound s spec found is = name_by topology spec spec.role (sound_fields topology s spec sound found) is spec.edge refl
+
 -- ---- what opens finds its body
 
-edge_post : (r : Role) (max : ℕ) (edge : Option (List ℕ)) → IsSome (call_by r edge) → has_slot r max 0 ≡ true
-edge_post Producer max (Some name) some = refl
-edge_post Producer max None some = cc
-edge_post Processor max (Some name) some = cc
-edge_post Processor max None some = cc
-edge_post Supervisor max (Some name) some = cc
-edge_post Supervisor max None some = cc
-edge_post Batcher max (Some name) some = cc
-edge_post Batcher max None some = cc
-edge_post BatchProcessor max (Some name) some = refl
-edge_post BatchProcessor max None some = cc
+supplied_post : (r : Role) (max : ℕ) (feed : Option Feed) (edge : Option (List ℕ)) → IsSome (supplied_by r feed edge) → has_slot r max 0 ≡ true
+supplied_post Producer max feed edge some = refl
+supplied_post Processor max feed edge some = cc
+supplied_post Supervisor max feed edge some = cc
+supplied_post Batcher max feed edge some = cc
+supplied_post BatchProcessor max feed edge some = refl
 
 is_there : {A : Type 0} (P : A → Type 0) (o : Option A) → There o P → IsSome o
 is_there P (Some x) h = refl
 is_there P None h = absurd h
 
--- every stage that opens something has its body in a table that was handed out
-pub homes : (topology : Topology) (table : ℕ → Option BodySeen) → AreHandedOut topology table → AreHome topology table
-homes topology table handed s spec is some =
-    let post_there : has_post topology (post s 0) ≡ true = ap (λ o. has_post_in o 0) is ∙ edge_post spec.role spec.max spec.edge some in
+-- every stage that is supplied with something has its body in a table that was handed out
+pub homes : (feeds : StageSpec → Option Feed) (topology : Topology) (table : ℕ → Option BodySeen) → AreHandedOut topology table → AreHome feeds topology table
+homes feeds topology table handed s spec is some =
+    let post_there : has_post topology (post s 0) ≡ true = ap (λ o. has_post_in o 0) is ∙ supplied_post spec.role spec.max (feeds spec) spec.edge some in
     is_there (λ body. There (spec_of topology s) (λ sp. IsBodyBefore sp sp.role body)) (table (place_at (post s 0))) (handed.posts (post s 0) post_there)

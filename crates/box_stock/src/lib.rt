@@ -9,10 +9,12 @@
 ghost use Rattle.std.specs.Prelude.{◌≡◌, ℕ, List, length, Option, None};
 ghost use Rattle.pipe_types.specs.Sound.{IsSound};
 ghost use Rattle.pipe_types.specs.declared.topology.Kind.{Kind};
+ghost use Rattle.pipe_types.specs.declared.topology.StageSpec.{StageSpec};
 ghost use Rattle.pipe_types.specs.declared.topology.Topology.{Topology};
 ghost use Rattle.stage_bodies.specs.Seen.{BodySeen};
 ghost use Rattle.body_laws.specs.Ready.{IsFilled};
 ghost use Rattle.edge_names.specs.Seen.{EdgesSeen};
+ghost use Rattle.edge_names.specs.Supplies.{Feed, FeedsProducers, by_name};
 ghost use Rattle.edge_names.specs.Opened.{AreHome, AreOpened};
 ghost use Rattle.topology_needs.specs.Needs.{boxes_in as boxes_by_kind, shortage_of};
 ghost use Rattle.box_stock.specs.Homes.{Suffices};
@@ -39,14 +41,20 @@ pub fn stocks_without_shortage_suffice()
 
 /// A table that was handed out is filled once everything is opened.
 pub fn opened_tables_are_filled()
-    ensures { (topology : Topology) (edges : EdgesSeen) (table now : ℕ → Option BodySeen) → IsSound topology → AreHandedOut topology table
-        → AreOpened topology (length topology.stages) edges table now → IsFilled topology now }
+    ensures { (feeds : StageSpec → Option Feed) (topology : Topology) (edges : EdgesSeen) (table now : ℕ → Option BodySeen) → IsSound topology → FeedsProducers feeds topology → AreHandedOut topology table
+        → AreOpened feeds topology (length topology.stages) edges table now → IsFilled topology now }
 {}
 
-/// In a table that was handed out every stage that opens something has its body.
+/// A sound topology names the source of each producer.
+#[tactic(auto, using(crate::proofs::Filled::names_feed))]
+pub fn names_feed_producers()
+    ensures { (topology : Topology) → IsSound topology → FeedsProducers by_name topology }
+{}
+
+/// In a table that was handed out every stage that is supplied with something has its body.
 #[tactic(auto, using(crate::proofs::Filled::homes))]
 pub fn handed_out_tables_have_homes()
-    ensures { (topology : Topology) (table : ℕ → Option BodySeen) → AreHandedOut topology table → AreHome topology table }
+    ensures { (feeds : StageSpec → Option Feed) (topology : Topology) (table : ℕ → Option BodySeen) → AreHandedOut topology table → AreHome feeds topology table }
 {}
 
 /// Where each post of the topology that had a callback has one still, the boxes that were lent are all there.

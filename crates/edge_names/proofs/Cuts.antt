@@ -13,7 +13,8 @@ use Rattle.edge_names.specs.Seen.{EdgesSeen}
 use Rattle.edge_names.specs.Named.{GivesSource, Opens}
 use Rattle.edge_names.specs.declared.opening.Unopened.{Unopened}
 use Rattle.edge_names.specs.declared.opening.Unopened.TheVariants.{Failed, OutOfMemory as NoMemory}
-use Rattle.edge_names.specs.Opened.{Asks, AreOpened, IfCutOff, IfFailed, OpensOne, IsCut, IsCutOff, IsFailed, IsOneCut, IsOneFailed, IsReturned, calls_of, edge_call, uncalled, returned, let_go}
+use Rattle.edge_names.specs.Opened.{Asks, AreOpened, IfCutOff, IfFailed, OpensOne, IsCut, IsCutOff, IsFailed, IsOneCut, IsOneFailed, IsReturned, calls_of, uncalled, returned, let_go}
+use Rattle.edge_names.specs.Supplies.{Feed, Supplied, call_for, call_of, supplied}
 use Rattle.edge_names.proofs.Openings.{asks_more, gives_source_from}
 
 pub cut_uncalled : (call : Option (EdgeKind × List ℕ)) (a : EdgesSeen) → IsOneCut call a a
@@ -63,17 +64,17 @@ cut_from calls a b call cs back asks (uncalled p q) = uncalled p q
 cut_from calls a b call cs back asks (returned name source p q gives r) = returned name source p q (gives_source_from calls a b name source asks gives) r
 cut_from calls a b call cs back asks (let_go name p q r) = let_go name p q r
 
-pub cut_off : (topology : Topology) (n : ℕ) (spec : StageSpec) (a b c : EdgesSeen) (start now : ℕ → Option BodySeen) → slice_get topology.stages n ≡ Some spec
-    → Asks (calls_of (take n topology.stages)) a b → AreOpened topology n a start now → IsOneCut (edge_call spec) b c → IsCutOff topology a c start now
-cut_off topology n spec a b c start now here asks opened cut = record {
+pub cut_off : (feeds : StageSpec → Option Feed) (topology : Topology) (n : ℕ) (spec : StageSpec) (a b c : EdgesSeen) (start now : ℕ → Option BodySeen) → slice_get topology.stages n ≡ Some spec
+    → Asks (calls_of feeds (take n topology.stages)) a b → AreOpened feeds topology n a start now → IsOneCut (call_of feeds spec) b c → IsCutOff feeds topology a c start now
+cut_off feeds topology n spec a b c start now here asks opened cut = record {
   at = n;
   spec = spec;
   here = here;
   calls = cut.calls;
   back = cut.back;
-  cut = cut_from (calls_of (take n topology.stages)) a b (edge_call spec) cut.calls cut.back asks cut.cut;
+  cut = cut_from (calls_of feeds (take n topology.stages)) a b (call_of feeds spec) cut.calls cut.back asks cut.cut;
   same_telling = cut.same_telling ∙ asks.same_telling;
-  asked = λ t. cut.asked (rw asks.same_telling t) ∙ ap (λ z. z ++ cut.calls) (asks.asked t) ∙ append_assoc a.asked (calls_of (take n topology.stages)) cut.calls;
+  asked = λ t. cut.asked (rw asks.same_telling t) ∙ ap (λ z. z ++ cut.calls) (asks.asked t) ∙ append_assoc a.asked (calls_of feeds (take n topology.stages)) cut.calls;
   sources = cut.sources ∙ ap (λ z. z ++ cut.back) asks.sources;
   sinks = cut.sinks ∙ asks.sinks;
   faults_stay = let p = asks.faults_stay in let q = cut.faults_stay in omega (arith, p, q);
@@ -84,35 +85,35 @@ pub rose_after : (x y z : ℕ) → x ≤ y → Rose y z → Rose x z
 rose_after x y z le (inl lt) = inl (omega arith)
 rose_after x y z le (inr full) = inr full
 
-pub failed_off : (topology : Topology) (n : ℕ) (spec : StageSpec) (name : List ℕ) (a b c : EdgesSeen) (start now : ℕ → Option BodySeen) → slice_get topology.stages n ≡ Some spec
-    → Asks (calls_of (take n topology.stages)) a b → AreOpened topology n a start now → IsOneFailed (edge_call spec) name b c → IsFailed topology name a c start now
-failed_off topology n spec name a b c start now here asks opened failed = record {
+pub failed_off : (feeds : StageSpec → Option Feed) (topology : Topology) (n : ℕ) (spec : StageSpec) (name : List ℕ) (a b c : EdgesSeen) (start now : ℕ → Option BodySeen) → slice_get topology.stages n ≡ Some spec
+    → Asks (calls_of feeds (take n topology.stages)) a b → AreOpened feeds topology n a start now → IsOneFailed (call_of feeds spec) name b c → IsFailed feeds topology name a c start now
+failed_off feeds topology n spec name a b c start now here asks opened failed = record {
   at = n;
   kind = failed.kind;
   spec = spec;
   here = here;
   call = failed.is;
-  asks = asks_more (calls_of (take n topology.stages)) ((failed.kind, name) ∷ []) a b c asks failed.asks;
+  asks = asks_more (calls_of feeds (take n topology.stages)) ((failed.kind, name) ∷ []) a b c asks failed.asks;
   fault = rose_after a.faults b.faults c.faults asks.faults_stay failed.fault;
   bodies = opened;
 }
 
 -- ---- by what ended the opening
 
-pub failed_by : (T : Type 0) (topology : Topology) (n at : ℕ) (spec : StageSpec) (u : Unopened) (a b c : EdgesSeen) (start mid now : ℕ → Option BodySeen) → slice_get topology.stages n ≡ Some spec
-    → Asks (calls_of (take n topology.stages)) a b → AreOpened topology n a start now → OpensOne {T = T} (edge_call spec) at (Err u) b c mid now → IfFailed u (λ name. IsFailed topology name a c start now)
-failed_by T topology n at spec (Failed name) a b c start mid now here asks opened one = failed_off topology n spec name a b c start now here asks opened one
-failed_by T topology n at spec NoMemory a b c start mid now here asks opened one = tt
+pub failed_by : (feeds : StageSpec → Option Feed) (T : Type 0) (topology : Topology) (n at : ℕ) (spec : StageSpec) (u : Unopened) (a b c : EdgesSeen) (start mid now : ℕ → Option BodySeen) → slice_get topology.stages n ≡ Some spec
+    → Asks (calls_of feeds (take n topology.stages)) a b → AreOpened feeds topology n a start now → OpensOne {T = T} (supplied feeds spec) at (Err u) b c mid now → IfFailed u (λ name. IsFailed feeds topology name a c start now)
+failed_by feeds T topology n at spec (Failed name) a b c start mid now here asks opened one = failed_off feeds topology n spec name a b c start now here asks opened one
+failed_by feeds T topology n at spec NoMemory a b c start mid now here asks opened one = tt
 
-pub cut_off_by : (T : Type 0) (topology : Topology) (n at : ℕ) (spec : StageSpec) (u : Unopened) (a b c : EdgesSeen) (start mid now : ℕ → Option BodySeen) → slice_get topology.stages n ≡ Some spec
-    → Asks (calls_of (take n topology.stages)) a b → AreOpened topology n a start now → OpensOne {T = T} (edge_call spec) at (Err u) b c mid now → IfCutOff u (IsCutOff topology a c start now)
-cut_off_by T topology n at spec (Failed name) a b c start mid now here asks opened one = tt
-cut_off_by T topology n at spec NoMemory a b c start mid now here asks opened one = cut_off topology n spec a b c start now here asks opened one
+pub cut_off_by : (feeds : StageSpec → Option Feed) (T : Type 0) (topology : Topology) (n at : ℕ) (spec : StageSpec) (u : Unopened) (a b c : EdgesSeen) (start mid now : ℕ → Option BodySeen) → slice_get topology.stages n ≡ Some spec
+    → Asks (calls_of feeds (take n topology.stages)) a b → AreOpened feeds topology n a start now → OpensOne {T = T} (supplied feeds spec) at (Err u) b c mid now → IfCutOff u (IsCutOff feeds topology a c start now)
+cut_off_by feeds T topology n at spec (Failed name) a b c start mid now here asks opened one = tt
+cut_off_by feeds T topology n at spec NoMemory a b c start mid now here asks opened one = cut_off feeds topology n spec a b c start now here asks opened one
 
 -- ---- one call
 
 -- it did not open
-pub opens_not : (T : Type 0) (u : Unopened) (call : Option (EdgeKind × List ℕ)) (at : ℕ) (old new : EdgesSeen) (start now : ℕ → Option BodySeen) → IfFailed u (λ name. IsOneFailed call name old new) → IfCutOff u (IsOneCut call old new)
-    → OpensOne {T = T} call at (Err u) old new start now
-opens_not T (Failed name) call at old new start now failed cut = failed
-opens_not T NoMemory call at old new start now failed cut = cut
+pub opens_not : (T : Type 0) (u : Unopened) (what : Option Supplied) (at : ℕ) (old new : EdgesSeen) (start now : ℕ → Option BodySeen) → IfFailed u (λ name. IsOneFailed (call_for what) name old new) → IfCutOff u (IsOneCut (call_for what) old new)
+    → OpensOne {T = T} what at (Err u) old new start now
+opens_not T (Failed name) what at old new start now failed cut = failed
+opens_not T NoMemory what at old new start now failed cut = cut

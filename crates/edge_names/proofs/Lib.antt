@@ -1,4 +1,6 @@
 pub mod Openings
 pub mod Returns
-mod Cuts
+pub mod Cuts
 pub mod Undoes
+pub mod Calms
+pub mod Calls

@@ -22,7 +22,8 @@ use Rattle.stage_bodies.specs.Posts.{place_at}
 use Rattle.stage_laws.specs.Numbered.{IsNumberedTopology}
 use Rattle.edge_names.specs.Seen.{EdgesSeen}
 use Rattle.edge_names.specs.Named.{GivesSource, GivesSink, Opens}
-use Rattle.edge_names.specs.Opened.{GivesLines, Asks, AreHome, AreOpened, AreOpenedAt, HasSource, HasSink, IsOpened, call_at, call_in, calls_of, edge_call, one}
+use Rattle.edge_names.specs.Supplies.{Feed, Opened, Made, Supplied, Fed, Written, call_for, call_of, supplied}
+use Rattle.edge_names.specs.Opened.{GivesFeed, Asks, AreHome, AreOpened, AreOpenedAt, HasFeed, HasSource, HasSink, IsOpened, supplied_at, supplied_in, calls_of, one}
 
 -- ---- calls
 
@@ -85,26 +86,33 @@ has_source_from calls a b (Some (Source, name)) x y None asks e h = h
 has_source_from calls a b (Some (Source, name)) x y (Some lines) asks e h =
     record { source = gives_source_from calls a b name lines.source asks h.source; nothing_waits = h.nothing_waits; no_end = h.no_end }
 
-pub has_sink_from : (calls : List (EdgeKind × List ℕ)) (a b : EdgesSeen) (call : Option (EdgeKind × List ℕ)) (x y z : Option SinkSeen) → Asks calls a b → y ≡ x → HasSink b call y z → HasSink a call x z
+pub has_feed_from : (calls : List (EdgeKind × List ℕ)) (a b : EdgesSeen) (what : Option Supplied) (x y z : Option LineSeen) → Asks calls a b → y ≡ x → HasFeed b what y z → HasFeed a what x z
+has_feed_from calls a b None x y z asks e h = h ∙ e
+has_feed_from calls a b (Some (Written name)) x y z asks e h = h ∙ e
+has_feed_from calls a b (Some (Fed feed)) x y None asks e h = h
+has_feed_from calls a b (Some (Fed (Made bytes))) x y (Some lines) asks e h = h
+has_feed_from calls a b (Some (Fed (Opened name))) x y (Some lines) asks e h =
+    record { source = gives_source_from calls a b name lines.source asks h.source; nothing_waits = h.nothing_waits; no_end = h.no_end }
+
+pub has_sink_from : (calls : List (EdgeKind × List ℕ)) (a b : EdgesSeen) (what : Option Supplied) (x y z : Option SinkSeen) → Asks calls a b → y ≡ x → HasSink b what y z → HasSink a what x z
 has_sink_from calls a b None x y z asks e h = h ∙ e
-has_sink_from calls a b (Some (File, name)) x y z asks e h = h ∙ e
-has_sink_from calls a b (Some (Source, name)) x y z asks e h = h ∙ e
-has_sink_from calls a b (Some (Sink, name)) x y None asks e h = h
-has_sink_from calls a b (Some (Sink, name)) x y (Some sink) asks e h = gives_sink_from calls a b name sink asks h
+has_sink_from calls a b (Some (Fed feed)) x y z asks e h = h ∙ e
+has_sink_from calls a b (Some (Written name)) x y None asks e h = h
+has_sink_from calls a b (Some (Written name)) x y (Some sink) asks e h = gives_sink_from calls a b name sink asks h
 
 -- one body: it had nothing opened yet, or it is as it was
-body_more : (calls : List (EdgeKind × List ℕ)) (a b : EdgesSeen) (t : Bool) (c d : Option (EdgeKind × List ℕ)) (x y z : Option BodySeen) → Asks calls a b → (t ≡ true → c ≡ None)
+body_more : (calls : List (EdgeKind × List ℕ)) (a b : EdgesSeen) (t : Bool) (c d : Option Supplied) (x y z : Option BodySeen) → Asks calls a b → (t ≡ true → c ≡ None)
     → Both (IsOpened a c) x y → Both (IsOpened b (if t then d else None)) y z → Both (IsOpened a (if t then d else c)) x z
 body_more calls a b true c d (Some x) (Some y) (Some z) asks none h k =
     let h' : IsOpened a None x y = subst (λ w. IsOpened a w x y) (none refl) h in
     record {
-      source = has_source_from calls a b d x.source y.source z.source asks h'.source k.source;
+      source = has_feed_from calls a b d x.source y.source z.source asks h'.source k.source;
       sink = has_sink_from calls a b d x.sink y.sink z.sink asks h'.sink k.sink;
       callback = k.callback ∙ h.callback;
     }
 body_more calls a b false c d (Some x) (Some y) (Some z) asks none h k =
     record {
-      source = subst (λ w. HasSource a c x.source w) (sym k.source) h.source;
+      source = subst (λ w. HasFeed a c x.source w) (sym k.source) h.source;
       sink = subst (λ w. HasSink a c x.sink w) (sym k.sink) h.sink;
       callback = k.callback ∙ h.callback;
     }
@@ -116,19 +124,19 @@ body_more calls a b t c d None None (Some z) asks none h k = absurd k
 
 -- ---- posts
 
-chosen : (x y : Bool) (spec : Option StageSpec) → x ≡ true → y ≡ true → (if x && y then call_in spec else None) ≡ call_in spec
-chosen true true spec e h = refl
-chosen true false spec e h = cc
-chosen false y spec e h = cc
+chosen : (feeds : StageSpec → Option Feed) (x y : Bool) (spec : Option StageSpec) → x ≡ true → y ≡ true → (if x && y then supplied_in feeds spec else None) ≡ supplied_in feeds spec
+chosen feeds true true spec e h = refl
+chosen feeds true false spec e h = cc
+chosen feeds false y spec e h = cc
 
-unchosen : (x y : Bool) (spec : Option StageSpec) → y ≡ false → (if x && y then call_in spec else None) ≡ None
-unchosen true true spec e = cc
-unchosen true false spec e = refl
-unchosen false y spec e = refl
+unchosen : (feeds : StageSpec → Option Feed) (x y : Bool) (spec : Option StageSpec) → y ≡ false → (if x && y then supplied_in feeds spec else None) ≡ None
+unchosen feeds true true spec e = cc
+unchosen feeds true false spec e = refl
+unchosen feeds false y spec e = refl
 
-unslotted : (x y : Bool) (spec : Option StageSpec) → x ≡ false → (if x && y then call_in spec else None) ≡ None
-unslotted true y spec e = cc
-unslotted false y spec e = refl
+unslotted : (feeds : StageSpec → Option Feed) (x y : Bool) (spec : Option StageSpec) → x ≡ false → (if x && y then supplied_in feeds spec else None) ≡ None
+unslotted feeds true y spec e = cc
+unslotted feeds false y spec e = refl
 
 at_most_step : (m n : ℕ) → ¬ (m ≡ n + 1) → nat_le m (n + 1) ≡ nat_le m n
 at_most_step m n other = grind (arith, nat_tests)
@@ -145,27 +153,27 @@ pub flat_map_next : {A B : Type 0} (f : A → List B) (xs : List A) (x : A) → 
 flat_map_next f [] x = append-nil (f x)
 flat_map_next f (y ∷ xs) x = ap (λ z. f y ++ z) (flat_map_next f xs x) ∙ sym (append_assoc (f y) (flat_map f xs) (f x))
 
-pub calls_step : (stages : List StageSpec) (n : ℕ) (spec : StageSpec) → slice_get stages n ≡ Some spec → calls_of (take n stages) ++ one (edge_call spec) ≡ calls_of (take (n + 1) stages)
-calls_step stages n spec here =
-    sym (ap calls_of (take_next stages n spec here) ∙ flat_map_next (λ (s : StageSpec). one (edge_call s)) (take n stages) spec)
+pub calls_step : (feeds : StageSpec → Option Feed) (stages : List StageSpec) (n : ℕ) (spec : StageSpec) → slice_get stages n ≡ Some spec → calls_of feeds (take n stages) ++ one (call_of feeds spec) ≡ calls_of feeds (take (n + 1) stages)
+calls_step feeds stages n spec here =
+    sym (ap (calls_of feeds) (take_next stages n spec here) ∙ flat_map_next (λ (s : StageSpec). one (call_of feeds s)) (take n stages) spec)
 
 -- at the place of the next stage there was nothing to open, and its call is its own; elsewhere the call is as it was
-call_step : (topology : Topology) (n : ℕ) (spec : StageSpec) (p : Post) → IsNumberedTopology topology → slice_get topology.stages n ≡ Some spec → p.slot < 16
-    → (call_at topology (n + 1) p ≡ (if spec.no.0 * 16 + 0 == place_at p then edge_call spec else call_at topology n p)) × ((spec.no.0 * 16 + 0 == place_at p) ≡ true → call_at topology n p ≡ None)
-call_step topology n spec p numbered here low = either (spec.no.0 * 16 + 0 == place_at p) refl
+call_step : (feeds : StageSpec → Option Feed) (topology : Topology) (n : ℕ) (spec : StageSpec) (p : Post) → IsNumberedTopology topology → slice_get topology.stages n ≡ Some spec → p.slot < 16
+    → (supplied_at feeds topology (n + 1) p ≡ (if spec.no.0 * 16 + 0 == place_at p then supplied feeds spec else supplied_at feeds topology n p)) × ((spec.no.0 * 16 + 0 == place_at p) ≡ true → supplied_at feeds topology n p ≡ None)
+call_step feeds topology n spec p numbered here low = either (spec.no.0 * 16 + 0 == place_at p) refl
   where
     no : spec.no.0 ≡ suc n
     no = numbered.numbers n spec here
 
     slot_one : (b : Bool) → (p.slot == 0) ≡ b → ¬ (p.stage.0 * 16 + p.slot ≡ spec.no.0 * 16 + 0)
-        → (if b && nat_le p.stage.0 (n + 1) then call_in (spec_of topology p.stage) else None) ≡ (if b && nat_le p.stage.0 n then call_in (spec_of topology p.stage) else None)
+        → (if b && nat_le p.stage.0 (n + 1) then supplied_in feeds (spec_of topology p.stage) else None) ≡ (if b && nat_le p.stage.0 n then supplied_in feeds (spec_of topology p.stage) else None)
     slot_one false e other = refl
     slot_one true e other =
         let slot : p.slot ≡ 0 = eqb-true p.slot 0 e in
-        ap (λ (t : Bool). if t then call_in (spec_of topology p.stage) else None) (at_most_step p.stage.0 n (λ same. other (omega (arith, same, slot, no))))
+        ap (λ (t : Bool). if t then supplied_in feeds (spec_of topology p.stage) else None) (at_most_step p.stage.0 n (λ same. other (omega (arith, same, slot, no))))
 
     either : (t : Bool) → (spec.no.0 * 16 + 0 == place_at p) ≡ t
-        → (call_at topology (n + 1) p ≡ (if t then edge_call spec else call_at topology n p)) × (t ≡ true → call_at topology n p ≡ None)
+        → (supplied_at feeds topology (n + 1) p ≡ (if t then supplied feeds spec else supplied_at feeds topology n p)) × (t ≡ true → supplied_at feeds topology n p ≡ None)
     either true e =
         let same : spec.no.0 * 16 + 0 ≡ p.stage.0 * 16 + p.slot = eqb-true (spec.no.0 * 16 + 0) (place_at p) e in
         let slot : p.slot ≡ 0 = omega (arith, same, low) in
@@ -175,52 +183,52 @@ call_step topology n spec p numbered here low = either (spec.no.0 * 16 + 0 == pl
         let zero_slot : (p.slot == 0) ≡ true = eq-eqb p.slot 0 slot in
         let within : nat_le p.stage.0 (n + 1) ≡ true = le-leb p.stage.0 (n + 1) (omega (arith, stage, no)) in
         let beyond : nat_le p.stage.0 n ≡ false = lt-leb p.stage.0 n (omega (arith, stage, no)) in (
-          chosen (p.slot == 0) (nat_le p.stage.0 (n + 1)) (spec_of topology p.stage) zero_slot within ∙ ap call_in found,
-          λ _. unchosen (p.slot == 0) (nat_le p.stage.0 n) (spec_of topology p.stage) beyond,
+          chosen feeds (p.slot == 0) (nat_le p.stage.0 (n + 1)) (spec_of topology p.stage) zero_slot within ∙ ap (supplied_in feeds) found,
+          λ _. unchosen feeds (p.slot == 0) (nat_le p.stage.0 n) (spec_of topology p.stage) beyond,
         )
     either false e = (slot_one (p.slot == 0) refl (λ same. eqb-false (spec.no.0 * 16 + 0) (place_at p) e (sym same)), λ h. cc)
 
 -- behind the last stage all are opened
-pub opened_all : (topology : Topology) (n : ℕ) (edges : EdgesSeen) (old new : ℕ → Option BodySeen) → n ≤ length topology.stages → length topology.stages ≤ n
-    → AreOpened topology n edges old new → AreOpened topology (length topology.stages) edges old new
-opened_all topology n edges old new within past opened =
+pub opened_all : (feeds : StageSpec → Option Feed) (topology : Topology) (n : ℕ) (edges : EdgesSeen) (old new : ℕ → Option BodySeen) → n ≤ length topology.stages → length topology.stages ≤ n
+    → AreOpened feeds topology n edges old new → AreOpened feeds topology (length topology.stages) edges old new
+opened_all feeds topology n edges old new within past opened =
     let same : n ≡ length topology.stages = omega (arith, within, past) in
-    subst (λ (m : ℕ). AreOpened topology m edges old new) same opened
+    subst (λ (m : ℕ). AreOpened feeds topology m edges old new) same opened
 
-pub opened_start : (topology : Topology) (edges : EdgesSeen) (old : ℕ → Option BodySeen) → IsNumberedTopology topology → AreOpened topology 0 edges old old
-opened_start topology edges old numbered p low =
+pub opened_start : (feeds : StageSpec → Option Feed) (topology : Topology) (edges : EdgesSeen) (old : ℕ → Option BodySeen) → IsNumberedTopology topology → AreOpened feeds topology 0 edges old old
+opened_start feeds topology edges old numbered p low =
     subst (λ c. Both (IsOpened edges c) (old (place_at p)) (old (place_at p))) (sym (none (p.slot == 0) p.stage.0 refl (spec_of topology p.stage) refl)) (same_body edges (old (place_at p)))
   where
-    none : (b : Bool) (n : ℕ) → p.stage.0 ≡ n → (found : Option StageSpec) → spec_of topology p.stage ≡ found → (if b && nat_le n 0 then call_in found else None) ≡ None
+    none : (b : Bool) (n : ℕ) → p.stage.0 ≡ n → (found : Option StageSpec) → spec_of topology p.stage ≡ found → (if b && nat_le n 0 then supplied_in feeds found else None) ≡ None
     none false n is found e = refl
-    none true (suc n) is found e = unchosen true (nat_le (suc n) 0) found (lt-leb (suc n) 0 (omega arith))
+    none true (suc n) is found e = unchosen feeds true (nat_le (suc n) 0) found (lt-leb (suc n) 0 (omega arith))
     none true zero is None e = refl
     none true zero is (Some spec) e = absurd (let w = numbered.within p.stage spec e in omega (arith, w.0, is))
 
 -- one stage more
-pub opened_more : (topology : Topology) (n : ℕ) (spec : StageSpec) (calls : List (EdgeKind × List ℕ)) (a b : EdgesSeen) (old mid new : ℕ → Option BodySeen) → IsNumberedTopology topology → slice_get topology.stages n ≡ Some spec
-    → Asks calls a b → AreOpened topology n a old mid → AreOpenedAt (spec.no.0 * 16 + 0) (edge_call spec) b mid new → AreOpened topology (n + 1) a old new
-opened_more topology n spec calls a b old mid new numbered here asks h k p low =
-    let step = call_step topology n spec p numbered here low in
+pub opened_more : (feeds : StageSpec → Option Feed) (topology : Topology) (n : ℕ) (spec : StageSpec) (calls : List (EdgeKind × List ℕ)) (a b : EdgesSeen) (old mid new : ℕ → Option BodySeen) → IsNumberedTopology topology → slice_get topology.stages n ≡ Some spec
+    → Asks calls a b → AreOpened feeds topology n a old mid → AreOpenedAt (spec.no.0 * 16 + 0) (supplied feeds spec) b mid new → AreOpened feeds topology (n + 1) a old new
+opened_more feeds topology n spec calls a b old mid new numbered here asks h k p low =
+    let step = call_step feeds topology n spec p numbered here low in
     subst (λ c. Both (IsOpened a c) (old (place_at p)) (new (place_at p))) (sym step.0)
-    (body_more calls a b (spec.no.0 * 16 + 0 == place_at p) (call_at topology n p) (edge_call spec) (old (place_at p)) (mid (place_at p)) (new (place_at p)) asks step.1 (h p low) (k (place_at p)))
+    (body_more calls a b (spec.no.0 * 16 + 0 == place_at p) (supplied_at feeds topology n p) (supplied feeds spec) (old (place_at p)) (mid (place_at p)) (new (place_at p)) asks step.1 (h p low) (k (place_at p)))
 
-pub asked_more : (stages : List StageSpec) (n : ℕ) (spec : StageSpec) (a b c : EdgesSeen) → slice_get stages n ≡ Some spec
-    → Asks (calls_of (take n stages)) a b → Asks (one (edge_call spec)) b c → Asks (calls_of (take (n + 1) stages)) a c
-asked_more stages n spec a b c here h k =
-    subst (λ calls. Asks calls a c) (calls_step stages n spec here) (asks_more (calls_of (take n stages)) (one (edge_call spec)) a b c h k)
+pub asked_more : (feeds : StageSpec → Option Feed) (stages : List StageSpec) (n : ℕ) (spec : StageSpec) (a b c : EdgesSeen) → slice_get stages n ≡ Some spec
+    → Asks (calls_of feeds (take n stages)) a b → Asks (one (call_of feeds spec)) b c → Asks (calls_of feeds (take (n + 1) stages)) a c
+asked_more feeds stages n spec a b c here h k =
+    subst (λ calls. Asks calls a c) (calls_step feeds stages n spec here) (asks_more (calls_of feeds (take n stages)) (one (call_of feeds spec)) a b c h k)
 
-pub opened_turn : (topology : Topology) (n at : ℕ) (spec : StageSpec) (calls : List (EdgeKind × List ℕ)) (a b : EdgesSeen) (old mid new : ℕ → Option BodySeen) → IsNumberedTopology topology → slice_get topology.stages n ≡ Some spec
-    → at ≡ spec.no.0 * 16 + 0 → Asks calls a b → AreOpened topology n a old mid → AreOpenedAt at (edge_call spec) b mid new → AreOpened topology (n + 1) a old new
-opened_turn topology n at spec calls a b old mid new numbered here is asks h k =
-    opened_more topology n spec calls a b old mid new numbered here asks h (subst (λ x. AreOpenedAt x (edge_call spec) b mid new) is k)
+pub opened_turn : (feeds : StageSpec → Option Feed) (topology : Topology) (n at : ℕ) (spec : StageSpec) (calls : List (EdgeKind × List ℕ)) (a b : EdgesSeen) (old mid new : ℕ → Option BodySeen) → IsNumberedTopology topology → slice_get topology.stages n ≡ Some spec
+    → at ≡ spec.no.0 * 16 + 0 → Asks calls a b → AreOpened feeds topology n a old mid → AreOpenedAt at (supplied feeds spec) b mid new → AreOpened feeds topology (n + 1) a old new
+opened_turn feeds topology n at spec calls a b old mid new numbered here is asks h k =
+    opened_more feeds topology n spec calls a b old mid new numbered here asks h (subst (λ x. AreOpenedAt x (supplied feeds spec) b mid new) is k)
 
 -- the item at hand of a loop
 pub here_at : {A : Type 0} (xs ys : List A) (n : ℕ) (x : A) → ys ≡ xs → n < length ys → x ≡ get_or ys n x → slice_get xs n ≡ Some x
 here_at xs ys n x e lt is = subst (λ zs. slice_get zs n ≡ Some x) e (slice_get_read ys (length ys) n x refl lt is)
 
 -- the bodies that were there are there still
-still_home : (edges : EdgesSeen) (c : Option (EdgeKind × List ℕ)) (x y : Option BodySeen) → Both (IsOpened edges c) x y → IsSome x → IsSome y
+still_home : (edges : EdgesSeen) (c : Option Supplied) (x y : Option BodySeen) → Both (IsOpened edges c) x y → IsSome x → IsSome y
 still_home edges c (Some x) (Some y) h some = refl
 still_home edges c (Some x) None h some = absurd h
 still_home edges c None y h some = grind arith
@@ -228,26 +236,47 @@ still_home edges c None y h some = grind arith
 pub some_at : (table : ℕ → Option BodySeen) (at place : ℕ) → at ≡ place → IsSome (table place) → IsSome (table at)
 some_at table at place e some = subst (λ x. IsSome (table x)) (sym e) some
 
-pub home_still : (topology : Topology) (at : ℕ) (call : Option (EdgeKind × List ℕ)) (edges : EdgesSeen) (old new : ℕ → Option BodySeen) → AreHome topology old → AreOpenedAt at call edges old new → AreHome topology new
-home_still topology at call edges old new home h s spec found some =
-    still_home edges (if at == place_at (post s 0) then call else None) (old (place_at (post s 0))) (new (place_at (post s 0))) (h (place_at (post s 0))) (home s spec found some)
+pub home_still : (feeds : StageSpec → Option Feed) (topology : Topology) (at : ℕ) (what : Option Supplied) (edges : EdgesSeen) (old new : ℕ → Option BodySeen) → AreHome feeds topology old → AreOpenedAt at what edges old new → AreHome feeds topology new
+home_still feeds topology at what edges old new home h s spec found some =
+    still_home edges (if at == place_at (post s 0) then what else None) (old (place_at (post s 0))) (new (place_at (post s 0))) (h (place_at (post s 0))) (home s spec found some)
 
 -- ---- what a whole opening says of a body
 
-pub opened_stage : (topology : Topology) (s : StageNo) (spec : StageSpec) (edges : EdgesSeen) (old new : ℕ → Option BodySeen) → IsNumberedTopology topology → spec_of topology s ≡ Some spec
-    → AreOpened topology (length topology.stages) edges old new → Both (IsOpened edges (edge_call spec)) (old (place_at (post s 0))) (new (place_at (post s 0)))
-opened_stage topology s spec edges old new numbered found h =
+pub opened_stage : (feeds : StageSpec → Option Feed) (topology : Topology) (s : StageNo) (spec : StageSpec) (edges : EdgesSeen) (old new : ℕ → Option BodySeen) → IsNumberedTopology topology → spec_of topology s ≡ Some spec
+    → AreOpened feeds topology (length topology.stages) edges old new → Both (IsOpened edges (supplied feeds spec)) (old (place_at (post s 0))) (new (place_at (post s 0)))
+opened_stage feeds topology s spec edges old new numbered found h =
     let within : nat_le s.0 (length topology.stages) ≡ true = le-leb s.0 (length topology.stages) (numbered.within s spec found).1 in
-    subst (λ c. Both (IsOpened edges c) (old (place_at (post s 0))) (new (place_at (post s 0)))) (chosen true (nat_le s.0 (length topology.stages)) (spec_of topology s) refl within ∙ ap call_in found) (h (post s 0) (omega arith))
+    subst (λ c. Both (IsOpened edges c) (old (place_at (post s 0))) (new (place_at (post s 0)))) (chosen feeds true (nat_le s.0 (length topology.stages)) (spec_of topology s) refl within ∙ ap (supplied_in feeds) found) (h (post s 0) (omega arith))
 
--- what the call opened is there
-pub given_source : (edges : EdgesSeen) (name : List ℕ) (old new : Option LineSeen) → HasSource edges (Some (Source, name)) old new → (lines : LineSeen) × (new ≡ Some lines) × GivesLines edges name lines
-given_source edges name old (Some lines) h = (lines, refl, h)
-given_source edges name old None h = absurd h
+-- what was supplied is there
+pub given_feed : (edges : EdgesSeen) (feed : Feed) (old new : Option LineSeen) → HasFeed edges (Some (Fed feed)) old new → (lines : LineSeen) × (new ≡ Some lines) × GivesFeed edges feed lines
+given_feed edges feed old (Some lines) h = (lines, refl, h)
+given_feed edges feed old None h = absurd h
 
-pub given_sink : (edges : EdgesSeen) (name : List ℕ) (old new : Option SinkSeen) → HasSink edges (Some (Sink, name)) old new → (sink : SinkSeen) × (new ≡ Some sink) × GivesSink edges name sink
+pub given_sink : (edges : EdgesSeen) (name : List ℕ) (old new : Option SinkSeen) → HasSink edges (Some (Written name)) old new → (sink : SinkSeen) × (new ≡ Some sink) × GivesSink edges name sink
 given_sink edges name old (Some sink) h = (sink, refl, h)
 given_sink edges name old None h = absurd h
+
+-- a call by name opens what is supplied
+abbrev kind_in : Option (EdgeKind × List ℕ) → EdgeKind
+kind_in (Some call) = call.0
+kind_in None = File
+
+abbrev name_in : Option (EdgeKind × List ℕ) → List ℕ
+name_in (Some call) = call.1
+name_in None = []
+
+pub call_opens_source : (what : Option Supplied) (name : List ℕ) → call_for what ≡ Some (Source, name) → what ≡ Some (Fed (Opened name))
+call_opens_source (Some (Fed (Opened n))) name e = let same : n ≡ name = ap name_in e in ap (λ z. Some (Fed (Opened z))) same
+call_opens_source (Some (Fed (Made bytes))) name e = cc
+call_opens_source (Some (Written n)) name e = let kind : Sink ≡ Source = ap kind_in e in cc
+call_opens_source None name e = cc
+
+pub call_opens_sink : (what : Option Supplied) (name : List ℕ) → call_for what ≡ Some (Sink, name) → what ≡ Some (Written name)
+call_opens_sink (Some (Written n)) name e = let same : n ≡ name = ap name_in e in ap (λ z. Some (Written z)) same
+call_opens_sink (Some (Fed (Opened n))) name e = let kind : Source ≡ Sink = ap kind_in e in cc
+call_opens_sink (Some (Fed (Made bytes))) name e = cc
+call_opens_sink None name e = cc
 
 same_as_before : (edges : EdgesSeen) (x y : Option BodySeen) → Both (IsOpened edges None) x y → y ≡ x
 same_as_before edges None None h = refl
@@ -256,8 +285,8 @@ same_as_before edges (Some x) None h = absurd h
 same_as_before edges None (Some y) h = absurd h
 
 -- the body of another slot is as it was
-pub opened_slot : (topology : Topology) (n : ℕ) (p : Post) (edges : EdgesSeen) (old new : ℕ → Option BodySeen) → 1 ≤ p.slot → p.slot < 16 → AreOpened topology n edges old new → new (place_at p) ≡ old (place_at p)
-opened_slot topology n p edges old new least low h =
+pub opened_slot : (feeds : StageSpec → Option Feed) (topology : Topology) (n : ℕ) (p : Post) (edges : EdgesSeen) (old new : ℕ → Option BodySeen) → 1 ≤ p.slot → p.slot < 16 → AreOpened feeds topology n edges old new → new (place_at p) ≡ old (place_at p)
+opened_slot feeds topology n p edges old new least low h =
     let none : (p.slot == 0) ≡ false = ne_eqb p.slot 0 (λ e. omega (arith, e, least)) in
     same_as_before edges (old (place_at p)) (new (place_at p))
-    (subst (λ c. Both (IsOpened edges c) (old (place_at p)) (new (place_at p))) (unslotted (p.slot == 0) (nat_le p.stage.0 n) (spec_of topology p.stage) none) (h p low))
+    (subst (λ c. Both (IsOpened edges c) (old (place_at p)) (new (place_at p))) (unslotted feeds (p.slot == 0) (nat_le p.stage.0 n) (spec_of topology p.stage) none) (h p low))

@@ -2,6 +2,7 @@
 use Rattle.std.proofs.Common.{◌≡◌, ℕ, suc, ◌+◌, ◌*◌, ◌≤◌, List, [], ◌++◌, take, refl, ap, sym, ◌∙◌, subst, arith}
 use Rattle.std.specs.Prelude.{slice_get, ◌==◌, Option, Some, None, Result, Ok, Err, OnErr, if◌then◌else◌}
 use Rattle.std.proofs.lemmas.List.{append-nil, append_assoc}
+use Rattle.std.proofs.lemmas.List.Elements.{All-nil, All-push}
 use Rattle.pipe_types.specs.Numbers.{post}
 use Rattle.pipe_types.specs.declared.topology.StageSpec.{StageSpec}
 use Rattle.pipe_types.specs.declared.topology.Topology.{Topology}
@@ -12,8 +13,9 @@ use Rattle.stage_bodies.specs.Posts.{place_at}
 use Rattle.stage_laws.specs.Numbered.{IsNumberedTopology}
 use Rattle.edge_names.specs.Seen.{EdgesSeen}
 use Rattle.edge_names.specs.Controls.{IsGivenInPart, named_control}
-use Rattle.edge_names.specs.Opened.{AreOpenedAt, IsOpened, edge_call}
-use Rattle.edge_names.specs.Returned.{GivesBack, IsBackInPart, KeepsCallbacks, named_source, named_sink, sources_of, sinks_of}
+use Rattle.edge_names.specs.Opened.{AreOpenedAt, IsOpened}
+use Rattle.edge_names.specs.Returned.{AreCalm, GivesBack, IsBackInPart, IsCalm, KeepsCallbacks, named_source, named_sink, source_in, sources_of, sinks_of}
+use Rattle.edge_names.specs.Supplies.{Feed, Opened, Made, Supplied, Fed, Written, supplied, written}
 use Rattle.edge_names.proofs.Openings.{take_next, flat_map_next}
 
 pub back_nothing : (a : EdgesSeen) → GivesBack [] [] a a
@@ -41,50 +43,50 @@ back_same xs ys a b c h k =
     rw (append-nil xs, append-nil ys) at more
 
 -- the control source was given back, and the first stages
-part_back : (topology : Topology) (control : Option LineSeen) (table : ℕ → Option BodySeen) (a b c : EdgesSeen) → GivesBack (named_control topology.control control) [] a b → IsBackInPart topology table b c → IsGivenInPart topology control table a c
-part_back topology control table a b c first part = record {
+part_back : (feeds : StageSpec → Option Feed) (topology : Topology) (control : Option LineSeen) (table : ℕ → Option BodySeen) (a b c : EdgesSeen) → GivesBack (named_control topology.control control) [] a b → IsBackInPart feeds topology table b c → IsGivenInPart feeds topology control table a c
+part_back feeds topology control table a b c first part = record {
   parts = suc part.stages;
   some_left = omega (arith, part.some_left);
-  back = back_more (named_control topology.control control) (sources_of (take part.stages topology.stages) table) [] (sinks_of (take part.stages topology.stages) table) a b c first part.back;
+  back = back_more (named_control topology.control control) (sources_of feeds (take part.stages topology.stages) table) [] (sinks_of feeds (take part.stages topology.stages) table) a b c first part.back;
 }
 
-pub part_back_on : (T E : Type 0) (r : Result T E) (topology : Topology) (control : Option LineSeen) (table : ℕ → Option BodySeen) (a b c : EdgesSeen) → GivesBack (named_control topology.control control) [] a b
-    → OnErr r (IsBackInPart topology table b c) → OnErr r (IsGivenInPart topology control table a c)
-part_back_on T E (Ok done) topology control table a b c first part = tt
-part_back_on T E (Err error) topology control table a b c first part = part_back topology control table a b c first part
+pub part_back_on : (feeds : StageSpec → Option Feed) (T E : Type 0) (r : Result T E) (topology : Topology) (control : Option LineSeen) (table : ℕ → Option BodySeen) (a b c : EdgesSeen) → GivesBack (named_control topology.control control) [] a b
+    → OnErr r (IsBackInPart feeds topology table b c) → OnErr r (IsGivenInPart feeds topology control table a c)
+part_back_on feeds T E (Ok done) topology control table a b c first part = tt
+part_back_on feeds T E (Err error) topology control table a b c first part = part_back feeds topology control table a b c first part
 
 -- nothing was given back
-pub none_back : (topology : Topology) (control : Option LineSeen) (table : ℕ → Option BodySeen) (a b : EdgesSeen) → GivesBack [] [] a b → IsGivenInPart topology control table a b
-none_back topology control table a b back = record { parts = 0; some_left = omega arith; back = back }
+pub none_back : (feeds : StageSpec → Option Feed) (topology : Topology) (control : Option LineSeen) (table : ℕ → Option BodySeen) (a b : EdgesSeen) → GivesBack [] [] a b → IsGivenInPart feeds topology control table a b
+none_back feeds topology control table a b back = record { parts = 0; some_left = omega arith; back = back }
 
-sources_step : (stages : List StageSpec) (n : ℕ) (spec : StageSpec) (was : ℕ → Option BodySeen) → slice_get stages n ≡ Some spec
-    → sources_of (take n stages) was ++ named_source (edge_call spec) (was (place_at (post spec.no 0))) ≡ sources_of (take (n + 1) stages) was
-sources_step stages n spec was here =
-    sym (ap (λ (xs : List StageSpec). sources_of xs was) (take_next stages n spec here) ∙ flat_map_next (λ (s : StageSpec). named_source (edge_call s) (was (place_at (post s.no 0)))) (take n stages) spec)
+sources_step : (feeds : StageSpec → Option Feed) (stages : List StageSpec) (n : ℕ) (spec : StageSpec) (was : ℕ → Option BodySeen) → slice_get stages n ≡ Some spec
+    → sources_of feeds (take n stages) was ++ named_source (supplied feeds spec) (was (place_at (post spec.no 0))) ≡ sources_of feeds (take (n + 1) stages) was
+sources_step feeds stages n spec was here =
+    sym (ap (λ (xs : List StageSpec). sources_of feeds xs was) (take_next stages n spec here) ∙ flat_map_next (λ (s : StageSpec). named_source (supplied feeds s) (was (place_at (post s.no 0)))) (take n stages) spec)
 
-sinks_step : (stages : List StageSpec) (n : ℕ) (spec : StageSpec) (was : ℕ → Option BodySeen) → slice_get stages n ≡ Some spec
-    → sinks_of (take n stages) was ++ named_sink (edge_call spec) (was (place_at (post spec.no 0))) ≡ sinks_of (take (n + 1) stages) was
-sinks_step stages n spec was here =
-    sym (ap (λ (xs : List StageSpec). sinks_of xs was) (take_next stages n spec here) ∙ flat_map_next (λ (s : StageSpec). named_sink (edge_call s) (was (place_at (post s.no 0)))) (take n stages) spec)
+sinks_step : (feeds : StageSpec → Option Feed) (stages : List StageSpec) (n : ℕ) (spec : StageSpec) (was : ℕ → Option BodySeen) → slice_get stages n ≡ Some spec
+    → sinks_of feeds (take n stages) was ++ named_sink (supplied feeds spec) (was (place_at (post spec.no 0))) ≡ sinks_of feeds (take (n + 1) stages) was
+sinks_step feeds stages n spec was here =
+    sym (ap (λ (xs : List StageSpec). sinks_of feeds xs was) (take_next stages n spec here) ∙ flat_map_next (λ (s : StageSpec). named_sink (supplied feeds s) (was (place_at (post s.no 0)))) (take n stages) spec)
 
 -- one stage more
-pub back_turn : (topology : Topology) (n at : ℕ) (spec : StageSpec) (was now : ℕ → Option BodySeen) (a b c : EdgesSeen) → IsNumberedTopology topology → slice_get topology.stages n ≡ Some spec
+pub back_turn : (feeds : StageSpec → Option Feed) (topology : Topology) (n at : ℕ) (spec : StageSpec) (was now : ℕ → Option BodySeen) (a b c : EdgesSeen) → IsNumberedTopology topology → slice_get topology.stages n ≡ Some spec
     → at ≡ spec.no.0 * 16 + 0 → ((s : ℕ) → (n + 1) * 16 ≤ s → now s ≡ was s)
-    → GivesBack (sources_of (take n topology.stages) was) (sinks_of (take n topology.stages) was) a b
-    → GivesBack (named_source (edge_call spec) (now at)) (named_sink (edge_call spec) (now at)) b c
-    → GivesBack (sources_of (take (n + 1) topology.stages) was) (sinks_of (take (n + 1) topology.stages) was) a c
-back_turn topology n at spec was now a b c numbered here is rest h k =
+    → GivesBack (sources_of feeds (take n topology.stages) was) (sinks_of feeds (take n topology.stages) was) a b
+    → GivesBack (named_source (supplied feeds spec) (now at)) (named_sink (supplied feeds spec) (now at)) b c
+    → GivesBack (sources_of feeds (take (n + 1) topology.stages) was) (sinks_of feeds (take (n + 1) topology.stages) was) a c
+back_turn feeds topology n at spec was now a b c numbered here is rest h k =
     let no = numbered.numbers n spec here in
     let place = place_at (post spec.no 0) in
-    let sources = sources_of (take n topology.stages) was in
-    let sinks = sinks_of (take n topology.stages) was in
-    let source = named_source (edge_call spec) (was place) in
-    let sink = named_sink (edge_call spec) (was place) in
+    let sources = sources_of feeds (take n topology.stages) was in
+    let sinks = sinks_of feeds (take n topology.stages) was in
+    let source = named_source (supplied feeds spec) (was place) in
+    let sink = named_sink (supplied feeds spec) (was place) in
     let same : now at ≡ was place = ap now is ∙ rest place (omega (arith, no)) in
-    let given = subst (λ x. GivesBack (named_source (edge_call spec) x) (named_sink (edge_call spec) x) b c) same k in
+    let given = subst (λ x. GivesBack (named_source (supplied feeds spec) x) (named_sink (supplied feeds spec) x) b c) same k in
     let more : GivesBack (sources ++ source) (sinks ++ sink) a c = back_more sources source sinks sink a b c h given in
-    let by_sources = subst (λ xs. GivesBack xs (sinks ++ sink) a c) (sources_step topology.stages n spec was here) more in
-    subst (λ ys. GivesBack (sources_of (take (n + 1) topology.stages) was) ys a c) (sinks_step topology.stages n spec was here) by_sources
+    let by_sources = subst (λ xs. GivesBack xs (sinks ++ sink) a c) (sources_step feeds topology.stages n spec was here) more in
+    subst (λ ys. GivesBack (sources_of feeds (take (n + 1) topology.stages) was) ys a c) (sinks_step feeds topology.stages n spec was here) by_sources
 
 pub rest_turn : (topology : Topology) (n at : ℕ) (spec : StageSpec) (was now next : ℕ → Option BodySeen) → IsNumberedTopology topology → slice_get topology.stages n ≡ Some spec
     → at ≡ spec.no.0 * 16 + 0 → ((s : ℕ) → (n + 1) * 16 ≤ s → now s ≡ was s) → ((s : ℕ) → ¬ (at ≡ s) → next s ≡ now s)
@@ -111,11 +113,41 @@ same_callback None = tt
 pub callbacks_same : (x : ℕ → Option BodySeen) → KeepsCallbacks x x
 callbacks_same x at = same_callback (x at)
 
-one_callback : (call : Option (EdgeKind × List ℕ)) (edges : EdgesSeen) (x y : Option BodySeen) → Both (IsOpened edges call) x y → Both (λ (before now : BodySeen). now.callback ≡ before.callback) x y
-one_callback call edges (Some x) (Some y) h = h.callback
-one_callback call edges None None h = tt
-one_callback call edges (Some x) None h = absurd h
-one_callback call edges None (Some y) h = absurd h
+one_callback : (what : Option Supplied) (edges : EdgesSeen) (x y : Option BodySeen) → Both (IsOpened edges what) x y → Both (λ (before now : BodySeen). now.callback ≡ before.callback) x y
+one_callback what edges (Some x) (Some y) h = h.callback
+one_callback what edges None None h = tt
+one_callback what edges (Some x) None h = absurd h
+one_callback what edges None (Some y) h = absurd h
 
-pub callbacks_at : (at : ℕ) (call : Option (EdgeKind × List ℕ)) (edges : EdgesSeen) (x y : ℕ → Option BodySeen) → AreOpenedAt at call edges x y → KeepsCallbacks x y
-callbacks_at at call edges x y h s = one_callback (if at == s then call else None) edges (x s) (y s) (h s)
+pub callbacks_at : (at : ℕ) (what : Option Supplied) (edges : EdgesSeen) (x y : ℕ → Option BodySeen) → AreOpenedAt at what edges x y → KeepsCallbacks x y
+callbacks_at at what edges x y h s = one_callback (if at == s then what else None) edges (x s) (y s) (h s)
+
+-- ---- made sources
+
+-- where no source stands, and where a sink is written
+pub calm_none : (what : Option Supplied) (source : Option SourceSeen) → None ≡ source → IsCalm what source
+calm_none (Some (Fed (Made bytes))) None e = tt
+calm_none (Some (Fed (Made bytes))) (Some source) e = cc
+calm_none (Some (Fed (Opened name))) source e = tt
+calm_none (Some (Written name)) source e = tt
+calm_none None source e = tt
+
+pub calm_written : (name : Option (List ℕ)) (source : Option SourceSeen) → IsCalm (written name) source
+calm_written (Some name) source = tt
+calm_written None source = tt
+
+abbrev calm_in : (StageSpec → Option Feed) → (ℕ → Option BodySeen) → StageSpec → Type 0
+calm_in feeds table spec = IsCalm (supplied feeds spec) (source_in (table (place_at (post spec.no 0))))
+
+-- before the first stage, and one stage more
+pub calm_start : (feeds : StageSpec → Option Feed) (was : ℕ → Option BodySeen) → AreCalm feeds [] was
+calm_start feeds was = All-nil (calm_in feeds was)
+
+pub calm_turn : (feeds : StageSpec → Option Feed) (topology : Topology) (n at : ℕ) (spec : StageSpec) (was now : ℕ → Option BodySeen) → IsNumberedTopology topology → slice_get topology.stages n ≡ Some spec
+    → at ≡ spec.no.0 * 16 + 0 → ((s : ℕ) → (n + 1) * 16 ≤ s → now s ≡ was s)
+    → AreCalm feeds (take n topology.stages) was → IsCalm (supplied feeds spec) (source_in (now at)) → AreCalm feeds (take (n + 1) topology.stages) was
+calm_turn feeds topology n at spec was now numbered here is rest h k =
+    let no = numbered.numbers n spec here in
+    let same : now at ≡ was (place_at (post spec.no 0)) = ap now is ∙ rest (place_at (post spec.no 0)) (omega (arith, no)) in
+    let calm : calm_in feeds was spec = subst (λ x. IsCalm (supplied feeds spec) (source_in x)) same k in
+    subst (λ (xs : List StageSpec). AreCalm feeds xs was) (sym (take_next topology.stages n spec here)) (All-push (calm_in feeds was) (take n topology.stages) spec h calm)

@@ -6,42 +6,32 @@ use Rattle.pipe_types.specs.Numbers.{post}
 use Rattle.pipe_types.specs.Stages.{spec_of}
 use Rattle.pipe_types.specs.declared.numbers.StageNo.{StageNo}
 use Rattle.pipe_types.specs.declared.numbers.Post.{Post}
-use Rattle.pipe_types.specs.declared.topology.Role.{Role}
-use Rattle.pipe_types.specs.declared.topology.Role.TheVariants.{Producer, BatchProcessor}
 use Rattle.pipe_types.specs.declared.topology.StageSpec.{StageSpec}
 use Rattle.pipe_types.specs.declared.topology.Topology.{Topology}
 use Rattle.pipe_edges.specs.Named.{StandsAsBefore}
 use Rattle.pipe_edges.specs.declared.edges.EdgeKind.{EdgeKind}
-use Rattle.pipe_edges.specs.declared.edges.EdgeKind.TheVariants.{Source, Sink}
+use Rattle.pipe_edges.specs.declared.edges.EdgeKind.TheVariants.{Source}
 use Rattle.stage_bodies.specs.Seen.{SourceSeen, SinkSeen, LineSeen, BodySeen}
 use Rattle.stage_bodies.specs.Jobs.{Both}
 use Rattle.stage_bodies.specs.Posts.{place_at}
 use Rattle.edge_names.specs.Seen.{EdgesSeen}
 use Rattle.edge_names.specs.Named.{GivesSource, GivesSink}
+use Rattle.edge_names.specs.Supplies.{Feed, Opened, Made, Supplied, Fed, Written, IsMade, call_for, call_of, supplied}
 use Rattle.edge_names.specs.declared.opening.Unopened.{Unopened}
 use Rattle.edge_names.specs.declared.opening.Unopened.TheVariants.{Failed, OutOfMemory}
 
 -- ---- calls
-
-abbrev pub call_by : Role → Option (List ℕ) → Option (EdgeKind × List ℕ)
-call_by Producer (Some name) = Some (Source, name)
-call_by BatchProcessor (Some name) = Some (Sink, name)
-call_by _ _ = None
-
--- the call that a stage makes: a producer opens its source, a batch processor its sink, if it has one
-abbrev pub edge_call : StageSpec → Option (EdgeKind × List ℕ)
-edge_call spec = call_by spec.role spec.edge
 
 abbrev pub one : {A : Type 0} → Option A → List A
 one (Some x) = x ∷ []
 one None = []
 
 -- the calls of these stages, in their order
-abbrev pub calls_of : List StageSpec → List (EdgeKind × List ℕ)
-calls_of stages = flat_map (λ spec. one (edge_call spec)) stages
+abbrev pub calls_of : (StageSpec → Option Feed) → List StageSpec → List (EdgeKind × List ℕ)
+calls_of feeds stages = flat_map (λ spec. one (call_of feeds spec)) stages
 
-abbrev pub edge_calls : Topology → List (EdgeKind × List ℕ)
-edge_calls topology = calls_of topology.stages
+abbrev pub edge_calls : (StageSpec → Option Feed) → Topology → List (EdgeKind × List ℕ)
+edge_calls feeds topology = calls_of feeds topology.stages
 
 -- these calls were made, and nothing was given back
 pub record Asks (calls : List (EdgeKind × List ℕ)) (old new : EdgesSeen) : Type 0 where
@@ -69,34 +59,57 @@ HasSource edges (Some (Source, name)) old (Some lines) = GivesLines edges name l
 HasSource edges (Some (Source, name)) old None = ⊥
 HasSource edges _ old new = new ≡ old
 
-abbrev pub HasSink : EdgesSeen → Option (EdgeKind × List ℕ) → (old new : Option SinkSeen) → Type 0
-HasSink edges (Some (Sink, name)) old (Some sink) = GivesSink edges name sink
-HasSink edges (Some (Sink, name)) old None = ⊥
-HasSink edges _ old new = new ≡ old
+-- a source of these bytes, of which no line was read
+pub record GivesMade (bytes : List ℕ) (lines : LineSeen) : Type 0 where
+  pub source : IsMade bytes lines.source
+  pub nothing_waits : lines.waiting ≡ []
+  pub no_end : lines.end ≡ None
 
--- the body has what the call opened, and is else as it was
-pub record IsOpened (edges : EdgesSeen) (call : Option (EdgeKind × List ℕ)) (old new : BodySeen) : Type 0 where
-  pub source : HasSource edges call old.source new.source
-  pub sink : HasSink edges call old.sink new.sink
+abbrev pub GivesFeed : EdgesSeen → Feed → LineSeen → Type 0
+GivesFeed edges (Opened name) lines = GivesLines edges name lines
+GivesFeed edges (Made bytes) lines = GivesMade bytes lines
+
+-- the source that a body has where this was supplied
+abbrev pub HasFeed : EdgesSeen → Option Supplied → (old new : Option LineSeen) → Type 0
+HasFeed edges (Some (Fed feed)) old (Some lines) = GivesFeed edges feed lines
+HasFeed edges (Some (Fed feed)) old None = ⊥
+HasFeed edges (Some (Written name)) old new = new ≡ old
+HasFeed edges None old new = new ≡ old
+
+-- the sink that a body has where this was supplied
+abbrev pub HasSink : EdgesSeen → Option Supplied → (old new : Option SinkSeen) → Type 0
+HasSink edges (Some (Written name)) old (Some sink) = GivesSink edges name sink
+HasSink edges (Some (Written name)) old None = ⊥
+HasSink edges (Some (Fed feed)) old new = new ≡ old
+HasSink edges None old new = new ≡ old
+
+-- the body has what was supplied, and is else as it was
+pub record IsOpened (edges : EdgesSeen) (what : Option Supplied) (old new : BodySeen) : Type 0 where
+  pub source : HasFeed edges what old.source new.source
+  pub sink : HasSink edges what old.sink new.sink
   pub callback : new.callback ≡ old.callback
 
-abbrev pub call_in : Option StageSpec → Option (EdgeKind × List ℕ)
-call_in (Some spec) = edge_call spec
-call_in None = None
+abbrev pub supplied_in : (StageSpec → Option Feed) → Option StageSpec → Option Supplied
+supplied_in feeds (Some spec) = supplied feeds spec
+supplied_in feeds None = None
 
--- the call for the body of a post, where the first n stages made theirs: a stage's is for its slot 0
-abbrev pub call_at : Topology → (n : ℕ) → Post → Option (EdgeKind × List ℕ)
-call_at topology n p = if p.slot == 0 && nat_le p.stage.0 n then call_in (spec_of topology p.stage) else None
+abbrev pub call_in : (StageSpec → Option Feed) → Option StageSpec → Option (EdgeKind × List ℕ)
+call_in feeds (Some spec) = call_of feeds spec
+call_in feeds None = None
 
--- the bodies have what the first n stages opened, and are else as they were
-abbrev pub AreOpened : Topology → (n : ℕ) → EdgesSeen → (old new : ℕ → Option BodySeen) → Type 0
-AreOpened topology n edges old new =
-    (p : Post) → p.slot < 16 → Both (IsOpened edges (call_at topology n p)) (old (place_at p)) (new (place_at p))
+-- what the body of a post is supplied with, where the first n stages were: a stage's is for its slot 0
+abbrev pub supplied_at : (StageSpec → Option Feed) → Topology → (n : ℕ) → Post → Option Supplied
+supplied_at feeds topology n p = if p.slot == 0 && nat_le p.stage.0 n then supplied_in feeds (spec_of topology p.stage) else None
 
--- the body of every stage that opens something is there
-abbrev pub AreHome : Topology → (ℕ → Option BodySeen) → Type 0
-AreHome topology table =
-    (s : StageNo) (spec : StageSpec) → spec_of topology s ≡ Some spec → IsSome (edge_call spec) → IsSome (table (place_at (post s 0)))
+-- the bodies have what the first n stages were supplied with, and are else as they were
+abbrev pub AreOpened : (StageSpec → Option Feed) → Topology → (n : ℕ) → EdgesSeen → (old new : ℕ → Option BodySeen) → Type 0
+AreOpened feeds topology n edges old new =
+    (p : Post) → p.slot < 16 → Both (IsOpened edges (supplied_at feeds topology n p)) (old (place_at p)) (new (place_at p))
+
+-- the body of every stage that is supplied with something is there
+abbrev pub AreHome : (StageSpec → Option Feed) → Topology → (ℕ → Option BodySeen) → Type 0
+AreHome feeds topology table =
+    (s : StageNo) (spec : StageSpec) → spec_of topology s ≡ Some spec → IsSome (supplied feeds spec) → IsSome (table (place_at (post s 0)))
 
 -- ---- what is not opened
 
@@ -109,15 +122,15 @@ IfCutOff (Failed name) P = Unit {0}
 IfCutOff OutOfMemory P = P
 
 -- the call of a stage failed by this name, after those of the stages before it, whose bodies have what these opened
-pub record IsFailed (topology : Topology) (name : List ℕ) (old new : EdgesSeen) (start now : ℕ → Option BodySeen) : Type 0 where
+pub record IsFailed (feeds : StageSpec → Option Feed) (topology : Topology) (name : List ℕ) (old new : EdgesSeen) (start now : ℕ → Option BodySeen) : Type 0 where
   pub at : ℕ
   pub kind : EdgeKind
   pub spec : StageSpec
   pub here : slice_get topology.stages at ≡ Some spec
-  pub call : edge_call spec ≡ Some (kind, name)
-  pub asks : Asks (calls_of (take at topology.stages) ++ (kind, name) ∷ []) old new
+  pub call : call_of feeds spec ≡ Some (kind, name)
+  pub asks : Asks (calls_of feeds (take at topology.stages) ++ (kind, name) ∷ []) old new
   pub fault : Rose old.faults new.faults
-  pub bodies : AreOpened topology at old start now
+  pub bodies : AreOpened feeds topology at old start now
 
 -- what a call leaves where memory was wanting: it was not made, or it opened a source for whose lines there was no memory. That
 -- went back under its name, or was let go where there was no memory for that either
@@ -128,13 +141,13 @@ pub data IsCut (edges : EdgesSeen) (call : Option (EdgeKind × List ℕ)) (calls
 
 -- ---- one stage
 
--- the body at this place has what the call opened, and all others are as they were
-abbrev pub AreOpenedAt : (at : ℕ) → Option (EdgeKind × List ℕ) → EdgesSeen → (old new : ℕ → Option BodySeen) → Type 0
-AreOpenedAt at call edges old new = (s : ℕ) → Both (IsOpened edges (if at == s then call else None)) (old s) (new s)
+-- the body at this place has what was supplied, and all others are as they were
+abbrev pub AreOpenedAt : (at : ℕ) → Option Supplied → EdgesSeen → (old new : ℕ → Option BodySeen) → Type 0
+AreOpenedAt at what edges old new = (s : ℕ) → Both (IsOpened edges (if at == s then what else None)) (old s) (new s)
 
-pub record IsOneOpened (call : Option (EdgeKind × List ℕ)) (at : ℕ) (old new : EdgesSeen) (start now : ℕ → Option BodySeen) : Type 0 where
-  pub asks : Asks (one call) old new
-  pub bodies : AreOpenedAt at call old start now
+pub record IsOneOpened (what : Option Supplied) (at : ℕ) (old new : EdgesSeen) (start now : ℕ → Option BodySeen) : Type 0 where
+  pub asks : Asks (one (call_for what)) old new
+  pub bodies : AreOpenedAt at what old start now
 
 -- the call failed by this name
 pub record IsOneFailed (call : Option (EdgeKind × List ℕ)) (name : List ℕ) (old new : EdgesSeen) : Type 0 where
@@ -155,10 +168,10 @@ pub record IsOneCut (call : Option (EdgeKind × List ℕ)) (old new : EdgesSeen)
   pub faults_stay : old.faults ≤ new.faults
 
 -- what the opening of one stage comes to
-abbrev pub OpensOne : {T : Type 0} → Option (EdgeKind × List ℕ) → (at : ℕ) → Result T Unopened → (old new : EdgesSeen) → (start now : ℕ → Option BodySeen) → Type 0
-OpensOne call at (Ok _) old new start now = IsOneOpened call at old new start now
-OpensOne call at (Err (Failed name)) old new start now = IsOneFailed call name old new
-OpensOne call at (Err OutOfMemory) old new start now = IsOneCut call old new
+abbrev pub OpensOne : {T : Type 0} → Option Supplied → (at : ℕ) → Result T Unopened → (old new : EdgesSeen) → (start now : ℕ → Option BodySeen) → Type 0
+OpensOne what at (Ok _) old new start now = IsOneOpened what at old new start now
+OpensOne what at (Err (Failed name)) old new start now = IsOneFailed (call_for what) name old new
+OpensOne what at (Err OutOfMemory) old new start now = IsOneCut (call_for what) old new
 
 -- a source without memory for its lines went back under its name, or was let go where there was no memory for that either
 pub record IsReturned (name : List ℕ) (source : SourceSeen) (old new : EdgesSeen) : Type 0 where
@@ -173,16 +186,16 @@ pub record IsReturned (name : List ℕ) (source : SourceSeen) (old new : EdgesSe
 -- ---- all stages
 
 -- memory was wanting at a stage, after the calls of the stages before it, whose bodies have what these opened
-pub record IsCutOff (topology : Topology) (old new : EdgesSeen) (start now : ℕ → Option BodySeen) : Type 0 where
+pub record IsCutOff (feeds : StageSpec → Option Feed) (topology : Topology) (old new : EdgesSeen) (start now : ℕ → Option BodySeen) : Type 0 where
   pub at : ℕ
   pub spec : StageSpec
   pub here : slice_get topology.stages at ≡ Some spec
   pub calls : List (EdgeKind × List ℕ)
   pub back : List (List ℕ × SourceSeen)
-  pub cut : IsCut old (edge_call spec) calls back
+  pub cut : IsCut old (call_of feeds spec) calls back
   pub same_telling : new.told ≡ old.told
-  pub asked : IsTrue old.told → new.asked ≡ old.asked ++ (calls_of (take at topology.stages) ++ calls)
+  pub asked : IsTrue old.told → new.asked ≡ old.asked ++ (calls_of feeds (take at topology.stages) ++ calls)
   pub sources : new.sources_back ≡ old.sources_back ++ back
   pub sinks : new.sinks_back ≡ old.sinks_back
   pub faults_stay : old.faults ≤ new.faults
-  pub bodies : AreOpened topology at old start now
+  pub bodies : AreOpened feeds topology at old start now

@@ -1,16 +1,14 @@
 -- What a run gives back by name, stage by stage.
-use Rattle.std.specs.Prelude.{◌≡◌, ◌<◌, ◌++◌, ℕ, List, [], ◌∷◌, length, take, Option, Some, None, option_map, IsTrue}
+use Rattle.std.specs.Prelude.{◌≡◌, ◌<◌, ◌++◌, ℕ, List, [], ◌∷◌, length, take, Option, Some, None, option_map, IsTrue, All}
 use Rattle.std.specs.List.{flat_map}
 use Rattle.pipe_types.specs.Numbers.{post}
 use Rattle.pipe_types.specs.declared.topology.StageSpec.{StageSpec}
 use Rattle.pipe_types.specs.declared.topology.Topology.{Topology}
-use Rattle.pipe_edges.specs.declared.edges.EdgeKind.{EdgeKind}
-use Rattle.pipe_edges.specs.declared.edges.EdgeKind.TheVariants.{Source, Sink}
 use Rattle.stage_bodies.specs.Seen.{SourceSeen, SinkSeen, BodySeen}
 use Rattle.stage_bodies.specs.Jobs.{Both}
 use Rattle.stage_bodies.specs.Posts.{place_at}
 use Rattle.edge_names.specs.Seen.{EdgesSeen}
-use Rattle.edge_names.specs.Opened.{edge_call}
+use Rattle.edge_names.specs.Supplies.{Feed, Opened, Made, Supplied, Fed, Written, given_back, supplied}
 
 -- ---- what is given back
 
@@ -26,23 +24,29 @@ abbrev pub with_name : {A : Type 0} → List ℕ → Option A → List (List ℕ
 with_name name (Some x) = (name, x) ∷ []
 with_name name None = []
 
--- the source that stands in the body of a stage that opened one, with its name
-abbrev pub named_source : Option (EdgeKind × List ℕ) → Option BodySeen → List (List ℕ × SourceSeen)
-named_source (Some (Source, name)) body = with_name name (source_in body)
-named_source _ body = []
+-- a source, as it is given back where this was supplied
+abbrev pub fed_back : Option Supplied → Option SourceSeen → List (List ℕ × SourceSeen)
+fed_back (Some (Fed feed)) source = given_back feed source
+fed_back (Some (Written name)) source = []
+fed_back None source = []
+
+-- the source that stands in the body of a producer, as it is given back, with its name
+abbrev pub named_source : Option Supplied → Option BodySeen → List (List ℕ × SourceSeen)
+named_source what body = fed_back what (source_in body)
 
 -- the sink that stands in the body of a stage that opened one, with its name
-abbrev pub named_sink : Option (EdgeKind × List ℕ) → Option BodySeen → List (List ℕ × SinkSeen)
-named_sink (Some (Sink, name)) body = with_name name (sink_in body)
-named_sink _ body = []
+abbrev pub named_sink : Option Supplied → Option BodySeen → List (List ℕ × SinkSeen)
+named_sink (Some (Written name)) body = with_name name (sink_in body)
+named_sink (Some (Fed feed)) body = []
+named_sink None body = []
 
--- the sources of these stages, with their names, in stage order
-abbrev pub sources_of : List StageSpec → (ℕ → Option BodySeen) → List (List ℕ × SourceSeen)
-sources_of stages table = flat_map (λ spec. named_source (edge_call spec) (table (place_at (post spec.no 0)))) stages
+-- the sources of these stages that are given back, with their names, in stage order
+abbrev pub sources_of : (StageSpec → Option Feed) → List StageSpec → (ℕ → Option BodySeen) → List (List ℕ × SourceSeen)
+sources_of feeds stages table = flat_map (λ spec. named_source (supplied feeds spec) (table (place_at (post spec.no 0)))) stages
 
 -- the sinks of these stages, with their names, in stage order
-abbrev pub sinks_of : List StageSpec → (ℕ → Option BodySeen) → List (List ℕ × SinkSeen)
-sinks_of stages table = flat_map (λ spec. named_sink (edge_call spec) (table (place_at (post spec.no 0)))) stages
+abbrev pub sinks_of : (StageSpec → Option Feed) → List StageSpec → (ℕ → Option BodySeen) → List (List ℕ × SinkSeen)
+sinks_of feeds stages table = flat_map (λ spec. named_sink (supplied feeds spec) (table (place_at (post spec.no 0)))) stages
 
 -- these were given back, and nothing was asked
 pub record GivesBack (sources : List (List ℕ × SourceSeen)) (sinks : List (List ℕ × SinkSeen)) (old new : EdgesSeen) : Type 0 where
@@ -53,10 +57,22 @@ pub record GivesBack (sources : List (List ℕ × SourceSeen)) (sinks : List (Li
   pub no_fault : new.faults ≡ old.faults
 
 -- memory was wanting: what the first stages opened was given back
-pub record IsBackInPart (topology : Topology) (table : ℕ → Option BodySeen) (old new : EdgesSeen) : Type 0 where
+pub record IsBackInPart (feeds : StageSpec → Option Feed) (topology : Topology) (table : ℕ → Option BodySeen) (old new : EdgesSeen) : Type 0 where
   pub stages : ℕ
   pub some_left : stages < length topology.stages
-  pub back : GivesBack (sources_of (take stages topology.stages) table) (sinks_of (take stages topology.stages) table) old new
+  pub back : GivesBack (sources_of feeds (take stages topology.stages) table) (sinks_of feeds (take stages topology.stages) table) old new
+
+-- a source that was made has counted no fault and no wait
+abbrev pub IsCalm : Option Supplied → Option SourceSeen → Type 0
+IsCalm (Some (Fed (Made bytes))) (Some source) = (source.faults ≡ 0) × (source.waits ≡ 0)
+IsCalm (Some (Fed (Made bytes))) None = Unit {0}
+IsCalm (Some (Fed (Opened name))) source = Unit {0}
+IsCalm (Some (Written name)) source = Unit {0}
+IsCalm None source = Unit {0}
+
+-- the sources that were made for these stages, as they stand in the bodies, have counted no fault and no wait
+abbrev pub AreCalm : (StageSpec → Option Feed) → List StageSpec → (ℕ → Option BodySeen) → Type 0
+AreCalm feeds stages table = All (λ spec. IsCalm (supplied feeds spec) (source_in (table (place_at (post spec.no 0))))) stages
 
 -- every body has the callback that it had
 abbrev pub KeepsCallbacks : (old new : ℕ → Option BodySeen) → Type 0

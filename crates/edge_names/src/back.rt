@@ -4,11 +4,12 @@ ghost use Rattle.std.specs.Prelude.{◌≡◌, ◌≢◌, ◌++◌, ℕ, [], len
 ghost use Rattle.pipe_types.specs.Sound.{IsSound};
 ghost use Rattle.stage_bodies.specs.Seen.{body_at, line_seen};
 ghost use Rattle.edge_names.specs.Controls.{IsGivenInPart, named_control};
-ghost use Rattle.edge_names.specs.Opened.{edge_call};
-ghost use Rattle.edge_names.specs.Returned.{GivesBack, IsBackInPart, KeepsCallbacks, named_source, named_sink, source_in, sink_in, sources_of, sinks_of};
+ghost use Rattle.edge_names.specs.Supplies.{supplied, written};
+ghost use Rattle.edge_names.specs.Returned.{AreCalm, GivesBack, IsBackInPart, IsCalm, KeepsCallbacks, named_source, named_sink, source_in, sink_in, sources_of, sinks_of};
 
 use crate::control::back_control;
-use crate::seen::{SeenEdges, SeenSink, SeenSource, back_sink, back_source};
+use crate::seen::{SeenEdges, SeenSink, SeenSource, back_sink};
+use crate::supply::Supply;
 use pipe_edges::{ByteSink, ByteSource, Edges, LineSource};
 use pipe_types::numbers::Post;
 use pipe_types::topology::{Role, StageSpec, Topology};
@@ -49,14 +50,14 @@ fn sink_out<S: ByteSource, K: ByteSink, B: Houses<S, K>>(
     sink
 }
 
-/// Gives back what a stage opened, if it stands in the body at this place.
-fn back_stage<E: Edges, B: Houses<E::Source, E::Sink>>(
+/// Gives the sink that the stage names back, if it stands in the body at this place.
+fn back_sink_of<E: Edges, P: ByteSource, B: Houses<P, E::Sink>>(
     spec: &StageSpec,
     at: usize,
     bodies: &mut Vec<Option<B>>,
     edges: &mut E,
 ) -> Result<(), AllocError>
-    ensures back { OnOk result (GivesBack (named_source (edge_call spec.now) (body_at B.look bodies.old.items at)) (named_sink (edge_call spec.now) (body_at B.look bodies.old.items at))
+    ensures back { OnOk result (GivesBack [] (named_sink (written spec.now.edge) (body_at B.look bodies.old.items at))
         (⟦<E as SeenEdges>⟧.seen edges.old) (⟦<E as SeenEdges>⟧.seen edges.new)) }
     ensures nothing { OnErr result (GivesBack [] [] (⟦<E as SeenEdges>⟧.seen edges.old) (⟦<E as SeenEdges>⟧.seen edges.new)) }
     ensures others { (s : ℕ) → at ≢ s → body_at B.look bodies.new.items s ≡ body_at B.look bodies.old.items s }
@@ -66,30 +67,52 @@ fn back_stage<E: Edges, B: Houses<E::Source, E::Sink>>(
     let Some(name) = &spec.edge else {
         return Ok(());
     };
+    match sink_out(bodies, at) {
+        Some(sink) => back_sink(name, sink, edges),
+        None => Ok(()),
+    }
+}
+
+/// Gives back what a stage opened, if it stands in the body at this place.
+#[tactic(auto, using(crate::proofs::Returns::calm_none, crate::proofs::Returns::calm_written))]
+fn back_stage<E: Edges, S: Supply<E>, B: Houses<S::Source, E::Sink>>(
+    supply: &S,
+    spec: &StageSpec,
+    at: usize,
+    bodies: &mut Vec<Option<B>>,
+    edges: &mut E,
+) -> Result<(), AllocError>
+    ensures back { OnOk result (GivesBack (named_source (supplied (S.feeds supply.now) spec.now) (body_at B.look bodies.old.items at)) (named_sink (supplied (S.feeds supply.now) spec.now) (body_at B.look bodies.old.items at))
+        (⟦<E as SeenEdges>⟧.seen edges.old) (⟦<E as SeenEdges>⟧.seen edges.new)) }
+    ensures nothing { OnErr result (GivesBack [] [] (⟦<E as SeenEdges>⟧.seen edges.old) (⟦<E as SeenEdges>⟧.seen edges.new)) }
+    ensures calm { OnOk result (IsCalm (supplied (S.feeds supply.now) spec.now) (source_in (body_at B.look bodies.old.items at))) }
+    ensures others { (s : ℕ) → at ≢ s → body_at B.look bodies.new.items s ≡ body_at B.look bodies.old.items s }
+    ensures callbacks { KeepsCallbacks (body_at B.look bodies.old.items) (body_at B.look bodies.new.items) }
+    ensures len { length bodies.new.items ≡ length bodies.old.items }
+{
     match spec.role {
         Role::Producer => match source_out(bodies, at) {
-            Some(source) => back_source(name, source, edges),
+            Some(source) => supply.take_back(spec, source, edges),
             None => Ok(()),
         },
-        Role::BatchProcessor => match sink_out(bodies, at) {
-            Some(sink) => back_sink(name, sink, edges),
-            None => Ok(()),
-        },
+        Role::BatchProcessor => back_sink_of(spec, at, bodies, edges),
         _ => Ok(()),
     }
 }
 
 /// Gives the sources and sinks that stand in the bodies back under the names of their stages, in stage order. Want of memory
 /// ends it: the source or sink at hand is then let go, and those of later stages stay in their bodies.
-fn give_back_stages<E: Edges, B: Houses<E::Source, E::Sink>>(
+fn give_back_stages<E: Edges, S: Supply<E>, B: Houses<S::Source, E::Sink>>(
+    supply: &S,
     topology: &Topology,
     bodies: &mut Vec<Option<B>>,
     edges: &mut E,
 ) -> Result<(), AllocError>
     requires sound { IsSound topology.now }
-    ensures back { OnOk result (GivesBack (sources_of topology.now.stages (body_at B.look bodies.old.items)) (sinks_of topology.now.stages (body_at B.look bodies.old.items))
+    ensures back { OnOk result (GivesBack (sources_of (S.feeds supply.now) topology.now.stages (body_at B.look bodies.old.items)) (sinks_of (S.feeds supply.now) topology.now.stages (body_at B.look bodies.old.items))
         (⟦<E as SeenEdges>⟧.seen edges.old) (⟦<E as SeenEdges>⟧.seen edges.new)) }
-    ensures in_part { OnErr result (IsBackInPart topology.now (body_at B.look bodies.old.items) (⟦<E as SeenEdges>⟧.seen edges.old) (⟦<E as SeenEdges>⟧.seen edges.new)) }
+    ensures in_part { OnErr result (IsBackInPart (S.feeds supply.now) topology.now (body_at B.look bodies.old.items) (⟦<E as SeenEdges>⟧.seen edges.old) (⟦<E as SeenEdges>⟧.seen edges.new)) }
+    ensures calm { OnOk result (AreCalm (S.feeds supply.now) topology.now.stages (body_at B.look bodies.old.items)) }
     ensures callbacks { KeepsCallbacks (body_at B.look bodies.old.items) (body_at B.look bodies.new.items) }
     ensures len { length bodies.new.items ≡ length bodies.old.items }
 {
@@ -98,7 +121,7 @@ fn give_back_stages<E: Edges, B: Houses<E::Source, E::Sink>>(
             stage: spec.no,
             slot: 0,
         });
-        match back_stage(spec, at, bodies, edges) {
+        match back_stage(supply, spec, at, bodies, edges) {
             Ok(()) => {}
             Err(error) => return Err(error),
         }
@@ -108,7 +131,8 @@ fn give_back_stages<E: Edges, B: Houses<E::Source, E::Sink>>(
 
 /// Gives the control source back under its name, and then the sources and sinks that stand in the bodies. Want of memory ends
 /// it, and nothing more is given back.
-pub fn give_back<E: Edges, B: Houses<E::Source, E::Sink>>(
+pub fn give_back<E: Edges, S: Supply<E>, B: Houses<S::Source, E::Sink>>(
+    supply: &S,
     topology: &Topology,
     control: Option<LineSource<E::Source>>,
     bodies: &mut Vec<Option<B>>,
@@ -117,16 +141,17 @@ pub fn give_back<E: Edges, B: Houses<E::Source, E::Sink>>(
     requires sound { IsSound topology.now }
     ensures back { OnOk result (GivesBack
         (named_control topology.now.control (option_map (line_seen E.Source.ByteSource) control)
-        ++ sources_of topology.now.stages (body_at B.look bodies.old.items))
-        (sinks_of topology.now.stages (body_at B.look bodies.old.items))
+        ++ sources_of (S.feeds supply.now) topology.now.stages (body_at B.look bodies.old.items))
+        (sinks_of (S.feeds supply.now) topology.now.stages (body_at B.look bodies.old.items))
         (⟦<E as SeenEdges>⟧.seen edges.old) (⟦<E as SeenEdges>⟧.seen edges.new)) }
-    ensures in_part { OnErr result (IsGivenInPart topology.now (option_map (line_seen E.Source.ByteSource) control)
+    ensures in_part { OnErr result (IsGivenInPart (S.feeds supply.now) topology.now (option_map (line_seen E.Source.ByteSource) control)
         (body_at B.look bodies.old.items) (⟦<E as SeenEdges>⟧.seen edges.old) (⟦<E as SeenEdges>⟧.seen edges.new)) }
+    ensures calm { OnOk result (AreCalm (S.feeds supply.now) topology.now.stages (body_at B.look bodies.old.items)) }
     ensures callbacks { KeepsCallbacks (body_at B.look bodies.old.items) (body_at B.look bodies.new.items) }
     ensures len { length bodies.new.items ≡ length bodies.old.items }
 {
     match back_control(&topology.control, control, edges) {
-        Ok(()) => give_back_stages(topology, bodies, edges),
+        Ok(()) => give_back_stages(supply, topology, bodies, edges),
         Err(error) => Err(error),
     }
 }

@@ -26,7 +26,7 @@ pub(crate) fn open_control<E: Edges>(
     ensures cut_off { IfErr result (λ e. IfCutOff e (IsOneCut (control_call name.now) (⟦<E as SeenEdges>⟧.seen edges.old) (⟦<E as SeenEdges>⟧.seen edges.new))) }
 {
     match name {
-        Some(name) => match open_lines(alloc, name, true, edges) {
+        Some(name) => match open_lines(alloc, name, edges) {
             Ok(lines) => Ok(Some(lines)),
             Err(unopened) => Err(unopened),
         },

@@ -1,4 +1,4 @@
-//! Sources by name, to be read by lines.
+//! The control source by its name, to be read by lines.
 
 ghost use Rattle.std.specs.Prelude.{◌≡◌, ◌∷◌, [], Some, IfOk, IfErr, OnOk, OnErr};
 ghost use Rattle.pipe_edges.specs.declared.edges.EdgeKind.TheVariants.{Source};
@@ -6,7 +6,7 @@ ghost use Rattle.stage_bodies.specs.Seen.{line_seen};
 ghost use Rattle.edge_names.specs.Opened.{Asks, GivesLines, fresh_lines, IfCutOff, IfFailed, IsOneCut, IsOneFailed, IsReturned};
 
 use crate::opening::Unopened;
-use crate::seen::{SeenEdges, SeenSource, back_source, open_source};
+use crate::seen::{SeenEdges, SeenSource, back_source, open_control_source};
 use pipe_edges::{ByteSource, EdgeEnd, Edges, LineSource};
 use pipe_types::bytes::Text;
 use std::alloc::{AllocError, Global};
@@ -18,11 +18,10 @@ pub(crate) fn copy_text(alloc: Global, text: &Text) -> Result<Text, AllocError>
     Ok(Text::from_string(String::from_str(alloc, text.as_str())?))
 }
 
-/// Opens the source of this name, as the control source or as that of a stage, to be read by lines.
+/// Opens the control source of this name, to be read by lines.
 pub(crate) fn open_lines<E: Edges>(
     alloc: Global,
     name: &Text,
-    is_control: bool,
     edges: &mut E,
 ) -> Result<LineSource<E::Source>, Unopened>
     ensures asks { OnOk result (Asks ((Source, name.now) ∷ []) (⟦<E as SeenEdges>⟧.seen edges.old) (⟦<E as SeenEdges>⟧.seen edges.new)) }
@@ -34,7 +33,7 @@ pub(crate) fn open_lines<E: Edges>(
     let Ok(source_name) = copy_text(alloc, name) else {
         return Err(Unopened::OutOfMemory);
     };
-    match open_source(name, is_control, edges) {
+    match open_control_source(name, edges) {
         Ok(source) => match lines_of(alloc, name, source, edges) {
             Ok(lines) => Ok(lines),
             Err(AllocError) => Err(Unopened::OutOfMemory),

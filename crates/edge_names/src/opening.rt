@@ -3,15 +3,16 @@
 ghost use Rattle.std.specs.Prelude.{◌≡◌, ◌==◌, ℕ, None, Some, if◌then◌else◌, length, option_map, IfOk, IfErr, OnOk, OnErr, IsSome};
 ghost use Rattle.pipe_types.specs.Sound.{IsSound};
 ghost use Rattle.stage_bodies.specs.Seen.{line_seen, body_at, with_source, with_sink};
-ghost use Rattle.pipe_edges.specs.declared.edges.EdgeKind.TheVariants.{Source, Sink};
 ghost use Rattle.edge_names.specs.Controls.{IsCutShort, IsUndone, control_call, run_calls};
-ghost use Rattle.edge_names.specs.Opened.{Asks, AreHome, AreOpened, HasSource, IfCutOff, IfFailed, IsCutOff, IsFailed, OpensOne, edge_calls, edge_call};
+ghost use Rattle.edge_names.specs.Opened.{Asks, AreHome, AreOpened, HasSource, IfCutOff, IfFailed, IsCutOff, IsFailed, OpensOne, edge_calls};
+ghost use Rattle.edge_names.specs.Supplies.{Written, fed, supplied};
 ghost use Rattle.edge_names.specs.Returned.{KeepsCallbacks};
 
 use crate::back::give_back;
 use crate::control::open_control;
-use crate::lines::{copy_text, open_lines};
+use crate::lines::copy_text;
 use crate::seen::{SeenEdges, SeenSink, open_sink};
+use crate::supply::Supply;
 use pipe_edges::{ByteSink, ByteSource, EdgeEnd, Edges, LineSource};
 use pipe_types::bytes::Text;
 use pipe_types::numbers::Post;
@@ -61,30 +62,32 @@ fn set_sink<S: ByteSource, K: ByteSink + Drop, B: Houses<S, K>>(
     }
 }
 
-/// Opens the source of this name into the body at this place.
-fn open_source_into<E: Edges, B: Houses<E::Source, E::Sink>>(
+/// Supplies a producer with its source, into the body at this place.
+fn supply_source_into<E: Edges, S: Supply<E>, B: Houses<S::Source, E::Sink>>(
     alloc: Global,
-    name: &Text,
+    supply: &S,
+    spec: &StageSpec,
     at: usize,
     bodies: &mut Vec<Option<B>>,
     edges: &mut E,
 ) -> Result<(), Unopened>
-    requires home { IsSome (body_at B.look bodies.old.items at) }
-    ensures opens { OpensOne (Some (Source, name.now)) at result (⟦<E as SeenEdges>⟧.seen edges.old) (⟦<E as SeenEdges>⟧.seen edges.new) (body_at B.look bodies.old.items) (body_at B.look bodies.new.items) }
+    requires home { IsSome (fed (S.feeds supply.now spec.now)) → IsSome (body_at B.look bodies.old.items at) }
+    ensures opens { OpensOne (fed (S.feeds supply.now spec.now)) at result (⟦<E as SeenEdges>⟧.seen edges.old) (⟦<E as SeenEdges>⟧.seen edges.new) (body_at B.look bodies.old.items) (body_at B.look bodies.new.items) }
     ensures same { OnErr result (bodies.new.items ≡ bodies.old.items) }
     ensures len { length bodies.new.items ≡ length bodies.old.items }
 {
-    match open_lines(alloc, name, false, edges) {
-        Ok(lines) => {
+    match supply.supply(alloc, spec, edges) {
+        Ok(Some(lines)) => {
             set_source(bodies, at, lines);
             Ok(())
         }
+        Ok(None) => Ok(()),
         Err(unopened) => Err(unopened),
     }
 }
 
 /// Opens the sink of this name into the body at this place.
-fn open_sink_into<E: Edges, B: Houses<E::Source, E::Sink>>(
+fn open_sink_into<E: Edges, P: ByteSource, B: Houses<P, E::Sink>>(
     alloc: Global,
     name: &Text,
     at: usize,
@@ -92,7 +95,7 @@ fn open_sink_into<E: Edges, B: Houses<E::Source, E::Sink>>(
     edges: &mut E,
 ) -> Result<(), Unopened>
     requires home { IsSome (body_at B.look bodies.old.items at) }
-    ensures opens { OpensOne (Some (Sink, name.now)) at result (⟦<E as SeenEdges>⟧.seen edges.old) (⟦<E as SeenEdges>⟧.seen edges.new) (body_at B.look bodies.old.items) (body_at B.look bodies.new.items) }
+    ensures opens { OpensOne (Some (Written name.now)) at result (⟦<E as SeenEdges>⟧.seen edges.old) (⟦<E as SeenEdges>⟧.seen edges.new) (body_at B.look bodies.old.items) (body_at B.look bodies.new.items) }
     ensures same { OnErr result (bodies.new.items ≡ bodies.old.items) }
     ensures len { length bodies.new.items ≡ length bodies.old.items }
 {
@@ -110,42 +113,44 @@ fn open_sink_into<E: Edges, B: Houses<E::Source, E::Sink>>(
 }
 
 /// Opens what a stage has, into the body at this place.
-fn open_stage<E: Edges, B: Houses<E::Source, E::Sink>>(
+fn open_stage<E: Edges, S: Supply<E>, B: Houses<S::Source, E::Sink>>(
     alloc: Global,
+    supply: &S,
     spec: &StageSpec,
     at: usize,
     bodies: &mut Vec<Option<B>>,
     edges: &mut E,
 ) -> Result<(), Unopened>
-    requires home { IsSome (edge_call spec.now) → IsSome (body_at B.look bodies.old.items at) }
-    ensures opens { OpensOne (edge_call spec.now) at result (⟦<E as SeenEdges>⟧.seen edges.old) (⟦<E as SeenEdges>⟧.seen edges.new) (body_at B.look bodies.old.items) (body_at B.look bodies.new.items) }
+    requires home { IsSome (supplied (S.feeds supply.now) spec.now) → IsSome (body_at B.look bodies.old.items at) }
+    ensures opens { OpensOne (supplied (S.feeds supply.now) spec.now) at result (⟦<E as SeenEdges>⟧.seen edges.old) (⟦<E as SeenEdges>⟧.seen edges.new) (body_at B.look bodies.old.items) (body_at B.look bodies.new.items) }
     ensures same { OnErr result (bodies.new.items ≡ bodies.old.items) }
     ensures len { length bodies.new.items ≡ length bodies.old.items }
 {
-    match &spec.edge {
-        Some(name) => match spec.role {
-            Role::Producer => open_source_into(alloc, name, at, bodies, edges),
-            Role::BatchProcessor => open_sink_into(alloc, name, at, bodies, edges),
-            _ => Ok(()),
+    match spec.role {
+        Role::Producer => supply_source_into(alloc, supply, spec, at, bodies, edges),
+        Role::BatchProcessor => match &spec.edge {
+            Some(name) => open_sink_into(alloc, name, at, bodies, edges),
+            None => Ok(()),
         },
-        None => Ok(()),
+        _ => Ok(()),
     }
 }
 
-/// Opens the sources of the producers and the sinks of the batch processors, in stage order, into their bodies. After a
+/// Supplies the producers with their sources and opens the sinks of the batch processors, in stage order, into their bodies. After a
 /// failure what was opened before it stands in the bodies.
-fn open_stages<E: Edges, B: Houses<E::Source, E::Sink>>(
+fn open_stages<E: Edges, S: Supply<E>, B: Houses<S::Source, E::Sink>>(
     alloc: Global,
+    supply: &S,
     topology: &Topology,
     bodies: &mut Vec<Option<B>>,
     edges: &mut E,
 ) -> Result<(), Unopened>
     requires sound { IsSound topology.now }
-    requires home { AreHome topology.now (body_at B.look bodies.old.items) }
-    ensures asks { OnOk result (Asks (edge_calls topology.now) (⟦<E as SeenEdges>⟧.seen edges.old) (⟦<E as SeenEdges>⟧.seen edges.new)) }
-    ensures opened { OnOk result (AreOpened topology.now (length topology.now.stages) (⟦<E as SeenEdges>⟧.seen edges.old) (body_at B.look bodies.old.items) (body_at B.look bodies.new.items)) }
-    ensures failed { IfErr result (λ e. IfFailed e (λ name. IsFailed topology.now name (⟦<E as SeenEdges>⟧.seen edges.old) (⟦<E as SeenEdges>⟧.seen edges.new) (body_at B.look bodies.old.items) (body_at B.look bodies.new.items))) }
-    ensures cut_off { IfErr result (λ e. IfCutOff e (IsCutOff topology.now (⟦<E as SeenEdges>⟧.seen edges.old) (⟦<E as SeenEdges>⟧.seen edges.new) (body_at B.look bodies.old.items) (body_at B.look bodies.new.items))) }
+    requires home { AreHome (S.feeds supply.now) topology.now (body_at B.look bodies.old.items) }
+    ensures asks { OnOk result (Asks (edge_calls (S.feeds supply.now) topology.now) (⟦<E as SeenEdges>⟧.seen edges.old) (⟦<E as SeenEdges>⟧.seen edges.new)) }
+    ensures opened { OnOk result (AreOpened (S.feeds supply.now) topology.now (length topology.now.stages) (⟦<E as SeenEdges>⟧.seen edges.old) (body_at B.look bodies.old.items) (body_at B.look bodies.new.items)) }
+    ensures failed { IfErr result (λ e. IfFailed e (λ name. IsFailed (S.feeds supply.now) topology.now name (⟦<E as SeenEdges>⟧.seen edges.old) (⟦<E as SeenEdges>⟧.seen edges.new) (body_at B.look bodies.old.items) (body_at B.look bodies.new.items))) }
+    ensures cut_off { IfErr result (λ e. IfCutOff e (IsCutOff (S.feeds supply.now) topology.now (⟦<E as SeenEdges>⟧.seen edges.old) (⟦<E as SeenEdges>⟧.seen edges.new) (body_at B.look bodies.old.items) (body_at B.look bodies.new.items))) }
     ensures len { length bodies.new.items ≡ length bodies.old.items }
     ensures callbacks { KeepsCallbacks (body_at B.look bodies.old.items) (body_at B.look bodies.new.items) }
 {
@@ -154,7 +159,7 @@ fn open_stages<E: Edges, B: Houses<E::Source, E::Sink>>(
             stage: spec.no,
             slot: 0,
         });
-        match open_stage(alloc, spec, at, bodies, edges) {
+        match open_stage(alloc, supply, spec, at, bodies, edges) {
             Ok(()) => {}
             Err(unopened) => return Err(unopened),
         }
@@ -164,27 +169,28 @@ fn open_stages<E: Edges, B: Houses<E::Source, E::Sink>>(
 
 /// Opens the control source, and then what the stages name; or gives back what was opened before a call failed, the control
 /// source first. Where giving back finds no memory, or opening did, some of what was opened may still stand in the bodies.
-pub fn open_or_give_back<E: Edges, B: Houses<E::Source, E::Sink>>(
+pub fn open_or_give_back<E: Edges, S: Supply<E>, B: Houses<S::Source, E::Sink>>(
     alloc: Global,
+    supply: &S,
     topology: &Topology,
     bodies: &mut Vec<Option<B>>,
     edges: &mut E,
 ) -> Result<Option<LineSource<E::Source>>, Unopened>
     requires sound { IsSound topology.now }
-    requires home { AreHome topology.now (body_at B.look bodies.old.items) }
-    ensures asks { OnOk result (Asks (run_calls topology.now) (⟦<E as SeenEdges>⟧.seen edges.old) (⟦<E as SeenEdges>⟧.seen edges.new)) }
+    requires home { AreHome (S.feeds supply.now) topology.now (body_at B.look bodies.old.items) }
+    ensures asks { OnOk result (Asks (run_calls (S.feeds supply.now) topology.now) (⟦<E as SeenEdges>⟧.seen edges.old) (⟦<E as SeenEdges>⟧.seen edges.new)) }
     ensures control { IfOk result (λ control. HasSource (⟦<E as SeenEdges>⟧.seen edges.old) (control_call topology.now.control) None
         (option_map (line_seen E.Source.ByteSource) control)) }
-    ensures opened { OnOk result (AreOpened topology.now (length topology.now.stages) (⟦<E as SeenEdges>⟧.seen edges.old) (body_at B.look bodies.old.items) (body_at B.look bodies.new.items)) }
-    ensures undone { IfErr result (λ e. IfFailed e (λ name. IsUndone topology.now name (body_at B.look bodies.old.items) (⟦<E as SeenEdges>⟧.seen edges.old) (⟦<E as SeenEdges>⟧.seen edges.new))) }
-    ensures in_part { IfErr result (λ e. IfCutOff e (IsCutShort topology.now (body_at B.look bodies.old.items) (⟦<E as SeenEdges>⟧.seen edges.old) (⟦<E as SeenEdges>⟧.seen edges.new))) }
+    ensures opened { OnOk result (AreOpened (S.feeds supply.now) topology.now (length topology.now.stages) (⟦<E as SeenEdges>⟧.seen edges.old) (body_at B.look bodies.old.items) (body_at B.look bodies.new.items)) }
+    ensures undone { IfErr result (λ e. IfFailed e (λ name. IsUndone (S.feeds supply.now) topology.now name (body_at B.look bodies.old.items) (⟦<E as SeenEdges>⟧.seen edges.old) (⟦<E as SeenEdges>⟧.seen edges.new))) }
+    ensures in_part { IfErr result (λ e. IfCutOff e (IsCutShort (S.feeds supply.now) topology.now (body_at B.look bodies.old.items) (⟦<E as SeenEdges>⟧.seen edges.old) (⟦<E as SeenEdges>⟧.seen edges.new))) }
     ensures len { length bodies.new.items ≡ length bodies.old.items }
     ensures callbacks { KeepsCallbacks (body_at B.look bodies.old.items) (body_at B.look bodies.new.items) }
 {
     match open_control(alloc, &topology.control, edges) {
-        Ok(control) => match open_stages(alloc, topology, bodies, edges) {
+        Ok(control) => match open_stages(alloc, supply, topology, bodies, edges) {
             Ok(()) => Ok(control),
-            Err(unopened) => match give_back(topology, control, bodies, edges) {
+            Err(unopened) => match give_back(supply, topology, control, bodies, edges) {
                 Ok(()) => Err(unopened),
                 Err(_) => Err(Unopened::OutOfMemory),
             },

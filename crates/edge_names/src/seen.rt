@@ -38,20 +38,15 @@ impl<E: Edges> SeenEdges for E {
         (source_seen E.Source.ByteSource) (sink_seen E.Sink.told E.Sink.held E.Sink.faults) };
 }
 
-/// Opens the source of this name, as the control source or as that of a stage.
-pub(crate) fn open_source<E: Edges>(
+/// Opens the control source of this name.
+pub(crate) fn open_control_source<E: Edges>(
     name: &Text,
-    is_control: bool,
     edges: &mut E,
 ) -> Result<E::Source, EdgeEnd>
     ensures opens { Opens Source name.now (⟦<E as SeenEdges>⟧.seen edges.old) (⟦<E as SeenEdges>⟧.seen edges.new) result }
     ensures given { IfOk result (λ s. GivesSource (⟦<E as SeenEdges>⟧.seen edges.old) name.now (⟦<E::Source as SeenSource>⟧.seen s)) }
 {
-    if is_control {
-        edges.open_control(name)
-    } else {
-        edges.open_source(name)
-    }
+    edges.open_control(name)
 }
 
 /// Opens the sink of this name.

@@ -3,6 +3,7 @@ use Rattle.std.proofs.Common.{◌≡◌, ◌∙◌, ◌≤◌, ◌++◌, refl, s
 use Rattle.std.specs.Prelude.{IsTrue}
 use Rattle.pipe_types.specs.declared.numbers.StageNo.{StageNo}
 use Rattle.pipe_types.specs.declared.topology.Kind.{Kind}
+use Rattle.pipe_types.specs.declared.topology.StageSpec.{StageSpec}
 use Rattle.pipe_types.specs.declared.topology.Topology.{Topology}
 use Rattle.pipe_types.specs.Stages.{spec_of}
 use Rattle.pipe_model.specs.History.{History}
@@ -18,11 +19,13 @@ use Rattle.stage_bodies.specs.Seen.{SinkSeen, BoxSeen}
 use Rattle.source_lines.specs.Cut.{AreFirstLines}
 use Rattle.body_laws.specs.Ready.{There}
 use Rattle.edge_names.specs.Seen.{EdgesSeen}
-use Rattle.edge_names.specs.Opened.{call_in}
+use Rattle.edge_names.specs.Supplies.{Opened, Fed, by_name, supplied}
+use Rattle.edge_names.specs.Opened.{call_in, supplied_in}
+use Rattle.edge_names.proofs.Openings.{call_opens_source}
 use Rattle.pipe_config.specs.File.{topology_of_file}
 use Rattle.pipe_top.specs.Boxes.{AreBoxesLeft}
 use Rattle.pipe_top.specs.Outside.{IsOutside, IsSourceRead}
-use Rattle.pipe_top.specs.Cases.{Case, Runs, InCase, IsNamedFile, calls_of, case_of, file_name, for_topology, run_case, unless_short}
+use Rattle.pipe_top.specs.Cases.{Case, Named, Runs, InCase, IsNamedFile, calls_of, case_of, file_name, for_topology, run_case, unless_short}
 use Rattle.pipe_top.specs.Runs.{OutsideSeen, IsCall, IsEndOf, IsOutsideOf}
 use Rattle.own_callback.specs.Came.{run_words, case_of_file}
 use Rattle.own_callback.proofs.Commanded.{run_command, run_words_run}
@@ -44,7 +47,7 @@ written_first held held' text e adds = adds ∙ ap (λ (h : List ℕ). h ++ text
 
 -- what a whole run left of its outside
 pub record IsUsedWhole (topology : Topology) (before : History) (old new : OutsideSeen) : Type 0 where
-  pub outside : IsOutside true topology before old.edges new.edges
+  pub outside : IsOutside by_name true topology before old.edges new.edges
   pub boxes : AreBoxesLeft true topology before old.boxes new.boxes
 
 got : Topology → Option Topology → Topology
@@ -52,10 +55,10 @@ got d (Some t) = t
 got d None = d
 
 abbrev shown_run : Topology → Case
-shown_run topology = Runs (record { steps = true; acks = true }) topology
+shown_run topology = Runs (record { steps = true; acks = true }) Named topology
 
 module _ (before : History) (status : ℕ) (calls : List (EdgeKind × List ℕ)) (old new : OutsideSeen) where
-  whole : (topology : Topology) (b : Bool) → (b ≡ false → status ≡ 9) → status ≤ 4 → IsOutside b topology before old.edges new.edges → AreBoxesLeft b topology before old.boxes new.boxes
+  whole : (topology : Topology) (b : Bool) → (b ≡ false → status ≡ 9) → status ≤ 4 → IsOutside by_name b topology before old.edges new.edges → AreBoxesLeft b topology before old.boxes new.boxes
       → IsUsedWhole topology before old new
   whole topology true wanting low outside boxes = record { outside = outside; boxes = boxes }
   whole topology false wanting low outside boxes = let nine : status ≡ 9 = wanting refl in absurd (omega (arith, low, nine))
@@ -74,7 +77,7 @@ module _ (before : History) (status : ℕ) (calls : List (EdgeKind × List ℕ))
   in_short (Some short) wanted topology low end outside = absurd end
 
   in_file : (boxes : Boxes) (read : Result Topology ConfigFault) (topology : Option Topology) → status ≤ 4
-      → IsEndOf topology before status (for_topology read (run_case boxes (record { steps = true; acks = true }))) → IsOutsideOf (status ≡ 9) calls topology before (for_topology read (run_case boxes (record { steps = true; acks = true }))) old new
+      → IsEndOf topology before status (for_topology read (run_case boxes (record { steps = true; acks = true }) Named)) → IsOutsideOf (status ≡ 9) calls topology before (for_topology read (run_case boxes (record { steps = true; acks = true }) Named)) old new
       → IfSome topology (λ t. IsUsedWhole t before old new)
   in_file boxes (Ok wanted) topology low end outside = in_short (shortage_of wanted boxes) wanted topology low end outside
   in_file boxes (Err fault) topology low end outside = absurd end
@@ -99,11 +102,16 @@ there : {A : Type 0} (o : Option A) (P : A → Type 0) (Q : Type 0) → There o 
 there (Some x) P Q t f = f x t
 there None P Q t f = absurd t
 
+-- a stage that makes this call is supplied with what it opens
+opens : (o : Option StageSpec) (name : List ℕ) → call_in by_name o ≡ Some (Source, name) → supplied_in by_name o ≡ Some (Fed (Opened name))
+opens (Some spec) name call = call_opens_source (supplied by_name spec) name call
+opens None name call = cc
+
 -- it accepted the first of the lines that stand under the name of its source
-first_lines : (topology : Topology) (before : History) (old new : EdgesSeen) (name bytes : List ℕ) (p : StageNo) → IsOutside true topology before old new → IsTrue old.told → old.named Source name ≡ bytes
-    → call_in (spec_of topology p) ≡ Some (Source, name) → AreFirstLines bytes (fed before p)
+first_lines : (topology : Topology) (before : History) (old new : EdgesSeen) (name bytes : List ℕ) (p : StageNo) → IsOutside by_name true topology before old new → IsTrue old.told → old.named Source name ≡ bytes
+    → call_in by_name (spec_of topology p) ≡ Some (Source, name) → AreFirstLines bytes (fed before p)
 first_lines topology before old new name bytes p outside told stands call =
-    there _ (IsSourceRead old before p name) (AreFirstLines bytes (fed before p)) (outside.used.sources p name call) (λ source read.
+    there _ (IsSourceRead old before p name) (AreFirstLines bytes (fed before p)) (outside.used.sources p (Opened name) (opens (spec_of topology p) name call)) (λ source read.
     let gave = read.given.given told in
     let same : source.taken ++ source.left ≡ bytes = read.same_bytes gave.0 ∙ (gave.1 ∙ stands) in
     subst (λ (b : List ℕ). AreFirstLines b (fed before p)) same (read.reads.in_order (read.same_telling ∙ gave.0)))
@@ -111,7 +119,7 @@ first_lines topology before old new name bytes p outside told stands call =
 -- what a whole run read, and how it left the one box
 pub accepted : (topology : Option Topology) (before : History) (old new : OutsideSeen) (name bytes : List ℕ)
     → IfSome topology (λ t. IsUsedWhole t before old new) → IsTrue old.edges.told → old.edges.named Source name ≡ bytes
-    → IfSome topology (λ t. (p : StageNo) → call_in (spec_of t p) ≡ Some (Source, name) → AreFirstLines bytes (fed before p))
+    → IfSome topology (λ t. (p : StageNo) → call_in by_name (spec_of t p) ≡ Some (Source, name) → AreFirstLines bytes (fed before p))
 accepted None before old new name bytes whole told stands = tt
 accepted (Some t) before old new name bytes whole told stands = λ p call. first_lines t before old.edges new.edges name bytes p whole.outside told stands call
 

@@ -9,6 +9,7 @@ ghost use Rattle.pipe_edges.specs.declared.edges.EdgeKind.{EdgeKind};
 ghost use Rattle.mem_edges.specs.MemEdges.{named_in};
 ghost use Rattle.mem_edges.specs.MemSink.{held_by, IsUnwritten};
 ghost use Rattle.source_lines.specs.Cut.{AreFirstLines};
+ghost use Rattle.edge_names.specs.Supplies.{by_name};
 ghost use Rattle.edge_names.specs.Opened.{call_in};
 ghost use Rattle.box_stock.specs.Lends.{kinds_of};
 ghost use Rattle.pipe_top.specs.Boxes.{AreBoxesLeft};
@@ -17,6 +18,7 @@ ghost use Rattle.own_callback.specs.Came.{run_words, case_of_file};
 ghost use Rattle.own_callback.specs.Plain.{WritesPlainText};
 
 use box_stock::{Boxed, Carries};
+use made_sources::MadeSource;
 use mem_edges::{CallList, MemClock, MemEdges, MemSink, MemSource, SinkScript, SourceScript};
 use pipe_journal::Journal;
 use pipe_top::run_program;
@@ -47,6 +49,7 @@ pub fn run_with<
     R: Threads + Wait + Sync,
     C: Boxed,
     B: Carries<C> + Houses<MemSource, MemSink> + Send,
+    G: Carries<C> + Houses<MadeSource, MemSink> + Send,
 >(
     rt: &R,
     alloc: Global,
@@ -69,7 +72,7 @@ pub fn run_with<
         → held_by came.out ≡ out_text came.journal.steps (case_of_file (kinds_of C.seen stock.items) file.now)) }
     // What a producer of these lines accepted are the first of them.
     ensures lines { IfOk result (λ came. came.status ≤ 4 → IfSome came.topology (λ topology. (p : StageNo)
-        → call_in (spec_of topology p) ≡ Some (EdgeKind.Source, codes "mem:a") → AreFirstLines lines.now (fed came.journal.steps p))) }
+        → call_in by_name (spec_of topology p) ≡ Some (EdgeKind.Source, codes "mem:a") → AreFirstLines lines.now (fed came.journal.steps p))) }
     // The callbacks, in their order, counted each call, and each answer other than success, that the journal says of their posts.
     ensures counted { IfOk result (λ came. came.status ≤ 4 → IfSome came.topology (λ topology.
         AreBoxesLeft true topology came.journal.steps (map C.seen stock.items)
@@ -87,7 +90,7 @@ pub fn run_with<
         readings: 0,
         pauses: 0,
     };
-    let end = run_program::<R, MemEdges, C, B, MemClock>(
+    let end = run_program::<R, MemEdges, C, B, G, MemClock>(
         rt, alloc, &words, stock, &mut edges, clock, &mut out, &mut err,
     );
     Ok(Came {
@@ -159,6 +162,7 @@ pub fn run_plain<
     R: Threads + Wait + Sync,
     C: Boxed,
     B: Carries<C> + Houses<MemSource, MemSink> + Send,
+    G: Carries<C> + Houses<MadeSource, MemSink> + Send,
 >(
     rt: &R,
     alloc: Global,
@@ -172,5 +176,5 @@ pub fn run_plain<
     ensures plain { IfOk result (λ came. came.status ≤ 4 → IfSome came.topology (λ topology.
         WritesPlainText topology came.journal.steps (map C.seen stock.items))) }
 {
-    run_with::<R, C, B>(rt, alloc, workers, file, lines, stock)
+    run_with::<R, C, B, G>(rt, alloc, workers, file, lines, stock)
 }

@@ -7,6 +7,7 @@ ghost use Rattle.pipe_top.specs.Runs.{IsRunOrNone};
 
 use crate::call::{bytes, output, text};
 use box_stock::{Boxed, Carries};
+use made_sources::MadeSource;
 use mem_edges::{CallList, MemClock, MemEdges, MemSink, MemSource, SourceScript};
 use pipe_journal::Journal;
 use pipe_top::run_program;
@@ -38,6 +39,7 @@ pub fn run_lines<
     R: Threads + Wait + Sync,
     C: Boxed,
     B: Carries<C> + Houses<MemSource, MemSink> + Send,
+    G: Carries<C> + Houses<MadeSource, MemSink> + Send,
 >(rt: &R, alloc: Global, file: &str, lines: &str, stock: Vec<C>) -> Result<LinesEnd<C>, AllocError>
     // The journal is legal and keeps every claim, and each step of its own accord was the next move.
     ensures run { IfOk result (λ end. IsRunOrNone end.topology end.journal.steps) }
@@ -54,7 +56,7 @@ pub fn run_lines<
         readings: 0,
         pauses: 0,
     };
-    let end = run_program::<R, MemEdges, C, B, MemClock>(
+    let end = run_program::<R, MemEdges, C, B, G, MemClock>(
         rt, alloc, &words, stock, &mut edges, clock, &mut out, &mut err,
     );
     let (acknowledgements, report) = parts_of(alloc, out.held())?;

@@ -8,6 +8,7 @@ use body_jobs::Body;
 use file_socket_sinks::{
     Reader, RealClock, RealEdges, RealOut, RealSource, Writer, take_closed_streams,
 };
+use made_sources::MadeSource;
 use order_lines::OrderLines;
 use orders::Orders;
 use own_handler::OwnBox;
@@ -57,6 +58,7 @@ fn run<R: Threads + Wait + Sync>(rt: &HostRuntime, waits: &R) -> Result<u8, Allo
         RealEdges,
         BoxedCallback,
         Body<RealSource<Reader>, RealOut<Writer>>,
+        Body<MadeSource, RealOut<Writer>>,
         RealClock,
     >(
         waits, alloc, &words, stock, &mut edges, clock, &mut out, &mut err,

@@ -1,6 +1,7 @@
 -- What the entries stand for, whatever is added to their store.
-use Rattle.std.proofs.Common.{◌≡◌, ℕ, zero, suc, ◌<◌, length, arith, ◌∷◌, ◌++◌, [], List, map, reverse, Some, refl, ap, ◌∙◌, subst}
-use Rattle.std.specs.Prelude.{slice_get}
+use Rattle.std.proofs.Common.{◌≡◌, ℕ, zero, suc, ◌<◌, length, arith, ◌∷◌, ◌++◌, [], List, map, reverse, Some, refl, sym, ap, ◌∙◌, subst}
+use Rattle.std.specs.Prelude.{slice_get, Option, IsSome, unwrap_or}
+use Rattle.slab.specs.Slab.{Slab, ContainsKey}
 use Rattle.std.proofs.lemmas.List.{map_push, reverse-append, reverse-reverse, length-map, length-reverse}
 use Rattle.std.proofs.lemmas.Option.{slice_get-map}
 use Rattle.std.specs.Option.{option_map}
@@ -12,28 +13,28 @@ use Rattle.pipe_journal.specs.declared.store.Store.{Store}
 use Rattle.pipe_journal.specs.declared.entry.Entry.{Entry}
 use Rattle.pipe_model.specs.History.{History}
 use Rattle.pipe_journal.specs.Readers.{step_at}
-use Rattle.pipe_journal.specs.Entries.{step_of, steps_of, IsHeld, AreHeld, Stays, Keeps}
+use Rattle.pipe_journal.specs.Entries.{step_of, steps_of, IsHeld, AreHeld, KeepsValues, Keeps}
 
-still_within : {X : Type 0} (old new : List X) (key : ℕ) → Stays old new → key < length old → key < length new
-still_within old new key stays is = let e = stays.longer in omega arith
+still_there : {X : Type 0} (old new : Slab X) (key : ℕ) → KeepsValues old new → ContainsKey old key → ContainsKey new key
+still_there {X} old new key keeps is = subst (λ (slot : Option X). IsSome slot) (sym (keeps key is)) is
 
 module _ (old new : Store) (keeps : Keeps old new) where
   -- an entry whose list is held has the same list
 
   same_step : (entry : Entry) → IsHeld old entry → step_of new entry ≡ step_of old entry
-  same_step (Entry.Accept s key) is = ap (λ records. Step.Accept s records) (keeps.records.same key [] is)
-  same_step (Entry.Done s key) is = ap (λ replies. Step.Done s replies) (keeps.replies.same key [] is)
-  same_step (Entry.Wrote s bytes key) is = ap (λ outcomes. Step.Wrote s bytes (BatchEnd.Outcomes outcomes)) (keeps.outcomes.same key [] is)
-  same_step (Entry.ChildEnd s slot key) is = ap (λ reply. Step.ChildEnd s slot reply) (keeps.children.same key Reply.Crashed is)
-  same_step (Entry.Late s slot incarnation key) is = ap (λ late. Step.Late s slot incarnation late) (keeps.lates.same key LateAnswer.Nothing is)
+  same_step (Entry.Accept s key) is = ap (λ slot. Step.Accept s (unwrap_or slot [])) (keeps.records key is)
+  same_step (Entry.Done s key) is = ap (λ slot. Step.Done s (unwrap_or slot [])) (keeps.replies key is)
+  same_step (Entry.Wrote s bytes key) is = ap (λ slot. Step.Wrote s bytes (BatchEnd.Outcomes (unwrap_or slot []))) (keeps.outcomes key is)
+  same_step (Entry.ChildEnd s slot key) is = ap (λ found. Step.ChildEnd s slot (unwrap_or found Reply.Crashed)) (keeps.children key is)
+  same_step (Entry.Late s slot incarnation key) is = ap (λ found. Step.Late s slot incarnation (unwrap_or found LateAnswer.Nothing)) (keeps.lates key is)
   same_step _ is = refl
 
   held_step : (entry : Entry) → IsHeld old entry → IsHeld new entry
-  held_step (Entry.Accept s key) is = still_within old.records.items new.records.items key keeps.records is
-  held_step (Entry.Done s key) is = still_within old.replies.items new.replies.items key keeps.replies is
-  held_step (Entry.Wrote s bytes key) is = still_within old.outcomes.items new.outcomes.items key keeps.outcomes is
-  held_step (Entry.ChildEnd s slot key) is = still_within old.children.items new.children.items key keeps.children is
-  held_step (Entry.Late s slot incarnation key) is = still_within old.lates.items new.lates.items key keeps.lates is
+  held_step (Entry.Accept s key) is = still_there old.records new.records key keeps.records is
+  held_step (Entry.Done s key) is = still_there old.replies new.replies key keeps.replies is
+  held_step (Entry.Wrote s bytes key) is = still_there old.outcomes new.outcomes key keeps.outcomes is
+  held_step (Entry.ChildEnd s slot key) is = still_there old.children new.children key keeps.children is
+  held_step (Entry.Late s slot incarnation key) is = still_there old.lates new.lates key keeps.lates is
   held_step _ is = tt
 
   same_steps : (entries : List Entry) → AreHeld old entries → map (step_of new) entries ≡ map (step_of old) entries

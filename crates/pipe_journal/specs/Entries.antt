@@ -1,6 +1,7 @@
 -- What a journal's entries stand for, given the store of their lists. No public clause cites this module.
-use Rattle.std.specs.Prelude.{◌≡◌, ℕ, ◌-◌, ◌<◌, ◌≤◌, List, [], ◌∷◌, length, map, min, reverse, slice_index_or, vec_len, vec_capacity}
+use Rattle.std.specs.Prelude.{◌≡◌, ℕ, ◌-◌, List, [], ◌∷◌, map, min, reverse, unwrap_or}
 use Rattle.std.specs.Bool.{⊤}
+use Rattle.slab.specs.Slab.{Slab, get, ContainsKey, slab_len}
 use Rattle.pipe_types.specs.declared.step.Step.{Step}
 use Rattle.pipe_types.specs.declared.step.LateAnswer.{LateAnswer}
 use Rattle.pipe_types.specs.declared.message.BatchEnd.{BatchEnd}
@@ -10,22 +11,22 @@ use Rattle.pipe_journal.specs.declared.store.Store.{Store}
 use Rattle.pipe_journal.specs.declared.entry.Entry.{Entry}
 use Rattle.pipe_model.specs.History.{History}
 
--- what stands under a key of each table
+-- what stands under a key of each slab
 
 abbrev pub records_in : Store → ℕ → List (List ℕ)
-records_in store key = slice_index_or store.records.items key []
+records_in store key = unwrap_or (get store.records key) []
 
 abbrev pub replies_in : Store → ℕ → List Reply
-replies_in store key = slice_index_or store.replies.items key []
+replies_in store key = unwrap_or (get store.replies key) []
 
 abbrev pub reply_in : Store → ℕ → Reply
-reply_in store key = slice_index_or store.children.items key Reply.Crashed
+reply_in store key = unwrap_or (get store.children key) Reply.Crashed
 
 abbrev pub outcomes_in : Store → ℕ → List Outcome
-outcomes_in store key = slice_index_or store.outcomes.items key []
+outcomes_in store key = unwrap_or (get store.outcomes key) []
 
 abbrev pub late_in : Store → ℕ → LateAnswer
-late_in store key = slice_index_or store.lates.items key LateAnswer.Nothing
+late_in store key = unwrap_or (get store.lates key) LateAnswer.Nothing
 
 -- the step of an entry
 abbrev pub step_of : Store → Entry → Step
@@ -51,13 +52,13 @@ step_of store (Entry.Drain cause) = Step.Drain cause
 step_of store Entry.Halt = Step.Halt
 step_of store (Entry.Refuse line) = Step.Refuse line
 
--- the list that the entry names stands in its table
+-- the list that the entry names stands in its slab
 abbrev pub IsHeld : Store → Entry → Type 0
-IsHeld store (Entry.Accept s key) = key < length store.records.items
-IsHeld store (Entry.Done s key) = key < length store.replies.items
-IsHeld store (Entry.Wrote s bytes key) = key < length store.outcomes.items
-IsHeld store (Entry.ChildEnd s slot key) = key < length store.children.items
-IsHeld store (Entry.Late s slot incarnation key) = key < length store.lates.items
+IsHeld store (Entry.Accept s key) = ContainsKey store.records key
+IsHeld store (Entry.Done s key) = ContainsKey store.replies key
+IsHeld store (Entry.Wrote s bytes key) = ContainsKey store.outcomes key
+IsHeld store (Entry.ChildEnd s slot key) = ContainsKey store.children key
+IsHeld store (Entry.Late s slot incarnation key) = ContainsKey store.lates key
 IsHeld store _ = ⊤
 
 -- the lists of all these entries do
@@ -65,27 +66,26 @@ abbrev pub AreHeld : Store → List Entry → Type 0
 AreHeld store [] = ⊤
 AreHeld store (entry ∷ entries) = IsHeld store entry × AreHeld store entries
 
--- each item of the old table stays at its place in the new one
-pub record Stays {X : Type 0} (old new : List X) : Type 0 where
-  pub longer : length old ≤ length new
-  pub same : (key : ℕ) (other : X) → key < length old → slice_index_or new key other ≡ slice_index_or old key other
+-- each value of the old slab stays under its key in the new one
+abbrev pub KeepsValues : {X : Type 0} → Slab X → Slab X → Type 0
+KeepsValues old new = (key : ℕ) → ContainsKey old key → get new key ≡ get old key
 
 -- each list stays under its key
 pub record Keeps (old new : Store) : Type 0 where
-  pub records : Stays old.records.items new.records.items
-  pub replies : Stays old.replies.items new.replies.items
-  pub children : Stays old.children.items new.children.items
-  pub outcomes : Stays old.outcomes.items new.outcomes.items
-  pub lates : Stays old.lates.items new.lates.items
+  pub records : KeepsValues old.records new.records
+  pub replies : KeepsValues old.replies new.replies
+  pub children : KeepsValues old.children new.children
+  pub outcomes : KeepsValues old.outcomes new.outcomes
+  pub lates : KeepsValues old.lates new.lates
 
--- how many lists more each table has room for
+-- how many values more fit with no allocation
+abbrev pub room_in : {X : Type 0} → Slab X → ℕ
+room_in slab = slab.capacity - slab_len slab
+
+-- how many lists more each slab has room for
 abbrev pub spare_of : Store → ℕ
 spare_of store =
-    min (vec_capacity store.records - vec_len store.records)
-    (min (vec_capacity store.replies - vec_len store.replies)
-    (min (vec_capacity store.children - vec_len store.children)
-    (min (vec_capacity store.outcomes - vec_len store.outcomes)
-    (vec_capacity store.lates - vec_len store.lates))))
+    min (room_in store.records) (min (room_in store.replies) (min (room_in store.children) (min (room_in store.outcomes) (room_in store.lates))))
 
 -- the steps of these entries, which are oldest first
 abbrev pub steps_of : Store → List Entry → History

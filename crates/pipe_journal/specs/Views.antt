@@ -1,5 +1,4 @@
 -- The step that a view shows.
-use Rattle.std.specs.Prelude.{ℕ}
 use Rattle.pipe_types.specs.declared.step.Step.{Step}
 use Rattle.pipe_types.specs.declared.step.LateAnswer.{LateAnswer}
 use Rattle.pipe_types.specs.declared.message.BatchEnd.{BatchEnd}

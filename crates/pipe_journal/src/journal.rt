@@ -10,6 +10,7 @@ use crate::view::{StepView, view_entry};
 use pipe_types::bytes::Bytes;
 use pipe_types::message::Reply;
 use pipe_types::step::Step;
+use slab::Slab;
 use std::alloc::{AllocError, Global};
 use std::marker::Model;
 
@@ -45,11 +46,11 @@ impl Journal {
         Journal {
             entries: Vec::new(alloc),
             store: Store {
-                records: Vec::new(alloc),
-                replies: Vec::new(alloc),
-                children: Vec::new(alloc),
-                outcomes: Vec::new(alloc),
-                lates: Vec::new(alloc),
+                records: Slab::new(alloc),
+                replies: Slab::new(alloc),
+                children: Slab::new(alloc),
+                outcomes: Slab::new(alloc),
+                lates: Slab::new(alloc),
             },
             alloc,
         }

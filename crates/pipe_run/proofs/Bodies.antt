@@ -1,10 +1,11 @@
 -- What the bodies hold of what their stages opened by name.
-use Rattle.std.proofs.Common.{◌≡◌, ℕ, List, [], length, Bool, true, false, arith, refl, ap, sym, ◌∙◌, subst, inl, inr, Option, Some, None}
-use Rattle.std.specs.Prelude.{IsSome, ◌⊎◌, option_map}
+use Rattle.std.proofs.Common.{◌≡◌, ℕ, List, [], ◌∷◌, length, Bool, true, false, arith, refl, ap, sym, ◌∙◌, subst, inl, inr, Option, Some, None}
+use Rattle.std.specs.Prelude.{All, IsSome, IsTrue, ◌⊎◌, find, if◌then◌else◌, option_map}
 use Rattle.std.proofs.lemmas.Bool.{ne_eqb}
+use Rattle.std.proofs.lemmas.List.Elements.{All-head, All-tail}
 use Rattle.pipe_types.specs.Numbers.{stage, post, same_stage}
 use Rattle.pipe_types.specs.Sound.{IsSound}
-use Rattle.pipe_types.specs.Stages.{spec_of}
+use Rattle.pipe_types.specs.Stages.{spec_in, spec_of}
 use Rattle.pipe_types.specs.declared.numbers.StageNo.{StageNo}
 use Rattle.pipe_types.specs.declared.numbers.Post.{Post}
 use Rattle.pipe_types.specs.declared.topology.Role.{Role}
@@ -15,62 +16,67 @@ use Rattle.pipe_model.specs.History.{History}
 use Rattle.pipe_model.specs.Legal.{is_legal, has_role, is_producer_role, is_batch_processor_role}
 use Rattle.pipe_model.specs.Posts.{is_out}
 use Rattle.stage_laws.proofs.Numbering.{numbered_topology}
-use Rattle.pipe_edges.specs.declared.edges.EdgeKind.{EdgeKind}
-use Rattle.pipe_edges.specs.declared.edges.EdgeKind.TheVariants.{Source, Sink}
-use Rattle.stage_bodies.specs.Seen.{SinkSeen, LineSeen, BodySeen}
+use Rattle.stage_bodies.specs.Seen.{SourceSeen, SinkSeen, LineSeen, BodySeen}
 use Rattle.stage_bodies.specs.Jobs.{Both}
 use Rattle.stage_bodies.specs.Posts.{place_at}
 use Rattle.body_laws.specs.Keeps.{Keeps, KeepsPost, KeepsSource, KeepsSink, has_slot}
 use Rattle.body_laws.specs.Ready.{There}
 use Rattle.body_laws.proofs.Posts.{first_post, producer_post}
+use Rattle.edge_names.specs.Supplies.{Feed, Supplied, Fed, Written, fed, supplied, supplied_by, written}
 use Rattle.edge_names.specs.Seen.{EdgesSeen}
 use Rattle.edge_names.specs.Named.{GivesSink}
-use Rattle.edge_names.specs.Opened.{AreHome, AreOpened, GivesLines, IsOpened, call_by, call_in, edge_call}
-use Rattle.edge_names.specs.Returned.{source_in, sink_in}
-use Rattle.edge_names.proofs.Openings.{opened_stage, given_source, given_sink}
-use Rattle.pipe_run.specs.Outside.{AreUsed, IsSourceRead, IsSinkWritten}
-use Rattle.pipe_run.proofs.Sources.{source_read}
+use Rattle.edge_names.specs.Opened.{AreHome, AreOpened, GivesFeed, IsOpened, supplied_in}
+use Rattle.edge_names.specs.Returned.{AreCalm, IsCalm, source_in, sink_in}
+use Rattle.edge_names.proofs.Openings.{opened_stage, given_feed, given_sink}
+use Rattle.pipe_run.specs.Outside.{AreUsed, IsFeedRead, IsSinkWritten}
+use Rattle.pipe_run.proofs.Sources.{feed_read}
 use Rattle.pipe_run.proofs.Sinks.{sink_written}
 
--- ---- the stage of a call
+-- ---- the stage that is supplied
 
-record IsCallOf (topology : Topology) (s : StageNo) (kind : EdgeKind) (name : List ℕ) : Type 0 where
+record IsStageOf (feeds : StageSpec → Option Feed) (topology : Topology) (s : StageNo) (what : Supplied) : Type 0 where
   pub spec : StageSpec
   pub found : spec_of topology s ≡ Some spec
-  pub call : edge_call spec ≡ Some (kind, name)
+  pub fits : supplied feeds spec ≡ Some what
 
-call_of : (topology : Topology) (s : StageNo) (kind : EdgeKind) (name : List ℕ) → call_in (spec_of topology s) ≡ Some (kind, name) → IsCallOf topology s kind name
-call_of topology s kind name e = by (spec_of topology s) refl e
+stage_of : (feeds : StageSpec → Option Feed) (topology : Topology) (s : StageNo) (what : Supplied) → supplied_in feeds (spec_of topology s) ≡ Some what → IsStageOf feeds topology s what
+stage_of feeds topology s what e = by (spec_of topology s) refl e
   where
-    by : (o : Option StageSpec) → spec_of topology s ≡ o → call_in o ≡ Some (kind, name) → IsCallOf topology s kind name
+    by : (o : Option StageSpec) → spec_of topology s ≡ o → supplied_in feeds o ≡ Some what → IsStageOf feeds topology s what
     by None is e = cc
-    by (Some spec) is e = record { spec = spec; found = is; call = e }
+    by (Some spec) is e = record { spec = spec; found = is; fits = e }
 
-abbrev kind_in : Option (EdgeKind × List ℕ) → EdgeKind
-kind_in (Some call) = call.0
-kind_in None = Source
+abbrev is_fed : Option Supplied → Bool
+is_fed (Some (Fed feed)) = true
+is_fed (Some (Written name)) = false
+is_fed None = false
 
-source_role : (r : Role) (edge : Option (List ℕ)) (name : List ℕ) → call_by r edge ≡ Some (Source, name) → is_producer_role r ≡ true
-source_role Producer edge name e = refl
-source_role Processor (Some x) name e = cc
-source_role Processor None name e = cc
-source_role Supervisor (Some x) name e = cc
-source_role Supervisor None name e = cc
-source_role Batcher (Some x) name e = cc
-source_role Batcher None name e = cc
-source_role BatchProcessor (Some x) name e = let kind : Sink ≡ Source = ap kind_in e in cc
-source_role BatchProcessor None name e = cc
+abbrev is_written : Option Supplied → Bool
+is_written (Some (Written name)) = true
+is_written (Some (Fed feed)) = false
+is_written None = false
 
-sink_role : (r : Role) (edge : Option (List ℕ)) (name : List ℕ) → call_by r edge ≡ Some (Sink, name) → is_batch_processor_role r ≡ true
-sink_role BatchProcessor edge name e = refl
-sink_role Processor (Some x) name e = cc
-sink_role Processor None name e = cc
-sink_role Supervisor (Some x) name e = cc
-sink_role Supervisor None name e = cc
-sink_role Batcher (Some x) name e = cc
-sink_role Batcher None name e = cc
-sink_role Producer (Some x) name e = let kind : Source ≡ Sink = ap kind_in e in cc
-sink_role Producer None name e = cc
+written_not_fed : (edge : Option (List ℕ)) → is_fed (written edge) ≡ false
+written_not_fed (Some name) = refl
+written_not_fed None = refl
+
+fed_not_written : (feed : Option Feed) → is_written (fed feed) ≡ false
+fed_not_written (Some feed) = refl
+fed_not_written None = refl
+
+source_role : (r : Role) (given : Option Feed) (edge : Option (List ℕ)) (feed : Feed) → supplied_by r given edge ≡ Some (Fed feed) → is_producer_role r ≡ true
+source_role Producer given edge feed e = refl
+source_role Processor given edge feed e = cc
+source_role Supervisor given edge feed e = cc
+source_role Batcher given edge feed e = cc
+source_role BatchProcessor given edge feed e = let no : is_fed (written edge) ≡ false = written_not_fed edge in let yes : is_fed (written edge) ≡ true = ap is_fed e in cc
+
+sink_role : (r : Role) (given : Option Feed) (edge : Option (List ℕ)) (name : List ℕ) → supplied_by r given edge ≡ Some (Written name) → is_batch_processor_role r ≡ true
+sink_role BatchProcessor given edge name e = refl
+sink_role Processor given edge name e = cc
+sink_role Supervisor given edge name e = cc
+sink_role Batcher given edge name e = cc
+sink_role Producer given edge name e = let no : is_written (fed given) ≡ false = fed_not_written given in let yes : is_written (fed given) ≡ true = ap is_written e in cc
 
 batch_post : (r : Role) (max : ℕ) → is_batch_processor_role r ≡ true → has_slot r max 0 ≡ true
 batch_post BatchProcessor max h = refl
@@ -93,24 +99,24 @@ some_from P None h = absurd h
 there_at : {A : Type 0} (P : A → Type 0) (o : Option A) (x : A) → o ≡ Some x → P x → There o P
 there_at P o x e h = subst (λ z. There z P) (sym e) h
 
-record IsSourceOpened (edges : EdgesSeen) (name : List ℕ) (body : Option BodySeen) : Type 0 where
+record IsSourceOpened (edges : EdgesSeen) (feed : Feed) (body : Option BodySeen) : Type 0 where
   pub lines : LineSeen
   pub has : There body (λ b. b.source ≡ Some lines)
-  pub gives : GivesLines edges name lines
+  pub gives : GivesFeed edges feed lines
 
-source_opened : (edges : EdgesSeen) (name : List ℕ) (x y : Option BodySeen) → IsSome x → Both (IsOpened edges (Some (Source, name))) x y → IsSourceOpened edges name y
-source_opened edges name (Some a) (Some b) some h =
-    let g = given_source edges name a.source b.source h.source in
+source_opened : (edges : EdgesSeen) (feed : Feed) (x y : Option BodySeen) → IsSome x → Both (IsOpened edges (Some (Fed feed))) x y → IsSourceOpened edges feed y
+source_opened edges feed (Some a) (Some b) some h =
+    let g = given_feed edges feed a.source b.source h.source in
     record { lines = g.0; has = g.1; gives = g.2 }
-source_opened edges name (Some a) None some h = absurd h
-source_opened edges name None y some h = let x : false ≡ true = some in cc
+source_opened edges feed (Some a) None some h = absurd h
+source_opened edges feed None y some h = let x : false ≡ true = some in cc
 
 record IsSinkOpened (edges : EdgesSeen) (name : List ℕ) (body : Option BodySeen) : Type 0 where
   pub sink : SinkSeen
   pub has : There body (λ b. b.sink ≡ Some sink)
   pub gives : GivesSink edges name sink
 
-sink_opened : (edges : EdgesSeen) (name : List ℕ) (x y : Option BodySeen) → IsSome x → Both (IsOpened edges (Some (Sink, name))) x y → IsSinkOpened edges name y
+sink_opened : (edges : EdgesSeen) (name : List ℕ) (x y : Option BodySeen) → IsSome x → Both (IsOpened edges (Some (Written name))) x y → IsSinkOpened edges name y
 sink_opened edges name (Some a) (Some b) some h =
     let g = given_sink edges name a.sink b.sink h.sink in
     record { sink = g.0; has = g.1; gives = g.2 }
@@ -181,45 +187,64 @@ sink_kept topology before p out sink None n has some k = absurd has
 -- ---- all
 
 -- a run of which the bodies keep the journal, after everything was opened
-pub record IsRunFrom (topology : Topology) (edges : EdgesSeen) (before : History) (table opened bodies : ℕ → Option BodySeen) : Type 0 where
+pub record IsRunFrom (feeds : StageSpec → Option Feed) (whole : Bool) (topology : Topology) (edges : EdgesSeen) (before : History) (table opened bodies : ℕ → Option BodySeen) : Type 0 where
   pub sound : IsSound topology
   pub legal : is_legal topology before ≡ true
-  pub home : AreHome topology table
-  pub opens : AreOpened topology (length topology.stages) edges table opened
+  pub home : AreHome feeds topology table
+  pub opens : AreOpened feeds topology (length topology.stages) edges table opened
   pub keeps : Keeps topology before opened bodies
   pub stay : (at : ℕ) → IsSome (opened at) → IsSome (bodies at)
+  pub calm : IsTrue whole → AreCalm feeds topology.stages bodies
 
-sources_used : (topology : Topology) (edges : EdgesSeen) (before : History) (table opened bodies : ℕ → Option BodySeen) → IsRunFrom topology edges before table opened bodies
-    → (s : StageNo) (name : List ℕ) → call_in (spec_of topology s) ≡ Some (Source, name) → There (source_in (bodies (place_at (post s 0)))) (IsSourceRead edges before s name)
-sources_used topology edges before table opened bodies run s name e =
+-- what holds of all stages holds of the stage with this number
+of_stage : (P : StageSpec → Type 0) (s : StageNo) (spec : StageSpec) (stages : List StageSpec) → spec_in stages s ≡ Some spec → All P stages → P spec
+of_stage P s spec [] found each = cc
+of_stage P s spec (x ∷ stages) found each = either (same_stage x.no s) found (λ is. of_stage P s spec stages is (All-tail P x stages each))
+  where
+    either : (b : Bool) → (if b then Some x else find (λ y. same_stage y.no s) stages) ≡ Some spec → (find (λ y. same_stage y.no s) stages ≡ Some spec → P spec) → P spec
+    either true is rest = let same : x ≡ spec = cc in subst P same (All-head P x stages each)
+    either false is rest = rest is
+
+-- a source that was made, as it stands in the body of its stage
+calm_at : (feeds : StageSpec → Option Feed) (topology : Topology) (s : StageNo) (spec : StageSpec) (what : Supplied) (bodies : ℕ → Option BodySeen) (source : SourceSeen) → spec_of topology s ≡ Some spec → spec.no ≡ s → supplied feeds spec ≡ Some what
+    → source_in (bodies (place_at (post s 0))) ≡ Some source → AreCalm feeds topology.stages bodies → IsCalm (Some what) (Some source)
+calm_at feeds topology s spec what bodies source found named fits is calm =
+    let own : IsCalm (supplied feeds spec) (source_in (bodies (place_at (post spec.no 0)))) = of_stage (λ x. IsCalm (supplied feeds x) (source_in (bodies (place_at (post x.no 0))))) s spec topology.stages found calm in
+    let here : IsCalm (supplied feeds spec) (source_in (bodies (place_at (post s 0)))) = subst (λ t. IsCalm (supplied feeds spec) (source_in (bodies (place_at (post t 0))))) named own in
+    subst (λ o. IsCalm (Some what) o) is (subst (λ o. IsCalm o (source_in (bodies (place_at (post s 0))))) fits here)
+
+sources_used : (feeds : StageSpec → Option Feed) (whole : Bool) (topology : Topology) (edges : EdgesSeen) (before : History) (table opened bodies : ℕ → Option BodySeen) → IsRunFrom feeds whole topology edges before table opened bodies
+    → (s : StageNo) (feed : Feed) → supplied_in feeds (spec_of topology s) ≡ Some (Fed feed) → There (source_in (bodies (place_at (post s 0)))) (IsFeedRead whole edges before s feed)
+sources_used feeds whole topology edges before table opened bodies run s feed e =
     let at = place_at (post s 0) in
-    let c = call_of topology s Source name e in
+    let c = stage_of feeds topology s (Fed feed) e in
     let numbered = numbered_topology topology run.sound in
-    let role = role_at topology s c.spec is_producer_role c.found (source_role c.spec.role c.spec.edge name c.call) in
-    let some : IsSome (edge_call c.spec) = subst (λ (o : Option (EdgeKind × List ℕ)). IsSome o) (sym c.call) refl in
-    let both = subst (λ o. Both (IsOpened edges o) (table at) (opened at)) c.call (opened_stage topology s c.spec edges table opened numbered c.found run.opens) in
-    let o = source_opened edges name (table at) (opened at) (run.home s c.spec c.found some) both in
+    let role = role_at topology s c.spec is_producer_role c.found (source_role c.spec.role (feeds c.spec) c.spec.edge feed c.fits) in
+    let some : IsSome (supplied feeds c.spec) = subst (λ (o : Option Supplied). IsSome o) (sym c.fits) refl in
+    let both = subst (λ o. Both (IsOpened edges o) (table at) (opened at)) c.fits (opened_stage feeds topology s c.spec edges table opened numbered c.found run.opens) in
+    let o = source_opened edges feed (table at) (opened at) (run.home s c.spec c.found some) both in
     let there = run.stay at (some_from (λ b. b.source ≡ Some o.lines) (opened at) o.has) in
     let kept = source_kept topology before (post s 0) (is_out before (post s 0)) o.lines (opened at) (bodies at) o.has there (run.keeps (post s 0) (first_post topology s is_producer_role producer_post role)) in
     let own : same_stage s (stage 0) ≡ false = ne_eqb s.0 0 (λ zero. omega (arith, zero, (numbered.within s c.spec c.found).0)) in
-    there_at (IsSourceRead edges before s name) (source_in (bodies at)) kept.now.source kept.is
-    (source_read topology before s kept.lost edges name o.lines kept.now run.legal role own kept.in_fetch o.gives kept.keeps)
+    there_at (IsFeedRead whole edges before s feed) (source_in (bodies at)) kept.now.source kept.is
+    (feed_read whole topology before s kept.lost edges feed o.lines kept.now run.legal role own kept.in_fetch o.gives kept.keeps
+    (λ w. calm_at feeds topology s c.spec (Fed feed) bodies kept.now.source c.found (numbered.named s c.spec c.found) c.fits kept.is (run.calm w)))
 
-sinks_used : (topology : Topology) (edges : EdgesSeen) (before : History) (table opened bodies : ℕ → Option BodySeen) → IsRunFrom topology edges before table opened bodies
-    → (s : StageNo) (name : List ℕ) → call_in (spec_of topology s) ≡ Some (Sink, name) → There (sink_in (bodies (place_at (post s 0)))) (IsSinkWritten topology edges before s name)
-sinks_used topology edges before table opened bodies run s name e =
+sinks_used : (feeds : StageSpec → Option Feed) (whole : Bool) (topology : Topology) (edges : EdgesSeen) (before : History) (table opened bodies : ℕ → Option BodySeen) → IsRunFrom feeds whole topology edges before table opened bodies
+    → (s : StageNo) (name : List ℕ) → supplied_in feeds (spec_of topology s) ≡ Some (Written name) → There (sink_in (bodies (place_at (post s 0)))) (IsSinkWritten topology edges before s name)
+sinks_used feeds whole topology edges before table opened bodies run s name e =
     let at = place_at (post s 0) in
-    let c = call_of topology s Sink name e in
+    let c = stage_of feeds topology s (Written name) e in
     let numbered = numbered_topology topology run.sound in
-    let role = role_at topology s c.spec is_batch_processor_role c.found (sink_role c.spec.role c.spec.edge name c.call) in
-    let some : IsSome (edge_call c.spec) = subst (λ (o : Option (EdgeKind × List ℕ)). IsSome o) (sym c.call) refl in
-    let both = subst (λ o. Both (IsOpened edges o) (table at) (opened at)) c.call (opened_stage topology s c.spec edges table opened numbered c.found run.opens) in
+    let role = role_at topology s c.spec is_batch_processor_role c.found (sink_role c.spec.role (feeds c.spec) c.spec.edge name c.fits) in
+    let some : IsSome (supplied feeds c.spec) = subst (λ (o : Option Supplied). IsSome o) (sym c.fits) refl in
+    let both = subst (λ o. Both (IsOpened edges o) (table at) (opened at)) c.fits (opened_stage feeds topology s c.spec edges table opened numbered c.found run.opens) in
     let o = sink_opened edges name (table at) (opened at) (run.home s c.spec c.found some) both in
     let there = run.stay at (some_from (λ b. b.sink ≡ Some o.sink) (opened at) o.has) in
     let kept = sink_kept topology before (post s 0) (is_out before (post s 0)) o.sink (opened at) (bodies at) o.has there (run.keeps (post s 0) (first_post topology s is_batch_processor_role batch_post role)) in
     there_at (IsSinkWritten topology edges before s name) (sink_in (bodies at)) kept.now kept.is
     (sink_written topology before s edges name o.sink kept.now o.gives kept.keeps)
 
-pub used : (topology : Topology) (edges : EdgesSeen) (before : History) (table opened bodies : ℕ → Option BodySeen) → IsRunFrom topology edges before table opened bodies → AreUsed topology edges before bodies
-used topology edges before table opened bodies run =
-    record { sources = sources_used topology edges before table opened bodies run; sinks = sinks_used topology edges before table opened bodies run }
+pub used : (feeds : StageSpec → Option Feed) (whole : Bool) (topology : Topology) (edges : EdgesSeen) (before : History) (table opened bodies : ℕ → Option BodySeen) → IsRunFrom feeds whole topology edges before table opened bodies → AreUsed feeds whole topology edges before bodies
+used feeds whole topology edges before table opened bodies run =
+    record { sources = sources_used feeds whole topology edges before table opened bodies run; sinks = sinks_used feeds whole topology edges before table opened bodies run }

@@ -2,10 +2,12 @@
 use Rattle.std.proofs.Common.{◌≡◌, ℕ, suc, ◌+◌, ◌∷◌, ◌++◌, List, [], take, drop, length, Bool, arith, refl, ap, sym, ◌∙◌, subst, inl, inr}
 use Rattle.std.specs.Prelude.{◌⊎◌, IsTrue, Option, Some, None, option_map}
 use Rattle.std.proofs.lemmas.List.{append-nil, append_assoc}
+use Rattle.pipe_types.specs.declared.topology.StageSpec.{StageSpec}
 use Rattle.pipe_types.specs.declared.topology.Topology.{Topology}
 use Rattle.pipe_model.specs.History.{History}
 use Rattle.pipe_edges.specs.declared.edges.EdgeKind.{EdgeKind}
 use Rattle.stage_bodies.specs.Seen.{SourceSeen, SinkSeen, LineSeen, BodySeen}
+use Rattle.edge_names.specs.Supplies.{Feed}
 use Rattle.edge_names.specs.Seen.{EdgesSeen}
 use Rattle.edge_names.specs.Controls.{IsControlCut, IsCutShort, IsStageCut, IsStageUndone, IsUndone, control_call, first_sources, first_sinks, run_calls}
 use Rattle.edge_names.specs.Opened.{Asks, IsOneFailed, calls_of, edge_calls, one, uncalled}
@@ -15,8 +17,8 @@ use Rattle.box_stock.specs.Lends.{AreHandedOut}
 use Rattle.pipe_run.specs.Outside.{AreAsked, AreUsed, HasControl, IsControlUnopened, IsOpenedInPart, IsOutside, IsStageUnopened}
 use Rattle.pipe_run.specs.Whole.{HasFailed, HasWanted}
 
-unopened_control : (topology : Topology) (name : List ℕ) (old new : EdgesSeen) → IsOneFailed (control_call topology.control) name old new → IsControlUnopened topology name (edge_calls topology) old new
-unopened_control topology name old new failed = record {
+unopened_control : (feeds : StageSpec → Option Feed) (topology : Topology) (name : List ℕ) (old new : EdgesSeen) → IsOneFailed (control_call topology.control) name old new → IsControlUnopened feeds topology name (edge_calls feeds topology) old new
+unopened_control feeds topology name old new failed = record {
   call = named topology.control failed.is;
   to_come = refl;
   sources = failed.asks.sources;
@@ -27,9 +29,9 @@ unopened_control topology name old new failed = record {
     named (Some n) is = ap (option_map (λ (call : EdgeKind × List ℕ). call.1)) is
     named None is = cc
 
-unopened_stage : (topology : Topology) (name : List ℕ) (start : ℕ → Option BodySeen) (old new : EdgesSeen) → AreHandedOut topology start → (u : IsStageUndone topology name start old new)
-    → IsStageUnopened topology name (calls_of (drop (u.at + 1) topology.stages)) old new
-unopened_stage topology name start old new handed u = record {
+unopened_stage : (feeds : StageSpec → Option Feed) (topology : Topology) (name : List ℕ) (start : ℕ → Option BodySeen) (old new : EdgesSeen) → AreHandedOut topology start → (u : IsStageUndone feeds topology name start old new)
+    → IsStageUnopened feeds topology name (calls_of feeds (drop (u.at + 1) topology.stages)) old new
+unopened_stage feeds topology name start old new handed u = record {
   at = u.at;
   kind = u.kind;
   spec = u.spec;
@@ -46,22 +48,22 @@ unopened_stage topology name start old new handed u = record {
   sinks = u.sinks;
 }
 
-pub failed_by : (topology : Topology) (name : List ℕ) (start : ℕ → Option BodySeen) (old new : EdgesSeen) → AreHandedOut topology start → IsUndone topology name start old new → HasFailed topology name old new
-failed_by topology name start old new handed (inl failed) = record {
+pub failed_by : (feeds : StageSpec → Option Feed) (topology : Topology) (name : List ℕ) (start : ℕ → Option BodySeen) (old new : EdgesSeen) → AreHandedOut topology start → IsUndone feeds topology name start old new → HasFailed feeds topology name old new
+failed_by feeds topology name start old new handed (inl failed) = record {
   kind = failed.kind;
   front = [];
-  rest = edge_calls topology;
-  calls = ap (λ (call : Option (EdgeKind × List ℕ)). one call ++ edge_calls topology) failed.is;
+  rest = edge_calls feeds topology;
+  calls = ap (λ (call : Option (EdgeKind × List ℕ)). one call ++ edge_calls feeds topology) failed.is;
   asks = record { same_telling = failed.asks.same_telling; asked = failed.asks.asked; faults_stay = failed.asks.faults_stay };
   fault = failed.fault;
-  back = inl (unopened_control topology name old new failed);
+  back = inl (unopened_control feeds topology name old new failed);
 }
-failed_by topology name start old new handed (inr u) =
+failed_by feeds topology name start old new handed (inr u) =
     let first = one (control_call topology.control) in
-    let before = calls_of (take u.at topology.stages) in
-    let after = calls_of (drop (u.at + 1) topology.stages) in
-    let parts : edge_calls topology ≡ before ++ (u.kind, name) ∷ after =
-    calls_parts topology.stages u.at u.spec u.here ∙ ap (λ (call : Option (EdgeKind × List ℕ)). before ++ (one call ++ after)) u.call in
+    let before = calls_of feeds (take u.at topology.stages) in
+    let after = calls_of feeds (drop (u.at + 1) topology.stages) in
+    let parts : edge_calls feeds topology ≡ before ++ (u.kind, name) ∷ after =
+    calls_parts feeds topology.stages u.at u.spec u.here ∙ ap (λ (call : Option (EdgeKind × List ℕ)). before ++ (one call ++ after)) u.call in
     record {
       kind = u.kind;
       front = first ++ before;
@@ -73,14 +75,14 @@ failed_by topology name start old new handed (inr u) =
         faults_stay = u.faults_stay;
       };
       fault = u.fault;
-      back = inr (unopened_stage topology name start old new handed u);
+      back = inr (unopened_stage feeds topology name start old new handed u);
     }
 
 -- memory was wanting before anything was asked
-pub unasked : (topology : Topology) (edges : EdgesSeen) → HasWanted topology edges edges
-unasked topology edges = record {
+pub unasked : (feeds : StageSpec → Option Feed) (topology : Topology) (edges : EdgesSeen) → HasWanted feeds topology edges edges
+unasked feeds topology edges = record {
   front = [];
-  rest = run_calls topology;
+  rest = run_calls feeds topology;
   calls = refl;
   asks = record { same_telling = refl; asked = λ t. sym (append-nil edges.asked); faults_stay = omega arith };
   back = inl (record {
@@ -94,8 +96,8 @@ unasked topology edges = record {
 }
 
 -- memory was wanting in opening
-pub wanted : (topology : Topology) (start : ℕ → Option BodySeen) (old new : EdgesSeen) → AreHandedOut topology start → IsCutShort topology start old new → HasWanted topology old new
-wanted topology start old new handed cut = record {
+pub wanted : (feeds : StageSpec → Option Feed) (topology : Topology) (start : ℕ → Option BodySeen) (old new : EdgesSeen) → AreHandedOut topology start → IsCutShort feeds topology start old new → HasWanted feeds topology old new
+wanted feeds topology start old new handed cut = record {
   front = cut.front;
   rest = cut.rest;
   calls = cut.calls;
@@ -103,7 +105,7 @@ wanted topology start old new handed cut = record {
   back = by_part cut.given_back;
 }
   where
-    by_part : IsControlCut topology cut.rest old new ⊎ IsStageCut topology start cut.rest old new → IsOpenedInPart topology cut.rest old new
+    by_part : IsControlCut feeds topology cut.rest old new ⊎ IsStageCut feeds topology start cut.rest old new → IsOpenedInPart feeds topology cut.rest old new
     by_part (inl control) = inl control
     by_part (inr stage) = inr (start, handed, stage)
 
@@ -115,16 +117,16 @@ asked_all calls sources sinks old mid new asks back = record {
   faults_stay = omega (arith, asks.faults_stay, back.no_fault);
 }
 
-pub outside : (whole : Bool) (topology : Topology) (before : History) (calls : List (EdgeKind × List ℕ)) (old mid new : EdgesSeen) (control : Option LineSeen) (bodies : ℕ → Option BodySeen) (n : ℕ) → (IsTrue whole → n ≡ suc (length topology.stages))
-    → HasControl topology old before topology.control control → AreUsed topology old before bodies
-    → Asks calls old mid → GivesBack (first_sources n topology control bodies) (first_sinks n topology bodies) mid new → IsOutside whole topology before old new
-outside whole topology before calls old mid new control bodies n all obeyed used asks back = record {
+pub outside : (feeds : StageSpec → Option Feed) (whole : Bool) (topology : Topology) (before : History) (calls : List (EdgeKind × List ℕ)) (old mid new : EdgesSeen) (control : Option LineSeen) (bodies : ℕ → Option BodySeen) (n : ℕ) → (IsTrue whole → n ≡ suc (length topology.stages))
+    → HasControl topology old before topology.control control → AreUsed feeds whole topology old before bodies
+    → Asks calls old mid → GivesBack (first_sources feeds n topology control bodies) (first_sinks feeds n topology bodies) mid new → IsOutside feeds whole topology before old new
+outside feeds whole topology before calls old mid new control bodies n all obeyed used asks back = record {
   control = control;
   obeyed = obeyed;
   bodies = bodies;
   used = used;
   parts = n;
   all = all;
-  sources = back.back_sources ∙ ap (λ z. z ++ first_sources n topology control bodies) asks.sources;
-  sinks = back.back_sinks ∙ ap (λ z. z ++ first_sinks n topology bodies) asks.sinks;
+  sources = back.back_sources ∙ ap (λ z. z ++ first_sources feeds n topology control bodies) asks.sources;
+  sinks = back.back_sinks ∙ ap (λ z. z ++ first_sinks feeds n topology bodies) asks.sinks;
 }

@@ -1,4 +1,5 @@
 mod Sources
+pub mod Records
 mod Sinks
 mod Controls
 mod Bodies

@@ -17,9 +17,10 @@ use Rattle.run_pipe.specs.declared.ends.RunEnd.{RunEnd}
 use Rattle.run_pipe.specs.declared.ends.RunEnd.TheVariants.{Drained, Halted}
 use Rattle.run_pipe.specs.Seen.{PipeState}
 use Rattle.run_pipe.specs.Runs.{HasRun}
+use Rattle.edge_names.specs.Supplies.{Feed}
 use Rattle.edge_names.specs.Seen.{EdgesSeen}
 use Rattle.edge_names.specs.Controls.{IsGivenInPart, first_sources, first_sinks, named_control}
-use Rattle.edge_names.specs.Returned.{GivesBack, KeepsCallbacks, sources_of, sinks_of}
+use Rattle.edge_names.specs.Returned.{AreCalm, GivesBack, KeepsCallbacks, sources_of, sinks_of}
 use Rattle.pipe_run.specs.Steps.{WentOn}
 use Rattle.pipe_run.specs.Whole.{HasCome}
 
@@ -48,17 +49,20 @@ partly_obeyed : {E : Type 0} (r : Result RunEnd E) (topology : Topology) (before
 partly_obeyed (Ok end) topology before opened now k = kept_partly topology before opened now k
 partly_obeyed (Err e) topology before opened now k = k
 
-all_back : (topology : Topology) (control : Option LineSeen) (bodies : ℕ → Option BodySeen) (old new : EdgesSeen)
-    → GivesBack (named_control topology.control control ++ sources_of topology.stages bodies) (sinks_of topology.stages bodies) old new
-    → GivesBack (first_sources (suc (length topology.stages)) topology control bodies) (first_sinks (suc (length topology.stages)) topology bodies) old new
-all_back topology control bodies old new h =
+all_back : (feeds : StageSpec → Option Feed) (topology : Topology) (control : Option LineSeen) (bodies : ℕ → Option BodySeen) (old new : EdgesSeen)
+    → GivesBack (named_control topology.control control ++ sources_of feeds topology.stages bodies) (sinks_of feeds topology.stages bodies) old new
+    → GivesBack (first_sources feeds (suc (length topology.stages)) topology control bodies) (first_sinks feeds (suc (length topology.stages)) topology bodies) old new
+all_back feeds topology control bodies old new h =
     let stages = topology.stages in
-    subst (λ (xs : List StageSpec). GivesBack (named_control topology.control control ++ sources_of xs bodies) (sinks_of xs bodies) old new) (sym (take_all (length stages) stages (omega arith))) h
+    subst (λ (xs : List StageSpec). GivesBack (named_control topology.control control ++ sources_of feeds xs bodies) (sinks_of feeds xs bodies) old new) (sym (take_all (length stages) stages (omega arith))) h
 
-back_of : (topology same : Topology) (control : Option LineSeen) (bodies : ℕ → Option BodySeen) (old new : EdgesSeen) → topology ≡ same
-    → GivesBack (named_control topology.control control ++ sources_of topology.stages bodies) (sinks_of topology.stages bodies) old new
-    → GivesBack (named_control same.control control ++ sources_of same.stages bodies) (sinks_of same.stages bodies) old new
-back_of topology same control bodies old new e h = subst (λ (t : Topology). GivesBack (named_control t.control control ++ sources_of t.stages bodies) (sinks_of t.stages bodies) old new) e h
+back_of : (feeds : StageSpec → Option Feed) (topology same : Topology) (control : Option LineSeen) (bodies : ℕ → Option BodySeen) (old new : EdgesSeen) → topology ≡ same
+    → GivesBack (named_control topology.control control ++ sources_of feeds topology.stages bodies) (sinks_of feeds topology.stages bodies) old new
+    → GivesBack (named_control same.control control ++ sources_of feeds same.stages bodies) (sinks_of feeds same.stages bodies) old new
+back_of feeds topology same control bodies old new e h = subst (λ (t : Topology). GivesBack (named_control t.control control ++ sources_of feeds t.stages bodies) (sinks_of feeds t.stages bodies) old new) e h
+
+calm_of : (feeds : StageSpec → Option Feed) (topology same : Topology) (bodies : ℕ → Option BodySeen) → topology ≡ same → AreCalm feeds topology.stages bodies → AreCalm feeds same.stages bodies
+calm_of feeds topology same bodies e h = subst (λ (t : Topology). AreCalm feeds t.stages bodies) e h
 
 -- ---- the parts of a pipe
 
@@ -79,10 +83,10 @@ ran_to o opened p final end first last is ran =
 -- ---- the whole
 
 -- all was given back of the topology that stands in the core
-pub went : (r : Result RunEnd AllocError) (opened p : PipeState) (topology : Topology) (final : ℕ → Option BodySeen) (old new : EdgesSeen) → HasRun opened p r → topology ≡ p.topology
-    → GivesBack (named_control topology.control p.control ++ sources_of topology.stages p.home) (sinks_of topology.stages p.home) old new → KeepsCallbacks p.home final
-    → WentOn (is_ok r) opened.topology p.steps opened.home final opened.control old new opened.clock p.clock
-went (Ok end) opened p topology final old new h same back kept = record {
+pub went : (feeds : StageSpec → Option Feed) (r : Result RunEnd AllocError) (opened p : PipeState) (topology : Topology) (final : ℕ → Option BodySeen) (old new : EdgesSeen) → HasRun opened p r → topology ≡ p.topology
+    → GivesBack (named_control topology.control p.control ++ sources_of feeds topology.stages p.home) (sinks_of feeds topology.stages p.home) old new → AreCalm feeds topology.stages p.home → KeepsCallbacks p.home final
+    → WentOn feeds (is_ok r) opened.topology p.steps opened.home final opened.control old new opened.clock p.clock
+went feeds (Ok end) opened p topology final old new h same back calm kept = record {
   follows = h.follows;
   ended = λ w. has_come opened.topology p.steps end h.ended;
   time = h.clock;
@@ -94,10 +98,11 @@ went (Ok end) opened p topology final old new h same back kept = record {
   stay = h.stay;
   parts = suc (length opened.topology.stages);
   all = λ w. refl;
-  back = all_back opened.topology p.control p.home old new (back_of topology opened.topology p.control p.home old new (same ∙ h.topology) back);
+  back = all_back feeds opened.topology p.control p.home old new (back_of feeds topology opened.topology p.control p.home old new (same ∙ h.topology) back);
+  calm = λ w. calm_of feeds topology opened.topology p.home (same ∙ h.topology) calm;
   kept = kept;
 }
-went (Err e) opened p topology final old new h same back kept = record {
+went feeds (Err e) opened p topology final old new h same back calm kept = record {
   follows = h.follows;
   ended = λ w. not_whole w;
   time = h.clock;
@@ -109,15 +114,16 @@ went (Err e) opened p topology final old new h same back kept = record {
   stay = h.stay;
   parts = suc (length opened.topology.stages);
   all = λ w. refl;
-  back = all_back opened.topology p.control p.home old new (back_of topology opened.topology p.control p.home old new (same ∙ h.topology) back);
+  back = all_back feeds opened.topology p.control p.home old new (back_of feeds topology opened.topology p.control p.home old new (same ∙ h.topology) back);
+  calm = λ w. calm_of feeds topology opened.topology p.home (same ∙ h.topology) calm;
   kept = kept;
 }
 
 -- there was no memory for giving all back
-pub went_in_part : (r : Result RunEnd AllocError) (opened p : PipeState) (topology : Topology) (final : ℕ → Option BodySeen) (old new : EdgesSeen) → HasRun opened p r → topology ≡ p.topology
-    → IsGivenInPart topology p.control p.home old new → KeepsCallbacks p.home final → WentOn false opened.topology p.steps opened.home final opened.control old new opened.clock p.clock
-went_in_part r opened p topology final old new h same given kept =
-    let part = subst (λ (t : Topology). IsGivenInPart t p.control p.home old new) (same ∙ h.topology) given in
+pub went_in_part : (feeds : StageSpec → Option Feed) (r : Result RunEnd AllocError) (opened p : PipeState) (topology : Topology) (final : ℕ → Option BodySeen) (old new : EdgesSeen) → HasRun opened p r → topology ≡ p.topology
+    → IsGivenInPart feeds topology p.control p.home old new → KeepsCallbacks p.home final → WentOn feeds false opened.topology p.steps opened.home final opened.control old new opened.clock p.clock
+went_in_part feeds r opened p topology final old new h same given kept =
+    let part = subst (λ (t : Topology). IsGivenInPart feeds t p.control p.home old new) (same ∙ h.topology) given in
     record {
       follows = h.follows;
       ended = λ w. not_whole w;
@@ -131,5 +137,6 @@ went_in_part r opened p topology final old new h same given kept =
       parts = part.parts;
       all = λ w. not_whole w;
       back = part.back;
+      calm = λ w. not_whole w;
       kept = kept;
     }

@@ -26,9 +26,11 @@ use Rattle.stage_bodies.specs.Reads.{AreReadFrom}
 use Rattle.stage_bodies.specs.Seen.{SourceSeen, LineSeen}
 use Rattle.body_laws.specs.Keeps.{IsKnownEnd, KeepsSource}
 use Rattle.edge_names.specs.Seen.{EdgesSeen}
-use Rattle.edge_names.specs.Opened.{GivesLines}
+use Rattle.edge_names.specs.Supplies.{Feed, Opened, Made, Fed}
+use Rattle.edge_names.specs.Opened.{GivesFeed, GivesLines, GivesMade}
+use Rattle.edge_names.specs.Returned.{IsCalm}
 use Rattle.run_pipe.proofs.Obeying.{first_lines, before_long}
-use Rattle.pipe_run.specs.Outside.{ReadsSource, IsSourceRead}
+use Rattle.pipe_run.specs.Outside.{ReadsSource, IsFeedRead, IsMadeRead, IsSourceRead}
 
 -- ---- ends
 
@@ -89,10 +91,16 @@ all_bytes opened now records fresh r t = r.same_bytes t ∙ ap (λ x. x ++ opene
 
 -- ---- the source of a producer
 
+-- a source of which nothing was taken and which has counted nothing
+record IsUncounted (source : SourceSeen) : Type 0 where
+  pub nothing_taken : source.taken ≡ []
+  pub no_fault : source.faults ≡ 0
+  pub no_wait : source.waits ≡ 0
+
 -- the journal's records are the first of the source's lines, and where it ended they are as its end says
-reads_source : (topology : Topology) (before : History) (s : StageNo) (lost : List (List ℕ)) (edges : EdgesSeen) (name : List ℕ) (opened now : LineSeen) → is_legal topology before ≡ true → has_role topology s is_producer_role ≡ true → same_stage s (stage 0) ≡ false
-    → (lost ≡ []) ⊎ (is_out before (post s 0) ≡ true) → GivesLines edges name opened → KeepsSource before s lost opened now → ReadsSource before s now.source
-reads_source topology before s lost edges name opened now legal role own in_fetch gives k =
+reads_source : (topology : Topology) (before : History) (s : StageNo) (lost : List (List ℕ)) (opened now : LineSeen) → is_legal topology before ≡ true → has_role topology s is_producer_role ≡ true → same_stage s (stage 0) ≡ false
+    → (lost ≡ []) ⊎ (is_out before (post s 0) ≡ true) → IsUncounted opened.source → KeepsSource before s lost opened now → ReadsSource before s now.source
+reads_source topology before s lost opened now legal role own in_fetch fresh k =
     let f = fed before s in
     let source = opened.source in
     let told_then = λ (t : IsTrue now.source.told). subst (λ b. b ≡ true) k.read.same_telling t in
@@ -101,28 +109,42 @@ reads_source topology before s lost edges name opened now legal role own in_fetc
     record {
       in_order = λ t.
           let first = first_lines now.end source now (f ++ lost) refl k.read (told_then t) in
-          subst (λ bytes. AreFirstLines bytes f) (sym (all_bytes source now (f ++ lost) gives.source.nothing_taken k.read (told_then t))) (record {
+          subst (λ bytes. AreFirstLines bytes f) (sym (all_bytes source now (f ++ lost) fresh.nothing_taken k.read (told_then t))) (record {
             others = lost ++ first.others;
             parts = first.parts ∙ append_assoc f lost first.others;
           });
       whole = λ t e.
           let read = to_end how.End e in
-          subst (λ bytes. AreAllLines bytes f) (sym (all_bytes source now f gives.source.nothing_taken read (told_then t)))
+          subst (λ bytes. AreAllLines bytes f) (sym (all_bytes source now f fresh.nothing_taken read (told_then t)))
           (read.at_end (told_then t) (known_end (source_end before s) now.end k.known e));
       too_long = λ t e.
           let read = to_end how.TooLong e in
-          subst (λ bytes. AreLinesBeforeLong bytes f) (sym (all_bytes source now f gives.source.nothing_taken read (told_then t)))
+          subst (λ bytes. AreLinesBeforeLong bytes f) (sym (all_bytes source now f fresh.nothing_taken read (told_then t)))
           (before_long source now f (known_long (source_end before s) now.end k.known e) read (told_then t));
-      fault = λ e. subst (λ n. Rose n now.source.faults) gives.source.no_fault (k.read.at_fault (known_fault (source_end before s) now.end k.known e));
-      quiet = subst (λ n. RoseBy (quiets before s) n now.source.waits) gives.source.no_wait k.quiet;
+      fault = λ e. subst (λ n. Rose n now.source.faults) fresh.no_fault (k.read.at_fault (known_fault (source_end before s) now.end k.known e));
+      quiet = subst (λ n. RoseBy (quiets before s) n now.source.waits) fresh.no_wait k.quiet;
     }
 
-pub source_read : (topology : Topology) (before : History) (s : StageNo) (lost : List (List ℕ)) (edges : EdgesSeen) (name : List ℕ) (opened now : LineSeen) → is_legal topology before ≡ true → has_role topology s is_producer_role ≡ true → same_stage s (stage 0) ≡ false
+source_read : (topology : Topology) (before : History) (s : StageNo) (lost : List (List ℕ)) (edges : EdgesSeen) (name : List ℕ) (opened now : LineSeen) → is_legal topology before ≡ true → has_role topology s is_producer_role ≡ true → same_stage s (stage 0) ≡ false
     → (lost ≡ []) ⊎ (is_out before (post s 0) ≡ true) → GivesLines edges name opened → KeepsSource before s lost opened now → IsSourceRead edges before s name now.source
 source_read topology before s lost edges name opened now legal role own in_fetch gives k = record {
   opened = opened.source;
   given = gives.source;
   same_telling = k.read.same_telling;
   same_bytes = λ t. all_bytes opened.source now (fed before s ++ lost) gives.source.nothing_taken k.read t;
-  reads = reads_source topology before s lost edges name opened now legal role own in_fetch gives k;
+  reads = reads_source topology before s lost opened now legal role own in_fetch (record { nothing_taken = gives.source.nothing_taken; no_fault = gives.source.no_fault; no_wait = gives.source.no_wait }) k;
 }
+
+made_read : (whole : Bool) (topology : Topology) (before : History) (s : StageNo) (lost : List (List ℕ)) (bytes : List ℕ) (opened now : LineSeen) → is_legal topology before ≡ true → has_role topology s is_producer_role ≡ true → same_stage s (stage 0) ≡ false
+    → (lost ≡ []) ⊎ (is_out before (post s 0) ≡ true) → GivesMade bytes opened → KeepsSource before s lost opened now → (IsTrue whole → IsCalm (Some (Fed (Made bytes))) (Some now.source)) → IsMadeRead whole before s bytes now.source
+made_read whole topology before s lost bytes opened now legal role own in_fetch gives k calm = record {
+  tells = subst (λ b. b ≡ true) (sym k.read.same_telling) gives.source.tells;
+  same_bytes = all_bytes opened.source now (fed before s ++ lost) gives.source.nothing_taken k.read gives.source.tells ∙ gives.source.all_left;
+  reads = reads_source topology before s lost opened now legal role own in_fetch (record { nothing_taken = gives.source.nothing_taken; no_fault = gives.source.no_fault; no_wait = gives.source.no_wait }) k;
+  calm = calm;
+}
+
+pub feed_read : (whole : Bool) (topology : Topology) (before : History) (s : StageNo) (lost : List (List ℕ)) (edges : EdgesSeen) (feed : Feed) (opened now : LineSeen) → is_legal topology before ≡ true → has_role topology s is_producer_role ≡ true → same_stage s (stage 0) ≡ false
+    → (lost ≡ []) ⊎ (is_out before (post s 0) ≡ true) → GivesFeed edges feed opened → KeepsSource before s lost opened now → (IsTrue whole → IsCalm (Some (Fed feed)) (Some now.source)) → IsFeedRead whole edges before s feed now.source
+feed_read whole topology before s lost edges (Opened name) opened now legal role own in_fetch gives k calm = source_read topology before s lost edges name opened now legal role own in_fetch gives k
+feed_read whole topology before s lost edges (Made bytes) opened now legal role own in_fetch gives k calm = made_read whole topology before s lost bytes opened now legal role own in_fetch gives k calm

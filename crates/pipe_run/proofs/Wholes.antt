@@ -2,11 +2,13 @@
 use Rattle.std.proofs.Common.{◌≡◌, ℕ, List, Bool, true, length, map, Option, None, Result, Ok, Err}
 use Rattle.std.specs.Prelude.{is_ok, IfOk, OnErr}
 use Rattle.pipe_types.specs.Sound.{IsSound}
+use Rattle.pipe_types.specs.declared.topology.StageSpec.{StageSpec}
 use Rattle.pipe_types.specs.declared.topology.Topology.{Topology}
 use Rattle.pipe_model.specs.History.{History}
 use Rattle.pipe_model.specs.Legal.{is_legal}
 use Rattle.stage_bodies.specs.Seen.{LineSeen, BoxSeen, BodySeen}
 use Rattle.run_pipe.specs.Clocks.{ClockSeen}
+use Rattle.edge_names.specs.Supplies.{Feed}
 use Rattle.edge_names.specs.Seen.{EdgesSeen}
 use Rattle.edge_names.specs.Controls.{control_call, first_sources, first_sinks, run_calls}
 use Rattle.edge_names.specs.Opened.{AreOpened, Asks, HasSource}
@@ -26,31 +28,32 @@ use Rattle.pipe_run.proofs.Controls.{has_control, no_control}
 use Rattle.pipe_run.proofs.Stocks.{IsTakenBack, boxes_left, boxes_same}
 
 -- everything was opened, the rounds went on, and all was given back
-pub run_of : (whole : Bool) (topology : Topology) (before : History) (table opened final : ℕ → Option BodySeen) (fresh : Option LineSeen) (old mid new : EdgesSeen) (clock clock' : ClockSeen) → IsSound topology → is_legal topology before ≡ true → AreHandedOut topology table
-    → AreOpened topology (length topology.stages) old table opened → HasSource old (control_call topology.control) None fresh → Asks (run_calls topology) old mid → WentOn whole topology before opened final fresh mid new clock clock'
-    → IsRunOf whole topology before old new clock clock'
-run_of whole topology before table opened final fresh old mid new clock clock' sound legal handed opens lines asks went =
-    let from : IsRunFrom topology old before table opened went.bodies = record {
+pub run_of : (feeds : StageSpec → Option Feed) (whole : Bool) (topology : Topology) (before : History) (table opened final : ℕ → Option BodySeen) (fresh : Option LineSeen) (old mid new : EdgesSeen) (clock clock' : ClockSeen) → IsSound topology → is_legal topology before ≡ true → AreHandedOut topology table
+    → AreOpened feeds topology (length topology.stages) old table opened → HasSource old (control_call topology.control) None fresh → Asks (run_calls feeds topology) old mid → WentOn feeds whole topology before opened final fresh mid new clock clock'
+    → IsRunOf feeds whole topology before old new clock clock'
+run_of feeds whole topology before table opened final fresh old mid new clock clock' sound legal handed opens lines asks went =
+    let from : IsRunFrom feeds whole topology old before table opened went.bodies = record {
       sound = sound;
       legal = legal;
-      home = homes topology table handed;
+      home = homes feeds topology table handed;
       opens = opens;
       keeps = went.keeps;
       stay = went.stay;
+      calm = went.calm;
     } in
     let obeyed = has_control topology old before topology.control fresh went.control lines went.obeyed in
     record {
       follows = went.follows;
       control = λ none. no_control topology old before topology.control fresh went.control none lines went.obeyed;
       ended = went.ended;
-      outside = outside whole topology before (run_calls topology) old mid new went.control went.bodies went.parts went.all obeyed (used topology old before table opened went.bodies from) asks went.back;
+      outside = outside feeds whole topology before (run_calls feeds topology) old mid new went.control went.bodies went.parts went.all obeyed (used feeds whole topology old before table opened went.bodies from) asks went.back;
       time = went.time;
-      asks = asked_all (run_calls topology) (first_sources went.parts topology went.control went.bodies) (first_sinks went.parts topology went.bodies) old mid new asks went.back;
+      asks = asked_all (run_calls feeds topology) (first_sources feeds went.parts topology went.control went.bodies) (first_sinks feeds went.parts topology went.bodies) old mid new asks went.back;
     }
 
-pub run_leaves : (whole : Bool) (topology : Topology) (before : History) (table opened final : ℕ → Option BodySeen) (fresh : Option LineSeen) (mid new : EdgesSeen) (clock clock' : ClockSeen) → IsSound topology → KeepsCallbacks table opened
-    → WentOn whole topology before opened final fresh mid new clock clock' → LeavesCallbacks whole topology before table final
-run_leaves whole topology before table opened final fresh mid new clock clock' sound first went =
+pub run_leaves : (feeds : StageSpec → Option Feed) (whole : Bool) (topology : Topology) (before : History) (table opened final : ℕ → Option BodySeen) (fresh : Option LineSeen) (mid new : EdgesSeen) (clock clock' : ClockSeen) → IsSound topology → KeepsCallbacks table opened
+    → WentOn feeds whole topology before opened final fresh mid new clock clock' → LeavesCallbacks whole topology before table final
+run_leaves feeds whole topology before table opened final fresh mid new clock clock' sound first went =
     leaves whole topology before table opened went.bodies final sound first went.keeps went.none_out went.stay went.kept
 
 -- ---- whether or not there was a run

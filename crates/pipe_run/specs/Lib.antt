@@ -1,4 +1,5 @@
 pub mod Outside
+pub mod Records
 pub mod Boxes
 pub mod Whole
 pub mod Steps

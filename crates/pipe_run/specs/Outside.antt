@@ -10,7 +10,6 @@ use Rattle.pipe_types.specs.Stages.{spec_of}
 use Rattle.pipe_model.specs.History.{History}
 use Rattle.pipe_model.specs.Outside.{fed, source_end, sink_text}
 use Rattle.pipe_edges.specs.declared.edges.EdgeKind.{EdgeKind}
-use Rattle.pipe_edges.specs.declared.edges.EdgeKind.TheVariants.{Source, Sink}
 use Rattle.source_lines.specs.Cut.{AreFirstLines, AreAllLines, AreLinesBeforeLong}
 use Rattle.pipe_laws.specs.Read.{quiets}
 use Rattle.stage_job.specs.Chunks.{RoseBy}
@@ -21,7 +20,8 @@ use Rattle.body_laws.specs.Ready.{There}
 use Rattle.run_pipe.specs.Obeyed.{IsControlRead}
 use Rattle.edge_names.specs.Seen.{EdgesSeen}
 use Rattle.edge_names.specs.Named.{GivesSource, GivesSink}
-use Rattle.edge_names.specs.Opened.{AreOpened, HasSource, call_in, calls_of, edge_call, edge_calls}
+use Rattle.edge_names.specs.Supplies.{Feed, Opened, Made, Fed, Written, call_of}
+use Rattle.edge_names.specs.Opened.{AreOpened, HasSource, supplied_in, calls_of, edge_calls}
 use Rattle.edge_names.specs.Returned.{source_in, sink_in, sources_of, sinks_of}
 use Rattle.edge_names.specs.Controls.{IsControlCut, IsStageCut, control_call, named_control, first_sources, first_sinks}
 use Rattle.box_stock.specs.Lends.{AreHandedOut}
@@ -68,60 +68,73 @@ pub record IsSinkWritten (topology : Topology) (edges : EdgesSeen) (before : His
   pub held : IsTrue opened.told → sink.held ≡ opened.held ++ sink_text topology before s
   pub short : RoseBy (short_writes topology before s) 0 sink.faults
 
--- the bodies of the stages hold what was opened by name, each source read and each sink written as the journal says
-pub record AreUsed (topology : Topology) (edges : EdgesSeen) (before : History) (bodies : ℕ → Option BodySeen) : Type 0 where
-  pub sources : (s : StageNo) (name : List ℕ) → call_in (spec_of topology s) ≡ Some (Source, name)
-      → There (source_in (bodies (place_at (post s 0)))) (IsSourceRead edges before s name)
-  pub sinks : (s : StageNo) (name : List ℕ) → call_in (spec_of topology s) ≡ Some (Sink, name)
+-- the source that was made of these bytes has them, and the journal's records are its lines. In a whole run it has counted no
+-- fault and no wait
+pub record IsMadeRead (whole : Bool) (before : History) (p : StageNo) (bytes : List ℕ) (source : SourceSeen) : Type 0 where
+  pub tells : IsTrue source.told
+  pub same_bytes : source.taken ++ source.left ≡ bytes
+  pub reads : ReadsSource before p source
+  pub calm : IsTrue whole → (source.faults ≡ 0) × (source.waits ≡ 0)
+
+-- the source of a producer, however it came to it
+abbrev pub IsFeedRead : (whole : Bool) → EdgesSeen → History → (p : StageNo) → Feed → SourceSeen → Type 0
+IsFeedRead whole edges before p (Opened name) source = IsSourceRead edges before p name source
+IsFeedRead whole edges before p (Made bytes) source = IsMadeRead whole before p bytes source
+
+-- the bodies of the stages hold what they were supplied with, each source read and each sink written as the journal says
+pub record AreUsed (feeds : StageSpec → Option Feed) (whole : Bool) (topology : Topology) (edges : EdgesSeen) (before : History) (bodies : ℕ → Option BodySeen) : Type 0 where
+  pub sources : (s : StageNo) (feed : Feed) → supplied_in feeds (spec_of topology s) ≡ Some (Fed feed)
+      → There (source_in (bodies (place_at (post s 0)))) (IsFeedRead whole edges before s feed)
+  pub sinks : (s : StageNo) (name : List ℕ) → supplied_in feeds (spec_of topology s) ≡ Some (Written name)
       → There (sink_in (bodies (place_at (post s 0)))) (IsSinkWritten topology edges before s name)
 
 -- everything that was opened by name was read and written as the journal says, and then given back, the control source first
 -- and then what the stages opened, in their order: all of it, unless memory was wanting
-pub record IsOutside (whole : Bool) (topology : Topology) (before : History) (old new : EdgesSeen) : Type 0 where
+pub record IsOutside (feeds : StageSpec → Option Feed) (whole : Bool) (topology : Topology) (before : History) (old new : EdgesSeen) : Type 0 where
   pub control : Option LineSeen
   pub obeyed : HasControl topology old before topology.control control
   pub bodies : ℕ → Option BodySeen
-  pub used : AreUsed topology old before bodies
+  pub used : AreUsed feeds whole topology old before bodies
   pub parts : ℕ
   pub all : IsTrue whole → parts ≡ suc (length topology.stages)
-  pub sources : new.sources_back ≡ old.sources_back ++ first_sources parts topology control bodies
-  pub sinks : new.sinks_back ≡ old.sinks_back ++ first_sinks parts topology bodies
+  pub sources : new.sources_back ≡ old.sources_back ++ first_sources feeds parts topology control bodies
+  pub sinks : new.sinks_back ≡ old.sinks_back ++ first_sinks feeds parts topology bodies
 
 -- the call of the control source failed by this name, with these calls still to come, and nothing was given back
-pub record IsControlUnopened (topology : Topology) (name : List ℕ) (rest : List (EdgeKind × List ℕ)) (old new : EdgesSeen) : Type 0 where
+pub record IsControlUnopened (feeds : StageSpec → Option Feed) (topology : Topology) (name : List ℕ) (rest : List (EdgeKind × List ℕ)) (old new : EdgesSeen) : Type 0 where
   pub call : topology.control ≡ Some name
-  pub to_come : rest ≡ edge_calls topology
+  pub to_come : rest ≡ edge_calls feeds topology
   pub sources : new.sources_back ≡ old.sources_back
   pub sinks : new.sinks_back ≡ old.sinks_back
 
 -- the call of a stage failed by this name, with these calls still to come, and the control source and then what the stages before
 -- it had opened, in their order, was given back, unread and unwritten
-pub record IsStageUnopened (topology : Topology) (name : List ℕ) (rest : List (EdgeKind × List ℕ)) (old new : EdgesSeen) : Type 0 where
+pub record IsStageUnopened (feeds : StageSpec → Option Feed) (topology : Topology) (name : List ℕ) (rest : List (EdgeKind × List ℕ)) (old new : EdgesSeen) : Type 0 where
   pub at : ℕ
   pub kind : EdgeKind
   pub spec : StageSpec
   pub here : slice_get topology.stages at ≡ Some spec
-  pub call : edge_call spec ≡ Some (kind, name)
-  pub to_come : rest ≡ calls_of (drop (at + 1) topology.stages)
+  pub call : call_of feeds spec ≡ Some (kind, name)
+  pub to_come : rest ≡ calls_of feeds (drop (at + 1) topology.stages)
   pub control : Option LineSeen
   pub unread : HasSource old (control_call topology.control) None control
   pub start : ℕ → Option BodySeen
   pub handed : AreHandedOut topology start
   pub bodies : ℕ → Option BodySeen
-  pub opened : AreOpened topology at old start bodies
-  pub sources : new.sources_back ≡ old.sources_back ++ (named_control topology.control control ++ sources_of topology.stages bodies)
-  pub sinks : new.sinks_back ≡ old.sinks_back ++ sinks_of topology.stages bodies
+  pub opened : AreOpened feeds topology at old start bodies
+  pub sources : new.sources_back ≡ old.sources_back ++ (named_control topology.control control ++ sources_of feeds topology.stages bodies)
+  pub sinks : new.sinks_back ≡ old.sinks_back ++ sinks_of feeds topology.stages bodies
 
 -- a call that opens failed by this name, with these calls still to come, and what was opened before it was given back
-abbrev pub IsUnopened : Topology → (name : List ℕ) → (rest : List (EdgeKind × List ℕ)) → (old new : EdgesSeen) → Type 0
-IsUnopened topology name rest old new = IsControlUnopened topology name rest old new ⊎ IsStageUnopened topology name rest old new
+abbrev pub IsUnopened : (StageSpec → Option Feed) → Topology → (name : List ℕ) → (rest : List (EdgeKind × List ℕ)) → (old new : EdgesSeen) → Type 0
+IsUnopened feeds topology name rest old new = IsControlUnopened feeds topology name rest old new ⊎ IsStageUnopened feeds topology name rest old new
 
 -- memory was wanting before all was opened, with these calls still to come, and what was opened was given back, unread and
 -- unwritten: all of it or the first parts
-abbrev pub IsOpenedInPart : Topology → (rest : List (EdgeKind × List ℕ)) → (old new : EdgesSeen) → Type 0
-IsOpenedInPart topology rest old new =
-    IsControlCut topology rest old new
-    ⊎ ((start : ℕ → Option BodySeen) × AreHandedOut topology start × IsStageCut topology start rest old new)
+abbrev pub IsOpenedInPart : (StageSpec → Option Feed) → Topology → (rest : List (EdgeKind × List ℕ)) → (old new : EdgesSeen) → Type 0
+IsOpenedInPart feeds topology rest old new =
+    IsControlCut feeds topology rest old new
+    ⊎ ((start : ℕ → Option BodySeen) × AreHandedOut topology start × IsStageCut feeds topology start rest old new)
 
 -- these calls by name were made, of edges that tell as before
 pub record AreAsked (calls : List (EdgeKind × List ℕ)) (old new : EdgesSeen) : Type 0 where

@@ -1,6 +1,7 @@
 -- What a whole run comes to, and what a run comes to that does not begin.
-use Rattle.std.specs.Prelude.{◌≡◌, ◌⊎◌, ◌++◌, ◌∷◌, [], true, false, Bool, List, ℕ, IsTrue, None}
+use Rattle.std.specs.Prelude.{◌≡◌, ◌⊎◌, ◌++◌, ◌∷◌, [], true, false, Bool, List, ℕ, IsTrue, Option, None}
 use Rattle.pipe_types.specs.Counts.{Rose}
+use Rattle.pipe_types.specs.declared.topology.StageSpec.{StageSpec}
 use Rattle.pipe_types.specs.declared.topology.Topology.{Topology}
 use Rattle.pipe_model.specs.History.{History}
 use Rattle.pipe_model.specs.Legal.{happened, is_halt}
@@ -9,6 +10,7 @@ use Rattle.pipe_edges.specs.declared.edges.EdgeKind.{EdgeKind}
 use Rattle.pipe_laws.specs.Followed.{FollowsMoves}
 use Rattle.pipe_laws.specs.Read.{HasNoControl}
 use Rattle.run_pipe.specs.Clocks.{ClockSeen, KeepsClock, KeepsClockPartly}
+use Rattle.edge_names.specs.Supplies.{Feed}
 use Rattle.edge_names.specs.Seen.{EdgesSeen}
 use Rattle.edge_names.specs.Controls.{run_calls}
 use Rattle.pipe_run.specs.Outside.{AreAsked, IsOpenedInPart, IsOutside, IsUnopened}
@@ -26,31 +28,31 @@ IsTimeOf false before old new = KeepsClockPartly before old new
 
 -- a run to its end, or until memory was wanting: each step of its own accord was the next move, none comes from a control
 -- source where none is named, and its time is the clock's
-pub record IsRunOf (whole : Bool) (topology : Topology) (before : History) (old new : EdgesSeen) (clock clock' : ClockSeen) : Type 0 where
+pub record IsRunOf (feeds : StageSpec → Option Feed) (whole : Bool) (topology : Topology) (before : History) (old new : EdgesSeen) (clock clock' : ClockSeen) : Type 0 where
   pub follows : FollowsMoves topology before
   pub control : topology.control ≡ None → HasNoControl before
   pub ended : IsTrue whole → HasCome topology before
-  pub outside : IsOutside whole topology before old new
+  pub outside : IsOutside feeds whole topology before old new
   pub time : IsTimeOf whole before clock clock'
-  pub asks : AreAsked (run_calls topology) old new
+  pub asks : AreAsked (run_calls feeds topology) old new
 
 -- a call by this name failed: it was the last, and what was opened before it was given back
-pub record HasFailed (topology : Topology) (name : List ℕ) (old new : EdgesSeen) : Type 0 where
+pub record HasFailed (feeds : StageSpec → Option Feed) (topology : Topology) (name : List ℕ) (old new : EdgesSeen) : Type 0 where
   pub kind : EdgeKind
   pub front : List (EdgeKind × List ℕ)
   pub rest : List (EdgeKind × List ℕ)
-  pub calls : run_calls topology ≡ front ++ (kind, name) ∷ rest
+  pub calls : run_calls feeds topology ≡ front ++ (kind, name) ∷ rest
   pub asks : AreAsked (front ++ (kind, name) ∷ []) old new
   pub fault : Rose old.faults new.faults
-  pub back : IsUnopened topology name rest old new
+  pub back : IsUnopened feeds topology name rest old new
 
 -- memory was wanting before the run began: so many of the calls were made, and what they opened was given back
-pub record HasWanted (topology : Topology) (old new : EdgesSeen) : Type 0 where
+pub record HasWanted (feeds : StageSpec → Option Feed) (topology : Topology) (old new : EdgesSeen) : Type 0 where
   pub front : List (EdgeKind × List ℕ)
   pub rest : List (EdgeKind × List ℕ)
-  pub calls : run_calls topology ≡ front ++ rest
+  pub calls : run_calls feeds topology ≡ front ++ rest
   pub asks : AreAsked front old new
-  pub back : IsOpenedInPart topology rest old new
+  pub back : IsOpenedInPart feeds topology rest old new
 
 abbrev pub IfUnopened : NoRun → (List ℕ → Type 0) → Type 0
 IfUnopened (Unopened name) P = P name

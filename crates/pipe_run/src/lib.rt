@@ -1,9 +1,23 @@
 //! A whole run of a topology: boxes handed out, sources and sinks opened, the rounds, and all of it given back.
 //!
-//! `run_topology` takes the boxes of a stock, opens what the topology names, runs until the pipeline is drained or halted, gives
-//! sources and sinks back under their names, and answers the core with the journal, and the boxes in their order.
+//! `run_topology` takes the boxes of a stock and a supply of sources, opens what they name, runs until the pipeline is drained or
+//! halted, gives sources and sinks back under their names, and answers the core with the journal, and the boxes in their order.
 #![tactic(auto)]
+
+ghost use Rattle.std.specs.Prelude.{ℕ, Bool, List, All};
+ghost use Rattle.pipe_types.specs.declared.numbers.StageNo.{StageNo};
+ghost use Rattle.pipe_model.specs.History.{History};
+ghost use Rattle.pipe_edges.specs.Texts.{IsLine, ended};
+ghost use Rattle.stage_bodies.specs.Seen.{SourceSeen};
+ghost use Rattle.pipe_run.specs.Outside.{IsMadeRead};
+ghost use Rattle.pipe_run.specs.Records.{ReadsRecords};
 
 mod run;
 
 pub use run::{Ended, NoRun, Run, run_topology};
+
+/// A run reads the records, in their order, of a source that was made of records.
+pub fn made_sources_give_their_records()
+    ensures { (whole : Bool) (before : History) (p : StageNo) (records : List (List ℕ)) (source : SourceSeen) → All IsLine records
+        → IsMadeRead whole before p (ended records) source → ReadsRecords whole before p records }
+{}

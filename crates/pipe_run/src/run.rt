@@ -9,6 +9,7 @@ ghost use Rattle.body_laws.specs.Ready.{IsFilled};
 ghost use Rattle.run_pipe.specs.Keeping.{IsFresh};
 ghost use Rattle.run_pipe.specs.Clocks.{clock_seen};
 ghost use Rattle.run_pipe.specs.Ends.{HasEnded};
+ghost use Rattle.edge_names.specs.Supplies.{FeedsProducers};
 ghost use Rattle.edge_names.specs.Returned.{KeepsCallbacks};
 ghost use Rattle.box_stock.specs.Homes.{Suffices};
 ghost use Rattle.box_stock.specs.Lends.{AreHandedOut, AreStillThere, IsSameBox, box_at, kinds_of};
@@ -18,9 +19,9 @@ ghost use Rattle.pipe_run.specs.Whole.{IsRunOf, HasFailed, HasWanted, HasCome, I
 
 use box_stock::{Boxed, Carries, Lent, hand_out, take_back};
 use core_state::Core;
-use edge_names::{SeenEdges, Unopened, give_back, open_or_give_back};
-use journal_watch::NoWatch;
+use edge_names::{SeenEdges, Supply, Unopened, give_back, open_or_give_back};
 use pipe_edges::{ByteSource, Clock, Edges, LineSource};
+use pipe_journal::NoWatch;
 use pipe_types::bytes::Text;
 use pipe_types::topology::Topology;
 use run_pipe::{Pipe, PipeParts, RunEnd, run_workers};
@@ -66,17 +67,20 @@ struct Went<B, K> {
     clock: K,
 }
 
-/// Runs the topology on so many workers, on one at least, with boxes of the stock, which come back in their order. Nothing is
-/// opened before the memory for the run was found. Where the topology has no idle limit, it may wait for its sources for ever.
+/// Runs the topology on so many workers, on one at least, with sources by the supply and boxes of the stock, which come back in
+/// their order. Nothing is opened before the memory for the run was found. Where the topology has no idle limit, it may wait for
+/// its sources for ever.
 pub fn run_topology<
     R: Threads + Wait + Sync,
     E: Edges,
+    Q: Supply<E>,
     C: Boxed,
-    B: Carries<C> + Houses<E::Source, E::Sink> + Send,
+    B: Carries<C> + Houses<Q::Source, E::Sink> + Send,
     K: Clock + Send,
 >(
     rt: &R,
     alloc: Global,
+    supply: &Q,
     topology: Topology,
     workers: u16,
     stock: Vec<C>,
@@ -84,21 +88,22 @@ pub fn run_topology<
     clock: K,
 ) -> Ended<C, K>
     requires sound { IsSound topology }
+    requires fed { FeedsProducers (Q.feeds supply.now) topology }
     requires suffices { Suffices topology (kinds_of C.seen stock.items) }
     ensures topology { IfOk result.run (λ run. run.core.topology ≡ topology) }
     ensures stands { IfOk result.run (λ run. Stands run.core) }
-    ensures ran { IfOk result.run (λ run. IsRunOf (is_ok run.end) topology run.core.journal.steps (⟦<E as SeenEdges>⟧.seen edges.old) (⟦<E as SeenEdges>⟧.seen edges.new)
+    ensures ran { IfOk result.run (λ run. IsRunOf (Q.feeds supply.now) (is_ok run.end) topology run.core.journal.steps (⟦<E as SeenEdges>⟧.seen edges.old) (⟦<E as SeenEdges>⟧.seen edges.new)
         (clock_seen K.latest K.readings clock) (clock_seen K.latest K.readings result.clock)) }
     ensures ended { IfOk result.run (λ run. IfOk run.end (HasEnded topology run.core.journal.steps)) }
     ensures boxes { IfOk result.run (λ run. AreBoxesLeft (is_ok run.end) topology run.core.journal.steps (map C.seen stock.items) (map C.seen result.stock.items)) }
-    ensures failed { IfErr result.run (λ e. IfUnopened e (λ name. HasFailed topology name (⟦<E as SeenEdges>⟧.seen edges.old) (⟦<E as SeenEdges>⟧.seen edges.new))) }
-    ensures wanting { IfErr result.run (λ e. IfWanting e (HasWanted topology (⟦<E as SeenEdges>⟧.seen edges.old) (⟦<E as SeenEdges>⟧.seen edges.new))) }
+    ensures failed { IfErr result.run (λ e. IfUnopened e (λ name. HasFailed (Q.feeds supply.now) topology name (⟦<E as SeenEdges>⟧.seen edges.old) (⟦<E as SeenEdges>⟧.seen edges.new))) }
+    ensures wanting { IfErr result.run (λ e. IfWanting e (HasWanted (Q.feeds supply.now) topology (⟦<E as SeenEdges>⟧.seen edges.old) (⟦<E as SeenEdges>⟧.seen edges.new))) }
     ensures same_boxes { OnErr result.run (AreSameBoxes (map C.seen stock.items) (map C.seen result.stock.items)) }
     ensures same_clock { OnErr result.run (result.clock ≡ clock) }
 {
     match hand_out::<C, B>(alloc, &topology, stock) {
         Ok((bodies, lent)) => {
-            let left = run_bodies(rt, alloc, topology, workers, bodies, edges, clock);
+            let left = run_bodies(rt, alloc, supply, topology, workers, bodies, edges, clock);
             let Left { run, bodies, clock } = left;
             let mut bodies = bodies;
             let stock = take_back(&mut bodies, lent);
@@ -116,12 +121,14 @@ pub fn run_topology<
 fn run_bodies<
     R: Threads + Wait + Sync,
     E: Edges,
+    Q: Supply<E>,
     C: Boxed,
-    B: Carries<C> + Houses<E::Source, E::Sink> + Send,
+    B: Carries<C> + Houses<Q::Source, E::Sink> + Send,
     K: Clock + Send,
 >(
     rt: &R,
     alloc: Global,
+    supply: &Q,
     topology: Topology,
     workers: u16,
     bodies: Vec<Option<B>>,
@@ -129,15 +136,16 @@ fn run_bodies<
     clock: K,
 ) -> Left<B, K>
     requires sound { IsSound topology }
+    requires fed { FeedsProducers (Q.feeds supply.now) topology }
     requires handed { AreHandedOut topology (body_at B.look bodies.items) }
     ensures topology { IfOk result.run (λ run. run.core.topology ≡ topology) }
     ensures stands { IfOk result.run (λ run. Stands run.core) }
-    ensures ran { IfOk result.run (λ run. IsRunOf (is_ok run.end) topology run.core.journal.steps (⟦<E as SeenEdges>⟧.seen edges.old) (⟦<E as SeenEdges>⟧.seen edges.new)
+    ensures ran { IfOk result.run (λ run. IsRunOf (Q.feeds supply.now) (is_ok run.end) topology run.core.journal.steps (⟦<E as SeenEdges>⟧.seen edges.old) (⟦<E as SeenEdges>⟧.seen edges.new)
         (clock_seen K.latest K.readings clock) (clock_seen K.latest K.readings result.clock)) }
     ensures ended { IfOk result.run (λ run. IfOk run.end (HasEnded topology run.core.journal.steps)) }
     ensures boxes { IfOk result.run (λ run. LeavesCallbacks (is_ok run.end) topology run.core.journal.steps (body_at B.look bodies.items) (body_at B.look result.bodies.items)) }
-    ensures failed { IfErr result.run (λ e. IfUnopened e (λ name. HasFailed topology name (⟦<E as SeenEdges>⟧.seen edges.old) (⟦<E as SeenEdges>⟧.seen edges.new))) }
-    ensures wanting { IfErr result.run (λ e. IfWanting e (HasWanted topology (⟦<E as SeenEdges>⟧.seen edges.old) (⟦<E as SeenEdges>⟧.seen edges.new))) }
+    ensures failed { IfErr result.run (λ e. IfUnopened e (λ name. HasFailed (Q.feeds supply.now) topology name (⟦<E as SeenEdges>⟧.seen edges.old) (⟦<E as SeenEdges>⟧.seen edges.new))) }
+    ensures wanting { IfErr result.run (λ e. IfWanting e (HasWanted (Q.feeds supply.now) topology (⟦<E as SeenEdges>⟧.seen edges.old) (⟦<E as SeenEdges>⟧.seen edges.new))) }
     ensures same_callbacks { OnErr result.run (KeepsCallbacks (body_at B.look bodies.items) (body_at B.look result.bodies.items)) }
     ensures same_clock { OnErr result.run (result.clock ≡ clock) }
 {
@@ -149,10 +157,10 @@ fn run_bodies<
             clock,
         };
     };
-    match open_or_give_back(alloc, core.topology(), &mut bodies, edges) {
+    match open_or_give_back(alloc, supply, core.topology(), &mut bodies, edges) {
         Ok(control) => {
             let Went { run, bodies, clock } = run_opened(
-                rt, alloc, workers, core, control, bodies, edges, clock,
+                rt, alloc, supply, workers, core, control, bodies, edges, clock,
             );
             Left {
                 run: Ok(run),
@@ -177,11 +185,13 @@ fn run_bodies<
 fn run_opened<
     R: Threads + Wait + Sync,
     E: Edges,
-    B: Houses<E::Source, E::Sink> + Send,
+    Q: Supply<E>,
+    B: Houses<Q::Source, E::Sink> + Send,
     K: Clock + Send,
 >(
     rt: &R,
     alloc: Global,
+    supply: &Q,
     workers: u16,
     core: Core,
     control: Option<LineSource<E::Source>>,
@@ -196,7 +206,7 @@ fn run_opened<
     ensures topology { result.run.core.topology ≡ core.topology }
     ensures stands { Stands result.run.core }
     ensures ended { IfOk result.run.end (HasEnded core.topology result.run.core.journal.steps) }
-    ensures went { WentOn (is_ok result.run.end) core.topology result.run.core.journal.steps (body_at B.look bodies.items) (body_at B.look result.bodies.items)
+    ensures went { WentOn (Q.feeds supply.now) (is_ok result.run.end) core.topology result.run.core.journal.steps (body_at B.look bodies.items) (body_at B.look result.bodies.items)
         (option_map (line_seen E.Source.ByteSource) control)
         (⟦<E as SeenEdges>⟧.seen edges.old) (⟦<E as SeenEdges>⟧.seen edges.new) (clock_seen K.latest K.readings clock) (clock_seen K.latest K.readings result.clock) }
 {
@@ -212,7 +222,7 @@ fn run_opened<
     } = pipe.into_parts();
     let end = end.unwrap();
     let mut bodies = bodies;
-    match give_back(core.topology(), control, &mut bodies, edges) {
+    match give_back(supply, core.topology(), control, &mut bodies, edges) {
         Ok(()) => Went {
             run: Run { core, end },
             bodies,

@@ -5,6 +5,7 @@ use Rattle.std.proofs.lemmas.List.{append_assoc}
 use Rattle.std.proofs.lemmas.List.Elements.{All-cons}
 use Rattle.pipe_types.specs.Counts.{Rose}
 use Rattle.pipe_types.specs.declared.numbers.StageNo.{StageNo}
+use Rattle.pipe_types.specs.declared.topology.StageSpec.{StageSpec}
 use Rattle.pipe_types.specs.declared.topology.Topology.{Topology}
 use Rattle.pipe_types.specs.Numbers.{post}
 use Rattle.pipe_model.specs.History.{History}
@@ -16,11 +17,12 @@ use Rattle.stage_bodies.specs.Posts.{place_at}
 use Rattle.body_laws.specs.Ready.{There}
 use Rattle.edge_names.specs.Seen.{EdgesSeen}
 use Rattle.edge_names.specs.Named.{GivesSource, GivesSink}
-use Rattle.edge_names.specs.Opened.{HasSource, HasSink, IsCut, IsOpened, AreOpened, call_at, edge_call, let_go, returned, uncalled}
+use Rattle.edge_names.specs.Opened.{GivesFeed, HasFeed, HasSource, HasSink, IsCut, IsOpened, AreOpened, supplied_at, let_go, returned, uncalled}
+use Rattle.edge_names.specs.Supplies.{Feed, Opened, Made, Supplied, Fed, Written, call_of}
 use Rattle.edge_names.specs.Controls.{IsFailedInPart, IsStageCut, control_call, named_control, first_sources, first_sinks}
 use Rattle.edge_names.specs.Returned.{source_in, sink_in, sources_of, sinks_of}
-use Rattle.pipe_run.specs.Outside.{IsSourceRead, IsSinkWritten, AreUsed, IsControlUsed, HasControl, IsOpenedInPart, IsOutside, IsStageUnopened, IsUnopened}
-use Rattle.pipe_top.specs.Cases.{Case, NoCommand, NoTopology as BadTopology, TooFew, Checks, Upgrades, Runs}
+use Rattle.pipe_run.specs.Outside.{IsFeedRead, IsSourceRead, IsSinkWritten, AreUsed, IsControlUsed, HasControl, IsOpenedInPart, IsOutside, IsStageUnopened, IsUnopened}
+use Rattle.pipe_top.specs.Cases.{feeds_of, Case, NoCommand, NoTopology as BadTopology, TooFew, Checks, Upgrades, Runs}
 use Rattle.pipe_top.specs.Runs.{OutsideSeen, IsUntouched, IsNothingBack, IsBrokenOff, IsGivenUp, HasRunOrNot, IsOutsideOf, FailsAt}
 use Rattle.pipe_top.specs.Flows.{IsEarly, Outcome, AskedBy, ComesBy}
 use Rattle.run_verdicts.specs.declared.verdict.Refusal.TheVariants.{Usage, Topology as NoTopology, Stock, Edge, Memory}
@@ -64,17 +66,30 @@ has_source old new (Some (Sink, name)) x y same h = h
 has_source old new (Some (File, name)) x y same h = h
 has_source old new None x y same h = h
 
-has_sink : (old new : EdgesSeen) (call : Option (EdgeKind × List ℕ)) (x y : Option SinkSeen) → SameNames old new → HasSink new call x y → HasSink old call x y
-has_sink old new (Some (Sink, name)) x (Some sink) same h = gives_sink old new name sink same h
-has_sink old new (Some (Sink, name)) x None same h = absurd h
-has_sink old new (Some (Source, name)) x y same h = h
-has_sink old new (Some (File, name)) x y same h = h
+gives_feed : (old new : EdgesSeen) (feed : Feed) (lines : LineSeen) → SameNames old new → GivesFeed new feed lines → GivesFeed old feed lines
+gives_feed old new (Opened name) lines same h = record {
+  source = gives_source old new name lines.source same h.source;
+  nothing_waits = h.nothing_waits;
+  no_end = h.no_end;
+}
+gives_feed old new (Made bytes) lines same h = h
+
+has_feed : (old new : EdgesSeen) (what : Option Supplied) (x y : Option LineSeen) → SameNames old new → HasFeed new what x y → HasFeed old what x y
+has_feed old new (Some (Fed feed)) x (Some lines) same h = gives_feed old new feed lines same h
+has_feed old new (Some (Fed feed)) x None same h = absurd h
+has_feed old new (Some (Written name)) x y same h = h
+has_feed old new None x y same h = h
+
+has_sink : (old new : EdgesSeen) (what : Option Supplied) (x y : Option SinkSeen) → SameNames old new → HasSink new what x y → HasSink old what x y
+has_sink old new (Some (Written name)) x (Some sink) same h = gives_sink old new name sink same h
+has_sink old new (Some (Written name)) x None same h = absurd h
+has_sink old new (Some (Fed feed)) x y same h = h
 has_sink old new None x y same h = h
 
-is_opened : (old new : EdgesSeen) (call : Option (EdgeKind × List ℕ)) (x y : BodySeen) → SameNames old new → IsOpened new call x y → IsOpened old call x y
-is_opened old new call x y same h = record {
-  source = has_source old new call x.source y.source same h.source;
-  sink = has_sink old new call x.sink y.sink same h.sink;
+is_opened : (old new : EdgesSeen) (what : Option Supplied) (x y : BodySeen) → SameNames old new → IsOpened new what x y → IsOpened old what x y
+is_opened old new what x y same h = record {
+  source = has_feed old new what x.source y.source same h.source;
+  sink = has_sink old new what x.sink y.sink same h.sink;
   callback = h.callback;
 }
 
@@ -88,10 +103,10 @@ there_as : {A : Type 0} (P Q : A → Type 0) (x : Option A) → ((a : A) → P a
 there_as P Q (Some a) so h = so a h
 there_as P Q None so h = absurd h
 
-are_opened : (topology : Topology) (n : ℕ) (old new : EdgesSeen) (start bodies : ℕ → Option BodySeen) → SameNames old new → AreOpened topology n new start bodies → AreOpened topology n old start bodies
-are_opened topology n old new start bodies same h = λ p few.
-    both_as (IsOpened new (call_at topology n p)) (IsOpened old (call_at topology n p)) (start (place_at p)) (bodies (place_at p))
-    (λ x y. is_opened old new (call_at topology n p) x y same) (h p few)
+are_opened : (feeds : StageSpec → Option Feed) (topology : Topology) (n : ℕ) (old new : EdgesSeen) (start bodies : ℕ → Option BodySeen) → SameNames old new → AreOpened feeds topology n new start bodies → AreOpened feeds topology n old start bodies
+are_opened feeds topology n old new start bodies same h = λ p few.
+    both_as (IsOpened new (supplied_at feeds topology n p)) (IsOpened old (supplied_at feeds topology n p)) (start (place_at p)) (bodies (place_at p))
+    (λ x y. is_opened old new (supplied_at feeds topology n p) x y same) (h p few)
 
 source_read : (old new : EdgesSeen) (before : History) (p : StageNo) (name : List ℕ) (source : SourceSeen) → SameNames old new → IsSourceRead new before p name source → IsSourceRead old before p name source
 source_read old new before p name source same x = record {
@@ -101,6 +116,10 @@ source_read old new before p name source same x = record {
   same_bytes = x.same_bytes;
   reads = x.reads;
 }
+
+feed_read : (whole : Bool) (before : History) (p : StageNo) (feed : Feed) (old new : EdgesSeen) (source : SourceSeen) → SameNames old new → IsFeedRead whole new before p feed source → IsFeedRead whole old before p feed source
+feed_read whole before p (Opened name) old new source same x = source_read old new before p name source same x
+feed_read whole before p (Made bytes) old new source same x = x
 
 control_used : (topology : Topology) (old new : EdgesSeen) (before : History) (name : List ℕ) (source : SourceSeen) → SameNames old new → IsControlUsed topology new before name source → IsControlUsed topology old before name source
 control_used topology old new before name source same x = record {
@@ -127,12 +146,12 @@ sink_written topology old new before s name sink same x = record {
   short = x.short;
 }
 
-are_used : (topology : Topology) (old new : EdgesSeen) (before : History) (bodies : ℕ → Option BodySeen) → SameNames old new
-    → AreUsed topology new before bodies → AreUsed topology old before bodies
-are_used topology old new before bodies same x = record {
-  sources = λ s name call.
-      there_as (IsSourceRead new before s name) (IsSourceRead old before s name) (source_in (bodies (place_at (post s 0))))
-      (λ source. source_read old new before s name source same) (x.sources s name call);
+are_used : (feeds : StageSpec → Option Feed) (whole : Bool) (topology : Topology) (old new : EdgesSeen) (before : History) (bodies : ℕ → Option BodySeen) → SameNames old new
+    → AreUsed feeds whole topology new before bodies → AreUsed feeds whole topology old before bodies
+are_used feeds whole topology old new before bodies same x = record {
+  sources = λ s feed is.
+      there_as (IsFeedRead whole new before s feed) (IsFeedRead whole old before s feed) (source_in (bodies (place_at (post s 0))))
+      (λ source. feed_read whole before s feed old new source same) (x.sources s feed is);
   sinks = λ s name call.
       there_as (IsSinkWritten topology new before s name) (IsSinkWritten topology old before s name) (sink_in (bodies (place_at (post s 0))))
       (λ sink. sink_written topology old new before s name sink same) (x.sinks s name call);
@@ -169,22 +188,22 @@ pub record Called (old new : EdgesSeen) (call : EdgeKind × List ℕ) : Type 0 w
 abbrev with_edges : OutsideSeen → EdgesSeen → OutsideSeen
 with_edges old edges = record old { edges = edges }
 
-outside_as : (whole : Bool) (topology : Topology) (before : History) (call : EdgeKind × List ℕ) (old middle new : EdgesSeen) → Called old middle call
-    → IsOutside whole topology before middle new → IsOutside whole topology before old new
-outside_as whole topology before call old middle new c x = record {
+outside_as : (feeds : StageSpec → Option Feed) (whole : Bool) (topology : Topology) (before : History) (call : EdgeKind × List ℕ) (old middle new : EdgesSeen) → Called old middle call
+    → IsOutside feeds whole topology before middle new → IsOutside feeds whole topology before old new
+outside_as feeds whole topology before call old middle new c x = record {
   control = x.control;
   obeyed = has_control topology old middle before topology.control x.control c.names x.obeyed;
   bodies = x.bodies;
-  used = are_used topology old middle before x.bodies c.names x.used;
+  used = are_used feeds whole topology old middle before x.bodies c.names x.used;
   parts = x.parts;
   all = x.all;
-  sources = x.sources ∙ ap (λ l. l ++ first_sources x.parts topology x.control x.bodies) c.same_sources;
-  sinks = x.sinks ∙ ap (λ l. l ++ first_sinks x.parts topology x.bodies) c.same_sinks;
+  sources = x.sources ∙ ap (λ l. l ++ first_sources feeds x.parts topology x.control x.bodies) c.same_sources;
+  sinks = x.sinks ∙ ap (λ l. l ++ first_sinks feeds x.parts topology x.bodies) c.same_sinks;
 }
 
-stage_unopened_as : (topology : Topology) (name : List ℕ) (rest : List (EdgeKind × List ℕ)) (call : EdgeKind × List ℕ) (old middle new : EdgesSeen) → Called old middle call
-    → IsStageUnopened topology name rest middle new → IsStageUnopened topology name rest old new
-stage_unopened_as topology name rest call old middle new c x = record {
+stage_unopened_as : (feeds : StageSpec → Option Feed) (topology : Topology) (name : List ℕ) (rest : List (EdgeKind × List ℕ)) (call : EdgeKind × List ℕ) (old middle new : EdgesSeen) → Called old middle call
+    → IsStageUnopened feeds topology name rest middle new → IsStageUnopened feeds topology name rest old new
+stage_unopened_as feeds topology name rest call old middle new c x = record {
   at = x.at;
   kind = x.kind;
   spec = x.spec;
@@ -196,32 +215,32 @@ stage_unopened_as topology name rest call old middle new c x = record {
   start = x.start;
   handed = x.handed;
   bodies = x.bodies;
-  opened = are_opened topology x.at old middle x.start x.bodies c.names x.opened;
-  sources = x.sources ∙ ap (λ l. l ++ (named_control topology.control x.control ++ sources_of topology.stages x.bodies)) c.same_sources;
-  sinks = x.sinks ∙ ap (λ l. l ++ sinks_of topology.stages x.bodies) c.same_sinks;
+  opened = are_opened feeds topology x.at old middle x.start x.bodies c.names x.opened;
+  sources = x.sources ∙ ap (λ l. l ++ (named_control topology.control x.control ++ sources_of feeds topology.stages x.bodies)) c.same_sources;
+  sinks = x.sinks ∙ ap (λ l. l ++ sinks_of feeds topology.stages x.bodies) c.same_sinks;
 }
 
-unopened_as : (topology : Topology) (name : List ℕ) (rest : List (EdgeKind × List ℕ)) (call : EdgeKind × List ℕ) (old middle new : EdgesSeen) → Called old middle call
-    → IsUnopened topology name rest middle new → IsUnopened topology name rest old new
-unopened_as topology name rest call old middle new c (inl x) = inl (record {
+unopened_as : (feeds : StageSpec → Option Feed) (topology : Topology) (name : List ℕ) (rest : List (EdgeKind × List ℕ)) (call : EdgeKind × List ℕ) (old middle new : EdgesSeen) → Called old middle call
+    → IsUnopened feeds topology name rest middle new → IsUnopened feeds topology name rest old new
+unopened_as feeds topology name rest call old middle new c (inl x) = inl (record {
   call = x.call;
   to_come = x.to_come;
   sources = x.sources ∙ c.same_sources;
   sinks = x.sinks ∙ c.same_sinks;
 })
-unopened_as topology name rest call old middle new c (inr x) = inr (stage_unopened_as topology name rest call old middle new c x)
+unopened_as feeds topology name rest call old middle new c (inr x) = inr (stage_unopened_as feeds topology name rest call old middle new c x)
 
-given_back_as : (is_file : Type 0) (topology : Topology) (name : List ℕ) (rest : List (EdgeKind × List ℕ)) (call : EdgeKind × List ℕ) (old middle new : EdgesSeen) → Called old middle call
-    → (is_file × IsNothingBack middle new) ⊎ IsUnopened topology name rest middle new → (is_file × IsNothingBack old new) ⊎ IsUnopened topology name rest old new
-given_back_as is_file topology name rest call old middle new c (inl x) = inl (x.0, (x.1.0 ∙ c.same_sources, x.1.1 ∙ c.same_sinks))
-given_back_as is_file topology name rest call old middle new c (inr x) = inr (unopened_as topology name rest call old middle new c x)
+given_back_as : (feeds : StageSpec → Option Feed) (is_file : Type 0) (topology : Topology) (name : List ℕ) (rest : List (EdgeKind × List ℕ)) (call : EdgeKind × List ℕ) (old middle new : EdgesSeen) → Called old middle call
+    → (is_file × IsNothingBack middle new) ⊎ IsUnopened feeds topology name rest middle new → (is_file × IsNothingBack old new) ⊎ IsUnopened feeds topology name rest old new
+given_back_as feeds is_file topology name rest call old middle new c (inl x) = inl (x.0, (x.1.0 ∙ c.same_sources, x.1.1 ∙ c.same_sinks))
+given_back_as feeds is_file topology name rest call old middle new c (inr x) = inr (unopened_as feeds topology name rest call old middle new c x)
 
-given_up_as : (topology : Topology) (call : EdgeKind × List ℕ) (calls : List (EdgeKind × List ℕ)) (old middle new : EdgesSeen) → Called old middle call → IsGivenUp calls topology middle new → IsGivenUp (call ∷ calls) topology old new
+given_up_as : (feeds : StageSpec → Option Feed) (topology : Topology) (call : EdgeKind × List ℕ) (calls : List (EdgeKind × List ℕ)) (old middle new : EdgesSeen) → Called old middle call → IsGivenUp feeds calls topology middle new → IsGivenUp feeds (call ∷ calls) topology old new
 unfolding fails_as
-given_up_as topology call calls old middle new c x = record {
+given_up_as feeds topology call calls old middle new c x = record {
   name = x.name;
   fails = fails_as old.told middle.told call calls old.asked middle.asked new.asked old.faults middle.faults new.faults x.name c.names.same_telling c.faults_stay c.one_call x.fails;
-  back = given_back_as (x.fails.kind ≡ File) topology x.name x.fails.rest call old middle new c x.back;
+  back = given_back_as feeds (x.fails.kind ≡ File) topology x.name x.fails.rest call old middle new c x.back;
 }
 
 cut_as : (old new : EdgesSeen) (call : Option (EdgeKind × List ℕ)) (calls : List (EdgeKind × List ℕ)) (back : List (List ℕ × SourceSeen)) → SameNames old new → IsCut new call calls back → IsCut old call calls back
@@ -246,28 +265,28 @@ either_as : (topology : Topology) (of : Option (EdgeKind × List ℕ)) (calls : 
 either_as topology of calls back parts call old middle new c (inl x) = inl (cut_as old middle of calls back c.names x)
 either_as topology of calls back parts call old middle new c (inr x) = inr (failed_in_part_as topology of calls back parts call old middle new c x)
 
-stage_cut_as : (topology : Topology) (start : ℕ → Option BodySeen) (rest : List (EdgeKind × List ℕ)) (call : EdgeKind × List ℕ) (old middle new : EdgesSeen) → Called old middle call
-    → IsStageCut topology start rest middle new → IsStageCut topology start rest old new
-stage_cut_as topology start rest call old middle new c x = record {
+stage_cut_as : (feeds : StageSpec → Option Feed) (topology : Topology) (start : ℕ → Option BodySeen) (rest : List (EdgeKind × List ℕ)) (call : EdgeKind × List ℕ) (old middle new : EdgesSeen) → Called old middle call
+    → IsStageCut feeds topology start rest middle new → IsStageCut feeds topology start rest old new
+stage_cut_as feeds topology start rest call old middle new c x = record {
   at = x.at;
   spec = x.spec;
   here = x.here;
   calls = x.calls;
   back = x.back;
   parts = x.parts;
-  cut = either_as topology (edge_call x.spec) x.calls x.back x.parts call old middle new c x.cut;
+  cut = either_as topology (call_of feeds x.spec) x.calls x.back x.parts call old middle new c x.cut;
   to_come = x.to_come;
   control = x.control;
   lines = has_source old middle (control_call topology.control) None x.control c.names x.lines;
   opened = x.opened;
-  bodies = are_opened topology x.at old middle start x.opened c.names x.bodies;
-  sources = x.sources ∙ ap (λ l. l ++ (x.back ++ first_sources x.parts topology x.control x.opened)) c.same_sources;
-  sinks = x.sinks ∙ ap (λ l. l ++ first_sinks x.parts topology x.opened) c.same_sinks;
+  bodies = are_opened feeds topology x.at old middle start x.opened c.names x.bodies;
+  sources = x.sources ∙ ap (λ l. l ++ (x.back ++ first_sources feeds x.parts topology x.control x.opened)) c.same_sources;
+  sinks = x.sinks ∙ ap (λ l. l ++ first_sinks feeds x.parts topology x.opened) c.same_sinks;
 }
 
-opened_in_part_as : (topology : Topology) (rest : List (EdgeKind × List ℕ)) (call : EdgeKind × List ℕ) (old middle new : EdgesSeen) → Called old middle call
-    → IsOpenedInPart topology rest middle new → IsOpenedInPart topology rest old new
-opened_in_part_as topology rest call old middle new c (inl x) = inl (record {
+opened_in_part_as : (feeds : StageSpec → Option Feed) (topology : Topology) (rest : List (EdgeKind × List ℕ)) (call : EdgeKind × List ℕ) (old middle new : EdgesSeen) → Called old middle call
+    → IsOpenedInPart feeds topology rest middle new → IsOpenedInPart feeds topology rest old new
+opened_in_part_as feeds topology rest call old middle new c (inl x) = inl (record {
   calls = x.calls;
   back = x.back;
   cut = cut_as old middle (control_call topology.control) x.calls x.back c.names x.cut;
@@ -275,10 +294,10 @@ opened_in_part_as topology rest call old middle new c (inl x) = inl (record {
   sources = x.sources ∙ ap (λ l. l ++ x.back) c.same_sources;
   sinks = x.sinks ∙ c.same_sinks;
 })
-opened_in_part_as topology rest call old middle new c (inr x) = inr (x.0, x.1, stage_cut_as topology x.0 rest call old middle new c x.2)
+opened_in_part_as feeds topology rest call old middle new c (inr x) = inr (x.0, x.1, stage_cut_as feeds topology x.0 rest call old middle new c x.2)
 
-broken_off_as : (topology : Topology) (call : EdgeKind × List ℕ) (calls : List (EdgeKind × List ℕ)) (old middle new : EdgesSeen) → Called old middle call → IsBrokenOff calls topology middle new → IsBrokenOff (call ∷ calls) topology old new
-broken_off_as topology call calls old middle new c x = record {
+broken_off_as : (feeds : StageSpec → Option Feed) (topology : Topology) (call : EdgeKind × List ℕ) (calls : List (EdgeKind × List ℕ)) (old middle new : EdgesSeen) → Called old middle call → IsBrokenOff feeds calls topology middle new → IsBrokenOff feeds (call ∷ calls) topology old new
+broken_off_as feeds topology call calls old middle new c x = record {
   front = call ∷ x.front;
   rest = x.rest;
   parts = ap (λ l. call ∷ l) x.parts;
@@ -286,27 +305,27 @@ broken_off_as topology call calls old middle new c x = record {
   back = by_back x.back;
 }
   where
-    by_back : (All (λ (f : EdgeKind × List ℕ). f.0 ≡ File) x.front × IsNothingBack middle new) ⊎ IsOpenedInPart topology x.rest middle new
-        → (All (λ (f : EdgeKind × List ℕ). f.0 ≡ File) (call ∷ x.front) × IsNothingBack old new) ⊎ IsOpenedInPart topology x.rest old new
+    by_back : (All (λ (f : EdgeKind × List ℕ). f.0 ≡ File) x.front × IsNothingBack middle new) ⊎ IsOpenedInPart feeds topology x.rest middle new
+        → (All (λ (f : EdgeKind × List ℕ). f.0 ≡ File) (call ∷ x.front) × IsNothingBack old new) ⊎ IsOpenedInPart feeds topology x.rest old new
     by_back (inl b) = inl (All-cons (λ (f : EdgeKind × List ℕ). f.0 ≡ File) call x.front c.is_file b.0, (b.1.0 ∙ c.same_sources, b.1.1 ∙ c.same_sinks))
-    by_back (inr b) = inr (opened_in_part_as topology x.rest call old middle new c b)
+    by_back (inr b) = inr (opened_in_part_as feeds topology x.rest call old middle new c b)
 
-given_or_wanting : (memory : Type 0) (topology : Topology) (call : EdgeKind × List ℕ) (calls : List (EdgeKind × List ℕ)) (old middle new : EdgesSeen) → Called old middle call
-    → (memory × IsBrokenOff calls topology middle new) ⊎ IsGivenUp calls topology middle new → (memory × IsBrokenOff (call ∷ calls) topology old new) ⊎ IsGivenUp (call ∷ calls) topology old new
-given_or_wanting memory topology call calls old middle new c (inl m) = inl (m.0, broken_off_as topology call calls old middle new c m.1)
-given_or_wanting memory topology call calls old middle new c (inr x) = inr (given_up_as topology call calls old middle new c x)
+given_or_wanting : (feeds : StageSpec → Option Feed) (memory : Type 0) (topology : Topology) (call : EdgeKind × List ℕ) (calls : List (EdgeKind × List ℕ)) (old middle new : EdgesSeen) → Called old middle call
+    → (memory × IsBrokenOff feeds calls topology middle new) ⊎ IsGivenUp feeds calls topology middle new → (memory × IsBrokenOff feeds (call ∷ calls) topology old new) ⊎ IsGivenUp feeds (call ∷ calls) topology old new
+given_or_wanting feeds memory topology call calls old middle new c (inl m) = inl (m.0, broken_off_as feeds topology call calls old middle new c m.1)
+given_or_wanting feeds memory topology call calls old middle new c (inr x) = inr (given_up_as feeds topology call calls old middle new c x)
 
-run_or_not_as : (memory : Type 0) (wanted : Topology) (topology : Option Topology) (before : History) (call : EdgeKind × List ℕ) (calls : List (EdgeKind × List ℕ)) (old : OutsideSeen) (middle : EdgesSeen) (new : OutsideSeen)
-    → Called old.edges middle call → HasRunOrNot memory calls wanted topology before (with_edges old middle) new → HasRunOrNot memory (call ∷ calls) wanted topology before old new
-run_or_not_as memory wanted (Some t) before call calls old middle new c x = record {
+run_or_not_as : (feeds : StageSpec → Option Feed) (memory : Type 0) (wanted : Topology) (topology : Option Topology) (before : History) (call : EdgeKind × List ℕ) (calls : List (EdgeKind × List ℕ)) (old : OutsideSeen) (middle : EdgesSeen) (new : OutsideSeen)
+    → Called old.edges middle call → HasRunOrNot feeds memory calls wanted topology before (with_edges old middle) new → HasRunOrNot feeds memory (call ∷ calls) wanted topology before old new
+run_or_not_as feeds memory wanted (Some t) before call calls old middle new c x = record {
   whole = x.whole;
   wanting = x.wanting;
-  outside = outside_as x.whole wanted before call old.edges middle new.edges c x.outside;
+  outside = outside_as feeds x.whole wanted before call old.edges middle new.edges c x.outside;
   time = x.time;
   boxes = x.boxes;
 }
-run_or_not_as memory wanted None before call calls old middle new c x = record {
-  edges = given_or_wanting memory wanted call calls old.edges middle new.edges c x.edges;
+run_or_not_as feeds memory wanted None before call calls old middle new c x = record {
+  edges = given_or_wanting feeds memory wanted call calls old.edges middle new.edges c x.edges;
   clock = x.clock;
   boxes = x.boxes;
 }
@@ -326,7 +345,7 @@ outside_of_as memory (BadTopology fault) topology before call calls old middle n
 outside_of_as memory (TooFew shortage) topology before call calls old middle new c x = untouched_as call old middle new c x
 outside_of_as memory (Checks wanted) topology before call calls old middle new c x = untouched_as call old middle new c x
 outside_of_as memory (Upgrades file text wanted) topology before call calls old middle new c x = untouched_as call old middle new c x
-outside_of_as memory (Runs shows wanted) topology before call calls old middle new c x = run_or_not_as memory wanted topology before call calls old middle new c x
+outside_of_as memory (Runs shows feeding wanted) topology before call calls old middle new c x = run_or_not_as (feeds_of feeding wanted) memory wanted topology before call calls old middle new c x
 
 -- ---- the outcome
 

@@ -4,18 +4,20 @@ use Rattle.std.specs.Prelude.{◌⊎◌, IsTrue}
 use Rattle.std.proofs.lemmas.List.{append-nil, append_assoc, take_all, take_at}
 use Rattle.std.proofs.Math.Seq.{take-nil}
 use Rattle.std.proofs.lemmas.Bool.{le-leb}
+use Rattle.pipe_types.specs.declared.topology.StageSpec.{StageSpec}
 use Rattle.pipe_types.specs.declared.topology.Topology.{Topology}
 use Rattle.pipe_model.specs.History.{History}
 use Rattle.pipe_edges.specs.declared.edges.EdgeKind.{EdgeKind}
+use Rattle.edge_names.specs.Supplies.{Feed}
 use Rattle.program_words.specs.Refusals.{memory_line}
-use Rattle.program_words.specs.Words.{Command, Flow, Check, Run, Upgrade}
+use Rattle.program_words.specs.Words.{Command, Flow, Check, Run, Gen, Upgrade}
 use Rattle.topology_needs.specs.declared.stock.Boxes.{Boxes}
 use Rattle.topology_needs.specs.declared.stock.Shortage.{Shortage}
 use Rattle.topology_needs.specs.Needs.{shortage_of}
 use Rattle.config_table.specs.declared.fault.ConfigFault.{ConfigFault}
 use Rattle.config_flow.specs.Flow.{flow_topology_of}
 use Rattle.pipe_config.specs.File.{topology_of_file}
-use Rattle.pipe_top.specs.Cases.{Case, NoCommand, NoTopology as BadTopology, TooFew, Checks, Upgrades, Runs, case_of, run_case, unless_short, for_topology, report_alone}
+use Rattle.pipe_top.specs.Cases.{Feeding, Named, MadeFrom, feeds_of, Case, NoCommand, NoTopology as BadTopology, TooFew, Checks, Upgrades, Runs, case_of, run_case, unless_short, for_topology, report_alone}
 use Rattle.run_verdicts.specs.Verdicts.{Adds, AddsPrefix, out_text_of, err_text_of, status_in, FaultBy, QuietBy, UnlessNine}
 use Rattle.pipe_top.specs.Runs.{OutsideSeen, IsRunOrNone, IsEndOf, IsOwnTopology, IsStatusOf, IsReportOf, IsRefusal, IsRefused, Lost, IsUntouched, HasUsed, HasNotBegun, HasRunOrNot, IsBrokenOff, IsGivenUp, IsOutsideOf, IsRefusalStatus, IsUnopenedStatus, IsOr, Asks, FailsAt, NamesFault, IsEdgeLine, BeginsLine, out_text, text_of_call, case_line, error_text}
 use Rattle.pipe_top.specs.Flows.{Outcome, IsEarly, AskedBy}
@@ -54,7 +56,7 @@ known (BadTopology fault) fails topology before verdict (inr r) = rw r.refused (
 known (TooFew shortage) fails topology before verdict (inr r) = rw r.refused (omega arith)
 known (Checks wanted) fails topology before verdict (inr r) = rw r.counted (omega arith)
 known (Upgrades file text wanted) fails topology before verdict (inr r) = rw r.counted (omega arith)
-known (Runs shows wanted) fails topology before verdict (inr r) = by_run (ran verdict shows wanted before r.comes_to)
+known (Runs shows feeding wanted) fails topology before verdict (inr r) = by_run (ran verdict shows wanted before r.comes_to)
   where
     by_run : Reported shows wanted before verdict ⊎ (verdict ≡ Refused Memory) → status_in verdict ≤ 9
     by_run (inl v) = omega (arith, few_of v)
@@ -68,7 +70,7 @@ never_eight (BadTopology fault) fails topology before verdict (inr r) = rw r.ref
 never_eight (TooFew shortage) fails topology before verdict (inr r) = rw r.refused (λ x. cc)
 never_eight (Checks wanted) fails topology before verdict (inr r) = rw r.counted (λ x. cc)
 never_eight (Upgrades file text wanted) fails topology before verdict (inr r) = rw r.counted (λ x. cc)
-never_eight (Runs shows wanted) fails topology before verdict (inr r) = by_run (ran verdict shows wanted before r.comes_to)
+never_eight (Runs shows feeding wanted) fails topology before verdict (inr r) = by_run (ran verdict shows wanted before r.comes_to)
   where
     by_run : Reported shows wanted before verdict ⊎ (verdict ≡ Refused Memory) → status_in verdict ≢ 8
     by_run (inl v) = λ at. omega (arith, at, few_of v)
@@ -83,7 +85,7 @@ own (BadTopology fault) fails topology before verdict (inr r) = rw r.no_topology
 own (TooFew shortage) fails topology before verdict (inr r) = rw r.no_topology r.no_step
 own (Checks wanted) fails topology before verdict (inr r) = rw r.own (refl, r.no_step)
 own (Upgrades file text wanted) fails topology before verdict (inr r) = rw r.own (refl, r.no_step)
-own (Runs shows wanted) fails topology before verdict (inr r) = rw r.own refl
+own (Runs shows feeding wanted) fails topology before verdict (inr r) = rw r.own refl
 
 pub run : (case : Case) (fails : List ℕ → Type 0) (topology : Option Topology) (before : History) (verdict : Verdict) → Outcome case fails topology before verdict → IsRunOrNone topology before
 run case fails topology before verdict (inl e) = rw (early fails topology before verdict e).no_topology (early fails topology before verdict e).no_step
@@ -92,7 +94,7 @@ run (BadTopology fault) fails topology before verdict (inr r) = rw r.no_topology
 run (TooFew shortage) fails topology before verdict (inr r) = rw r.no_topology r.no_step
 run (Checks wanted) fails topology before verdict (inr r) = rw r.own r.run
 run (Upgrades file text wanted) fails topology before verdict (inr r) = rw r.own r.run
-run (Runs shows wanted) fails topology before verdict (inr r) = rw r.own r.run
+run (Runs shows feeding wanted) fails topology before verdict (inr r) = rw r.own r.run
 
 ended_in : (case : Case) (fails : List ℕ → Type 0) (topology : Option Topology) (before : History) (verdict : Verdict) → Outcome case fails topology before verdict → status_in verdict ≤ 4
     → IsEndOf topology before (status_in verdict) case
@@ -102,9 +104,9 @@ ended_in (BadTopology fault) fails topology before verdict (inr r) few = absurd 
 ended_in (TooFew shortage) fails topology before verdict (inr r) few = absurd (not_small 6 (status_in verdict) (ap status_in r.refused) (omega arith) few)
 ended_in (Checks wanted) fails topology before verdict (inr r) few = (ap status_in r.counted, r.own, r.no_step)
 ended_in (Upgrades file text wanted) fails topology before verdict (inr r) few = (ap status_in r.counted, r.own, r.no_step, r.upgrade)
-ended_in (Runs shows wanted) fails topology before verdict (inr r) few = by_run (ran verdict shows wanted before r.comes_to)
+ended_in (Runs shows feeding wanted) fails topology before verdict (inr r) few = by_run (ran verdict shows wanted before r.comes_to)
   where
-    by_run : Reported shows wanted before verdict ⊎ (verdict ≡ Refused Memory) → IsEndOf topology before (status_in verdict) (Runs shows wanted)
+    by_run : Reported shows wanted before verdict ⊎ (verdict ≡ Refused Memory) → IsEndOf topology before (status_in verdict) (Runs shows feeding wanted)
     by_run (inl v) = (r.own, rw v.is v.report.ended)
     by_run (inr is) = absurd (not_small 9 (status_in verdict) (ap status_in is) (omega arith) few)
 
@@ -124,9 +126,9 @@ small_text before (BadTopology fault) fails topology verdict (inr r) few = absur
 small_text before (TooFew shortage) fails topology verdict (inr r) few = absurd (not_small 6 (status_in verdict) (ap status_in r.refused) (omega arith) few)
 small_text before (Checks wanted) fails topology verdict (inr r) few = rw r.counted r.counts
 small_text before (Upgrades file text wanted) fails topology verdict (inr r) few = rw r.counted r.counts
-small_text before (Runs shows wanted) fails topology verdict (inr r) few = by_run (ran verdict shows wanted before r.comes_to)
+small_text before (Runs shows feeding wanted) fails topology verdict (inr r) few = by_run (ran verdict shows wanted before r.comes_to)
   where
-    by_run : Reported shows wanted before verdict ⊎ (verdict ≡ Refused Memory) → out_text_of verdict ≡ out_text before (Runs shows wanted)
+    by_run : Reported shows wanted before verdict ⊎ (verdict ≡ Refused Memory) → out_text_of verdict ≡ out_text before (Runs shows feeding wanted)
     by_run (inl v) = rw v.is v.report.by_journal
     by_run (inr is) = absurd (not_small 9 (status_in verdict) (ap status_in is) (omega arith) few)
 
@@ -162,13 +164,13 @@ begun (Checks wanted) fails topology before verdict held held' (inr r) b =
 begun (Upgrades file text wanted) fails topology before verdict held held' (inr r) b =
     let counted : AddsPrefix held held' (out_text_of (Done r.texts 0)) = rw r.counted at b in
     rw r.own (rw r.counts at counted)
-begun (Runs shows wanted) fails topology before verdict held held' (inr r) b = rw r.own (by_run (ran verdict shows wanted before r.comes_to))
+begun (Runs shows feeding wanted) fails topology before verdict held held' (inr r) b = rw r.own (by_run (ran verdict shows wanted before r.comes_to))
   where
-    by_run : Reported shows wanted before verdict ⊎ (verdict ≡ Refused Memory) → AddsPrefix held held' (out_text before (Runs shows wanted))
+    by_run : Reported shows wanted before verdict ⊎ (verdict ≡ Refused Memory) → AddsPrefix held held' (out_text before (Runs shows feeding wanted))
     by_run (inl v) =
         let written : AddsPrefix held held' (out_text_of (Done v.texts v.status)) = rw v.is at b in
         rw v.report.by_journal at written
-    by_run (inr is) = begun_refusal held held' (out_text before (Runs shows wanted)) verdict Memory is b
+    by_run (inr is) = begun_refusal held held' (out_text before (Runs shows feeding wanted)) verdict Memory is b
 
 -- texts are written with 0 to 4 alone
 texts_small : (case : Case) (fails : List ℕ → Type 0) (topology : Option Topology) (before : History) (verdict : Verdict) → Outcome case fails topology before verdict
@@ -183,7 +185,7 @@ texts_small (BadTopology fault) fails topology before verdict (inr r) = inr (ap 
 texts_small (TooFew shortage) fails topology before verdict (inr r) = inr (ap out_text_of r.refused)
 texts_small (Checks wanted) fails topology before verdict (inr r) = inl (rw r.counted (omega arith))
 texts_small (Upgrades file text wanted) fails topology before verdict (inr r) = inl (rw r.counted (omega arith))
-texts_small (Runs shows wanted) fails topology before verdict (inr r) = by_run (ran verdict shows wanted before r.comes_to)
+texts_small (Runs shows feeding wanted) fails topology before verdict (inr r) = by_run (ran verdict shows wanted before r.comes_to)
   where
     by_run : Reported shows wanted before verdict ⊎ (verdict ≡ Refused Memory) → (status_in verdict ≤ 4) ⊎ (out_text_of verdict ≡ [])
     by_run (inl v) = inl (few_of v)
@@ -234,9 +236,9 @@ status_is (BadTopology fault) fails topology before verdict (inr r) a b = ap sta
 status_is (TooFew shortage) fails topology before verdict (inr r) a b = ap status_in r.refused
 status_is (Checks wanted) fails topology before verdict (inr r) a b = ap status_in r.counted
 status_is (Upgrades file text wanted) fails topology before verdict (inr r) a b = ap status_in r.counted
-status_is (Runs shows wanted) fails topology before verdict (inr r) a b = by_run (ran verdict shows wanted before r.comes_to)
+status_is (Runs shows feeding wanted) fails topology before verdict (inr r) a b = by_run (ran verdict shows wanted before r.comes_to)
   where
-    by_run : Reported shows wanted before verdict ⊎ (verdict ≡ Refused Memory) → IsStatusOf (status_in verdict) (Runs shows wanted)
+    by_run : Reported shows wanted before verdict ⊎ (verdict ≡ Refused Memory) → IsStatusOf (status_in verdict) (Runs shows feeding wanted)
     by_run (inl v) = few_of v
     by_run (inr is) = absurd (b (ap status_in is))
 
@@ -252,12 +254,12 @@ line_is (BadTopology fault) fails topology before verdict (inr r) a b = rw r.ref
 line_is (TooFew shortage) fails topology before verdict (inr r) a b = rw r.refused refl
 line_is (Checks wanted) fails topology before verdict (inr r) a b = rw r.counted refl
 line_is (Upgrades file text wanted) fails topology before verdict (inr r) a b = rw r.counted refl
-line_is (Runs shows wanted) fails topology before verdict (inr r) a b = by_run (ran verdict shows wanted before r.comes_to)
+line_is (Runs shows feeding wanted) fails topology before verdict (inr r) a b = by_run (ran verdict shows wanted before r.comes_to)
   where
-    small_line : (s : ℕ) → s ≤ 4 → [] ≡ error_text s (Runs shows wanted)
+    small_line : (s : ℕ) → s ≤ 4 → [] ≡ error_text s (Runs shows feeding wanted)
     small_line s few = rw (le-leb s 4 few) refl
 
-    by_run : Reported shows wanted before verdict ⊎ (verdict ≡ Refused Memory) → err_text_of verdict ≡ error_text (status_in verdict) (Runs shows wanted)
+    by_run : Reported shows wanted before verdict ⊎ (verdict ≡ Refused Memory) → err_text_of verdict ≡ error_text (status_in verdict) (Runs shows feeding wanted)
     by_run (inl v) = ap err_text_of v.is ∙ small_line (status_in verdict) (few_of v)
     by_run (inr is) = absurd (b (ap status_in is))
 
@@ -298,10 +300,10 @@ one_line (BadTopology f) told calls asked asked' fault topology before verdict s
 one_line (TooFew shortage) told calls asked asked' fault topology before verdict status wanting (inr r) = inr (inl (ap err_text_of r.refused))
 one_line (Checks wanted) told calls asked asked' fault topology before verdict status wanting (inr r) = inl (ap err_text_of r.counted)
 one_line (Upgrades file text wanted) told calls asked asked' fault topology before verdict status wanting (inr r) = inl (ap err_text_of r.counted)
-one_line (Runs shows wanted) told calls asked asked' fault topology before verdict status wanting (inr r) = by_run (ran verdict shows wanted before r.comes_to)
+one_line (Runs shows feeding wanted) told calls asked asked' fault topology before verdict status wanting (inr r) = by_run (ran verdict shows wanted before r.comes_to)
   where
     by_run : Reported shows wanted before verdict ⊎ (verdict ≡ Refused Memory)
-        → (err_text_of verdict ≡ []) ⊎ ((err_text_of verdict ≡ case_line (Runs shows wanted)) ⊎ (((err_text_of verdict ≡ memory_line) × (status ≡ 9)) ⊎ IsEdgeLine told calls asked asked' fault topology (err_text_of verdict)))
+        → (err_text_of verdict ≡ []) ⊎ ((err_text_of verdict ≡ case_line (Runs shows feeding wanted)) ⊎ (((err_text_of verdict ≡ memory_line) × (status ≡ 9)) ⊎ IsEdgeLine told calls asked asked' fault topology (err_text_of verdict)))
     by_run (inl v) = inl (ap err_text_of v.is)
     by_run (inr is) = inr (inr (inl (ap err_text_of is, wanting is)))
 
@@ -333,7 +335,7 @@ named_fault (BadTopology f) told calls asked asked' fault err_told topology befo
 named_fault (TooFew shortage) told calls asked asked' fault err_told topology before verdict held held' (inr r) five adds = absurd (not_both 6 5 (status_in verdict) (ap status_in r.refused) five (λ x. cc))
 named_fault (Checks wanted) told calls asked asked' fault err_told topology before verdict held held' (inr r) five adds = absurd (not_both 0 5 (status_in verdict) (ap status_in r.counted) five (λ x. cc))
 named_fault (Upgrades file text wanted) told calls asked asked' fault err_told topology before verdict held held' (inr r) five adds = absurd (not_both 0 5 (status_in verdict) (ap status_in r.counted) five (λ x. cc))
-named_fault (Runs shows wanted) told calls asked asked' fault err_told topology before verdict held held' (inr r) five adds = absurd (by_run (ran verdict shows wanted before r.comes_to))
+named_fault (Runs shows feeding wanted) told calls asked asked' fault err_told topology before verdict held held' (inr r) five adds = absurd (by_run (ran verdict shows wanted before r.comes_to))
   where
     by_run : Reported shows wanted before verdict ⊎ (verdict ≡ Refused Memory) → ⊥
     by_run (inl v) = not_small 5 (status_in verdict) five (omega arith) (few_of v)
@@ -354,14 +356,14 @@ number (BadTopology fault) = 1
 number (TooFew shortage) = 1
 number (Checks wanted) = 1
 number (Upgrades file text wanted) = 1
-number (Runs shows wanted) = 1
+number (Runs shows feeding wanted) = 1
 
 short_case : (short : Option Shortage) (case : Case) → number case ≡ 1 → number (unless_short short case) ≡ 1
 short_case None case is = is
 short_case (Some shortage) case is = refl
 
-run_number : (boxes : Boxes) (shows : Shows) (topology : Topology) → number (run_case boxes shows topology) ≡ 1
-run_number boxes shows topology = short_case (shortage_of topology boxes) (Runs shows topology) refl
+run_number : (boxes : Boxes) (shows : Shows) (feeding : Feeding) (topology : Topology) → number (run_case boxes shows feeding topology) ≡ 1
+run_number boxes shows feeding topology = short_case (shortage_of topology boxes) (Runs shows feeding topology) refl
 
 checked_number : (read : Result Topology ConfigFault) → number (for_topology read Checks) ≡ 1
 checked_number (Ok topology) = refl
@@ -371,15 +373,16 @@ upgraded_number : (read : Result Topology ConfigFault) (file text : List ℕ) �
 upgraded_number (Ok topology) file text = refl
 upgraded_number (Err fault) file text = refl
 
-loaded_number : (read : Result Topology ConfigFault) (boxes : Boxes) (shows : Shows) → number (for_topology read (run_case boxes shows)) ≡ 1
-loaded_number (Ok topology) boxes shows = run_number boxes shows topology
-loaded_number (Err fault) boxes shows = refl
+loaded_number : (read : Result Topology ConfigFault) (boxes : Boxes) (shows : Shows) (feeding : Feeding) → number (for_topology read (run_case boxes shows feeding)) ≡ 1
+loaded_number (Ok topology) boxes shows feeding = run_number boxes shows feeding topology
+loaded_number (Err fault) boxes shows feeding = refl
 
 some_number : (command : Command) (file text : List ℕ) (boxes : Boxes) → number (case_of (Some command) file text boxes) ≡ 1
-some_number (Flow source prefix) file text boxes = run_number boxes report_alone (flow_topology_of source prefix)
+some_number (Flow source prefix) file text boxes = run_number boxes report_alone Named (flow_topology_of source prefix)
 some_number (Check path) file text boxes = checked_number (topology_of_file file)
 some_number (Upgrade path) file text boxes = upgraded_number (topology_of_file file) file text
-some_number (Run path workers acks steps) file text boxes = loaded_number (topology_of_file file) boxes (record { steps = steps; acks = acks })
+some_number (Run path workers acks steps) file text boxes = loaded_number (topology_of_file file) boxes (record { steps = steps; acks = acks }) Named
+some_number (Gen seed count path) file text boxes = loaded_number (topology_of_file file) boxes report_alone (MadeFrom seed count)
 
 of_seven : (case : Case) → IsStatusOf 7 case → number case ≡ 0
 of_seven NoCommand is = refl
@@ -387,7 +390,7 @@ of_seven (BadTopology fault) is = absurd (omega (arith, is))
 of_seven (TooFew shortage) is = absurd (omega (arith, is))
 of_seven (Checks wanted) is = absurd (omega (arith, is))
 of_seven (Upgrades file text wanted) is = absurd (omega (arith, is))
-of_seven (Runs shows wanted) few = absurd (omega (arith, few))
+of_seven (Runs shows feeding wanted) few = absurd (omega (arith, few))
 
 -- the status 7 comes where the words are no command
 pub usage_by : (command : Option Command) (file text : List ℕ) (boxes : Boxes) → IsStatusOf 7 (case_of command file text boxes) → command ≡ None
@@ -432,15 +435,15 @@ none_ran (Checks wanted) fails topology before verdict (inr r) u =
 none_ran (Upgrades file text wanted) fails topology before verdict (inr r) u =
     let counted : status_in verdict ≡ 0 = ap status_in r.counted in
     absurd (omega (arith, counted, (refusal_is (status_in verdict) u).0))
-none_ran (Runs shows wanted) fails topology before verdict (inr r) u = absurd (run_refused verdict (ran verdict shows wanted before r.comes_to) u)
+none_ran (Runs shows feeding wanted) fails topology before verdict (inr r) u = absurd (run_refused verdict (ran verdict shows wanted before r.comes_to) u)
 
 -- ---- the outside
 
 -- where nothing was opened, nothing was given back
-run_opened : (shows : Shows) (wanted : Topology) (fails : List ℕ → Type 0) (topology : Option Topology) (before : History) (verdict : Verdict) → Outcome (Runs shows wanted) fails topology before verdict
+run_opened : (shows : Shows) (feeding : Feeding) (wanted : Topology) (fails : List ℕ → Type 0) (topology : Option Topology) (before : History) (verdict : Verdict) → Outcome (Runs shows feeding wanted) fails topology before verdict
     → IsUnopenedStatus (status_in verdict) → ⊥
-run_opened shows wanted fails topology before verdict (inl e) u = nine_or_five (status_in verdict) (status_in verdict) (early_at fails topology before verdict e) refl (unopened_is (status_in verdict) u).2 (unopened_is (status_in verdict) u).1
-run_opened shows wanted fails topology before verdict (inr r) u = run_refused verdict (ran verdict shows wanted before r.comes_to) (inr u)
+run_opened shows feeding wanted fails topology before verdict (inl e) u = nine_or_five (status_in verdict) (status_in verdict) (early_at fails topology before verdict e) refl (unopened_is (status_in verdict) u).2 (unopened_is (status_in verdict) u).1
+run_opened shows feeding wanted fails topology before verdict (inr r) u = run_refused verdict (ran verdict shows wanted before r.comes_to) (inr u)
 
 pub not_opened : (case : Case) (fails : List ℕ → Type 0) (memory : Type 0) (calls : List (EdgeKind × List ℕ)) (topology : Option Topology) (before : History) (verdict : Verdict) (old new : OutsideSeen)
     → Outcome case fails topology before verdict → IsUnopenedStatus (status_in verdict) → IsOutsideOf memory calls topology before case old new → IsUntouched old new
@@ -449,10 +452,10 @@ not_opened (BadTopology fault) fails memory calls topology before verdict old ne
 not_opened (TooFew shortage) fails memory calls topology before verdict old new o u out = out
 not_opened (Checks wanted) fails memory calls topology before verdict old new o u out = out
 not_opened (Upgrades file text wanted) fails memory calls topology before verdict old new o u out = out
-not_opened (Runs shows wanted) fails memory calls topology before verdict old new o u out = absurd (run_opened shows wanted fails topology before verdict o u)
+not_opened (Runs shows feeding wanted) fails memory calls topology before verdict old new o u out = absurd (run_opened shows feeding wanted fails topology before verdict o u)
 
-used_as : (memory wanting : Type 0) → (memory → wanting) → (wanted : Topology) (before : History) (old new : OutsideSeen) → HasUsed memory wanted before old new → HasUsed wanting wanted before old new
-used_as memory wanting so wanted before old new used = record {
+used_as : (feeds : StageSpec → Option Feed) (memory wanting : Type 0) → (memory → wanting) → (wanted : Topology) (before : History) (old new : OutsideSeen) → HasUsed feeds memory wanted before old new → HasUsed feeds wanting wanted before old new
+used_as feeds memory wanting so wanted before old new used = record {
   whole = used.whole;
   wanting = λ none. so (used.wanting none);
   outside = used.outside;
@@ -460,17 +463,17 @@ used_as memory wanting so wanted before old new used = record {
   boxes = used.boxes;
 }
 
-not_begun_as : (memory wanting : Type 0) → (memory → wanting) → (calls : List (EdgeKind × List ℕ)) (wanted : Topology) (old new : OutsideSeen) → HasNotBegun memory calls wanted old new → HasNotBegun wanting calls wanted old new
-not_begun_as memory wanting so calls wanted old new n = record { edges = by_edges n.edges; clock = n.clock; boxes = n.boxes }
+not_begun_as : (feeds : StageSpec → Option Feed) (memory wanting : Type 0) → (memory → wanting) → (calls : List (EdgeKind × List ℕ)) (wanted : Topology) (old new : OutsideSeen) → HasNotBegun feeds memory calls wanted old new → HasNotBegun feeds wanting calls wanted old new
+not_begun_as feeds memory wanting so calls wanted old new n = record { edges = by_edges n.edges; clock = n.clock; boxes = n.boxes }
   where
-    by_edges : (memory × IsBrokenOff calls wanted old.edges new.edges) ⊎ IsGivenUp calls wanted old.edges new.edges → (wanting × IsBrokenOff calls wanted old.edges new.edges) ⊎ IsGivenUp calls wanted old.edges new.edges
+    by_edges : (memory × IsBrokenOff feeds calls wanted old.edges new.edges) ⊎ IsGivenUp feeds calls wanted old.edges new.edges → (wanting × IsBrokenOff feeds calls wanted old.edges new.edges) ⊎ IsGivenUp feeds calls wanted old.edges new.edges
     by_edges (inl m) = inl (so m.0, m.1)
     by_edges (inr given) = inr given
 
-run_or_not_as : (memory wanting : Type 0) → (memory → wanting) → (calls : List (EdgeKind × List ℕ)) (wanted : Topology) (topology : Option Topology) (before : History) (old new : OutsideSeen)
-    → HasRunOrNot memory calls wanted topology before old new → HasRunOrNot wanting calls wanted topology before old new
-run_or_not_as memory wanting so calls wanted (Some topology) before old new r = used_as memory wanting so wanted before old new r
-run_or_not_as memory wanting so calls wanted None before old new r = not_begun_as memory wanting so calls wanted old new r
+run_or_not_as : (feeds : StageSpec → Option Feed) (memory wanting : Type 0) → (memory → wanting) → (calls : List (EdgeKind × List ℕ)) (wanted : Topology) (topology : Option Topology) (before : History) (old new : OutsideSeen)
+    → HasRunOrNot feeds memory calls wanted topology before old new → HasRunOrNot feeds wanting calls wanted topology before old new
+run_or_not_as feeds memory wanting so calls wanted (Some topology) before old new r = used_as feeds memory wanting so wanted before old new r
+run_or_not_as feeds memory wanting so calls wanted None before old new r = not_begun_as feeds memory wanting so calls wanted old new r
 
 -- what the outside is like, where memory that was wanting is known otherwise
 pub outside_as : (memory wanting : Type 0) → (memory → wanting) → (calls : List (EdgeKind × List ℕ)) (topology : Option Topology) (before : History) (case : Case) (old new : OutsideSeen)
@@ -480,7 +483,7 @@ outside_as memory wanting so calls topology before (BadTopology fault) old new o
 outside_as memory wanting so calls topology before (TooFew shortage) old new out = out
 outside_as memory wanting so calls topology before (Checks wanted) old new out = out
 outside_as memory wanting so calls topology before (Upgrades file text wanted) old new out = out
-outside_as memory wanting so calls topology before (Runs shows wanted) old new out = run_or_not_as memory wanting so calls wanted topology before old new out
+outside_as memory wanting so calls topology before (Runs shows feeding wanted) old new out = run_or_not_as (feeds_of feeding wanted) memory wanting so calls wanted topology before old new out
 
 -- ---- a text that was lost
 
@@ -513,9 +516,9 @@ lost_by (Checks wanted) fails topology before verdict out_fault quiet err_fault 
     inl (record { status = 0; end_of = (refl, r.own, r.no_step) }, rw r.counted at fault, rw r.counted at q)
 lost_by (Upgrades file text wanted) fails topology before verdict out_fault quiet err_fault found (inr r) fault q =
     inl (record { status = 0; end_of = (refl, r.own, r.no_step, r.upgrade) }, rw r.counted at fault, rw r.counted at q)
-lost_by (Runs shows wanted) fails topology before verdict out_fault quiet err_fault found (inr r) fault q = by_run (ran verdict shows wanted before r.comes_to)
+lost_by (Runs shows feeding wanted) fails topology before verdict out_fault quiet err_fault found (inr r) fault q = by_run (ran verdict shows wanted before r.comes_to)
   where
-    by_run : Reported shows wanted before verdict ⊎ (verdict ≡ Refused Memory) → Lost (IsReportOf topology before (Runs shows wanted)) out_fault quiet (IsRefused fails topology before (Runs shows wanted)) err_fault
+    by_run : Reported shows wanted before verdict ⊎ (verdict ≡ Refused Memory) → Lost (IsReportOf topology before (Runs shows feeding wanted)) out_fault quiet (IsRefused fails topology before (Runs shows feeding wanted)) err_fault
     by_run (inl v) = inl (record { status = v.status; end_of = (r.own, v.report.ended) }, rw v.is at fault, rw v.is at q)
     by_run (inr is) = absurd (found is)
 

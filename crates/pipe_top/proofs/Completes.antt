@@ -1,9 +1,10 @@
 -- Where nothing failed, the run came to its end.
-use Rattle.std.proofs.Common.{◌≡◌, ◌≢◌, ℕ, suc, List, [], ◌∷◌, ◌++◌, length, Bool, true, false, refl, ap, ◌∙◌, subst, inl, inr, Option, Some, None, arith}
+use Rattle.std.proofs.Common.{◌≡◌, ◌≢◌, ◌<◌, ◌^◌, ℕ, suc, List, [], ◌∷◌, ◌++◌, length, Bool, true, false, refl, ap, ◌∙◌, subst, inl, inr, Option, Some, None, arith}
 use Rattle.std.specs.Prelude.{◌⊎◌, ◌&&◌, ◌||◌, All, IsTrue, is_some, find, nat_le, if◌then◌else◌}
 use Rattle.std.specs.List.{list_any}
 use Rattle.std.proofs.lemmas.List.{take_all}
 use Rattle.std.proofs.lemmas.List.Elements.{All-nil, All-cons, All-head, All-tail}
+use Rattle.pipe_types.specs.Counts.{Rose}
 use Rattle.pipe_types.specs.Lines.{lines}
 use Rattle.pipe_types.specs.Numbers.{stage, post, same_stage}
 use Rattle.pipe_types.specs.Sound.{IsSound, processors, by_demand, by_partition, is_size, is_producer_in}
@@ -29,15 +30,16 @@ use Rattle.body_laws.specs.Ready.{There}
 use Rattle.body_laws.proofs.Posts.{some_role}
 use Rattle.pipe_laws.proofs.Tests.{and_left, and_right, clash, same_stage-true}
 use Rattle.edge_names.specs.Seen.{EdgesSeen}
-use Rattle.edge_names.specs.Opened.{call_by, call_in, edge_call}
+use Rattle.edge_names.specs.Opened.{supplied_in}
+use Rattle.edge_names.specs.Supplies.{Feed, Opened, Fed, by_name, fed as supplied_feed, feed_by, supplied, supplied_by}
 use Rattle.edge_names.specs.Controls.{named_control, first_sources}
-use Rattle.edge_names.specs.Returned.{named_source, source_in, sources_of, with_name}
+use Rattle.edge_names.specs.Returned.{fed_back, named_source, source_in, sources_of}
 use Rattle.pipe_run.specs.Outside.{HasControl, IsOutside, IsSourceRead, ReadsSource}
 use Rattle.pipe_run.specs.Whole.{HasCome}
 use Rattle.run_verdicts.specs.Verdicts.{status_in}
 use Rattle.pipe_top.specs.Runs.{OutsideSeen, IsRun, IsEnded, HasUsed, IsOutsideOf, IsFaultless, AreFaultless, IsReadWhole, IsComplete, IsCompleteIn, is_limit_drain, is_control_drain, is_idle_drain}
-use Rattle.pipe_top.specs.Cases.{Case, NoCommand, NoTopology as BadTopology, TooFew, Checks, Upgrades, Runs}
-use Rattle.pipe_top.specs.Flows.{Outcome}
+use Rattle.pipe_top.specs.Cases.{Feeding, Named, MadeFrom, feeds_of, Case, NoCommand, NoTopology as BadTopology, TooFew, Checks, Upgrades, Runs}
+use Rattle.pipe_top.specs.Flows.{IsFew, Outcome}
 use Rattle.run_verdicts.specs.declared.verdict.Refusal.TheVariants.{Memory}
 use Rattle.run_verdicts.specs.declared.verdict.Texts.{Texts}
 use Rattle.run_verdicts.specs.declared.verdict.Verdict.{Verdict}
@@ -46,6 +48,7 @@ use Rattle.pipe_top.proofs.Drains.{HasCause, limited, ended, controlled, rested,
 use Rattle.pipe_top.proofs.Ends.{ControlEndsBadly, EndsBadly, ends_limited, ended_as, faults_show, never_limited, producer_inner}
 use Rattle.pipe_top.proofs.Longs.{not_long}
 use Rattle.pipe_top.proofs.Outcomes.{Fails, early, Reported, ran}
+use Rattle.pipe_top.proofs.Shares.{producer_is, share_read}
 use Rattle.pipe_top.proofs.Statuses.{gravest_small, clean_status}
 
 -- ---- the sources of a whole run
@@ -68,29 +71,22 @@ All-back P [] ys each = each
 All-back P (x ∷ xs) ys each = All-back P xs ys (All-tail P x (xs ++ ys) each)
 
 -- what holds of all that was given back holds of the source of each stage
-given_of : (P : List ℕ × SourceSeen → Type 0) (bodies : ℕ → Option BodySeen) (s : StageNo) (spec : StageSpec) (stages : List StageSpec) → spec_in stages s ≡ Some spec → All P (sources_of stages bodies)
-    → All P (named_source (edge_call spec) (bodies (place_at (post s 0))))
-given_of P bodies s spec [] found each = cc
-given_of P bodies s spec (x ∷ stages) found each =
-    either (same_stage x.no s) refl found (All-front P (named_source (edge_call x) (bodies (place_at (post x.no 0)))) (sources_of stages bodies) each)
-    (λ is. given_of P bodies s spec stages is (All-back P (named_source (edge_call x) (bodies (place_at (post x.no 0)))) (sources_of stages bodies) each))
+given_of : (feeds : StageSpec → Option Feed) (P : List ℕ × SourceSeen → Type 0) (bodies : ℕ → Option BodySeen) (s : StageNo) (spec : StageSpec) (stages : List StageSpec) → spec_in stages s ≡ Some spec → All P (sources_of feeds stages bodies)
+    → All P (named_source (supplied feeds spec) (bodies (place_at (post s 0))))
+given_of feeds P bodies s spec [] found each = cc
+given_of feeds P bodies s spec (x ∷ stages) found each =
+    either (same_stage x.no s) refl found (All-front P (named_source (supplied feeds x) (bodies (place_at (post x.no 0)))) (sources_of feeds stages bodies) each)
+    (λ is. given_of feeds P bodies s spec stages is (All-back P (named_source (supplied feeds x) (bodies (place_at (post x.no 0)))) (sources_of feeds stages bodies) each))
   where
     either : (b : Bool) → same_stage x.no s ≡ b → (if b then Some x else find (λ y. same_stage y.no s) stages) ≡ Some spec
-        → All P (named_source (edge_call x) (bodies (place_at (post x.no 0))))
-        → (find (λ y. same_stage y.no s) stages ≡ Some spec → All P (named_source (edge_call spec) (bodies (place_at (post s 0)))))
-        → All P (named_source (edge_call spec) (bodies (place_at (post s 0))))
+        → All P (named_source (supplied feeds x) (bodies (place_at (post x.no 0))))
+        → (find (λ y. same_stage y.no s) stages ≡ Some spec → All P (named_source (supplied feeds spec) (bodies (place_at (post s 0)))))
+        → All P (named_source (supplied feeds spec) (bodies (place_at (post s 0))))
     either true e is first rest =
         let same : x ≡ spec = cc in
         let at : x.no ≡ s = same_stage-true x.no s e in
-        subst (λ y. All P (named_source (edge_call y) (bodies (place_at (post s 0))))) same (subst (λ t. All P (named_source (edge_call x) (bodies (place_at (post t 0))))) at first)
+        subst (λ y. All P (named_source (supplied feeds y) (bodies (place_at (post s 0))))) same (subst (λ t. All P (named_source (supplied feeds x) (bodies (place_at (post t 0))))) at first)
     either false e is first rest = rest is
-
-producer_is : (r : Role) → is_producer_role r ≡ true → r ≡ Producer
-producer_is Producer e = refl
-producer_is Processor e = cc
-producer_is Supervisor e = cc
-producer_is Batcher e = cc
-producer_is BatchProcessor e = cc
 
 -- a producer has a source
 has_edge : (topology : Topology) (p : StageNo) (spec : StageSpec) → IsSound topology → spec_of topology p ≡ Some spec → spec.role ≡ Producer → is_some spec.edge ≡ true
@@ -98,9 +94,9 @@ has_edge topology p spec sound found producer =
     let fields : is_producer_in topology.stages spec ≡ true = fields_of topology p spec Producer sound found producer in
     and_right (is_size spec.size) _ (and_right (by_demand spec spec.dispatch || (by_partition (length (processors topology.stages)) spec spec.dispatch && nat_le spec.field 255)) _ (and_left ((by_demand spec spec.dispatch || (by_partition (length (processors topology.stages)) spec spec.dispatch && nat_le spec.field 255)) && (is_size spec.size && is_some spec.edge)) _ fields))
 
-source_well_read : (topology : Topology) (before : History) (old new : EdgesSeen) (p : StageNo) (spec : StageSpec) (name : List ℕ) (o : Option SourceSeen) → (outside : IsOutside true topology before old new)
-    → source_in (outside.bodies (place_at (post p 0))) ≡ o → edge_call spec ≡ Some (Source, name) → There o (IsSourceRead old before p name)
-    → All (λ (given : List ℕ × SourceSeen). IsFaultless given.1) (named_source (edge_call spec) (outside.bodies (place_at (post p 0)))) → IsWellRead before p
+source_well_read : (topology : Topology) (before : History) (old new : EdgesSeen) (p : StageNo) (spec : StageSpec) (name : List ℕ) (o : Option SourceSeen) → (outside : IsOutside by_name true topology before old new)
+    → source_in (outside.bodies (place_at (post p 0))) ≡ o → supplied by_name spec ≡ Some (Fed (Opened name)) → There o (IsSourceRead old before p name)
+    → All (λ (given : List ℕ × SourceSeen). IsFaultless given.1) (named_source (supplied by_name spec) (outside.bodies (place_at (post p 0)))) → IsWellRead before p
 source_well_read topology before old new p spec name None outside is call there each = absurd there
 source_well_read topology before old new p spec name (Some source) outside is call there each = record {
   source = source;
@@ -108,18 +104,18 @@ source_well_read topology before old new p spec name (Some source) outside is ca
   fine = All-head (λ (given : List ℕ × SourceSeen). IsFaultless given.1) (name, source) [] (subst (All (λ (given : List ℕ × SourceSeen). IsFaultless given.1)) given each);
 }
   where
-    given : named_source (edge_call spec) (outside.bodies (place_at (post p 0))) ≡ (name, source) ∷ []
-    given = ap (λ c. named_source c (outside.bodies (place_at (post p 0)))) call ∙ ap (with_name name) is
+    given : named_source (supplied by_name spec) (outside.bodies (place_at (post p 0))) ≡ (name, source) ∷ []
+    given = ap (λ c. named_source c (outside.bodies (place_at (post p 0)))) call ∙ ap (fed_back (Some (Fed (Opened name)))) is
 
 -- all that a whole run gave back, the control source first
-given_back : (P : List ℕ × SourceSeen → Type 0) (topology : Topology) (before : History) (old new : EdgesSeen) → (outside : IsOutside true topology before old new)
+given_back : (feeds : StageSpec → Option Feed) (P : List ℕ × SourceSeen → Type 0) (topology : Topology) (before : History) (old new : EdgesSeen) → (outside : IsOutside feeds true topology before old new)
     → ((back : List (List ℕ × SourceSeen)) → new.sources_back ≡ old.sources_back ++ back → All P back)
-    → All P (named_control topology.control outside.control ++ sources_of topology.stages outside.bodies)
-given_back P topology before old new outside each =
-    let first : All P (first_sources (suc (length topology.stages)) topology outside.control outside.bodies) =
-    subst (λ n. All P (first_sources n topology outside.control outside.bodies)) (outside.all refl) (each (first_sources outside.parts topology outside.control outside.bodies) outside.sources)
+    → All P (named_control topology.control outside.control ++ sources_of feeds topology.stages outside.bodies)
+given_back feeds P topology before old new outside each =
+    let first : All P (first_sources feeds (suc (length topology.stages)) topology outside.control outside.bodies) =
+    subst (λ n. All P (first_sources feeds n topology outside.control outside.bodies)) (outside.all refl) (each (first_sources feeds outside.parts topology outside.control outside.bodies) outside.sources)
     in
-    subst (λ stages. All P (named_control topology.control outside.control ++ sources_of stages outside.bodies)) (take_all (length topology.stages) topology.stages (omega arith)) first
+    subst (λ stages. All P (named_control topology.control outside.control ++ sources_of feeds stages outside.bodies)) (take_all (length topology.stages) topology.stages (omega arith)) first
 
 -- the control source did not end with a fault or with a line that is too long
 abbrev IsControlFine : History → Type 0
@@ -139,31 +135,55 @@ control_well_read topology before edges None None none used each end is = let no
 control_well_read topology before edges (Some name) None none used each end is = absurd used
 control_well_read topology before edges None (Some now) none used each end is = absurd used
 
-pub control_fine : (topology : Topology) (before : History) (old new : EdgesSeen) → (topology.control ≡ None → HasNoControl before) → IsOutside true topology before old new → AreFaultless old new → IsControlFine before
-control_fine topology before old new none outside faultless =
+pub control_fine : (feeds : StageSpec → Option Feed) (topology : Topology) (before : History) (old new : EdgesSeen) → (topology.control ≡ None → HasNoControl before) → IsOutside feeds true topology before old new → AreFaultless old new → IsControlFine before
+control_fine feeds topology before old new none outside faultless =
     control_well_read topology before old topology.control outside.control none outside.obeyed
-    (All-front (λ (given : List ℕ × SourceSeen). IsFaultless given.1) (named_control topology.control outside.control) (sources_of topology.stages outside.bodies)
-    (given_back (λ given. IsFaultless given.1) topology before old new outside faultless))
+    (All-front (λ (given : List ℕ × SourceSeen). IsFaultless given.1) (named_control topology.control outside.control) (sources_of feeds topology.stages outside.bodies)
+    (given_back feeds (λ given. IsFaultless given.1) topology before old new outside faultless))
 
-pub well_read : (topology : Topology) (before : History) (old new : EdgesSeen) → IsSound topology → IsOutside true topology before old new → AreFaultless old new → AreWellRead topology before
-well_read topology before old new sound outside faultless p role =
+named_well_read : (topology : Topology) (before : History) (old new : EdgesSeen) → IsSound topology → IsOutside by_name true topology before old new → AreFaultless old new → AreWellRead topology before
+named_well_read topology before old new sound outside faultless p role =
     let found = some_role topology p is_producer_role role in
     by_edge found.0 found.1 (producer_is found.0.role found.2) found.0.edge refl
   where
-    back : All (λ (given : List ℕ × SourceSeen). IsFaultless given.1) (sources_of topology.stages outside.bodies)
+    back : All (λ (given : List ℕ × SourceSeen). IsFaultless given.1) (sources_of by_name topology.stages outside.bodies)
     back =
-        All-back (λ (given : List ℕ × SourceSeen). IsFaultless given.1) (named_control topology.control outside.control) (sources_of topology.stages outside.bodies)
-        (given_back (λ given. IsFaultless given.1) topology before old new outside faultless)
+        All-back (λ (given : List ℕ × SourceSeen). IsFaultless given.1) (named_control topology.control outside.control) (sources_of by_name topology.stages outside.bodies)
+        (given_back by_name (λ given. IsFaultless given.1) topology before old new outside faultless)
 
     by_edge : (spec : StageSpec) → spec_of topology p ≡ Some spec → spec.role ≡ Producer → (o : Option (List ℕ)) → spec.edge ≡ o → IsWellRead before p
     by_edge spec found producer None is =
         let some : is_some spec.edge ≡ true = has_edge topology p spec sound found producer in
         clash (is_some spec.edge) some (ap is_some is)
     by_edge spec found producer (Some name) is =
-        let call : edge_call spec ≡ Some (Source, name) = ap (λ r. call_by r spec.edge) producer ∙ ap (call_by Producer) is in
+        let call : supplied by_name spec ≡ Some (Fed (Opened name)) = ap (λ r. supplied_by r (feed_by spec.edge) spec.edge) producer ∙ ap (λ o. supplied_feed (feed_by o)) is in
         source_well_read topology before old new p spec name (source_in (outside.bodies (place_at (post p 0)))) outside refl call
-        (outside.used.sources p name (ap call_in found ∙ call))
-        (given_of (λ given. IsFaultless given.1) outside.bodies p spec topology.stages found back)
+        (outside.used.sources p (Opened name) (ap (supplied_in by_name) found ∙ call))
+        (given_of by_name (λ given. IsFaultless given.1) outside.bodies p spec topology.stages found back)
+
+not_risen : (now : ℕ) → now ≡ 0 → Rose 0 now → ⊥
+not_risen now none (inl low) = omega (arith, none, low)
+not_risen now none (inr full) = omega (arith, none, full)
+
+-- a source of generated records needs no premise
+made_well_read : (seed count : ℕ) (topology : Topology) (before : History) (old new : EdgesSeen) → IsSound topology → count < 2 ^ 32 → IsOutside (feeds_of (MadeFrom seed count) topology) true topology before old new
+    → AreWellRead topology before
+made_well_read seed count topology before old new sound few outside p role =
+    let share = share_read seed count topology before old new true sound few outside p role in
+    record {
+      source = share.source;
+      reads = share.made.reads;
+      fine = record {
+        no_fault = not_risen share.source.faults (share.made.calm refl).0;
+        tells = share.made.tells;
+        short = share.short;
+      };
+    }
+
+pub well_read : (feeding : Feeding) (topology : Topology) (before : History) (old new : EdgesSeen) → IsSound topology → IsFew feeding → IsOutside (feeds_of feeding topology) true topology before old new → AreFaultless old new
+    → AreWellRead topology before
+well_read Named topology before old new sound few outside faultless = named_well_read topology before old new sound outside faultless
+well_read (MadeFrom seed count) topology before old new sound few outside faultless = made_well_read seed count topology before old new sound few outside
 
 -- ---- how it ended
 
@@ -230,10 +250,10 @@ memory_or topology fails before verdict status is (inl memory) calm = wanting to
 memory_or topology fails before verdict status is (inr f) calm = absurd (calm f.name f.so)
 
 -- where memory was not wanting, all was used
-all_used : (memory : Type 0) (topology : Topology) (before : History) (old new : OutsideSeen) → HasUsed memory topology before old new → (memory → ⊥) → IsOutside true topology before old.edges new.edges
-all_used memory topology before old new used never = by_whole used.whole used.wanting used.outside
+all_used : (feeds : StageSpec → Option Feed) (memory : Type 0) (topology : Topology) (before : History) (old new : OutsideSeen) → HasUsed feeds memory topology before old new → (memory → ⊥) → IsOutside feeds true topology before old.edges new.edges
+all_used feeds memory topology before old new used never = by_whole used.whole used.wanting used.outside
   where
-    by_whole : (b : Bool) → (b ≡ false → memory) → IsOutside b topology before old.edges new.edges → IsOutside true topology before old.edges new.edges
+    by_whole : (b : Bool) → (b ≡ false → memory) → IsOutside feeds b topology before old.edges new.edges → IsOutside feeds true topology before old.edges new.edges
     by_whole true w outside = outside
     by_whole false w outside = absurd (never (w refl))
 
@@ -249,18 +269,18 @@ complete_in (BadTopology fault) fails calls topology before verdict status old n
 complete_in (TooFew shortage) fails calls topology before verdict status old new is calm fine o out = tt
 complete_in (Checks wanted) fails calls topology before verdict status old new is calm fine o out = tt
 complete_in (Upgrades file text wanted) fails calls topology before verdict status old new is calm fine o out = tt
-complete_in (Runs shows wanted) fails calls topology before verdict status old new is calm fine (inl e) out =
+complete_in (Runs shows feeding wanted) fails calls topology before verdict status old new is calm fine (inl e) out =
     memory_or wanted fails before verdict status is (early fails topology before verdict e).why calm
-complete_in (Runs shows wanted) fails calls topology before verdict status old new is calm fine (inr r) out =
+complete_in (Runs shows feeding wanted) fails calls topology before verdict status old new is calm fine (inr r) out =
     by_run (ran verdict shows wanted before r.comes_to)
   where
-    used : HasUsed (verdict ≡ Refused Memory) wanted before old new
+    used : HasUsed (feeds_of feeding wanted) (verdict ≡ Refused Memory) wanted before old new
     used = rw r.own at out
 
     by_run : Reported shows wanted before verdict ⊎ (verdict ≡ Refused Memory) → IsComplete wanted before status
     by_run (inl v) =
-        let whole : IsOutside true wanted before old.edges new.edges = all_used (verdict ≡ Refused Memory) wanted before old new used (done_is_no_refusal verdict v.texts v.status v.is) in
-        rw (is ∙ ap status_in v.is) (ended_whole wanted before v.status r.sound r.run v.report.ended (well_read wanted before old.edges new.edges r.sound whole fine) (control_fine wanted before old.edges new.edges r.run.control whole fine))
+        let whole : IsOutside (feeds_of feeding wanted) true wanted before old.edges new.edges = all_used (feeds_of feeding wanted) (verdict ≡ Refused Memory) wanted before old new used (done_is_no_refusal verdict v.texts v.status v.is) in
+        rw (is ∙ ap status_in v.is) (ended_whole wanted before v.status r.sound r.run v.report.ended (well_read feeding wanted before old.edges new.edges r.sound r.few whole fine) (control_fine (feeds_of feeding wanted) wanted before old.edges new.edges r.run.control whole fine))
     by_run (inr memory) = wanting wanted before status (is ∙ ap status_in memory)
 
 nine_complete : (case : Case) (before : History) (status : ℕ) → status ≡ 9 → IsCompleteIn before status case
@@ -269,7 +289,7 @@ nine_complete (BadTopology fault) before status is = tt
 nine_complete (TooFew shortage) before status is = tt
 nine_complete (Checks wanted) before status is = tt
 nine_complete (Upgrades file text wanted) before status is = tt
-nine_complete (Runs shows wanted) before status is = wanting wanted before status is
+nine_complete (Runs shows feeding wanted) before status is = wanting wanted before status is
 
 pub complete_by : (case : Case) (fails : List ℕ → Type 0) (calls : List (EdgeKind × List ℕ)) (topology : Option Topology) (before : History) (verdict : Verdict) (status : ℕ) (old new : OutsideSeen)
     → (status ≡ status_in verdict) ⊎ ((status ≡ 8) ⊎ (status ≡ 9)) → status ≢ 8 → ((name : List ℕ) → fails name → ⊥) → AreFaultless old.edges new.edges

@@ -9,5 +9,6 @@ pub mod Outcomes
 pub mod Promises
 pub mod Reading
 pub mod Runnables
+pub mod Shares
 pub mod Statuses
 pub mod Unused

@@ -1,9 +1,10 @@
 -- What comes of a topology that is to run: it is refused, what it names is not opened, or it runs.
-use Rattle.std.proofs.Common.{◌≡◌, ℕ, List, [], ◌++◌, length, take, Bool, false, Option, Some, None, refl, sym, ◌∙◌, ap, inl, inr, arith}
+use Rattle.std.proofs.Common.{◌≡◌, ℕ, List, [], ◌++◌, length, take, Bool, false, Option, Some, None, refl, sym, ◌∙◌, ap, subst, inl, inr, arith}
 use Rattle.std.specs.Prelude.{unwrap_or}
 use Rattle.std.proofs.lemmas.List.{append-nil, take_all, take_at}
 use Rattle.pipe_types.specs.Counts.{Rose}
 use Rattle.pipe_types.specs.Sound.{IsSound}
+use Rattle.pipe_types.specs.declared.topology.StageSpec.{StageSpec}
 use Rattle.pipe_types.specs.declared.topology.Topology.{Topology}
 use Rattle.pipe_model.specs.History.{History}
 use Rattle.pipe_edges.specs.declared.edges.EdgeKind.{EdgeKind}
@@ -12,13 +13,14 @@ use Rattle.core_state.specs.Stands.{Stands}
 use Rattle.pipe_laws.specs.Followed.{FollowsMoves}
 use Rattle.pipe_laws.specs.Read.{HasNoControl}
 use Rattle.pipe_laws.proofs.Claims.{keeps_claims}
+use Rattle.edge_names.specs.Supplies.{Feed}
 use Rattle.edge_names.specs.Controls.{run_calls}
 use Rattle.topology_needs.specs.declared.stock.Shortage.{Shortage}
 use Rattle.pipe_run.specs.Boxes.{AreBoxesLeft, AreSameBoxes}
 use Rattle.pipe_run.specs.Whole.{IsRunOf, HasFailed, HasWanted}
-use Rattle.pipe_top.specs.Cases.{Runs, unless_short, opening_calls}
+use Rattle.pipe_top.specs.Cases.{Feeding, feeds_of, Runs, unless_short, opening_calls}
 use Rattle.pipe_top.specs.Runs.{OutsideSeen, IsUntouched, IsRun, FailsAt}
-use Rattle.pipe_top.specs.Flows.{AskedBy, ComesBy, IsJudgement, refusal_in}
+use Rattle.pipe_top.specs.Flows.{AskedBy, ComesBy, IsFedBy, IsJudgement, refusal_in}
 use Rattle.run_verdicts.specs.declared.verdict.Refusal.{Refusal}
 use Rattle.run_verdicts.specs.declared.verdict.Refusal.TheVariants.{Usage, Topology as NoTopology, Stock, Edge, Memory}
 use Rattle.run_verdicts.specs.declared.verdict.Shows.{Shows}
@@ -28,10 +30,10 @@ use Rattle.run_verdicts.specs.declared.verdict.Verdict.TheVariants.{Refused, Don
 -- ---- refusals of a topology
 
 -- the edges are as they were
-pub refused_topology : (old new : OutsideSeen) (shows : Shows) (wanted : Topology) (short : Option Shortage) (refusal : Refusal) (topology : Option Topology) (before : History) (verdict : Verdict)
+pub refused_topology : (old new : OutsideSeen) (shows : Shows) (feeding : Feeding) (wanted : Topology) (short : Option Shortage) (refusal : Refusal) (topology : Option Topology) (before : History) (verdict : Verdict)
     → refusal_in short ≡ Some refusal → verdict ≡ Refused refusal → (topology ≡ None) × (before ≡ []) → IsUntouched old new → new.edges.asked ≡ old.edges.asked → new.edges.told ≡ old.edges.told
-    → ComesBy old new (unless_short short (Runs shows wanted)) (opening_calls (unless_short short (Runs shows wanted))) topology before verdict
-refused_topology old new shows wanted (Some s) refusal topology before verdict e is none untouched asked telling =
+    → ComesBy old new (unless_short short (Runs shows feeding wanted)) (opening_calls (unless_short short (Runs shows feeding wanted))) topology before verdict
+refused_topology old new shows feeding wanted (Some s) refusal topology before verdict e is none untouched asked telling =
     let stock : verdict ≡ Refused (Stock s) = is ∙ ap (λ o. Refused (unwrap_or o (Stock s))) (sym e) in
     record {
       outcome = inr (record {
@@ -43,7 +45,7 @@ refused_topology old new shows wanted (Some s) refusal topology before verdict e
       asked_by = λ t. rw stock (asked ∙ sym (append-nil old.edges.asked));
       same_telling = telling;
     }
-refused_topology old new shows wanted None refusal topology before verdict e is none untouched asked telling = cc
+refused_topology old new shows feeding wanted None refusal topology before verdict e is none untouched asked telling = cc
 
 -- ---- runs
 
@@ -79,15 +81,17 @@ unrun topology sound = record {
 }
 
 -- what was named was opened
-pub ran : (old new : OutsideSeen) (shows : Shows) (wanted : Topology) (whole : Bool) (core : Core) (topology : Option Topology) (before : History) (verdict : Verdict)
-    → core.topology ≡ wanted → Stands core → IsRunOf whole wanted core.journal.steps old.edges new.edges old.clock new.clock → AreBoxesLeft whole wanted core.journal.steps old.boxes new.boxes
+pub ran : (old new : OutsideSeen) (shows : Shows) (feeding : Feeding) (feeds : StageSpec → Option Feed) (wanted : Topology) (whole : Bool) (core : Core) (topology : Option Topology) (before : History) (verdict : Verdict)
+    → IsFedBy feeding wanted feeds → core.topology ≡ wanted → Stands core → IsRunOf feeds whole wanted core.journal.steps old.edges new.edges old.clock new.clock → AreBoxesLeft whole wanted core.journal.steps old.boxes new.boxes
     → topology ≡ Some core.topology → before ≡ core.journal.steps → IsJudgement verdict shows core.topology core.journal.steps → (whole ≡ false → verdict ≡ Refused Memory)
-    → ComesBy old new (Runs shows wanted) (run_calls wanted) topology before verdict
-ran old new shows wanted whole core topology before verdict same stands r boxes own steps judged wanting =
+    → ComesBy old new (Runs shows feeding wanted) (run_calls (feeds_of feeding wanted) wanted) topology before verdict
+ran old new shows feeding feeds wanted whole core topology before verdict fed same stands went boxes own steps judged wanting =
+    let r = subst (λ (f : StageSpec → Option Feed). IsRunOf f whole wanted core.journal.steps old.edges new.edges old.clock new.clock) fed.is went in
     let run : IsRun wanted core.journal.steps = rw same at (run_by core stands (rw same r.follows) (rw same r.control)) in
     rw (own ∙ ap Some same, steps) (record {
       outcome = inr (record {
         sound = rw same at stands.holds.sound;
+        few = fed.few;
         own = refl;
         run = run;
         comes_to = rw same at judged;
@@ -99,17 +103,18 @@ ran old new shows wanted whole core topology before verdict same stands r boxes 
         time = r.time;
         boxes = boxes;
       };
-      asked_by = λ t. all_asked verdict (run_calls wanted) old.edges.asked new.edges.asked (r.asks.asked t);
+      asked_by = λ t. all_asked verdict (run_calls (feeds_of feeding wanted) wanted) old.edges.asked new.edges.asked (r.asks.asked t);
       same_telling = r.asks.same_telling;
     })
 
 -- a call by this name failed
-pub unopened : (old new : OutsideSeen) (shows : Shows) (wanted : Topology) (name : List ℕ) (topology : Option Topology) (before : History) (verdict : Verdict)
-    → HasFailed wanted name old.edges new.edges → new.clock ≡ old.clock → AreSameBoxes old.boxes new.boxes
+pub unopened : (old new : OutsideSeen) (shows : Shows) (feeding : Feeding) (feeds : StageSpec → Option Feed) (wanted : Topology) (name : List ℕ) (topology : Option Topology) (before : History) (verdict : Verdict)
+    → IsFedBy feeding wanted feeds → HasFailed feeds wanted name old.edges new.edges → new.clock ≡ old.clock → AreSameBoxes old.boxes new.boxes
     → verdict ≡ Refused (Edge name) → (topology ≡ None) × (before ≡ [])
-    → ComesBy old new (Runs shows wanted) (run_calls wanted) topology before verdict
-unopened old new shows wanted name topology before verdict a clock boxes is none =
-    let failed : FailsAt old.edges.told (run_calls wanted) old.edges.asked new.edges.asked (Rose old.edges.faults new.edges.faults) name = record {
+    → ComesBy old new (Runs shows feeding wanted) (run_calls (feeds_of feeding wanted) wanted) topology before verdict
+unopened old new shows feeding feeds wanted name topology before verdict fed away clock boxes is none =
+    let a = subst (λ (f : StageSpec → Option Feed). HasFailed f wanted name old.edges new.edges) fed.is away in
+    let failed : FailsAt old.edges.told (run_calls (feeds_of feeding wanted) wanted) old.edges.asked new.edges.asked (Rose old.edges.faults new.edges.faults) name = record {
       kind = a.kind;
       front = a.front;
       rest = a.rest;
@@ -129,11 +134,12 @@ unopened old new shows wanted name topology before verdict a clock boxes is none
     })
 
 -- memory was wanting before all was opened
-pub unopened_memory : (old new : OutsideSeen) (shows : Shows) (wanted : Topology) (topology : Option Topology) (before : History) (verdict : Verdict)
-    → HasWanted wanted old.edges new.edges → new.clock ≡ old.clock → AreSameBoxes old.boxes new.boxes
+pub unopened_memory : (old new : OutsideSeen) (shows : Shows) (feeding : Feeding) (feeds : StageSpec → Option Feed) (wanted : Topology) (topology : Option Topology) (before : History) (verdict : Verdict)
+    → IsFedBy feeding wanted feeds → HasWanted feeds wanted old.edges new.edges → new.clock ≡ old.clock → AreSameBoxes old.boxes new.boxes
     → verdict ≡ Refused Memory → (topology ≡ None) × (before ≡ [])
-    → ComesBy old new (Runs shows wanted) (run_calls wanted) topology before verdict
-unopened_memory old new shows wanted topology before verdict a clock boxes is none =
+    → ComesBy old new (Runs shows feeding wanted) (run_calls (feeds_of feeding wanted) wanted) topology before verdict
+unopened_memory old new shows feeding feeds wanted topology before verdict fed away clock boxes is none =
+    let a = subst (λ (f : StageSpec → Option Feed). HasWanted f wanted old.edges new.edges) fed.is away in
     rw (is, none.0) (record {
       outcome = inl none.1;
       outside = record {

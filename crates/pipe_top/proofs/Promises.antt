@@ -18,6 +18,7 @@ use Rattle.run_verdicts.specs.declared.verdict.Verdict.TheVariants.{Refused, Don
 use Rattle.pipe_top.proofs.Outcomes.{settled, is_status, not_small, not_both, within, refusal_as, unopened_as}
 use Rattle.pipe_top.proofs.Clauses.{known, never_eight, own, run, ended, reported, begun, unwritten_nine, unwritten_out, statuses, lines, line_begun, named_fault, usage_by, of_status_seven, no_command_by, none_ran, not_opened, outside_as, lost_by, asks, asks_all, fault_by}
 use Rattle.pipe_top.proofs.Completes.{complete_by, unwritten}
+use Rattle.pipe_top.proofs.Shares.{generated_in}
 
 -- what the writing of a verdict comes to
 pub record Writes (verdict : Verdict) (status : ℕ) (out out' err err' : SinkSeen) : Type 0 where
@@ -57,6 +58,8 @@ call_by old new out out' err err' command topology before verdict status case c 
   complete = λ calm out_calm err_calm fine. complete_by case (Failing (calls_of command case) old new) (calls_of command case) topology before verdict status old new w.status_is
       (λ eight. unwritten (fault_by verdict (Rose out.faults out'.faults) (Rose err.faults err'.faults) (w.fault eight (never_eight case (Failing (calls_of command case) old new) topology before verdict c.outcome))) out_calm err_calm)
       (λ name f. calm f.rose) fine c.outcome c.outside;
+  generated = generated_in case (Failing (calls_of command case) old new) (status ≡ 9) (calls_of command case) topology before verdict old new c.outcome
+      (outside_as (verdict ≡ Refused Memory) (status ≡ 9) w.wanting (calls_of command case) topology before case old new c.outside);
   told = c.same_telling;
   asks = λ t. asks case old.edges.told (calls_of command case) old.edges.asked new.edges.asked (Rose old.edges.faults new.edges.faults) topology before verdict c.outcome t (c.asked_by t);
   asks_all = λ a b d t. asks_all verdict (calls_of command case) old.edges.asked new.edges.asked (λ x. a (settled status (status_in verdict) w.status_is b d ∙ x)) (λ x. d (settled status (status_in verdict) w.status_is b d ∙ x)) (c.asked_by t);

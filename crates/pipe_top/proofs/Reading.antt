@@ -12,10 +12,10 @@ use Rattle.pipe_edges.specs.Named.{StandsAsBefore}
 use Rattle.config_table.specs.declared.fault.ConfigFault.{ConfigFault}
 use Rattle.pipe_config.specs.File.{topology_of_file}
 use Rattle.config_flow.specs.Flow.{flow_topology_of}
-use Rattle.program_words.specs.Words.{Command, Flow, Check, Run, Upgrade}
+use Rattle.program_words.specs.Words.{Command, Flow, Check, Run, Gen, Upgrade}
 use Rattle.edge_names.specs.Seen.{EdgesSeen}
 use Rattle.topology_needs.specs.declared.stock.Boxes.{Boxes}
-use Rattle.pipe_top.specs.Cases.{Case, Checks, Upgrades, case_of, run_case, for_topology, report_alone, opening_calls, calls_of, file_name, IsNamedFile}
+use Rattle.pipe_top.specs.Cases.{Feeding, Named, MadeFrom, Case, Checks, Upgrades, case_of, run_case, for_topology, report_alone, opening_calls, calls_of, file_name, IsNamedFile}
 use Rattle.pipe_top.specs.Runs.{OutsideSeen, IsUntouched, Asks, FailsAt}
 use Rattle.pipe_top.specs.Flows.{IsCheckedOrNot, IsUpgraded, ComesBy, Came, ReadsFile, ReadsTopology, ReadsUpgrade, UpgradesTo, IsTextOf, topology_beside, AskedFile}
 use Rattle.pipe_top.specs.declared.file.Upgraded.{Upgraded}
@@ -74,7 +74,7 @@ unread old new go name (Edge other) topology before verdict is none same r =
     rw (is, none.0) (record {
       outcome = inl (none.1, failed);
       outside = outside_of_none (Refused (Edge other) ≡ Refused Memory) calls before case old new same
-          (λ wanted. inr (record { name = other; fails = failed; back = inl (refl, (same.sources, same.sinks)) }));
+          (λ feeds wanted. inr (record { name = other; fails = failed; back = inl (refl, (same.sources, same.sinks)) }));
       asked_by = λ t. tt;
       same_telling = r.same_telling;
     })
@@ -131,7 +131,7 @@ checked_only old new wanted topology before verdict (inr r) same asked telling =
 -- `flow` reads no file
 pub came_by_flow : (old new : OutsideSeen) (boxes : Boxes) (source prefix : List ℕ) (wanted : Topology) (topology : Option Topology) (before : History) (verdict : Verdict)
     → wanted ≡ flow_topology_of source prefix
-    → ComesBy old new (run_case boxes report_alone wanted) (opening_calls (run_case boxes report_alone wanted)) topology before verdict
+    → ComesBy old new (run_case boxes report_alone Named wanted) (opening_calls (run_case boxes report_alone Named wanted)) topology before verdict
     → Came old new (Some (Flow source prefix)) boxes topology before verdict
 came_by_flow old new boxes source prefix wanted topology before verdict is x = record {
   file = [];
@@ -245,14 +245,14 @@ upgrade_unread old new boxes name refusal topology before verdict r is none cloc
 
 pub run_came : (old : OutsideSeen) (middle : EdgesSeen) (new : OutsideSeen) (boxes : Boxes) (name : List ℕ) (workers : ℕ) (acks steps : Bool) (wanted : Topology) (topology : Option Topology) (before : History) (verdict : Verdict)
     → ReadsFile old.edges middle name topology_of_file (Ok wanted)
-    → ComesBy (record old { edges = middle }) new (run_case boxes (record { steps = steps; acks = acks }) wanted)
-    (opening_calls (run_case boxes (record { steps = steps; acks = acks }) wanted)) topology before verdict
+    → ComesBy (record old { edges = middle }) new (run_case boxes (record { steps = steps; acks = acks }) Named wanted)
+    (opening_calls (run_case boxes (record { steps = steps; acks = acks }) Named wanted)) topology before verdict
     → Came old new (Some (Run name workers acks steps)) boxes topology before verdict
 run_came old middle new boxes name workers acks steps wanted topology before verdict r x = record {
   file = r.file;
   text = [];
   is_file = r.is_file;
-  comes = loaded old middle new (run_case boxes (record { steps = steps; acks = acks })) name wanted topology before verdict r x;
+  comes = loaded old middle new (run_case boxes (record { steps = steps; acks = acks }) Named) name wanted topology before verdict r x;
 }
 
 pub run_unread : (old new : OutsideSeen) (boxes : Boxes) (name : List ℕ) (workers : ℕ) (acks steps : Bool) (refusal : Refusal) (topology : Option Topology) (before : History) (verdict : Verdict)
@@ -263,7 +263,31 @@ run_unread old new boxes name workers acks steps refusal topology before verdict
   file = r.file;
   text = [];
   is_file = r.is_file;
-  comes = unread old new (run_case boxes (record { steps = steps; acks = acks })) name refusal topology before verdict is none
+  comes = unread old new (run_case boxes (record { steps = steps; acks = acks }) Named) name refusal topology before verdict is none
+      (untouched old new name (Err refusal) r clock same) r;
+}
+
+pub gen_came : (old : OutsideSeen) (middle : EdgesSeen) (new : OutsideSeen) (boxes : Boxes) (seed count : ℕ) (name : List ℕ) (wanted : Topology) (topology : Option Topology) (before : History) (verdict : Verdict)
+    → ReadsFile old.edges middle name topology_of_file (Ok wanted)
+    → ComesBy (record old { edges = middle }) new (run_case boxes report_alone (MadeFrom seed count) wanted)
+    (opening_calls (run_case boxes report_alone (MadeFrom seed count) wanted)) topology before verdict
+    → Came old new (Some (Gen seed count name)) boxes topology before verdict
+gen_came old middle new boxes seed count name wanted topology before verdict r x = record {
+  file = r.file;
+  text = [];
+  is_file = r.is_file;
+  comes = loaded old middle new (run_case boxes report_alone (MadeFrom seed count)) name wanted topology before verdict r x;
+}
+
+pub gen_unread : (old new : OutsideSeen) (boxes : Boxes) (seed count : ℕ) (name : List ℕ) (refusal : Refusal) (topology : Option Topology) (before : History) (verdict : Verdict)
+    → ReadsFile old.edges new.edges name topology_of_file (Err refusal) → verdict ≡ Refused refusal → (topology ≡ None) × (before ≡ [])
+    → new.clock ≡ old.clock → new.boxes ≡ old.boxes
+    → Came old new (Some (Gen seed count name)) boxes topology before verdict
+gen_unread old new boxes seed count name refusal topology before verdict r is none clock same = record {
+  file = r.file;
+  text = [];
+  is_file = r.is_file;
+  comes = unread old new (run_case boxes report_alone (MadeFrom seed count)) name refusal topology before verdict is none
       (untouched old new name (Err refusal) r clock same) r;
 }
 

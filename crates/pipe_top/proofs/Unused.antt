@@ -4,6 +4,7 @@ use Rattle.std.specs.Prelude.{◌⊎◌, IsTrue, slice_get}
 use Rattle.std.proofs.lemmas.List.{append-nil}
 use Rattle.std.proofs.lemmas.List.Elements.{All-nil, All-cons}
 use Rattle.std.proofs.Math.Seq.{take-nil}
+use Rattle.pipe_types.specs.declared.topology.StageSpec.{StageSpec}
 use Rattle.pipe_types.specs.declared.topology.Topology.{Topology}
 use Rattle.pipe_model.specs.History.{History}
 use Rattle.pipe_edges.specs.declared.edges.EdgeKind.{EdgeKind}
@@ -11,9 +12,10 @@ use Rattle.pipe_edges.specs.declared.edges.EdgeKind.TheVariants.{File}
 use Rattle.stage_bodies.specs.Seen.{BoxSeen}
 use Rattle.stage_bodies.specs.Jobs.{Both}
 use Rattle.edge_names.specs.Seen.{EdgesSeen}
+use Rattle.edge_names.specs.Supplies.{Feed}
 use Rattle.box_stock.specs.Lends.{IsSameBox}
 use Rattle.pipe_run.specs.Boxes.{AreSameBoxes}
-use Rattle.pipe_top.specs.Cases.{Case, NoCommand, NoTopology, TooFew, Checks, Upgrades, Runs}
+use Rattle.pipe_top.specs.Cases.{feeds_of, Case, NoCommand, NoTopology, TooFew, Checks, Upgrades, Runs}
 use Rattle.pipe_top.specs.Runs.{OutsideSeen, IsUntouched, IsNothingBack, IsBrokenOff, IsGivenUp, IsOutsideOf, Asks}
 use Rattle.pipe_top.specs.Flows.{ComesBy}
 use Rattle.run_verdicts.specs.declared.verdict.Refusal.TheVariants.{Memory}
@@ -33,21 +35,21 @@ same_boxes boxes = record { as_many = refl; each = λ k. same_box (slice_get box
 
 -- where nothing is used there was no run, since memory was wanting or a call by name failed
 pub outside_of_none : (memory : Type 0) (calls : List (EdgeKind × List ℕ)) (before : History) (case : Case) (old new : OutsideSeen) → IsUntouched old new
-    → ((wanted : Topology) → (memory × IsBrokenOff calls wanted old.edges new.edges) ⊎ IsGivenUp calls wanted old.edges new.edges) → IsOutsideOf memory calls None before case old new
+    → ((feeds : StageSpec → Option Feed) (wanted : Topology) → (memory × IsBrokenOff feeds calls wanted old.edges new.edges) ⊎ IsGivenUp feeds calls wanted old.edges new.edges) → IsOutsideOf memory calls None before case old new
 outside_of_none memory calls before NoCommand old new u why = u
 outside_of_none memory calls before (NoTopology fault) old new u why = u
 outside_of_none memory calls before (TooFew shortage) old new u why = u
 outside_of_none memory calls before (Checks wanted) old new u why = u
 outside_of_none memory calls before (Upgrades file text wanted) old new u why = u
-outside_of_none memory calls before (Runs shows wanted) old new u why = record {
-  edges = why wanted;
+outside_of_none memory calls before (Runs shows feeding wanted) old new u why = record {
+  edges = why (feeds_of feeding wanted) wanted;
   clock = u.clock;
   boxes = rw u.boxes (same_boxes old.boxes);
 }
 
 -- no call was made, and nothing was given back
-pub off_unasked : (calls : List (EdgeKind × List ℕ)) (old new : EdgesSeen) → new.asked ≡ old.asked → IsNothingBack old new → (wanted : Topology) → IsBrokenOff calls wanted old new
-off_unasked calls old new asked none wanted = record {
+pub off_unasked : (calls : List (EdgeKind × List ℕ)) (old new : EdgesSeen) → new.asked ≡ old.asked → IsNothingBack old new → (feeds : StageSpec → Option Feed) (wanted : Topology) → IsBrokenOff feeds calls wanted old new
+off_unasked calls old new asked none feeds wanted = record {
   front = [];
   rest = calls;
   parts = refl;
@@ -57,13 +59,13 @@ off_unasked calls old new asked none wanted = record {
 
 -- the first call was made or not, and nothing was given back
 pub off_file : (name : List ℕ) (calls : List (EdgeKind × List ℕ)) (old new : EdgesSeen) → (IsTrue old.told → Asks ((File, name) ∷ []) old.asked new.asked) → IsNothingBack old new
-    → (wanted : Topology) → IsBrokenOff ((File, name) ∷ calls) wanted old new
-off_file name calls old new asks none wanted = by_telling old.told refl
+    → (feeds : StageSpec → Option Feed) (wanted : Topology) → IsBrokenOff feeds ((File, name) ∷ calls) wanted old new
+off_file name calls old new asks none feeds wanted = by_telling old.told refl
   where
-    unmade : (IsTrue old.told → new.asked ≡ old.asked ++ []) → IsBrokenOff ((File, name) ∷ calls) wanted old new
+    unmade : (IsTrue old.told → new.asked ≡ old.asked ++ []) → IsBrokenOff feeds ((File, name) ∷ calls) wanted old new
     unmade asked = record { front = []; rest = (File, name) ∷ calls; parts = refl; asked = asked; back = inl (All-nil (λ (call : EdgeKind × List ℕ). call.0 ≡ File), none) }
 
-    by_count : (count : ℕ) → new.asked ≡ old.asked ++ take count ((File, name) ∷ []) → IsBrokenOff ((File, name) ∷ calls) wanted old new
+    by_count : (count : ℕ) → new.asked ≡ old.asked ++ take count ((File, name) ∷ []) → IsBrokenOff feeds ((File, name) ∷ calls) wanted old new
     by_count zero is = unmade (λ t. is)
     by_count (suc n) is = record {
       front = (File, name) ∷ [];
@@ -73,18 +75,18 @@ off_file name calls old new asks none wanted = by_telling old.told refl
       back = inl (All-cons (λ (call : EdgeKind × List ℕ). call.0 ≡ File) (File, name) [] refl (All-nil (λ (call : EdgeKind × List ℕ). call.0 ≡ File)), none);
     }
 
-    by_telling : (told : Bool) → old.told ≡ told → IsBrokenOff ((File, name) ∷ calls) wanted old new
+    by_telling : (told : Bool) → old.told ≡ told → IsBrokenOff feeds ((File, name) ∷ calls) wanted old new
     by_telling true is = by_count (asks is).count (asks is).is
     by_telling false is = unmade (λ t. cc)
 
 -- memory was wanting before anything was opened
 pub wanting : (old new : OutsideSeen) (case : Case) (calls : List (EdgeKind × List ℕ)) (topology : Option Topology) (before : History) (verdict : Verdict)
-    → verdict ≡ Refused Memory → (topology ≡ None) × (before ≡ []) → IsUntouched old new → (IsTrue old.edges.told → Asks calls old.edges.asked new.edges.asked) → ((wanted : Topology) → IsBrokenOff calls wanted old.edges new.edges)
+    → verdict ≡ Refused Memory → (topology ≡ None) × (before ≡ []) → IsUntouched old new → (IsTrue old.edges.told → Asks calls old.edges.asked new.edges.asked) → ((feeds : StageSpec → Option Feed) (wanted : Topology) → IsBrokenOff feeds calls wanted old.edges new.edges)
     → new.edges.told ≡ old.edges.told → ComesBy old new case calls topology before verdict
 wanting old new case calls topology before verdict is none untouched asks off telling =
     rw (is, none.0) (record {
       outcome = inl none.1;
-      outside = outside_of_none (Refused Memory ≡ Refused Memory) calls before case old new untouched (λ wanted. inl (refl, off wanted));
+      outside = outside_of_none (Refused Memory ≡ Refused Memory) calls before case old new untouched (λ feeds wanted. inl (refl, off feeds wanted));
       asked_by = asks;
       same_telling = telling;
     })

@@ -1,27 +1,41 @@
 -- What the words, the topology file and the stock of callbacks come to.
-use Rattle.std.specs.Prelude.{◌≡◌, ℕ, Bool, false, List, [], ◌∷◌, ◌++◌, take, IsTrue, Option, Some, None, Result, Ok, Err}
+use Rattle.std.specs.Prelude.{◌≡◌, ℕ, Bool, false, List, [], ◌∷◌, ◌++◌, length, take, IsTrue, Option, Some, None, Result, Ok, Err}
+use Rattle.pipe_types.specs.Sound.{producers}
+use Rattle.pipe_types.specs.declared.topology.StageSpec.{StageSpec}
 use Rattle.pipe_types.specs.declared.topology.Topology.{Topology}
 use Rattle.pipe_edges.specs.declared.edges.EdgeKind.{EdgeKind}
 use Rattle.pipe_edges.specs.declared.edges.EdgeKind.TheVariants.{File}
 use Rattle.config_table.specs.declared.fault.ConfigFault.{ConfigFault}
 use Rattle.pipe_config.specs.File.{topology_of_file}
 use Rattle.config_flow.specs.Flow.{flow_topology_of}
-use Rattle.program_words.specs.Words.{Command, Flow, Check, Run, Upgrade}
+use Rattle.program_words.specs.Words.{Command, Flow, Check, Run, Gen, Upgrade}
+use Rattle.edge_names.specs.Supplies.{Feed, by_name}
 use Rattle.edge_names.specs.Controls.{run_calls}
+use Rattle.made_sources.specs.Feeds.{made_feeds}
 use Rattle.topology_needs.specs.declared.stock.Boxes.{Boxes}
 use Rattle.topology_needs.specs.declared.stock.Shortage.{Shortage}
 use Rattle.topology_needs.specs.Needs.{shortage_of}
 use Rattle.run_verdicts.specs.declared.verdict.Shows.{Shows}
 
+-- how the producers of a run come to their sources: each opens the source that it names, or reads its share of so many records
+-- that a seed gives
+pub data Feeding : Type 0 where
+  Named : Feeding
+  MadeFrom : (seed count : ℕ) → Feeding
+
+abbrev pub feeds_of : Feeding → Topology → (StageSpec → Option Feed)
+feeds_of Named topology = by_name
+feeds_of (MadeFrom seed count) topology = made_feeds seed count (length (producers topology.stages))
+
 -- the words are no command; the file is no topology; the stock has too few boxes of a kind; the topology is only checked; its
--- file is written with this text as version 2; or it runs, and shows these texts
+-- file is written with this text as version 2; or it runs, with producers fed so, and shows these texts
 pub data Case : Type 0 where
   NoCommand : Case
   NoTopology : ConfigFault → Case
   TooFew : Shortage → Case
   Checks : Topology → Case
   Upgrades : (file text : List ℕ) → Topology → Case
-  Runs : Shows → Topology → Case
+  Runs : Shows → Feeding → Topology → Case
 
 -- the topology of the file, or why there is none
 abbrev pub for_topology : Result Topology ConfigFault → (Topology → Case) → Case
@@ -33,20 +47,21 @@ unless_short None case = case
 unless_short (Some shortage) case = TooFew shortage
 
 -- it runs where the stock has enough boxes of each kind
-abbrev pub run_case : Boxes → Shows → Topology → Case
-run_case boxes shows topology = unless_short (shortage_of topology boxes) (Runs shows topology)
+abbrev pub run_case : Boxes → Shows → Feeding → Topology → Case
+run_case boxes shows feeding topology = unless_short (shortage_of topology boxes) (Runs shows feeding topology)
 
 -- only the report
 abbrev pub report_alone : Shows
 report_alone = record { steps = false; acks = false }
 
--- `flow` has a topology of its own; `check`, `upgrade` and `run` have that of the file; the text is that of an upgrade
+-- `flow` has a topology of its own; `check`, `upgrade`, `run` and `gen` have that of the file; the text is that of an upgrade
 abbrev pub case_of : Option Command → (file text : List ℕ) → Boxes → Case
 case_of None file text boxes = NoCommand
-case_of (Some (Flow source prefix)) file text boxes = run_case boxes report_alone (flow_topology_of source prefix)
+case_of (Some (Flow source prefix)) file text boxes = run_case boxes report_alone Named (flow_topology_of source prefix)
 case_of (Some (Check path)) file text boxes = for_topology (topology_of_file file) Checks
 case_of (Some (Upgrade path)) file text boxes = for_topology (topology_of_file file) (Upgrades file text)
-case_of (Some (Run path workers acks steps)) file text boxes = for_topology (topology_of_file file) (run_case boxes (record { steps = steps; acks = acks }))
+case_of (Some (Run path workers acks steps)) file text boxes = for_topology (topology_of_file file) (run_case boxes (record { steps = steps; acks = acks }) Named)
+case_of (Some (Gen seed count path)) file text boxes = for_topology (topology_of_file file) (run_case boxes report_alone (MadeFrom seed count))
 
 -- ---- names
 
@@ -55,6 +70,7 @@ abbrev pub file_name : Option Command → Option (List ℕ)
 file_name (Some (Check path)) = Some path
 file_name (Some (Upgrade path)) = Some path
 file_name (Some (Run path workers acks steps)) = Some path
+file_name (Some (Gen seed count path)) = Some path
 file_name _ = None
 
 -- the bytes are those that stand under the file's name, at most one more than a topology may have
@@ -66,9 +82,10 @@ abbrev pub file_calls : Option (List ℕ) → List (EdgeKind × List ℕ)
 file_calls None = []
 file_calls (Some name) = (File, name) ∷ []
 
--- the calls that open what a run reads and writes: the control source first, if one is named, and then in stage order
+-- the calls that open what a run reads and writes: the control source first, if one is named, and then in stage order. A producer
+-- that reads generated records makes none
 abbrev pub opening_calls : Case → List (EdgeKind × List ℕ)
-opening_calls (Runs shows topology) = run_calls topology
+opening_calls (Runs shows feeding topology) = run_calls (feeds_of feeding topology) topology
 opening_calls _ = []
 
 -- the calls by name: first the topology file is read, where one is named, and then the sources and sinks of a run are opened

@@ -1,7 +1,8 @@
 -- What the parts of a call come to.
-use Rattle.std.specs.Prelude.{◌≡◌, ◌≤◌, ◌⊎◌, ℕ, List, [], ◌∷◌, ◌++◌, length, IsTrue, Option, Some, None, Result, Ok, Err}
+use Rattle.std.specs.Prelude.{◌≡◌, ◌≤◌, ◌<◌, ◌^◌, ◌⊎◌, ℕ, List, [], ◌∷◌, ◌++◌, length, IsTrue, Option, Some, None, Result, Ok, Err}
 use Rattle.pipe_types.specs.Counts.{Rose}
 use Rattle.pipe_types.specs.Sound.{IsSound}
+use Rattle.pipe_types.specs.declared.topology.StageSpec.{StageSpec}
 use Rattle.pipe_types.specs.declared.topology.Topology.{Topology}
 use Rattle.pipe_model.specs.History.{History}
 use Rattle.pipe_edges.specs.declared.edges.EdgeKind.{EdgeKind}
@@ -12,10 +13,11 @@ use Rattle.pipe_top.specs.declared.file.Upgraded.{Upgraded}
 use Rattle.program_words.specs.Refusals.{counts_line}
 use Rattle.program_words.specs.Words.{Command}
 use Rattle.edge_names.specs.Seen.{EdgesSeen}
+use Rattle.edge_names.specs.Supplies.{Feed}
 use Rattle.topology_needs.specs.Needs.{subscriptions_of}
 use Rattle.topology_needs.specs.declared.stock.Boxes.{Boxes}
 use Rattle.topology_needs.specs.declared.stock.Shortage.{Shortage}
-use Rattle.pipe_top.specs.Cases.{Case, NoCommand, NoTopology as BadTopology, TooFew, Checks, Upgrades, Runs, case_of, calls_of, file_name, IsNamedFile}
+use Rattle.pipe_top.specs.Cases.{Feeding, Named, MadeFrom, feeds_of, Case, NoCommand, NoTopology as BadTopology, TooFew, Checks, Upgrades, Runs, case_of, calls_of, file_name, IsNamedFile}
 use Rattle.run_verdicts.specs.Verdicts.{whole_text}
 use Rattle.pipe_top.specs.Runs.{OutsideSeen, IsEnded, IsRun, IsOutsideOf, Asks, FailsAt}
 use Rattle.run_verdicts.specs.Texts.{run_text}
@@ -72,9 +74,20 @@ pub record IsUpgraded (file text : List ℕ) (wanted : Topology) (topology : Opt
   pub run : IsRun wanted before
   pub no_step : before ≡ []
 
+-- the number of each record that is generated fits 32 bits
+abbrev pub IsFew : Feeding → Type 0
+IsFew Named = Unit {0}
+IsFew (MadeFrom seed count) = count < 2 ^ 32
+
+-- a supply feeds the producers of this topology so
+pub record IsFedBy (feeding : Feeding) (topology : Topology) (feeds : StageSpec → Option Feed) : Type 0 where
+  pub is : feeds ≡ feeds_of feeding topology
+  pub few : IsFew feeding
+
 -- a run on this topology
-pub record IsRunOn (shows : Shows) (wanted : Topology) (topology : Option Topology) (before : History) (verdict : Verdict) : Type 0 where
+pub record IsRunOn (shows : Shows) (feeding : Feeding) (wanted : Topology) (topology : Option Topology) (before : History) (verdict : Verdict) : Type 0 where
   pub sound : IsSound wanted
+  pub few : IsFew feeding
   pub own : topology ≡ Some wanted
   pub run : IsRun wanted before
   pub comes_to : IsJudgement verdict shows wanted before
@@ -86,7 +99,7 @@ ComesTo (BadTopology fault) topology before verdict = IsRefusedBy (NoTopology fa
 ComesTo (TooFew shortage) topology before verdict = IsRefusedBy (Stock shortage) topology before verdict
 ComesTo (Checks wanted) topology before verdict = IsChecked wanted topology before verdict
 ComesTo (Upgrades file text wanted) topology before verdict = IsUpgraded file text wanted topology before verdict
-ComesTo (Runs shows wanted) topology before verdict = IsRunOn shows wanted topology before verdict
+ComesTo (Runs shows feeding wanted) topology before verdict = IsRunOn shows feeding wanted topology before verdict
 
 -- the case's outcome, or there was no run before it came to one
 abbrev pub Outcome : Case → (fails : List ℕ → Type 0) → Option Topology → History → Verdict → Type 0

@@ -1,11 +1,13 @@
 -- What a call promises of its run, its texts, its outside and the calls by name.
-use Rattle.std.specs.Prelude.{◌≡◌, ◌≢◌, ◌≤◌, ◌⊎◌, Bool, true, false, ℕ, List, [], ◌∷◌, ◌++◌, take, length, All, IsTrue, Option, Some, None, if◌then◌else◌, nat_le}
+use Rattle.std.specs.Prelude.{◌≡◌, ◌≢◌, ◌≤◌, ◌⊎◌, Bool, true, false, ℕ, List, [], ◌∷◌, ◌++◌, ◌-◌, take, length, All, IsTrue, Option, Some, None, if◌then◌else◌, nat_le}
 use Rattle.pipe_types.specs.Counts.{Rose}
 use Rattle.pipe_types.specs.declared.numbers.StageNo.{StageNo}
 use Rattle.pipe_types.specs.declared.step.DrainCause.TheVariants.{Control, Limit, Idle}
 use Rattle.pipe_types.specs.declared.step.SourceHow.TheVariants.{End}
 use Rattle.pipe_types.specs.declared.step.Step.{Step}
 use Rattle.pipe_types.specs.declared.step.Step.TheVariants.{Drain}
+use Rattle.pipe_types.specs.Sound.{producers}
+use Rattle.pipe_types.specs.declared.topology.StageSpec.{StageSpec}
 use Rattle.pipe_types.specs.declared.topology.Topology.{Topology}
 use Rattle.pipe_model.specs.History.{History}
 use Rattle.pipe_model.specs.Legal.{happened, is_halt, has_role, is_producer_role}
@@ -30,9 +32,12 @@ use Rattle.stage_bodies.specs.Seen.{SourceSeen, SinkSeen, BoxSeen}
 use Rattle.pipe_run.specs.Clocks.{ClockSeen}
 use Rattle.edge_names.specs.Seen.{EdgesSeen}
 use Rattle.pipe_run.specs.Boxes.{AreBoxesLeft, AreSameBoxes}
+use Rattle.edge_names.specs.Supplies.{Feed}
+use Rattle.made_sources.specs.Records.{records_made}
+use Rattle.pipe_run.specs.Records.{ReadsRecords}
 use Rattle.pipe_run.specs.Outside.{IsOpenedInPart, IsOutside, IsUnopened}
 use Rattle.pipe_run.specs.Whole.{HasCome, IsTimeOf}
-use Rattle.pipe_top.specs.Cases.{calls_of, Case, NoCommand, NoTopology, TooFew, Checks, Upgrades, Runs}
+use Rattle.pipe_top.specs.Cases.{Feeding, MadeFrom, calls_of, feeds_of, Case, NoCommand, NoTopology, TooFew, Checks, Upgrades, Runs}
 use Rattle.run_verdicts.specs.Texts.{run_text}
 use Rattle.run_verdicts.specs.Verdicts.{Adds, AddsPrefix, path_of}
 use Rattle.run_verdicts.specs.declared.verdict.Shows.{Shows}
@@ -62,7 +67,7 @@ pub record IsEnded (topology : Topology) (before : History) (status : ℕ) : Typ
 
 -- a run is ended on its topology, or a topology was checked, or the text of its file as version 2 was made
 abbrev pub IsEndOf : Option Topology → History → (status : ℕ) → Case → Type 0
-IsEndOf topology before status (Runs shows wanted) = (topology ≡ Some wanted) × IsEnded wanted before status
+IsEndOf topology before status (Runs shows feeding wanted) = (topology ≡ Some wanted) × IsEnded wanted before status
 IsEndOf topology before status (Checks wanted) = (status ≡ 0) × (topology ≡ Some wanted) × (before ≡ [])
 IsEndOf topology before status (Upgrades file text wanted) = (status ≡ 0) × (topology ≡ Some wanted) × (before ≡ []) × IsUpgrade file text
 IsEndOf topology before status _ = ⊥
@@ -70,7 +75,7 @@ IsEndOf topology before status _ = ⊥
 -- a run, a check and an upgrade have the case's topology, the last two without any step; all else has none
 abbrev pub IsOwnTopology : Option Topology → History → Case → Type 0
 IsOwnTopology None before case = before ≡ []
-IsOwnTopology (Some topology) before (Runs shows wanted) = topology ≡ wanted
+IsOwnTopology (Some topology) before (Runs shows feeding wanted) = topology ≡ wanted
 IsOwnTopology (Some topology) before (Checks wanted) = (topology ≡ wanted) × (before ≡ [])
 IsOwnTopology (Some topology) before (Upgrades file text wanted) = (topology ≡ wanted) × (before ≡ [])
 IsOwnTopology (Some topology) before _ = ⊥
@@ -81,7 +86,7 @@ IsOwnTopology (Some topology) before _ = ⊥
 abbrev pub out_text : History → Case → List ℕ
 out_text before (Checks topology) = counts_line (length topology.stages) (subscriptions_of topology)
 out_text before (Upgrades file text topology) = text
-out_text before (Runs shows topology) = run_text shows topology before
+out_text before (Runs shows feeding topology) = run_text shows topology before
 out_text before _ = []
 
 -- the same, and nothing where there was neither a run nor a check nor an upgrade
@@ -96,7 +101,7 @@ case_line (NoTopology fault) = topology_line (number_of fault) (path_of fault)
 case_line (TooFew shortage) = stock_line shortage.kind shortage.need shortage.have
 case_line (Checks topology) = []
 case_line (Upgrades file text topology) = []
-case_line (Runs shows topology) = []
+case_line (Runs shows feeding topology) = []
 
 -- what is written to the error output under a status that is none of 5, 8 and 9
 abbrev pub error_text : (status : ℕ) → Case → List ℕ
@@ -125,7 +130,7 @@ IsStatusOf status (NoTopology fault) = status ≡ 6
 IsStatusOf status (TooFew shortage) = status ≡ 6
 IsStatusOf status (Checks topology) = status ≡ 0
 IsStatusOf status (Upgrades file text topology) = status ≡ 0
-IsStatusOf status (Runs shows topology) = IsEndStatus status
+IsStatusOf status (Runs shows feeding topology) = IsEndStatus status
 
 -- ---- calls by name
 
@@ -154,10 +159,10 @@ pub record IsUntouched (old new : OutsideSeen) : Type 0 where
 
 -- a run read, wrote and gave back what its topology names, its time is the clock's, and its stages used the boxes; where memory
 -- was wanting, in part
-pub record HasUsed (memory : Type 0) (topology : Topology) (before : History) (old new : OutsideSeen) : Type 0 where
+pub record HasUsed (feeds : StageSpec → Option Feed) (memory : Type 0) (topology : Topology) (before : History) (old new : OutsideSeen) : Type 0 where
   pub whole : Bool
   pub wanting : whole ≡ false → memory
-  pub outside : IsOutside whole topology before old.edges new.edges
+  pub outside : IsOutside feeds whole topology before old.edges new.edges
   pub time : IsTimeOf whole before old.clock new.clock
   pub boxes : AreBoxesLeft whole topology before old.boxes new.boxes
 
@@ -166,35 +171,54 @@ abbrev pub IsNothingBack : (old new : EdgesSeen) → Type 0
 IsNothingBack old new = (new.sources_back ≡ old.sources_back) × (new.sinks_back ≡ old.sinks_back)
 
 -- a call by name failed, and what was opened before it was given back; where it was to read the topology file, nothing was opened
-pub record IsGivenUp (calls : List (EdgeKind × List ℕ)) (topology : Topology) (old new : EdgesSeen) : Type 0 where
+pub record IsGivenUp (feeds : StageSpec → Option Feed) (calls : List (EdgeKind × List ℕ)) (topology : Topology) (old new : EdgesSeen) : Type 0 where
   pub name : List ℕ
   pub fails : FailsAt old.told calls old.asked new.asked (Rose old.faults new.faults) name
-  pub back : ((fails.kind ≡ File) × IsNothingBack old new) ⊎ IsUnopened topology name fails.rest old new
+  pub back : ((fails.kind ≡ File) × IsNothingBack old new) ⊎ IsUnopened feeds topology name fails.rest old new
 
 -- memory was wanting before the run began: so many of the calls were made, and no source or sink was opened, or what was opened
 -- was given back, unread and unwritten, as far as there was memory for that
-pub record IsBrokenOff (calls : List (EdgeKind × List ℕ)) (topology : Topology) (old new : EdgesSeen) : Type 0 where
+pub record IsBrokenOff (feeds : StageSpec → Option Feed) (calls : List (EdgeKind × List ℕ)) (topology : Topology) (old new : EdgesSeen) : Type 0 where
   pub front : List (EdgeKind × List ℕ)
   pub rest : List (EdgeKind × List ℕ)
   pub parts : calls ≡ front ++ rest
   pub asked : IsTrue old.told → new.asked ≡ old.asked ++ front
-  pub back : (All (λ call. call.0 ≡ File) front × IsNothingBack old new) ⊎ IsOpenedInPart topology rest old new
+  pub back : (All (λ call. call.0 ≡ File) front × IsNothingBack old new) ⊎ IsOpenedInPart feeds topology rest old new
 
 -- a run did not begin, since memory was wanting or a call by name failed: the clock was not used, and the boxes are the same,
 -- though some may be armed
-pub record HasNotBegun (memory : Type 0) (calls : List (EdgeKind × List ℕ)) (topology : Topology) (old new : OutsideSeen) : Type 0 where
-  pub edges : (memory × IsBrokenOff calls topology old.edges new.edges) ⊎ IsGivenUp calls topology old.edges new.edges
+pub record HasNotBegun (feeds : StageSpec → Option Feed) (memory : Type 0) (calls : List (EdgeKind × List ℕ)) (topology : Topology) (old new : OutsideSeen) : Type 0 where
+  pub edges : (memory × IsBrokenOff feeds calls topology old.edges new.edges) ⊎ IsGivenUp feeds calls topology old.edges new.edges
   pub clock : new.clock ≡ old.clock
   pub boxes : AreSameBoxes old.boxes new.boxes
 
-abbrev pub HasRunOrNot : (memory : Type 0) → (calls : List (EdgeKind × List ℕ)) → (wanted : Topology) → Option Topology → History → (old new : OutsideSeen) → Type 0
-HasRunOrNot memory calls wanted (Some topology) before old new = HasUsed memory wanted before old new
-HasRunOrNot memory calls wanted None before old new = HasNotBegun memory calls wanted old new
+abbrev pub HasRunOrNot : (feeds : StageSpec → Option Feed) → (memory : Type 0) → (calls : List (EdgeKind × List ℕ)) → (wanted : Topology) → Option Topology → History → (old new : OutsideSeen) → Type 0
+HasRunOrNot feeds memory calls wanted (Some topology) before old new = HasUsed feeds memory wanted before old new
+HasRunOrNot feeds memory calls wanted None before old new = HasNotBegun feeds memory calls wanted old new
 
 -- what a call does to its outside, with the calls by name that its case makes
 abbrev pub IsOutsideOf : (memory : Type 0) → (calls : List (EdgeKind × List ℕ)) → Option Topology → History → Case → (old new : OutsideSeen) → Type 0
-IsOutsideOf memory calls topology before (Runs shows wanted) old new = HasRunOrNot memory calls wanted topology before old new
+IsOutsideOf memory calls topology before (Runs shows feeding wanted) old new = HasRunOrNot (feeds_of feeding wanted) memory calls wanted topology before old new
 IsOutsideOf memory calls topology before _ old new = IsUntouched old new
+
+-- ---- generated records
+
+-- of the records that the seed gives each producer read its share, in order, as far as the journal says: all of it where its
+-- source came to its end. No source failed or had nothing ready, unless memory was wanting
+pub record ReadShares (memory : Type 0) (seed count : ℕ) (topology : Topology) (before : History) : Type 0 where
+  pub whole : Bool
+  pub wanting : whole ≡ false → memory
+  pub reads : (p : StageNo) → has_role topology p is_producer_role ≡ true
+      → ReadsRecords whole before p (records_made seed (length (producers topology.stages)) (p.0 - 1) count)
+
+abbrev pub AreShares : (memory : Type 0) → Option Topology → Feeding → (wanted : Topology) → History → Type 0
+AreShares memory (Some topology) (MadeFrom seed count) wanted before = ReadShares memory seed count wanted before
+AreShares memory topology feeding wanted before = Unit {0}
+
+-- a run over generated records read these
+abbrev pub ReadsGenerated : (memory : Type 0) → Option Topology → History → Case → Type 0
+ReadsGenerated memory topology before (Runs shows feeding wanted) = AreShares memory topology feeding wanted before
+ReadsGenerated memory topology before _ = Unit {0}
 
 -- ---- completeness
 
@@ -241,7 +265,7 @@ pub record IsComplete (topology : Topology) (before : History) (status : ℕ) : 
 
 -- a run is complete
 abbrev pub IsCompleteIn : History → (status : ℕ) → Case → Type 0
-IsCompleteIn before status (Runs shows topology) = IsComplete topology before status
+IsCompleteIn before status (Runs shows feeding topology) = IsComplete topology before status
 IsCompleteIn before status _ = Unit {0}
 
 -- ---- writes
@@ -313,6 +337,8 @@ pub record IsCall (old new : OutsideSeen) (out out' err err' : SinkSeen) (comman
       (IsRefused (FailsAt old.edges.told (calls_of command case) old.edges.asked new.edges.asked (Rose old.edges.faults new.edges.faults)) topology before case) (Rose err.faults err'.faults)
   -- what was opened was read, written and given back as the journal says; so with the clock and the boxes
   pub outside : IsOutsideOf (status ≡ 9) (calls_of command case) topology before case old new
+  -- where records were generated, each producer accepted the first of its share
+  pub generated : ReadsGenerated (status ≡ 9) topology before case
   -- where no call by name and no write failed, and each source, the control source too, tells its bytes, never failed and has no
   -- line that is too long, a run came to its end, unless memory was wanting
   pub complete : ¬ Rose old.edges.faults new.edges.faults → ¬ Rose out.faults out'.faults → ¬ Rose err.faults err'.faults → AreFaultless old.edges new.edges → IsCompleteIn before status case

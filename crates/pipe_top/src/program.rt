@@ -1,9 +1,10 @@
 //! The top call.
 
-ghost use Rattle.std.specs.Prelude.{◌≡◌, ◌≢◌, ◌⊎◌, ◌≤◌, [], None, Some, IsTrue, map};
+ghost use Rattle.std.specs.Prelude.{◌≡◌, ◌≢◌, ◌⊎◌, ◌≤◌, [], None, Some, IsTrue, count_by, length, map};
 ghost use Rattle.pipe_types.specs.Counts.{Rose};
+ghost use Rattle.pipe_types.specs.Sound.{IsSound, is_producer as is_producer_role, producers as producers_of};
 ghost use Rattle.program_words.specs.Refusals.{memory_line};
-ghost use Rattle.program_words.specs.Words.{command_of, texts_of, Flow, Check, Run, Upgrade};
+ghost use Rattle.program_words.specs.Words.{command_of, texts_of, Flow, Check, Run, Gen, Upgrade};
 ghost use Rattle.pipe_run.specs.Clocks.{clock_seen};
 ghost use Rattle.box_stock.specs.Lends.{kinds_of};
 ghost use Rattle.topology_needs.specs.Needs.{boxes_in};
@@ -17,11 +18,12 @@ use crate::file::{checked, finish_upgrade, read_named, upgrade_named};
 use crate::run::{Ran, refused, run_or_refuse};
 use box_stock::{Boxed, Carries};
 use config_flow::flow_topology;
-use edge_names::{SeenEdges, SeenSink};
+use edge_names::{ByName, SeenEdges, SeenSink};
+use made_sources::{Made, MadeSource};
 use pipe_edges::{Clock, Edges};
 use pipe_journal::Journal;
-use pipe_types::topology::Topology;
-use program_words::{Command, FlowWords, RunWords, read_words};
+use pipe_types::topology::{Role, StageSpec, Topology};
+use program_words::{Command, FlowWords, GenWords, RunWords, read_words};
 use run_verdicts::{Refusal, Shows, write_verdict};
 use stage_bodies::Houses;
 use std::alloc::Global;
@@ -40,12 +42,14 @@ pub struct RunEnd<C, K> {
 }
 
 /// Runs the command that the words are. What its topology file, if it names one, and the stock come to is its case. Where the
-/// topology has no idle limit, a run may wait for its sources for ever.
+/// topology has no idle limit, a run may wait for its sources for ever. The bodies of a run are `B`, and those of a run over
+/// generated records `G`.
 pub fn run_program<
     R: Threads + Wait + Sync,
     E: Edges,
     C: Boxed,
     B: Carries<C> + Houses<E::Source, E::Sink> + Send,
+    G: Carries<C> + Houses<MadeSource, E::Sink> + Send,
     K: Clock + Send + Drop,
 >(
     rt: &R,
@@ -86,7 +90,7 @@ pub fn run_program<
         journal,
         stock,
         clock,
-    } = run_words::<R, E, C, B, K>(rt, alloc, words, stock, edges, clock);
+    } = run_words::<R, E, C, B, G, K>(rt, alloc, words, stock, edges, clock);
     let status = write_verdict(alloc, &verdict, out, err);
     RunEnd {
         status,
@@ -103,6 +107,7 @@ fn run_words<
     E: Edges,
     C: Boxed,
     B: Carries<C> + Houses<E::Source, E::Sink> + Send,
+    G: Carries<C> + Houses<MadeSource, E::Sink> + Send,
     K: Clock + Send + Drop,
 >(rt: &R, alloc: Global, words: &Vec<String>, stock: Vec<C>, edges: &mut E, clock: K) -> Ran<C, K>
     ensures came { Came
@@ -117,6 +122,9 @@ fn run_words<
         Ok(Some(Command::Check(path))) => check_file(alloc, path, stock, edges, clock),
         Ok(Some(Command::Upgrade(path))) => upgrade_file(alloc, path, stock, edges, clock),
         Ok(Some(Command::Run(words))) => run_file::<R, E, C, B, K>(
+            rt, alloc, words, stock, edges, clock,
+        ),
+        Ok(Some(Command::Gen(words))) => run_generated::<R, E, C, G, K>(
             rt, alloc, words, stock, edges, clock,
         ),
         Ok(None) => refused(alloc, Refusal::Usage, stock, clock),
@@ -144,7 +152,9 @@ fn run_flow<
         steps: false,
         acks: false,
     };
-    run_or_refuse::<R, E, C, B, K>(rt, alloc, topology, 1, shows, stock, edges, clock)
+    run_or_refuse::<R, E, ByName, C, B, K>(
+        rt, alloc, &ByName, topology, 1, shows, stock, edges, clock,
+    )
 }
 
 /// Reads the topology file of `check`, and counts.
@@ -203,9 +213,10 @@ fn run_file<
         acks: words.acks,
     };
     match read_named(alloc, words.topology, edges) {
-        Ok(topology) => run_or_refuse::<R, E, C, B, K>(
+        Ok(topology) => run_or_refuse::<R, E, ByName, C, B, K>(
             rt,
             alloc,
+            &ByName,
             topology,
             words.workers,
             shows,
@@ -215,4 +226,53 @@ fn run_file<
         ),
         Err(refusal) => refused(alloc, refusal, stock, clock),
     }
+}
+
+/// Reads the topology file of `gen`, runs its topology on one worker over generated records, and writes the report alone.
+fn run_generated<
+    R: Threads + Wait + Sync,
+    E: Edges,
+    C: Boxed,
+    G: Carries<C> + Houses<MadeSource, E::Sink> + Send,
+    K: Clock + Send + Drop,
+>(rt: &R, alloc: Global, words: GenWords<'_>, stock: Vec<C>, edges: &mut E, clock: K) -> Ran<C, K>
+    ensures came { Came
+        (record { edges = ⟦<E as SeenEdges>⟧.seen edges.old; clock = clock_seen K.latest K.readings clock; boxes = map C.seen stock.items })
+        (record { edges = ⟦<E as SeenEdges>⟧.seen edges.new; clock = clock_seen K.latest K.readings result.clock; boxes = map C.seen result.stock.items })
+        (Some (Gen words.entry.seed words.entry.count words.entry.topology.now)) (boxes_in (kinds_of C.seen stock.items)) result.topology result.journal.steps result.verdict }
+{
+    let shows = Shows {
+        steps: false,
+        acks: false,
+    };
+    match read_named(alloc, words.topology, edges) {
+        Ok(topology) => {
+            let supply = Made::new(words.seed, words.count, producers(&topology));
+            run_or_refuse::<R, E, Made, C, G, K>(
+                rt, alloc, &supply, topology, 1, shows, stock, edges, clock,
+            )
+        }
+        Err(refusal) => refused(alloc, refusal, stock, clock),
+    }
+}
+
+/// How many producers the topology has.
+fn producers(topology: &Topology) -> u32
+    requires sound { IsSound topology.now }
+    ensures number { result ≡ length (producers_of topology.now.stages) }
+    ensures some { 1 ≤ result }
+{
+    count_producers(topology.stages.as_slice()) as u32
+}
+
+fn count_producers(stages: &[StageSpec]) -> usize
+    ensures { result ≡ count_by (λ s. is_producer_role s.role) stages.now }
+{
+    stages.iter().filter(|stage| is_producer(stage)).count()
+}
+
+fn is_producer(stage: &StageSpec) -> bool
+    ensures { result ≡ is_producer_role stage.now.role }
+{
+    stage.role == Role::Producer
 }

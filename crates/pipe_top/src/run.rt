@@ -4,17 +4,18 @@ ghost use Rattle.std.specs.Prelude.{◌≡◌, ◌≢◌, ◌⊎◌, ◌≤◌, 
 ghost use Rattle.pipe_types.specs.Sound.{IsSound};
 ghost use Rattle.core_state.specs.Stands.{Stands};
 ghost use Rattle.pipe_run.specs.Clocks.{clock_seen};
+ghost use Rattle.edge_names.specs.Supplies.{FeedsProducers};
 ghost use Rattle.edge_names.specs.Controls.{run_calls};
 ghost use Rattle.box_stock.specs.Homes.{Suffices};
 ghost use Rattle.box_stock.specs.Lends.{kinds_of};
 ghost use Rattle.topology_needs.specs.Needs.{boxes_in as boxes_by_kind, shortage_of};
 ghost use Rattle.pipe_run.specs.Whole.{HasCome};
-ghost use Rattle.pipe_top.specs.Cases.{Runs, run_case, opening_calls};
-ghost use Rattle.pipe_top.specs.Flows.{IsJudgement, ComesBy, refusal_in};
+ghost use Rattle.pipe_top.specs.Cases.{Feeding, feeds_of, Runs, run_case, opening_calls};
+ghost use Rattle.pipe_top.specs.Flows.{IsFedBy, IsJudgement, ComesBy, refusal_in};
 
 use box_stock::{Boxed, Carries, boxes_in};
 use core_state::Core;
-use edge_names::SeenEdges;
+use edge_names::{SeenEdges, Supply};
 use journal_texts::status::status;
 use pipe_edges::{Clock, Edges};
 use pipe_journal::Journal;
@@ -53,16 +54,18 @@ pub(crate) fn refused<C, K>(alloc: Global, refusal: Refusal, stock: Vec<C>, cloc
     }
 }
 
-/// Runs the topology on so many workers with callbacks of the stock, if it can run.
+/// Runs the topology on so many workers with sources by the supply and callbacks of the stock, if it can run.
 pub(crate) fn run_or_refuse<
     R: Threads + Wait + Sync,
     E: Edges,
+    Q: Supply<E>,
     C: Boxed,
-    B: Carries<C> + Houses<E::Source, E::Sink> + Send,
+    B: Carries<C> + Houses<Q::Source, E::Sink> + Send,
     K: Clock + Send + Drop,
 >(
     rt: &R,
     alloc: Global,
+    supply: &Q,
     topology: Topology,
     workers: u16,
     shows: Shows,
@@ -71,16 +74,17 @@ pub(crate) fn run_or_refuse<
     clock: K,
 ) -> Ran<C, K>
     requires sound { IsSound topology }
-    ensures comes { ComesBy
+    requires fed { FeedsProducers (Q.feeds supply.now) topology }
+    ensures comes { (feeding : Feeding) → IsFedBy feeding topology (Q.feeds supply.now) → ComesBy
         (record { edges = ⟦<E as SeenEdges>⟧.seen edges.old; clock = clock_seen K.latest K.readings clock; boxes = map C.seen stock.items })
         (record { edges = ⟦<E as SeenEdges>⟧.seen edges.new; clock = clock_seen K.latest K.readings result.clock; boxes = map C.seen result.stock.items })
-        (run_case (boxes_by_kind (kinds_of C.seen stock.items)) shows topology)
-        (opening_calls (run_case (boxes_by_kind (kinds_of C.seen stock.items)) shows topology)) result.topology result.journal.steps result.verdict }
+        (run_case (boxes_by_kind (kinds_of C.seen stock.items)) shows feeding topology)
+        (opening_calls (run_case (boxes_by_kind (kinds_of C.seen stock.items)) shows feeding topology)) result.topology result.journal.steps result.verdict }
 {
     match refusal_of(&topology, &boxes_in(stock.as_slice())) {
         Some(refusal) => refused(alloc, refusal, stock, clock),
-        None => run_supplied::<R, E, C, B, K>(
-            rt, alloc, topology, workers, shows, stock, edges, clock,
+        None => run_supplied::<R, E, Q, C, B, K>(
+            rt, alloc, supply, topology, workers, shows, stock, edges, clock,
         ),
     }
 }
@@ -98,12 +102,14 @@ fn refusal_of(topology: &Topology, boxes: &Boxes) -> Option<Refusal>
 fn run_supplied<
     R: Threads + Wait + Sync,
     E: Edges,
+    Q: Supply<E>,
     C: Boxed,
-    B: Carries<C> + Houses<E::Source, E::Sink> + Send,
+    B: Carries<C> + Houses<Q::Source, E::Sink> + Send,
     K: Clock + Send + Drop,
 >(
     rt: &R,
     alloc: Global,
+    supply: &Q,
     topology: Topology,
     workers: u16,
     shows: Shows,
@@ -112,14 +118,15 @@ fn run_supplied<
     clock: K,
 ) -> Ran<C, K>
     requires sound { IsSound topology }
+    requires fed { FeedsProducers (Q.feeds supply.now) topology }
     requires suffices { Suffices topology (kinds_of C.seen stock.items) }
-    ensures comes { ComesBy
+    ensures comes { (feeding : Feeding) → IsFedBy feeding topology (Q.feeds supply.now) → ComesBy
         (record { edges = ⟦<E as SeenEdges>⟧.seen edges.old; clock = clock_seen K.latest K.readings clock; boxes = map C.seen stock.items })
         (record { edges = ⟦<E as SeenEdges>⟧.seen edges.new; clock = clock_seen K.latest K.readings result.clock; boxes = map C.seen result.stock.items })
-        (Runs shows topology) (run_calls topology) result.topology result.journal.steps result.verdict }
+        (Runs shows feeding topology) (run_calls (feeds_of feeding topology) topology) result.topology result.journal.steps result.verdict }
 {
-    let Ended { run, stock, clock } = run_topology::<R, E, C, B, K>(
-        rt, alloc, topology, workers, stock, edges, clock,
+    let Ended { run, stock, clock } = run_topology::<R, E, Q, C, B, K>(
+        rt, alloc, supply, topology, workers, stock, edges, clock,
     );
     match run {
         Ok(run) => conclude(alloc, run, shows, stock, clock),

@@ -6,6 +6,7 @@ use body_jobs::Body;
 use file_socket_sinks::{
     Reader, RealClock, RealEdges, RealOut, RealSource, Writer, take_closed_streams,
 };
+use made_sources::MadeSource;
 use pipe_top::run_program;
 use stage_callback::{Callback, LinesBox, StepsBox};
 use std::alloc::AllocError;
@@ -58,6 +59,7 @@ fn run<R: Threads + Wait + Sync>(rt: &HostRuntime, waits: &R) -> Result<u8, Allo
         RealEdges,
         Handler,
         Body<RealSource<Reader>, RealOut<Writer>>,
+        Body<MadeSource, RealOut<Writer>>,
         RealClock,
     >(
         waits, alloc, &words, stock, &mut edges, clock, &mut out, &mut err,

@@ -4,6 +4,7 @@ use super::case::Case;
 use super::outside::{World, are_sinks_free, clock, held_under, is_source_free, shown, world_of};
 use super::texts::{has_line, has_word, pieces_in};
 use body_jobs::Body;
+use made_sources::MadeSource;
 use mem_edges::{MemClock, MemEdges, MemSink, MemSource};
 use pipe_journal::Journal;
 use pipe_top::run_program;
@@ -166,7 +167,14 @@ pub fn call<R: Threads + Wait + Sync>(
     for _ in 0..steps {
         stock.push(Box::new(alloc, StepsBox::new(alloc))?)?;
     }
-    let end = run_program::<R, MemEdges, Handler, Body<MemSource, MemSink>, MemClock>(
+    let end = run_program::<
+        R,
+        MemEdges,
+        Handler,
+        Body<MemSource, MemSink>,
+        Body<MadeSource, MemSink>,
+        MemClock,
+    >(
         rt,
         alloc,
         &words,

@@ -7,6 +7,7 @@ use super::case::{Case, number};
 use super::meets::Meets;
 use super::outside::shown;
 use body_jobs::Body;
+use made_sources::MadeSource;
 use mem_edges::{MemSink, MemSource};
 use own_callback::{Came, LinesEnd, PlainLines, ThirdCrashes, run_lines, run_with};
 use own_handler::{OwnBox, PassAll};
@@ -47,7 +48,7 @@ fn run_third<R: Threads + Wait + Sync>(
     let (file, lines) = (case.text("file"), case.text("a"));
     let mut stock: Vec<Handler> = Vec::new(rt.alloc());
     stock.push(Box::new(rt.alloc(), ThirdCrashes::new(rt.alloc()))?)?;
-    let came = run_with::<_, _, Body<MemSource, MemSink>>(
+    let came = run_with::<_, _, Body<MemSource, MemSink>, Body<MadeSource, MemSink>>(
         waits,
         rt.alloc(),
         count,
@@ -76,7 +77,7 @@ fn run_meets<R: Threads + Wait + Sync>(
         let meets = Meets::new(rt.alloc(), Arc::try_clone(&begun)?, group, looks);
         stock.push(Box::new(rt.alloc(), meets)?)?;
     }
-    let came = run_with::<_, _, Body<MemSource, MemSink>>(
+    let came = run_with::<_, _, Body<MemSource, MemSink>, Body<MadeSource, MemSink>>(
         waits,
         rt.alloc(),
         count,
@@ -127,7 +128,7 @@ fn run_stock<R: Threads + Wait + Sync>(
     case: &Case,
     stock: Vec<Handler>,
 ) -> io::Result<()> {
-    let end = run_lines::<_, _, Body<MemSource, MemSink>>(
+    let end = run_lines::<_, _, Body<MemSource, MemSink>, Body<MadeSource, MemSink>>(
         waits,
         rt.alloc(),
         case.text("file"),

@@ -12,7 +12,7 @@ use Rattle.clap.specs.declared.builder.command.Command.{Command as Program}
 use Rattle.clap.specs.declared.builder.command.Command.TheViews.{out-Command}
 use Rattle.clap.specs.declared.error.ErrorKind.{ErrorKind}
 use Rattle.clap.specs.declared.error.ErrorKind.TheVariants.{OutOfMemory}
-use Rattle.program_words.specs.Words.{Run, bare_grammar, grammar, named_in, run_in, taken_of, workers_in}
+use Rattle.program_words.specs.Words.{Command, Run, Gen, bare_grammar, gen_of, grammar, named_in, run_in, taken_of, workers_in}
 
 -- where clap finds no fault, the command is that of the subcommand it found
 pub no_fault : (words : List Text) (entered : Option (Text × List Row)) → fault_of grammar words ≡ [] → entered ≡ subcommand_of grammar words
@@ -53,6 +53,25 @@ run_read rows topology workers acks steps named number first second = go (first_
         → Some (Run topology workers acks steps)
         ≡ option_and_then (λ topology. Rattle.std.specs.Option.option_map (λ workers. Run topology workers (is_given (codes "acks") rows) (is_given (codes "steps") rows)) n) t
     go t n named number = rw (← named, ← number, first, second) refl
+
+-- generated records, by their parts
+pub gen_read : (seed count : Option ℕ) (topology : Option Text) (s n : ℕ) (t : Text) → Some s ≡ seed → Some n ≡ count → Some t ≡ topology → Some (Gen s n t) ≡ gen_of seed count topology
+gen_read seed count topology s n t first second third = rw (← first, ← second, ← third) refl
+
+pub no_seed : (seed count : Option ℕ) (topology : Option Text) → None ≡ seed → None ≡ gen_of seed count topology
+no_seed None count topology none = refl
+no_seed (Some s) count topology none = cc
+
+pub no_count : (seed count : Option ℕ) (topology : Option Text) → None ≡ count → None ≡ gen_of seed count topology
+no_count None count topology none = refl
+no_count (Some s) None topology none = refl
+no_count (Some s) (Some n) topology none = cc
+
+pub no_topology : (seed count : Option ℕ) (topology : Option Text) → None ≡ topology → None ≡ gen_of seed count topology
+no_topology None count topology none = refl
+no_topology (Some s) None topology none = refl
+no_topology (Some s) (Some n) None none = refl
+no_topology (Some s) (Some n) (Some t) none = cc
 
 -- something whose source is no default is given
 pub explicit : {A : Type 0} (of : A → Option ValueSource) (eq : ValueSource → ValueSource → Bool) (found : Option A) (source : Option ValueSource) (b : Bool)

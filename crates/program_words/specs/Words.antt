@@ -1,8 +1,10 @@
 -- Which words are a command. Words whose first is `flow` are taken as they stand. All others are what clap takes.
-use Rattle.std.specs.Prelude.{ℕ, List, [], ◌∷◌, Bool, true, Option, Some, None, codes, map, find, if◌then◌else◌, string_bytes, decimal, option_and_then, option_map}
+use Rattle.std.specs.Prelude.{ℕ, List, [], ◌∷◌, Bool, true, ◌&&◌, Option, Some, None, codes, map, find, if◌then◌else◌, string_bytes, decimal, option_and_then, option_map}
 use Rattle.std.specs.List.{range_with_len}
 use Rattle.std.specs.Option.{option_map_or}
 use Rattle.std.specs.Str.{bytes_eq}
+use Rattle.std.specs.Str.Parse.{digits_value}
+use Rattle.pipe_types.specs.Sound.{is_between}
 use Rattle.std.specs.declared.string.String.{String}
 use Rattle.std.specs.declared.alloc.Global.{Global}
 use Rattle.clap.specs.Words.{App, Row, Rule, Text, fault_of, first_of, new_app, new_rule, subcommand_of, with_rule, with_subcommand}
@@ -13,12 +15,14 @@ use Rattle.clap.specs.declared.builder.ArgAction.TheVariants.{SetTrue}
 use Rattle.program_words.specs.declared.words.Command as code
 use Rattle.program_words.specs.declared.words.Command.TheVariants as coded
 
--- `flow` with the name of a source and a prefix, `check` and `upgrade` with a topology file, and `run` with one, the number
--- of workers, and whether the acknowledgements and the steps are asked for
+-- `flow` with the name of a source and a prefix, `check` and `upgrade` with a topology file, `run` with one, the number of
+-- workers, and whether the acknowledgements and the steps are asked for, and `gen` with a seed, how many records are to be
+-- generated, and a topology file
 pub data Command : Type 0 where
   Flow : (source prefix : List ℕ) → Command
   Check : (topology : List ℕ) → Command
   Run : (topology : List ℕ) → (workers : ℕ) → (acks steps : Bool) → Command
+  Gen : (seed count : ℕ) → (topology : List ℕ) → Command
   Upgrade : (topology : List ℕ) → Command
 
 -- ---- `flow`
@@ -30,9 +34,13 @@ flow_of _ = None
 
 -- ---- what clap takes
 
+-- a word that has to be there
+abbrev pub word_rule : Text → Rule
+word_rule name = record (new_rule name) { required = true }
+
 -- the topology file, which has to be named
 abbrev pub topology_rule : Rule
-topology_rule = record (new_rule (codes "topology")) { required = true }
+topology_rule = word_rule (codes "topology")
 
 -- `--workers N` or `--workers=N`
 abbrev pub workers_rule : Rule
@@ -51,6 +59,10 @@ abbrev pub run_grammar : App
 run_grammar = with_rule (with_rule (with_rule (with_rule (new_app (codes "run"))
     topology_rule) workers_rule) (flag_rule (codes "acks"))) (flag_rule (codes "steps"))
 
+-- `gen SEED COUNT TOPOLOGY`
+abbrev pub gen_grammar : App
+gen_grammar = with_rule (with_rule (with_rule (new_app (codes "gen")) (word_rule (codes "seed"))) (word_rule (codes "count"))) topology_rule
+
 -- `upgrade TOPOLOGY`
 abbrev pub upgrade_grammar : App
 upgrade_grammar = with_rule (new_app (codes "upgrade")) topology_rule
@@ -63,11 +75,12 @@ bare_grammar = on_top (λ s. record s {
   disable_help_subcommand = true;
 }) (new_app (codes "wamiondry"))
 
--- `check`, `run` or `upgrade`, each with its own words after it. By what clap takes of it: the command's word comes first; after it
--- options and the topology stand in any order; an option is written in full and at most once, `--workers N` or
+-- `check`, `run`, `gen` or `upgrade`, each with its own words after it. By what clap takes of it: the command's word comes first; after
+-- it options and the other words stand in any order, these among themselves in the order given; an option is written in full and at most once, `--workers N` or
 -- `--workers=N`, `--acks` and `--steps` without a value; `--` ends the options; there is no help and no version
 abbrev pub grammar : App
-grammar = with_subcommand (with_subcommand (with_subcommand bare_grammar check_grammar.top) run_grammar.top) upgrade_grammar.top
+grammar =
+    with_subcommand (with_subcommand (with_subcommand (with_subcommand bare_grammar check_grammar.top) run_grammar.top) gen_grammar.top) upgrade_grammar.top
 
 -- ---- from clap's matches to the command
 
@@ -78,6 +91,15 @@ workers_of text = find (λ n. bytes_eq text (decimal n)) (range_with_len 1 16)
 -- the N of `--workers`, and 1 where the option is not given
 abbrev pub workers_in : List Row → Option ℕ
 workers_in rows = option_map_or workers_of (first_of (codes "workers") rows) (Some 1)
+
+-- the number from `low` to `high` whose decimal spelling the text is
+unfoldable pub number_in : (low high : ℕ) → Text → Option ℕ
+number_in low high text =
+    if is_between low high (digits_value 10 text) && bytes_eq text (decimal (digits_value 10 text)) then Some (digits_value 10 text) else None
+
+-- the number in the range that the word of this name spells
+abbrev pub number_at : (name : Text) → (low high : ℕ) → List Row → Option ℕ
+number_at name low high rows = option_and_then (number_in low high) (first_of name rows)
 
 abbrev pub check_in : List Row → Option Command
 check_in rows = option_map Check (first_of (codes "topology") rows)
@@ -90,11 +112,20 @@ run_in rows = option_and_then (λ topology. option_map (λ workers.
     Run topology workers (is_given (codes "acks") rows) (is_given (codes "steps") rows))
     (workers_in rows)) (first_of (codes "topology") rows)
 
+abbrev pub gen_of : (seed count : Option ℕ) → (topology : Option Text) → Option Command
+gen_of (Some seed) (Some count) (Some topology) = Some (Gen seed count topology)
+gen_of _ _ _ = None
+
+-- a seed of 32 bits, and from 1 to 2,000,000 records
+abbrev pub gen_in : List Row → Option Command
+gen_in rows = gen_of (number_at (codes "seed") 0 4294967295 rows) (number_at (codes "count") 1 2000000 rows) (first_of (codes "topology") rows)
+
 -- the command of this name, by what was found of its own words
 abbrev pub named_in : Text × List Row → Option Command
 named_in entered = if bytes_eq entered.0 (codes "check") then check_in entered.1
     else (if bytes_eq entered.0 (codes "run") then run_in entered.1
-    else (if bytes_eq entered.0 (codes "upgrade") then upgrade_in entered.1 else None))
+    else (if bytes_eq entered.0 (codes "gen") then gen_in entered.1
+    else (if bytes_eq entered.0 (codes "upgrade") then upgrade_in entered.1 else None)))
 
 -- what clap takes: it finds no fault in the words, and they name a command
 unfoldable pub taken_of : List Text → Option Command
@@ -115,5 +146,6 @@ abbrev pub seen_as : Option code.Command → Option Command
 seen_as None = None
 seen_as (Some (coded.Flow words)) = Some (Flow words.source.now words.prefix.now)
 seen_as (Some (coded.Check topology)) = Some (Check topology.now)
+seen_as (Some (coded.Gen words)) = Some (Gen words.seed words.count words.topology.now)
 seen_as (Some (coded.Upgrade topology)) = Some (Upgrade topology.now)
 seen_as (Some (coded.Run words)) = Some (Run words.topology.now words.workers words.acks words.steps)

@@ -1,17 +1,22 @@
 //! Which command the words are.
 
-ghost use Rattle.std.specs.Prelude.{◌≡◌, ◌==◌, ◌||◌, IfOk, false, option_and_then, slice_index};
+ghost use Rattle.std.specs.Prelude.{◌≡◌, ◌==◌, ◌||◌, ◌&&◌, IfOk, false, option_and_then, slice_index, bytes_eq, decimal};
 ghost use Rattle.clap.specs.Words.{app_of, found_of, rows_of, rule_of, subcommand_rows_of};
 ghost use Rattle.clap.specs.Takes.{is_given};
-ghost use Rattle.program_words.specs.Words.{command_of, texts_of, seen_as, flow_of, taken_of, named_in, check_in, upgrade_in, run_in, workers_in, workers_of, grammar, check_grammar, run_grammar, upgrade_grammar, flag_rule, topology_rule};
+ghost use Rattle.pipe_types.specs.Sound.{is_between};
+ghost use Rattle.program_words.specs.Words.{command_of, texts_of, seen_as, flow_of, taken_of, named_in, check_in, upgrade_in, run_in, gen_in, workers_in, workers_of, number_in as number_in_of, number_at as number_at_of, grammar, check_grammar, run_grammar, gen_grammar, upgrade_grammar, flag_rule, word_rule};
 
 use clap::error::ErrorKind;
 use clap::parser::ValueSource;
 use clap::{Arg, ArgAction, ArgMatches};
+use itoa::Buffer;
 use std::alloc::{AllocError, Global};
 
 /// As many workers as a run may have.
 const MOST_WORKERS: u16 = 16;
+
+/// As many records as may be generated.
+const MOST_RECORDS: u32 = 2_000_000;
 
 /// `flow SOURCE PREFIX`: the name of a source, and what each line is to begin with.
 #[derive(Clone, Copy, Drop)]
@@ -30,6 +35,15 @@ pub struct RunWords<'a> {
     pub steps: bool,
 }
 
+/// `gen SEED COUNT TOPOLOGY`: the seed of the records, how many there are to be, from 1 to 2,000,000, and the name of a
+/// topology file.
+#[derive(Clone, Copy, Drop)]
+pub struct GenWords<'a> {
+    pub seed: u32,
+    pub count: u32,
+    pub topology: &'a str,
+}
+
 /// A command of the program.
 #[derive(Clone, Copy, Drop)]
 pub enum Command<'a> {
@@ -37,6 +51,7 @@ pub enum Command<'a> {
     /// `check TOPOLOGY`: the name of a topology file.
     Check(&'a str),
     Run(RunWords<'a>),
+    Gen(GenWords<'a>),
     /// `upgrade TOPOLOGY`: the name of a topology file.
     Upgrade(&'a str),
 }
@@ -87,6 +102,7 @@ fn matched_command<'a>(matches: &ArgMatches<'a>) -> Option<Command<'a>>
     match name {
         "check" => check_words(found),
         "run" => run_words(found),
+        "gen" => gen_words(found),
         "upgrade" => upgrade_words(found),
         _ => None,
     }
@@ -113,6 +129,43 @@ fn run_words<'a>(matches: &ArgMatches<'a>) -> Option<Command<'a>>
         acks: has_option(matches, "acks"),
         steps: has_option(matches, "steps"),
     }))
+}
+
+fn gen_words<'a>(matches: &ArgMatches<'a>) -> Option<Command<'a>>
+    ensures { seen_as result ≡ gen_in (rows_of (found_of matches.now)) }
+{
+    Some(Command::Gen(GenWords {
+        seed: number_at(matches, "seed", 0, u32::MAX)?,
+        count: number_at(matches, "count", 1, MOST_RECORDS)?,
+        topology: matches.get_str("topology")?,
+    }))
+}
+
+/// The number from `low` to `high` that the word of this name spells.
+fn number_at(matches: &ArgMatches<'_>, name: &str, low: u32, high: u32) -> Option<u32>
+    ensures { result ≡ number_at_of name.now low high (rows_of (found_of matches.now)) }
+{
+    match matches.get_str(name) {
+        Some(text) => number_in(low, high, text),
+        None => None,
+    }
+}
+
+/// The number from `low` to `high` that the text spells in decimal, without sign or leading zero.
+fn number_in(low: u32, high: u32, text: &str) -> Option<u32>
+    ensures { result ≡ number_in_of low high text.now }
+{
+    match text.parse::<u32>() {
+        Ok(number) if is_spelled(low, high, number, text) => Some(number),
+        _ => None,
+    }
+}
+
+/// Whether the number is in the range and the text is how it is written.
+fn is_spelled(low: u32, high: u32, number: u32, text: &str) -> bool
+    ensures { result ≡ (is_between low high number && bytes_eq text.now (decimal number)) }
+{
+    low <= number && number <= high && text == Buffer::new().format(number)
 }
 
 /// The number of workers that the words ask for, 1 where they ask for none, and none where they spell no such number.
@@ -164,19 +217,29 @@ fn clap_program<'a>(alloc: Global) -> Result<clap::Command<'a>, AllocError>
         .disable_help_subcommand(true)
         .subcommand(check_command(alloc)?)?
         .subcommand(run_command(alloc)?)?
+        .subcommand(gen_command(alloc)?)?
         .subcommand(upgrade_command(alloc)?)
 }
 
 fn check_command<'a>(alloc: Global) -> Result<clap::Command<'a>, AllocError>
     ensures { IfOk result (λ command. app_of command ≡ check_grammar) }
 {
-    clap::Command::new(alloc, "check").arg(topology_arg(alloc))
+    clap::Command::new(alloc, "check").arg(word(alloc, "topology"))
 }
 
 fn upgrade_command<'a>(alloc: Global) -> Result<clap::Command<'a>, AllocError>
     ensures { IfOk result (λ command. app_of command ≡ upgrade_grammar) }
 {
-    clap::Command::new(alloc, "upgrade").arg(topology_arg(alloc))
+    clap::Command::new(alloc, "upgrade").arg(word(alloc, "topology"))
+}
+
+fn gen_command<'a>(alloc: Global) -> Result<clap::Command<'a>, AllocError>
+    ensures { IfOk result (λ command. app_of command ≡ gen_grammar) }
+{
+    clap::Command::new(alloc, "gen")
+        .arg(word(alloc, "seed"))?
+        .arg(word(alloc, "count"))?
+        .arg(word(alloc, "topology"))
 }
 
 fn run_command<'a>(alloc: Global) -> Result<clap::Command<'a>, AllocError>
@@ -184,18 +247,18 @@ fn run_command<'a>(alloc: Global) -> Result<clap::Command<'a>, AllocError>
 {
     let workers = Arg::new(alloc, "workers").long("workers");
     clap::Command::new(alloc, "run")
-        .arg(topology_arg(alloc))?
+        .arg(word(alloc, "topology"))?
         .arg(workers)?
         .arg(flag(alloc, "acks"))?
         .arg(flag(alloc, "steps"))
 }
 
-/// The name of a topology file.
-fn topology_arg<'a>(alloc: Global) -> Arg<'a>
-    ensures rule { rule_of result ≡ topology_rule }
+/// A word that has to be there.
+fn word<'a>(alloc: Global, name: &'a str) -> Arg<'a>
+    ensures rule { rule_of result ≡ word_rule name.entry.now }
     ensures local { result.global ≡ false }
 {
-    Arg::new(alloc, "topology").required(true)
+    Arg::new(alloc, name).required(true)
 }
 
 /// An option that takes no value.

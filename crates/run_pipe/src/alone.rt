@@ -6,8 +6,8 @@ ghost use Rattle.run_pipe.specs.Seen.{PipeState, state_of, away_of};
 ghost use Rattle.run_pipe.specs.Stems.{Stems};
 
 use crate::pipe::Pipe;
-use journal_watch::Watch;
 use pipe_edges::{ByteSource, Clock};
+use pipe_journal::Watch;
 use stage_bodies::Works;
 use stage_workers::Round;
 use std::alloc::Global;

@@ -14,9 +14,8 @@ ghost use Rattle.run_pipe.specs.Whole.{IsPipe, IsWhole};
 
 use crate::ends::RunEnd;
 use core_state::Core;
-use journal_watch::Watch;
 use pipe_edges::{ByteSource, Clock, LineSource};
-use pipe_journal::Journal;
+use pipe_journal::{Journal, Watch};
 use pipe_types::numbers::Post;
 use pipeline_turn::Held;
 use stage_bodies::Works;

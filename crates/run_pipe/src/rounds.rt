@@ -15,8 +15,8 @@ ghost use Rattle.stage_workers.specs.Rounds.{IfJob, job_post, brought_post};
 
 use crate::ends::RunEnd;
 use crate::pipe::Pipe;
-use journal_watch::Watch;
 use pipe_edges::{ByteSource, Clock};
+use pipe_journal::Watch;
 use pipe_types::numbers::Post;
 use stage_bodies::Works;
 use stage_holds::{Home, Load, Next, come_home, hold};

@@ -7,8 +7,8 @@ ghost use Rattle.run_pipe.specs.Stems.{Stems};
 
 use crate::alone::run_here;
 use crate::pipe::Pipe;
-use journal_watch::Watch;
 use pipe_edges::{ByteSource, Clock};
+use pipe_journal::Watch;
 use stage_bodies::Works;
 use stage_workers::run_shifts;
 use std::alloc::Global;

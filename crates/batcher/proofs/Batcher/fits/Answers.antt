@@ -8,7 +8,7 @@ pub returns-then-len-self : goal.returns-then-len-self
 returns-then-len-self c =
     let short : nat_lt c.len.result c.self.inside.batch_size ≡ true = search rules in
     let len : length c.in-Some.messages.now.numbers.items ≡ c.len.result = omega (arith, c.len.ensures, c.in-Some.messages.now.numbers.ok.0) in
-    let there = fits_there c.self.inside.batch_size c.args.key.now c.self.inside.batches.entries c.in-Some.messages.now (sym c.get.ensures.value ∙ ap option_copied c.in-Some.is) in
+    let there = fits_there c.self.inside.batch_size c.args.key.now c.self.inside.batches c.in-Some.messages.now (sym c.get.ensures ∙ ap option_copied c.in-Some.is) in
     let all = there ∙ ap (λ (n : ℕ). nat_lt n c.self.inside.batch_size && not c.in-Some.messages.now.flush) len ∙ ap (λ b. b && not c.in-Some.messages.now.flush) short in
     sym (ap (λ (h : Batches). fits h.batch_size c.args.key.now h.batches) (sym c.self.view_is) ∙ all)
 
@@ -16,11 +16,11 @@ pub returns-else-len-self : goal.returns-else-len-self
 returns-else-len-self c =
     let long : nat_lt c.len.result c.self.inside.batch_size ≡ false = search rules in
     let len : length c.in-Some.messages.now.numbers.items ≡ c.len.result = omega (arith, c.len.ensures, c.in-Some.messages.now.numbers.ok.0) in
-    let there = fits_there c.self.inside.batch_size c.args.key.now c.self.inside.batches.entries c.in-Some.messages.now (sym c.get.ensures.value ∙ ap option_copied c.in-Some.is) in
+    let there = fits_there c.self.inside.batch_size c.args.key.now c.self.inside.batches c.in-Some.messages.now (sym c.get.ensures ∙ ap option_copied c.in-Some.is) in
     let all = there ∙ ap (λ (n : ℕ). nat_lt n c.self.inside.batch_size && not c.in-Some.messages.now.flush) len ∙ ap (λ b. b && not c.in-Some.messages.now.flush) long in
     long ∙ sym (ap (λ (h : Batches). fits h.batch_size c.args.key.now h.batches) (sym c.self.view_is) ∙ all)
 
 pub returns-in-None : goal.returns-in-None
 returns-in-None c =
-    let new = fits_new c.self.inside.batch_size c.args.key.now c.self.inside.batches.entries (sym c.get.ensures.value ∙ ap option_copied c.in-None.is) in
+    let new = fits_new c.self.inside.batch_size c.args.key.now c.self.inside.batches (sym c.get.ensures ∙ ap option_copied c.in-None.is) in
     sym (ap (λ (h : Batches). fits h.batch_size c.args.key.now h.batches) (sym c.self.view_is) ∙ new)

@@ -6,19 +6,21 @@ use Rattle.edge_names.proofs.back.give_back.Goals as goal
 
 pub returns-in-Ok-clause-in_part : goal.returns-in-Ok-clause-in_part
 returns-in-Ok-clause-in_part g c =
+    let feeds = g.S.Supply.feeds c.args.supply.now in
     let e = g.E.Edges in
     let s = g.E.Source.ByteSource in
     let k = g.E.Sink.ByteSink in
     let seen = edges_seen e.told e.named e.asked e.faults e.sources_back e.sinks_back (source_seen s) (sink_seen k.told k.held k.faults) in
     let control = option_map (line_seen s) c.args.control in
-    part_back_on (Unit {0}) _ c.give_back_stages.result c.args.topology.now control (body_at g.B.Works.look c.args.bodies.now.items) (seen c.args.edges.now) (seen c.back_control.new.edges) (seen c.give_back_stages.new.edges)
+    part_back_on feeds (Unit {0}) _ c.give_back_stages.result c.args.topology.now control (body_at g.B.Works.look c.args.bodies.now.items) (seen c.args.edges.now) (seen c.back_control.new.edges) (seen c.give_back_stages.new.edges)
     c.in-Ok.ensures.back c.give_back_stages.ensures.in_part
 
 pub returns-in-Err-clause-in_part : goal.returns-in-Err-clause-in_part
 returns-in-Err-clause-in_part g c =
+    let feeds = g.S.Supply.feeds c.args.supply.now in
     let e = g.E.Edges in
     let s = g.E.Source.ByteSource in
     let k = g.E.Sink.ByteSink in
     let seen = edges_seen e.told e.named e.asked e.faults e.sources_back e.sinks_back (source_seen s) (sink_seen k.told k.held k.faults) in
     let control = option_map (line_seen s) c.args.control in
-    none_back c.args.topology.now control (body_at g.B.Works.look c.args.bodies.now.items) (seen c.args.edges.now) (seen c.back_control.new.edges) c.in-Err.ensures.nothing
+    none_back feeds c.args.topology.now control (body_at g.B.Works.look c.args.bodies.now.items) (seen c.args.edges.now) (seen c.back_control.new.edges) c.in-Err.ensures.nothing

@@ -1,13 +1,30 @@
-use Rattle.std.proofs.Common.{◌∙◌}
+use Rattle.std.proofs.Common.{refl, ◌∙◌}
 use Rattle.stage_bodies.specs.Seen.{body_at, source_seen, sink_seen}
 use Rattle.stage_laws.proofs.Numbering.{numbered_topology}
 use Rattle.edge_names.specs.Seen.{edges_seen}
 use Rattle.edge_names.proofs.Openings.{here_at}
-use Rattle.edge_names.proofs.Returns.{back_turn, callbacks_more, rest_turn}
+use Rattle.edge_names.proofs.Returns.{back_nothing, back_turn, callbacks_more, callbacks_same, calm_start, calm_turn, rest_turn}
 use Rattle.edge_names.proofs.back.give_back_stages.Goals as goal
+
+pub loop-spec-init : goal.loop-spec-init
+loop-spec-init g c =
+    let feeds = g.S.Supply.feeds c.args.supply.now in
+    let e = g.E.Edges in
+    let s = g.E.Source.ByteSource in
+    let k = g.E.Sink.ByteSink in
+    let seen = edges_seen e.told e.named e.asked e.faults e.sources_back e.sinks_back (source_seen s) (sink_seen k.told k.held k.faults) in
+    let was = body_at g.B.Works.look c.args.bodies.now.items in
+    record {
+      len = refl;
+      rest = λ s le. refl;
+      back = back_nothing (seen c.args.edges.now);
+      calm = calm_start feeds was;
+      callbacks = callbacks_same was;
+    }
 
 pub loop-spec-preserved : goal.loop-spec-preserved
 loop-spec-preserved g c =
+    let feeds = g.S.Supply.feeds c.args.supply.now in
     let e = g.E.Edges in
     let s = g.E.Source.ByteSource in
     let k = g.E.Sink.ByteSink in
@@ -26,6 +43,7 @@ loop-spec-preserved g c =
     record {
       len = c.in-Ok.ensures.len ∙ x.len;
       rest = rest_turn topology n at spec was now next numbered here c.place_of-at.ensures x.rest c.in-Ok.ensures.others;
-      back = back_turn topology n at spec was now (seen c.args.edges.now) (seen c.loop-spec.edges) (seen c.back_stage.new.edges) numbered here c.place_of-at.ensures x.rest x.back c.in-Ok.ensures.back;
+      back = back_turn feeds topology n at spec was now (seen c.args.edges.now) (seen c.loop-spec.edges) (seen c.back_stage.new.edges) numbered here c.place_of-at.ensures x.rest x.back c.in-Ok.ensures.back;
+      calm = calm_turn feeds topology n at spec was now numbered here c.place_of-at.ensures x.rest x.calm c.in-Ok.ensures.calm;
       callbacks = callbacks_more was now next x.callbacks c.in-Ok.ensures.callbacks;
     }

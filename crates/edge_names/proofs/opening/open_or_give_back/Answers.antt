@@ -9,6 +9,7 @@ use Rattle.edge_names.proofs.opening.open_or_give_back.Goals as goal
 
 pub returns-in-Ok-open_stages-clause-opened : goal.returns-in-Ok-open_stages-clause-opened
 returns-in-Ok-open_stages-clause-opened g c =
+    let feeds = g.S.Supply.feeds c.args.supply.now in
     let e = g.E.Edges in
     let s = g.E.Source.ByteSource in
     let k = g.E.Sink.ByteSink in
@@ -17,10 +18,11 @@ returns-in-Ok-open_stages-clause-opened g c =
     let start = body_at g.B.Works.look c.args.bodies.now.items in
     let old = seen c.args.edges.now in
     let mid = seen c.open_control.new.edges in
-    opened_from topology (length topology.stages) (one (control_call topology.control)) old mid start (body_at g.B.Works.look c.open_stages.new.bodies.items) c.in-Ok.ensures.opened.asks c.in-Ok-open_stages.ensures.opened
+    opened_from feeds topology (length topology.stages) (one (control_call topology.control)) old mid start (body_at g.B.Works.look c.open_stages.new.bodies.items) c.in-Ok.ensures.opened.asks c.in-Ok-open_stages.ensures.opened
 
 pub returns-in-Ok-give_back-clause-undone : goal.returns-in-Ok-give_back-clause-undone
 returns-in-Ok-give_back-clause-undone g c =
+    let feeds = g.S.Supply.feeds c.args.supply.now in
     let e = g.E.Edges in
     let s = g.E.Source.ByteSource in
     let k = g.E.Sink.ByteSink in
@@ -32,10 +34,11 @@ returns-in-Ok-give_back-clause-undone g c =
     let control = option_map (line_seen s) c.in-Ok.control in
     let opened = body_at g.B.Works.look c.open_stages.new.bodies.items in
     let failed = seen c.open_stages.new.edges in
-    undone_by c.in-Err-open_stages.unopened topology control old mid failed (seen c.give_back.new.edges) start opened c.in-Ok.ensures.opened c.in-Err-open_stages.ensures.failed c.in-Ok-give_back.ensures.back
+    undone_by feeds c.in-Err-open_stages.unopened topology control old mid failed (seen c.give_back.new.edges) start opened c.in-Ok.ensures.opened c.in-Err-open_stages.ensures.failed c.in-Ok-give_back.ensures.back
 
 pub returns-in-Ok-give_back-clause-in_part : goal.returns-in-Ok-give_back-clause-in_part
 returns-in-Ok-give_back-clause-in_part g c =
+    let feeds = g.S.Supply.feeds c.args.supply.now in
     let e = g.E.Edges in
     let s = g.E.Source.ByteSource in
     let k = g.E.Sink.ByteSink in
@@ -48,11 +51,12 @@ returns-in-Ok-give_back-clause-in_part g c =
     let opened = body_at g.B.Works.look c.open_stages.new.bodies.items in
     let failed = seen c.open_stages.new.edges in
     let new = seen c.give_back.new.edges in
-    let all = all_parts topology control opened failed new c.in-Ok-give_back.ensures.back in
-    short_by c.in-Err-open_stages.unopened topology control (suc (length topology.stages)) old mid failed new start opened c.in-Ok.ensures.opened c.in-Err-open_stages.ensures.cut_off all
+    let all = all_parts feeds topology control opened failed new c.in-Ok-give_back.ensures.back in
+    short_by feeds c.in-Err-open_stages.unopened topology control (suc (length topology.stages)) old mid failed new start opened c.in-Ok.ensures.opened c.in-Err-open_stages.ensures.cut_off all
 
 pub returns-in-Err-give_back-clause-in_part : goal.returns-in-Err-give_back-clause-in_part
 returns-in-Err-give_back-clause-in_part g c =
+    let feeds = g.S.Supply.feeds c.args.supply.now in
     let e = g.E.Edges in
     let s = g.E.Source.ByteSource in
     let k = g.E.Sink.ByteSink in
@@ -66,10 +70,11 @@ returns-in-Err-give_back-clause-in_part g c =
     let failed = seen c.open_stages.new.edges in
     let new = seen c.give_back.new.edges in
     let part = c.in-Err-give_back.ensures.in_part in
-    short_any c.in-Err-open_stages.unopened topology control part.parts old mid failed new start opened c.in-Ok.ensures.opened c.in-Err-open_stages.ensures.failed c.in-Err-open_stages.ensures.cut_off part.some_left part.back
+    short_any feeds c.in-Err-open_stages.unopened topology control part.parts old mid failed new start opened c.in-Ok.ensures.opened c.in-Err-open_stages.ensures.failed c.in-Err-open_stages.ensures.cut_off part.some_left part.back
 
 pub returns-in-Err-clause-undone : goal.returns-in-Err-clause-undone
 returns-in-Err-clause-undone g c =
+    let feeds = g.S.Supply.feeds c.args.supply.now in
     let e = g.E.Edges in
     let s = g.E.Source.ByteSource in
     let k = g.E.Sink.ByteSink in
@@ -78,10 +83,11 @@ returns-in-Err-clause-undone g c =
     let start = body_at g.B.Works.look c.args.bodies.now.items in
     let old = seen c.args.edges.now in
     let mid = seen c.open_control.new.edges in
-    undone_first c.in-Err.unopened topology old mid start c.in-Err.ensures.failed
+    undone_first feeds c.in-Err.unopened topology old mid start c.in-Err.ensures.failed
 
 pub returns-in-Err-clause-in_part : goal.returns-in-Err-clause-in_part
 returns-in-Err-clause-in_part g c =
+    let feeds = g.S.Supply.feeds c.args.supply.now in
     let e = g.E.Edges in
     let s = g.E.Source.ByteSource in
     let k = g.E.Sink.ByteSink in
@@ -90,4 +96,4 @@ returns-in-Err-clause-in_part g c =
     let old = seen c.args.edges.now in
     let mid = seen c.open_control.new.edges in
     let start = body_at g.B.Works.look c.args.bodies.now.items in
-    short_first_by c.in-Err.unopened topology old mid start c.in-Err.ensures.cut_off
+    short_first_by feeds c.in-Err.unopened topology old mid start c.in-Err.ensures.cut_off

@@ -2,7 +2,8 @@ use Rattle.std.proofs.Common.{◌+◌, ◌*◌, refl, ◌∙◌, take}
 use Rattle.stage_bodies.specs.Seen.{body_at, source_seen, sink_seen}
 use Rattle.stage_laws.proofs.Numbering.{numbered_topology}
 use Rattle.edge_names.specs.Seen.{edges_seen}
-use Rattle.edge_names.specs.Opened.{calls_of, edge_call}
+use Rattle.edge_names.specs.Supplies.{supplied}
+use Rattle.edge_names.specs.Opened.{calls_of}
 use Rattle.edge_names.proofs.Openings.{asks_nothing, asked_more, here_at, home_still, opened_all, opened_start, opened_turn, some_at}
 use Rattle.edge_names.proofs.Returns.{callbacks_at, callbacks_more, callbacks_same}
 use Rattle.edge_names.proofs.Cuts.{failed_by, cut_off_by}
@@ -10,6 +11,7 @@ use Rattle.edge_names.proofs.opening.open_stages.Goals as goal
 
 pub loop-spec-init : goal.loop-spec-init
 loop-spec-init g c =
+    let feeds = g.S.Supply.feeds c.args.supply.now in
     let e = g.E.Edges in
     let s = g.E.Source.ByteSource in
     let k = g.E.Sink.ByteSink in
@@ -19,7 +21,7 @@ loop-spec-init g c =
       home = c.requires.home;
       asks = asks_nothing (seen c.args.edges.now);
       callbacks = callbacks_same (body_at g.B.Works.look c.args.bodies.now.items);
-      opened = opened_start c.args.topology.now (seen c.args.edges.now) (body_at g.B.Works.look c.args.bodies.now.items) (numbered_topology c.args.topology.now c.requires.sound);
+      opened = opened_start feeds c.args.topology.now (seen c.args.edges.now) (body_at g.B.Works.look c.args.bodies.now.items) (numbered_topology c.args.topology.now c.requires.sound);
     }
 
 pub open_stage-requires-clause-home : goal.open_stage-requires-clause-home
@@ -33,6 +35,7 @@ open_stage-requires-clause-home g c κs within = λ some.
 
 pub returns-in-Err-clause-failed : goal.returns-in-Err-clause-failed
 returns-in-Err-clause-failed g c =
+    let feeds = g.S.Supply.feeds c.args.supply.now in
     let e = g.E.Edges in
     let s = g.E.Source.ByteSource in
     let k = g.E.Sink.ByteSink in
@@ -43,11 +46,12 @@ returns-in-Err-clause-failed g c =
     let n = c.loop-spec.spec-index in
     let spec = c.spec-item.result in
     let here = here_at topology.stages c.as_slice-spec-items.result.now n spec c.as_slice-spec-items.ensures c.loop-spec-test.true c.spec-item.is in
-    failed_by (Unit {0}) topology n c.place_of-at.result spec c.in-Err.unopened (seen c.args.edges.now) (seen c.loop-spec.edges) (seen c.open_stage.new.edges)
+    failed_by feeds (Unit {0}) topology n c.place_of-at.result spec c.in-Err.unopened (seen c.args.edges.now) (seen c.loop-spec.edges) (seen c.open_stage.new.edges)
     (body_at look c.args.bodies.now.items) (body_at look c.loop-spec.bodies.items) (body_at look c.open_stage.new.bodies.items) here x.asks (rw c.in-Err.ensures.same x.opened) c.in-Err.ensures.opens
 
 pub returns-in-Err-clause-cut_off : goal.returns-in-Err-clause-cut_off
 returns-in-Err-clause-cut_off g c =
+    let feeds = g.S.Supply.feeds c.args.supply.now in
     let e = g.E.Edges in
     let s = g.E.Source.ByteSource in
     let k = g.E.Sink.ByteSink in
@@ -58,11 +62,12 @@ returns-in-Err-clause-cut_off g c =
     let n = c.loop-spec.spec-index in
     let spec = c.spec-item.result in
     let here = here_at topology.stages c.as_slice-spec-items.result.now n spec c.as_slice-spec-items.ensures c.loop-spec-test.true c.spec-item.is in
-    cut_off_by (Unit {0}) topology n c.place_of-at.result spec c.in-Err.unopened (seen c.args.edges.now) (seen c.loop-spec.edges) (seen c.open_stage.new.edges)
+    cut_off_by feeds (Unit {0}) topology n c.place_of-at.result spec c.in-Err.unopened (seen c.args.edges.now) (seen c.loop-spec.edges) (seen c.open_stage.new.edges)
     (body_at look c.args.bodies.now.items) (body_at look c.loop-spec.bodies.items) (body_at look c.open_stage.new.bodies.items) here x.asks (rw c.in-Err.ensures.same x.opened) c.in-Err.ensures.opens
 
 pub loop-spec-preserved : goal.loop-spec-preserved
 loop-spec-preserved g c =
+    let feeds = g.S.Supply.feeds c.args.supply.now in
     let e = g.E.Edges in
     let s = g.E.Source.ByteSource in
     let k = g.E.Sink.ByteSink in
@@ -82,18 +87,19 @@ loop-spec-preserved g c =
     let now = body_at look c.open_stage.new.bodies.items in
     record {
       len = c.in-Ok.ensures.len ∙ x.len;
-      home = home_still topology at (edge_call spec) b was now x.home c.in-Ok.ensures.opens.bodies;
-      asks = asked_more topology.stages n spec a b (seen c.open_stage.new.edges) here x.asks c.in-Ok.ensures.opens.asks;
-      callbacks = callbacks_more start was now x.callbacks (callbacks_at at (edge_call spec) b was now c.in-Ok.ensures.opens.bodies);
-      opened = opened_turn topology n at spec (calls_of (take n topology.stages)) a b (body_at look c.args.bodies.now.items) was now numbered here c.place_of-at.ensures x.asks x.opened c.in-Ok.ensures.opens.bodies;
+      home = home_still feeds topology at (supplied feeds spec) b was now x.home c.in-Ok.ensures.opens.bodies;
+      asks = asked_more feeds topology.stages n spec a b (seen c.open_stage.new.edges) here x.asks c.in-Ok.ensures.opens.asks;
+      callbacks = callbacks_more start was now x.callbacks (callbacks_at at (supplied feeds spec) b was now c.in-Ok.ensures.opens.bodies);
+      opened = opened_turn feeds topology n at spec (calls_of feeds (take n topology.stages)) a b (body_at look c.args.bodies.now.items) was now numbered here c.place_of-at.ensures x.asks x.opened c.in-Ok.ensures.opens.bodies;
     }
 
 pub returns-clause-opened : goal.returns-clause-opened
 returns-clause-opened g c =
+    let feeds = g.S.Supply.feeds c.args.supply.now in
     let e = g.E.Edges in
     let s = g.E.Source.ByteSource in
     let k = g.E.Sink.ByteSink in
     let seen = edges_seen e.told e.named e.asked e.faults e.sources_back e.sinks_back (source_seen s) (sink_seen k.told k.held k.faults) in
     let look = g.B.Works.look in
-    opened_all c.args.topology.now c.loop-spec.spec-index (seen c.args.edges.now) (body_at look c.args.bodies.now.items) (body_at look c.loop-spec.bodies.items)
+    opened_all feeds c.args.topology.now c.loop-spec.spec-index (seen c.args.edges.now) (body_at look c.args.bodies.now.items) (body_at look c.loop-spec.bodies.items)
     (rw c.as_slice-spec-items.ensures at c.loop-spec.auto.spec-index-end) (rw c.as_slice-spec-items.ensures at c.loop-spec-test.false) c.loop-spec.invariant.opened

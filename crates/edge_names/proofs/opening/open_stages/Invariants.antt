@@ -7,14 +7,15 @@ use Rattle.edge_names.proofs.opening.open_stages.Given as goal
 
 abbrev pub invariant-loop-spec : goal.invariant-loop-spec
 invariant-loop-spec g l =
+    let feeds = g.S.Supply.feeds l.fn.supply in
     let e = g.E.Edges in
     let s = g.E.Source.ByteSource in
     let k = g.E.Sink.ByteSink in
     let seen = edges_seen e.told e.named e.asked e.faults e.sources_back e.sinks_back (source_seen s) (sink_seen k.told k.held k.faults) in
     record {
       len : length l.bodies.items ≡ length l.fn.bodies.items;
-      home : AreHome l.fn.topology (body_at g.B.Works.look l.bodies.items);
-      asks : Asks (calls_of (take l.spec-index l.fn.topology.stages)) (seen l.fn.edges) (seen l.edges);
+      home : AreHome feeds l.fn.topology (body_at g.B.Works.look l.bodies.items);
+      asks : Asks (calls_of feeds (take l.spec-index l.fn.topology.stages)) (seen l.fn.edges) (seen l.edges);
       callbacks : KeepsCallbacks (body_at g.B.Works.look l.fn.bodies.items) (body_at g.B.Works.look l.bodies.items);
-      opened : AreOpened l.fn.topology l.spec-index (seen l.fn.edges) (body_at g.B.Works.look l.fn.bodies.items) (body_at g.B.Works.look l.bodies.items);
+      opened : AreOpened feeds l.fn.topology l.spec-index (seen l.fn.edges) (body_at g.B.Works.look l.fn.bodies.items) (body_at g.B.Works.look l.bodies.items);
     }

@@ -19,10 +19,11 @@ pub open_or_give_back-requires-clause-home : goal.open_or_give_back-requires-cla
 open_or_give_back-requires-clause-home g c κs within =
     let same = c.topology.ensures ∙ c.in-Ok.ensures.topology in
     let table = body_at g.B.Works.look c.args.bodies.items in
-    rw same (homes c.args.topology table c.requires.handed)
+    rw same (homes (g.Q.Supply.feeds c.args.supply.now) c.args.topology table c.requires.handed)
 
 pub run_opened-run-requires-clause-filled : goal.run_opened-run-requires-clause-filled
 run_opened-run-requires-clause-filled g c κs within =
+    let feeds = g.Q.Supply.feeds c.args.supply.now in
     let e = g.E.Edges in
     let s = g.E.Source.ByteSource in
     let k = g.E.Sink.ByteSink in
@@ -31,11 +32,12 @@ run_opened-run-requires-clause-filled g c κs within =
     let topology = c.args.topology in
     let table = body_at g.B.Works.look c.args.bodies.items in
     let opened = body_at g.B.Works.look c.open_or_give_back.new.bodies.items in
-    let opens = subst (λ (t : Topology). AreOpened t (length t.stages) (seen c.args.edges.now) table opened) same c.in-Ok-open_or_give_back.ensures.opened in
-    rw c.in-Ok.ensures.topology (filled topology (seen c.args.edges.now) table opened c.requires.sound c.requires.handed opens)
+    let opens = subst (λ (t : Topology). AreOpened feeds t (length t.stages) (seen c.args.edges.now) table opened) same c.in-Ok-open_or_give_back.ensures.opened in
+    rw c.in-Ok.ensures.topology (filled feeds topology (seen c.args.edges.now) table opened c.requires.sound c.requires.fed c.requires.handed opens)
 
 pub run_opened-run-requires-clause-fresh : goal.run_opened-run-requires-clause-fresh
 run_opened-run-requires-clause-fresh g c κs within =
+    let feeds = g.Q.Supply.feeds c.args.supply.now in
     let e = g.E.Edges in
     let s = g.E.Source.ByteSource in
     let k = g.E.Sink.ByteSink in
@@ -45,6 +47,7 @@ run_opened-run-requires-clause-fresh g c κs within =
 
 pub returns-in-Ok-open_or_give_back-clause-ran : goal.returns-in-Ok-open_or_give_back-clause-ran
 returns-in-Ok-open_or_give_back-clause-ran g c =
+    let feeds = g.Q.Supply.feeds c.args.supply.now in
     let e = g.E.Edges in
     let s = g.E.Source.ByteSource in
     let k = g.E.Sink.ByteSink in
@@ -61,12 +64,12 @@ returns-in-Ok-open_or_give_back-clause-ran g c =
     let old = seen c.args.edges.now in
     let mid = seen c.open_or_give_back.new.edges in
     let new = seen c.run_opened-run.new.edges in
-    let opens = subst (λ (t : Topology). AreOpened t (length t.stages) old table opened) same c.in-Ok-open_or_give_back.ensures.opened in
-    let asks = subst (λ (t : Topology). Asks (run_calls t) old mid) same c.in-Ok-open_or_give_back.ensures.asks in
+    let opens = subst (λ (t : Topology). AreOpened feeds t (length t.stages) old table opened) same c.in-Ok-open_or_give_back.ensures.opened in
+    let asks = subst (λ (t : Topology). Asks (run_calls feeds t) old mid) same c.in-Ok-open_or_give_back.ensures.asks in
     let lines = subst (λ (t : Topology). HasSource old (control_call t.control) None fresh) same c.in-Ok-open_or_give_back.ensures.control in
     let legal = subst (λ (t : Topology). is_legal t run.core.journal.steps ≡ true) (c.run_opened-run.ensures.topology ∙ own) c.run_opened-run.ensures.stands.holds.legal in
-    let went = subst (λ (t : Topology). WentOn (is_ok run.end) t run.core.journal.steps opened final fresh mid new (time c.args.clock) (time c.run_opened-run.result.clock)) own c.run_opened-run.ensures.went in
-    run_of (is_ok run.end) topology run.core.journal.steps table opened final fresh old mid new (time c.args.clock) (time c.run_opened-run.result.clock) c.requires.sound legal c.requires.handed opens lines asks went
+    let went = subst (λ (t : Topology). WentOn feeds (is_ok run.end) t run.core.journal.steps opened final fresh mid new (time c.args.clock) (time c.run_opened-run.result.clock)) own c.run_opened-run.ensures.went in
+    run_of feeds (is_ok run.end) topology run.core.journal.steps table opened final fresh old mid new (time c.args.clock) (time c.run_opened-run.result.clock) c.requires.sound legal c.requires.handed opens lines asks went
 
 pub returns-in-Ok-open_or_give_back-clause-ended : goal.returns-in-Ok-open_or_give_back-clause-ended
 returns-in-Ok-open_or_give_back-clause-ended g c =
@@ -75,6 +78,7 @@ returns-in-Ok-open_or_give_back-clause-ended g c =
 
 pub returns-in-Ok-open_or_give_back-clause-boxes : goal.returns-in-Ok-open_or_give_back-clause-boxes
 returns-in-Ok-open_or_give_back-clause-boxes g c =
+    let feeds = g.Q.Supply.feeds c.args.supply.now in
     let e = g.E.Edges in
     let s = g.E.Source.ByteSource in
     let k = g.E.Sink.ByteSink in
@@ -89,11 +93,12 @@ returns-in-Ok-open_or_give_back-clause-boxes g c =
     let final = body_at g.B.Works.look c.run_opened-run.result.bodies.items in
     let mid = seen c.open_or_give_back.new.edges in
     let new = seen c.run_opened-run.new.edges in
-    let went = subst (λ (t : Topology). WentOn (is_ok run.end) t run.core.journal.steps opened final fresh mid new (time c.args.clock) (time c.run_opened-run.result.clock)) own c.run_opened-run.ensures.went in
-    run_leaves (is_ok run.end) topology run.core.journal.steps table opened final fresh mid new (time c.args.clock) (time c.run_opened-run.result.clock) c.requires.sound c.in-Ok-open_or_give_back.ensures.callbacks went
+    let went = subst (λ (t : Topology). WentOn feeds (is_ok run.end) t run.core.journal.steps opened final fresh mid new (time c.args.clock) (time c.run_opened-run.result.clock)) own c.run_opened-run.ensures.went in
+    run_leaves feeds (is_ok run.end) topology run.core.journal.steps table opened final fresh mid new (time c.args.clock) (time c.run_opened-run.result.clock) c.requires.sound c.in-Ok-open_or_give_back.ensures.callbacks went
 
 pub returns-in-Err-Failed-clause-failed : goal.returns-in-Err-Failed-clause-failed
 returns-in-Err-Failed-clause-failed g c =
+    let feeds = g.Q.Supply.feeds c.args.supply.now in
     let e = g.E.Edges in
     let s = g.E.Source.ByteSource in
     let k = g.E.Sink.ByteSink in
@@ -103,19 +108,21 @@ returns-in-Err-Failed-clause-failed g c =
     let old = seen c.args.edges.now in
     let new = seen c.open_or_give_back.new.edges in
     let undone = rw c.in-Err-Failed.field-0-is at c.in-Err-Failed.ensures.undone in
-    let failed = failed_by c.args.topology c.in-Err-Failed.name table old new c.requires.handed (subst (λ (t : Topology). IsUndone t c.in-Err-Failed.name table old new) same undone) in
+    let failed = failed_by feeds c.args.topology c.in-Err-Failed.name table old new c.requires.handed (subst (λ (t : Topology). IsUndone feeds t c.in-Err-Failed.name table old new) same undone) in
     rw c.in-Err-Failed.field-0-is failed
 
 pub returns-in_default-clause-wanting : goal.returns-in_default-clause-wanting
 returns-in_default-clause-wanting g c =
+    let feeds = g.Q.Supply.feeds c.args.supply.now in
     let e = g.E.Edges in
     let s = g.E.Source.ByteSource in
     let k = g.E.Sink.ByteSink in
     let seen = edges_seen e.told e.named e.asked e.faults e.sources_back e.sinks_back (source_seen s) (sink_seen k.told k.held k.faults) in
-    unasked c.args.topology (seen c.args.edges.now)
+    unasked feeds c.args.topology (seen c.args.edges.now)
 
 pub returns-clause-wanting : goal.returns-clause-wanting
 returns-clause-wanting g c =
+    let feeds = g.Q.Supply.feeds c.args.supply.now in
     let e = g.E.Edges in
     let s = g.E.Source.ByteSource in
     let k = g.E.Sink.ByteSink in
@@ -125,4 +132,4 @@ returns-clause-wanting g c =
     let old = seen c.args.edges.now in
     let new = seen c.open_or_give_back.new.edges in
     let cut = rw c.in-Err-OutOfMemory.field-0-is at c.in-Err-OutOfMemory.ensures.in_part in
-    wanted c.args.topology table old new c.requires.handed (subst (λ (t : Topology). IsCutShort t table old new) same cut)
+    wanted feeds c.args.topology table old new c.requires.handed (subst (λ (t : Topology). IsCutShort feeds t table old new) same cut)

@@ -46,8 +46,9 @@ returns-in-Err-clause-same_boxes g c = boxes_unlent g.C.Boxed.seen c.args.stock.
 
 pub returns-in-Err-clause-wanting : goal.returns-in-Err-clause-wanting
 returns-in-Err-clause-wanting g c =
+    let feeds = g.Q.Supply.feeds c.args.supply.now in
     let e = g.E.Edges in
     let s = g.E.Source.ByteSource in
     let k = g.E.Sink.ByteSink in
     let seen = edges_seen e.told e.named e.asked e.faults e.sources_back e.sinks_back (source_seen s) (sink_seen k.told k.held k.faults) in
-    unasked c.args.topology (seen c.args.edges.now)
+    unasked feeds c.args.topology (seen c.args.edges.now)

@@ -1,13 +1,19 @@
 use Rattle.std.proofs.Common.{refl}
+use Rattle.box_stock.proofs.Filled.{names_feed}
+use Rattle.pipe_top.specs.Cases.{Named}
 use Rattle.pipe_top.proofs.Reading.{run_came, run_unread}
 use Rattle.pipe_top.proofs.program.run_file.Goals as goal
+
+pub run_or_refuse-requires-clause-fed : goal.run_or_refuse-requires-clause-fed
+run_or_refuse-requires-clause-fed g c κs lives = names_feed c.in-Ok.topology c.in-Ok.ensures.reads.1
 
 pub returns-in-Ok : goal.returns-in-Ok
 returns-in-Ok g c =
     let r = c.run_or_refuse in
     let w = c.args.words in
     record {
-      came = run_came _ _ _ _ w.topology.now w.workers w.acks w.steps c.in-Ok.topology r.result.topology r.result.journal.steps r.result.verdict c.in-Ok.ensures r.ensures.comes;
+      came = run_came _ _ _ _ w.topology.now w.workers w.acks w.steps c.in-Ok.topology r.result.topology r.result.journal.steps r.result.verdict c.in-Ok.ensures
+          (r.ensures.comes Named (record { is = refl; few = tt }));
     }
 
 pub returns-in-Err : goal.returns-in-Err

@@ -5,5 +5,5 @@ use Rattle.program_words.proofs.words.check_command.Goals as goal
 
 pub returns : goal.returns
 returns c =
-    let topology = c.topology_arg.ensures in
+    let topology = c.word.ensures in
     IfOk-weaker c.arg.result _ _ (λ m h. h.shape topology.local ∙ ap₂ with_rule c.new.ensures.app topology.rule) c.arg.ensures

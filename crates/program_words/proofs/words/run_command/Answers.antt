@@ -8,7 +8,7 @@ pub returns : goal.returns
 returns c =
     let workers_is : rule_of c.long-workers.result ≡ workers_rule = search rules in
     let workers_local : c.long-workers.result.global ≡ false = search rules in
-    let topology = c.topology_arg.ensures in
+    let topology = c.word.ensures in
     let acks = c.flag.ensures in
     let steps = c.flag-2.ensures in
     IfOk-weaker c.arg-4.result _ _ (λ m h.

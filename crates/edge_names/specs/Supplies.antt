@@ -1,0 +1,81 @@
+-- How the stages of a run come to what stands in their bodies.
+use Rattle.std.specs.Prelude.{◌≡◌, ℕ, List, [], ◌∷◌, Option, Some, None, IsTrue, IsSome}
+use Rattle.pipe_types.specs.declared.topology.Role.{Role}
+use Rattle.pipe_types.specs.declared.topology.Role.TheVariants.{Producer, BatchProcessor}
+use Rattle.pipe_types.specs.declared.topology.StageSpec.{StageSpec}
+use Rattle.pipe_types.specs.declared.topology.Topology.{Topology}
+use Rattle.pipe_types.specs.declared.numbers.StageNo.{StageNo}
+use Rattle.pipe_types.specs.Stages.{spec_of}
+use Rattle.pipe_edges.specs.Paces.{unpaced}
+use Rattle.pipe_edges.specs.declared.edges.EdgeKind.{EdgeKind}
+use Rattle.pipe_edges.specs.declared.edges.EdgeKind.TheVariants.{Source, Sink}
+use Rattle.stage_bodies.specs.Seen.{SourceSeen}
+
+-- how a producer comes to its source: it is opened by this name, or made of these bytes without a call
+pub data Feed : Type 0 where
+  Opened : (name : List ℕ) → Feed
+  Made : (bytes : List ℕ) → Feed
+
+-- what goes into the body of a stage: the source of a producer, or the sink that is opened by this name
+pub data Supplied : Type 0 where
+  Fed : (feed : Feed) → Supplied
+  Written : (name : List ℕ) → Supplied
+
+abbrev pub fed : Option Feed → Option Supplied
+fed (Some feed) = Some (Fed feed)
+fed None = None
+
+abbrev pub written : Option (List ℕ) → Option Supplied
+written (Some name) = Some (Written name)
+written None = None
+
+abbrev pub supplied_by : Role → Option Feed → (edge : Option (List ℕ)) → Option Supplied
+supplied_by Producer feed edge = fed feed
+supplied_by BatchProcessor feed edge = written edge
+supplied_by _ feed edge = None
+
+-- what goes into the body of a stage: a producer's source by the supply, a batch processor's sink by its name, if it has one
+abbrev pub supplied : (StageSpec → Option Feed) → StageSpec → Option Supplied
+supplied feeds spec = supplied_by spec.role (feeds spec) spec.edge
+
+-- the call by name that it takes
+abbrev pub call_for : Option Supplied → Option (EdgeKind × List ℕ)
+call_for (Some (Fed (Opened name))) = Some (Source, name)
+call_for (Some (Fed (Made bytes))) = None
+call_for (Some (Written name)) = Some (Sink, name)
+call_for None = None
+
+-- the call by name that a stage makes
+abbrev pub call_of : (StageSpec → Option Feed) → StageSpec → Option (EdgeKind × List ℕ)
+call_of feeds spec = call_for (supplied feeds spec)
+
+-- ---- supplies
+
+abbrev pub feed_by : (edge : Option (List ℕ)) → Option Feed
+feed_by (Some name) = Some (Opened name)
+feed_by None = None
+
+-- each producer opens the source that it names
+abbrev pub by_name : StageSpec → Option Feed
+by_name spec = feed_by spec.edge
+
+-- every producer has its source
+abbrev pub FeedsProducers : (StageSpec → Option Feed) → Topology → Type 0
+FeedsProducers feeds topology = (s : StageNo) (spec : StageSpec) → spec_of topology s ≡ Some spec → spec.role ≡ Producer → IsSome (feeds spec)
+
+-- ---- sources
+
+-- a source of these bytes, of which none was taken
+pub record IsMade (bytes : List ℕ) (source : SourceSeen) : Type 0 where
+  pub tells : IsTrue source.told
+  pub nothing_taken : source.taken ≡ []
+  pub all_left : source.left ≡ bytes
+  pub no_fault : source.faults ≡ 0
+  pub no_wait : source.waits ≡ 0
+  pub no_pace : source.paced ≡ unpaced
+
+-- what is given back of a producer's source that stands in its body, with its name
+abbrev pub given_back : Feed → Option SourceSeen → List (List ℕ × SourceSeen)
+given_back (Opened name) (Some source) = (name, source) ∷ []
+given_back (Opened name) None = []
+given_back (Made bytes) source = []
