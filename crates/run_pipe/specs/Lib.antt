@@ -1,5 +1,6 @@
 pub mod Away
 pub mod Ends
+pub mod Idle
 pub mod Seen
 pub mod Parts
 pub mod Whole
@@ -9,6 +10,6 @@ pub mod Jobs
 pub mod Rounds
 pub mod Rounded
 pub mod Runs
-pub use Rattle.stage_moves.specs.Clocks
-pub use Rattle.stage_moves.specs.Keeping
-pub use Rattle.stage_moves.specs.Obeyed
+pub use Rattle.stage_holds.specs.Clocks
+pub use Rattle.stage_holds.specs.Keeping
+pub use Rattle.stage_holds.specs.Obeyed

@@ -1,7 +1,7 @@
 use Rattle.std.proofs.Common.{◌≡◌, ◌∙◌, [], sym, ap, subst, Some, Err}
 use Rattle.std.specs.Prelude.{option_map}
 use Rattle.stage_bodies.specs.Seen.{line_seen}
-use Rattle.stage_moves.specs.Clocks.{clock_seen}
+use Rattle.stage_holds.specs.Clocks.{clock_seen}
 use Rattle.run_pipe.specs.Seen.{PipeState, state_of, away_of}
 use Rattle.run_pipe.proofs.Outcomes.{short_of, short_whole, short_ran, ran_at}
 use Rattle.run_pipe.proofs.Views.{fields_of, seen_of, state_is}
@@ -12,7 +12,7 @@ invariant_of-self g c =
     let s = g.S.ByteSource in
     let look = g.B.Works.look in
     let line = line_seen s in
-    let time = clock_seen g.C.Clock.latest g.C.Clock.readings in
+    let time = clock_seen g.C.Clock.latest g.C.Clock.readings g.C.Clock.pauses in
     let i = c.self.inside in
     let old = fields_of look i.core.topology i.core.journal.steps i.bodies.items (option_map line i.control) (time i.clock) i.end in
     record { stands = c.self.invariant.stands; whole = short_whole old c.args.error c.self.invariant.whole }
@@ -22,7 +22,7 @@ returns-clause-ran g c =
     let s = g.S.ByteSource in
     let look = g.B.Works.look in
     let line = line_seen s in
-    let time = clock_seen g.C.Clock.latest g.C.Clock.readings in
+    let time = clock_seen g.C.Clock.latest g.C.Clock.readings g.C.Clock.pauses in
     let i = c.self.inside in
     let end = Some (Err c.args.error) in
     let old = fields_of look i.core.topology i.core.journal.steps i.bodies.items (option_map line i.control) (time i.clock) i.end in

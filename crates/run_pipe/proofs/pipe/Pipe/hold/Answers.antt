@@ -1,7 +1,7 @@
 use Rattle.std.proofs.Common.{◌∙◌, sym, ap, subst}
 use Rattle.std.specs.Prelude.{option_map, IsSome}
 use Rattle.stage_bodies.specs.Seen.{line_seen}
-use Rattle.stage_moves.specs.Clocks.{clock_seen}
+use Rattle.stage_holds.specs.Clocks.{clock_seen}
 use Rattle.run_pipe.specs.Seen.{PipeState, state_of}
 use Rattle.run_pipe.proofs.Views.{fields_of, state_is}
 use Rattle.run_pipe.proofs.Homing.{home_first, brings_at, rounded_at, going_by}
@@ -13,7 +13,7 @@ take_home-requires-clause-ended g c =
     let s = g.S.ByteSource in
     let look = g.B.Works.look in
     let line = line_seen s in
-    let time = clock_seen g.C.Clock.latest g.C.Clock.readings in
+    let time = clock_seen g.C.Clock.latest g.C.Clock.readings g.C.Clock.pauses in
     let i = c.self.inside in
     let same = sym (ap state_of c.self.view_is) ∙ state_is look i.core.topology i.core.journal.steps i.bodies.items (option_map line i.control) (time i.clock) i.end in
     subst (λ (p : PipeState). IsSome p.end) (sym same) (sym c.is_some.ensures ∙ c.if-is_some.true)
@@ -23,7 +23,7 @@ hold-came-requires-clause-brought g c =
     let s = g.S.ByteSource in
     let look = g.B.Works.look in
     let line = line_seen s in
-    let time = clock_seen g.C.Clock.latest g.C.Clock.readings in
+    let time = clock_seen g.C.Clock.latest g.C.Clock.readings g.C.Clock.pauses in
     let i = c.self.inside in
     let old = fields_of look i.core.topology i.core.journal.steps i.bodies.items (option_map line i.control) (time i.clock) i.end in
     let same = sym (ap state_of c.self.view_is) ∙ state_is look i.core.topology i.core.journal.steps i.bodies.items (option_map line i.control) (time i.clock) i.end in
@@ -37,7 +37,7 @@ invariant_of-self g c =
     let s = g.S.ByteSource in
     let look = g.B.Works.look in
     let line = line_seen s in
-    let time = clock_seen g.C.Clock.latest g.C.Clock.readings in
+    let time = clock_seen g.C.Clock.latest g.C.Clock.readings g.C.Clock.pauses in
     let i = c.self.inside in
     let old = fields_of look i.core.topology i.core.journal.steps i.bodies.items (option_map line i.control) (time i.clock) i.end in
     let same = sym (ap state_of c.self.view_is) ∙ state_is look i.core.topology i.core.journal.steps i.bodies.items (option_map line i.control) (time i.clock) i.end in
@@ -49,7 +49,7 @@ invariant_of-self g c =
     let n = c.hold-came.new in
     let steps = n.core.journal.steps in
     let new = fields_of look n.core.topology steps n.bodies.items (option_map line n.control) (time n.clock) c.told-round.result.1 in
-    let held = held_by look c.args.brought came old new w.stands.holds.sound e.stands.holds.legal e.stands.unowed e.holds in
+    let held = held_by look c.args.brought came old new w.stands.holds.sound e.stands.holds.legal e.stands.unowed e.holds e.slept in
     record {
       stands = e.stands;
       whole = holds_whole look c.args.brought came old new b held e.holds.topology e.holds.places (going_by i.end (sym c.is_some.ensures ∙ c.if-is_some.false)) c.told-round.ensures.end w.whole;
@@ -60,7 +60,7 @@ returns g c =
     let s = g.S.ByteSource in
     let look = g.B.Works.look in
     let line = line_seen s in
-    let time = clock_seen g.C.Clock.latest g.C.Clock.readings in
+    let time = clock_seen g.C.Clock.latest g.C.Clock.readings g.C.Clock.pauses in
     let i = c.self.inside in
     let old = fields_of look i.core.topology i.core.journal.steps i.bodies.items (option_map line i.control) (time i.clock) i.end in
     let same = sym (ap state_of c.self.view_is) ∙ state_is look i.core.topology i.core.journal.steps i.bodies.items (option_map line i.control) (time i.clock) i.end in
@@ -72,7 +72,7 @@ returns g c =
     let n = c.hold-came.new in
     let steps = n.core.journal.steps in
     let new = fields_of look n.core.topology steps n.bodies.items (option_map line n.control) (time n.clock) c.told-round.result.1 in
-    let held = held_by look c.args.brought came old new w.stands.holds.sound e.stands.holds.legal e.stands.unowed e.holds in
+    let held = held_by look c.args.brought came old new w.stands.holds.sound e.stands.holds.legal e.stands.unowed e.holds e.slept in
     record {
       rounded = rounded_at look c.args.brought c.told-round.result.0 (state_of c.args.self.now) old _ new same
           (state_is look n.core.topology steps n.bodies.items (option_map line n.control) (time n.clock) c.told-round.result.1)

@@ -3,7 +3,7 @@ use Rattle.std.specs.Prelude.{option_map, IsSome}
 use Rattle.pipe_types.specs.declared.topology.Topology.{Topology}
 use Rattle.pipe_model.specs.Legal.{is_legal}
 use Rattle.stage_bodies.specs.Seen.{body_at, line_seen}
-use Rattle.stage_moves.specs.Clocks.{clock_seen}
+use Rattle.stage_holds.specs.Clocks.{clock_seen}
 use Rattle.run_pipe.specs.Jobs.{IsBrought}
 use Rattle.run_pipe.specs.Seen.{PipeState, state_of}
 use Rattle.run_pipe.specs.Rounded.{Rounded}
@@ -18,7 +18,7 @@ come_home-requires-clause-back g c =
     let s = g.S.ByteSource in
     let look = g.B.Works.look in
     let line = line_seen s in
-    let time = clock_seen g.C.Clock.latest g.C.Clock.readings in
+    let time = clock_seen g.C.Clock.latest g.C.Clock.readings g.C.Clock.pauses in
     let i = c.self.inside in
     let old = fields_of look i.core.topology i.core.journal.steps i.bodies.items (option_map line i.control) (time i.clock) i.end in
     let same = sym (ap state_of c.self.view_is) ∙ state_is look i.core.topology i.core.journal.steps i.bodies.items (option_map line i.control) (time i.clock) i.end in
@@ -33,7 +33,7 @@ invariant_of-self g c =
     let s = g.S.ByteSource in
     let look = g.B.Works.look in
     let line = line_seen s in
-    let time = clock_seen g.C.Clock.latest g.C.Clock.readings in
+    let time = clock_seen g.C.Clock.latest g.C.Clock.readings g.C.Clock.pauses in
     let i = c.self.inside in
     let old = fields_of look i.core.topology i.core.journal.steps i.bodies.items (option_map line i.control) (time i.clock) i.end in
     let same = sym (ap state_of c.self.view_is) ∙ state_is look i.core.topology i.core.journal.steps i.bodies.items (option_map line i.control) (time i.clock) i.end in
@@ -56,7 +56,7 @@ returns-in-Some g c =
     let s = g.S.ByteSource in
     let look = g.B.Works.look in
     let line = line_seen s in
-    let time = clock_seen g.C.Clock.latest g.C.Clock.readings in
+    let time = clock_seen g.C.Clock.latest g.C.Clock.readings g.C.Clock.pauses in
     let i = c.self.inside in
     let old = fields_of look i.core.topology i.core.journal.steps i.bodies.items (option_map line i.control) (time i.clock) i.end in
     let same = sym (ap state_of c.self.view_is) ∙ state_is look i.core.topology i.core.journal.steps i.bodies.items (option_map line i.control) (time i.clock) i.end in
@@ -83,7 +83,7 @@ returns-in-None g c =
     let s = g.S.ByteSource in
     let look = g.B.Works.look in
     let line = line_seen s in
-    let time = clock_seen g.C.Clock.latest g.C.Clock.readings in
+    let time = clock_seen g.C.Clock.latest g.C.Clock.readings g.C.Clock.pauses in
     let i = c.self.inside in
     let same = sym (ap state_of c.self.view_is) ∙ state_is look i.core.topology i.core.journal.steps i.bodies.items (option_map line i.control) (time i.clock) i.end in
     let w = c.self.invariant in
