@@ -12,3 +12,4 @@ pub mod Runnables
 pub mod Shares
 pub mod Statuses
 pub mod Unused
+pub mod Audits

@@ -4,16 +4,17 @@ ghost use Rattle.std.specs.Prelude.{◌≡◌, ◌≢◌, ◌⊎◌, ◌≤◌, 
 ghost use Rattle.pipe_types.specs.Counts.{Rose};
 ghost use Rattle.pipe_types.specs.Sound.{IsSound, is_producer as is_producer_role, producers as producers_of};
 ghost use Rattle.program_words.specs.Refusals.{memory_line};
-ghost use Rattle.program_words.specs.Words.{command_of, texts_of, Flow, Check, Run, Gen, Upgrade};
+ghost use Rattle.program_words.specs.Words.{command_of, texts_of, Flow, Check, Run, Gen, Upgrade, Audit};
 ghost use Rattle.pipe_run.specs.Clocks.{clock_seen};
 ghost use Rattle.box_stock.specs.Lends.{kinds_of};
 ghost use Rattle.topology_needs.specs.Needs.{boxes_in};
 ghost use Rattle.pipe_top.specs.Cases.{InCase};
 ghost use Rattle.run_verdicts.specs.Verdicts.{AddsPrefix};
-ghost use Rattle.pipe_top.specs.Runs.{IsRunOrNone, IsCall, IsRefusalStatus, IsUnopenedStatus, IsOr};
-ghost use Rattle.pipe_top.specs.Flows.{Came};
+ghost use Rattle.pipe_top.specs.Runs.{IsRunOrNone, IsCall, IsKnownStatus, IsRefusalStatus, IsUnopenedStatus, IsOr};
+ghost use Rattle.pipe_top.specs.Flows.{Came, ComesAudited};
 ghost use Rattle.topology_needs.specs.declared.stock.Boxes.{Boxes};
 
+use crate::audit::{audit_named, audited};
 use crate::file::{checked, finish_upgrade, read_named, upgrade_named};
 use crate::run::{Ran, refused, run_or_refuse};
 use box_stock::{Boxed, Carries};
@@ -23,7 +24,7 @@ use made_sources::{Made, MadeSource};
 use pipe_edges::{Clock, Edges};
 use pipe_journal::Journal;
 use pipe_types::topology::{Role, StageSpec, Topology};
-use program_words::{Command, FlowWords, GenWords, RunWords, read_words};
+use program_words::{AuditWords, Command, FlowWords, GenWords, RunWords, read_words};
 use run_verdicts::{Refusal, Shows, write_verdict};
 use stage_bodies::Houses;
 use std::alloc::Global;
@@ -61,14 +62,14 @@ pub fn run_program<
     out: &mut E::Out,
     err: &mut E::Out,
 ) -> RunEnd<C, K>
-    ensures known { result.status ≤ 9 }
+    ensures known { IsKnownStatus result.status }
     // The journal is legal and keeps every claim, and each step of its own accord was the next move.
     ensures run { IsRunOrNone result.topology result.journal.steps }
     // What the call comes to in the case of its words, of the bytes of their topology file, and of the stock.
     ensures call { InCase (E.told edges.old) (E.named edges.old) (command_of (texts_of words.now.items)) (boxes_in (kinds_of C.seen stock.items))
         (IsCall
-        (record { edges = ⟦<E as SeenEdges>⟧.seen edges.old; clock = clock_seen K.latest K.readings clock; boxes = map C.seen stock.items })
-        (record { edges = ⟦<E as SeenEdges>⟧.seen edges.new; clock = clock_seen K.latest K.readings result.clock; boxes = map C.seen result.stock.items })
+        (record { edges = ⟦<E as SeenEdges>⟧.seen edges.old; clock = clock_seen K.latest K.readings K.pauses clock; boxes = map C.seen stock.items })
+        (record { edges = ⟦<E as SeenEdges>⟧.seen edges.new; clock = clock_seen K.latest K.readings K.pauses result.clock; boxes = map C.seen result.stock.items })
         (⟦<E::Out as SeenSink>⟧.seen out.old) (⟦<E::Out as SeenSink>⟧.seen out.new) (⟦<E::Out as SeenSink>⟧.seen err.old) (⟦<E::Out as SeenSink>⟧.seen err.new)
         (command_of (texts_of words.now.items)) result.topology result.journal.steps result.status) }
     // 7 comes only where the words are no command, which come to it unless a write failed or memory was wanting; 8 comes only
@@ -111,8 +112,8 @@ fn run_words<
     K: Clock + Send + Drop,
 >(rt: &R, alloc: Global, words: &Vec<String>, stock: Vec<C>, edges: &mut E, clock: K) -> Ran<C, K>
     ensures came { Came
-        (record { edges = ⟦<E as SeenEdges>⟧.seen edges.old; clock = clock_seen K.latest K.readings clock; boxes = map C.seen stock.items })
-        (record { edges = ⟦<E as SeenEdges>⟧.seen edges.new; clock = clock_seen K.latest K.readings result.clock; boxes = map C.seen result.stock.items })
+        (record { edges = ⟦<E as SeenEdges>⟧.seen edges.old; clock = clock_seen K.latest K.readings K.pauses clock; boxes = map C.seen stock.items })
+        (record { edges = ⟦<E as SeenEdges>⟧.seen edges.new; clock = clock_seen K.latest K.readings K.pauses result.clock; boxes = map C.seen result.stock.items })
         (command_of (texts_of words.now.items)) (boxes_in (kinds_of C.seen stock.items)) result.topology result.journal.steps result.verdict }
 {
     match read_words(alloc, words.as_slice()) {
@@ -121,6 +122,7 @@ fn run_words<
         ),
         Ok(Some(Command::Check(path))) => check_file(alloc, path, stock, edges, clock),
         Ok(Some(Command::Upgrade(path))) => upgrade_file(alloc, path, stock, edges, clock),
+        Ok(Some(Command::Audit(words))) => audit_file(alloc, words, stock, edges, clock),
         Ok(Some(Command::Run(words))) => run_file::<R, E, C, B, K>(
             rt, alloc, words, stock, edges, clock,
         ),
@@ -141,8 +143,8 @@ fn run_flow<
     K: Clock + Send + Drop,
 >(rt: &R, alloc: Global, words: FlowWords<'_>, stock: Vec<C>, edges: &mut E, clock: K) -> Ran<C, K>
     ensures came { Came
-        (record { edges = ⟦<E as SeenEdges>⟧.seen edges.old; clock = clock_seen K.latest K.readings clock; boxes = map C.seen stock.items })
-        (record { edges = ⟦<E as SeenEdges>⟧.seen edges.new; clock = clock_seen K.latest K.readings result.clock; boxes = map C.seen result.stock.items })
+        (record { edges = ⟦<E as SeenEdges>⟧.seen edges.old; clock = clock_seen K.latest K.readings K.pauses clock; boxes = map C.seen stock.items })
+        (record { edges = ⟦<E as SeenEdges>⟧.seen edges.new; clock = clock_seen K.latest K.readings K.pauses result.clock; boxes = map C.seen result.stock.items })
         (Some (Flow words.entry.source.now words.entry.prefix.now)) (boxes_in (kinds_of C.seen stock.items)) result.topology result.journal.steps result.verdict }
 {
     let Ok(topology) = flow_topology(alloc, words.source, words.prefix) else {
@@ -166,8 +168,8 @@ fn check_file<E: Edges, C: Boxed, K: Clock>(
     clock: K,
 ) -> Ran<C, K>
     ensures came { (boxes : Boxes) → Came
-        (record { edges = ⟦<E as SeenEdges>⟧.seen edges.old; clock = clock_seen K.latest K.readings clock; boxes = map C.seen stock.items })
-        (record { edges = ⟦<E as SeenEdges>⟧.seen edges.new; clock = clock_seen K.latest K.readings result.clock; boxes = map C.seen result.stock.items })
+        (record { edges = ⟦<E as SeenEdges>⟧.seen edges.old; clock = clock_seen K.latest K.readings K.pauses clock; boxes = map C.seen stock.items })
+        (record { edges = ⟦<E as SeenEdges>⟧.seen edges.new; clock = clock_seen K.latest K.readings K.pauses result.clock; boxes = map C.seen result.stock.items })
         (Some (Check path.now)) boxes result.topology result.journal.steps result.verdict }
 {
     match read_named(alloc, path, edges) {
@@ -185,12 +187,52 @@ fn upgrade_file<E: Edges, C: Boxed, K: Clock>(
     clock: K,
 ) -> Ran<C, K>
     ensures came { (boxes : Boxes) → Came
-        (record { edges = ⟦<E as SeenEdges>⟧.seen edges.old; clock = clock_seen K.latest K.readings clock; boxes = map C.seen stock.items })
-        (record { edges = ⟦<E as SeenEdges>⟧.seen edges.new; clock = clock_seen K.latest K.readings result.clock; boxes = map C.seen result.stock.items })
+        (record { edges = ⟦<E as SeenEdges>⟧.seen edges.old; clock = clock_seen K.latest K.readings K.pauses clock; boxes = map C.seen stock.items })
+        (record { edges = ⟦<E as SeenEdges>⟧.seen edges.new; clock = clock_seen K.latest K.readings K.pauses result.clock; boxes = map C.seen result.stock.items })
         (Some (Upgrade path.now)) boxes result.topology result.journal.steps result.verdict }
 {
     match upgrade_named(alloc, path, edges) {
         Ok(found) => finish_upgrade(alloc, found, stock, clock),
+        Err(refusal) => refused(alloc, refusal, stock, clock),
+    }
+}
+
+/// Reads the topology file of `audit`, and judges the journal by its topology.
+fn audit_file<E: Edges, C: Boxed, K: Clock>(
+    alloc: Global,
+    words: AuditWords<'_>,
+    stock: Vec<C>,
+    edges: &mut E,
+    clock: K,
+) -> Ran<C, K>
+    ensures came { (boxes : Boxes) → Came
+        (record { edges = ⟦<E as SeenEdges>⟧.seen edges.old; clock = clock_seen K.latest K.readings K.pauses clock; boxes = map C.seen stock.items })
+        (record { edges = ⟦<E as SeenEdges>⟧.seen edges.new; clock = clock_seen K.latest K.readings K.pauses result.clock; boxes = map C.seen result.stock.items })
+        (Some (Audit words.entry.journal.now words.entry.topology.now)) boxes result.topology result.journal.steps result.verdict }
+{
+    match read_named(alloc, words.topology, edges) {
+        Ok(topology) => audit_journal(alloc, words.journal, topology, stock, edges, clock),
+        Err(refusal) => refused(alloc, refusal, stock, clock),
+    }
+}
+
+/// Judges the journal of this name by the topology.
+fn audit_journal<E: Edges, C: Boxed, K: Clock>(
+    alloc: Global,
+    name: &str,
+    topology: Topology,
+    stock: Vec<C>,
+    edges: &mut E,
+    clock: K,
+) -> Ran<C, K>
+    requires sound { IsSound topology }
+    ensures comes { ComesAudited
+        (record { edges = ⟦<E as SeenEdges>⟧.seen edges.old; clock = clock_seen K.latest K.readings K.pauses clock; boxes = map C.seen stock.items })
+        (record { edges = ⟦<E as SeenEdges>⟧.seen edges.new; clock = clock_seen K.latest K.readings K.pauses result.clock; boxes = map C.seen result.stock.items })
+        name.now topology result.topology result.journal.steps result.verdict }
+{
+    match audit_named(alloc, name, &topology, edges) {
+        Ok(summary) => audited(alloc, topology, &summary, stock, clock),
         Err(refusal) => refused(alloc, refusal, stock, clock),
     }
 }
@@ -204,8 +246,8 @@ fn run_file<
     K: Clock + Send + Drop,
 >(rt: &R, alloc: Global, words: RunWords<'_>, stock: Vec<C>, edges: &mut E, clock: K) -> Ran<C, K>
     ensures came { Came
-        (record { edges = ⟦<E as SeenEdges>⟧.seen edges.old; clock = clock_seen K.latest K.readings clock; boxes = map C.seen stock.items })
-        (record { edges = ⟦<E as SeenEdges>⟧.seen edges.new; clock = clock_seen K.latest K.readings result.clock; boxes = map C.seen result.stock.items })
+        (record { edges = ⟦<E as SeenEdges>⟧.seen edges.old; clock = clock_seen K.latest K.readings K.pauses clock; boxes = map C.seen stock.items })
+        (record { edges = ⟦<E as SeenEdges>⟧.seen edges.new; clock = clock_seen K.latest K.readings K.pauses result.clock; boxes = map C.seen result.stock.items })
         (Some (Run words.entry.topology.now words.entry.workers words.entry.acks words.entry.steps)) (boxes_in (kinds_of C.seen stock.items)) result.topology result.journal.steps result.verdict }
 {
     let shows = Shows {
@@ -237,8 +279,8 @@ fn run_generated<
     K: Clock + Send + Drop,
 >(rt: &R, alloc: Global, words: GenWords<'_>, stock: Vec<C>, edges: &mut E, clock: K) -> Ran<C, K>
     ensures came { Came
-        (record { edges = ⟦<E as SeenEdges>⟧.seen edges.old; clock = clock_seen K.latest K.readings clock; boxes = map C.seen stock.items })
-        (record { edges = ⟦<E as SeenEdges>⟧.seen edges.new; clock = clock_seen K.latest K.readings result.clock; boxes = map C.seen result.stock.items })
+        (record { edges = ⟦<E as SeenEdges>⟧.seen edges.old; clock = clock_seen K.latest K.readings K.pauses clock; boxes = map C.seen stock.items })
+        (record { edges = ⟦<E as SeenEdges>⟧.seen edges.new; clock = clock_seen K.latest K.readings K.pauses result.clock; boxes = map C.seen result.stock.items })
         (Some (Gen words.entry.seed words.entry.count words.entry.topology.now)) (boxes_in (kinds_of C.seen stock.items)) result.topology result.journal.steps result.verdict }
 {
     let shows = Shows {
