@@ -49,8 +49,7 @@ given_last room a b piece Failed taken given last = absurd given
 pub given_bytes : (room : ℕ) (a b : FrontSeen) (piece : List ℕ) (end : ReadEnd) (taken left taken0 left0 : List ℕ) → IsGiven room a b piece end → taken ≡ taken_before a.held taken ++ a.held
     → taken_before a.held taken ≡ taken0 → left0 ≡ a.held ++ left → ReadsBytes taken0 left0 piece (taken_before b.held taken) (b.held ++ left) end
 given_bytes room a b piece (Got n) taken left taken0 left0 given last same_taken same_left =
-    let front = taken_before a.held taken in
-    (
+    let front = taken_before a.held taken in (
       same_left ∙ ap (λ x. x ++ left) given.parts ∙ append_assoc (take n piece) b.held left,
       front_is taken (front ++ take n piece) b.held (behind taken front (take n piece) b.held a.held last given.parts) ∙ ap (λ x. x ++ take n piece) same_taken,
     )

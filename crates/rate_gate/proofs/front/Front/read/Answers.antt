@@ -22,8 +22,8 @@ returns-clause-bytes g c = λ t.
     let source = g.B.ByteSource in
     let none = no_bytes c.args.self.now.room in
     let ahead : (source.taken c.if-len-eq0.source ≡ taken_before c.if-len-eq0.self.room (source.taken c.if-len-eq0.source) ++ c.if-len-eq0.self.room)
-        × ((taken_before c.if-len-eq0.self.room (source.taken c.if-len-eq0.source) ≡ taken_before c.args.self.now.room (source.taken c.args.source.now))
-        × (c.args.self.now.room ++ source.left c.args.source.now ≡ c.if-len-eq0.self.room ++ source.left c.if-len-eq0.source)) =
+    × ((taken_before c.if-len-eq0.self.room (source.taken c.if-len-eq0.source) ≡ taken_before c.args.self.now.room (source.taken c.args.source.now))
+    × (c.args.self.now.room ++ source.left c.args.source.now ≡ c.if-len-eq0.self.room ++ source.left c.if-len-eq0.source)) =
     elim c.if-len-eq0.branch [
       | then-len-eq0+in-Got w ↦
           rw (w.self-is, w.source-is)
