@@ -1,5 +1,5 @@
 -- A table with version 2 names the topology that it named.
-use Rattle.std.proofs.Common.{◌≡◌, ◌≢◌, ℕ, ◌+◌, ◌≤◌, length, ltb, pos, arith, Bool, true, false, not, ◌&&◌, ◌||◌, cond, codes, List, [], ◌∷◌, ◌++◌, flat_map, Option, Some, None, option_and_then, Result, Ok, Err, Ordering, Less, Equal, Greater, String, Global, string_bytes, nat_cmp, is_eq, refl, ap, sym, ◌∙◌, subst}
+use Rattle.std.proofs.Common.{◌≡◌, ◌≢◌, ℕ, ◌+◌, ◌≤◌, length, ltb, pos, arith, Bool, true, false, not, ◌&&◌, ◌||◌, cond, codes, List, [], ◌∷◌, ◌++◌, flat_map, Option, Some, None, is_some, option_and_then, Result, Ok, Err, Ordering, Less, Equal, Greater, String, Global, string_bytes, nat_cmp, is_eq, refl, ap, sym, ◌∙◌, subst}
 use Rattle.std.proofs.lemmas.Bool.{and_parts}
 use Rattle.std.proofs.lemmas.Bool.Decides.{nat_tests}
 use Rattle.std.specs.Str.{is_utf8}
@@ -28,7 +28,7 @@ use Rattle.config_table.specs.declared.format.Row.{Row}
 use Rattle.config_table.specs.declared.format.Section.{Section}
 use Rattle.config_table.specs.declared.format.Section.TheVariants as section
 use Rattle.config_table.specs.Fault.{least, under, at_place}
-use Rattle.config_table.specs.Format.{has, key_name, value_at, rows}
+use Rattle.config_table.specs.Format.{has, key_name, value_at, pipeline_rows, rows}
 use Rattle.config_table.specs.Walk.{is_named, is_known, key_faults, unknown_keys, missing_faults, held_faults, row_faults, rows_faults, table_faults, each_faults, array_faults, top_faults, count_in, producer_count, faults_beside, faults_of, version_of}
 use Rattle.config_settings.specs.Settings.{settings_of}
 use Rattle.pipe_config.specs.File.{unless, judged, topology_by, topology_of, topology_of_table, topology_of_file, IsAccepted}
@@ -173,12 +173,16 @@ each_lift path t all (r ∷ rest) right unknown h =
     (row_lift path t all r here unknown) (each_lift path t all rest more unknown) h
 
 -- the keys of a rate are not there, and so neither is required
-right_pipeline : (n : ℕ) (t : Members) → value_at key.AllowedMessages t ≡ None → value_at key.Interval t ≡ None → list_all (is_right (rows (section.Pipeline n) t)) (rows (section.Pipeline n) t) ≡ true
-right_pipeline n t no_messages no_interval = rw (no_messages, no_interval) refl
+right_pipeline : (n : ℕ) (has_allowed has_interval : Bool) → has_allowed ≡ false → has_interval ≡ false
+    → list_all (is_right (pipeline_rows n has_allowed has_interval)) (pipeline_rows n has_allowed has_interval) ≡ true
+right_pipeline n false false e f = refl
+right_pipeline n true b e f = cc
+right_pipeline n false true e f = cc
 
 right_rows : (s : Section) (path : List ℕ) (t : Members) → unknown_keys One path (rows s t) t ≡ [] → list_all (is_right (rows s t)) (rows s t) ≡ true
 right_rows (section.Pipeline n) path t h =
-    right_pipeline n t (absent path (rows (section.Pipeline n) t) (key_name key.AllowedMessages) t refl h) (absent path (rows (section.Pipeline n) t) (key_name key.Interval) t refl h)
+    right_pipeline n (is_some (value_at key.AllowedMessages t)) (is_some (value_at key.Interval t)) (ap is_some (absent path (rows (section.Pipeline n) t) (key_name key.AllowedMessages) t refl h))
+    (ap is_some (absent path (rows (section.Pipeline n) t) (key_name key.Interval) t refl h))
 right_rows section.Producer path t h = refl
 right_rows section.Processors path t h = refl
 right_rows section.Supervisor path t h = refl
