@@ -19,6 +19,8 @@ use Rattle.stage_bodies.specs.Jobs.{Both}
 use Rattle.stage_bodies.specs.Posts.{place_at}
 use Rattle.stage_laws.proofs.Numbering.{numbered_topology}
 use Rattle.body_laws.specs.Keeps.{has_slot, has_post, has_post_in}
+use Rattle.pipe_edges.specs.Paces.{PaceSeen, unpaced}
+use Rattle.pace_laws.specs.Pacing.{IsNewGate, IsPace, at_start}
 use Rattle.body_laws.specs.Ready.{There, IsArmed, IsBodyFor, IsBodyAt, IsUnused, IsFilled}
 use Rattle.body_laws.proofs.Posts.{few_slots}
 use Rattle.edge_names.specs.Seen.{EdgesSeen}
@@ -57,6 +59,7 @@ unused_with : (spec : StageSpec) (box : BoxSeen) (body : BodySeen) → IsWith sp
 unused_with spec box body w = record {
   waiting = subst (λ o. IfSome o (λ (lines : LineSeen). lines.waiting ≡ [])) (sym w.source) tt;
   end = subst (λ o. IfSome o (λ (lines : LineSeen). lines.end ≡ None)) (sym w.source) tt;
+  gate = subst (λ o. IfSome o (λ (lines : LineSeen). IsNewGate lines.source.paced)) (sym w.source) tt;
   count = subst (λ o. IfSome o (λ (b : BoxSeen). b.kind ≢ Own → b.count ≡ 0)) (sym w.callback) (λ other. w.count);
 }
 
@@ -91,10 +94,15 @@ record IsFreshSource (source : Option LineSeen) : Type 0 where
   pub some : IsSome source
   pub waiting : IfSome source (λ lines. lines.waiting ≡ [])
   pub end : IfSome source (λ lines. lines.end ≡ None)
+  pub gate : IfSome source (λ lines. IsNewGate lines.source.paced)
+
+-- a source without a pace has no gate
+no_gate : (paced : PaceSeen) → paced ≡ unpaced → IsNewGate paced
+no_gate paced none = record { fresh = none ∙ ap at_start (sym (ap (λ (p : PaceSeen). p.pace) none)); some = subst (λ (p : PaceSeen). IsPace p.pace) (sym none) tt }
 
 fresh_source : (edges : EdgesSeen) (feed : Feed) (old new : Option LineSeen) → HasFeed edges (Some (Fed feed)) old new → IsFreshSource new
-fresh_source edges (Opened name) old (Some lines) h = record { some = refl; waiting = h.nothing_waits; end = h.no_end }
-fresh_source edges (Made bytes) old (Some lines) h = record { some = refl; waiting = h.nothing_waits; end = h.no_end }
+fresh_source edges (Opened name) old (Some lines) h = record { some = refl; waiting = h.nothing_waits; end = h.no_end; gate = no_gate lines.source.paced h.source.no_pace }
+fresh_source edges (Made bytes) old (Some lines) h = record { some = refl; waiting = h.nothing_waits; end = h.no_end; gate = no_gate lines.source.paced h.source.no_pace }
 fresh_source edges feed old None h = absurd h
 
 sink_there : (edges : EdgesSeen) (name : List ℕ) (old new : Option SinkSeen) → HasSink edges (Some (Written name)) old new → is_some new ≡ true
@@ -111,7 +119,7 @@ ready_producer topology edges s spec what (Some feed) old new some fits is opene
     let none : new.callback ≡ None = opened.callback ∙ ap (λ (b : BodySeen). b.callback) is in
     record {
       ready = fresh.some;
-      unused = record { waiting = fresh.waiting; end = fresh.end; count = subst (λ o. IfSome o (λ (b : BoxSeen). b.kind ≢ Own → b.count ≡ 0)) (sym none) tt };
+      unused = record { waiting = fresh.waiting; end = fresh.end; gate = fresh.gate; count = subst (λ o. IfSome o (λ (b : BoxSeen). b.kind ≢ Own → b.count ≡ 0)) (sym none) tt };
     }
 
 ready_batch : (topology : Topology) (edges : EdgesSeen) (s : StageNo) (spec : StageSpec) (what : Option Supplied) (edge : Option (List ℕ)) (box : BoxSeen) (old new : BodySeen)
