@@ -19,6 +19,9 @@ use Rattle.stage_bodies.specs.Jobs.{Both}
 use Rattle.stage_bodies.specs.Posts.{place_at}
 use Rattle.stage_laws.proofs.Numbering.{numbered_topology}
 use Rattle.body_laws.specs.Keeps.{has_slot, has_post, has_post_in}
+use Rattle.pipe_edges.specs.Paces.{PaceSeen}
+use Rattle.edge_names.specs.Gates.{ArePaces}
+use Rattle.pace_laws.specs.Pacing.{IsNewGate, IsPace, at_start}
 use Rattle.body_laws.specs.Ready.{There, IsArmed, IsBodyFor, IsBodyAt, IsUnused, IsFilled}
 use Rattle.body_laws.proofs.Posts.{few_slots}
 use Rattle.edge_names.specs.Seen.{EdgesSeen}
@@ -58,6 +61,7 @@ unused_with : (spec : StageSpec) (box : BoxSeen) (body : BodySeen) → IsWith sp
 unused_with spec box body w = record {
   waiting = subst (λ o. IfSome o (λ (lines : LineSeen). lines.waiting ≡ [])) (sym w.source) tt;
   end = subst (λ o. IfSome o (λ (lines : LineSeen). lines.end ≡ None)) (sym w.source) tt;
+  gate = subst (λ o. IfSome o (λ (lines : LineSeen). IsNewGate lines.source.paced)) (sym w.source) tt;
   count = subst (λ o. IfSome o (λ (b : BoxSeen). b.kind ≢ Own → b.count ≡ 0)) (sym w.callback) (λ other. w.count);
 }
 
@@ -92,10 +96,17 @@ record IsFreshSource (source : Option LineSeen) : Type 0 where
   pub some : IsSome source
   pub waiting : IfSome source (λ lines. lines.waiting ≡ [])
   pub end : IfSome source (λ lines. lines.end ≡ None)
+  pub gate : IfSome source (λ lines. IsNewGate lines.source.paced)
 
-fresh_source : (edges : EdgesSeen) (pace : Option Pace) (feed : Feed) (old new : Option LineSeen) → HasFeed edges (Some (Fed pace feed)) old new → IsFreshSource new
-fresh_source edges pace feed old (Some lines) h = record { some = refl; waiting = h.nothing_waits; end = h.no_end }
-fresh_source edges pace feed old None h = absurd h
+-- a gate that begins has given nothing
+new_gate : (paced : PaceSeen) (pace : Option Pace) → paced ≡ at_start pace → IsPace pace → IsNewGate paced
+new_gate paced pace begins some =
+    let same : paced.pace ≡ pace = ap (λ (p : PaceSeen). p.pace) begins in
+    record { fresh = begins ∙ ap at_start (sym same); some = subst IsPace (sym same) some }
+
+fresh_source : (edges : EdgesSeen) (pace : Option Pace) (feed : Feed) (old new : Option LineSeen) → IsPace pace → HasFeed edges (Some (Fed pace feed)) old new → IsFreshSource new
+fresh_source edges pace feed old (Some lines) some h = record { some = refl; waiting = h.nothing_waits; end = h.no_end; gate = new_gate lines.source.paced pace h.gate some }
+fresh_source edges pace feed old None some h = absurd h
 
 sink_there : (edges : EdgesSeen) (name : List ℕ) (old new : Option SinkSeen) → HasSink edges (Some (Written name)) old new → is_some new ≡ true
 sink_there edges name old (Some sink) h = refl
@@ -104,14 +115,14 @@ sink_there edges name old None h = absurd h
 -- ---- by role
 
 ready_producer : (topology : Topology) (edges : EdgesSeen) (s : StageNo) (spec : StageSpec) (what : Option Supplied) (pace : Option Pace) (feed : Option Feed) (old new : BodySeen)
-    → IsSome feed → what ≡ fed pace feed → old ≡ bare_body → IsOpened edges what old new → IsReadyBody topology s spec Producer new
-ready_producer topology edges s spec what pace None old new some fits is opened = cc
-ready_producer topology edges s spec what pace (Some feed) old new some fits is opened =
-    let fresh = fresh_source edges pace feed old.source new.source (subst (λ c. HasFeed edges c old.source new.source) fits opened.source) in
+    → IsPace pace → IsSome feed → what ≡ fed pace feed → old ≡ bare_body → IsOpened edges what old new → IsReadyBody topology s spec Producer new
+ready_producer topology edges s spec what pace None old new begins some fits is opened = cc
+ready_producer topology edges s spec what pace (Some feed) old new begins some fits is opened =
+    let fresh = fresh_source edges pace feed old.source new.source begins (subst (λ c. HasFeed edges c old.source new.source) fits opened.source) in
     let none : new.callback ≡ None = opened.callback ∙ ap (λ (b : BodySeen). b.callback) is in
     record {
       ready = fresh.some;
-      unused = record { waiting = fresh.waiting; end = fresh.end; count = subst (λ o. IfSome o (λ (b : BoxSeen). b.kind ≢ Own → b.count ≡ 0)) (sym none) tt };
+      unused = record { waiting = fresh.waiting; end = fresh.end; gate = fresh.gate; count = subst (λ o. IfSome o (λ (b : BoxSeen). b.kind ≢ Own → b.count ≡ 0)) (sym none) tt };
     }
 
 ready_batch : (topology : Topology) (edges : EdgesSeen) (s : StageNo) (spec : StageSpec) (what : Option Supplied) (edge : Option (List ℕ)) (box : BoxSeen) (old new : BodySeen)
@@ -128,20 +139,20 @@ ready_batch topology edges s spec what (Some name) box old new edge calls is own
     record { ready = (with_box topology s spec box new w, some); unused = unused_with spec box new w }
 
 ready_by : (topology : Topology) (edges : EdgesSeen) (s : StageNo) (spec : StageSpec) (what : Option Supplied) (pace : Option Pace) (feed : Option Feed) (slot : ℕ) (r : Role) (old new : BodySeen)
-    → has_slot r spec.max slot ≡ true → (r ≡ Producer → IsSome feed) → (slot ≡ 0 → what ≡ supplied_by r pace feed spec.edge) → (supplied_by r pace feed spec.edge ≡ None → what ≡ None)
+    → has_slot r spec.max slot ≡ true → IsPace pace → (r ≡ Producer → IsSome feed) → (slot ≡ 0 → what ≡ supplied_by r pace feed spec.edge) → (supplied_by r pace feed spec.edge ≡ None → what ≡ None)
     → IsBodyBefore spec r old → IsOpened edges what old new → IsReadyBody topology s spec r new
-ready_by topology edges s spec what pace feed slot Producer old new seat feeds first other held opened =
-    ready_producer topology edges s spec what pace feed old new (feeds refl) (first (eqb-true slot 0 seat)) held opened
-ready_by topology edges s spec what pace feed slot Processor old new seat feeds first other held opened =
+ready_by topology edges s spec what pace feed slot Producer old new seat begins feeds first other held opened =
+    ready_producer topology edges s spec what pace feed old new begins (feeds refl) (first (eqb-true slot 0 seat)) held opened
+ready_by topology edges s spec what pace feed slot Processor old new seat begins feeds first other held opened =
     let box = before_with spec old.callback old held in
     let w = still_with edges spec what box.box old new (inl (other refl)) box.is box.own box.kind box.count opened in
     record { ready = with_box topology s spec box.box new w; unused = unused_with spec box.box new w }
-ready_by topology edges s spec what pace feed slot Supervisor old new seat feeds first other held opened =
+ready_by topology edges s spec what pace feed slot Supervisor old new seat begins feeds first other held opened =
     let box = before_with spec old.callback old held in
     let w = still_with edges spec what box.box old new (inl (other refl)) box.is box.own box.kind box.count opened in
     record { ready = with_box topology s spec box.box new w; unused = unused_with spec box.box new w }
-ready_by topology edges s spec what pace feed slot Batcher old new seat feeds first other held opened = cc
-ready_by topology edges s spec what pace feed slot BatchProcessor old new seat feeds first other held opened =
+ready_by topology edges s spec what pace feed slot Batcher old new seat begins feeds first other held opened = cc
+ready_by topology edges s spec what pace feed slot BatchProcessor old new seat begins feeds first other held opened =
     let box = before_with spec old.callback old held in
     ready_batch topology edges s spec what spec.edge box.box old new refl (first (eqb-true slot 0 seat)) box.is box.own box.kind box.count opened
 
@@ -156,17 +167,17 @@ supplied_none : (t : Bool) (x : Option Supplied) → x ≡ None → (if t then x
 supplied_none true x none = none
 supplied_none false x none = refl
 
-ready_post : (feeds : Feeds) (topology : Topology) (edges : EdgesSeen) (p : Post) (sound : IsSound topology) → FeedsProducers feeds.origin topology → has_post topology p ≡ true → (o : Option StageSpec) → spec_of topology p.stage ≡ o → (x y : Option BodySeen)
+ready_post : (feeds : Feeds) (topology : Topology) (edges : EdgesSeen) (p : Post) (sound : IsSound topology) → FeedsProducers feeds.origin topology → ArePaces feeds.pace → has_post topology p ≡ true → (o : Option StageSpec) → spec_of topology p.stage ≡ o → (x y : Option BodySeen)
     → There x (λ body. There o (λ spec. IsBodyBefore spec spec.role body)) → Both (IsOpened edges (supplied_at feeds topology (length topology.stages) p)) x y
     → There y (λ body. There o (λ spec. IsReadyBody topology p.stage spec spec.role body))
-ready_post feeds topology edges p sound feed post o is None y held opened = absurd held
-ready_post feeds topology edges p sound feed post None is (Some old) y held opened = absurd held
-ready_post feeds topology edges p sound feed post (Some spec) is (Some old) None held opened = absurd opened
-ready_post feeds topology edges p sound feed post (Some spec) is (Some old) (Some new) held opened =
+ready_post feeds topology edges p sound feed paces post o is None y held opened = absurd held
+ready_post feeds topology edges p sound feed paces post None is (Some old) y held opened = absurd held
+ready_post feeds topology edges p sound feed paces post (Some spec) is (Some old) None held opened = absurd opened
+ready_post feeds topology edges p sound feed paces post (Some spec) is (Some old) (Some new) held opened =
     let slot : has_slot spec.role spec.max p.slot ≡ true = sym (ap (λ q. has_post_in q p.slot) is) ∙ post in
     let within = ((numbered_topology topology sound).within p.stage spec is).1 in
     let fits : supplied_in feeds (spec_of topology p.stage) ≡ supplied_by spec.role (feeds.pace spec) (feeds.origin spec) spec.edge = ap (supplied_in feeds) is in
-    ready_by topology edges p.stage spec (supplied_at feeds topology (length topology.stages) p) (feeds.pace spec) (feeds.origin spec) p.slot spec.role old new slot (feed p.stage spec is)
+    ready_by topology edges p.stage spec (supplied_at feeds topology (length topology.stages) p) (feeds.pace spec) (feeds.origin spec) p.slot spec.role old new slot (paces spec) (feed p.stage spec is)
     (λ first. supplied_zero (p.slot == 0) (nat_le p.stage.0 (length topology.stages)) (supplied_in feeds (spec_of topology p.stage)) (eq-eqb p.slot 0 first) (le-leb p.stage.0 (length topology.stages) within) ∙ fits)
     (λ none. supplied_none (p.slot == 0 && nat_le p.stage.0 (length topology.stages)) (supplied_in feeds (spec_of topology p.stage)) (fits ∙ none))
     held opened
@@ -181,11 +192,11 @@ if_there (Some body) None topology s h = absurd h
 if_there (Some body) (Some sp) topology s h = h.unused
 
 -- a table that was handed out is filled once everything is opened
-pub filled : (feeds : Feeds) (topology : Topology) (edges : EdgesSeen) (table now : ℕ → Option BodySeen) → IsSound topology → FeedsProducers feeds.origin topology → AreHandedOut topology table
+pub filled : (feeds : Feeds) (topology : Topology) (edges : EdgesSeen) (table now : ℕ → Option BodySeen) → IsSound topology → FeedsProducers feeds.origin topology → ArePaces feeds.pace → AreHandedOut topology table
     → AreOpened feeds topology (length topology.stages) edges table now → IsFilled topology now
-filled feeds topology edges table now sound feed handed opened =
+filled feeds topology edges table now sound feed paces handed opened =
     let all = λ (p : Post) (post : has_post topology p ≡ true).
-    ready_post feeds topology edges p sound feed post (spec_of topology p.stage) refl (table (place_at p)) (now (place_at p)) (handed.posts p post) (opened p (few_slots topology p sound post)) in
+    ready_post feeds topology edges p sound feed paces post (spec_of topology p.stage) refl (table (place_at p)) (now (place_at p)) (handed.posts p post) (opened p (few_slots topology p sound post)) in
     record {
       ready = λ p post out.
           there_map (λ body. There (spec_of topology p.stage) (λ spec. IsReadyBody topology p.stage spec spec.role body)) (IsBodyAt topology [] p) (now (place_at p))

@@ -19,9 +19,10 @@ use Rattle.rate_gate.specs.Gate.{pace_of, moment_of, given_of}
 use Rattle.rate_gate.specs.Gated.{GatedSeen, HoldsLastBy, taken_by, left_by, waits_by, paced_by}
 use Rattle.rate_gate.specs.declared.gate.Gate.{Gate}
 use Rattle.stage_bodies.specs.Seen.{SourceSeen, LineSeen, source_seen}
+use Rattle.pace_laws.specs.Pacing.{IsPace}
 use Rattle.edge_names.specs.Seen.{EdgesSeen}
 use Rattle.edge_names.specs.Named.{GivesSource}
-use Rattle.edge_names.specs.Gates.{AreInner, IsGated, IsInner, IsShared, at_start, without_gate}
+use Rattle.edge_names.specs.Gates.{AreInner, ArePaces, IsGated, IsInner, IsShared, pace_by, pace_of_stage, without_gate}
 use Rattle.edge_names.specs.Supplies.{Feed, Opened, Made, IsMade}
 use Rattle.edge_names.specs.Opened.{GivesFed, GivesFeed}
 
@@ -174,3 +175,11 @@ is_shared topology count is sound =
           low = leb-true rate.allowed 1000000 (and_right (nat_le 1 rate.allowed) (nat_le rate.allowed 1000000) between);
           some = leb-true 1 rate.interval (and_left (nat_le 1 rate.interval) (nat_le rate.interval 3600000) time);
         }
+
+-- and so each of them has a pace
+pub sound_paces : (topology : Topology) → IsSound topology → ArePaces (pace_of_stage topology)
+sound_paces topology sound spec = by topology.rate (is_shared topology (length (producers topology.stages)) refl sound)
+  where
+    by : (rate : Option Rate) → IfSome rate (IsShared (length (producers topology.stages))) → IsPace (pace_by rate (length (producers topology.stages)) spec.index)
+    by None h = tt
+    by (Some rate) h = h.some

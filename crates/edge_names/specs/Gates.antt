@@ -1,11 +1,12 @@
 -- The gates before the sources of producers, and the sources without them.
-use Rattle.std.specs.Prelude.{◌≡◌, ◌≤◌, ◌++◌, ℕ, false, List, [], ◌∷◌, length, Option, Some, None, IsTrue}
+use Rattle.std.specs.Prelude.{◌≡◌, ◌≤◌, ◌++◌, ℕ, List, [], ◌∷◌, length, Option, Some, None, IsTrue}
 use Rattle.pipe_types.specs.Sound.{producers}
 use Rattle.pipe_types.specs.declared.topology.Rate.{Rate}
 use Rattle.pipe_types.specs.declared.topology.StageSpec.{StageSpec}
 use Rattle.pipe_types.specs.declared.topology.Topology.{Topology}
-use Rattle.pipe_edges.specs.Paces.{Pace, PaceSeen, unpaced, own_waits}
+use Rattle.pipe_edges.specs.Paces.{Pace, unpaced, own_waits}
 use Rattle.rate_laws.specs.Rates.{share_of}
+use Rattle.pace_laws.specs.Pacing.{IsPace, at_start}
 use Rattle.stage_bodies.specs.Seen.{SourceSeen, LineSeen}
 
 -- ---- shares
@@ -19,6 +20,10 @@ pace_by (Some rate) producers k = Some (record { share = share_of rate.allowed p
 abbrev pub pace_of_stage : Topology → StageSpec → Option Pace
 pace_of_stage topology spec = pace_by topology.rate (length (producers topology.stages)) spec.index
 
+-- each has intervals of some length
+abbrev pub ArePaces : (StageSpec → Option Pace) → Type 0
+ArePaces paces = (spec : StageSpec) → IsPace (paces spec)
+
 -- enough for each of so many producers, and not too much
 pub record IsShared (producers : ℕ) (rate : Rate) : Type 0 where
   pub enough : producers ≤ rate.allowed
@@ -26,10 +31,6 @@ pub record IsShared (producers : ℕ) (rate : Rate) : Type 0 where
   pub some : 1 ≤ rate.interval
 
 -- ---- a source in its gate
-
--- no moment was told, and nothing was given or stopped
-abbrev pub at_start : Option Pace → PaceSeen
-at_start pace = record { pace = pace; moment = 0; given = 0; part = false; stops = 0 }
 
 abbrev pub without_gate : SourceSeen → SourceSeen
 without_gate source = record source { paced = unpaced }

@@ -17,7 +17,8 @@ use Rattle.stage_bodies.specs.Jobs.{Both}
 use Rattle.stage_bodies.specs.Posts.{place_at}
 use Rattle.edge_names.specs.Seen.{EdgesSeen}
 use Rattle.edge_names.specs.Named.{GivesSource, GivesSink}
-use Rattle.edge_names.specs.Gates.{at_start, without_gate}
+use Rattle.pace_laws.specs.Pacing.{at_start}
+use Rattle.edge_names.specs.Gates.{without_gate}
 use Rattle.edge_names.specs.Supplies.{Feeds, Feed, Opened, Made, Supplied, Fed, Written, IsMade, call_for, call_of, supplied}
 use Rattle.edge_names.specs.declared.opening.Unopened.{Unopened}
 use Rattle.edge_names.specs.declared.opening.Unopened.TheVariants.{Failed, OutOfMemory}

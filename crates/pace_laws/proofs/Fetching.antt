@@ -8,17 +8,17 @@ use Rattle.pipe_types.specs.declared.numbers.StageNo.{StageNo}
 use Rattle.pipe_types.specs.declared.step.SourceHow.{SourceHow}
 use Rattle.pipe_types.specs.declared.step.SourceHow.TheVariants as how
 use Rattle.pipe_model.specs.History.{History}
-use Rattle.pipe_edges.specs.Paces.{Pace, PaceSeen, OwnWaitsRose, OwnWaitsStay, given_since, own_waits, told_at, told_by}
+use Rattle.pipe_edges.specs.Paces.{KeepsPace as PaceKept, Pace, PaceSeen, OwnWaitsRose, OwnWaitsStay, given_since, own_waits, told_at, told_by}
 use Rattle.pipe_edges.specs.Pacing.{Gives, IsHeldUp}
 use Rattle.pipe_edges.specs.declared.reading.LineEnd.{LineEnd}
 use Rattle.pipe_edges.specs.declared.reading.LineEnd.TheVariants as end
-use Rattle.stage_bodies.specs.Jobs.{FetchIsPaced, FetchGives, FetchKeepsPace, Fetches, IsFetched}
+use Rattle.stage_bodies.specs.Jobs.{CutKeepsPace, FetchIsPaced, FetchGives, FetchKeepsPace, Fetches, IsFetched}
 use Rattle.stage_bodies.specs.Moments.{told_lines}
 use Rattle.stage_bodies.specs.Seen.{SourceSeen, LineSeen}
 use Rattle.stage_bodies.specs.declared.job.Outcome.{Outcome as Came}
 use Rattle.stage_bodies.specs.declared.job.Outcome.TheVariants as came
 use Rattle.rate_laws.specs.Rates.{came_by, fetched_at, is_used_up, own_quiets}
-use Rattle.pace_laws.specs.Pacing.{IsPace, IsTold, KeepsPaceBy, KeepsShare, OwnRose, PaceGoes, PaceRests, PaceStays, at_start}
+use Rattle.pace_laws.specs.Pacing.{IsPace, IsTold, KeepsPaceBy, KeepsShare, OwnRose, PaceGoes, PaceRests, PaceSame, PaceStays, at_start}
 
 -- ---- intervals
 
@@ -89,6 +89,26 @@ stays (Some pace) before after s whole opened now st k = record {
   };
 }
 
+-- a step that says nothing of the producer
+pub same_pace : (p : Option Pace) (before after : History) (s : StageNo) (whole : Bool) (opened : SourceSeen) (now : LineSeen) → PaceSame before after s → KeepsPaceBy p before s whole opened now → KeepsPaceBy p after s whole opened now
+same_pace None before after s whole opened now same k = k
+same_pace (Some pace) before after s whole opened now same k = record {
+  same_pace = k.same_pace;
+  some = k.some;
+  past = let past = k.past in let fetch = same.same_fetch in omega (arith, past, fetch);
+  low = k.low;
+  within = λ i. let low = k.within i in let came = same.came pace.interval i in omega (arith, low, came);
+  own = rw (same.own pace.share pace.interval) k.own;
+  in_pace = λ none short. let old = k.in_pace none short in record {
+    given =
+        ap (λ f. given_since pace.interval now.source.paced.moment f now.source.paced.given) same.same_fetch
+        ∙ old.given
+        ∙ sym (same.came pace.interval (fetched_at before s / pace.interval))
+        ∙ ap (λ f. came_by s pace.interval (f / pace.interval) after) (sym same.same_fetch);
+    in_step = old.in_step;
+  };
+}
+
 -- ---- the telling
 
 told_is : (pace : Pace) (f : ℕ) (p : PaceSeen) → p.pace ≡ Some pace → p.moment ≤ f → told_at f p ≡ record p { moment = f; given = given_since pace.interval p.moment f p.given }
@@ -124,6 +144,21 @@ tells (Some pace) before s opened now is k =
         by true = omega arith
         by false = omega arith
 
+-- once told it was told
+pub told_again : (f : ℕ) (p : PaceSeen) → told_at f p ≡ told_at f (told_at f p)
+told_again f p = by p.pace refl ∙ ap (λ o. told_by o f (told_at f p)) (sym (pace_told p.pace))
+  where
+    pace_told : (o : Option Pace) → (told_by o f p).pace ≡ p.pace
+    pace_told None = refl
+    pace_told (Some pace) = refl
+
+    by : (o : Option Pace) → p.pace ≡ o → told_by o f p ≡ told_by o f (told_by o f p)
+    by None is = refl
+    by (Some pace) is =
+        let last : max (max p.moment f) f ≡ max p.moment f = omega arith in
+        sym (ap (λ m. record p { moment = m; given = given_since pace.interval (max p.moment f) m (given_since pace.interval p.moment (max p.moment f) p.given) }) last
+        ∙ ap (λ g. record p { moment = max p.moment f; given = g }) (same_interval pace.interval (max p.moment f) (given_since pace.interval p.moment (max p.moment f) p.given)))
+
 -- an answer that is not in the journal leaves what does not need it
 pub part : (p : Option Pace) (before : History) (s : StageNo) (opened : SourceSeen) (now : LineSeen) → KeepsPaceBy p before s true opened now → KeepsPaceBy p before s false opened now
 part None before s opened now k = k
@@ -153,23 +188,28 @@ own_one times w w' a b c (inl low) (inr full) le = inr full
 own_one times w w' a b c (inr full) on le = inr (omega (arith, full, le))
 
 -- an answer that is not in the journal
-pub loses : (p : Option Pace) (before : History) (s : StageNo) (o : Came) (opened : SourceSeen) (b c : LineSeen) → p ≡ opened.paced.pace → b.source.waits ≤ c.source.waits → FetchIsPaced b.source.paced.pace o b c
+pub loses : (p : Option Pace) (before : History) (s : StageNo) (opened : SourceSeen) (b c : LineSeen) → p ≡ opened.paced.pace → b.source.waits ≤ c.source.waits → CutKeepsPace b.source.paced.pace b c
     → KeepsPaceBy p before s true opened b → KeepsPaceBy p before s false opened c
-loses None before s o opened b c is le fetched k =
+loses None before s opened b c is le cut k =
     let none : b.source.paced.pace ≡ None = ap (λ x. x.pace) k ∙ sym is in
-    let same : c.source.paced ≡ b.source.paced = rw none at fetched in
+    let same : c.source.paced ≡ b.source.paced = rw none at cut in
     same ∙ k
-loses (Some pace) before s o opened b c is le fetched k =
-    let paced : FetchKeepsPace pace o b c = rw k.same_pace at fetched in
+loses (Some pace) before s opened b c is le cut k =
+    let kept : PaceKept pace b.source.waits c.source.waits b.source.paced c.source.paced = rw k.same_pace at cut in
     record {
-      same_pace = paced.kept.same_pace ∙ k.same_pace;
+      same_pace = kept.same_pace ∙ k.same_pace;
       some = k.some;
-      past = let same = paced.kept.same_moment in let past = k.past in omega (arith, same, past);
-      low = paced.kept.within k.low;
+      past = let same = kept.same_moment in let past = k.past in omega (arith, same, past);
+      low = kept.within k.low;
       within = k.within;
-      own = own_on (own_quiets pace.share pace.interval before s) b.source.waits c.source.waits (own_waits opened.waits opened.paced) b.source.paced c.source.paced k.own paced.kept.own_waits_stay le;
+      own = own_on (own_quiets pace.share pace.interval before s) b.source.waits c.source.waits (own_waits opened.waits opened.paced) b.source.paced c.source.paced k.own kept.own_waits_stay le;
       in_pace = λ w. let x : false ≡ true = w in cc;
     }
+
+-- a fetch that came to an answer keeps the pace too
+pub cut_of : (p : Option Pace) (o : Came) (b c : LineSeen) → FetchIsPaced p o b c → CutKeepsPace p b c
+cut_of None o b c k = k
+cut_of (Some pace) o b c k = k.kept
 
 -- a line that was too long before is so still
 not_long : (old new : Option LineEnd) → IfSome old (λ e. new ≡ Some e) → ¬ (new ≡ Some end.TooLong) → ¬ (old ≡ Some end.TooLong)

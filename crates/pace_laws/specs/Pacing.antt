@@ -51,6 +51,11 @@ KeepsPace before s whole opened now = KeepsPaceBy opened.paced.pace before s who
 abbrev pub IsTold : History → StageNo → LineSeen → Type 0
 IsTold before s now = now.source.paced ≡ told_at (fetched_at before s) now.source.paced
 
+-- a gate that was told no moment and has given nothing
+pub record IsNewGate (paced : PaceSeen) : Type 0 where
+  pub fresh : paced ≡ at_start paced.pace
+  pub some : IsPace paced.pace
+
 -- ---- what the journal says
 
 -- nothing came of the producer, and its last fetch is as before or later
@@ -59,6 +64,12 @@ pub record PaceStays (before after : History) (s : StageNo) : Type 0 where
   pub own : (share interval : ℕ) → own_quiets share interval after s ≡ own_quiets share interval before s
   pub grows : fetched_at before s ≤ fetched_at after s
   pub later : (interval i : ℕ) → 0 < interval → interval_of interval (fetched_at before s) < i → came_by s interval i before ≡ 0
+
+-- nothing came of the producer, and its last fetch is as before
+pub record PaceSame (before after : History) (s : StageNo) : Type 0 where
+  pub came : (interval i : ℕ) → came_by s interval i after ≡ came_by s interval i before
+  pub own : (share interval : ℕ) → own_quiets share interval after s ≡ own_quiets share interval before s
+  pub same_fetch : fetched_at after s ≡ fetched_at before s
 
 -- so many records came of its last fetch
 pub record PaceGoes (before after : History) (s : StageNo) (records : List (List ℕ)) : Type 0 where

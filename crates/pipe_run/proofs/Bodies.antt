@@ -128,29 +128,32 @@ sink_opened edges name None y some h = let x : false ≡ true = some in cc
 record IsSourceKept (before : History) (s : StageNo) (out : Bool) (opened : LineSeen) (body : Option BodySeen) : Type 0 where
   pub now : LineSeen
   pub is : source_in body ≡ Some now.source
+  pub full : Bool
   pub lost : List (List ℕ)
   pub in_fetch : (lost ≡ []) ⊎ (out ≡ true)
-  pub keeps : KeepsSource before s lost opened now
+  pub keeps : KeepsSource before s full lost opened now
 
-source_whole : (before : History) (s : StageNo) (out : Bool) (lines : LineSeen) (c : BodySeen) (x y : Option LineSeen) → x ≡ Some lines → c.source ≡ y → Both (KeepsSource before s []) x y → IsSourceKept before s out lines (Some c)
+source_whole : (before : History) (s : StageNo) (out : Bool) (lines : LineSeen) (c : BodySeen) (x y : Option LineSeen) → x ≡ Some lines → c.source ≡ y → Both (KeepsSource before s true []) x y → IsSourceKept before s out lines (Some c)
 source_whole before s out lines c (Some a) (Some now) e is h = record {
   now = now;
   is = ap (option_map (λ (l : LineSeen). l.source)) is;
+  full = true;
   lost = [];
   in_fetch = inl refl;
-  keeps = let same : a ≡ lines = cc in subst (λ z. KeepsSource before s [] z now) same h;
+  keeps = let same : a ≡ lines = cc in subst (λ z. KeepsSource before s true [] z now) same h;
 }
 source_whole before s out lines c (Some a) None e is h = absurd h
 source_whole before s out lines c None y e is h = cc
 
 source_partly : (before : History) (s : StageNo) (lines : LineSeen) (c : BodySeen) (x y : Option LineSeen) → x ≡ Some lines → c.source ≡ y
-    → Both (λ old new. (lost : List (List ℕ)) × KeepsSource before s lost old new) x y → IsSourceKept before s true lines (Some c)
+    → Both (λ old new. (lost : List (List ℕ)) × KeepsSource before s false lost old new) x y → IsSourceKept before s true lines (Some c)
 source_partly before s lines c (Some a) (Some now) e is h = record {
   now = now;
   is = ap (option_map (λ (l : LineSeen). l.source)) is;
+  full = false;
   lost = h.0;
   in_fetch = inr refl;
-  keeps = let same : a ≡ lines = cc in subst (λ z. KeepsSource before s h.0 z now) same h.1;
+  keeps = let same : a ≡ lines = cc in subst (λ z. KeepsSource before s false h.0 z now) same h.1;
 }
 source_partly before s lines c (Some a) None e is h = absurd h
 source_partly before s lines c None y e is h = cc
@@ -227,7 +230,7 @@ sources_used feeds whole topology edges before table opened bodies run s feed e 
     let kept = source_kept topology before (post s 0) (is_out before (post s 0)) o.lines (opened at) (bodies at) o.has there (run.keeps (post s 0) (first_post topology s is_producer_role producer_post role)) in
     let own : same_stage s (stage 0) ≡ false = ne_eqb s.0 0 (λ zero. omega (arith, zero, (numbered.within s c.spec c.found).0)) in
     there_at (IsFeedRead whole edges before s feed) (source_in (bodies at)) kept.now.source kept.is
-    (feed_read whole topology before s kept.lost edges feed o.lines kept.now run.legal role own kept.in_fetch o.gives kept.keeps
+    (feed_read whole topology before s kept.full kept.lost edges feed o.lines kept.now run.legal role own kept.in_fetch o.gives kept.keeps
     (λ w. calm_at feeds topology s c.spec (Fed feed) bodies kept.now.source c.found (numbered.named s c.spec c.found) c.fits kept.is (run.calm w)))
 
 sinks_used : (feeds : StageSpec → Option Feed) (whole : Bool) (topology : Topology) (edges : EdgesSeen) (before : History) (table opened bodies : ℕ → Option BodySeen) → IsRunFrom feeds whole topology edges before table opened bodies

@@ -98,9 +98,9 @@ record IsUncounted (source : SourceSeen) : Type 0 where
   pub no_wait : source.waits ≡ 0
 
 -- the journal's records are the first of the source's lines, and where it ended they are as its end says
-reads_source : (topology : Topology) (before : History) (s : StageNo) (lost : List (List ℕ)) (opened now : LineSeen) → is_legal topology before ≡ true → has_role topology s is_producer_role ≡ true → same_stage s (stage 0) ≡ false
-    → (lost ≡ []) ⊎ (is_out before (post s 0) ≡ true) → IsUncounted opened.source → KeepsSource before s lost opened now → ReadsSource before s now.source
-reads_source topology before s lost opened now legal role own in_fetch fresh k =
+reads_source : (topology : Topology) (before : History) (s : StageNo) (full : Bool) (lost : List (List ℕ)) (opened now : LineSeen) → is_legal topology before ≡ true → has_role topology s is_producer_role ≡ true → same_stage s (stage 0) ≡ false
+    → (lost ≡ []) ⊎ (is_out before (post s 0) ≡ true) → IsUncounted opened.source → KeepsSource before s full lost opened now → ReadsSource before s now.source
+reads_source topology before s full lost opened now legal role own in_fetch fresh k =
     let f = fed before s in
     let source = opened.source in
     let told_then = λ (t : IsTrue now.source.told). subst (λ b. b ≡ true) k.read.same_telling t in
@@ -125,26 +125,26 @@ reads_source topology before s lost opened now legal role own in_fetch fresh k =
       quiet = subst (λ n. RoseBy (quiets before s) n now.source.waits) fresh.no_wait k.quiet;
     }
 
-source_read : (topology : Topology) (before : History) (s : StageNo) (lost : List (List ℕ)) (edges : EdgesSeen) (name : List ℕ) (opened now : LineSeen) → is_legal topology before ≡ true → has_role topology s is_producer_role ≡ true → same_stage s (stage 0) ≡ false
-    → (lost ≡ []) ⊎ (is_out before (post s 0) ≡ true) → GivesLines edges name opened → KeepsSource before s lost opened now → IsSourceRead edges before s name now.source
-source_read topology before s lost edges name opened now legal role own in_fetch gives k = record {
+source_read : (topology : Topology) (before : History) (s : StageNo) (full : Bool) (lost : List (List ℕ)) (edges : EdgesSeen) (name : List ℕ) (opened now : LineSeen) → is_legal topology before ≡ true → has_role topology s is_producer_role ≡ true → same_stage s (stage 0) ≡ false
+    → (lost ≡ []) ⊎ (is_out before (post s 0) ≡ true) → GivesLines edges name opened → KeepsSource before s full lost opened now → IsSourceRead edges before s name now.source
+source_read topology before s full lost edges name opened now legal role own in_fetch gives k = record {
   opened = opened.source;
   given = gives.source;
   same_telling = k.read.same_telling;
   same_bytes = λ t. all_bytes opened.source now (fed before s ++ lost) gives.source.nothing_taken k.read t;
-  reads = reads_source topology before s lost opened now legal role own in_fetch (record { nothing_taken = gives.source.nothing_taken; no_fault = gives.source.no_fault; no_wait = gives.source.no_wait }) k;
+  reads = reads_source topology before s full lost opened now legal role own in_fetch (record { nothing_taken = gives.source.nothing_taken; no_fault = gives.source.no_fault; no_wait = gives.source.no_wait }) k;
 }
 
-made_read : (whole : Bool) (topology : Topology) (before : History) (s : StageNo) (lost : List (List ℕ)) (bytes : List ℕ) (opened now : LineSeen) → is_legal topology before ≡ true → has_role topology s is_producer_role ≡ true → same_stage s (stage 0) ≡ false
-    → (lost ≡ []) ⊎ (is_out before (post s 0) ≡ true) → GivesMade bytes opened → KeepsSource before s lost opened now → (IsTrue whole → IsCalm (Some (Fed (Made bytes))) (Some now.source)) → IsMadeRead whole before s bytes now.source
-made_read whole topology before s lost bytes opened now legal role own in_fetch gives k calm = record {
+made_read : (whole : Bool) (topology : Topology) (before : History) (s : StageNo) (full : Bool) (lost : List (List ℕ)) (bytes : List ℕ) (opened now : LineSeen) → is_legal topology before ≡ true → has_role topology s is_producer_role ≡ true → same_stage s (stage 0) ≡ false
+    → (lost ≡ []) ⊎ (is_out before (post s 0) ≡ true) → GivesMade bytes opened → KeepsSource before s full lost opened now → (IsTrue whole → IsCalm (Some (Fed (Made bytes))) (Some now.source)) → IsMadeRead whole before s bytes now.source
+made_read whole topology before s full lost bytes opened now legal role own in_fetch gives k calm = record {
   tells = subst (λ b. b ≡ true) (sym k.read.same_telling) gives.source.tells;
   same_bytes = all_bytes opened.source now (fed before s ++ lost) gives.source.nothing_taken k.read gives.source.tells ∙ gives.source.all_left;
-  reads = reads_source topology before s lost opened now legal role own in_fetch (record { nothing_taken = gives.source.nothing_taken; no_fault = gives.source.no_fault; no_wait = gives.source.no_wait }) k;
+  reads = reads_source topology before s full lost opened now legal role own in_fetch (record { nothing_taken = gives.source.nothing_taken; no_fault = gives.source.no_fault; no_wait = gives.source.no_wait }) k;
   calm = calm;
 }
 
-pub feed_read : (whole : Bool) (topology : Topology) (before : History) (s : StageNo) (lost : List (List ℕ)) (edges : EdgesSeen) (feed : Feed) (opened now : LineSeen) → is_legal topology before ≡ true → has_role topology s is_producer_role ≡ true → same_stage s (stage 0) ≡ false
-    → (lost ≡ []) ⊎ (is_out before (post s 0) ≡ true) → GivesFeed edges feed opened → KeepsSource before s lost opened now → (IsTrue whole → IsCalm (Some (Fed feed)) (Some now.source)) → IsFeedRead whole edges before s feed now.source
-feed_read whole topology before s lost edges (Opened name) opened now legal role own in_fetch gives k calm = source_read topology before s lost edges name opened now legal role own in_fetch gives k
-feed_read whole topology before s lost edges (Made bytes) opened now legal role own in_fetch gives k calm = made_read whole topology before s lost bytes opened now legal role own in_fetch gives k calm
+pub feed_read : (whole : Bool) (topology : Topology) (before : History) (s : StageNo) (full : Bool) (lost : List (List ℕ)) (edges : EdgesSeen) (feed : Feed) (opened now : LineSeen) → is_legal topology before ≡ true → has_role topology s is_producer_role ≡ true → same_stage s (stage 0) ≡ false
+    → (lost ≡ []) ⊎ (is_out before (post s 0) ≡ true) → GivesFeed edges feed opened → KeepsSource before s full lost opened now → (IsTrue whole → IsCalm (Some (Fed feed)) (Some now.source)) → IsFeedRead whole edges before s feed now.source
+feed_read whole topology before s full lost edges (Opened name) opened now legal role own in_fetch gives k calm = source_read topology before s full lost edges name opened now legal role own in_fetch gives k
+feed_read whole topology before s full lost edges (Made bytes) opened now legal role own in_fetch gives k calm = made_read whole topology before s full lost bytes opened now legal role own in_fetch gives k calm
