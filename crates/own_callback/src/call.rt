@@ -24,6 +24,7 @@ use pipe_journal::Journal;
 use pipe_top::run_program;
 use pipe_types::bytes::{Bytes, Text};
 use pipe_types::topology::Topology;
+use rate_gate::GatedSource;
 use stage_bodies::Houses;
 use std::alloc::{AllocError, Global};
 use std::sync::Wait;
@@ -48,8 +49,8 @@ pub struct Came<C> {
 pub fn run_with<
     R: Threads + Wait + Sync,
     C: Boxed,
-    B: Carries<C> + Houses<MemSource, MemSink> + Send,
-    G: Carries<C> + Houses<MadeSource, MemSink> + Send,
+    B: Carries<C> + Houses<GatedSource<MemSource>, MemSink> + Send,
+    G: Carries<C> + Houses<GatedSource<MadeSource>, MemSink> + Send,
 >(
     rt: &R,
     alloc: Global,
@@ -161,8 +162,8 @@ pub(crate) fn bytes(alloc: Global, text: &str) -> Result<Bytes, AllocError>
 pub fn run_plain<
     R: Threads + Wait + Sync,
     C: Boxed,
-    B: Carries<C> + Houses<MemSource, MemSink> + Send,
-    G: Carries<C> + Houses<MadeSource, MemSink> + Send,
+    B: Carries<C> + Houses<GatedSource<MemSource>, MemSink> + Send,
+    G: Carries<C> + Houses<GatedSource<MadeSource>, MemSink> + Send,
 >(
     rt: &R,
     alloc: Global,

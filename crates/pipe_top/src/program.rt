@@ -24,6 +24,7 @@ use pipe_edges::{Clock, Edges};
 use pipe_journal::Journal;
 use pipe_types::topology::{Role, StageSpec, Topology};
 use program_words::{Command, FlowWords, GenWords, RunWords, read_words};
+use rate_gate::GatedSource;
 use run_verdicts::{Refusal, Shows, write_verdict};
 use stage_bodies::Houses;
 use std::alloc::Global;
@@ -48,8 +49,8 @@ pub fn run_program<
     R: Threads + Wait + Sync,
     E: Edges,
     C: Boxed,
-    B: Carries<C> + Houses<E::Source, E::Sink> + Send,
-    G: Carries<C> + Houses<MadeSource, E::Sink> + Send,
+    B: Carries<C> + Houses<GatedSource<E::Source>, E::Sink> + Send,
+    G: Carries<C> + Houses<GatedSource<MadeSource>, E::Sink> + Send,
     K: Clock + Send + Drop,
 >(
     rt: &R,
@@ -106,8 +107,8 @@ fn run_words<
     R: Threads + Wait + Sync,
     E: Edges,
     C: Boxed,
-    B: Carries<C> + Houses<E::Source, E::Sink> + Send,
-    G: Carries<C> + Houses<MadeSource, E::Sink> + Send,
+    B: Carries<C> + Houses<GatedSource<E::Source>, E::Sink> + Send,
+    G: Carries<C> + Houses<GatedSource<MadeSource>, E::Sink> + Send,
     K: Clock + Send + Drop,
 >(rt: &R, alloc: Global, words: &Vec<String>, stock: Vec<C>, edges: &mut E, clock: K) -> Ran<C, K>
     ensures came { Came
@@ -137,7 +138,7 @@ fn run_flow<
     R: Threads + Wait + Sync,
     E: Edges,
     C: Boxed,
-    B: Carries<C> + Houses<E::Source, E::Sink> + Send,
+    B: Carries<C> + Houses<GatedSource<E::Source>, E::Sink> + Send,
     K: Clock + Send + Drop,
 >(rt: &R, alloc: Global, words: FlowWords<'_>, stock: Vec<C>, edges: &mut E, clock: K) -> Ran<C, K>
     ensures came { Came
@@ -200,7 +201,7 @@ fn run_file<
     R: Threads + Wait + Sync,
     E: Edges,
     C: Boxed,
-    B: Carries<C> + Houses<E::Source, E::Sink> + Send,
+    B: Carries<C> + Houses<GatedSource<E::Source>, E::Sink> + Send,
     K: Clock + Send + Drop,
 >(rt: &R, alloc: Global, words: RunWords<'_>, stock: Vec<C>, edges: &mut E, clock: K) -> Ran<C, K>
     ensures came { Came
@@ -233,7 +234,7 @@ fn run_generated<
     R: Threads + Wait + Sync,
     E: Edges,
     C: Boxed,
-    G: Carries<C> + Houses<MadeSource, E::Sink> + Send,
+    G: Carries<C> + Houses<GatedSource<MadeSource>, E::Sink> + Send,
     K: Clock + Send + Drop,
 >(rt: &R, alloc: Global, words: GenWords<'_>, stock: Vec<C>, edges: &mut E, clock: K) -> Ran<C, K>
     ensures came { Came
