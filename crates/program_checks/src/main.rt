@@ -14,6 +14,7 @@ mod making;
 mod meets;
 mod outside;
 mod own;
+mod rates;
 mod slow;
 mod texts;
 
