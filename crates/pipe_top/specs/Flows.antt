@@ -17,7 +17,7 @@ use Rattle.edge_names.specs.Supplies.{Feed}
 use Rattle.topology_needs.specs.Needs.{subscriptions_of}
 use Rattle.topology_needs.specs.declared.stock.Boxes.{Boxes}
 use Rattle.topology_needs.specs.declared.stock.Shortage.{Shortage}
-use Rattle.pipe_top.specs.Cases.{Feeding, Named, MadeFrom, feeds_of, Case, NoCommand, NoTopology as BadTopology, TooFew, Checks, Upgrades, Runs, case_of, calls_of, file_name, IsNamedFile}
+use Rattle.pipe_top.specs.Cases.{Feeding, Named, MadeFrom, origin_of, Case, NoCommand, NoTopology as BadTopology, TooFew, Checks, Upgrades, Runs, case_of, calls_of, file_name, IsNamedFile}
 use Rattle.run_verdicts.specs.Verdicts.{whole_text}
 use Rattle.pipe_top.specs.Runs.{OutsideSeen, IsEnded, IsRun, IsOutsideOf, Asks, FailsAt}
 use Rattle.run_verdicts.specs.Texts.{run_text}
@@ -81,7 +81,7 @@ IsFew (MadeFrom seed count) = count < 2 ^ 32
 
 -- a supply feeds the producers of this topology so
 pub record IsFedBy (feeding : Feeding) (topology : Topology) (feeds : StageSpec → Option Feed) : Type 0 where
-  pub is : feeds ≡ feeds_of feeding topology
+  pub is : feeds ≡ origin_of feeding topology
   pub few : IsFew feeding
 
 -- a run on this topology

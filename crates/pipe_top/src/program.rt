@@ -63,7 +63,8 @@ pub fn run_program<
     err: &mut E::Out,
 ) -> RunEnd<C, K>
     ensures known { result.status ≤ 9 }
-    // The journal is legal and keeps every claim, and each step of its own accord was the next move.
+    // The journal is legal and keeps every claim, each step of its own accord was the next move, and no interval brings more
+    // records than a rate allows.
     ensures run { IsRunOrNone result.topology result.journal.steps }
     // What the call comes to in the case of its words, of the bytes of their topology file, and of the stock.
     ensures call { InCase (E.told edges.old) (E.named edges.old) (command_of (texts_of words.now.items)) (boxes_in (kinds_of C.seen stock.items))
