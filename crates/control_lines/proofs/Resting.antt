@@ -26,7 +26,7 @@ use Rattle.work_laws.specs.Work.{is_work}
 use Rattle.work_laws.proofs.Leaving.{work_lowers}
 use Rattle.pipe_laws.proofs.Tests.{same_stage-true}
 use Rattle.pipe_laws.specs.Followed.{IsNextMove}
-use Rattle.control_lines.specs.Steps.{begins, jobs_begun, ends_control, is_from_control, AddsControl}
+use Rattle.control_lines.specs.Steps.{begins, jobs_begun, still_ticks, ends_control, is_from_control, AddsControl}
 use Rattle.control_lines.specs.Rest.{LeavesAtRest}
 use Rattle.control_lines.specs.Orders.{with_reading}
 use Rattle.control_lines.proofs.Readings.{by_reading}
@@ -53,17 +53,18 @@ pub record IsAside (step : Step) : Type 0 where
   pub no_begin : begins step ≡ false
   pub no_halt : is_halt step ≡ false
   pub no_tick : (before : History) → now (step ∷ before) ≡ now before
+  pub no_still : (before : History) → still_ticks (step ∷ before) ≡ still_ticks before
   pub no_post : (before : History) (p : Post) → is_out (step ∷ before) p ≡ is_out before p
   pub next : (topology : Topology) (before : History) → IsNextMove topology before step
 
 from_control : (step : Step) → is_from_control step ≡ true → IsAside step
 from_control step h =
     by_control IsAside
-    (λ s. record { silent = refl; works = refl; no_begin = refl; no_halt = refl; no_tick = λ before. refl; no_post = λ before p. refl; next = λ topology before. tt })
-    (λ s. record { silent = refl; works = refl; no_begin = refl; no_halt = refl; no_tick = λ before. refl; no_post = λ before p. refl; next = λ topology before. tt })
-    (record { silent = refl; works = refl; no_begin = refl; no_halt = refl; no_tick = λ before. refl; no_post = λ before p. refl; next = λ topology before. tt })
-    (λ line. record { silent = refl; works = refl; no_begin = refl; no_halt = refl; no_tick = λ before. refl; no_post = λ before p. refl; next = λ topology before. tt })
-    (λ how. record { silent = refl; works = refl; no_begin = refl; no_halt = refl; no_tick = λ before. refl; no_post = λ before p. refl; next = λ topology before. tt })
+    (λ s. record { silent = refl; works = refl; no_begin = refl; no_halt = refl; no_tick = λ before. refl; no_still = λ before. refl; no_post = λ before p. refl; next = λ topology before. tt })
+    (λ s. record { silent = refl; works = refl; no_begin = refl; no_halt = refl; no_tick = λ before. refl; no_still = λ before. refl; no_post = λ before p. refl; next = λ topology before. tt })
+    (record { silent = refl; works = refl; no_begin = refl; no_halt = refl; no_tick = λ before. refl; no_still = λ before. refl; no_post = λ before p. refl; next = λ topology before. tt })
+    (λ line. record { silent = refl; works = refl; no_begin = refl; no_halt = refl; no_tick = λ before. refl; no_still = λ before. refl; no_post = λ before p. refl; next = λ topology before. tt })
+    (λ how. record { silent = refl; works = refl; no_begin = refl; no_halt = refl; no_tick = λ before. refl; no_still = λ before. refl; no_post = λ before p. refl; next = λ topology before. tt })
     step h
 
 leaves_step : (topology : Topology) (before : History) (step : Step) → IsSound topology → is_legal topology (step ∷ before) ≡ true → is_from_control step ≡ true → LeavesAtRest topology before (step ∷ before)
@@ -77,6 +78,7 @@ leaves_step topology before step sound legal from =
       keeps = λ opened home k. silent_keeps topology before step opened home sound legal a.silent k;
       ready = λ home r. silent_ready topology before step home sound legal a.silent r;
       same_time = a.no_tick before;
+      same_still = a.no_still before;
       same_jobs = no_job step before a.no_begin;
       progress = inr (work_lowers topology before step sound legal a.works);
     }
@@ -89,6 +91,7 @@ leaves_none topology before = record {
   keeps = λ opened home k. k;
   ready = λ home r. r;
   same_time = refl;
+  same_still = refl;
   same_jobs = refl;
   progress = inl refl;
 }

@@ -9,7 +9,7 @@ use Rattle.stage_bodies.specs.Seen.{BodySeen}
 use Rattle.body_laws.specs.Keeps.{Keeps}
 use Rattle.body_laws.specs.Ready.{Ready}
 use Rattle.work_laws.specs.Left.{work_left}
-use Rattle.control_lines.specs.Steps.{jobs_begun}
+use Rattle.control_lines.specs.Steps.{jobs_begun, still_ticks}
 
 -- no job was begun and no tick was added, the bodies stand as they did, and less work is left, or no step was added
 pub record LeavesAtRest (topology : Topology) (old new : History) : Type 0 where
@@ -19,5 +19,6 @@ pub record LeavesAtRest (topology : Topology) (old new : History) : Type 0 where
   pub keeps : (opened home : ℕ → Option BodySeen) → Keeps topology old opened home → Keeps topology new opened home
   pub ready : (home : ℕ → Option BodySeen) → Ready topology old home → Ready topology new home
   pub same_time : now new ≡ now old
+  pub same_still : still_ticks new ≡ still_ticks old
   pub same_jobs : jobs_begun new ≡ jobs_begun old
   pub progress : (new ≡ old) ⊎ (work_left topology new < work_left topology old)

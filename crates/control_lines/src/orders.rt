@@ -1,6 +1,6 @@
 //! Control lines, and what they ask for.
 
-ghost use Rattle.std.specs.Prelude.{◌≡◌, ◌∷◌, ◌+◌, ◌++◌, ◌&&◌, ℕ, not, codes, false, OnOk, OnErr, IsTrue, option_map};
+ghost use Rattle.std.specs.Prelude.{◌≡◌, ◌∷◌, ◌+◌, ◌++◌, ◌&&◌, ℕ, not, codes, false, IsOk, OnOk, OnErr, IsTrue, option_map};
 ghost use Rattle.std.specs.Str.{bytes_eq};
 ghost use Rattle.pipe_model.specs.History.{controls};
 ghost use Rattle.pipe_model.specs.Lives.{is_live};
@@ -8,6 +8,7 @@ ghost use Rattle.pipe_model.specs.Legal.{happened, is_halt, is_drain, may_contro
 ghost use Rattle.pipe_model.specs.Outside.{control_reading, named_live};
 ghost use Rattle.core_state.specs.Stands.{Stands};
 ghost use Rattle.control_lines.specs.Orders.{step_for};
+ghost use Rattle.control_lines.specs.Steps.{is_kill};
 
 use core_calls::asks::refuse;
 use core_kills::kills::kill;
@@ -33,7 +34,7 @@ pub(crate) enum Order {
 
 /// Appends the step that the next control line asks for: the kill of a live stage for `kill NAME` or `stop NAME`, the begin
 /// of the drain for a first `drain`, and for every other line that it is refused. Lines are numbered from 1. The error is
-/// want of memory.
+/// want of memory, which no kill meets.
 pub fn obey_line(core: &mut Core, line: &[u8]) -> Result<(), AllocError>
     requires stands { Stands core.old }
     requires may { IsTrue (may_control core.old.journal.steps) }
@@ -41,6 +42,8 @@ pub fn obey_line(core: &mut Core, line: &[u8]) -> Result<(), AllocError>
     ensures appended { OnOk result (core.new.journal.steps
         ≡ control_reading core.old.topology core.old.journal.steps (controls core.old.journal.steps + 1) line.now ∷ core.old.journal.steps) }
     ensures unchanged { OnErr result (core.new.journal.steps ≡ core.old.journal.steps) }
+    // A kill takes no memory.
+    ensures kills { IsTrue (is_kill (control_reading core.old.topology core.old.journal.steps (controls core.old.journal.steps + 1) line.now)) → IsOk result }
     ensures topology { core.new.topology ≡ core.old.topology }
     ensures stands { Stands core.new }
 {

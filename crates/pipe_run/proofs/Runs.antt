@@ -42,7 +42,7 @@ not_whole : {A : Type 0} → IsTrue false → A
 not_whole w = let x : false ≡ true = w in cc
 
 partly : {E : Type 0} (r : Result RunEnd E) (before : History) (opened clock : ClockSeen) → KeepsClockOn r before opened clock → KeepsClockPartly before opened clock
-partly (Ok end) before opened clock k = record { latest = omega (arith, k.latest); readings = k.readings }
+partly (Ok end) before opened clock k = record { latest = omega (arith, k.latest); readings = k.readings; pauses = k.pauses }
 partly (Err e) before opened clock k = k
 
 partly_obeyed : {E : Type 0} (r : Result RunEnd E) (topology : Topology) (before : History) (opened now : Option LineSeen) → KeepsControlOn r topology before 0 opened now → KeepsControlPartly topology before opened now
@@ -89,6 +89,7 @@ pub went : (feeds : StageSpec → Option Feed) (r : Result RunEnd AllocError) (o
 went feeds (Ok end) opened p topology final old new h same back calm kept = record {
   follows = h.follows;
   ended = λ w. has_come opened.topology p.steps end h.ended;
+  idle = λ w. h.idle;
   time = h.clock;
   control = p.control;
   obeyed = partly_obeyed {E = AllocError} (Ok end) opened.topology p.steps opened.control p.control h.control;
@@ -105,6 +106,7 @@ went feeds (Ok end) opened p topology final old new h same back calm kept = reco
 went feeds (Err e) opened p topology final old new h same back calm kept = record {
   follows = h.follows;
   ended = λ w. not_whole w;
+  idle = λ w. not_whole w;
   time = h.clock;
   control = p.control;
   obeyed = partly_obeyed {E = AllocError} (Err e) opened.topology p.steps opened.control p.control h.control;
@@ -127,6 +129,7 @@ went_in_part feeds r opened p topology final old new h same given kept =
     record {
       follows = h.follows;
       ended = λ w. not_whole w;
+      idle = λ w. not_whole w;
       time = partly r p.steps opened.clock p.clock h.clock;
       control = p.control;
       obeyed = partly_obeyed r opened.topology p.steps opened.control p.control h.control;

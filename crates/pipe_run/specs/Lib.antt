@@ -4,3 +4,4 @@ pub mod Boxes
 pub mod Whole
 pub mod Steps
 pub use Rattle.run_pipe.specs.Clocks
+pub use Rattle.run_pipe.specs.Idle

@@ -13,13 +13,14 @@ use Rattle.edge_names.specs.Supplies.{Feed}
 use Rattle.edge_names.specs.Seen.{EdgesSeen}
 use Rattle.edge_names.specs.Returned.{AreCalm, GivesBack, KeepsCallbacks}
 use Rattle.edge_names.specs.Controls.{first_sources, first_sinks}
-use Rattle.pipe_run.specs.Whole.{HasCome, IsTimeOf}
+use Rattle.pipe_run.specs.Whole.{HasCome, IsIdleWithin, IsTimeOf}
 
 -- the run went on from the opened bodies and the control source, and then what was opened was given back, the control source
 -- first and then that of the stages: all of it, unless memory was wanting
 pub record WentOn (feeds : StageSpec → Option Feed) (whole : Bool) (topology : Topology) (before : History) (opened final : ℕ → Option BodySeen) (fresh : Option LineSeen) (old new : EdgesSeen) (clock clock' : ClockSeen) : Type 0 where
   pub follows : FollowsMoves topology before
   pub ended : IsTrue whole → HasCome topology before
+  pub idle : IsTrue whole → IsIdleWithin topology before
   pub time : IsTimeOf whole before clock clock'
   pub control : Option LineSeen
   pub obeyed : KeepsControlPartly topology before fresh control

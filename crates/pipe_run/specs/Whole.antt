@@ -1,5 +1,5 @@
 -- What a whole run comes to, and what a run comes to that does not begin.
-use Rattle.std.specs.Prelude.{◌≡◌, ◌⊎◌, ◌++◌, ◌∷◌, [], true, false, Bool, List, ℕ, IsTrue, Option, None}
+use Rattle.std.specs.Prelude.{◌≡◌, ◌≤◌, ◌⊎◌, ◌++◌, ◌∷◌, [], true, false, Bool, List, ℕ, IsTrue, Option, None}
 use Rattle.pipe_types.specs.Counts.{Rose}
 use Rattle.pipe_types.specs.declared.topology.StageSpec.{StageSpec}
 use Rattle.pipe_types.specs.declared.topology.Topology.{Topology}
@@ -10,6 +10,7 @@ use Rattle.pipe_edges.specs.declared.edges.EdgeKind.{EdgeKind}
 use Rattle.pipe_laws.specs.Followed.{FollowsMoves}
 use Rattle.pipe_laws.specs.Read.{HasNoControl}
 use Rattle.run_pipe.specs.Clocks.{ClockSeen, KeepsClock, KeepsClockPartly}
+use Rattle.run_pipe.specs.Idle.{HasIdleRows}
 use Rattle.edge_names.specs.Supplies.{Feed}
 use Rattle.edge_names.specs.Seen.{EdgesSeen}
 use Rattle.edge_names.specs.Controls.{run_calls}
@@ -21,17 +22,22 @@ use Rattle.pipe_run.specs.declared.run.NoRun.TheVariants.{Unopened, OutOfMemory}
 abbrev pub HasCome : Topology → History → Type 0
 HasCome topology before = (IsTrue (is_drained topology before) × (happened is_halt before ≡ false)) ⊎ ((happened is_halt before ≡ true) × (jobs_out topology before ≡ false))
 
+-- where there is an idle limit, nowhere before the drain and before a halt do more quiet answers stand in a row
+abbrev pub IsIdleWithin : Topology → History → Type 0
+IsIdleWithin topology before = 1 ≤ topology.idle_limit → HasIdleRows topology.idle_limit before
+
 -- where memory was wanting, the greatest reading may have no tick
 abbrev pub IsTimeOf : (whole : Bool) → History → (old new : ClockSeen) → Type 0
 IsTimeOf true before old new = KeepsClock before old new
 IsTimeOf false before old new = KeepsClockPartly before old new
 
 -- a run to its end, or until memory was wanting: each step of its own accord was the next move, none comes from a control
--- source where none is named, and its time is the clock's
+-- source where none is named, its rows of quiet answers keep to the idle limit, and its time is the clock's
 pub record IsRunOf (feeds : StageSpec → Option Feed) (whole : Bool) (topology : Topology) (before : History) (old new : EdgesSeen) (clock clock' : ClockSeen) : Type 0 where
   pub follows : FollowsMoves topology before
   pub control : topology.control ≡ None → HasNoControl before
   pub ended : IsTrue whole → HasCome topology before
+  pub idle : IsTrue whole → IsIdleWithin topology before
   pub outside : IsOutside feeds whole topology before old new
   pub time : IsTimeOf whole before clock clock'
   pub asks : AreAsked (run_calls feeds topology) old new

@@ -93,7 +93,7 @@ pub fn run_topology<
     ensures topology { IfOk result.run (λ run. run.core.topology ≡ topology) }
     ensures stands { IfOk result.run (λ run. Stands run.core) }
     ensures ran { IfOk result.run (λ run. IsRunOf (Q.feeds supply.now) (is_ok run.end) topology run.core.journal.steps (⟦<E as SeenEdges>⟧.seen edges.old) (⟦<E as SeenEdges>⟧.seen edges.new)
-        (clock_seen K.latest K.readings clock) (clock_seen K.latest K.readings result.clock)) }
+        (clock_seen K.latest K.readings K.pauses clock) (clock_seen K.latest K.readings K.pauses result.clock)) }
     ensures ended { IfOk result.run (λ run. IfOk run.end (HasEnded topology run.core.journal.steps)) }
     ensures boxes { IfOk result.run (λ run. AreBoxesLeft (is_ok run.end) topology run.core.journal.steps (map C.seen stock.items) (map C.seen result.stock.items)) }
     ensures failed { IfErr result.run (λ e. IfUnopened e (λ name. HasFailed (Q.feeds supply.now) topology name (⟦<E as SeenEdges>⟧.seen edges.old) (⟦<E as SeenEdges>⟧.seen edges.new))) }
@@ -141,7 +141,7 @@ fn run_bodies<
     ensures topology { IfOk result.run (λ run. run.core.topology ≡ topology) }
     ensures stands { IfOk result.run (λ run. Stands run.core) }
     ensures ran { IfOk result.run (λ run. IsRunOf (Q.feeds supply.now) (is_ok run.end) topology run.core.journal.steps (⟦<E as SeenEdges>⟧.seen edges.old) (⟦<E as SeenEdges>⟧.seen edges.new)
-        (clock_seen K.latest K.readings clock) (clock_seen K.latest K.readings result.clock)) }
+        (clock_seen K.latest K.readings K.pauses clock) (clock_seen K.latest K.readings K.pauses result.clock)) }
     ensures ended { IfOk result.run (λ run. IfOk run.end (HasEnded topology run.core.journal.steps)) }
     ensures boxes { IfOk result.run (λ run. LeavesCallbacks (is_ok run.end) topology run.core.journal.steps (body_at B.look bodies.items) (body_at B.look result.bodies.items)) }
     ensures failed { IfErr result.run (λ e. IfUnopened e (λ name. HasFailed (Q.feeds supply.now) topology name (⟦<E as SeenEdges>⟧.seen edges.old) (⟦<E as SeenEdges>⟧.seen edges.new))) }
@@ -208,7 +208,7 @@ fn run_opened<
     ensures ended { IfOk result.run.end (HasEnded core.topology result.run.core.journal.steps) }
     ensures went { WentOn (Q.feeds supply.now) (is_ok result.run.end) core.topology result.run.core.journal.steps (body_at B.look bodies.items) (body_at B.look result.bodies.items)
         (option_map (line_seen E.Source.ByteSource) control)
-        (⟦<E as SeenEdges>⟧.seen edges.old) (⟦<E as SeenEdges>⟧.seen edges.new) (clock_seen K.latest K.readings clock) (clock_seen K.latest K.readings result.clock) }
+        (⟦<E as SeenEdges>⟧.seen edges.old) (⟦<E as SeenEdges>⟧.seen edges.new) (clock_seen K.latest K.readings K.pauses clock) (clock_seen K.latest K.readings K.pauses result.clock) }
 {
     let pipe = Pipe::new(core, bodies, control, clock, NoWatch);
     let pipe = run_workers(rt, alloc, workers.max(1), pipe);

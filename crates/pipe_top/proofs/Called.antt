@@ -322,6 +322,7 @@ run_or_not_as feeds memory wanted (Some t) before call calls old middle new c x 
   wanting = x.wanting;
   outside = outside_as feeds x.whole wanted before call old.edges middle new.edges c x.outside;
   time = x.time;
+  idle = x.idle;
   boxes = x.boxes;
 }
 run_or_not_as feeds memory wanted None before call calls old middle new c x = record {

@@ -460,6 +460,7 @@ used_as feeds memory wanting so wanted before old new used = record {
   wanting = λ none. so (used.wanting none);
   outside = used.outside;
   time = used.time;
+  idle = used.idle;
   boxes = used.boxes;
 }
 

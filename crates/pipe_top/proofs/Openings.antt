@@ -101,6 +101,7 @@ ran old new shows feeding feeds wanted whole core topology before verdict fed sa
         wanting = wanting;
         outside = r.outside;
         time = r.time;
+        idle = r.idle;
         boxes = boxes;
       };
       asked_by = λ t. all_asked verdict (run_calls (feeds_of feeding wanted) wanted) old.edges.asked new.edges.asked (r.asks.asked t);

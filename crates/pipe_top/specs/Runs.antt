@@ -36,7 +36,7 @@ use Rattle.edge_names.specs.Supplies.{Feed}
 use Rattle.made_sources.specs.Records.{records_made}
 use Rattle.pipe_run.specs.Records.{ReadsRecords}
 use Rattle.pipe_run.specs.Outside.{IsOpenedInPart, IsOutside, IsUnopened}
-use Rattle.pipe_run.specs.Whole.{HasCome, IsTimeOf}
+use Rattle.pipe_run.specs.Whole.{HasCome, IsIdleWithin, IsTimeOf}
 use Rattle.pipe_top.specs.Cases.{Feeding, MadeFrom, calls_of, feeds_of, Case, NoCommand, NoTopology, TooFew, Checks, Upgrades, Runs}
 use Rattle.run_verdicts.specs.Texts.{run_text}
 use Rattle.run_verdicts.specs.Verdicts.{Adds, AddsPrefix, path_of}
@@ -157,13 +157,14 @@ pub record IsUntouched (old new : OutsideSeen) : Type 0 where
   pub clock : new.clock ≡ old.clock
   pub boxes : new.boxes ≡ old.boxes
 
--- a run read, wrote and gave back what its topology names, its time is the clock's, and its stages used the boxes; where memory
--- was wanting, in part
+-- a run read, wrote and gave back what its topology names, its time is the clock's, its rows of quiet answers keep to the idle
+-- limit, and its stages used the boxes; where memory was wanting, in part
 pub record HasUsed (feeds : StageSpec → Option Feed) (memory : Type 0) (topology : Topology) (before : History) (old new : OutsideSeen) : Type 0 where
   pub whole : Bool
   pub wanting : whole ≡ false → memory
   pub outside : IsOutside feeds whole topology before old.edges new.edges
   pub time : IsTimeOf whole before old.clock new.clock
+  pub idle : IsTrue whole → IsIdleWithin topology before
   pub boxes : AreBoxesLeft whole topology before old.boxes new.boxes
 
 -- nothing was given back

@@ -67,8 +67,8 @@ pub fn run_program<
     // What the call comes to in the case of its words, of the bytes of their topology file, and of the stock.
     ensures call { InCase (E.told edges.old) (E.named edges.old) (command_of (texts_of words.now.items)) (boxes_in (kinds_of C.seen stock.items))
         (IsCall
-        (record { edges = ⟦<E as SeenEdges>⟧.seen edges.old; clock = clock_seen K.latest K.readings clock; boxes = map C.seen stock.items })
-        (record { edges = ⟦<E as SeenEdges>⟧.seen edges.new; clock = clock_seen K.latest K.readings result.clock; boxes = map C.seen result.stock.items })
+        (record { edges = ⟦<E as SeenEdges>⟧.seen edges.old; clock = clock_seen K.latest K.readings K.pauses clock; boxes = map C.seen stock.items })
+        (record { edges = ⟦<E as SeenEdges>⟧.seen edges.new; clock = clock_seen K.latest K.readings K.pauses result.clock; boxes = map C.seen result.stock.items })
         (⟦<E::Out as SeenSink>⟧.seen out.old) (⟦<E::Out as SeenSink>⟧.seen out.new) (⟦<E::Out as SeenSink>⟧.seen err.old) (⟦<E::Out as SeenSink>⟧.seen err.new)
         (command_of (texts_of words.now.items)) result.topology result.journal.steps result.status) }
     // 7 comes only where the words are no command, which come to it unless a write failed or memory was wanting; 8 comes only
@@ -111,8 +111,8 @@ fn run_words<
     K: Clock + Send + Drop,
 >(rt: &R, alloc: Global, words: &Vec<String>, stock: Vec<C>, edges: &mut E, clock: K) -> Ran<C, K>
     ensures came { Came
-        (record { edges = ⟦<E as SeenEdges>⟧.seen edges.old; clock = clock_seen K.latest K.readings clock; boxes = map C.seen stock.items })
-        (record { edges = ⟦<E as SeenEdges>⟧.seen edges.new; clock = clock_seen K.latest K.readings result.clock; boxes = map C.seen result.stock.items })
+        (record { edges = ⟦<E as SeenEdges>⟧.seen edges.old; clock = clock_seen K.latest K.readings K.pauses clock; boxes = map C.seen stock.items })
+        (record { edges = ⟦<E as SeenEdges>⟧.seen edges.new; clock = clock_seen K.latest K.readings K.pauses result.clock; boxes = map C.seen result.stock.items })
         (command_of (texts_of words.now.items)) (boxes_in (kinds_of C.seen stock.items)) result.topology result.journal.steps result.verdict }
 {
     match read_words(alloc, words.as_slice()) {
@@ -141,8 +141,8 @@ fn run_flow<
     K: Clock + Send + Drop,
 >(rt: &R, alloc: Global, words: FlowWords<'_>, stock: Vec<C>, edges: &mut E, clock: K) -> Ran<C, K>
     ensures came { Came
-        (record { edges = ⟦<E as SeenEdges>⟧.seen edges.old; clock = clock_seen K.latest K.readings clock; boxes = map C.seen stock.items })
-        (record { edges = ⟦<E as SeenEdges>⟧.seen edges.new; clock = clock_seen K.latest K.readings result.clock; boxes = map C.seen result.stock.items })
+        (record { edges = ⟦<E as SeenEdges>⟧.seen edges.old; clock = clock_seen K.latest K.readings K.pauses clock; boxes = map C.seen stock.items })
+        (record { edges = ⟦<E as SeenEdges>⟧.seen edges.new; clock = clock_seen K.latest K.readings K.pauses result.clock; boxes = map C.seen result.stock.items })
         (Some (Flow words.entry.source.now words.entry.prefix.now)) (boxes_in (kinds_of C.seen stock.items)) result.topology result.journal.steps result.verdict }
 {
     let Ok(topology) = flow_topology(alloc, words.source, words.prefix) else {
@@ -166,8 +166,8 @@ fn check_file<E: Edges, C: Boxed, K: Clock>(
     clock: K,
 ) -> Ran<C, K>
     ensures came { (boxes : Boxes) → Came
-        (record { edges = ⟦<E as SeenEdges>⟧.seen edges.old; clock = clock_seen K.latest K.readings clock; boxes = map C.seen stock.items })
-        (record { edges = ⟦<E as SeenEdges>⟧.seen edges.new; clock = clock_seen K.latest K.readings result.clock; boxes = map C.seen result.stock.items })
+        (record { edges = ⟦<E as SeenEdges>⟧.seen edges.old; clock = clock_seen K.latest K.readings K.pauses clock; boxes = map C.seen stock.items })
+        (record { edges = ⟦<E as SeenEdges>⟧.seen edges.new; clock = clock_seen K.latest K.readings K.pauses result.clock; boxes = map C.seen result.stock.items })
         (Some (Check path.now)) boxes result.topology result.journal.steps result.verdict }
 {
     match read_named(alloc, path, edges) {
@@ -185,8 +185,8 @@ fn upgrade_file<E: Edges, C: Boxed, K: Clock>(
     clock: K,
 ) -> Ran<C, K>
     ensures came { (boxes : Boxes) → Came
-        (record { edges = ⟦<E as SeenEdges>⟧.seen edges.old; clock = clock_seen K.latest K.readings clock; boxes = map C.seen stock.items })
-        (record { edges = ⟦<E as SeenEdges>⟧.seen edges.new; clock = clock_seen K.latest K.readings result.clock; boxes = map C.seen result.stock.items })
+        (record { edges = ⟦<E as SeenEdges>⟧.seen edges.old; clock = clock_seen K.latest K.readings K.pauses clock; boxes = map C.seen stock.items })
+        (record { edges = ⟦<E as SeenEdges>⟧.seen edges.new; clock = clock_seen K.latest K.readings K.pauses result.clock; boxes = map C.seen result.stock.items })
         (Some (Upgrade path.now)) boxes result.topology result.journal.steps result.verdict }
 {
     match upgrade_named(alloc, path, edges) {
@@ -204,8 +204,8 @@ fn run_file<
     K: Clock + Send + Drop,
 >(rt: &R, alloc: Global, words: RunWords<'_>, stock: Vec<C>, edges: &mut E, clock: K) -> Ran<C, K>
     ensures came { Came
-        (record { edges = ⟦<E as SeenEdges>⟧.seen edges.old; clock = clock_seen K.latest K.readings clock; boxes = map C.seen stock.items })
-        (record { edges = ⟦<E as SeenEdges>⟧.seen edges.new; clock = clock_seen K.latest K.readings result.clock; boxes = map C.seen result.stock.items })
+        (record { edges = ⟦<E as SeenEdges>⟧.seen edges.old; clock = clock_seen K.latest K.readings K.pauses clock; boxes = map C.seen stock.items })
+        (record { edges = ⟦<E as SeenEdges>⟧.seen edges.new; clock = clock_seen K.latest K.readings K.pauses result.clock; boxes = map C.seen result.stock.items })
         (Some (Run words.entry.topology.now words.entry.workers words.entry.acks words.entry.steps)) (boxes_in (kinds_of C.seen stock.items)) result.topology result.journal.steps result.verdict }
 {
     let shows = Shows {
@@ -237,8 +237,8 @@ fn run_generated<
     K: Clock + Send + Drop,
 >(rt: &R, alloc: Global, words: GenWords<'_>, stock: Vec<C>, edges: &mut E, clock: K) -> Ran<C, K>
     ensures came { Came
-        (record { edges = ⟦<E as SeenEdges>⟧.seen edges.old; clock = clock_seen K.latest K.readings clock; boxes = map C.seen stock.items })
-        (record { edges = ⟦<E as SeenEdges>⟧.seen edges.new; clock = clock_seen K.latest K.readings result.clock; boxes = map C.seen result.stock.items })
+        (record { edges = ⟦<E as SeenEdges>⟧.seen edges.old; clock = clock_seen K.latest K.readings K.pauses clock; boxes = map C.seen stock.items })
+        (record { edges = ⟦<E as SeenEdges>⟧.seen edges.new; clock = clock_seen K.latest K.readings K.pauses result.clock; boxes = map C.seen result.stock.items })
         (Some (Gen words.entry.seed words.entry.count words.entry.topology.now)) (boxes_in (kinds_of C.seen stock.items)) result.topology result.journal.steps result.verdict }
 {
     let shows = Shows {

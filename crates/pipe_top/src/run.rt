@@ -76,8 +76,8 @@ pub(crate) fn run_or_refuse<
     requires sound { IsSound topology }
     requires fed { FeedsProducers (Q.feeds supply.now) topology }
     ensures comes { (feeding : Feeding) → IsFedBy feeding topology (Q.feeds supply.now) → ComesBy
-        (record { edges = ⟦<E as SeenEdges>⟧.seen edges.old; clock = clock_seen K.latest K.readings clock; boxes = map C.seen stock.items })
-        (record { edges = ⟦<E as SeenEdges>⟧.seen edges.new; clock = clock_seen K.latest K.readings result.clock; boxes = map C.seen result.stock.items })
+        (record { edges = ⟦<E as SeenEdges>⟧.seen edges.old; clock = clock_seen K.latest K.readings K.pauses clock; boxes = map C.seen stock.items })
+        (record { edges = ⟦<E as SeenEdges>⟧.seen edges.new; clock = clock_seen K.latest K.readings K.pauses result.clock; boxes = map C.seen result.stock.items })
         (run_case (boxes_by_kind (kinds_of C.seen stock.items)) shows feeding topology)
         (opening_calls (run_case (boxes_by_kind (kinds_of C.seen stock.items)) shows feeding topology)) result.topology result.journal.steps result.verdict }
 {
@@ -121,8 +121,8 @@ fn run_supplied<
     requires fed { FeedsProducers (Q.feeds supply.now) topology }
     requires suffices { Suffices topology (kinds_of C.seen stock.items) }
     ensures comes { (feeding : Feeding) → IsFedBy feeding topology (Q.feeds supply.now) → ComesBy
-        (record { edges = ⟦<E as SeenEdges>⟧.seen edges.old; clock = clock_seen K.latest K.readings clock; boxes = map C.seen stock.items })
-        (record { edges = ⟦<E as SeenEdges>⟧.seen edges.new; clock = clock_seen K.latest K.readings result.clock; boxes = map C.seen result.stock.items })
+        (record { edges = ⟦<E as SeenEdges>⟧.seen edges.old; clock = clock_seen K.latest K.readings K.pauses clock; boxes = map C.seen stock.items })
+        (record { edges = ⟦<E as SeenEdges>⟧.seen edges.new; clock = clock_seen K.latest K.readings K.pauses result.clock; boxes = map C.seen result.stock.items })
         (Runs shows feeding topology) (run_calls (feeds_of feeding topology) topology) result.topology result.journal.steps result.verdict }
 {
     let Ended { run, stock, clock } = run_topology::<R, E, Q, C, B, K>(

@@ -8,6 +8,7 @@ use Rattle.run_pipe.specs.Measure.{holds_left}
 use Rattle.run_pipe.proofs.Measures.{leaves_no_more, recorded_less, job_first, job_next, pause_first, pause_next}
 use Rattle.std.proofs.lemmas.Option.{none-some}
 use Rattle.std.specs.declared.alloc.AllocError.{AllocError}
+use Rattle.pipe_types.specs.Counts.{Rose}
 use Rattle.pipe_types.specs.declared.numbers.Post.{Post}
 use Rattle.pipe_types.specs.declared.topology.Topology.{Topology}
 use Rattle.pipe_types.specs.Sound.{IsSound}
@@ -23,6 +24,7 @@ use Rattle.stage_moves.proofs.Turning.{drained_at, halted_at}
 use Rattle.pipeline_turn.specs.Jobs.{AreAway}
 use Rattle.pipeline_turn.proofs.Journals.{begins_through}
 use Rattle.pipe_laws.specs.Followed.{FollowsMoves}
+use Rattle.pipe_laws.proofs.Tests.{and_left}
 use Rattle.stage_bodies.specs.Seen.{LineSeen, BodySeen}
 use Rattle.stage_bodies.specs.Jobs.{Fits}
 use Rattle.stage_bodies.specs.Posts.{place_at}
@@ -37,13 +39,14 @@ use Rattle.stage_holds.specs.Homes.{IsBack}
 use Rattle.stage_holds.specs.Holds.{AddsHold, AreHome, OutsAre, Holds}
 use Rattle.stage_holds.specs.Parts.{PartsSeen}
 use Rattle.stage_holds.specs.Rows.{KeepsRows}
-use Rattle.stage_holds.specs.Nexts.{IsByMove, HasPausedAt, job_of, post_of}
+use Rattle.stage_holds.specs.Nexts.{IsByMove, HasPausedAt, HasSlept, job_of, post_of}
 use Rattle.stage_holds.specs.Nexts as next_job
 use Rattle.stage_holds.specs.declared.holding.Next.{Next}
 use Rattle.stage_holds.specs.declared.holding.Next.TheVariants as next
 use Rattle.stage_holds.specs.declared.loads.Load.{Load}
 use Rattle.stage_holds.specs.declared.loads.Home.{Home}
 use Rattle.run_pipe.specs.Ends.{HasEnded, HasMemory}
+use Rattle.run_pipe.specs.Idle.{IsIdle}
 use Rattle.run_pipe.specs.declared.ends.RunEnd.{RunEnd}
 use Rattle.run_pipe.specs.Away.{away_in}
 use Rattle.run_pipe.specs.Whole.{IsWhole}
@@ -56,6 +59,7 @@ use Rattle.stage_workers.specs.Rounds.{IfJob, job_post}
 use Rattle.stage_workers.specs.declared.shift.Round.{Round}
 use Rattle.run_pipe.proofs.Gone.{some_same, moves, IsPlaced}
 use Rattle.run_pipe.proofs.Backs.{if_some, IsBackNow}
+use Rattle.run_pipe.proofs.Idles.{idle_on, waiting_row, paused_row}
 use Rattle.run_pipe.proofs.Outs.{outs_on, second_false}
 use Rattle.run_pipe.proofs.Homing.{Brings, backs, not_going}
 
@@ -178,6 +182,31 @@ module _ {B : Type 0} (topology : Topology) (steps : History) where
   pausing_by (Ok next.Halted) n is = absurd is
   pausing_by (Err e) n is = absurd is
 
+slept_by : {B : Type 0} (came : Came B) (pauses pauses' : ℕ) → HasSlept came pauses pauses' → HasPaused (round_of came) → Rose pauses pauses'
+slept_by (Ok (next.Job load)) pauses pauses' slept is = absurd is
+slept_by (Ok next.JobsOut) pauses pauses' slept is = absurd is
+slept_by (Ok next.Paused) pauses pauses' slept is = slept
+slept_by (Ok next.Drained) pauses pauses' slept is = absurd is
+slept_by (Ok next.Halted) pauses pauses' slept is = absurd is
+slept_by (Err e) pauses pauses' slept is = absurd is
+
+-- the rows of quiet answers, by the next move
+idle_by : {B : Type 0} (brought : Option (Home B)) (came : Came B) (topology : Topology) (old new : History) → IsSound topology → is_legal topology new ≡ true → owed topology new ≡ None → IfOk came (IsByMove topology new)
+    → AtJob came (λ load. 1 ≤ topology.idle_limit → quiet_row new < topology.idle_limit) → OnOk came (KeepsRows topology.idle_limit brought old new) → BeginsWith new old → HasMemory (end_of came) → 1 ≤ topology.idle_limit
+    → IsIdle topology.idle_limit old → IsIdle topology.idle_limit new
+idle_by brought (Ok (next.Job load)) topology old new sound legal free n row rows begins memory limit idle = idle_on topology.idle_limit brought old new begins limit rows idle (λ undrained going. row limit)
+idle_by brought (Ok next.JobsOut) topology old new sound legal free n row rows begins memory limit idle =
+    idle_on topology.idle_limit brought old new begins limit rows idle (λ undrained going. waiting_row topology new free undrained going n limit)
+idle_by brought (Ok next.Paused) topology old new sound legal free n row rows begins memory limit idle =
+    idle_on topology.idle_limit brought old new begins limit rows idle (λ undrained going. paused_row topology new sound legal n limit)
+idle_by brought (Ok next.Drained) topology old new sound legal free n row rows begins memory limit idle =
+    idle_on topology.idle_limit brought old new begins limit rows idle
+    (λ undrained going. let drained : happened is_drain new ≡ true = and_left (happened is_drain new) _ (drained_at topology new legal free (sym n)) in let wrong : false ≡ true = sym undrained ∙ drained in cc)
+idle_by brought (Ok next.Halted) topology old new sound legal free n row rows begins memory limit idle =
+    idle_on topology.idle_limit brought old new begins limit rows idle
+    (λ undrained going. let halted = halted_at topology new legal free (sym n) in let wrong : false ≡ true = sym going ∙ halted.0 in cc)
+idle_by brought (Err e) topology old new sound legal free n row rows begins memory limit idle = absurd memory
+
 cut_by : {B : Type 0} (came : Came B) → IsErr came → IsSome (end_of came)
 cut_by (Ok n) fails = let x : false ≡ true = fails in cc
 cut_by (Err e) fails = refl
@@ -231,6 +260,7 @@ pub record Held {B : Type 0} (look : B → BodySeen) (brought : Option (Home B))
   pub homes : AreHome (post_of brought) (job_of came) old.home new.home
   pub clock : (opened : ClockSeen) → KeepsClock old.steps opened old.clock → KeepsClockOn came new.steps opened new.clock
   pub control : (opened : Option LineSeen) → KeepsControl topology old.steps 0 opened old.control → KeepsControlOn came topology new.steps 0 opened new.control
+  pub slept : HasSlept came old.clock.pauses new.clock.pauses
 
 -- what the hold works on
 abbrev pub parts_of : PipeState → PartsSeen
@@ -240,8 +270,8 @@ pause_none : (topology : Topology) (steps : History) → HasPausedAt topology st
 pause_none topology steps p = subst (λ (h : History). may_pause h ≡ 0) (sym p.is) refl
 
 pub held_by : {B : Type 0} (look : B → BodySeen) (brought : Option (Home B)) (came : Came B) (old new : PipeState) → IsSound old.topology → is_legal new.topology new.steps ≡ true → owed new.topology new.steps ≡ None
-    → Holds look brought came (parts_of old) (parts_of new) → Held look brought came old.topology old new
-held_by {B} look brought came old new sound legal free h = record {
+    → Holds look brought came (parts_of old) (parts_of new) → HasSlept came old.clock.pauses new.clock.pauses → Held look brought came old.topology old new
+held_by {B} look brought came old new sound legal free h slept = record {
   sound = sound;
   legal = subst (λ (t : Topology). is_legal t new.steps ≡ true) h.topology legal;
   free = subst (λ (t : Topology). owed t new.steps ≡ None) h.topology free;
@@ -264,6 +294,7 @@ held_by {B} look brought came old new sound legal free h = record {
   homes = h.homes;
   clock = h.clock;
   control = h.control;
+  slept = slept;
 }
 
 -- the job that the worker goes away with is of a post of the topology
@@ -348,6 +379,10 @@ module _ {B : Type 0} (look : B → BodySeen) (brought : Option (Home B)) (came 
         (subst (λ (t : Topology). IfSome (end_of came) (λ end. IfOk end (HasEnded t new.steps))) (sym topology) (ended_by came old.topology new.steps held.legal held.free held.by_move));
     outs = λ memory. outs_on (post_of brought) (job_of came) old new (where_held came (OutsAre (post_of brought) (job_of came) old.steps new.steps) (subst HasMemory end memory) held.outs) moved
         (w.outs (subst HasMemory (sym going) tt));
+    idle = λ memory limit.
+        subst (λ (t : Topology). IsIdle t.idle_limit new.steps) (sym topology)
+        (idle_by brought came old.topology old.steps new.steps g.sound held.legal held.free held.by_move held.row held.rows held.adds.begins (subst HasMemory end memory) (subst (λ (t : Topology). 1 ≤ t.idle_limit) topology limit)
+        (w.idle (subst HasMemory (sym going) tt) (subst (λ (t : Topology). 1 ≤ t.idle_limit) topology limit)));
   }
 
   -- and the hold is a round
@@ -366,6 +401,7 @@ module _ {B : Type 0} (look : B → BodySeen) (brought : Option (Home B)) (came 
         whole = holds_whole w;
         waits = λ w. subst (λ (t : Topology). (move t new.steps ≡ next_move.JobsOut) × (jobs_out t new.steps ≡ true)) (sym topology) (waiting_by old.topology new.steps came held.legal held.free held.by_move (subst IsWaiting is w));
         pauses = λ p. subst (λ (t : Topology). HasPausedAt t new.steps) (sym topology) (pausing_by old.topology new.steps came held.by_move (subst HasPaused is p));
+        slept = λ p. slept_by came old.clock.pauses new.clock.pauses held.slept (subst HasPaused is p);
         cut_off = if_some brought (λ home. IsErr home.answer → IsErr came) (λ home. IsErr home.answer → IsSome new.end)
             (λ home cut fails. subst (λ (e : Option (Result RunEnd AllocError)). IsSome e) (sym end) (cut_by came (cut fails))) held.cut_off;
         one_line = held.one_line;

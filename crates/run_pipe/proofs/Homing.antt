@@ -19,7 +19,7 @@ use Rattle.stage_bodies.specs.Posts.{place_at, brings_records}
 use Rattle.stage_bodies.specs.declared.job.Answer.{Answer}
 use Rattle.body_laws.specs.Ready.{Ready}
 use Rattle.stage_moves.specs.Clocks.{ClockSeen}
-use Rattle.stage_moves.specs.Steps.{jobs_begun}
+use Rattle.stage_moves.specs.Steps.{jobs_begun, still_ticks}
 use Rattle.stage_holds.specs.Answers.{with_answered, IsAlwaysRecorded}
 use Rattle.stage_holds.specs.Homes.{IsBack}
 use Rattle.stage_holds.specs.Holds.{AddsAnswer, Comes, IsHome}
@@ -56,6 +56,7 @@ nothing_home look p w ended = record {
   whole = w;
   waits = λ w. absurd w;
   pauses = λ p. absurd p;
+  slept = λ p. absurd p;
   cut_off = tt;
   one_line = omega arith;
   row = λ going. tt;
@@ -89,18 +90,21 @@ module _ {B : Type 0} (look : B → BodySeen) (brought : Option (Home B)) (p : P
 
 -- ---- what the clock and the control source have to do with it
 
-clock_answered : (end : Option (Result RunEnd AllocError)) (a m : History) (opened clock : ClockSeen) → now m ≡ now a → jobs_begun m ≡ jobs_begun a → KeepsClockTo end a opened clock → KeepsClockTo end m opened clock
-clock_answered None a m opened clock time jobs k = record {
+clock_answered : (end : Option (Result RunEnd AllocError)) (a m : History) (opened clock : ClockSeen) → now m ≡ now a → still_ticks m ≡ still_ticks a → jobs_begun m ≡ jobs_begun a → KeepsClockTo end a opened clock → KeepsClockTo end m opened clock
+clock_answered None a m opened clock time still jobs k = record {
   latest = rw time k.latest;
   readings = rw jobs k.readings;
+  pauses = rw still k.pauses;
 }
-clock_answered (Some (Ok e)) a m opened clock time jobs k = record {
+clock_answered (Some (Ok e)) a m opened clock time still jobs k = record {
   latest = rw time k.latest;
   readings = rw jobs k.readings;
+  pauses = rw still k.pauses;
 }
-clock_answered (Some (Err e)) a m opened clock time jobs k = record {
+clock_answered (Some (Err e)) a m opened clock time still jobs k = record {
   latest = rw time k.latest;
   readings = rw jobs k.readings;
+  pauses = rw still k.pauses;
 }
 
 control_answered : (end : Option (Result RunEnd AllocError)) (topology : Topology) (a m : History) (opened lines : Option LineSeen) → AddsAnswer topology a m → KeepsControlTo end topology a opened lines → KeepsControlTo end topology m opened lines
@@ -160,6 +164,7 @@ module _ {B T F : Type 0} (look : B → BodySeen) (home : Home B) (p : PipeState
     ready = subst (λ (t : Topology). Ready t after back) (sym same) c.ready;
     ended = short_ended p.end no_memory;
     outs = λ memory. absurd (no_memory memory);
+    idle = λ memory. absurd (no_memory memory);
   }
 
   stems_on : (opened : PipeState) (seen : History) → Stems opened p → IsBrought look opened seen p.steps (Some home) → Stems opened new
@@ -173,7 +178,7 @@ module _ {B T F : Type 0} (look : B → BodySeen) (home : Home B) (p : PipeState
         keeps = on.keeps opened.home s.keeps k.back;
         only_posts = λ at was none. ⊎_elim (λ (e : option_map place_at None ≡ Some at). absurd (none_is at e))
             (λ (u : (p.home at ≡ None) × (option_map place_at (Some home.post) ≢ Some at)). s.only_posts at was u.0) ((c.homes at).0 none);
-        clock = clock_answered p.end p.steps after opened.clock p.clock c.adds_answer.same_time c.adds_answer.same_jobs s.clock;
+        clock = clock_answered p.end p.steps after opened.clock p.clock c.adds_answer.same_time c.adds_answer.same_still c.adds_answer.same_jobs s.clock;
         control = control_answered p.end opened.topology p.steps after opened.control p.control on.adds_answer s.control;
       }
 
@@ -190,6 +195,7 @@ module _ {B T F : Type 0} (look : B → BodySeen) (home : Home B) (p : PipeState
     whole = home_whole;
     waits = λ w. absurd w;
     pauses = λ p. absurd p;
+    slept = λ p. absurd p;
     cut_off = λ fails. ended;
     one_line = let e = c.adds_answer.same_controls in omega (arith, e);
     row = λ going. tt;

@@ -4,6 +4,7 @@ mod Gone
 mod InHands
 mod Backs
 mod Outs
+mod Idles
 mod Homing
 mod Going
 mod Starts

@@ -1,6 +1,6 @@
 -- What a run comes to, once nothing is away from the pipe.
-use Rattle.std.proofs.Common.{◌≡◌, ℕ, ◌<◌, List, [], true, false, arith, refl, ap, sym, ◌∙◌, subst, Option, Some, None, Result, Ok, Err, length, Contains}
-use Rattle.std.specs.Prelude.{IfSome, IsSome, IsSomeAnd, IfOk}
+use Rattle.std.proofs.Common.{◌≡◌, ℕ, ◌<◌, ◌≤◌, List, [], true, false, arith, refl, ap, sym, ◌∙◌, subst, Option, Some, None, Result, Ok, Err, length, Contains}
+use Rattle.std.specs.Prelude.{IfSome, IsSome, IsSomeAnd, IfOk, OnOk}
 use Rattle.std.specs.declared.alloc.AllocError.{AllocError}
 use Rattle.pipe_types.specs.declared.numbers.Post.{Post}
 use Rattle.pipe_types.specs.declared.topology.Topology.{Topology}
@@ -13,7 +13,8 @@ use Rattle.stage_moves.specs.Keeping.{KeepsControlOn, KeepsControlPartly}
 use Rattle.stage_moves.proofs.Kept.{kept_partly}
 use Rattle.stage_moves.specs.Clocks.{ClockSeen, KeepsClockOn, KeepsClockPartly}
 use Rattle.run_pipe.specs.declared.ends.RunEnd.{RunEnd}
-use Rattle.run_pipe.specs.Ends.{HasEnded}
+use Rattle.run_pipe.specs.Ends.{HasEnded, HasMemory}
+use Rattle.run_pipe.specs.Idle.{HasIdleRows}
 use Rattle.run_pipe.specs.Seen.{PipeState, away_of}
 use Rattle.run_pipe.specs.Stems.{Stems, KeepsClockTo, KeepsControlTo}
 use Rattle.run_pipe.specs.Whole.{IsWhole}
@@ -46,6 +47,12 @@ control_on : (end : Result RunEnd AllocError) (topology : Topology) (steps : His
 control_on (Ok e) topology steps opened lines k = k
 control_on (Err e) topology steps opened lines k = k
 
+idle_at : (opened p : PipeState) (end : Result RunEnd AllocError) → Stems opened p → IsWhole p → p.end ≡ Some end → OnOk end (1 ≤ opened.topology.idle_limit → HasIdleRows opened.topology.idle_limit p.steps)
+idle_at opened p (Ok end) s w is = λ limit.
+    subst (λ (t : Topology). HasIdleRows t.idle_limit p.steps) s.topology
+    (w.idle (subst HasMemory (sym is) tt) (subst (λ (t : Topology). 1 ≤ t.idle_limit) (sym s.topology) limit)).rows
+idle_at opened p (Err e) s w is = tt
+
 has_ended : (opened p : PipeState) (end : Result RunEnd AllocError) → Stems opened p → IsWhole p → away_of p ≡ [] → p.end ≡ Some end → HasRun opened p end
 has_ended opened p end s w none is = record {
   topology = s.topology;
@@ -55,6 +62,7 @@ has_ended opened p end s w none is = record {
   stay = all_stay opened p s none;
   clock = clock_on end p.steps opened.clock p.clock (subst (λ (e : Option (Result RunEnd AllocError)). KeepsClockTo e p.steps opened.clock p.clock) is s.clock);
   control = control_on end opened.topology p.steps opened.control p.control (subst (λ (e : Option (Result RunEnd AllocError)). KeepsControlTo e opened.topology p.steps opened.control p.control) is s.control);
+  idle = idle_at opened p end s w is;
   ended = subst (λ (t : Topology). IfOk end (HasEnded t p.steps)) s.topology (subst (λ (e : Option (Result RunEnd AllocError)). IfSome e (λ end. IfOk end (HasEnded p.topology p.steps))) is w.ended);
 }
 
@@ -68,8 +76,8 @@ has_run opened p final s r = by final.end refl r.over
 -- ---- a pipe that ends since there was no memory to go on
 
 clock_partly : (end : Option (Result RunEnd AllocError)) (steps : History) (opened clock : ClockSeen) → KeepsClockTo end steps opened clock → KeepsClockPartly steps opened clock
-clock_partly None steps opened clock k = record { latest = omega (arith, k.latest); readings = k.readings }
-clock_partly (Some (Ok e)) steps opened clock k = record { latest = omega (arith, k.latest); readings = k.readings }
+clock_partly None steps opened clock k = record { latest = omega (arith, k.latest); readings = k.readings; pauses = k.pauses }
+clock_partly (Some (Ok e)) steps opened clock k = record { latest = omega (arith, k.latest); readings = k.readings; pauses = k.pauses }
 clock_partly (Some (Err e)) steps opened clock k = k
 
 control_partly : (end : Option (Result RunEnd AllocError)) (topology : Topology) (steps : History) (opened lines : Option LineSeen) → KeepsControlTo end topology steps opened lines → KeepsControlPartly topology steps opened lines
@@ -81,7 +89,7 @@ abbrev pub short_of : PipeState → AllocError → PipeState
 short_of p error = record p { end = Some (Err error) }
 
 pub short_whole : (p : PipeState) (error : AllocError) → IsWhole p → IsWhole (short_of p error)
-short_whole p error w = record { follows = w.follows; ready = w.ready; ended = tt; outs = λ memory. absurd memory }
+short_whole p error w = record { follows = w.follows; ready = w.ready; ended = tt; outs = λ memory. absurd memory; idle = λ memory. absurd memory }
 
 pub short_ran : (p : PipeState) (error : AllocError) → IsWhole p → away_of p ≡ [] → RanToEnd p (short_of p error)
 short_ran p error w none = record {

@@ -17,6 +17,7 @@ use Rattle.stage_moves.specs.Keeping.{IsFresh, KeepsControl}
 use Rattle.stage_moves.proofs.Kept.{fresh_control}
 use Rattle.stage_moves.specs.Clocks.{ClockSeen, KeepsClock}
 use Rattle.run_pipe.specs.Away.{post_at, is_gone, away_in}
+use Rattle.run_pipe.specs.Idle.{IsIdle}
 use Rattle.run_pipe.specs.Seen.{PipeState, away_of}
 use Rattle.run_pipe.specs.Stems.{Stems}
 use Rattle.run_pipe.specs.Whole.{IsWhole}
@@ -35,10 +36,11 @@ first_whole p u = record {
   ready = subst (λ (h : History). Ready p.topology h p.home) (sym u.empty) u.filled.ready;
   ended = rw u.going tt;
   outs = λ memory q out. let x : false ≡ true = subst (λ (h : History). is_out h q ≡ true) u.empty out in cc;
+  idle = λ memory limit. subst (λ (h : History). IsIdle p.topology.idle_limit h) (sym u.empty) (record { rows = tt; below = λ undrained going. limit });
 }
 
 clock_starts : (clock : ClockSeen) → KeepsClock [] clock clock
-clock_starts clock = record { latest = omega arith; readings = rise_none clock.readings }
+clock_starts clock = record { latest = omega arith; readings = rise_none clock.readings; pauses = rise_none clock.pauses }
 
 not_none : {A : Type 0} (o : Option A) (B : Type 0) → IsSome o → o ≡ None → B
 not_none None B some e = let x : false ≡ true = some in cc

@@ -1,5 +1,6 @@
 pub mod Away
 pub mod Ends
+pub mod Idle
 pub mod Seen
 pub mod Parts
 pub mod Whole

@@ -1,5 +1,5 @@
 -- What a run of a pipe comes to.
-use Rattle.std.specs.Prelude.{◌≡◌, ℕ, [], None, IsSome, IfOk, Result}
+use Rattle.std.specs.Prelude.{◌≡◌, ◌≤◌, ℕ, [], None, IsSome, IfOk, OnOk, Result}
 use Rattle.std.specs.declared.alloc.AllocError.{AllocError}
 use Rattle.pipe_model.specs.Begins.{BeginsWith}
 use Rattle.pipe_laws.specs.Followed.{FollowsMoves}
@@ -9,6 +9,7 @@ use Rattle.stage_moves.specs.Clocks.{KeepsClockOn}
 use Rattle.run_pipe.specs.declared.ends.RunEnd.{RunEnd}
 use Rattle.stage_holds.specs.Rows.{RowsWithin}
 use Rattle.run_pipe.specs.Ends.{HasEnded, HasMemory}
+use Rattle.run_pipe.specs.Idle.{HasIdleRows}
 use Rattle.run_pipe.specs.Seen.{PipeState, away_of}
 use Rattle.run_pipe.specs.Stems.{Stems}
 use Rattle.run_pipe.specs.Whole.{IsWhole}
@@ -26,7 +27,8 @@ abbrev pub IsIdleWithin : (old new : PipeState) → Type 0
 IsIdleWithin old new = old.end ≡ None → HasMemory new.end → RowsWithin new.topology.idle_limit old.steps → RowsWithin new.topology.idle_limit new.steps
 
 -- steps were added, each of the pipeline's own as the next move when it came; the bodies, the control source and the clock stand where the
--- journal leaves them; each body that was at home is; and the run ended as it says
+-- journal leaves them; each body that was at home is; where there is an idle limit, the rows of quiet answers keep to it up to the drain;
+-- and the run ended as it says
 pub record HasRun (opened final : PipeState) (end : Result RunEnd AllocError) : Type 0 where
   pub topology : final.topology ≡ opened.topology
   pub begins : BeginsWith final.steps opened.steps
@@ -35,4 +37,5 @@ pub record HasRun (opened final : PipeState) (end : Result RunEnd AllocError) : 
   pub stay : (at : ℕ) → IsSome (opened.home at) → IsSome (final.home at)
   pub clock : KeepsClockOn end final.steps opened.clock final.clock
   pub control : KeepsControlOn end opened.topology final.steps 0 opened.control final.control
+  pub idle : OnOk end (1 ≤ opened.topology.idle_limit → HasIdleRows opened.topology.idle_limit final.steps)
   pub ended : IfOk end (HasEnded opened.topology final.steps)

@@ -1,5 +1,5 @@
 -- What is true of every pipe.
-use Rattle.std.specs.Prelude.{◌≡◌, true, IfSome, IfOk, Contains}
+use Rattle.std.specs.Prelude.{◌≡◌, ◌≤◌, true, IfSome, IfOk, Contains}
 use Rattle.pipe_types.specs.declared.numbers.Post.{Post}
 use Rattle.pipe_model.specs.Posts.{is_out}
 use Rattle.pipe_laws.specs.Followed.{FollowsMoves}
@@ -7,15 +7,17 @@ use Rattle.body_laws.specs.Ready.{Ready}
 use Rattle.core_state.specs.Stands.{Stands}
 use Rattle.core_state.specs.declared.state.Core.{Core}
 use Rattle.run_pipe.specs.Ends.{HasEnded, HasMemory}
+use Rattle.run_pipe.specs.Idle.{IsIdle}
 use Rattle.run_pipe.specs.Seen.{PipeState, away_of}
 
 -- each step of its own accord was the next move; the bodies at home are ready; it has ended as it says; and a post that is out is
--- away, unless memory was wanting
+-- away, and the rows of quiet answers keep to the idle limit, unless memory was wanting
 pub record IsWhole (p : PipeState) : Type 0 where
   pub follows : FollowsMoves p.topology p.steps
   pub ready : Ready p.topology p.steps p.home
   pub ended : IfSome p.end (λ end. IfOk end (HasEnded p.topology p.steps))
   pub outs : HasMemory p.end → (q : Post) → is_out p.steps q ≡ true → Contains (away_of p) q
+  pub idle : HasMemory p.end → 1 ≤ p.topology.idle_limit → IsIdle p.topology.idle_limit p.steps
 
 -- and its core stands
 pub record IsPipe (core : Core) (p : PipeState) : Type 0 where

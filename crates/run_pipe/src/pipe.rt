@@ -37,9 +37,9 @@ pub struct Pipe<B: Works, S: ByteSource, C: Clock, W: Watch> {
 impl<B: Works, S: ByteSource, C: Clock, W: Watch> Model for Pipe<B, S, C, W> {
     ghost Value = { PipeSeen };
 
-    ghost view = { λ p. record { topology = p.core.topology; steps = p.core.journal.steps; bodies = map (option_map B.look) p.bodies.items; control = option_map (line_seen S.ByteSource) p.control; clock = clock_seen C.latest C.readings p.clock; end = p.end } };
+    ghost view = { λ p. record { topology = p.core.topology; steps = p.core.journal.steps; bodies = map (option_map B.look) p.bodies.items; control = option_map (line_seen S.ByteSource) p.control; clock = clock_seen C.latest C.readings C.pauses p.clock; end = p.end } };
 
-    ghost invariant = { λ p. IsPipe p.core (state_by B.look (line_seen S.ByteSource) (clock_seen C.latest C.readings) p.core p.bodies.items p.control p.clock p.end) };
+    ghost invariant = { λ p. IsPipe p.core (state_by B.look (line_seen S.ByteSource) (clock_seen C.latest C.readings C.pauses) p.core p.bodies.items p.control p.clock p.end) };
 }
 
 impl<B: Works, S: ByteSource, C: Clock, W: Watch> Held for Pipe<B, S, C, W> {
@@ -87,7 +87,7 @@ impl<B: Works, S: ByteSource, C: Clock, W: Watch> Pipe<B, S, C, W> {
         requires empty { core.journal.steps ≡ [] }
         requires filled { IsFilled core.topology (body_at B.look bodies.items) }
         requires fresh { IfSome (option_map (line_seen S.ByteSource) control) IsFresh }
-        ensures made { state_of result ≡ state_by B.look (line_seen S.ByteSource) (clock_seen C.latest C.readings) core bodies.items control clock None }
+        ensures made { state_of result ≡ state_by B.look (line_seen S.ByteSource) (clock_seen C.latest C.readings C.pauses) core bodies.items control clock None }
         ensures stems { Stems (state_of result) (state_of result) }
         ensures none_away { away_of (state_of result) ≡ [] }
     {
@@ -105,7 +105,7 @@ impl<B: Works, S: ByteSource, C: Clock, W: Watch> Pipe<B, S, C, W> {
     pub fn into_parts(self) -> PipeParts<B, S, C, W>
         ensures stands { Stands result.core }
         ensures whole { IsWhole (state_of self) }
-        ensures parts { state_of self ≡ state_by B.look (line_seen S.ByteSource) (clock_seen C.latest C.readings) result.core result.bodies.items result.control result.clock result.end }
+        ensures parts { state_of self ≡ state_by B.look (line_seen S.ByteSource) (clock_seen C.latest C.readings C.pauses) result.core result.bodies.items result.control result.clock result.end }
     {
         let Pipe {
             core,

@@ -7,7 +7,7 @@ ghost use Rattle.pipe_model.specs.Posts.{is_out};
 ghost use Rattle.pipeline_turn.specs.Jobs.{IsUndone, IsUnanswered, IsOwnJob, AreAway};
 ghost use Rattle.pipe_model.specs.History.{History};
 ghost use Rattle.run_pipe.specs.Jobs.{IsLoadOf, IsHomeOf, IsBrought};
-ghost use Rattle.run_pipe.specs.Rounded.{Rounded};
+ghost use Rattle.run_pipe.specs.Rounded.{Rounded, IsRecorded};
 ghost use Rattle.run_pipe.specs.Rounds.{round_of, end_of};
 ghost use Rattle.run_pipe.specs.Seen.{PipeSeen, PipeState, state_of, away_of};
 ghost use Rattle.run_pipe.specs.Stems.{Stems};
@@ -36,8 +36,10 @@ impl<B: Works, S: ByteSource, C: Clock, W: Watch> Shift for Pipe<B, S, C, W> {
 
     ghost is_home_of = { λ o steps home. IsHomeOf B.look (state_of o) steps home };
 
+    ghost is_recorded = { λ old new home. IsRecorded (state_of old) (state_of new) home };
+
     fn post(load: &Load<B>) -> Post {
-        load.job.post
+        load.post()
     }
 
     fn round(&mut self, brought: Option<Home<B>>) -> Round<Load<B>>
@@ -50,6 +52,7 @@ impl<B: Works, S: ByteSource, C: Clock, W: Watch> Shift for Pipe<B, S, C, W> {
         ensures others_unanswered { (post : PostSeen) → is_out self.old.steps post ≡ true → brought_post (λ home. home.post) brought ≢ Some post → IsUnanswered self.new.steps self.old.steps post }
         ensures own_job { IfSome (job_post (λ load. load.job.post) result) (λ post. IsOwnJob (brought_post (λ home. home.post) brought) self.old.steps self.new.steps post) }
         ensures away { AreAway (brought_post (λ home. home.post) brought) (job_post (λ load. load.job.post) result) (away_of (state_of self.old)) (away_of (state_of self.new)) }
+        ensures recorded { IfSome brought (λ home. IsRecorded (state_of self.old) (state_of self.new) home) }
     {
         self.hold(brought)
     }

@@ -23,14 +23,14 @@ use Rattle.body_laws.specs.Lates.{late_step}
 use Rattle.body_laws.specs.Ready.{Ready}
 use Rattle.body_laws.proofs.Laws.{silent_keeps, silent_ready, names_slot, NamesSlot, answers_only}
 use Rattle.body_laws.proofs.Posts.{same_post-true, out_has_post, no_post_of_control}
-use Rattle.core_jobs.specs.Recorded.{with_answer}
-use Rattle.stage_moves.specs.Steps.{jobs_begun}
+use Rattle.stage_moves.specs.Recorded.{with_answer}
+use Rattle.stage_moves.specs.Steps.{jobs_begun, still_ticks}
 use Rattle.job_laws.specs.Away.{IsAway, IsAnswerTo, is_from_live}
 use Rattle.job_laws.proofs.Away.{home_ready, unrecorded_home, cut_home, live_home, live_home_ready, late_home, late_home_ready, live_recorded, late_recorded}
 use Rattle.stage_moves.proofs.Controls.{IsOther, other_step, other_step_partly, other_count}
 use Rattle.stage_moves.proofs.Goings.{silent_one}
 use Rattle.stage_moves.proofs.Results.{by_result}
-use Rattle.stage_moves.proofs.Answering.{with_cases, none_more, answer_next, answer_begins, answer_time, answer_other}
+use Rattle.stage_moves.proofs.Answering.{with_cases, none_more, answer_next, answer_begins, answer_time, answer_still, answer_other}
 use Rattle.stage_holds.specs.Answers.{is_in_time, answer_step, with_answered}
 use Rattle.stage_holds.specs.Homes.{IsBack}
 use Rattle.stage_holds.specs.Holds.{AddsHold, AddsAnswer}
@@ -64,7 +64,7 @@ table_at : (home back : ℕ → Option BodySeen) (body : BodySeen) (p : Post) (j
 table_at home back body p job e t = subst (λ q. Table q body home back) e t
 
 pub no_answer : (topology : Topology) (h : History) → AddsAnswer topology h h
-no_answer topology h = record { same_time = refl; same_jobs = refl; same_controls = refl; control = λ jobs opened lines k. k; control_partly = λ opened lines k. k }
+no_answer topology h = record { same_time = refl; same_still = refl; same_jobs = refl; same_controls = refl; control = λ jobs opened lines k. k; control_partly = λ opened lines k. k }
 
 -- no step was added
 pub unrecorded : {E : Type 0} (topology : Topology) (h : History) (home back : ℕ → Option BodySeen) (p : Post) (answer : Result Answer E) (body : BodySeen) (opened : Option BodySeen)
@@ -84,15 +84,16 @@ unrecorded {E = E} topology h home back p answer body opened sound ready b bring
 -- ---- a step that the answer owes
 
 owed_too : {E : Type 0} (topology : Topology) (h : History) (home back : ℕ → Option BodySeen) (p : Post) (answer : Result Answer E) (body : BodySeen) (step : Step) (after : History) → IsSound topology → is_legal topology (step ∷ after) ≡ true
-    → is_silent step ≡ true → ((q : Post) → (puts_out step q ≡ false) × (answers step q ≡ false)) → IsOther step → now (step ∷ after) ≡ now after → jobs_begun (step ∷ after) ≡ jobs_begun after → IsNextMove topology after step
+    → is_silent step ≡ true → ((q : Post) → (puts_out step q ≡ false) × (answers step q ≡ false)) → IsOther step → now (step ∷ after) ≡ now after → still_ticks (step ∷ after) ≡ still_ticks after → jobs_begun (step ∷ after) ≡ jobs_begun after → IsNextMove topology after step
     → Returned topology h home p answer body after back → Returned topology h home p answer body (step ∷ after) back
-owed_too topology h home back p answer body step after sound legal silent posts other time jobs next c = record {
+owed_too topology h home back p answer body step after sound legal silent posts other time still jobs next c = record {
   follows = λ f. (c.follows f, next);
   ready = silent_ready topology after step back sound legal silent c.ready;
   keeps = λ all k b. silent_keeps topology after step all back sound legal silent (c.keeps all k b);
   adds = holds_then (Some p) None h after (step ∷ after) c.adds (silently_hold after (step ∷ after) (silent_one after step posts));
   adds_answer = record {
     same_time = time ∙ c.adds_answer.same_time;
+    same_still = still ∙ c.adds_answer.same_still;
     same_jobs = jobs ∙ c.adds_answer.same_jobs;
     same_controls = other_count after step other ∙ c.adds_answer.same_controls;
     control = λ n opened lines k. other_step topology after step n opened lines other (c.adds_answer.control n opened lines k);
@@ -120,6 +121,7 @@ live_first {E = E} topology h home back p answer body opened sound before ready 
       (λ q e. answers_only answer.post q answer.outcome (subst (λ r. NamesSlot r answer.outcome) (sym same) (names_slot topology h b.job.post b.job.work answer.outcome b.old body b.away.work b.outcome.1)) e ∙ same ∙ sym b.post);
   adds_answer = record {
     same_time = answer_time h answer.post answer.outcome;
+    same_still = answer_still h answer.post answer.outcome;
     same_jobs = answer_begins h answer.post answer.outcome;
     same_controls = other_count h (step_of answer.post answer.outcome) (answer_other answer.post answer.outcome low);
     control = λ n source lines k. other_step topology h (step_of answer.post answer.outcome) n source lines (answer_other answer.post answer.outcome low) k;
@@ -154,6 +156,7 @@ late_first {E = E} topology h home back p answer body opened sound before ready 
   adds = answers_one p h (late_step answer.post answer.incarnation answer.outcome) (λ q e. same_post-true q answer.post e ∙ same ∙ sym b.post);
   adds_answer = record {
     same_time = refl;
+    same_still = refl;
     same_jobs = none_more (jobs_begun h);
     same_controls = other_count h (late_step answer.post answer.incarnation answer.outcome) (late_other answer.post answer.incarnation answer.outcome low);
     control = λ n source lines k. other_step topology h (late_step answer.post answer.incarnation answer.outcome) n source lines (late_other answer.post answer.incarnation answer.outcome low) k;
@@ -183,8 +186,8 @@ recorded {E = E} topology h home back p answer body opened sound before ready b 
     by_time true e l =
         subst goal (sym (rw e refl))
         (with_cases topology h answer.post answer.outcome goal l (λ k. live_first topology h home back p answer body opened sound before ready b table e k)
-        (λ s after k owes c. owed_too topology h home back p (Ok answer) body (Dispatch s) after sound k refl (λ q. (refl, refl)) (record { control = refl; ends = refl; jobless = refl }) refl (none_more (jobs_begun after)) (inl owes) c)
-        (λ s after k c. owed_too topology h home back p (Ok answer) body (Kill s Crash) after sound k refl (λ q. (refl, refl)) (record { control = refl; ends = refl; jobless = refl }) refl (none_more (jobs_begun after)) tt c))
+        (λ s after k owes c. owed_too topology h home back p (Ok answer) body (Dispatch s) after sound k refl (λ q. (refl, refl)) (record { control = refl; ends = refl; jobless = refl }) refl refl (none_more (jobs_begun after)) (inl owes) c)
+        (λ s after k c. owed_too topology h home back p (Ok answer) body (Kill s Crash) after sound k refl (λ q. (refl, refl)) (record { control = refl; ends = refl; jobless = refl }) refl refl (none_more (jobs_begun after)) tt c))
     by_time false e l = subst goal (sym (rw e refl)) (late_first topology h home back p answer body opened sound before ready b table l)
 
 both_err : {T E : Type 0} (r : Result T E) (A B : Type 0) → OnErr r A → OnErr r B → OnErr r (A × B)

@@ -23,7 +23,7 @@ use Rattle.body_laws.specs.Keeps.{Keeps}
 use Rattle.body_laws.specs.Ready.{Ready, There, IsBodyAt}
 use Rattle.body_laws.proofs.Jobs.{begun_ready, ready_fits}
 use Rattle.body_laws.proofs.Laws.{silent_keeps, silent_ready, away_keeps, away_ready}
-use Rattle.core_jobs.specs.Begun.{IsBegun}
+use Rattle.stage_moves.specs.Begun.{IsBegun}
 use Rattle.stage_moves.specs.Steps.{jobs_begun}
 use Rattle.stage_moves.proofs.Kept.{job_keeps}
 use Rattle.job_laws.specs.Away.{IsAway}
@@ -141,7 +141,7 @@ module _ {topology : Topology} {before after : History} {home away : ℕ → Opt
   pub goes_within : Within topology 1 before after
   goes_within =
       subst (λ h. Within topology 1 before h) (sym g.began.is)
-      (record { same_time = g.began.same_time; begun = few _ (jobs_begun before) g.began.begun; control = λ opened lines k. job_keeps topology before g.began.step opened lines g.began.job k; same_controls = job_count before g.began.step g.began.job })
+      (record { same_time = g.began.same_time; same_still = g.began.same_still; begun = few _ (jobs_begun before) g.began.begun; control = λ opened lines k. job_keeps topology before g.began.step opened lines g.began.job k; same_controls = job_count before g.began.step g.began.job })
     where
       few : (x y : ℕ) → x ≡ 1 + y → x ≤ y + 1
       few x y e = omega (arith, e)

@@ -13,13 +13,12 @@ ghost use Rattle.stage_holds.specs.Parts.{parts_by};
 use crate::homes::come_home;
 use crate::leaves::leave;
 use crate::loads::{Home, Load};
-use core_moves::moves::Move;
 use core_rows::jobs::is_halted;
 use core_rows::posts::is_any_out;
 use core_state::Core;
 use pipe_edges::{ByteSource, Clock, LineSource};
 use stage_bodies::Works;
-use stage_moves::{advance, pause};
+use stage_moves::{Move, advance, pause};
 use std::alloc::AllocError;
 
 /// How a worker goes on behind a hold.
@@ -51,8 +50,8 @@ pub fn hold<B: Works, S: ByteSource, C: Clock>(
     requires ready { Ready core.old.topology core.old.journal.steps (body_at B.look bodies.old.items) }
     requires brought { IfSome brought (IsHome B.look core.old.topology core.old.journal.steps (length bodies.old.items)) }
     ensures stands { Stands core.new }
-    ensures holds { Holds B.look brought result (parts_by B.look (line_seen S.ByteSource) (clock_seen C.latest C.readings) core.old bodies.old.items control.old clock.old)
-        (parts_by B.look (line_seen S.ByteSource) (clock_seen C.latest C.readings) core.new bodies.new.items control.new clock.new) }
+    ensures holds { Holds B.look brought result (parts_by B.look (line_seen S.ByteSource) (clock_seen C.latest C.readings C.pauses) core.old bodies.old.items control.old clock.old)
+        (parts_by B.look (line_seen S.ByteSource) (clock_seen C.latest C.readings C.pauses) core.new bodies.new.items control.new clock.new) }
     // It answers that time has passed only behind a pause of the clock.
     ensures slept { HasSlept result (C.pauses clock.old) (C.pauses clock.new) }
 {
@@ -75,8 +74,8 @@ fn set_out<B: Works, S: ByteSource, C: Clock>(
     requires stands { Stands core.old }
     requires ready { Ready core.old.topology core.old.journal.steps (body_at B.look bodies.old.items) }
     ensures stands { Stands core.new }
-    ensures holds { Holds B.look None result (parts_by B.look (line_seen S.ByteSource) (clock_seen C.latest C.readings) core.old bodies.old.items control.old clock.old)
-        (parts_by B.look (line_seen S.ByteSource) (clock_seen C.latest C.readings) core.new bodies.new.items control.new clock.new) }
+    ensures holds { Holds B.look None result (parts_by B.look (line_seen S.ByteSource) (clock_seen C.latest C.readings C.pauses) core.old bodies.old.items control.old clock.old)
+        (parts_by B.look (line_seen S.ByteSource) (clock_seen C.latest C.readings C.pauses) core.new bodies.new.items control.new clock.new) }
     ensures slept { HasSlept result (C.pauses clock.old) (C.pauses clock.new) }
 {
     if is_halted(core) {

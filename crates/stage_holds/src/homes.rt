@@ -11,7 +11,7 @@ ghost use Rattle.stage_holds.specs.Answers.{is_in_time, answer_step, with_answer
 ghost use Rattle.stage_holds.specs.Holds.{Comes, IsHome};
 
 use crate::loads::Home;
-use core_jobs::record_answer;
+use stage_moves::record_answer;
 use core_lates::late;
 use core_state::Core;
 use pipe_types::step::LateAnswer;

@@ -11,7 +11,7 @@ ghost use Rattle.body_laws.specs.Ready.{Ready};
 ghost use Rattle.stage_holds.specs.Holds.{LeavesOn};
 
 use crate::loads::Load;
-use core_jobs::begin_job;
+use stage_moves::begin_job;
 use core_state::Core;
 use pipe_types::numbers::StageNo;
 use stage_bodies::{Work, Works, place_of, take_out};

@@ -15,7 +15,7 @@ use Rattle.stage_bodies.specs.Posts.{step_of, is_crashed_end}
 use Rattle.stage_bodies.specs.declared.job.Outcome.{Outcome as Came}
 use Rattle.stage_bodies.specs.declared.job.Outcome.TheVariants as came
 use Rattle.core_jobs.specs.Recorded.{with_answer}
-use Rattle.control_lines.specs.Steps.{jobs_begun}
+use Rattle.control_lines.specs.Steps.{jobs_begun, still_ticks}
 use Rattle.stage_moves.proofs.Controls.{IsOther}
 
 pub with_cases : (topology : Topology) (before : History) (p : Post) (o : Came) (P : History → Type 0) → is_legal topology (with_answer topology before p o) ≡ true
@@ -70,6 +70,14 @@ answer_time before p (came.Ended how) = refl
 answer_time before p (came.Replies replies) = refl
 answer_time before p (came.Wrote bytes end) = refl
 answer_time before p (came.Reply reply) = refl
+
+pub answer_still : (before : History) (p : Post) (o : Came) → still_ticks (step_of p o ∷ before) ≡ still_ticks before
+answer_still before p (came.Records records) = refl
+answer_still before p came.NotYet = refl
+answer_still before p (came.Ended how) = refl
+answer_still before p (came.Replies replies) = refl
+answer_still before p (came.Wrote bytes end) = refl
+answer_still before p (came.Reply reply) = refl
 
 pub answer_other : (p : Post) (o : Came) → 1 ≤ p.stage.0 → IsOther (step_of p o)
 answer_other p (came.Records records) low = record { control = refl; ends = refl; jobless = refl }

@@ -53,14 +53,15 @@ goes_then topology a b c x y z p q =
     record { follows = λ f. q.follows (p.follows f); keeps = λ opened k. q.keeps opened (p.keeps opened k); bodies = λ at here. q.bodies at (p.bodies at here); callbacks = λ at here. q.callbacks at (p.callbacks at here) }
 
 pub within_same : (topology : Topology) (before : History) → Within topology 0 before before
-within_same topology before = record { same_time = refl; begun = omega arith; control = λ opened lines k. k; same_controls = refl }
+within_same topology before = record { same_time = refl; same_still = refl; begun = omega arith; control = λ opened lines k. k; same_controls = refl }
 
 pub within_none : (topology : Topology) (before : History) → Within topology 1 before before
-within_none topology before = record { same_time = refl; begun = omega arith; control = λ opened lines k. jobless_keeps topology before opened lines k; same_controls = refl }
+within_none topology before = record { same_time = refl; same_still = refl; begun = omega arith; control = λ opened lines k. jobless_keeps topology before opened lines k; same_controls = refl }
 
 within_then : (topology : Topology) (a b c : History) → Within topology 0 a b → Within topology 0 b c → Within topology 0 a c
 within_then topology a b c p q = record {
   same_time = q.same_time ∙ p.same_time;
+  same_still = q.same_still ∙ p.same_still;
   begun = let x = p.begun in let y = q.begun in omega (arith, x, y);
   control = λ opened lines k. q.control opened lines (p.control opened lines k);
   same_controls = q.same_controls ∙ p.same_controls;
@@ -89,6 +90,7 @@ within_step topology before step next =
     let same = named_time before step named in
     record {
       same_time = same.0;
+      same_still = same.2;
       begun = let e = same.1 in omega (arith, e);
       control = λ opened lines k. other_step topology before step 1 opened lines other k;
       same_controls = other_count before step other;

@@ -14,7 +14,7 @@ use Rattle.pipe_laws.specs.Followed.{IsNextMove}
 use Rattle.work_laws.specs.Work.{is_work}
 use Rattle.body_laws.specs.Keeps.{is_silent}
 use Rattle.core_jobs.specs.Steps.{is_own_step}
-use Rattle.control_lines.specs.Steps.{jobs_begun}
+use Rattle.control_lines.specs.Steps.{jobs_begun, still_ticks}
 use Rattle.stage_moves.proofs.Moves.{is_named}
 use Rattle.stage_moves.proofs.Controls.{IsOther}
 
@@ -82,16 +82,16 @@ named_other step h = cc
 none_more : (n : ℕ) → 0 + n ≡ n
 none_more n = omega arith
 
-pub named_time : (before : History) (step : Step) → is_named step ≡ true → (now (step ∷ before) ≡ now before) × (jobs_begun (step ∷ before) ≡ jobs_begun before)
-named_time before (Ask u n) h = (refl, none_more (jobs_begun before))
-named_time before (Dispatch s) h = (refl, none_more (jobs_begun before))
-named_time before (Gather s m) h = (refl, none_more (jobs_begun before))
-named_time before (Close s first trigger) h = (refl, none_more (jobs_begun before))
-named_time before (Restart s) h = (refl, none_more (jobs_begun before))
-named_time before (Drain Sources) h = (refl, none_more (jobs_begun before))
-named_time before (Drain Limit) h = (refl, none_more (jobs_begun before))
-named_time before (Drain Idle) h = (refl, none_more (jobs_begun before))
-named_time before Halt h = (refl, none_more (jobs_begun before))
+pub named_time : (before : History) (step : Step) → is_named step ≡ true → (now (step ∷ before) ≡ now before) × (jobs_begun (step ∷ before) ≡ jobs_begun before) × (still_ticks (step ∷ before) ≡ still_ticks before)
+named_time before (Ask u n) h = (refl, none_more (jobs_begun before), refl)
+named_time before (Dispatch s) h = (refl, none_more (jobs_begun before), refl)
+named_time before (Gather s m) h = (refl, none_more (jobs_begun before), refl)
+named_time before (Close s first trigger) h = (refl, none_more (jobs_begun before), refl)
+named_time before (Restart s) h = (refl, none_more (jobs_begun before), refl)
+named_time before (Drain Sources) h = (refl, none_more (jobs_begun before), refl)
+named_time before (Drain Limit) h = (refl, none_more (jobs_begun before), refl)
+named_time before (Drain Idle) h = (refl, none_more (jobs_begun before), refl)
+named_time before Halt h = (refl, none_more (jobs_begun before), refl)
 named_time before step h = cc
 
 pub named_out : (topology : Topology) (before : History) (step : Step) → is_named step ≡ true → jobs_out topology (step ∷ before) ≡ jobs_out topology before

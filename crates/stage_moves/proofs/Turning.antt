@@ -119,13 +119,13 @@ on_progress topology m n b home back l q = less_or_same topology m n b l.progres
 
 pub on_clock : (topology : Topology) (a m n b : History) (opened before after : ClockSeen) → HasRead a m before after → LeavesAtRest topology m n → Within topology 0 n b → KeepsClock a opened before → KeepsClockAhead b opened after
 on_clock topology a m n b opened before after read l p k =
-    read_ahead a m b opened before after k read (p.same_time ∙ l.same_time) (few (jobs_begun b) (jobs_begun n) (jobs_begun a) p.begun (l.same_jobs ∙ ticks_begin_none a m before after read))
+    read_ahead a m b opened before after k read (p.same_time ∙ l.same_time) (p.same_still ∙ l.same_still) (few (jobs_begun b) (jobs_begun n) (jobs_begun a) p.begun (l.same_jobs ∙ ticks_begin_none a m before after read))
   where
     few : (x y z : ℕ) → x ≤ y + 0 → y ≡ z → x ≤ z
     few x y z h e = omega (arith, h, e)
 
 pub worked_clock : (topology : Topology) (b c : History) (opened clock : ClockSeen) → KeepsClockAhead b opened clock → Within topology 1 b c → KeepsClock c opened clock
-worked_clock topology b c opened clock k w = ahead_then b c opened clock k w.same_time w.begun
+worked_clock topology b c opened clock k w = ahead_then b c opened clock k w.same_time w.same_still w.begun
 
 -- ---- rounds that are left
 

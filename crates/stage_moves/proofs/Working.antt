@@ -23,7 +23,7 @@ use Rattle.stage_bodies.specs.declared.job.Job.{Job}
 use Rattle.body_laws.specs.Keeps.{is_silent}
 use Rattle.body_laws.proofs.Posts.{same_post-self, same_post-true}
 use Rattle.core_jobs.specs.Begun.{IsBegun, fetched, taken, started}
-use Rattle.control_lines.specs.Steps.{begins, jobs_begun}
+use Rattle.control_lines.specs.Steps.{begins, jobs_begun, still_ticks}
 
 -- the step that began the job of a post
 pub record Began (topology : Topology) (before after : History) (p : Post) : Type 0 where
@@ -33,6 +33,7 @@ pub record Began (topology : Topology) (before after : History) (p : Post) : Typ
   pub next : IsNextMove topology before step
   pub silent : is_silent step ≡ true
   pub same_time : now (step ∷ before) ≡ now before
+  pub same_still : still_ticks (step ∷ before) ≡ still_ticks before
   pub begun : jobs_begun (step ∷ before) ≡ 1 + jobs_begun before
   pub job : begins step ≡ true
   pub left : work_left topology (step ∷ before) ≤ work_left topology before
@@ -62,6 +63,7 @@ began topology before after s job sound legal free first (fetched p e) =
       next = first;
       silent = refl;
       same_time = refl;
+      same_still = refl;
       begun = refl;
       job = refl;
       left = same_left (fetch_keeps topology before s (bound topology before s));
@@ -78,6 +80,7 @@ began topology before after s job sound legal free first (taken u k p t e) =
       next = first;
       silent = refl;
       same_time = refl;
+      same_still = refl;
       begun = refl;
       job = refl;
       left = below (work_lowers topology before (Take s u k) sound (subst (λ h. is_legal topology h ≡ true) e legal) refl);
@@ -94,6 +97,7 @@ began topology before after s job sound legal free first (started slot p e) =
       next = first;
       silent = refl;
       same_time = refl;
+      same_still = refl;
       begun = refl;
       job = refl;
       left = below (work_lowers topology before (Child s (message_no (next_in_slot topology before s slot)) slot) sound (subst (λ h. is_legal topology h ≡ true) e legal) refl);

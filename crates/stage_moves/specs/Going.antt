@@ -11,7 +11,7 @@ use Rattle.stage_bodies.specs.Seen.{BodySeen, LineSeen}
 use Rattle.body_laws.specs.Keeps.{Keeps}
 use Rattle.body_laws.specs.Ready.{Ready, There}
 use Rattle.work_laws.specs.Left.{work_left}
-use Rattle.control_lines.specs.Steps.{jobs_begun}
+use Rattle.control_lines.specs.Steps.{jobs_begun, still_ticks}
 use Rattle.control_lines.specs.Keeping.{KeepsControl}
 
 -- a body is there, and has its callback
@@ -30,6 +30,7 @@ pub record GoesOn (topology : Topology) (old : History) (home : ℕ → Option B
 -- no step came from it
 pub record Within (topology : Topology) (jobs : ℕ) (old new : History) : Type 0 where
   pub same_time : now new ≡ now old
+  pub same_still : still_ticks new ≡ still_ticks old
   pub begun : jobs_begun new ≤ jobs_begun old + jobs
   pub control : (opened lines : Option LineSeen) → KeepsControl topology old 1 opened lines → KeepsControl topology new (1 - jobs) opened lines
   pub same_controls : controls new ≡ controls old

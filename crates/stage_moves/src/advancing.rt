@@ -43,8 +43,8 @@ pub fn advance<B: Works, S: ByteSource, C: Clock>(
     ensures same_places { (at : ℕ) → is_some (body_at B.look bodies.new.items at) ≡ is_some (body_at B.look bodies.old.items at) }
     ensures same_out { jobs_out core.old.topology core.new.journal.steps ≡ jobs_out core.old.topology core.old.journal.steps }
     ensures silent { AddsSilently core.old.journal.steps core.new.journal.steps }
-    ensures clock { (opened : ClockSeen) → KeepsClock core.old.journal.steps opened (clock_seen C.latest C.readings clock.old)
-        → KeepsClockAheadOn result core.new.journal.steps opened (clock_seen C.latest C.readings clock.new) }
+    ensures clock { (opened : ClockSeen) → KeepsClock core.old.journal.steps opened (clock_seen C.latest C.readings C.pauses clock.old)
+        → KeepsClockAheadOn result core.new.journal.steps opened (clock_seen C.latest C.readings C.pauses clock.new) }
     ensures no_pause { C.pauses clock.new ≡ C.pauses clock.old }
     ensures control { (opened : Option LineSeen)
         → KeepsControl core.old.topology core.old.journal.steps 0 opened (option_map (line_seen S.ByteSource) control.old)

@@ -19,7 +19,7 @@ pub(crate) fn read_clock<C: Clock>(core: &mut Core, clock: &mut C) -> Result<(),
     ensures stands { Stands core.new }
     ensures topology { core.new.topology ≡ core.old.topology }
     ensures waits { Waits core.old.topology core.old.journal.steps core.new.journal.steps }
-    ensures read { IsRead result core.old.journal.steps core.new.journal.steps (clock_seen C.latest C.readings clock.old) (clock_seen C.latest C.readings clock.new) }
+    ensures read { IsRead result core.old.journal.steps core.new.journal.steps (clock_seen C.latest C.readings C.pauses clock.old) (clock_seen C.latest C.readings C.pauses clock.new) }
     ensures no_pause { C.pauses clock.new ≡ C.pauses clock.old }
 {
     let reading = clock.now();
@@ -36,7 +36,7 @@ pub fn pause<C: Clock>(core: &mut Core, clock: &mut C) -> Result<(), AllocError>
     ensures stands { Stands core.new }
     ensures topology { core.new.topology ≡ core.old.topology }
     ensures waits { Waits core.old.topology core.old.journal.steps core.new.journal.steps }
-    ensures paused { IsPaused result core.old.journal.steps core.new.journal.steps (clock_seen C.latest C.readings clock.old) (clock_seen C.latest C.readings clock.new) }
+    ensures paused { IsPaused result core.old.journal.steps core.new.journal.steps (clock_seen C.latest C.readings C.pauses clock.old) (clock_seen C.latest C.readings C.pauses clock.new) }
     ensures slept { Rose (C.pauses clock.old) (C.pauses clock.new) }
 {
     clock.pause();

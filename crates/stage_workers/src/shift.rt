@@ -43,6 +43,9 @@ pub trait Shift: Held {
     /// This comes home of a job that is away from such a value.
     ghost is_home_of: { Self.Start → History → Self.Home → Type 0 };
 
+    /// Between these two values what came home was recorded.
+    ghost is_recorded: { Self → Self → Self.Home → Type 0 };
+
     fn post(load: &Self::Load) -> Post
         ensures { result ≡ load_post load.now };
 
@@ -57,7 +60,8 @@ pub trait Shift: Held {
         ensures begins { BeginsWith (Self.steps self.new) (Self.steps self.old) }
         ensures others_unanswered { (post : Post) → is_out (Self.steps self.old) post ≡ true → brought_post home_post brought ≢ Some post → IsUnanswered (Self.steps self.new) (Self.steps self.old) post }
         ensures own_job { IfSome (job_post load_post result) (λ post. IsOwnJob (brought_post home_post brought) (Self.steps self.old) (Self.steps self.new) post) }
-        ensures away { AreAway (brought_post home_post brought) (job_post load_post result) (Self.away self.old) (Self.away self.new) };
+        ensures away { AreAway (brought_post home_post brought) (job_post load_post result) (Self.away self.old) (Self.away self.new) }
+        ensures recorded { IfSome brought (is_recorded self.old self.new) };
 
     /// Whether sources were found empty since anything else happened. The next job is then no news to another worker.
     fn is_silent(&self) -> bool {

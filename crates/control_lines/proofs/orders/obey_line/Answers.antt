@@ -1,10 +1,11 @@
-use Rattle.std.proofs.Common.{◌≡◌, ◌+◌, true, arith, ap, sym, ◌∙◌, subst}
+use Rattle.std.proofs.Common.{◌≡◌, ◌+◌, true, false, arith, ap, sym, ◌∙◌, subst}
 use Rattle.pipe_types.specs.declared.step.Step.{Step}
 use Rattle.pipe_model.specs.History.{controls}
 use Rattle.pipe_model.specs.Legal.{allows}
 use Rattle.core_tables.specs.declared.rows.Totals.{Totals}
 use Rattle.count_laws.proofs.Laws.{controls_law}
 use Rattle.control_lines.specs.Orders.{step_for}
+use Rattle.control_lines.specs.Steps.{is_kill}
 use Rattle.control_lines.proofs.Naming.{reading_allowed}
 use Rattle.control_lines.proofs.orders.obey_line.Goals as goal
 
@@ -27,3 +28,15 @@ overflow_add-core c =
     let core = c.args.core.now in
     let same = ap (λ (t : Totals). t.controls) c.requires.stands.holds.fields.totals in
     omega (arith, same, controls_law core.topology core.journal.steps c.requires.stands.holds.legal)
+
+pub returns-in-Drain-clause-kills : goal.returns-in-Drain-clause-kills
+returns-in-Drain-clause-kills c kills =
+    let core = c.args.core.now in
+    let n = controls core.journal.steps + 1 in
+    let wrong : false ≡ true = subst (λ (step : Step). is_kill step ≡ true) (sym (ap (step_for n) (sym c.in-Drain.is) ∙ c.order_of.ensures n)) kills in cc
+
+pub returns-in-Refuse-clause-kills : goal.returns-in-Refuse-clause-kills
+returns-in-Refuse-clause-kills c kills =
+    let core = c.args.core.now in
+    let n = controls core.journal.steps + 1 in
+    let wrong : false ≡ true = subst (λ (step : Step). is_kill step ≡ true) (sym (ap (step_for n) (sym c.in-Refuse.is) ∙ c.order_of.ensures n)) kills in cc

@@ -26,8 +26,8 @@ returns-in_err-read_clock-clause-ready g c =
 
 pub returns-in_err-read_clock-clause-clock : goal.returns-in_err-read_clock-clause-clock
 returns-in_err-read_clock-clause-clock g c opened k =
-    let c0 = clock_seen g.C.Clock.latest g.C.Clock.readings c.args.clock.now in
-    let c1 = clock_seen g.C.Clock.latest g.C.Clock.readings c.read_clock.new.clock in
+    let c0 = clock_seen g.C.Clock.latest g.C.Clock.readings g.C.Clock.pauses c.args.clock.now in
+    let c1 = clock_seen g.C.Clock.latest g.C.Clock.readings g.C.Clock.pauses c.read_clock.new.clock in
     vain_ahead c.from_residual.result c.read_clock.new.core.journal.steps opened c1 c.from_residual.ensures.0
     (in_vain c.args.core.now.journal.steps c.read_clock.new.core.journal.steps opened c0 c1 k c.in_err-read_clock.ensures.read)
 
@@ -40,8 +40,8 @@ returns-in_err-read_clock-clause-one_line g c =
 
 pub returns-in_err-read_clock-clause-no_more : goal.returns-in_err-read_clock-clause-no_more
 returns-in_err-read_clock-clause-no_more g c =
-    let c0 = clock_seen g.C.Clock.latest g.C.Clock.readings c.args.clock.now in
-    let c1 = clock_seen g.C.Clock.latest g.C.Clock.readings c.read_clock.new.clock in
+    let c0 = clock_seen g.C.Clock.latest g.C.Clock.readings g.C.Clock.pauses c.args.clock.now in
+    let c1 = clock_seen g.C.Clock.latest g.C.Clock.readings g.C.Clock.pauses c.read_clock.new.clock in
     read_no_more c.args.core.now.topology c.args.core.now.journal.steps c.read_clock.new.core.journal.steps c.read_clock.result c0 c1 c.read_clock.ensures.read
 
 pub returns-in_err-read_clock-clause-control : goal.returns-in_err-read_clock-clause-control
@@ -90,8 +90,8 @@ returns-in_err-read_control-clause-clock g c opened k =
     let n = c.read_control.new.core.journal.steps in
     let e1 = c.read_clock.ensures in
     let e2 = c.read_control.ensures in
-    let c0 = clock_seen g.C.Clock.latest g.C.Clock.readings c.args.clock.now in
-    let c1 = clock_seen g.C.Clock.latest g.C.Clock.readings c.read_clock.new.clock in
+    let c0 = clock_seen g.C.Clock.latest g.C.Clock.readings g.C.Clock.pauses c.args.clock.now in
+    let c1 = clock_seen g.C.Clock.latest g.C.Clock.readings g.C.Clock.pauses c.read_clock.new.clock in
     let line = subst (λ o. LeavesAtRest o m n) e1.topology e2.rest in
     ahead_way c.from_residual-in_err-read_control.result n opened c1 (on_clock t a m n n opened c0 c1 c.in_ok-read_clock.ensures.read line (within_same t n) k)
 
@@ -114,8 +114,8 @@ returns-in_err-read_control-clause-one_line g c =
     let a = c.args.core.now.journal.steps in
     let m = c.read_clock.new.core.journal.steps in
     let e1 = c.read_clock.ensures in
-    let c0 = clock_seen g.C.Clock.latest g.C.Clock.readings c.args.clock.now in
-    let c1 = clock_seen g.C.Clock.latest g.C.Clock.readings c.read_clock.new.clock in
+    let c0 = clock_seen g.C.Clock.latest g.C.Clock.readings g.C.Clock.pauses c.args.clock.now in
+    let c1 = clock_seen g.C.Clock.latest g.C.Clock.readings g.C.Clock.pauses c.read_clock.new.clock in
     let w = c.read_clock.ensures.waits in
     let n = c.read_control.new.core.journal.steps in
     one_line a m n n w.same_controls (one_read m n c.read_control.ensures.adds) refl
@@ -128,8 +128,8 @@ returns-in_err-read_control-clause-no_more g c =
     let n = c.read_control.new.core.journal.steps in
     let e1 = c.read_clock.ensures in
     let e2 = c.read_control.ensures in
-    let c0 = clock_seen g.C.Clock.latest g.C.Clock.readings c.args.clock.now in
-    let c1 = clock_seen g.C.Clock.latest g.C.Clock.readings c.read_clock.new.clock in
+    let c0 = clock_seen g.C.Clock.latest g.C.Clock.readings g.C.Clock.pauses c.args.clock.now in
+    let c1 = clock_seen g.C.Clock.latest g.C.Clock.readings g.C.Clock.pauses c.read_clock.new.clock in
     let line = subst (λ o. LeavesAtRest o m n) e1.topology e2.rest in
     on_no_more t a m n c.read_clock.result c0 c1 e1.read line.progress
 
@@ -185,8 +185,8 @@ returns-clause-clock g c opened k =
     let e1 = c.read_clock.ensures in
     let e2 = c.read_control.ensures in
     let e3 = c.go_on.ensures in
-    let c0 = clock_seen g.C.Clock.latest g.C.Clock.readings c.args.clock.now in
-    let c1 = clock_seen g.C.Clock.latest g.C.Clock.readings c.read_clock.new.clock in
+    let c0 = clock_seen g.C.Clock.latest g.C.Clock.readings g.C.Clock.pauses c.args.clock.now in
+    let c1 = clock_seen g.C.Clock.latest g.C.Clock.readings g.C.Clock.pauses c.read_clock.new.clock in
     let line = subst (λ o. LeavesAtRest o m n) e1.topology e2.rest in
     let on = subst (λ o. Advances o n home b back) (e2.topology ∙ e1.topology) e3.advances in
     ahead_way c.go_on.result b opened c1 (on_clock t a m n b opened c0 c1 c.in_ok-read_clock.ensures.read line on.within k)
@@ -232,8 +232,8 @@ returns-clause-no_more g c =
     let e1 = c.read_clock.ensures in
     let e2 = c.read_control.ensures in
     let e3 = c.go_on.ensures in
-    let c0 = clock_seen g.C.Clock.latest g.C.Clock.readings c.args.clock.now in
-    let c1 = clock_seen g.C.Clock.latest g.C.Clock.readings c.read_clock.new.clock in
+    let c0 = clock_seen g.C.Clock.latest g.C.Clock.readings g.C.Clock.pauses c.args.clock.now in
+    let c1 = clock_seen g.C.Clock.latest g.C.Clock.readings g.C.Clock.pauses c.read_clock.new.clock in
     let line = subst (λ o. LeavesAtRest o m n) e1.topology e2.rest in
     let on = subst (λ o. Advances o n home b back) (e2.topology ∙ e1.topology) e3.advances in
     on_no_more t a m b c.read_clock.result c0 c1 e1.read (on_progress t m n b home back line on)
@@ -250,8 +250,8 @@ returns-clause-pauses g c =
     let e1 = c.read_clock.ensures in
     let e2 = c.read_control.ensures in
     let e3 = c.go_on.ensures in
-    let c0 = clock_seen g.C.Clock.latest g.C.Clock.readings c.args.clock.now in
-    let c1 = clock_seen g.C.Clock.latest g.C.Clock.readings c.read_clock.new.clock in
+    let c0 = clock_seen g.C.Clock.latest g.C.Clock.readings g.C.Clock.pauses c.args.clock.now in
+    let c1 = clock_seen g.C.Clock.latest g.C.Clock.readings g.C.Clock.pauses c.read_clock.new.clock in
     let line = subst (λ o. LeavesAtRest o m n) e1.topology e2.rest in
     let on = subst (λ o. Advances o n home b back) (e2.topology ∙ e1.topology) e3.advances in
     always_ok (move t b ≡ Pause → 2 * work_left t b < rounds_left t a) c.go_on.result

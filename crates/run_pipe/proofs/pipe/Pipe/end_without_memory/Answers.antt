@@ -12,7 +12,7 @@ invariant_of-self g c =
     let s = g.S.ByteSource in
     let look = g.B.Works.look in
     let line = line_seen s in
-    let time = clock_seen g.C.Clock.latest g.C.Clock.readings in
+    let time = clock_seen g.C.Clock.latest g.C.Clock.readings g.C.Clock.pauses in
     let i = c.self.inside in
     let old = fields_of look i.core.topology i.core.journal.steps i.bodies.items (option_map line i.control) (time i.clock) i.end in
     record { stands = c.self.invariant.stands; whole = short_whole old c.args.error c.self.invariant.whole }
@@ -22,7 +22,7 @@ returns-clause-ran g c =
     let s = g.S.ByteSource in
     let look = g.B.Works.look in
     let line = line_seen s in
-    let time = clock_seen g.C.Clock.latest g.C.Clock.readings in
+    let time = clock_seen g.C.Clock.latest g.C.Clock.readings g.C.Clock.pauses in
     let i = c.self.inside in
     let end = Some (Err c.args.error) in
     let old = fields_of look i.core.topology i.core.journal.steps i.bodies.items (option_map line i.control) (time i.clock) i.end in

@@ -12,7 +12,7 @@ returns-clause-whole g c =
     let s = g.S.ByteSource in
     let look = g.B.Works.look in
     let line = line_seen s in
-    let time = clock_seen g.C.Clock.latest g.C.Clock.readings in
+    let time = clock_seen g.C.Clock.latest g.C.Clock.readings g.C.Clock.pauses in
     let i = c.self.inside in
     let same = sym (ap state_of c.self.view_is) ∙ state_is look i.core.topology i.core.journal.steps i.bodies.items (option_map line i.control) (time i.clock) i.end in
     subst IsWhole (sym same) c.self.invariant.whole
@@ -22,6 +22,6 @@ returns-clause-parts g c =
     let s = g.S.ByteSource in
     let look = g.B.Works.look in
     let line = line_seen s in
-    let time = clock_seen g.C.Clock.latest g.C.Clock.readings in
+    let time = clock_seen g.C.Clock.latest g.C.Clock.readings g.C.Clock.pauses in
     let i = c.self.inside in
     sym (ap state_of c.self.view_is) ∙ state_is look i.core.topology i.core.journal.steps i.bodies.items (option_map line i.control) (time i.clock) i.end

@@ -13,7 +13,7 @@ invariant_of-result g c =
     let s = g.S.ByteSource in
     let look = g.B.Works.look in
     let line = line_seen s in
-    let time = clock_seen g.C.Clock.latest g.C.Clock.readings in
+    let time = clock_seen g.C.Clock.latest g.C.Clock.readings g.C.Clock.pauses in
     let p = fields_of look c.args.core.topology c.args.core.journal.steps c.args.bodies.items (option_map line c.args.control) (time c.args.clock) None in
     record {
       stands = c.requires.stands;
@@ -25,7 +25,7 @@ returns-clause-made g c =
     let s = g.S.ByteSource in
     let look = g.B.Works.look in
     let line = line_seen s in
-    let time = clock_seen g.C.Clock.latest g.C.Clock.readings in
+    let time = clock_seen g.C.Clock.latest g.C.Clock.readings g.C.Clock.pauses in
     state_is look c.args.core.topology c.args.core.journal.steps c.args.bodies.items (option_map line c.args.control) (time c.args.clock) None
 
 pub returns-clause-stems : goal.returns-clause-stems
@@ -33,7 +33,7 @@ returns-clause-stems g c =
     let s = g.S.ByteSource in
     let look = g.B.Works.look in
     let line = line_seen s in
-    let time = clock_seen g.C.Clock.latest g.C.Clock.readings in
+    let time = clock_seen g.C.Clock.latest g.C.Clock.readings g.C.Clock.pauses in
     let p = fields_of look c.args.core.topology c.args.core.journal.steps c.args.bodies.items (option_map line c.args.control) (time c.args.clock) None in
     subst (λ (q : PipeState). Stems q q) (sym (state_is look c.args.core.topology c.args.core.journal.steps c.args.bodies.items (option_map line c.args.control) (time c.args.clock) None))
     (stems_itself p (record { going = refl; empty = c.requires.empty; filled = c.requires.filled; fresh = c.requires.fresh }))
@@ -43,7 +43,7 @@ returns-clause-none_away g c =
     let s = g.S.ByteSource in
     let look = g.B.Works.look in
     let line = line_seen s in
-    let time = clock_seen g.C.Clock.latest g.C.Clock.readings in
+    let time = clock_seen g.C.Clock.latest g.C.Clock.readings g.C.Clock.pauses in
     let p = fields_of look c.args.core.topology c.args.core.journal.steps c.args.bodies.items (option_map line c.args.control) (time c.args.clock) None in
     subst (λ (q : PipeState). away_of q ≡ []) (sym (state_is look c.args.core.topology c.args.core.journal.steps c.args.bodies.items (option_map line c.args.control) (time c.args.clock) None))
     (none_away p (record { going = refl; empty = c.requires.empty; filled = c.requires.filled; fresh = c.requires.fresh }))
