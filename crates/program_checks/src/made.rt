@@ -5,9 +5,9 @@ use super::case::{Case, halves};
 use super::judge::Came;
 use super::making::case_of;
 use super::outside::{World, held_under, shown, world_of};
+use super::reading::steps_in;
 use super::slow::fault_in;
 use super::texts::{has_line, lines_with};
-use pipe_journal::Journal;
 use pipe_types::step::Step;
 use std::alloc::{AllocError, Global};
 use std::io;
@@ -27,12 +27,17 @@ pub fn run_made<R: Threads + Wait + Sync>(
 ) -> io::Result<()> {
     let (count, words) = halves(line);
     let rows = count.parse::<u32>().unwrap_or(0);
-    let mut seen = vec![in rt.alloc(); false; FORMS]?;
+    let mut seen = unseen(rt.alloc())?;
     for row in 0..rows {
         run_row(rt, waits, rules, row, words, &mut seen)?;
     }
     println!(rt; "{words}: {rows} rows")?;
     tell_seen(rt, rules.text("look"), &seen)
+}
+
+/// No form is seen yet.
+pub fn unseen(alloc: Global) -> Result<Vec<bool>, AllocError> {
+    vec![in alloc; false; FORMS]
 }
 
 fn run_row<R: Threads + Wait + Sync>(
@@ -72,14 +77,6 @@ fn steps_of<R: Threads + Wait + Sync>(
     let end = call(waits, alloc, case, words, world)?;
     let steps = steps_in(alloc, &end.journal)?;
     Ok((end.status, steps))
-}
-
-fn steps_in(alloc: Global, journal: &Journal) -> Result<Vec<Step>, AllocError> {
-    let mut steps = Vec::new(alloc);
-    for at in 0..journal.len() {
-        steps.push(journal.view(at).to_step(alloc)?)?;
-    }
-    Ok(steps)
 }
 
 fn fault_of(
@@ -122,7 +119,8 @@ fn note(
     Ok(())
 }
 
-fn mark(forms: &str, text: &str, seen: &mut Vec<bool>) {
+/// Marks each form of which the text has a line.
+pub fn mark(forms: &str, text: &str, seen: &mut Vec<bool>) {
     for (at, form) in forms.lines().enumerate() {
         if at < seen.len() && has_line(text, form) {
             seen[at] = true;
@@ -130,7 +128,8 @@ fn mark(forms: &str, text: &str, seen: &mut Vec<bool>) {
     }
 }
 
-fn tell_seen(rt: &HostRuntime, forms: &str, seen: &Vec<bool>) -> io::Result<()> {
+/// Writes of each form whether it was seen.
+pub fn tell_seen(rt: &HostRuntime, forms: &str, seen: &Vec<bool>) -> io::Result<()> {
     for (at, form) in forms.lines().enumerate() {
         let found = at < seen.len() && seen[at];
         let told = if found { "seen" } else { "not seen" };

@@ -3,17 +3,21 @@
 //! A case begins with its title and is lines that give it texts under names (`case.rt`). A line `call WORDS` then calls
 //! the program with these words, `own N` runs callbacks of one's own on N workers, `handlers N` runs the lines of the case with
 //! N handlers that pass all, `plain N` with N callbacks that write plain text, and `made N WORDS` calls the program on so many
-//! topologies that rules of the case make (`making.rt`) and has the slow machine judge them.
+//! topologies that rules of the case make (`making.rt`) and has the slow machine judge them. `back N` reads the texts of the
+//! journals of such runs back, and `read` the text that the case gives (`back.rt`, `reading.rt`).
 #![tactic(auto)]
 
+mod back;
 mod calls;
 mod case;
+mod changes;
 mod judge;
 mod made;
 mod making;
 mod meets;
 mod outside;
 mod own;
+mod reading;
 mod slow;
 mod texts;
 
@@ -49,6 +53,10 @@ fn obey<R: Threads + Wait + Sync>(
         own::run_plain_lines(rt, waits, case, rest)
     } else if word == "made" {
         made::run_made(rt, waits, case, rest)
+    } else if word == "back" {
+        back::run_back(rt, waits, case, rest)
+    } else if line == "read" {
+        reading::run_reading(rt, case)
     } else if word == "case" {
         case.begin();
         println!(rt; "\n== {rest}")
