@@ -1,2 +1,4 @@
 mod Cuts
+mod Fronts
 mod Reading
+mod Why
