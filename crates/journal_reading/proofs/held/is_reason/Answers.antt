@@ -1,4 +1,4 @@
-use Rattle.std.proofs.Common.{◌≡◌, ◌∙◌, sym, subst}
+use Rattle.std.proofs.Common.{◌∙◌, sym, subst}
 use Rattle.line_reading.specs.Spelling.{Each, IsByte}
 use Rattle.journal_reading.proofs.Why.{why_told}
 use Rattle.journal_reading.proofs.held.is_reason.Goals as goal
