@@ -8,7 +8,7 @@ use super::made::{mark, tell_seen, unseen};
 use super::making::case_of;
 use super::outside::{shown, world_of};
 use super::reading::{fault_in_verdict, steps_in};
-use journal_reading::{JournalFault, JournalRefusal, read_steps};
+use journal_reading::{JournalFault, JournalRefusal, has_reasons, read_steps};
 use journal_texts::lines::journal_text;
 use pipe_config::read_topology;
 use pipe_journal::Journal;
@@ -167,7 +167,7 @@ fn change_all(
     Ok(())
 }
 
-/// What is read of the output is the journal, with the messages that the text does not name.
+/// What is read of the output is the journal, with the messages that the text does not name. So each of its reasons is one.
 fn fault_in_same(
     alloc: Global,
     file: &str,
@@ -187,6 +187,8 @@ fn fault_in_same(
         Ok("no output of this journal")
     } else if !are_of_same_messages(&read, journal) {
         Ok("read back with other messages")
+    } else if !has_reasons(journal) {
+        Ok("a reason that is none")
     } else {
         Ok("")
     }
