@@ -167,7 +167,8 @@ fn change_all(
     Ok(())
 }
 
-/// What is read of the output is the journal, with the messages that the text does not name. So each of its reasons is one.
+/// What is read of the output is the journal, with the messages that the text does not name, and no reason of it is other than a
+/// reason can be.
 fn fault_in_same(
     alloc: Global,
     file: &str,
