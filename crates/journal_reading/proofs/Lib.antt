@@ -1,4 +1,2 @@
 mod Cuts
-mod Fronts
 mod Reading
-mod Why

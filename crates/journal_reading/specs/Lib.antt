@@ -1,4 +1,3 @@
 pub mod Faults
 pub mod Reads
 pub mod OneLine
-pub mod Reasons

@@ -8,7 +8,6 @@
 
 mod copies;
 mod fault;
-mod held;
 mod known;
 pub mod laws;
 mod lines;
@@ -17,6 +16,5 @@ mod step;
 mod steps;
 
 pub use fault::{JournalFault, JournalRefusal};
-pub use held::has_reasons;
 pub use step::{LineRead, read_step};
 pub use steps::read_steps;

@@ -1,5 +1,5 @@
 use Rattle.reading_laws.specs.Fields.{IsHeldOutcome}
-use Rattle.journal_reading.proofs.held.is_outcome.Goals as goal
+use Rattle.journal_reasons.proofs.held.is_outcome.Goals as goal
 
 pub returns-in-Successful-clause-held : goal.returns-in-Successful-clause-held
 unfolding IsHeldOutcome

@@ -1,9 +1,9 @@
 use Rattle.std.proofs.Common.{rules, ◌≡◌, true, false, ◌∙◌, sym, arith}
 use Rattle.pipe_journal.specs.Views.{step_seen}
 use Rattle.reading_laws.specs.Fields.{IsHeld}
-use Rattle.journal_reading.specs.Reasons.{step_has, have_reasons}
-use Rattle.journal_reading.proofs.Fronts.{all_whole, each_whole, all_broken, all_next, each_next}
-use Rattle.journal_reading.proofs.held.hold.Goals as goal
+use Rattle.journal_reasons.specs.Reasons.{step_has, have_reasons}
+use Rattle.journal_reasons.proofs.Fronts.{all_whole, each_whole, all_broken, all_next, each_next}
+use Rattle.journal_reasons.proofs.held.hold.Goals as goal
 
 pub returns-then-not-is_step-clause-told : goal.returns-then-not-is_step-clause-told
 unfolding have_reasons

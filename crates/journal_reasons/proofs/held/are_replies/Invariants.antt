@@ -2,8 +2,8 @@ use Rattle.std.proofs.Common.{◌≡◌, true, take}
 use Rattle.std.specs.List.{list_all}
 use Rattle.line_reading.specs.Spelling.{Each}
 use Rattle.reading_laws.specs.Fields.{IsHeldReply}
-use Rattle.journal_reading.specs.Reasons.{reply_has}
-use Rattle.journal_reading.proofs.held.are_replies.Given as goal
+use Rattle.journal_reasons.specs.Reasons.{reply_has}
+use Rattle.journal_reasons.proofs.held.are_replies.Given as goal
 
 -- the front
 abbrev pub invariant-loop-at : goal.invariant-loop-at

@@ -1,5 +1,5 @@
 use Rattle.reading_laws.specs.Fields.{IsHeldReply}
-use Rattle.journal_reading.proofs.held.is_reply.Goals as goal
+use Rattle.journal_reasons.proofs.held.is_reply.Goals as goal
 
 pub returns-in-Pass-clause-held : goal.returns-in-Pass-clause-held
 unfolding IsHeldReply

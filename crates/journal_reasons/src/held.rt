@@ -12,7 +12,7 @@ ghost use Rattle.pipe_types.specs.Sound.{is_reason as is_reason_text};
 ghost use Rattle.pipe_journal.specs.Views.{end_seen, answer_seen, step_seen};
 ghost use Rattle.line_reading.specs.Spelling.{Each, IsShort, IsNumber, IsLong, IsWhy, IsStage};
 ghost use Rattle.reading_laws.specs.Fields.{AreBytes, IsHeldReply, IsHeldOutcome, IsHeldEnd, IsHeldAnswer, IsHeld, AreHeld, IsCountable};
-ghost use Rattle.journal_reading.specs.Reasons.{reply_has, outcome_has, end_has, answer_has, step_has, have_reasons};
+ghost use Rattle.journal_reasons.specs.Reasons.{reply_has, outcome_has, end_has, answer_has, step_has, have_reasons};
 
 use pipe_journal::{AnswerView, EndView, Journal, StepView};
 use pipe_types::bytes::Bytes;

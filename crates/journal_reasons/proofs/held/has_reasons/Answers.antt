@@ -1,7 +1,7 @@
 use Rattle.std.proofs.Common.{refl}
 use Rattle.reading_laws.proofs.Texts.{text_again}
 use Rattle.journal_reading.specs.Faults.{unjudged}
-use Rattle.journal_reading.proofs.held.has_reasons.Goals as goal
+use Rattle.journal_reasons.proofs.held.has_reasons.Goals as goal
 
 pub returns-clause-again : goal.returns-clause-again
 returns-clause-again c reasons topology behind legal =

@@ -1,5 +1,5 @@
 use Rattle.reading_laws.specs.Fields.{IsHeldEnd}
-use Rattle.journal_reading.proofs.held.is_end.Goals as goal
+use Rattle.journal_reasons.proofs.held.is_end.Goals as goal
 
 pub returns-in-Outcomes-clause-held : goal.returns-in-Outcomes-clause-held
 unfolding IsHeldEnd

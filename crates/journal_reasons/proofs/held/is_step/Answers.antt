@@ -1,5 +1,5 @@
 use Rattle.reading_laws.specs.Fields.{IsHeld}
-use Rattle.journal_reading.proofs.held.is_step.Goals as goal
+use Rattle.journal_reasons.proofs.held.is_step.Goals as goal
 
 pub returns-in-Ask-clause-held : goal.returns-in-Ask-clause-held
 unfolding IsHeld
