@@ -86,7 +86,7 @@ fn read_lines(
 }
 
 /// A run of a copy of the topology.
-fn begin(alloc: Global, topology: &Topology) -> Result<PlainRun, AllocError>
+pub fn begin(alloc: Global, topology: &Topology) -> Result<PlainRun, AllocError>
     requires sound { IsSound topology.now }
     ensures topology { IfOk result (λ run. run.topology ≡ topology.now) }
     ensures fresh { IfOk result (λ run. run.steps ≡ []) }
