@@ -30,7 +30,9 @@ use Rattle.journal_audit.specs.declared.verdict.Verdict.{Verdict}
 use Rattle.journal_audit.specs.declared.verdict.Verdict.TheVariants.{Legal, Bad}
 use Rattle.journal_audit.specs.Causes.{cause_of, cause_seen, judged}
 use Rattle.journal_audit.specs.Verdicts.{summary_of, verdict_by, verdict_in, IsLegalText, IsSaid}
-use Rattle.journal_audit.specs.Lines.{GoesOn}
+use Rattle.journal_audit.specs.declared.lines.LineFound.{LineFound}
+use Rattle.journal_audit.specs.declared.lines.LineFound.TheVariants.{Good, Last, Bad as BadLine}
+use Rattle.journal_audit.specs.Lines.{GoesOn, Finds, Judges}
 
 abbrev Found : Type 0
 Found = Result History (BadAt BadCause)
@@ -112,6 +114,14 @@ worst_line topology before line f c e seen lines = by (line_in (jobs_after topol
         lines_by judged topology before line lines (BadStep g) is ∙ ap (bad_line (line_after before)) (some_same (cause_of g) c (cause_seen f) (ap cause_seen (sym same) ∙ seen_of g) seen)
     by (StepLine s) is e = absurd cc
     by EndLine is e = absurd cc
+
+-- the step was judged
+pub step_found : (run : RunSeen) (after : History) (line : List ℕ) (step : Step) (result : Result LineFound AllocError) → is_legal run.topology run.steps ≡ true
+    → read.Step step ≡ read_as (line_in (jobs_after run.topology run.steps) (length run.steps) line) → IfOk result (Judges run.topology run.steps after step) → IfOk result (Finds run.topology run.steps after line)
+step_found run after line step (Err e) legal is judges = tt
+step_found run after line step (Ok Good) legal is judges = good_line run.topology run.steps after line step legal is judges.0 judges.1
+step_found run after line step (Ok Last) legal is judges = absurd judges
+step_found run after line step (Ok (BadLine c)) legal is judges = refused_line run.topology run.steps line step c legal is judges.0 judges.1
 
 -- ---- lines
 

@@ -14,7 +14,7 @@ ghost use Rattle.journal_audit.specs.Verdicts.{summary_of, verdict_by, verdict_i
 use crate::lines::{LineFound, audit_line};
 use crate::summary::summary;
 use crate::verdict::{BadCause, Verdict};
-use journal_reading::{begin, first_line};
+use journal_reading::{begin, first_line, is_header};
 use pipe_types::topology::Topology;
 use plain_run::PlainRun;
 use std::alloc::{AllocError, Global};
@@ -61,7 +61,7 @@ fn audit_behind(
     requires sound { IsSound topology.now }
     ensures { IfOk result (λ verdict. verdict ≡ verdict_by topology.now (after_header judged topology.now (first.now ∷ lines_of rest.now))) }
 {
-    if first == b"journal 1" {
+    if is_header(first) {
         audit_body(alloc, topology, rest)
     } else {
         Ok(bad(1, BadCause::Header))

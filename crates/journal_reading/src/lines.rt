@@ -3,7 +3,7 @@
 ghost use Rattle.std.specs.Prelude.{◌≡◌, ◌<◌, [], ◌∷◌, length, IfSome, IfNone, bytes_eq};
 ghost use Rattle.std.specs.List.{slice_split};
 ghost use Rattle.line_reading.specs.Reading.{is_at};
-ghost use Rattle.reading_laws.specs.Text.{lines_of};
+ghost use Rattle.reading_laws.specs.Text.{header, lines_of};
 
 use memchr::memchr;
 
@@ -36,6 +36,13 @@ pub fn first_line(text: &[u8]) -> Option<Cut<'_>>
     ensures none { IfNone result (lines_of text.now ≡ []) }
 {
     cut_at(text, b'\n')
+}
+
+/// Whether it is the line that a text begins with.
+pub fn is_header(line: &[u8]) -> bool
+    ensures { result ≡ bytes_eq line.now header }
+{
+    is_same(line, b"journal 1")
 }
 
 /// Whether the two are the same.
