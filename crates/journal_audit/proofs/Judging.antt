@@ -125,7 +125,6 @@ step_found run after line step (Ok (BadLine c)) legal is judges = refused_line r
 
 -- ---- lines
 
-
 -- what is left spells the same
 pub same_on : (topology : Topology) (before after : History) (front rest more text : List ℕ) → lines_of rest ≡ front ∷ lines_of more → GoesOn topology before after front
     → lines_in judged topology before (lines_of rest) ≡ lines_in judged topology [] (lines_of text) → lines_in judged topology after (lines_of more) ≡ lines_in judged topology [] (lines_of text)

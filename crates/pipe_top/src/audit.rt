@@ -61,11 +61,7 @@ fn open_source<E: Edges>(name: &Text, edges: &mut E) -> Result<E::Source, EdgeEn
 }
 
 /// Gives a source back under its name.
-fn back_source<E: Edges>(
-    name: &Text,
-    source: E::Source,
-    edges: &mut E,
-) -> Result<(), AllocError>
+fn back_source<E: Edges>(name: &Text, source: E::Source, edges: &mut E) -> Result<(), AllocError>
     ensures { BacksSource name.now (⟦<E::Source as SeenSource>⟧.seen source) (⟦<E as SeenEdges>⟧.seen edges.old) (⟦<E as SeenEdges>⟧.seen edges.new) result }
 {
     edges.back_source(name, source)

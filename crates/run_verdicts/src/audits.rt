@@ -40,7 +40,9 @@ fn counts_text(alloc: Global, word: &str, summary: &Summary) -> Result<Bytes, Al
         drained: _,
         halted: _,
     } = *summary;
-    bytes_of(format!(in alloc; "legal {steps} {word}\naccepted {accepted}\nsuccessful {successful}\nfailed {failed}\nlost {lost}\n")?)
+    bytes_of(format!(in alloc;
+        "legal {steps} {word}\naccepted {accepted}\nsuccessful {successful}\nfailed {failed}\nlost {lost}\n"
+    )?)
 }
 
 fn end_word(summary: &Summary) -> &'static str

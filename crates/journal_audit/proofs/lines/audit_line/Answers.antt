@@ -11,9 +11,11 @@ returns-in-Step-clause-found c =
 
 pub returns-in-End-clause-found : goal.returns-in-End-clause-found
 returns-in-End-clause-found c =
-    let run = c.args.run.now in
-    (refl, last_line run.topology run.steps c.args.line.now
-    (sym c.in-End.is ∙ read_here run c.journal.result.now.steps c.len-steps.result c.args.line.now c.in_ok-read.read c.in_ok-read.ensures c.len-steps.ensures c.journal.ensures.steps c.journal.ensures.legal))
+    let run = c.args.run.now in (
+      refl,
+      last_line run.topology run.steps c.args.line.now
+          (sym c.in-End.is ∙ read_here run c.journal.result.now.steps c.len-steps.result c.args.line.now c.in_ok-read.read c.in_ok-read.ensures c.len-steps.ensures c.journal.ensures.steps c.journal.ensures.legal),
+    )
 
 pub returns-in-Bad-clause-found : goal.returns-in-Bad-clause-found
 returns-in-Bad-clause-found c =
