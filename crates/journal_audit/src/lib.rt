@@ -5,10 +5,10 @@
 //! legal after the steps of the lines before. `specs/` defines the verdict by the reading of the text.
 #![tactic(auto)]
 
-mod audit;
 mod lines;
 mod summary;
 mod verdict;
+mod whole;
 
-pub use audit::audit;
 pub use verdict::{BadCause, Summary, Verdict};
+pub use whole::audit;

@@ -9,7 +9,7 @@ use pipe_types::message::{Outcome, Place};
 use plain_run::PlainRun;
 
 /// How many messages succeeded.
-#[tactic(auto, using(std::proofs::lemmas::List::Sums::count_by-le-length))]
+#[tactic(auto, using(crate::proofs::Counting::count_within))]
 fn successes(places: &[Place]) -> u32
     requires few { length places.now < 2 ^ 32 }
     ensures { result ≡ count_by is_successful places.now }
@@ -21,7 +21,7 @@ fn successes(places: &[Place]) -> u32
 }
 
 /// How many messages failed.
-#[tactic(auto, using(std::proofs::lemmas::List::Sums::count_by-le-length))]
+#[tactic(auto, using(crate::proofs::Counting::count_within))]
 fn failures(places: &[Place]) -> u32
     requires few { length places.now < 2 ^ 32 }
     ensures { result ≡ count_by is_failed places.now }
@@ -33,7 +33,7 @@ fn failures(places: &[Place]) -> u32
 }
 
 /// How many messages were lost.
-#[tactic(auto, using(std::proofs::lemmas::List::Sums::count_by-le-length))]
+#[tactic(auto, using(crate::proofs::Counting::count_within))]
 fn losses(places: &[Place]) -> u32
     requires few { length places.now < 2 ^ 32 }
     ensures { result ≡ count_by is_lost places.now }

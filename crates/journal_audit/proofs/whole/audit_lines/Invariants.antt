@@ -1,7 +1,7 @@
 use Rattle.std.proofs.Common.{◌≡◌, ◌+◌, ◌≤◌, [], length}
 use Rattle.reading_laws.specs.Text.{lines_of, lines_in, line_after}
 use Rattle.journal_audit.specs.Causes.{judged}
-use Rattle.journal_audit.proofs.audit.audit_lines.Given as goal
+use Rattle.journal_audit.proofs.whole.audit_lines.Given as goal
 
 -- the steps so far, and the text that is left
 abbrev pub invariant-loop-cut : goal.invariant-loop-cut

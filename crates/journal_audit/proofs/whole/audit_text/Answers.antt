@@ -1,5 +1,5 @@
 use Rattle.journal_audit.proofs.Judging.{header_first, header_none}
-use Rattle.journal_audit.proofs.audit.audit_text.Goals as goal
+use Rattle.journal_audit.proofs.whole.audit_text.Goals as goal
 
 pub returns-in-Some : goal.returns-in-Some
 returns-in-Some c = header_first c.args.topology.now c.args.bytes.now c.in-Some.cut.front.now c.in-Some.cut.rest.now c.audit_behind.result c.in-Some.ensures.some c.audit_behind.ensures

@@ -1,5 +1,5 @@
 use Rattle.journal_audit.proofs.Judging.{said_of, found_of}
-use Rattle.journal_audit.proofs.audit.audit.Goals as goal
+use Rattle.journal_audit.proofs.whole.audit.Goals as goal
 
 pub returns-clause-said : goal.returns-clause-said
 returns-clause-said c = said_of c.args.topology.now c.args.bytes.now c.audit_text.result c.requires.sound c.audit_text.ensures

@@ -7,7 +7,7 @@ use Rattle.journal_audit.specs.declared.lines.LineFound.TheVariants.{Good, Last,
 use Rattle.journal_audit.specs.Verdicts.{summary_of}
 use Rattle.journal_audit.specs.Lines.{GoesOn, Finds}
 use Rattle.journal_audit.proofs.Judging.{same_on, decided_on, none_on}
-use Rattle.journal_audit.proofs.audit.audit_lines.Goals as goal
+use Rattle.journal_audit.proofs.whole.audit_lines.Goals as goal
 
 pub loop-cut-preserved : goal.loop-cut-preserved
 loop-cut-preserved c =
