@@ -73,28 +73,28 @@ fn audit_body(alloc: Global, topology: &Topology, rest: &[u8]) -> Result<Verdict
     requires sound { IsSound topology.now }
     ensures { IfOk result (λ verdict. verdict ≡ verdict_by topology.now (lines_in judged topology.now [] (lines_of rest.now))) }
 {
-    let run = begin(alloc, topology)?;
-    audit_lines(alloc, run, rest)
+    let mut run = begin(alloc, topology)?;
+    audit_lines(alloc, &mut run, rest)
 }
 
-/// Judges these lines, up to the end line or the first bad one.
-fn audit_lines(alloc: Global, fresh: PlainRun, text: &[u8]) -> Result<Verdict, AllocError>
-    requires fresh { fresh.steps ≡ [] }
-    ensures { IfOk result (λ verdict. verdict ≡ verdict_by fresh.topology (lines_in judged fresh.topology [] (lines_of text.now))) }
+/// Judges these lines, up to the end line or the first bad one, with a run that has no step yet.
+fn audit_lines(alloc: Global, run: &mut PlainRun, text: &[u8]) -> Result<Verdict, AllocError>
+    requires fresh { run.old.steps ≡ [] }
+    ensures { IfOk result (λ verdict. verdict ≡ verdict_by run.old.topology (lines_in judged run.old.topology [] (lines_of text.now))) }
 {
-    let mut run = fresh;
     let mut rest = text;
     let mut line: u64 = 2;
     while let Some(cut) = first_line(rest) {
-        let found = audit_line(alloc, &mut run, cut.front)?;
+        let found = audit_line(alloc, run, cut.front)?;
         match found {
             LineFound::Good => {
                 rest = cut.rest;
                 line += 1;
             }
-            LineFound::Last => return Ok(Verdict::Legal(summary(&run))),
+            LineFound::Last => return Ok(Verdict::Legal(summary(run))),
             LineFound::Bad(cause) => return Ok(bad(line, cause)),
         }
     }
-    Ok(bad(line, BadCause::End))
+    let unended = bad(line, BadCause::End);
+    Ok(unended)
 }

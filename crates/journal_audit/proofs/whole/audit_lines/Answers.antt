@@ -11,7 +11,7 @@ use Rattle.journal_audit.proofs.whole.audit_lines.Goals as goal
 
 pub loop-cut-preserved : goal.loop-cut-preserved
 loop-cut-preserved c =
-    let topology = c.args.fresh.topology in
+    let topology = c.args.run.now.topology in
     let before = c.loop-cut.run.steps in
     let after = c.audit_line.new.run.steps in
     let front = c.in-Some.cut.front.now in
@@ -26,7 +26,7 @@ loop-cut-preserved c =
 
 pub returns-in-Last : goal.returns-in-Last
 returns-in-Last c =
-    let topology = c.args.fresh.topology in
+    let topology = c.args.run.now.topology in
     let before = c.loop-cut.run.steps in
     let after = c.audit_line.new.run.steps in
     let front = c.in-Some.cut.front.now in
@@ -39,17 +39,17 @@ returns-in-Last c =
 
 pub returns-in-Bad : goal.returns-in-Bad
 returns-in-Bad c =
-    let topology = c.args.fresh.topology in
+    let topology = c.args.run.now.topology in
     let before = c.loop-cut.run.steps in
     let after = c.audit_line.new.run.steps in
     let front = c.in-Some.cut.front.now in
     let cause = c.in-Bad.cause in
     let worst : Finds topology before after front (BadLine cause) =
     subst (λ (t : Topology). Finds t before after front (BadLine cause)) c.loop-cut.invariant.of (rw c.in-Bad.is at c.in_ok-found.ensures.found) in
-    c.bad-in-Bad.ensures
+    c.bad.ensures
     ∙ (ap (λ (n : ℕ). Bad n cause) c.loop-cut.invariant.line
     ∙ decided_on topology before (bad_line (line_after before) cause) front c.loop-cut.rest.now c.in-Some.cut.rest.now c.args.text.now c.in-Some.ensures.some worst c.loop-cut.invariant.same)
 
-pub returns-in-None : goal.returns-in-None
-returns-in-None c =
-    rw c.bad.ensures (none_on c.args.fresh.topology c.loop-cut.run.steps c.loop-cut.line c.loop-cut.rest.now c.args.text.now c.in-None.ensures.none c.loop-cut.invariant.line c.loop-cut.invariant.same)
+pub returns : goal.returns
+returns c =
+    c.bad-unended.ensures ∙ none_on c.args.run.now.topology c.loop-cut.run.steps c.loop-cut.line c.loop-cut.rest.now c.args.text.now (rw c.in_default.is at c.first_line.ensures.none) c.loop-cut.invariant.line c.loop-cut.invariant.same
