@@ -1,2 +1,2 @@
 mod Cuts
-mod Reading
+pub mod Reading

@@ -16,5 +16,6 @@ mod step;
 mod steps;
 
 pub use fault::{JournalFault, JournalRefusal};
+pub use lines::{Cut, first_line, is_header};
 pub use step::{LineRead, read_step};
-pub use steps::read_steps;
+pub use steps::{begin, read_steps};

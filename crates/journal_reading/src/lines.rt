@@ -3,15 +3,15 @@
 ghost use Rattle.std.specs.Prelude.{◌≡◌, ◌<◌, [], ◌∷◌, length, IfSome, IfNone, bytes_eq};
 ghost use Rattle.std.specs.List.{slice_split};
 ghost use Rattle.line_reading.specs.Reading.{is_at};
-ghost use Rattle.reading_laws.specs.Text.{lines_of};
+ghost use Rattle.reading_laws.specs.Text.{header, lines_of};
 
 use memchr::memchr;
 
 /// What stands in front of a byte, and what stands behind it.
 #[derive(Clone, Copy)]
-pub(crate) struct Cut<'a> {
-    pub(crate) front: &'a [u8],
-    pub(crate) rest: &'a [u8],
+pub struct Cut<'a> {
+    pub front: &'a [u8],
+    pub rest: &'a [u8],
 }
 
 /// The text cut at the first such byte, where there is one.
@@ -30,12 +30,19 @@ pub(crate) fn cut_at(text: &[u8], at: u8) -> Option<Cut<'_>>
 }
 
 /// The first line of the text, without its LF, and the text behind it. None where no LF ends a line.
-pub(crate) fn first_line(text: &[u8]) -> Option<Cut<'_>>
+pub fn first_line(text: &[u8]) -> Option<Cut<'_>>
     ensures some { IfSome result (λ cut. lines_of text.now ≡ cut.front.now ∷ lines_of cut.rest.now) }
     ensures shorter { IfSome result (λ cut. length cut.rest.now < length text.now) }
     ensures none { IfNone result (lines_of text.now ≡ []) }
 {
     cut_at(text, b'\n')
+}
+
+/// Whether it is the line that a text begins with.
+pub fn is_header(line: &[u8]) -> bool
+    ensures { result ≡ bytes_eq line.now header }
+{
+    is_same(line, b"journal 1")
 }
 
 /// Whether the two are the same.

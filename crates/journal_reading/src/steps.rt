@@ -15,7 +15,7 @@ ghost use Rattle.journal_reading.specs.OneLine.{ReadsOne};
 
 use crate::copies::copy_topology;
 use crate::fault::{JournalFault, JournalRefusal};
-use crate::lines::{first_line, is_same};
+use crate::lines::{first_line, is_header};
 use crate::progress::{Progress, journal_of, read_next, take_in};
 use crate::step::LineRead;
 use pipe_journal::Journal;
@@ -86,7 +86,7 @@ fn read_lines(
 }
 
 /// A run of a copy of the topology.
-fn begin(alloc: Global, topology: &Topology) -> Result<PlainRun, AllocError>
+pub fn begin(alloc: Global, topology: &Topology) -> Result<PlainRun, AllocError>
     requires sound { IsSound topology.now }
     ensures topology { IfOk result (λ run. run.topology ≡ topology.now) }
     ensures fresh { IfOk result (λ run. run.steps ≡ []) }
@@ -134,7 +134,7 @@ fn read_behind(
     requires sound { IsSound topology.now }
     ensures { Answers result (after_header unjudged topology.now (first.now ∷ lines_of rest.now)) }
 {
-    if is_same(first, b"journal 1") {
+    if is_header(first) {
         read_body(alloc, topology, rest)
     } else {
         Err(refused(1, JournalFault::Header))

@@ -38,8 +38,8 @@ cased named words workers kinds file holds e least most call f =
     let command : command_of words ≡ Some (run_command workers) = ap command_of e ∙ run_words_run workers least most in
     let named_file = subst (λ (c : Option Command). IsNamedFile true named (file_name c) call.file) command call.is_file in
     let bytes : call.file ≡ take 1048577 file = named_file refl ∙ ap (take 1048577) f in
-    let first = subst (λ (c : Option Command). holds (case_of c call.file call.text (boxes_in kinds))) command call.it_holds in
-    subst (λ (b : List ℕ). holds (case_of (Some (run_command workers)) b call.text (boxes_in kinds))) bytes first
+    let first = subst (λ (c : Option Command). holds (case_of c call.file call.text call.found (boxes_in kinds))) command call.it_holds in
+    subst (λ (b : List ℕ). holds (case_of (Some (run_command workers)) b call.text call.found (boxes_in kinds))) bytes first
 
 -- what is written to an output that holds nothing is all that it holds
 pub written_first : (held held' text : List ℕ) → held ≡ [] → held' ≡ held ++ text → held' ≡ text

@@ -4,3 +4,4 @@ pub mod HandLaws
 pub mod PutLaws
 pub mod PaceLaws
 pub mod NeedLaws
+pub mod WholeLaws

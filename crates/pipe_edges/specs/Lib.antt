@@ -11,3 +11,4 @@ pub mod Held
 pub mod Stop
 pub mod Fetch
 pub mod LineSource
+pub mod Whole

@@ -1,5 +1,5 @@
 -- What a call comes to after a call by name that gave nothing back.
-use Rattle.std.proofs.Common.{◌≡◌, ℕ, suc, ◌≤◌, List, [], ◌∷◌, ◌++◌, take, Bool, true, false, Option, Some, None, ◌∙◌, ap, inl, inr, arith}
+use Rattle.std.proofs.Common.{◌≡◌, ℕ, suc, ◌≤◌, List, [], ◌∷◌, ◌++◌, take, Bool, true, false, Option, Some, None, Result, Ok, Err, ◌∙◌, ap, inl, inr, arith}
 use Rattle.std.specs.Prelude.{◌⊎◌, All, IsTrue}
 use Rattle.std.proofs.lemmas.List.{append_assoc}
 use Rattle.std.proofs.lemmas.List.Elements.{All-cons}
@@ -22,10 +22,13 @@ use Rattle.edge_names.specs.Supplies.{Feed, Opened, Made, Supplied, Fed, Written
 use Rattle.edge_names.specs.Controls.{IsFailedInPart, IsStageCut, control_call, named_control, first_sources, first_sinks}
 use Rattle.edge_names.specs.Returned.{source_in, sink_in, sources_of, sinks_of}
 use Rattle.pipe_run.specs.Outside.{IsFeedRead, IsSourceRead, IsSinkWritten, AreUsed, IsControlUsed, HasControl, IsOpenedInPart, IsOutside, IsStageUnopened, IsUnopened}
-use Rattle.pipe_top.specs.Cases.{feeds_of, Case, NoCommand, NoTopology as BadTopology, TooFew, Checks, Upgrades, Runs}
-use Rattle.pipe_top.specs.Runs.{OutsideSeen, IsUntouched, IsNothingBack, IsBrokenOff, IsGivenUp, HasRunOrNot, IsOutsideOf, FailsAt}
+use Rattle.pipe_top.specs.Cases.{feeds_of, Case, NoCommand, NoTopology as BadTopology, TooFew, Checks, Upgrades, Audits, Rejects, Runs}
+use Rattle.pipe_top.specs.Audits.{IsAuditOf, MayBeBack}
+use Rattle.journal_audit.specs.declared.verdict.Summary.{Summary}
+use Rattle.run_verdicts.specs.declared.audits.AuditFault.{AuditFault}
+use Rattle.pipe_top.specs.Runs.{OutsideSeen, IsUntouched, IsJournalBack, IsAuditedIn, IsNothingBack, IsBrokenOff, IsGivenUp, HasRunOrNot, IsOutsideOf, FailsAt}
 use Rattle.pipe_top.specs.Flows.{IsEarly, Outcome, AskedBy, ComesBy}
-use Rattle.run_verdicts.specs.declared.verdict.Refusal.TheVariants.{Usage, Topology as NoTopology, Stock, Edge, Memory}
+use Rattle.run_verdicts.specs.declared.verdict.Refusal.TheVariants.{Usage, Topology as NoTopology, Stock, Edge, Audit, Memory}
 use Rattle.run_verdicts.specs.declared.verdict.Verdict.{Verdict}
 use Rattle.run_verdicts.specs.declared.verdict.Verdict.TheVariants.{Refused, Done}
 
@@ -339,6 +342,41 @@ untouched_as call old middle new c x = record {
   boxes = x.boxes;
 }
 
+may_be_back_as : (call : EdgeKind × List ℕ) (name : List ℕ) (old middle new : EdgesSeen) → Called old middle call → MayBeBack name middle new → MayBeBack name old new
+may_be_back_as call name old middle new c (inl x) = inl (x ∙ c.same_sources)
+may_be_back_as call name old middle new c (inr x) = inr (x.0, x.1 ∙ ap (λ l. l ++ (name, x.0) ∷ []) c.same_sources)
+
+journal_back_as : (call : EdgeKind × List ℕ) (name : List ℕ) (old : OutsideSeen) (middle : EdgesSeen) (new : OutsideSeen) → Called old.edges middle call → IsJournalBack name (with_edges old middle) new → IsJournalBack name old new
+journal_back_as call name old middle new c x = record {
+  sources = may_be_back_as call name old.edges middle new.edges c x.sources;
+  sinks = x.sinks ∙ c.same_sinks;
+  clock = x.clock;
+  boxes = x.boxes;
+}
+
+-- what is found of a journal
+audit_of_as : (call : EdgeKind × List ℕ) (name : List ℕ) (end : Result Summary AuditFault) (wanted : Topology) (old middle new : EdgesSeen) → Called old middle call → IsAuditOf name end wanted middle new → IsAuditOf name end wanted old new
+audit_of_as call name end wanted old middle new c x = record {
+  opened = x.opened;
+  source = x.source;
+  given = gives_source old middle name x.opened c.names x.given;
+  same_telling = x.same_telling;
+  same_bytes = x.same_bytes;
+  found = x.found;
+  cause = x.cause;
+  back = x.back ∙ ap (λ l. l ++ (name, x.source) ∷ []) c.same_sources;
+}
+
+audited_as : (case : Case) (call : EdgeKind × List ℕ) (old middle new : EdgesSeen) → Called old middle call → IsAuditedIn case middle new → IsAuditedIn case old new
+audited_as NoCommand call old middle new c x = tt
+audited_as (BadTopology fault) call old middle new c x = tt
+audited_as (TooFew shortage) call old middle new c x = tt
+audited_as (Checks wanted) call old middle new c x = tt
+audited_as (Upgrades file text wanted) call old middle new c x = tt
+audited_as (Audits name summary wanted) call old middle new c x = audit_of_as call name (Ok summary) wanted old middle new c x
+audited_as (Rejects name fault wanted) call old middle new c x = audit_of_as call name (Err fault) wanted old middle new c x
+audited_as (Runs shows feeding wanted) call old middle new c x = tt
+
 outside_of_as : (memory : Type 0) (case : Case) (topology : Option Topology) (before : History) (call : EdgeKind × List ℕ) (calls : List (EdgeKind × List ℕ)) (old : OutsideSeen) (middle : EdgesSeen) (new : OutsideSeen)
     → Called old.edges middle call → IsOutsideOf memory calls topology before case (with_edges old middle) new → IsOutsideOf memory (call ∷ calls) topology before case old new
 outside_of_as memory NoCommand topology before call calls old middle new c x = untouched_as call old middle new c x
@@ -346,6 +384,8 @@ outside_of_as memory (BadTopology fault) topology before call calls old middle n
 outside_of_as memory (TooFew shortage) topology before call calls old middle new c x = untouched_as call old middle new c x
 outside_of_as memory (Checks wanted) topology before call calls old middle new c x = untouched_as call old middle new c x
 outside_of_as memory (Upgrades file text wanted) topology before call calls old middle new c x = untouched_as call old middle new c x
+outside_of_as memory (Audits name summary wanted) topology before call calls old middle new c x = journal_back_as call name old middle new c x
+outside_of_as memory (Rejects name fault wanted) topology before call calls old middle new c x = journal_back_as call name old middle new c x
 outside_of_as memory (Runs shows feeding wanted) topology before call calls old middle new c x = run_or_not_as (feeds_of feeding wanted) memory wanted topology before call calls old middle new c x
 
 -- ---- the outcome
@@ -357,6 +397,7 @@ early_as fails fails' None before (Refused (Edge name)) so e = (e.0, so name e.1
 early_as fails fails' None before (Refused Usage) so e = absurd e
 early_as fails fails' None before (Refused (NoTopology fault)) so e = absurd e
 early_as fails fails' None before (Refused (Stock shortage)) so e = absurd e
+early_as fails fails' None before (Refused (Audit fault)) so e = absurd e
 early_as fails fails' None before (Done texts status) so e = absurd e
 early_as fails fails' (Some t) before verdict so e = absurd e
 
@@ -377,6 +418,7 @@ asked_as (Done texts status) call calls asked middle asked' first a = a ∙ ap (
 asked_as (Refused Usage) call calls asked middle asked' first a = a ∙ ap (λ x. x ++ calls) first ∙ append_assoc asked (call ∷ []) calls
 asked_as (Refused (NoTopology fault)) call calls asked middle asked' first a = a ∙ ap (λ x. x ++ calls) first ∙ append_assoc asked (call ∷ []) calls
 asked_as (Refused (Stock shortage)) call calls asked middle asked' first a = a ∙ ap (λ x. x ++ calls) first ∙ append_assoc asked (call ∷ []) calls
+asked_as (Refused (Audit fault)) call calls asked middle asked' first a = a ∙ ap (λ x. x ++ calls) first ∙ append_assoc asked (call ∷ []) calls
 
 -- ---- the whole
 
@@ -392,4 +434,5 @@ after_call old middle new case call calls topology before verdict c x = record {
   outside = outside_of_as (verdict ≡ Refused Memory) case topology before call calls old middle new c x.outside;
   asked_by = λ t. asked_as verdict call calls old.edges.asked middle.asked new.edges.asked (c.one_call t) (x.asked_by (rw c.names.same_telling t));
   same_telling = x.same_telling ∙ c.names.same_telling;
+  audited = λ a b. audited_as case call old.edges middle new.edges c (x.audited a b);
 }

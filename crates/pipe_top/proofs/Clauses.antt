@@ -10,19 +10,23 @@ use Rattle.pipe_model.specs.History.{History}
 use Rattle.pipe_edges.specs.declared.edges.EdgeKind.{EdgeKind}
 use Rattle.edge_names.specs.Supplies.{Feed}
 use Rattle.program_words.specs.Refusals.{memory_line}
-use Rattle.program_words.specs.Words.{Command, Flow, Check, Run, Gen, Upgrade}
+use Rattle.journal_audit.specs.declared.verdict.Summary.{Summary}
+use Rattle.program_words.specs.Words.{Command, Flow, Check, Run, Gen, Upgrade, Audit as AuditOf}
 use Rattle.topology_needs.specs.declared.stock.Boxes.{Boxes}
 use Rattle.topology_needs.specs.declared.stock.Shortage.{Shortage}
 use Rattle.topology_needs.specs.Needs.{shortage_of}
 use Rattle.config_table.specs.declared.fault.ConfigFault.{ConfigFault}
 use Rattle.config_flow.specs.Flow.{flow_topology_of}
 use Rattle.pipe_config.specs.File.{topology_of_file}
-use Rattle.pipe_top.specs.Cases.{Feeding, Named, MadeFrom, feeds_of, Case, NoCommand, NoTopology as BadTopology, TooFew, Checks, Upgrades, Runs, case_of, run_case, unless_short, for_topology, report_alone}
+use Rattle.pipe_top.specs.Cases.{Feeding, Named, MadeFrom, feeds_of, Case, NoCommand, NoTopology as BadTopology, TooFew, Checks, Upgrades, Audits, Rejects, Runs, audit_case, case_of, run_case, unless_short, for_topology, report_alone}
 use Rattle.run_verdicts.specs.Verdicts.{Adds, AddsPrefix, out_text_of, err_text_of, status_in, FaultBy, QuietBy, UnlessNine}
-use Rattle.pipe_top.specs.Runs.{OutsideSeen, IsRunOrNone, IsEndOf, IsOwnTopology, IsStatusOf, IsReportOf, IsRefusal, IsRefused, Lost, IsUntouched, HasUsed, HasNotBegun, HasRunOrNot, IsBrokenOff, IsGivenUp, IsOutsideOf, IsRefusalStatus, IsUnopenedStatus, IsOr, Asks, FailsAt, NamesFault, IsEdgeLine, BeginsLine, out_text, text_of_call, case_line, error_text}
+use Rattle.pipe_top.specs.Runs.{OutsideSeen, IsRunOrNone, IsEndOf, IsOwnTopology, IsStatusOf, IsReportOf, IsRefusal, IsRefused, Lost, IsUntouched, HasUsed, HasNotBegun, HasRunOrNot, IsBrokenOff, IsGivenUp, IsOutsideOf, IsKnownStatus, IsRefusalStatus, IsUnopenedStatus, IsOr, Asks, FailsAt, NamesFault, IsEdgeLine, BeginsLine, out_text, text_of_call, case_line, error_text}
 use Rattle.pipe_top.specs.Flows.{Outcome, IsEarly, AskedBy}
 use Rattle.run_verdicts.specs.declared.verdict.Refusal.{Refusal}
-use Rattle.run_verdicts.specs.declared.verdict.Refusal.TheVariants.{Usage, Topology as NoTopology, Stock, Edge, Memory}
+use Rattle.run_verdicts.specs.declared.verdict.Refusal.TheVariants.{Usage, Topology as NoTopology, Stock, Edge, Audit, Memory}
+use Rattle.run_verdicts.specs.Audits.{fault_line, fault_status}
+use Rattle.run_verdicts.specs.declared.audits.AuditFault.{AuditFault}
+use Rattle.run_verdicts.specs.declared.audits.AuditFault.TheVariants.{Line, Large, Wait, Source}
 use Rattle.run_verdicts.specs.declared.verdict.Shows.{Shows}
 use Rattle.run_verdicts.specs.declared.verdict.Verdict.{Verdict}
 use Rattle.run_verdicts.specs.declared.verdict.Verdict.TheVariants.{Refused, Done}
@@ -45,22 +49,45 @@ early_big : (s : ℕ) → (s ≡ 9) ⊎ (s ≡ 5) → s ≤ 4 → ⊥
 early_big s (inl is) few = omega (arith, is, few)
 early_big s (inr is) few = omega (arith, is, few)
 
-pub known : (case : Case) (fails : List ℕ → Type 0) (topology : Option Topology) (before : History) (verdict : Verdict) → Outcome case fails topology before verdict → status_in verdict ≤ 9
+-- the statuses of an audit that found no legal journal
+fault_known : (fault : AuditFault) → IsKnownStatus (fault_status fault)
+fault_known (Line line cause) = inr refl
+fault_known Large = inr refl
+fault_known Wait = inr refl
+fault_known Source = inl (omega arith)
+
+-- they are none of a call by name that failed, of a topology, of words, of a write or of wanting memory
+fault_not : (fault : AuditFault) (n : ℕ) → 5 ≤ n → n ≤ 9 → fault_status fault ≡ n → ⊥
+fault_not (Line line cause) n low high is = omega (arith, low, high, is)
+fault_not Large n low high is = omega (arith, low, high, is)
+fault_not Wait n low high is = omega (arith, low, high, is)
+fault_not Source n low high is = omega (arith, low, high, is)
+
+-- its line is written under 11
+fault_text : (fault : AuditFault) (name : List ℕ) (wanted : Topology) → fault_line fault ≡ error_text (fault_status fault) (Rejects name fault wanted)
+fault_text (Line line cause) name wanted = refl
+fault_text Large name wanted = refl
+fault_text Wait name wanted = refl
+fault_text Source name wanted = refl
+
+pub known : (case : Case) (fails : List ℕ → Type 0) (topology : Option Topology) (before : History) (verdict : Verdict) → Outcome case fails topology before verdict → IsKnownStatus (status_in verdict)
 known case fails topology before verdict (inl e) = by_early (status_in verdict) (early_at fails topology before verdict e)
   where
-    by_early : (s : ℕ) → (s ≡ 9) ⊎ (s ≡ 5) → s ≤ 9
-    by_early s (inl is) = omega (arith, is)
-    by_early s (inr is) = omega (arith, is)
-known NoCommand fails topology before verdict (inr r) = rw r.refused (omega arith)
-known (BadTopology fault) fails topology before verdict (inr r) = rw r.refused (omega arith)
-known (TooFew shortage) fails topology before verdict (inr r) = rw r.refused (omega arith)
-known (Checks wanted) fails topology before verdict (inr r) = rw r.counted (omega arith)
-known (Upgrades file text wanted) fails topology before verdict (inr r) = rw r.counted (omega arith)
+    by_early : (s : ℕ) → (s ≡ 9) ⊎ (s ≡ 5) → IsKnownStatus s
+    by_early s (inl is) = inl (omega (arith, is))
+    by_early s (inr is) = inl (omega (arith, is))
+known NoCommand fails topology before verdict (inr r) = inl (rw r.refused (omega arith))
+known (BadTopology fault) fails topology before verdict (inr r) = inl (rw r.refused (omega arith))
+known (TooFew shortage) fails topology before verdict (inr r) = inl (rw r.refused (omega arith))
+known (Checks wanted) fails topology before verdict (inr r) = inl (rw r.counted (omega arith))
+known (Upgrades file text wanted) fails topology before verdict (inr r) = inl (rw r.counted (omega arith))
+known (Audits name summary wanted) fails topology before verdict (inr r) = inl (rw r.counted (omega arith))
+known (Rejects name fault wanted) fails topology before verdict (inr r) = rw r.refused (fault_known fault)
 known (Runs shows feeding wanted) fails topology before verdict (inr r) = by_run (ran verdict shows wanted before r.comes_to)
   where
-    by_run : Reported shows wanted before verdict ⊎ (verdict ≡ Refused Memory) → status_in verdict ≤ 9
-    by_run (inl v) = omega (arith, few_of v)
-    by_run (inr is) = rw is (omega arith)
+    by_run : Reported shows wanted before verdict ⊎ (verdict ≡ Refused Memory) → IsKnownStatus (status_in verdict)
+    by_run (inl v) = inl (omega (arith, few_of v))
+    by_run (inr is) = inl (rw is (omega arith))
 
 -- 8 is no status of a verdict
 pub never_eight : (case : Case) (fails : List ℕ → Type 0) (topology : Option Topology) (before : History) (verdict : Verdict) → Outcome case fails topology before verdict → status_in verdict ≢ 8
@@ -70,6 +97,8 @@ never_eight (BadTopology fault) fails topology before verdict (inr r) = rw r.ref
 never_eight (TooFew shortage) fails topology before verdict (inr r) = rw r.refused (λ x. cc)
 never_eight (Checks wanted) fails topology before verdict (inr r) = rw r.counted (λ x. cc)
 never_eight (Upgrades file text wanted) fails topology before verdict (inr r) = rw r.counted (λ x. cc)
+never_eight (Audits name summary wanted) fails topology before verdict (inr r) = rw r.counted (λ x. cc)
+never_eight (Rejects name fault wanted) fails topology before verdict (inr r) = rw r.refused (λ x. fault_not fault 8 (omega arith) (omega arith) x)
 never_eight (Runs shows feeding wanted) fails topology before verdict (inr r) = by_run (ran verdict shows wanted before r.comes_to)
   where
     by_run : Reported shows wanted before verdict ⊎ (verdict ≡ Refused Memory) → status_in verdict ≢ 8
@@ -85,6 +114,8 @@ own (BadTopology fault) fails topology before verdict (inr r) = rw r.no_topology
 own (TooFew shortage) fails topology before verdict (inr r) = rw r.no_topology r.no_step
 own (Checks wanted) fails topology before verdict (inr r) = rw r.own (refl, r.no_step)
 own (Upgrades file text wanted) fails topology before verdict (inr r) = rw r.own (refl, r.no_step)
+own (Audits name summary wanted) fails topology before verdict (inr r) = rw r.own (refl, r.no_step)
+own (Rejects name fault wanted) fails topology before verdict (inr r) = rw r.no_topology r.no_step
 own (Runs shows feeding wanted) fails topology before verdict (inr r) = rw r.own refl
 
 pub run : (case : Case) (fails : List ℕ → Type 0) (topology : Option Topology) (before : History) (verdict : Verdict) → Outcome case fails topology before verdict → IsRunOrNone topology before
@@ -94,6 +125,8 @@ run (BadTopology fault) fails topology before verdict (inr r) = rw r.no_topology
 run (TooFew shortage) fails topology before verdict (inr r) = rw r.no_topology r.no_step
 run (Checks wanted) fails topology before verdict (inr r) = rw r.own r.run
 run (Upgrades file text wanted) fails topology before verdict (inr r) = rw r.own r.run
+run (Audits name summary wanted) fails topology before verdict (inr r) = rw r.own r.run
+run (Rejects name fault wanted) fails topology before verdict (inr r) = rw r.no_topology r.no_step
 run (Runs shows feeding wanted) fails topology before verdict (inr r) = rw r.own r.run
 
 ended_in : (case : Case) (fails : List ℕ → Type 0) (topology : Option Topology) (before : History) (verdict : Verdict) → Outcome case fails topology before verdict → status_in verdict ≤ 4
@@ -104,6 +137,8 @@ ended_in (BadTopology fault) fails topology before verdict (inr r) few = absurd 
 ended_in (TooFew shortage) fails topology before verdict (inr r) few = absurd (not_small 6 (status_in verdict) (ap status_in r.refused) (omega arith) few)
 ended_in (Checks wanted) fails topology before verdict (inr r) few = (ap status_in r.counted, r.own, r.no_step)
 ended_in (Upgrades file text wanted) fails topology before verdict (inr r) few = (ap status_in r.counted, r.own, r.no_step, r.upgrade)
+ended_in (Audits name summary wanted) fails topology before verdict (inr r) few = (ap status_in r.counted, r.own, r.no_step)
+ended_in (Rejects name fault wanted) fails topology before verdict (inr r) few = (ap status_in r.refused, r.no_topology, r.no_step)
 ended_in (Runs shows feeding wanted) fails topology before verdict (inr r) few = by_run (ran verdict shows wanted before r.comes_to)
   where
     by_run : Reported shows wanted before verdict ⊎ (verdict ≡ Refused Memory) → IsEndOf topology before (status_in verdict) (Runs shows feeding wanted)
@@ -126,6 +161,8 @@ small_text before (BadTopology fault) fails topology verdict (inr r) few = absur
 small_text before (TooFew shortage) fails topology verdict (inr r) few = absurd (not_small 6 (status_in verdict) (ap status_in r.refused) (omega arith) few)
 small_text before (Checks wanted) fails topology verdict (inr r) few = rw r.counted r.counts
 small_text before (Upgrades file text wanted) fails topology verdict (inr r) few = rw r.counted r.counts
+small_text before (Audits name summary wanted) fails topology verdict (inr r) few = rw r.counted r.counts
+small_text before (Rejects name fault wanted) fails topology verdict (inr r) few = ap out_text_of r.refused
 small_text before (Runs shows feeding wanted) fails topology verdict (inr r) few = by_run (ran verdict shows wanted before r.comes_to)
   where
     by_run : Reported shows wanted before verdict ⊎ (verdict ≡ Refused Memory) → out_text_of verdict ≡ out_text before (Runs shows feeding wanted)
@@ -164,6 +201,10 @@ begun (Checks wanted) fails topology before verdict held held' (inr r) b =
 begun (Upgrades file text wanted) fails topology before verdict held held' (inr r) b =
     let counted : AddsPrefix held held' (out_text_of (Done r.texts 0)) = rw r.counted at b in
     rw r.own (rw r.counts at counted)
+begun (Audits name summary wanted) fails topology before verdict held held' (inr r) b =
+    let counted : AddsPrefix held held' (out_text_of (Done r.texts 0)) = rw r.counted at b in
+    rw r.own (rw r.counts at counted)
+begun (Rejects name fault wanted) fails topology before verdict held held' (inr r) b = rw r.no_topology (begun_refusal held held' [] verdict (Audit fault) r.refused b)
 begun (Runs shows feeding wanted) fails topology before verdict held held' (inr r) b = rw r.own (by_run (ran verdict shows wanted before r.comes_to))
   where
     by_run : Reported shows wanted before verdict ⊎ (verdict ≡ Refused Memory) → AddsPrefix held held' (out_text before (Runs shows feeding wanted))
@@ -185,6 +226,8 @@ texts_small (BadTopology fault) fails topology before verdict (inr r) = inr (ap 
 texts_small (TooFew shortage) fails topology before verdict (inr r) = inr (ap out_text_of r.refused)
 texts_small (Checks wanted) fails topology before verdict (inr r) = inl (rw r.counted (omega arith))
 texts_small (Upgrades file text wanted) fails topology before verdict (inr r) = inl (rw r.counted (omega arith))
+texts_small (Audits name summary wanted) fails topology before verdict (inr r) = inl (rw r.counted (omega arith))
+texts_small (Rejects name fault wanted) fails topology before verdict (inr r) = inr (ap out_text_of r.refused)
 texts_small (Runs shows feeding wanted) fails topology before verdict (inr r) = by_run (ran verdict shows wanted before r.comes_to)
   where
     by_run : Reported shows wanted before verdict ⊎ (verdict ≡ Refused Memory) → (status_in verdict ≤ 4) ⊎ (out_text_of verdict ≡ [])
@@ -236,6 +279,8 @@ status_is (BadTopology fault) fails topology before verdict (inr r) a b = ap sta
 status_is (TooFew shortage) fails topology before verdict (inr r) a b = ap status_in r.refused
 status_is (Checks wanted) fails topology before verdict (inr r) a b = ap status_in r.counted
 status_is (Upgrades file text wanted) fails topology before verdict (inr r) a b = ap status_in r.counted
+status_is (Audits name summary wanted) fails topology before verdict (inr r) a b = ap status_in r.counted
+status_is (Rejects name fault wanted) fails topology before verdict (inr r) a b = ap status_in r.refused
 status_is (Runs shows feeding wanted) fails topology before verdict (inr r) a b = by_run (ran verdict shows wanted before r.comes_to)
   where
     by_run : Reported shows wanted before verdict ⊎ (verdict ≡ Refused Memory) → IsStatusOf (status_in verdict) (Runs shows feeding wanted)
@@ -254,6 +299,8 @@ line_is (BadTopology fault) fails topology before verdict (inr r) a b = rw r.ref
 line_is (TooFew shortage) fails topology before verdict (inr r) a b = rw r.refused refl
 line_is (Checks wanted) fails topology before verdict (inr r) a b = rw r.counted refl
 line_is (Upgrades file text wanted) fails topology before verdict (inr r) a b = rw r.counted refl
+line_is (Audits name summary wanted) fails topology before verdict (inr r) a b = rw r.counted refl
+line_is (Rejects name fault wanted) fails topology before verdict (inr r) a b = rw r.refused (fault_text fault name wanted)
 line_is (Runs shows feeding wanted) fails topology before verdict (inr r) a b = by_run (ran verdict shows wanted before r.comes_to)
   where
     small_line : (s : ℕ) → s ≤ 4 → [] ≡ error_text s (Runs shows feeding wanted)
@@ -300,6 +347,8 @@ one_line (BadTopology f) told calls asked asked' fault topology before verdict s
 one_line (TooFew shortage) told calls asked asked' fault topology before verdict status wanting (inr r) = inr (inl (ap err_text_of r.refused))
 one_line (Checks wanted) told calls asked asked' fault topology before verdict status wanting (inr r) = inl (ap err_text_of r.counted)
 one_line (Upgrades file text wanted) told calls asked asked' fault topology before verdict status wanting (inr r) = inl (ap err_text_of r.counted)
+one_line (Audits name summary wanted) told calls asked asked' fault topology before verdict status wanting (inr r) = inl (ap err_text_of r.counted)
+one_line (Rejects name f wanted) told calls asked asked' fault topology before verdict status wanting (inr r) = inr (inl (ap err_text_of r.refused))
 one_line (Runs shows feeding wanted) told calls asked asked' fault topology before verdict status wanting (inr r) = by_run (ran verdict shows wanted before r.comes_to)
   where
     by_run : Reported shows wanted before verdict ⊎ (verdict ≡ Refused Memory)
@@ -335,6 +384,8 @@ named_fault (BadTopology f) told calls asked asked' fault err_told topology befo
 named_fault (TooFew shortage) told calls asked asked' fault err_told topology before verdict held held' (inr r) five adds = absurd (not_both 6 5 (status_in verdict) (ap status_in r.refused) five (λ x. cc))
 named_fault (Checks wanted) told calls asked asked' fault err_told topology before verdict held held' (inr r) five adds = absurd (not_both 0 5 (status_in verdict) (ap status_in r.counted) five (λ x. cc))
 named_fault (Upgrades file text wanted) told calls asked asked' fault err_told topology before verdict held held' (inr r) five adds = absurd (not_both 0 5 (status_in verdict) (ap status_in r.counted) five (λ x. cc))
+named_fault (Audits name summary wanted) told calls asked asked' fault err_told topology before verdict held held' (inr r) five adds = absurd (not_both 0 5 (status_in verdict) (ap status_in r.counted) five (λ x. cc))
+named_fault (Rejects name f wanted) told calls asked asked' fault err_told topology before verdict held held' (inr r) five adds = absurd (fault_not f 5 (omega arith) (omega arith) (sym (ap status_in r.refused) ∙ five))
 named_fault (Runs shows feeding wanted) told calls asked asked' fault err_told topology before verdict held held' (inr r) five adds = absurd (by_run (ran verdict shows wanted before r.comes_to))
   where
     by_run : Reported shows wanted before verdict ⊎ (verdict ≡ Refused Memory) → ⊥
@@ -356,6 +407,8 @@ number (BadTopology fault) = 1
 number (TooFew shortage) = 1
 number (Checks wanted) = 1
 number (Upgrades file text wanted) = 1
+number (Audits name summary wanted) = 1
+number (Rejects name fault wanted) = 1
 number (Runs shows feeding wanted) = 1
 
 short_case : (short : Option Shortage) (case : Case) → number case ≡ 1 → number (unless_short short case) ≡ 1
@@ -373,16 +426,22 @@ upgraded_number : (read : Result Topology ConfigFault) (file text : List ℕ) �
 upgraded_number (Ok topology) file text = refl
 upgraded_number (Err fault) file text = refl
 
+judged_number : (read : Result Topology ConfigFault) (name : List ℕ) (found : Result Summary AuditFault) → number (for_topology read (audit_case name found)) ≡ 1
+judged_number (Ok topology) name (Ok summary) = refl
+judged_number (Ok topology) name (Err fault) = refl
+judged_number (Err fault) name found = refl
+
 loaded_number : (read : Result Topology ConfigFault) (boxes : Boxes) (shows : Shows) (feeding : Feeding) → number (for_topology read (run_case boxes shows feeding)) ≡ 1
 loaded_number (Ok topology) boxes shows feeding = run_number boxes shows feeding topology
 loaded_number (Err fault) boxes shows feeding = refl
 
-some_number : (command : Command) (file text : List ℕ) (boxes : Boxes) → number (case_of (Some command) file text boxes) ≡ 1
-some_number (Flow source prefix) file text boxes = run_number boxes report_alone Named (flow_topology_of source prefix)
-some_number (Check path) file text boxes = checked_number (topology_of_file file)
-some_number (Upgrade path) file text boxes = upgraded_number (topology_of_file file) file text
-some_number (Run path workers acks steps) file text boxes = loaded_number (topology_of_file file) boxes (record { steps = steps; acks = acks }) Named
-some_number (Gen seed count path) file text boxes = loaded_number (topology_of_file file) boxes report_alone (MadeFrom seed count)
+some_number : (command : Command) (file text : List ℕ) (found : Result Summary AuditFault) (boxes : Boxes) → number (case_of (Some command) file text found boxes) ≡ 1
+some_number (Flow source prefix) file text found boxes = run_number boxes report_alone Named (flow_topology_of source prefix)
+some_number (Check path) file text found boxes = checked_number (topology_of_file file)
+some_number (Upgrade path) file text found boxes = upgraded_number (topology_of_file file) file text
+some_number (AuditOf journal path) file text found boxes = judged_number (topology_of_file file) journal found
+some_number (Run path workers acks steps) file text found boxes = loaded_number (topology_of_file file) boxes (record { steps = steps; acks = acks }) Named
+some_number (Gen seed count path) file text found boxes = loaded_number (topology_of_file file) boxes report_alone (MadeFrom seed count)
 
 of_seven : (case : Case) → IsStatusOf 7 case → number case ≡ 0
 of_seven NoCommand is = refl
@@ -390,12 +449,14 @@ of_seven (BadTopology fault) is = absurd (omega (arith, is))
 of_seven (TooFew shortage) is = absurd (omega (arith, is))
 of_seven (Checks wanted) is = absurd (omega (arith, is))
 of_seven (Upgrades file text wanted) is = absurd (omega (arith, is))
+of_seven (Audits name summary wanted) is = absurd (omega (arith, is))
+of_seven (Rejects name fault wanted) is = absurd (fault_not fault 7 (omega arith) (omega arith) (sym is))
 of_seven (Runs shows feeding wanted) few = absurd (omega (arith, few))
 
 -- the status 7 comes where the words are no command
-pub usage_by : (command : Option Command) (file text : List ℕ) (boxes : Boxes) → IsStatusOf 7 (case_of command file text boxes) → command ≡ None
-usage_by None file text boxes is = refl
-usage_by (Some command) file text boxes is = absurd (omega (arith, some_number command file text boxes, of_seven (case_of (Some command) file text boxes) is))
+pub usage_by : (command : Option Command) (file text : List ℕ) (found : Result Summary AuditFault) (boxes : Boxes) → IsStatusOf 7 (case_of command file text found boxes) → command ≡ None
+usage_by None file text found boxes is = refl
+usage_by (Some command) file text found boxes is = absurd (omega (arith, some_number command file text found boxes, of_seven (case_of (Some command) file text found boxes) is))
 
 no_call : (front rest : List (EdgeKind × List ℕ)) (call : EdgeKind × List ℕ) → [] ≡ front ++ call ∷ rest → ⊥
 no_call [] rest call e = cc
@@ -435,6 +496,10 @@ none_ran (Checks wanted) fails topology before verdict (inr r) u =
 none_ran (Upgrades file text wanted) fails topology before verdict (inr r) u =
     let counted : status_in verdict ≡ 0 = ap status_in r.counted in
     absurd (omega (arith, counted, (refusal_is (status_in verdict) u).0))
+none_ran (Audits name summary wanted) fails topology before verdict (inr r) u =
+    let counted : status_in verdict ≡ 0 = ap status_in r.counted in
+    absurd (omega (arith, counted, (refusal_is (status_in verdict) u).0))
+none_ran (Rejects name fault wanted) fails topology before verdict (inr r) u = (r.no_topology, r.no_step)
 none_ran (Runs shows feeding wanted) fails topology before verdict (inr r) u = absurd (run_refused verdict (ran verdict shows wanted before r.comes_to) u)
 
 -- ---- the outside
@@ -445,6 +510,19 @@ run_opened : (shows : Shows) (feeding : Feeding) (wanted : Topology) (fails : Li
 run_opened shows feeding wanted fails topology before verdict (inl e) u = nine_or_five (status_in verdict) (status_in verdict) (early_at fails topology before verdict e) refl (unopened_is (status_in verdict) u).2 (unopened_is (status_in verdict) u).1
 run_opened shows feeding wanted fails topology before verdict (inr r) u = run_refused verdict (ran verdict shows wanted before r.comes_to) (inr u)
 
+audit_opened : (name : List ℕ) (summary : Summary) (wanted : Topology) (fails : List ℕ → Type 0) (topology : Option Topology) (before : History) (verdict : Verdict) → Outcome (Audits name summary wanted) fails topology before verdict
+    → IsUnopenedStatus (status_in verdict) → ⊥
+audit_opened name summary wanted fails topology before verdict (inl e) u = nine_or_five (status_in verdict) (status_in verdict) (early_at fails topology before verdict e) refl (unopened_is (status_in verdict) u).2 (unopened_is (status_in verdict) u).1
+audit_opened name summary wanted fails topology before verdict (inr r) u =
+    let counted : status_in verdict ≡ 0 = ap status_in r.counted in
+    omega (arith, counted, (unopened_is (status_in verdict) u).0)
+
+reject_opened : (name : List ℕ) (fault : AuditFault) (wanted : Topology) (fails : List ℕ → Type 0) (topology : Option Topology) (before : History) (verdict : Verdict) → Outcome (Rejects name fault wanted) fails topology before verdict
+    → IsUnopenedStatus (status_in verdict) → ⊥
+reject_opened name fault wanted fails topology before verdict (inl e) u = nine_or_five (status_in verdict) (status_in verdict) (early_at fails topology before verdict e) refl (unopened_is (status_in verdict) u).2 (unopened_is (status_in verdict) u).1
+reject_opened name fault wanted fails topology before verdict (inr r) (inl six) = fault_not fault 6 (omega arith) (omega arith) (sym (ap status_in r.refused) ∙ six)
+reject_opened name fault wanted fails topology before verdict (inr r) (inr seven) = fault_not fault 7 (omega arith) (omega arith) (sym (ap status_in r.refused) ∙ seven)
+
 pub not_opened : (case : Case) (fails : List ℕ → Type 0) (memory : Type 0) (calls : List (EdgeKind × List ℕ)) (topology : Option Topology) (before : History) (verdict : Verdict) (old new : OutsideSeen)
     → Outcome case fails topology before verdict → IsUnopenedStatus (status_in verdict) → IsOutsideOf memory calls topology before case old new → IsUntouched old new
 not_opened NoCommand fails memory calls topology before verdict old new o u out = out
@@ -452,6 +530,8 @@ not_opened (BadTopology fault) fails memory calls topology before verdict old ne
 not_opened (TooFew shortage) fails memory calls topology before verdict old new o u out = out
 not_opened (Checks wanted) fails memory calls topology before verdict old new o u out = out
 not_opened (Upgrades file text wanted) fails memory calls topology before verdict old new o u out = out
+not_opened (Audits name summary wanted) fails memory calls topology before verdict old new o u out = absurd (audit_opened name summary wanted fails topology before verdict o u)
+not_opened (Rejects name fault wanted) fails memory calls topology before verdict old new o u out = absurd (reject_opened name fault wanted fails topology before verdict o u)
 not_opened (Runs shows feeding wanted) fails memory calls topology before verdict old new o u out = absurd (run_opened shows feeding wanted fails topology before verdict o u)
 
 used_as : (feeds : StageSpec → Option Feed) (memory wanting : Type 0) → (memory → wanting) → (wanted : Topology) (before : History) (old new : OutsideSeen) → HasUsed feeds memory wanted before old new → HasUsed feeds wanting wanted before old new
@@ -484,6 +564,8 @@ outside_as memory wanting so calls topology before (BadTopology fault) old new o
 outside_as memory wanting so calls topology before (TooFew shortage) old new out = out
 outside_as memory wanting so calls topology before (Checks wanted) old new out = out
 outside_as memory wanting so calls topology before (Upgrades file text wanted) old new out = out
+outside_as memory wanting so calls topology before (Audits name summary wanted) old new out = out
+outside_as memory wanting so calls topology before (Rejects name fault wanted) old new out = out
 outside_as memory wanting so calls topology before (Runs shows feeding wanted) old new out = run_or_not_as (feeds_of feeding wanted) memory wanting so calls wanted topology before old new out
 
 -- ---- a text that was lost
@@ -517,6 +599,10 @@ lost_by (Checks wanted) fails topology before verdict out_fault quiet err_fault 
     inl (record { status = 0; end_of = (refl, r.own, r.no_step) }, rw r.counted at fault, rw r.counted at q)
 lost_by (Upgrades file text wanted) fails topology before verdict out_fault quiet err_fault found (inr r) fault q =
     inl (record { status = 0; end_of = (refl, r.own, r.no_step, r.upgrade) }, rw r.counted at fault, rw r.counted at q)
+lost_by (Audits name summary wanted) fails topology before verdict out_fault quiet err_fault found (inr r) fault q =
+    inl (record { status = 0; end_of = (refl, r.own, r.no_step) }, rw r.counted at fault, rw r.counted at q)
+lost_by (Rejects name f wanted) fails topology before verdict out_fault quiet err_fault found (inr r) fault q =
+    refusal_lost verdict (Audit f) _ out_fault quiet (IsRefused fails topology before (Rejects name f wanted)) err_fault r.refused (refused_case fails topology before (Rejects name f wanted) r.no_topology r.no_step tt) fault
 lost_by (Runs shows feeding wanted) fails topology before verdict out_fault quiet err_fault found (inr r) fault q = by_run (ran verdict shows wanted before r.comes_to)
   where
     by_run : Reported shows wanted before verdict ⊎ (verdict ≡ Refused Memory) → Lost (IsReportOf topology before (Runs shows feeding wanted)) out_fault quiet (IsRefused fails topology before (Runs shows feeding wanted)) err_fault
@@ -547,6 +633,7 @@ asks case told calls asked asked' fault topology before (Refused Memory) o t a =
 asks case told calls asked asked' fault topology before (Refused Usage) o t a = all_asked calls asked asked' a
 asks case told calls asked asked' fault topology before (Refused (NoTopology f)) o t a = all_asked calls asked asked' a
 asks case told calls asked asked' fault topology before (Refused (Stock s)) o t a = all_asked calls asked asked' a
+asks case told calls asked asked' fault topology before (Refused (Audit f)) o t a = all_asked calls asked asked' a
 asks case told calls asked asked' fault topology before (Refused (Edge name)) o t a =
     let f = named_fault case told calls asked asked' fault Bool.false topology before (Refused (Edge name)) [] [] o refl (λ never. cc) in
     up_to calls asked asked' f.fails.front f.fails.rest (f.fails.kind, f.name) f.fails.parts (f.fails.is_last t)
@@ -557,4 +644,5 @@ asks_all (Refused Memory) calls asked asked' a b is = absurd (b refl)
 asks_all (Refused Usage) calls asked asked' a b is = is
 asks_all (Refused (NoTopology f)) calls asked asked' a b is = is
 asks_all (Refused (Stock s)) calls asked asked' a b is = is
+asks_all (Refused (Audit f)) calls asked asked' a b is = is
 asks_all (Refused (Edge name)) calls asked asked' a b is = absurd (a refl)

@@ -38,7 +38,7 @@ use Rattle.pipe_run.specs.Outside.{HasControl, IsOutside, IsSourceRead, ReadsSou
 use Rattle.pipe_run.specs.Whole.{HasCome}
 use Rattle.run_verdicts.specs.Verdicts.{status_in}
 use Rattle.pipe_top.specs.Runs.{OutsideSeen, IsRun, IsEnded, HasUsed, IsOutsideOf, IsFaultless, AreFaultless, IsReadWhole, IsComplete, IsCompleteIn, is_limit_drain, is_control_drain, is_idle_drain}
-use Rattle.pipe_top.specs.Cases.{Feeding, Named, MadeFrom, feeds_of, Case, NoCommand, NoTopology as BadTopology, TooFew, Checks, Upgrades, Runs}
+use Rattle.pipe_top.specs.Cases.{Feeding, Named, MadeFrom, feeds_of, Case, NoCommand, NoTopology as BadTopology, TooFew, Checks, Upgrades, Audits, Rejects, Runs}
 use Rattle.pipe_top.specs.Flows.{IsFew, Outcome}
 use Rattle.run_verdicts.specs.declared.verdict.Refusal.TheVariants.{Memory}
 use Rattle.run_verdicts.specs.declared.verdict.Texts.{Texts}
@@ -269,6 +269,8 @@ complete_in (BadTopology fault) fails calls topology before verdict status old n
 complete_in (TooFew shortage) fails calls topology before verdict status old new is calm fine o out = tt
 complete_in (Checks wanted) fails calls topology before verdict status old new is calm fine o out = tt
 complete_in (Upgrades file text wanted) fails calls topology before verdict status old new is calm fine o out = tt
+complete_in (Audits name summary wanted) fails calls topology before verdict status old new is calm fine o out = tt
+complete_in (Rejects name fault wanted) fails calls topology before verdict status old new is calm fine o out = tt
 complete_in (Runs shows feeding wanted) fails calls topology before verdict status old new is calm fine (inl e) out =
     memory_or wanted fails before verdict status is (early fails topology before verdict e).why calm
 complete_in (Runs shows feeding wanted) fails calls topology before verdict status old new is calm fine (inr r) out =
@@ -289,6 +291,8 @@ nine_complete (BadTopology fault) before status is = tt
 nine_complete (TooFew shortage) before status is = tt
 nine_complete (Checks wanted) before status is = tt
 nine_complete (Upgrades file text wanted) before status is = tt
+nine_complete (Audits name summary wanted) before status is = tt
+nine_complete (Rejects name fault wanted) before status is = tt
 nine_complete (Runs shows feeding wanted) before status is = wanting wanted before status is
 
 pub complete_by : (case : Case) (fails : List ℕ → Type 0) (calls : List (EdgeKind × List ℕ)) (topology : Option Topology) (before : History) (verdict : Verdict) (status : ℕ) (old new : OutsideSeen)

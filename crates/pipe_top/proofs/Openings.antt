@@ -22,7 +22,7 @@ use Rattle.pipe_top.specs.Cases.{Feeding, feeds_of, Runs, unless_short, opening_
 use Rattle.pipe_top.specs.Runs.{OutsideSeen, IsUntouched, IsRun, FailsAt}
 use Rattle.pipe_top.specs.Flows.{AskedBy, ComesBy, IsFedBy, IsJudgement, refusal_in}
 use Rattle.run_verdicts.specs.declared.verdict.Refusal.{Refusal}
-use Rattle.run_verdicts.specs.declared.verdict.Refusal.TheVariants.{Usage, Topology as NoTopology, Stock, Edge, Memory}
+use Rattle.run_verdicts.specs.declared.verdict.Refusal.TheVariants.{Usage, Topology as NoTopology, Stock, Edge, Audit, Memory}
 use Rattle.run_verdicts.specs.declared.verdict.Shows.{Shows}
 use Rattle.run_verdicts.specs.declared.verdict.Verdict.{Verdict}
 use Rattle.run_verdicts.specs.declared.verdict.Verdict.TheVariants.{Refused, Done}
@@ -44,6 +44,7 @@ refused_topology old new shows feeding wanted (Some s) refusal topology before v
       outside = untouched;
       asked_by = λ t. rw stock (asked ∙ sym (append-nil old.edges.asked));
       same_telling = telling;
+      audited = λ a b. tt;
     }
 refused_topology old new shows feeding wanted None refusal topology before verdict e is none untouched asked telling = cc
 
@@ -60,6 +61,7 @@ all_asked (Done texts status) calls asked asked' is = is
 all_asked (Refused Usage) calls asked asked' is = is
 all_asked (Refused (NoTopology fault)) calls asked asked' is = is
 all_asked (Refused (Stock shortage)) calls asked asked' is = is
+all_asked (Refused (Audit fault)) calls asked asked' is = is
 
 -- a run that the core stands for
 run_by : (core : Core) → Stands core → FollowsMoves core.topology core.journal.steps → (core.topology.control ≡ None → HasNoControl core.journal.steps) → IsRun core.topology core.journal.steps
@@ -106,6 +108,7 @@ ran old new shows feeding feeds wanted whole core topology before verdict fed sa
       };
       asked_by = λ t. all_asked verdict (run_calls (feeds_of feeding wanted) wanted) old.edges.asked new.edges.asked (r.asks.asked t);
       same_telling = r.asks.same_telling;
+      audited = λ a b. tt;
     })
 
 -- a call by this name failed
@@ -132,6 +135,7 @@ unopened old new shows feeding feeds wanted name topology before verdict fed awa
       };
       asked_by = λ t. tt;
       same_telling = a.asks.same_telling;
+      audited = λ a b. tt;
     })
 
 -- memory was wanting before all was opened
@@ -153,4 +157,5 @@ unopened_memory old new shows feeding feeds wanted topology before verdict fed a
         is = a.asks.asked t ∙ ap (λ x. old.edges.asked ++ x) (sym (ap (take (length a.front)) a.calls ∙ take_at a.front a.rest (length a.front) refl));
       };
       same_telling = a.asks.same_telling;
+      audited = λ a b. tt;
     })

@@ -1,12 +1,12 @@
 -- What a call came to, seen by its verdict.
-use Rattle.std.proofs.Common.{◌≡◌, ◌≢◌, ℕ, ◌≤◌, ◌<◌, List, [], Option, Some, None, refl, inl, inr, arith}
+use Rattle.std.proofs.Common.{◌≡◌, ◌≢◌, ℕ, ◌≤◌, ◌<◌, List, [], Option, Some, None, refl, ◌∙◌, inl, inr, arith}
 use Rattle.std.specs.Prelude.{◌⊎◌}
 use Rattle.pipe_types.specs.declared.topology.Topology.{Topology}
 use Rattle.pipe_model.specs.History.{History}
 use Rattle.pipe_top.specs.Flows.{IsReport, IsJudgement, IsEarly}
-use Rattle.pipe_top.specs.Runs.{IsRefusalStatus, IsUnopenedStatus}
+use Rattle.pipe_top.specs.Runs.{IsKnownStatus, IsRefusalStatus, IsUnopenedStatus}
 use Rattle.run_verdicts.specs.Verdicts.{status_in}
-use Rattle.run_verdicts.specs.declared.verdict.Refusal.TheVariants.{Usage, Topology as NoTopology, Stock, Edge, Memory}
+use Rattle.run_verdicts.specs.declared.verdict.Refusal.TheVariants.{Usage, Topology as NoTopology, Stock, Edge, Audit, Memory}
 use Rattle.run_verdicts.specs.declared.verdict.Shows.{Shows}
 use Rattle.run_verdicts.specs.declared.verdict.Texts.{Texts}
 use Rattle.run_verdicts.specs.declared.verdict.Verdict.{Verdict}
@@ -35,6 +35,7 @@ early fails None before (Refused (Edge name)) e = record {
 early fails None before (Refused Usage) e = absurd e
 early fails None before (Refused (NoTopology fault)) e = absurd e
 early fails None before (Refused (Stock shortage)) e = absurd e
+early fails None before (Refused (Audit fault)) e = absurd e
 early fails None before (Done texts status) e = absurd e
 early fails (Some t) before verdict e = absurd e
 
@@ -57,6 +58,7 @@ ran (Refused Memory) shows topology before v = inr refl
 ran (Refused Usage) shows topology before v = absurd v
 ran (Refused (NoTopology fault)) shows topology before v = absurd v
 ran (Refused (Stock shortage)) shows topology before v = absurd v
+ran (Refused (Audit fault)) shows topology before v = absurd v
 ran (Refused (Edge name)) shows topology before v = absurd v
 
 -- ---- statuses
@@ -84,10 +86,11 @@ not_small n status is more few = omega (arith, is, more, few)
 pub not_both : (a b n : ℕ) → n ≡ a → n ≡ b → a ≢ b → ⊥
 not_both a b n p q apart = apart (omega (arith, p, q))
 
-pub within : (status wanted : ℕ) → (status ≡ wanted) ⊎ ((status ≡ 8) ⊎ (status ≡ 9)) → wanted ≤ 9 → status ≤ 9
-within status wanted (inl is) few = omega (arith, is, few)
-within status wanted (inr (inl is)) few = omega (arith, is)
-within status wanted (inr (inr is)) few = omega (arith, is)
+pub within : (status wanted : ℕ) → (status ≡ wanted) ⊎ ((status ≡ 8) ⊎ (status ≡ 9)) → IsKnownStatus wanted → IsKnownStatus status
+within status wanted (inl is) (inl few) = inl (omega (arith, is, few))
+within status wanted (inl is) (inr eleven) = inr (is ∙ eleven)
+within status wanted (inr (inl is)) few = inl (omega (arith, is))
+within status wanted (inr (inr is)) few = inl (omega (arith, is))
 
 -- so is a status of a refusal ..
 pub refusal_as : (status wanted : ℕ) → (status ≡ wanted) ⊎ ((status ≡ 8) ⊎ (status ≡ 9)) → IsRefusalStatus status → IsRefusalStatus wanted

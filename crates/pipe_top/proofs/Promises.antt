@@ -10,7 +10,7 @@ use Rattle.stage_bodies.specs.Seen.{SinkSeen}
 use Rattle.topology_needs.specs.declared.stock.Boxes.{Boxes}
 use Rattle.pipe_top.specs.Cases.{Case, InCase, case_of, calls_of}
 use Rattle.run_verdicts.specs.Verdicts.{Adds, AddsPrefix, out_text_of, err_text_of, status_in, FaultBy, QuietBy, UnlessNine}
-use Rattle.pipe_top.specs.Runs.{OutsideSeen, IsRunOrNone, IsCall, IsUntouched, IsRefusalStatus, IsUnopenedStatus, IsOr, FailsAt}
+use Rattle.pipe_top.specs.Runs.{OutsideSeen, IsRunOrNone, IsCall, IsKnownStatus, IsUntouched, IsRefusalStatus, IsUnopenedStatus, IsOr, FailsAt}
 use Rattle.pipe_top.specs.Flows.{ComesBy, Came}
 use Rattle.run_verdicts.specs.declared.verdict.Refusal.TheVariants.{Memory}
 use Rattle.run_verdicts.specs.declared.verdict.Verdict.{Verdict}
@@ -58,6 +58,7 @@ call_by old new out out' err err' command topology before verdict status case c 
   complete = λ calm out_calm err_calm fine. complete_by case (Failing (calls_of command case) old new) (calls_of command case) topology before verdict status old new w.status_is
       (λ eight. unwritten (fault_by verdict (Rose out.faults out'.faults) (Rose err.faults err'.faults) (w.fault eight (never_eight case (Failing (calls_of command case) old new) topology before verdict c.outcome))) out_calm err_calm)
       (λ name f. calm f.rose) fine c.outcome c.outside;
+  audited = λ a b d. let s = settled status (status_in verdict) w.status_is b d in c.audited (λ x. a (s ∙ x)) (λ x. d (s ∙ x));
   generated = generated_in case (Failing (calls_of command case) old new) (status ≡ 9) (calls_of command case) topology before verdict old new c.outcome
       (outside_as (verdict ≡ Refused Memory) (status ≡ 9) w.wanting (calls_of command case) topology before case old new c.outside);
   told = c.same_telling;
@@ -72,39 +73,40 @@ pub call_in : {old new : OutsideSeen} {command : Option Command} {boxes : Boxes}
 call_in {old} {new} {command} {boxes} {topology} {before} {verdict} out out' err err' status c w = record {
   file = c.file;
   text = c.text;
+  found = c.found;
   is_file = c.is_file;
-  it_holds = call_by old new out out' err err' command topology before verdict status (case_of command c.file c.text boxes) c.comes w;
+  it_holds = call_by old new out out' err err' command topology before verdict status (case_of command c.file c.text c.found boxes) c.comes w;
 }
 
 -- the journal is that of a run
 pub run_in : {old new : OutsideSeen} {command : Option Command} {boxes : Boxes} {topology : Option Topology} {before : History} {verdict : Verdict}
     → Came old new command boxes topology before verdict → IsRunOrNone topology before
 run_in {old} {new} {command} {boxes} {topology} {before} {verdict} c =
-    run (case_of command c.file c.text boxes) (Failing (calls_of command (case_of command c.file c.text boxes)) old new) topology before verdict c.comes.outcome
+    run (case_of command c.file c.text c.found boxes) (Failing (calls_of command (case_of command c.file c.text c.found boxes)) old new) topology before verdict c.comes.outcome
 
 -- the status is at most 9
 pub known_in : {old new : OutsideSeen} {command : Option Command} {boxes : Boxes} {topology : Option Topology} {before : History} {verdict : Verdict} (status : ℕ)
-    → Came old new command boxes topology before verdict → (status ≡ status_in verdict) ⊎ ((status ≡ 8) ⊎ (status ≡ 9)) → status ≤ 9
+    → Came old new command boxes topology before verdict → (status ≡ status_in verdict) ⊎ ((status ≡ 8) ⊎ (status ≡ 9)) → IsKnownStatus status
 known_in {old} {new} {command} {boxes} {topology} {before} {verdict} status c is =
-    within status (status_in verdict) is (known (case_of command c.file c.text boxes) (Failing (calls_of command (case_of command c.file c.text boxes)) old new) topology before verdict c.comes.outcome)
+    within status (status_in verdict) is (known (case_of command c.file c.text c.found boxes) (Failing (calls_of command (case_of command c.file c.text c.found boxes)) old new) topology before verdict c.comes.outcome)
 
 -- a refusal writes nothing to the output
 pub unwritten_in : {old new : OutsideSeen} {command : Option Command} {boxes : Boxes} {topology : Option Topology} {before : History} {verdict : Verdict} (status : ℕ) (held held' : List ℕ)
     → Came old new command boxes topology before verdict → (status ≡ status_in verdict) ⊎ ((status ≡ 8) ⊎ (status ≡ 9)) → IsRefusalStatus status → (status ≢ 8 → Adds held held' (out_text_of verdict)) → held' ≡ held
 unwritten_in {old} {new} {command} {boxes} {topology} {before} {verdict} status held held' c is refusal adds =
-    unwritten_out (case_of command c.file c.text boxes) (Failing (calls_of command (case_of command c.file c.text boxes)) old new) topology before verdict status held held' c.comes.outcome is refusal adds
+    unwritten_out (case_of command c.file c.text c.found boxes) (Failing (calls_of command (case_of command c.file c.text c.found boxes)) old new) topology before verdict status held held' c.comes.outcome is refusal adds
 
 -- nor does want of memory
 pub unwritten_nine_in : {old new : OutsideSeen} {command : Option Command} {boxes : Boxes} {topology : Option Topology} {before : History} {verdict : Verdict} (status : ℕ) (held held' : List ℕ)
     → Came old new command boxes topology before verdict → status ≡ 9 → (status ≢ 8 → Adds held held' (out_text_of verdict)) → UnlessNine verdict (held' ≡ held) → held' ≡ held
 unwritten_nine_in {old} {new} {command} {boxes} {topology} {before} {verdict} status held held' c nine adds nothing =
-    unwritten_nine (case_of command c.file c.text boxes) (Failing (calls_of command (case_of command c.file c.text boxes)) old new) topology before verdict status held held' c.comes.outcome nine adds nothing
+    unwritten_nine (case_of command c.file c.text c.found boxes) (Failing (calls_of command (case_of command c.file c.text c.found boxes)) old new) topology before verdict status held held' c.comes.outcome nine adds nothing
 
 -- 7 comes where the words are no command
 pub usage_in : {old new : OutsideSeen} {command : Option Command} {boxes : Boxes} {topology : Option Topology} {before : History} {verdict : Verdict} (status : ℕ)
     → Came old new command boxes topology before verdict → (status ≡ status_in verdict) ⊎ ((status ≡ 8) ⊎ (status ≡ 9)) → status ≡ 7 → command ≡ None
 usage_in {old} {new} {command} {boxes} {topology} {before} {verdict} status c is seven =
-    usage_by command c.file c.text boxes (of_status_seven (case_of command c.file c.text boxes) (Failing (calls_of command (case_of command c.file c.text boxes)) old new) topology before verdict status c.comes.outcome is seven)
+    usage_by command c.file c.text c.found boxes (of_status_seven (case_of command c.file c.text c.found boxes) (Failing (calls_of command (case_of command c.file c.text c.found boxes)) old new) topology before verdict status c.comes.outcome is seven)
 
 -- words that are no command come to 7
 pub no_command_in : {old new : OutsideSeen} {command : Option Command} {boxes : Boxes} {topology : Option Topology} {before : History} {verdict : Verdict} (status : ℕ)
@@ -116,16 +118,16 @@ no_command_in {old} {new} {command} {boxes} {topology} {before} {verdict} status
 pub eight_in : {old new : OutsideSeen} {command : Option Command} {boxes : Boxes} {topology : Option Topology} {before : History} {verdict : Verdict}
     → Came old new command boxes topology before verdict → status_in verdict ≢ 8
 eight_in {old} {new} {command} {boxes} {topology} {before} {verdict} c =
-    never_eight (case_of command c.file c.text boxes) (Failing (calls_of command (case_of command c.file c.text boxes)) old new) topology before verdict c.comes.outcome
+    never_eight (case_of command c.file c.text c.found boxes) (Failing (calls_of command (case_of command c.file c.text c.found boxes)) old new) topology before verdict c.comes.outcome
 
 -- a refusal has no run
 pub none_ran_in : {old new : OutsideSeen} {command : Option Command} {boxes : Boxes} {topology : Option Topology} {before : History} {verdict : Verdict} (status : ℕ)
     → Came old new command boxes topology before verdict → (status ≡ status_in verdict) ⊎ ((status ≡ 8) ⊎ (status ≡ 9)) → IsRefusalStatus status → (topology ≡ None) × (before ≡ [])
 none_ran_in {old} {new} {command} {boxes} {topology} {before} {verdict} status c is u =
-    none_ran (case_of command c.file c.text boxes) (Failing (calls_of command (case_of command c.file c.text boxes)) old new) topology before verdict c.comes.outcome (refusal_as status (status_in verdict) is u)
+    none_ran (case_of command c.file c.text c.found boxes) (Failing (calls_of command (case_of command c.file c.text c.found boxes)) old new) topology before verdict c.comes.outcome (refusal_as status (status_in verdict) is u)
 
 -- and but for a call by name that failed nothing was opened
 pub not_opened_in : {old new : OutsideSeen} {command : Option Command} {boxes : Boxes} {topology : Option Topology} {before : History} {verdict : Verdict} (status : ℕ)
     → Came old new command boxes topology before verdict → (status ≡ status_in verdict) ⊎ ((status ≡ 8) ⊎ (status ≡ 9)) → IsUnopenedStatus status → IsUntouched old new
 not_opened_in {old} {new} {command} {boxes} {topology} {before} {verdict} status c is u =
-    not_opened (case_of command c.file c.text boxes) (Failing (calls_of command (case_of command c.file c.text boxes)) old new) (verdict ≡ Refused Memory) (calls_of command (case_of command c.file c.text boxes)) topology before verdict old new c.comes.outcome (unopened_as status (status_in verdict) is u) c.comes.outside
+    not_opened (case_of command c.file c.text c.found boxes) (Failing (calls_of command (case_of command c.file c.text c.found boxes)) old new) (verdict ≡ Refused Memory) (calls_of command (case_of command c.file c.text c.found boxes)) topology before verdict old new c.comes.outcome (unopened_as status (status_in verdict) is u) c.comes.outside

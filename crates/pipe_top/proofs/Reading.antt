@@ -7,21 +7,24 @@ use Rattle.pipe_types.specs.Counts.{Rose}
 use Rattle.pipe_types.specs.declared.topology.Topology.{Topology}
 use Rattle.pipe_model.specs.History.{History}
 use Rattle.pipe_edges.specs.declared.edges.EdgeKind.{EdgeKind}
-use Rattle.pipe_edges.specs.declared.edges.EdgeKind.TheVariants.{File}
+use Rattle.pipe_edges.specs.declared.edges.EdgeKind.TheVariants.{File, Source}
 use Rattle.pipe_edges.specs.Named.{StandsAsBefore}
 use Rattle.config_table.specs.declared.fault.ConfigFault.{ConfigFault}
 use Rattle.pipe_config.specs.File.{topology_of_file}
 use Rattle.config_flow.specs.Flow.{flow_topology_of}
-use Rattle.program_words.specs.Words.{Command, Flow, Check, Run, Gen, Upgrade}
+use Rattle.journal_audit.specs.declared.verdict.Summary.{Summary}
+use Rattle.run_verdicts.specs.declared.audits.AuditFault.{AuditFault}
+use Rattle.program_words.specs.Words.{Command, Flow, Check, Run, Gen, Upgrade, Audit as AuditOf}
 use Rattle.edge_names.specs.Seen.{EdgesSeen}
 use Rattle.topology_needs.specs.declared.stock.Boxes.{Boxes}
-use Rattle.pipe_top.specs.Cases.{Feeding, Named, MadeFrom, Case, Checks, Upgrades, case_of, run_case, for_topology, report_alone, opening_calls, calls_of, file_name, IsNamedFile}
+use Rattle.pipe_top.specs.Cases.{Feeding, Named, MadeFrom, Case, Checks, Upgrades, audit_case, case_of, run_case, for_topology, report_alone, opening_calls, calls_of, file_name, IsNamedFile}
 use Rattle.pipe_top.specs.Runs.{OutsideSeen, IsUntouched, Asks, FailsAt}
-use Rattle.pipe_top.specs.Flows.{IsCheckedOrNot, IsUpgraded, ComesBy, Came, ReadsFile, ReadsTopology, ReadsUpgrade, UpgradesTo, IsTextOf, topology_beside, AskedFile}
+use Rattle.pipe_top.specs.Flows.{IsCheckedOrNot, IsUpgraded, ComesBy, Came, ComesAudited, ReadsFile, ReadsTopology, ReadsUpgrade, UpgradesTo, IsTextOf, topology_beside, AskedFile}
 use Rattle.pipe_top.specs.declared.file.Upgraded.{Upgraded}
 use Rattle.pipe_config.specs.Upgrade.{IsUpgrade}
 use Rattle.run_verdicts.specs.declared.verdict.Refusal.{Refusal}
-use Rattle.run_verdicts.specs.declared.verdict.Refusal.TheVariants.{Usage, Topology as NoTopology, Stock, Edge, Memory}
+use Rattle.run_verdicts.specs.declared.verdict.Refusal.TheVariants.{Usage, Topology as NoTopology, Stock, Edge, Audit, Memory}
+use Rattle.run_verdicts.specs.declared.audits.AuditFault.TheVariants.{Large}
 use Rattle.run_verdicts.specs.declared.verdict.Verdict.{Verdict}
 use Rattle.run_verdicts.specs.declared.verdict.Verdict.TheVariants.{Refused}
 use Rattle.pipe_top.proofs.Unused.{asks_none, off_file, off_unasked, outside_of_none, wanting}
@@ -77,6 +80,7 @@ unread old new go name (Edge other) topology before verdict is none same r =
           (λ feeds wanted. inr (record { name = other; fails = failed; back = inl (refl, (same.sources, same.sinks)) }));
       asked_by = λ t. tt;
       same_telling = r.same_telling;
+      audited = λ a b. absurd (a refl);
     })
 unread old new go name (NoTopology fault) topology before verdict is none same r =
     rw r.reads (record {
@@ -88,9 +92,11 @@ unread old new go name (NoTopology fault) topology before verdict is none same r
       outside = same;
       asked_by = λ t. rw is (r.asked_by t);
       same_telling = r.same_telling;
+      audited = λ a b. tt;
     })
 unread old new go name Usage topology before verdict is none same r = absurd r.reads
 unread old new go name (Stock shortage) topology before verdict is none same r = absurd r.reads
+unread old new go name (Audit fault) topology before verdict is none same r = absurd r.reads
 
 -- ---- the file was read
 
@@ -124,6 +130,7 @@ checked_only old new wanted topology before verdict (inr r) same asked telling =
   outside = same;
   asked_by = λ t. rw r.counted (asked ∙ sym (append-nil old.edges.asked));
   same_telling = telling;
+  audited = λ a b. tt;
 }
 
 -- ---- the whole call
@@ -136,6 +143,7 @@ pub came_by_flow : (old new : OutsideSeen) (boxes : Boxes) (source prefix : List
 came_by_flow old new boxes source prefix wanted topology before verdict is x = record {
   file = [];
   text = [];
+  found = Err Large;
   is_file = tt;
   comes = rw is at x;
 }
@@ -154,10 +162,11 @@ came_to_nothing old new command boxes topology before verdict is none same asked
     record {
       file = f.0;
       text = [];
+      found = Err Large;
       is_file = f.1;
-      comes = wanting old new (case_of command f.0 [] boxes) (calls_of command (case_of command f.0 [] boxes)) topology before verdict is none same
-          (λ t. rw asked (asks_none (calls_of command (case_of command f.0 [] boxes)) old.edges.asked))
-          (off_unasked (calls_of command (case_of command f.0 [] boxes)) old.edges new.edges asked (same.sources, same.sinks)) telling;
+      comes = wanting old new (case_of command f.0 [] (Err Large) boxes) (calls_of command (case_of command f.0 [] (Err Large) boxes)) topology before verdict is none same
+          (λ t. rw asked (asks_none (calls_of command (case_of command f.0 [] (Err Large) boxes)) old.edges.asked))
+          (off_unasked (calls_of command (case_of command f.0 [] (Err Large) boxes)) old.edges new.edges asked (same.sources, same.sinks)) telling;
     }
 
 -- the words are no command
@@ -167,6 +176,7 @@ pub came_to_usage : (old new : OutsideSeen) (boxes : Boxes) (topology : Option T
 came_to_usage old new boxes topology before verdict is none same asked telling = record {
   file = [];
   text = [];
+  found = Err Large;
   is_file = tt;
   comes = record {
     outcome = inr (record {
@@ -177,6 +187,7 @@ came_to_usage old new boxes topology before verdict is none same asked telling =
     outside = same;
     asked_by = λ t. rw is (asked ∙ sym (append-nil old.edges.asked));
     same_telling = telling;
+    audited = λ a b. tt;
   };
 }
 
@@ -189,6 +200,7 @@ pub check_came : (old : OutsideSeen) (middle : EdgesSeen) (new : OutsideSeen) (b
 check_came old middle new boxes name wanted topology before verdict r checked edges clock same = record {
   file = r.file;
   text = [];
+  found = Err Large;
   is_file = r.is_file;
   comes = loaded old middle new Checks name wanted topology before verdict r
       (checked_only (record old { edges = middle }) new wanted topology before verdict checked
@@ -203,9 +215,17 @@ pub check_unread : (old new : OutsideSeen) (boxes : Boxes) (name : List ℕ) (re
 check_unread old new boxes name refusal topology before verdict r is none clock same = record {
   file = r.file;
   text = [];
+  found = Err Large;
   is_file = r.is_file;
   comes = unread old new Checks name refusal topology before verdict is none (untouched old new name (Err refusal) r clock same) r;
 }
+
+-- an audit makes one call behind that
+opened_case : (old new : OutsideSeen) (name : List ℕ) (found : Result Summary AuditFault) (wanted : Topology) (topology : Option Topology) (before : History) (verdict : Verdict)
+    → ComesBy old new (audit_case name found wanted) ((Source, name) ∷ []) topology before verdict
+    → ComesBy old new (audit_case name found wanted) (opening_calls (audit_case name found wanted)) topology before verdict
+opened_case old new name (Ok summary) wanted topology before verdict x = x
+opened_case old new name (Err fault) wanted topology before verdict x = x
 
 -- the text of an upgrade opens nothing
 upgraded_only : (old new : OutsideSeen) (file text : List ℕ) (wanted : Topology) (topology : Option Topology) (before : History) (verdict : Verdict)
@@ -216,6 +236,7 @@ upgraded_only old new file text wanted topology before verdict r same asked tell
   outside = same;
   asked_by = λ t. rw r.counted (asked ∙ sym (append-nil old.edges.asked));
   same_telling = telling;
+  audited = λ a b. tt;
 }
 
 pub upgrade_came : (old : OutsideSeen) (middle : EdgesSeen) (new : OutsideSeen) (boxes : Boxes) (name : List ℕ) (found : Upgraded) (topology : Option Topology) (before : History) (verdict : Verdict)
@@ -225,6 +246,7 @@ pub upgrade_came : (old : OutsideSeen) (middle : EdgesSeen) (new : OutsideSeen) 
 upgrade_came old middle new boxes name found topology before verdict r upgraded edges clock same = record {
   file = r.0.file;
   text = found.text;
+  found = Err Large;
   is_file = r.0.is_file;
   comes = loaded old middle new (Upgrades r.0.file found.text) name found.topology topology before verdict r.0
       (upgraded_only (record old { edges = middle }) new r.0.file found.text found.topology topology before verdict (upgraded r.0.file r.1)
@@ -239,8 +261,34 @@ pub upgrade_unread : (old new : OutsideSeen) (boxes : Boxes) (name : List ℕ) (
 upgrade_unread old new boxes name refusal topology before verdict r is none clock same = record {
   file = r.0.file;
   text = [];
+  found = Err Large;
   is_file = r.0.is_file;
   comes = unread old new (Upgrades r.0.file []) name refusal topology before verdict is none (untouched old new name (Err refusal) r.0 clock same) r.0;
+}
+
+-- once the topology is accepted, the journal is judged
+pub audit_came : (old : OutsideSeen) (middle : EdgesSeen) (new : OutsideSeen) (boxes : Boxes) (journal name : List ℕ) (wanted : Topology) (topology : Option Topology) (before : History) (verdict : Verdict)
+    → ReadsFile old.edges middle name topology_of_file (Ok wanted) → ComesAudited (record old { edges = middle }) new journal wanted topology before verdict
+    → Came old new (Some (AuditOf journal name)) boxes topology before verdict
+audit_came old middle new boxes journal name wanted topology before verdict r a = record {
+  file = r.file;
+  text = [];
+  found = a.found;
+  is_file = r.is_file;
+  comes = loaded old middle new (audit_case journal a.found) name wanted topology before verdict r
+      (opened_case (record old { edges = middle }) new journal a.found wanted topology before verdict a.comes);
+}
+
+pub audit_unread : (old new : OutsideSeen) (boxes : Boxes) (journal name : List ℕ) (refusal : Refusal) (topology : Option Topology) (before : History) (verdict : Verdict)
+    → ReadsFile old.edges new.edges name topology_of_file (Err refusal) → verdict ≡ Refused refusal → (topology ≡ None) × (before ≡ [])
+    → new.clock ≡ old.clock → new.boxes ≡ old.boxes
+    → Came old new (Some (AuditOf journal name)) boxes topology before verdict
+audit_unread old new boxes journal name refusal topology before verdict r is none clock same = record {
+  file = r.file;
+  text = [];
+  found = Err Large;
+  is_file = r.is_file;
+  comes = unread old new (audit_case journal (Err Large)) name refusal topology before verdict is none (untouched old new name (Err refusal) r clock same) r;
 }
 
 pub run_came : (old : OutsideSeen) (middle : EdgesSeen) (new : OutsideSeen) (boxes : Boxes) (name : List ℕ) (workers : ℕ) (acks steps : Bool) (wanted : Topology) (topology : Option Topology) (before : History) (verdict : Verdict)
@@ -251,6 +299,7 @@ pub run_came : (old : OutsideSeen) (middle : EdgesSeen) (new : OutsideSeen) (box
 run_came old middle new boxes name workers acks steps wanted topology before verdict r x = record {
   file = r.file;
   text = [];
+  found = Err Large;
   is_file = r.is_file;
   comes = loaded old middle new (run_case boxes (record { steps = steps; acks = acks }) Named) name wanted topology before verdict r x;
 }
@@ -262,6 +311,7 @@ pub run_unread : (old new : OutsideSeen) (boxes : Boxes) (name : List ℕ) (work
 run_unread old new boxes name workers acks steps refusal topology before verdict r is none clock same = record {
   file = r.file;
   text = [];
+  found = Err Large;
   is_file = r.is_file;
   comes = unread old new (run_case boxes (record { steps = steps; acks = acks }) Named) name refusal topology before verdict is none
       (untouched old new name (Err refusal) r clock same) r;
@@ -275,6 +325,7 @@ pub gen_came : (old : OutsideSeen) (middle : EdgesSeen) (new : OutsideSeen) (box
 gen_came old middle new boxes seed count name wanted topology before verdict r x = record {
   file = r.file;
   text = [];
+  found = Err Large;
   is_file = r.is_file;
   comes = loaded old middle new (run_case boxes report_alone (MadeFrom seed count)) name wanted topology before verdict r x;
 }
@@ -286,6 +337,7 @@ pub gen_unread : (old new : OutsideSeen) (boxes : Boxes) (seed count : ℕ) (nam
 gen_unread old new boxes seed count name refusal topology before verdict r is none clock same = record {
   file = r.file;
   text = [];
+  found = Err Large;
   is_file = r.is_file;
   comes = unread old new (run_case boxes report_alone (MadeFrom seed count)) name refusal topology before verdict is none
       (untouched old new name (Err refusal) r clock same) r;
@@ -300,6 +352,7 @@ reads_as expected name fault (Err Memory) r = tt
 reads_as expected name fault (Err (Edge other)) r = absurd r.1
 reads_as expected name fault (Err Usage) r = absurd r
 reads_as expected name fault (Err (Stock shortage)) r = absurd r
+reads_as expected name fault (Err (Audit f)) r = absurd r
 
 asked_file : (result : Result Topology Refusal) (call : EdgeKind × List ℕ) (asked asked' : List (EdgeKind × List ℕ)) → asked' ≡ asked ++ call ∷ [] → AskedFile result call asked asked'
 asked_file (Ok t) call asked asked' is = is
@@ -308,6 +361,7 @@ asked_file (Err (NoTopology f)) call asked asked' is = is
 asked_file (Err (Edge other)) call asked asked' is = is
 asked_file (Err Usage) call asked asked' is = is
 asked_file (Err (Stock shortage)) call asked asked' is = is
+asked_file (Err (Audit f)) call asked asked' is = is
 
 -- what a call that reads leaves of the edges
 pub record LeavesEdges (old new : EdgesSeen) : Type 0 where

@@ -29,7 +29,7 @@ use Rattle.made_sources.specs.Feeds.{made_feeds}
 use Rattle.made_sources.proofs.Lines.{made_lines}
 use Rattle.pipe_run.specs.Outside.{IsMadeRead, IsOutside}
 use Rattle.pipe_run.proofs.Records.{reads_records, short_ended}
-use Rattle.pipe_top.specs.Cases.{Case, NoCommand, NoTopology as BadTopology, TooFew, Checks, Upgrades, Runs, Feeding, Named, MadeFrom, feeds_of}
+use Rattle.pipe_top.specs.Cases.{Case, NoCommand, NoTopology as BadTopology, TooFew, Checks, Upgrades, Audits, Rejects, Runs, Feeding, Named, MadeFrom, feeds_of}
 use Rattle.pipe_top.specs.Runs.{OutsideSeen, HasUsed, IsOutsideOf, ReadShares, AreShares, ReadsGenerated}
 use Rattle.pipe_top.specs.Flows.{IsFew, Outcome}
 use Rattle.run_verdicts.specs.declared.verdict.Verdict.{Verdict}
@@ -119,6 +119,8 @@ generated_in (BadTopology fault) fails memory calls topology before verdict old 
 generated_in (TooFew shortage) fails memory calls topology before verdict old new o out = tt
 generated_in (Checks wanted) fails memory calls topology before verdict old new o out = tt
 generated_in (Upgrades file text wanted) fails memory calls topology before verdict old new o out = tt
+generated_in (Audits name summary wanted) fails memory calls topology before verdict old new o out = tt
+generated_in (Rejects name fault wanted) fails memory calls topology before verdict old new o out = tt
 generated_in (Runs shows feeding wanted) fails memory calls topology before verdict old new (inl e) out = rw (early fails topology before verdict e).no_topology tt
 generated_in (Runs shows feeding wanted) fails memory calls topology before verdict old new (inr r) out =
     let used : HasUsed (feeds_of feeding wanted) memory wanted before old new = rw r.own at out in

@@ -15,8 +15,8 @@ use Rattle.edge_names.specs.Seen.{EdgesSeen}
 use Rattle.edge_names.specs.Supplies.{Feed}
 use Rattle.box_stock.specs.Lends.{IsSameBox}
 use Rattle.pipe_run.specs.Boxes.{AreSameBoxes}
-use Rattle.pipe_top.specs.Cases.{feeds_of, Case, NoCommand, NoTopology, TooFew, Checks, Upgrades, Runs}
-use Rattle.pipe_top.specs.Runs.{OutsideSeen, IsUntouched, IsNothingBack, IsBrokenOff, IsGivenUp, IsOutsideOf, Asks}
+use Rattle.pipe_top.specs.Cases.{feeds_of, Case, NoCommand, NoTopology, TooFew, Checks, Upgrades, Audits, Rejects, Runs}
+use Rattle.pipe_top.specs.Runs.{OutsideSeen, IsUntouched, IsJournalBack, IsNothingBack, IsBrokenOff, IsGivenUp, IsOutsideOf, Asks}
 use Rattle.pipe_top.specs.Flows.{ComesBy}
 use Rattle.run_verdicts.specs.declared.verdict.Refusal.TheVariants.{Memory}
 use Rattle.run_verdicts.specs.declared.verdict.Verdict.{Verdict}
@@ -33,6 +33,10 @@ same_box (Some box) = record { kind = refl; law = refl; resets = refl; told = re
 same_boxes : (boxes : List BoxSeen) → AreSameBoxes boxes boxes
 same_boxes boxes = record { as_many = refl; each = λ k. same_box (slice_get boxes k) }
 
+-- nothing was given back, nor the journal
+no_journal_back : (name : List ℕ) (old new : OutsideSeen) → IsUntouched old new → IsJournalBack name old new
+no_journal_back name old new u = record { sources = inl u.sources; sinks = u.sinks; clock = u.clock; boxes = u.boxes }
+
 -- where nothing is used there was no run, since memory was wanting or a call by name failed
 pub outside_of_none : (memory : Type 0) (calls : List (EdgeKind × List ℕ)) (before : History) (case : Case) (old new : OutsideSeen) → IsUntouched old new
     → ((feeds : StageSpec → Option Feed) (wanted : Topology) → (memory × IsBrokenOff feeds calls wanted old.edges new.edges) ⊎ IsGivenUp feeds calls wanted old.edges new.edges) → IsOutsideOf memory calls None before case old new
@@ -41,6 +45,8 @@ outside_of_none memory calls before (NoTopology fault) old new u why = u
 outside_of_none memory calls before (TooFew shortage) old new u why = u
 outside_of_none memory calls before (Checks wanted) old new u why = u
 outside_of_none memory calls before (Upgrades file text wanted) old new u why = u
+outside_of_none memory calls before (Audits name summary wanted) old new u why = no_journal_back name old new u
+outside_of_none memory calls before (Rejects name fault wanted) old new u why = no_journal_back name old new u
 outside_of_none memory calls before (Runs shows feeding wanted) old new u why = record {
   edges = why (feeds_of feeding wanted) wanted;
   clock = u.clock;
@@ -88,5 +94,6 @@ wanting old new case calls topology before verdict is none untouched asks off te
       outcome = inl none.1;
       outside = outside_of_none (Refused Memory ≡ Refused Memory) calls before case old new untouched (λ feeds wanted. inl (refl, off feeds wanted));
       asked_by = asks;
+      audited = λ a b. absurd (b refl);
       same_telling = telling;
     })

@@ -4,17 +4,19 @@ use Rattle.pipe_types.specs.Sound.{producers}
 use Rattle.pipe_types.specs.declared.topology.StageSpec.{StageSpec}
 use Rattle.pipe_types.specs.declared.topology.Topology.{Topology}
 use Rattle.pipe_edges.specs.declared.edges.EdgeKind.{EdgeKind}
-use Rattle.pipe_edges.specs.declared.edges.EdgeKind.TheVariants.{File}
+use Rattle.pipe_edges.specs.declared.edges.EdgeKind.TheVariants.{File, Source}
 use Rattle.config_table.specs.declared.fault.ConfigFault.{ConfigFault}
 use Rattle.pipe_config.specs.File.{topology_of_file}
 use Rattle.config_flow.specs.Flow.{flow_topology_of}
-use Rattle.program_words.specs.Words.{Command, Flow, Check, Run, Gen, Upgrade}
+use Rattle.journal_audit.specs.declared.verdict.Summary.{Summary}
+use Rattle.program_words.specs.Words.{Command, Flow, Check, Run, Gen, Upgrade, Audit}
 use Rattle.edge_names.specs.Supplies.{Feed, by_name}
 use Rattle.edge_names.specs.Controls.{run_calls}
 use Rattle.made_sources.specs.Feeds.{made_feeds}
 use Rattle.topology_needs.specs.declared.stock.Boxes.{Boxes}
 use Rattle.topology_needs.specs.declared.stock.Shortage.{Shortage}
 use Rattle.topology_needs.specs.Needs.{shortage_of}
+use Rattle.run_verdicts.specs.declared.audits.AuditFault.{AuditFault}
 use Rattle.run_verdicts.specs.declared.verdict.Shows.{Shows}
 
 -- how the producers of a run come to their sources: each opens the source that it names, or reads its share of so many records
@@ -28,13 +30,16 @@ feeds_of Named topology = by_name
 feeds_of (MadeFrom seed count) topology = made_feeds seed count (length (producers topology.stages))
 
 -- the words are no command; the file is no topology; the stock has too few boxes of a kind; the topology is only checked; its
--- file is written with this text as version 2; or it runs, with producers fed so, and shows these texts
+-- file is written with this text as version 2; the journal of this name is legal for it and comes to this, or is not found legal;
+-- or it runs, with producers fed so, and shows these texts
 pub data Case : Type 0 where
   NoCommand : Case
   NoTopology : ConfigFault → Case
   TooFew : Shortage → Case
   Checks : Topology → Case
   Upgrades : (file text : List ℕ) → Topology → Case
+  Audits : (name : List ℕ) → Summary → Topology → Case
+  Rejects : (name : List ℕ) → AuditFault → Topology → Case
   Runs : Shows → Feeding → Topology → Case
 
 -- the topology of the file, or why there is none
@@ -50,18 +55,25 @@ unless_short (Some shortage) case = TooFew shortage
 abbrev pub run_case : Boxes → Shows → Feeding → Topology → Case
 run_case boxes shows feeding topology = unless_short (shortage_of topology boxes) (Runs shows feeding topology)
 
+-- the journal of this name is legal, or is not found so
+abbrev pub audit_case : (name : List ℕ) → Result Summary AuditFault → Topology → Case
+audit_case name (Ok summary) topology = Audits name summary topology
+audit_case name (Err fault) topology = Rejects name fault topology
+
 -- only the report
 abbrev pub report_alone : Shows
 report_alone = record { steps = false; acks = false }
 
--- `flow` has a topology of its own; `check`, `upgrade`, `run` and `gen` have that of the file; the text is that of an upgrade
-abbrev pub case_of : Option Command → (file text : List ℕ) → Boxes → Case
-case_of None file text boxes = NoCommand
-case_of (Some (Flow source prefix)) file text boxes = run_case boxes report_alone Named (flow_topology_of source prefix)
-case_of (Some (Check path)) file text boxes = for_topology (topology_of_file file) Checks
-case_of (Some (Upgrade path)) file text boxes = for_topology (topology_of_file file) (Upgrades file text)
-case_of (Some (Run path workers acks steps)) file text boxes = for_topology (topology_of_file file) (run_case boxes (record { steps = steps; acks = acks }) Named)
-case_of (Some (Gen seed count path)) file text boxes = for_topology (topology_of_file file) (run_case boxes report_alone (MadeFrom seed count))
+-- `flow` has a topology of its own; `check`, `upgrade`, `run`, `gen` and `audit` have that of the file; the text is that of an
+-- upgrade, and what is found is found by an audit
+abbrev pub case_of : Option Command → (file text : List ℕ) → (found : Result Summary AuditFault) → Boxes → Case
+case_of None file text found boxes = NoCommand
+case_of (Some (Flow source prefix)) file text found boxes = run_case boxes report_alone Named (flow_topology_of source prefix)
+case_of (Some (Check path)) file text found boxes = for_topology (topology_of_file file) Checks
+case_of (Some (Upgrade path)) file text found boxes = for_topology (topology_of_file file) (Upgrades file text)
+case_of (Some (Audit journal path)) file text found boxes = for_topology (topology_of_file file) (audit_case journal found)
+case_of (Some (Run path workers acks steps)) file text found boxes = for_topology (topology_of_file file) (run_case boxes (record { steps = steps; acks = acks }) Named)
+case_of (Some (Gen seed count path)) file text found boxes = for_topology (topology_of_file file) (run_case boxes report_alone (MadeFrom seed count))
 
 -- ---- names
 
@@ -71,6 +83,7 @@ file_name (Some (Check path)) = Some path
 file_name (Some (Upgrade path)) = Some path
 file_name (Some (Run path workers acks steps)) = Some path
 file_name (Some (Gen seed count path)) = Some path
+file_name (Some (Audit journal path)) = Some path
 file_name _ = None
 
 -- the bytes are those that stand under the file's name, at most one more than a topology may have
@@ -83,18 +96,23 @@ file_calls None = []
 file_calls (Some name) = (File, name) ∷ []
 
 -- the calls that open what a run reads and writes: the control source first, if one is named, and then in stage order. A producer
--- that reads generated records makes none
+-- that reads generated records makes none. An audit opens the journal
 abbrev pub opening_calls : Case → List (EdgeKind × List ℕ)
 opening_calls (Runs shows feeding topology) = run_calls (feeds_of feeding topology) topology
+opening_calls (Audits name summary topology) = (Source, name) ∷ []
+opening_calls (Rejects name fault topology) = (Source, name) ∷ []
 opening_calls _ = []
 
--- the calls by name: first the topology file is read, where one is named, and then the sources and sinks of a run are opened
+-- the calls by name: first the topology file is read, where one is named, and then the sources and sinks of a run, or the
+-- journal of an audit, are opened
 abbrev pub calls_of : Option Command → Case → List (EdgeKind × List ℕ)
 calls_of command case = file_calls (file_name command) ++ opening_calls case
 
--- what holds in the case of the command, for the bytes of its file and for some text, which is that of an upgrade
+-- what holds in the case of the command, for the bytes of its file, for some text, which is that of an upgrade, and for what an
+-- audit finds
 pub record InCase (told : Bool) (named : EdgeKind → List ℕ → List ℕ) (command : Option Command) (boxes : Boxes) (holds : Case → Type 0) : Type 0 where
   pub file : List ℕ
   pub text : List ℕ
+  pub found : Result Summary AuditFault
   pub is_file : IsNamedFile told named (file_name command) file
-  pub it_holds : holds (case_of command file text boxes)
+  pub it_holds : holds (case_of command file text found boxes)

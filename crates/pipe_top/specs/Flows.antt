@@ -1,12 +1,12 @@
 -- What the parts of a call come to.
-use Rattle.std.specs.Prelude.{◌≡◌, ◌≤◌, ◌<◌, ◌^◌, ◌⊎◌, ℕ, List, [], ◌∷◌, ◌++◌, length, IsTrue, Option, Some, None, Result, Ok, Err}
+use Rattle.std.specs.Prelude.{◌≡◌, ◌≢◌, ◌≤◌, ◌<◌, ◌^◌, ◌⊎◌, ℕ, List, [], ◌∷◌, ◌++◌, length, IsTrue, Option, Some, None, Result, Ok, Err}
 use Rattle.pipe_types.specs.Counts.{Rose}
 use Rattle.pipe_types.specs.Sound.{IsSound}
 use Rattle.pipe_types.specs.declared.topology.StageSpec.{StageSpec}
 use Rattle.pipe_types.specs.declared.topology.Topology.{Topology}
 use Rattle.pipe_model.specs.History.{History}
 use Rattle.pipe_edges.specs.declared.edges.EdgeKind.{EdgeKind}
-use Rattle.pipe_edges.specs.declared.edges.EdgeKind.TheVariants.{File}
+use Rattle.pipe_edges.specs.declared.edges.EdgeKind.TheVariants.{File, Source}
 use Rattle.config_table.specs.declared.fault.ConfigFault.{ConfigFault}
 use Rattle.pipe_config.specs.Upgrade.{IsUpgrade}
 use Rattle.pipe_top.specs.declared.file.Upgraded.{Upgraded}
@@ -17,12 +17,20 @@ use Rattle.edge_names.specs.Supplies.{Feed}
 use Rattle.topology_needs.specs.Needs.{subscriptions_of}
 use Rattle.topology_needs.specs.declared.stock.Boxes.{Boxes}
 use Rattle.topology_needs.specs.declared.stock.Shortage.{Shortage}
-use Rattle.pipe_top.specs.Cases.{Feeding, Named, MadeFrom, feeds_of, Case, NoCommand, NoTopology as BadTopology, TooFew, Checks, Upgrades, Runs, case_of, calls_of, file_name, IsNamedFile}
-use Rattle.run_verdicts.specs.Verdicts.{whole_text}
-use Rattle.pipe_top.specs.Runs.{OutsideSeen, IsEnded, IsRun, IsOutsideOf, Asks, FailsAt}
+use Rattle.journal_audit.specs.declared.verdict.Summary.{Summary}
+use Rattle.pipe_top.specs.Audits.{IsAuditOf, IsFound, FaultHasCause, MayBeBack}
+use Rattle.pipe_top.specs.Cases.{Feeding, Named, MadeFrom, feeds_of, Case, NoCommand, NoTopology as BadTopology, TooFew, Checks, Upgrades, Audits, Rejects, Runs, audit_case, case_of, calls_of, file_name, IsNamedFile}
+use Rattle.run_verdicts.specs.Audits.{legal_text}
+use Rattle.run_verdicts.specs.Verdicts.{whole_text, status_in}
+use Rattle.run_verdicts.specs.declared.audits.AuditFault.{AuditFault}
+use Rattle.run_verdicts.specs.declared.audits.AuditFault.TheVariants.{Line}
+use Rattle.stage_bodies.specs.Seen.{SourceSeen}
+use Rattle.journal_audit.specs.declared.verdict.Verdict.TheVariants.{Legal, Bad}
+use Rattle.journal_audit.specs.Verdicts.{verdict_in, IsLegalText}
+use Rattle.pipe_top.specs.Runs.{OutsideSeen, IsEnded, IsRun, IsOutsideOf, IsAuditedIn, Asks, FailsAt}
 use Rattle.run_verdicts.specs.Texts.{run_text}
 use Rattle.run_verdicts.specs.declared.verdict.Refusal.{Refusal}
-use Rattle.run_verdicts.specs.declared.verdict.Refusal.TheVariants.{Usage, Topology as NoTopology, Stock, Edge, Memory}
+use Rattle.run_verdicts.specs.declared.verdict.Refusal.TheVariants.{Usage, Topology as NoTopology, Stock, Edge, Audit, Memory}
 use Rattle.run_verdicts.specs.declared.verdict.Shows.{Shows}
 use Rattle.run_verdicts.specs.declared.verdict.Texts.{Texts}
 use Rattle.run_verdicts.specs.declared.verdict.Verdict.{Verdict}
@@ -74,6 +82,19 @@ pub record IsUpgraded (file text : List ℕ) (wanted : Topology) (topology : Opt
   pub run : IsRun wanted before
   pub no_step : before ≡ []
 
+-- a journal was found legal
+pub record IsAudited (summary : Summary) (wanted : Topology) (topology : Option Topology) (before : History) (verdict : Verdict) : Type 0 where
+  pub texts : Texts
+  pub counted : verdict ≡ Done texts 0
+  pub counts : whole_text texts ≡ legal_text summary
+  pub own : topology ≡ Some wanted
+  pub run : IsRun wanted before
+  pub no_step : before ≡ []
+
+-- it was, unless memory was wanting for its text
+abbrev pub IsAuditedOrNot : Summary → (wanted : Topology) → Option Topology → History → Verdict → Type 0
+IsAuditedOrNot summary wanted topology before verdict = IsRefusedBy Memory topology before verdict ⊎ IsAudited summary wanted topology before verdict
+
 -- the number of each record that is generated fits 32 bits
 abbrev pub IsFew : Feeding → Type 0
 IsFew Named = Unit {0}
@@ -99,6 +120,8 @@ ComesTo (BadTopology fault) topology before verdict = IsRefusedBy (NoTopology fa
 ComesTo (TooFew shortage) topology before verdict = IsRefusedBy (Stock shortage) topology before verdict
 ComesTo (Checks wanted) topology before verdict = IsChecked wanted topology before verdict
 ComesTo (Upgrades file text wanted) topology before verdict = IsUpgraded file text wanted topology before verdict
+ComesTo (Audits name summary wanted) topology before verdict = IsAudited summary wanted topology before verdict
+ComesTo (Rejects name fault wanted) topology before verdict = IsRefusedBy (Audit fault) topology before verdict
 ComesTo (Runs shows feeding wanted) topology before verdict = IsRunOn shows feeding wanted topology before verdict
 
 -- the case's outcome, or there was no run before it came to one
@@ -122,13 +145,15 @@ pub record ComesBy (old new : OutsideSeen) (case : Case) (calls : List (EdgeKind
   pub outside : IsOutsideOf (verdict ≡ Refused Memory) calls topology before case old new
   pub asked_by : IsTrue old.edges.told → AskedBy verdict calls old.edges.asked new.edges.asked
   pub same_telling : new.edges.told ≡ old.edges.told
+  pub audited : status_in verdict ≢ 5 → status_in verdict ≢ 9 → IsAuditedIn case old.edges new.edges
 
 -- the same in the case of the command, for the bytes of its file
 pub record Came (old new : OutsideSeen) (command : Option Command) (boxes : Boxes) (topology : Option Topology) (before : History) (verdict : Verdict) : Type 0 where
   pub file : List ℕ
   pub text : List ℕ
+  pub found : Result Summary AuditFault
   pub is_file : IsNamedFile old.edges.told old.edges.named (file_name command) file
-  pub comes : ComesBy old new (case_of command file text boxes) (calls_of command (case_of command file text boxes)) topology before verdict
+  pub comes : ComesBy old new (case_of command file text found boxes) (calls_of command (case_of command file text found boxes)) topology before verdict
 
 -- ---- the topology file
 
@@ -176,3 +201,70 @@ ReadsUpgrade old new name expected result = (r : ReadsFile old new name expected
 -- what the bytes of a file come to
 abbrev pub UpgradesTo : (expected : Result Topology ConfigFault) → (file : List ℕ) → Result Upgraded Refusal → Type 0
 UpgradesTo expected file result = ReadsTopology expected [] ⊥ (topology_beside result) × IsTextOf file result
+
+-- ---- the journal
+
+-- what the text comes to
+abbrev pub JudgesText : (wanted : Topology) → (text : List ℕ) → Result Summary Refusal → Type 0
+JudgesText wanted text (Ok summary) = (verdict_in wanted text ≡ Legal summary) × IsLegalText wanted text summary
+JudgesText wanted text (Err (Audit (Line line cause))) = verdict_in wanted text ≡ Bad line cause
+JudgesText wanted text (Err Memory) = Unit {0}
+JudgesText wanted text (Err _) = ⊥
+
+-- the source was read, and this was found of what it told
+pub record ReadsSource (end : Result Summary AuditFault) (wanted : Topology) (old new : SourceSeen) : Type 0 where
+  pub same_telling : new.told ≡ old.told
+  pub same_bytes : IsTrue old.told → old.taken ≡ [] → old.left ≡ new.taken ++ new.left
+  pub found : IsTrue old.told → old.taken ≡ [] → IsFound wanted new.taken new.left end
+  pub cause : FaultHasCause old.faults new.faults old.waits new.waits end
+
+abbrev pub JudgesSource : (wanted : Topology) → (old new : SourceSeen) → Result Summary Refusal → Type 0
+JudgesSource wanted old new (Ok summary) = ReadsSource (Ok summary) wanted old new
+JudgesSource wanted old new (Err (Audit fault)) = ReadsSource (Err fault) wanted old new
+JudgesSource wanted old new (Err Memory) = Unit {0}
+JudgesSource wanted old new (Err _) = ⊥
+
+-- the journal that this source holds was judged, and the source given back
+pub record IsJudged (name : List ℕ) (end : Result Summary AuditFault) (wanted : Topology) (opened : SourceSeen) (old new : EdgesSeen) : Type 0 where
+  pub source : SourceSeen
+  pub reads : ReadsSource end wanted opened source
+  pub back : new.sources_back ≡ old.sources_back ++ (name, source) ∷ []
+
+abbrev pub IsJudgedBy : (name : List ℕ) → (wanted : Topology) → (opened : SourceSeen) → (old new : EdgesSeen) → Result Summary Refusal → Type 0
+IsJudgedBy name wanted opened old new (Ok summary) = IsJudged name (Ok summary) wanted opened old new
+IsJudgedBy name wanted opened old new (Err (Audit fault)) = IsJudged name (Err fault) wanted opened old new
+IsJudgedBy name wanted opened old new (Err Memory) = Unit {0}
+IsJudgedBy name wanted opened old new (Err _) = ⊥
+
+pub record JudgesOpened (name : List ℕ) (wanted : Topology) (opened : SourceSeen) (old new : EdgesSeen) (result : Result Summary Refusal) : Type 0 where
+  pub comes : IsJudgedBy name wanted opened old new result
+  pub same_telling : new.told ≡ old.told
+  pub asked : IsTrue old.told → new.asked ≡ old.asked
+  pub sources : MayBeBack name old new
+  pub sinks : new.sinks_back ≡ old.sinks_back
+
+-- what the journal of this name comes to
+abbrev pub JudgesJournal : (name : List ℕ) → (wanted : Topology) → (old new : EdgesSeen) → Result Summary Refusal → Type 0
+JudgesJournal name wanted old new (Ok summary) = IsAuditOf name (Ok summary) wanted old new
+JudgesJournal name wanted old new (Err (Audit fault)) = IsAuditOf name (Err fault) wanted old new
+JudgesJournal name wanted old new (Err (Edge other)) = (other ≡ name) × Rose old.faults new.faults
+JudgesJournal name wanted old new (Err Memory) = Unit {0}
+JudgesJournal name wanted old new (Err _) = ⊥
+
+-- the call by name was made, unless memory was wanting
+abbrev pub AskedJournal : Result Summary Refusal → (call : EdgeKind × List ℕ) → (asked asked' : List (EdgeKind × List ℕ)) → Type 0
+AskedJournal (Err Memory) call asked asked' = Asks (call ∷ []) asked asked'
+AskedJournal _ call asked asked' = asked' ≡ asked ++ call ∷ []
+
+-- what reading the journal came to
+pub record ReadsJournal (old new : EdgesSeen) (name : List ℕ) (wanted : Topology) (result : Result Summary Refusal) : Type 0 where
+  pub comes : JudgesJournal name wanted old new result
+  pub asked_by : IsTrue old.told → AskedJournal result (Source, name) old.asked new.asked
+  pub same_telling : new.told ≡ old.told
+  pub sources : MayBeBack name old new
+  pub sinks : new.sinks_back ≡ old.sinks_back
+
+-- what an audit comes to, once the topology is accepted
+pub record ComesAudited (old new : OutsideSeen) (name : List ℕ) (wanted : Topology) (topology : Option Topology) (before : History) (verdict : Verdict) : Type 0 where
+  pub found : Result Summary AuditFault
+  pub comes : ComesBy old new (audit_case name found wanted) ((Source, name) ∷ []) topology before verdict

@@ -1,4 +1,5 @@
 pub mod Cases
+pub mod Audits
 pub mod Runs
 pub mod Flows
 pub use Rattle.pipe_run.specs.Boxes

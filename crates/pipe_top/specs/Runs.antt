@@ -1,5 +1,5 @@
 -- What a call promises of its run, its texts, its outside and the calls by name.
-use Rattle.std.specs.Prelude.{◌≡◌, ◌≢◌, ◌≤◌, ◌⊎◌, Bool, true, false, ℕ, List, [], ◌∷◌, ◌++◌, ◌-◌, take, length, All, IsTrue, Option, Some, None, if◌then◌else◌, nat_le}
+use Rattle.std.specs.Prelude.{◌≡◌, ◌≢◌, ◌≤◌, ◌⊎◌, Bool, true, false, ℕ, List, [], ◌∷◌, ◌++◌, ◌-◌, take, length, All, IsTrue, Option, Some, None, Ok, Err, if◌then◌else◌, nat_le}
 use Rattle.pipe_types.specs.Counts.{Rose}
 use Rattle.pipe_types.specs.declared.numbers.StageNo.{StageNo}
 use Rattle.pipe_types.specs.declared.step.DrainCause.TheVariants.{Control, Limit, Idle}
@@ -37,7 +37,9 @@ use Rattle.made_sources.specs.Records.{records_made}
 use Rattle.pipe_run.specs.Records.{ReadsRecords}
 use Rattle.pipe_run.specs.Outside.{IsOpenedInPart, IsOutside, IsUnopened}
 use Rattle.pipe_run.specs.Whole.{HasCome, IsIdleWithin, IsTimeOf}
-use Rattle.pipe_top.specs.Cases.{Feeding, MadeFrom, calls_of, feeds_of, Case, NoCommand, NoTopology, TooFew, Checks, Upgrades, Runs}
+use Rattle.pipe_top.specs.Audits.{IsAuditOf, MayBeBack}
+use Rattle.pipe_top.specs.Cases.{Feeding, MadeFrom, calls_of, feeds_of, Case, NoCommand, NoTopology, TooFew, Checks, Upgrades, Audits, Rejects, Runs}
+use Rattle.run_verdicts.specs.Audits.{legal_text, fault_line, fault_status}
 use Rattle.run_verdicts.specs.Texts.{run_text}
 use Rattle.run_verdicts.specs.Verdicts.{Adds, AddsPrefix, path_of}
 use Rattle.run_verdicts.specs.declared.verdict.Shows.{Shows}
@@ -65,31 +67,38 @@ pub record IsEnded (topology : Topology) (before : History) (status : ℕ) : Typ
   pub ended : HasCome topology before
   pub by_journal : status ≡ status_of topology before
 
--- a run is ended on its topology, or a topology was checked, or the text of its file as version 2 was made
+-- a run is ended on its topology, or a topology was checked, or the text of its file as version 2 was made, or a journal was found
+-- legal, or could not be read
 abbrev pub IsEndOf : Option Topology → History → (status : ℕ) → Case → Type 0
 IsEndOf topology before status (Runs shows feeding wanted) = (topology ≡ Some wanted) × IsEnded wanted before status
 IsEndOf topology before status (Checks wanted) = (status ≡ 0) × (topology ≡ Some wanted) × (before ≡ [])
 IsEndOf topology before status (Upgrades file text wanted) = (status ≡ 0) × (topology ≡ Some wanted) × (before ≡ []) × IsUpgrade file text
+IsEndOf topology before status (Audits name summary wanted) = (status ≡ 0) × (topology ≡ Some wanted) × (before ≡ [])
+IsEndOf topology before status (Rejects name fault wanted) = (status ≡ fault_status fault) × (topology ≡ None) × (before ≡ [])
 IsEndOf topology before status _ = ⊥
 
--- a run, a check and an upgrade have the case's topology, the last two without any step; all else has none
+-- a run, a check, an upgrade and the audit of a legal journal have the case's topology, but for the first without any step; all
+-- else has none
 abbrev pub IsOwnTopology : Option Topology → History → Case → Type 0
 IsOwnTopology None before case = before ≡ []
 IsOwnTopology (Some topology) before (Runs shows feeding wanted) = topology ≡ wanted
 IsOwnTopology (Some topology) before (Checks wanted) = (topology ≡ wanted) × (before ≡ [])
 IsOwnTopology (Some topology) before (Upgrades file text wanted) = (topology ≡ wanted) × (before ≡ [])
+IsOwnTopology (Some topology) before (Audits name summary wanted) = (topology ≡ wanted) × (before ≡ [])
 IsOwnTopology (Some topology) before _ = ⊥
 
 -- ---- texts
 
--- what is written to the output: the texts of a run, the counts of a topology that is only checked, or the text of an upgrade
+-- what is written to the output: the texts of a run, the counts of a topology that is only checked, the text of an upgrade, or what
+-- a legal journal comes to
 abbrev pub out_text : History → Case → List ℕ
 out_text before (Checks topology) = counts_line (length topology.stages) (subscriptions_of topology)
 out_text before (Upgrades file text topology) = text
+out_text before (Audits name summary topology) = legal_text summary
 out_text before (Runs shows feeding topology) = run_text shows topology before
 out_text before _ = []
 
--- the same, and nothing where there was neither a run nor a check nor an upgrade
+-- the same, and nothing where there was no topology of its own
 abbrev pub text_of_call : Option Topology → History → Case → List ℕ
 text_of_call None before case = []
 text_of_call (Some topology) before case = out_text before case
@@ -101,6 +110,8 @@ case_line (NoTopology fault) = topology_line (number_of fault) (path_of fault)
 case_line (TooFew shortage) = stock_line shortage.kind shortage.need shortage.have
 case_line (Checks topology) = []
 case_line (Upgrades file text topology) = []
+case_line (Audits name summary topology) = []
+case_line (Rejects name fault topology) = fault_line fault
 case_line (Runs shows feeding topology) = []
 
 -- what is written to the error output under a status that is none of 5, 8 and 9
@@ -112,6 +123,10 @@ error_text status case = if nat_le status 4 then [] else case_line case
 -- the statuses of a run that went to its end, or of a check; those of a refusal; and those where nothing was opened
 abbrev pub IsEndStatus : ℕ → Type 0
 IsEndStatus status = status ≤ 4
+
+-- the statuses of a call
+abbrev pub IsKnownStatus : ℕ → Type 0
+IsKnownStatus status = (status ≤ 9) ⊎ (status ≡ 11)
 
 abbrev pub IsRefusalStatus : ℕ → Type 0
 IsRefusalStatus status = (status ≡ 5) ⊎ ((status ≡ 6) ⊎ (status ≡ 7))
@@ -130,6 +145,8 @@ IsStatusOf status (NoTopology fault) = status ≡ 6
 IsStatusOf status (TooFew shortage) = status ≡ 6
 IsStatusOf status (Checks topology) = status ≡ 0
 IsStatusOf status (Upgrades file text topology) = status ≡ 0
+IsStatusOf status (Audits name summary topology) = status ≡ 0
+IsStatusOf status (Rejects name fault topology) = status ≡ fault_status fault
 IsStatusOf status (Runs shows feeding topology) = IsEndStatus status
 
 -- ---- calls by name
@@ -197,10 +214,27 @@ abbrev pub HasRunOrNot : (feeds : StageSpec → Option Feed) → (memory : Type 
 HasRunOrNot feeds memory calls wanted (Some topology) before old new = HasUsed feeds memory wanted before old new
 HasRunOrNot feeds memory calls wanted None before old new = HasNotBegun feeds memory calls wanted old new
 
+-- at most the journal's source was given back, and neither the clock nor a box was used
+pub record IsJournalBack (name : List ℕ) (old new : OutsideSeen) : Type 0 where
+  pub sources : MayBeBack name old.edges new.edges
+  pub sinks : new.edges.sinks_back ≡ old.edges.sinks_back
+  pub clock : new.clock ≡ old.clock
+  pub boxes : new.boxes ≡ old.boxes
+
 -- what a call does to its outside, with the calls by name that its case makes
 abbrev pub IsOutsideOf : (memory : Type 0) → (calls : List (EdgeKind × List ℕ)) → Option Topology → History → Case → (old new : OutsideSeen) → Type 0
 IsOutsideOf memory calls topology before (Runs shows feeding wanted) old new = HasRunOrNot (feeds_of feeding wanted) memory calls wanted topology before old new
+IsOutsideOf memory calls topology before (Audits name summary wanted) old new = IsJournalBack name old new
+IsOutsideOf memory calls topology before (Rejects name fault wanted) old new = IsJournalBack name old new
 IsOutsideOf memory calls topology before _ old new = IsUntouched old new
+
+-- ---- the journal of an audit
+
+-- it was read and given back, and this is what was found of it
+abbrev pub IsAuditedIn : Case → (old new : EdgesSeen) → Type 0
+IsAuditedIn (Audits name summary wanted) old new = IsAuditOf name (Ok summary) wanted old new
+IsAuditedIn (Rejects name fault wanted) old new = IsAuditOf name (Err fault) wanted old new
+IsAuditedIn _ old new = Unit {0}
 
 -- ---- generated records
 
@@ -281,6 +315,7 @@ abbrev pub IsRefusal : Case → Type 0
 IsRefusal NoCommand = Unit {0}
 IsRefusal (NoTopology fault) = Unit {0}
 IsRefusal (TooFew shortage) = Unit {0}
+IsRefusal (Rejects name fault wanted) = Unit {0}
 IsRefusal _ = ⊥
 
 -- there was no run, since the case is a refusal or a call by name failed
@@ -320,7 +355,7 @@ pub record BeginsLine (told : Bool) (calls asked asked' : List (EdgeKind × List
 pub record IsCall (old new : OutsideSeen) (out out' err err' : SinkSeen) (command : Option Command) (topology : Option Topology) (before : History) (status : ℕ) (case : Case) : Type 0 where
   pub own : IsOwnTopology topology before case
   -- under 0 to 4 the run is drained or halted, and the status is the journal's, or a topology was checked, or the case's text is the
-  -- file as version 2; the output is its text
+  -- file as version 2, or a journal was found legal, or a read of it failed; the output is the case's text
   pub ended : IsEndStatus status → IsEndOf topology before status case
   pub report : IsEndStatus status → IsTrue out.told → Adds out.held out'.held (out_text before case)
   -- under every status the output is a front of that text
@@ -338,6 +373,8 @@ pub record IsCall (old new : OutsideSeen) (out out' err err' : SinkSeen) (comman
       (IsRefused (FailsAt old.edges.told (calls_of command case) old.edges.asked new.edges.asked (Rose old.edges.faults new.edges.faults)) topology before case) (Rose err.faults err'.faults)
   -- what was opened was read, written and given back as the journal says; so with the clock and the boxes
   pub outside : IsOutsideOf (status ≡ 9) (calls_of command case) topology before case old new
+  -- what an audit found is what the text of the journal says, which was opened, read and given back
+  pub audited : status ≢ 5 → status ≢ 8 → status ≢ 9 → IsAuditedIn case old.edges new.edges
   -- where records were generated, each producer accepted the first of its share
   pub generated : ReadsGenerated (status ≡ 9) topology before case
   -- where no call by name and no write failed, and each source, the control source too, tells its bytes, never failed and has no

@@ -26,7 +26,7 @@ pub(crate) struct Upgraded {
     pub(crate) text: Bytes,
 }
 
-fn text_of(alloc: Global, word: &str) -> Result<Text, AllocError>
+pub(crate) fn text_of(alloc: Global, word: &str) -> Result<Text, AllocError>
     ensures { IfOk result (λ text. text ≡ word.now) }
 {
     Ok(Text::from_string(String::from_str(alloc, word)?))

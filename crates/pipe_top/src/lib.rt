@@ -6,6 +6,7 @@
 //! status comes.
 #![tactic(auto)]
 
+mod audit;
 mod file;
 mod program;
 mod run;

@@ -4,16 +4,17 @@ ghost use Rattle.std.specs.Prelude.{◌≡◌, ◌≢◌, ◌⊎◌, ◌≤◌, 
 ghost use Rattle.pipe_types.specs.Counts.{Rose};
 ghost use Rattle.pipe_types.specs.Sound.{IsSound, is_producer as is_producer_role, producers as producers_of};
 ghost use Rattle.program_words.specs.Refusals.{memory_line};
-ghost use Rattle.program_words.specs.Words.{command_of, texts_of, Flow, Check, Run, Gen, Upgrade};
+ghost use Rattle.program_words.specs.Words.{command_of, texts_of, Flow, Check, Run, Gen, Upgrade, Audit};
 ghost use Rattle.pipe_run.specs.Clocks.{clock_seen};
 ghost use Rattle.box_stock.specs.Lends.{kinds_of};
 ghost use Rattle.topology_needs.specs.Needs.{boxes_in};
 ghost use Rattle.pipe_top.specs.Cases.{InCase};
 ghost use Rattle.run_verdicts.specs.Verdicts.{AddsPrefix};
-ghost use Rattle.pipe_top.specs.Runs.{IsRunOrNone, IsCall, IsRefusalStatus, IsUnopenedStatus, IsOr};
-ghost use Rattle.pipe_top.specs.Flows.{Came};
+ghost use Rattle.pipe_top.specs.Runs.{IsRunOrNone, IsCall, IsKnownStatus, IsRefusalStatus, IsUnopenedStatus, IsOr};
+ghost use Rattle.pipe_top.specs.Flows.{Came, ComesAudited};
 ghost use Rattle.topology_needs.specs.declared.stock.Boxes.{Boxes};
 
+use crate::audit::{audit_named, audited};
 use crate::file::{checked, finish_upgrade, read_named, upgrade_named};
 use crate::run::{Ran, refused, run_or_refuse};
 use box_stock::{Boxed, Carries};
@@ -23,7 +24,7 @@ use made_sources::{Made, MadeSource};
 use pipe_edges::{Clock, Edges};
 use pipe_journal::Journal;
 use pipe_types::topology::{Role, StageSpec, Topology};
-use program_words::{Command, FlowWords, GenWords, RunWords, read_words};
+use program_words::{AuditWords, Command, FlowWords, GenWords, RunWords, read_words};
 use run_verdicts::{Refusal, Shows, write_verdict};
 use stage_bodies::Houses;
 use std::alloc::Global;
@@ -61,7 +62,7 @@ pub fn run_program<
     out: &mut E::Out,
     err: &mut E::Out,
 ) -> RunEnd<C, K>
-    ensures known { result.status ≤ 9 }
+    ensures known { IsKnownStatus result.status }
     // The journal is legal and keeps every claim, and each step of its own accord was the next move.
     ensures run { IsRunOrNone result.topology result.journal.steps }
     // What the call comes to in the case of its words, of the bytes of their topology file, and of the stock.
@@ -121,6 +122,7 @@ fn run_words<
         ),
         Ok(Some(Command::Check(path))) => check_file(alloc, path, stock, edges, clock),
         Ok(Some(Command::Upgrade(path))) => upgrade_file(alloc, path, stock, edges, clock),
+        Ok(Some(Command::Audit(words))) => audit_file(alloc, words, stock, edges, clock),
         Ok(Some(Command::Run(words))) => run_file::<R, E, C, B, K>(
             rt, alloc, words, stock, edges, clock,
         ),
@@ -191,6 +193,46 @@ fn upgrade_file<E: Edges, C: Boxed, K: Clock>(
 {
     match upgrade_named(alloc, path, edges) {
         Ok(found) => finish_upgrade(alloc, found, stock, clock),
+        Err(refusal) => refused(alloc, refusal, stock, clock),
+    }
+}
+
+/// Reads the topology file of `audit`, and judges the journal by its topology.
+fn audit_file<E: Edges, C: Boxed, K: Clock>(
+    alloc: Global,
+    words: AuditWords<'_>,
+    stock: Vec<C>,
+    edges: &mut E,
+    clock: K,
+) -> Ran<C, K>
+    ensures came { (boxes : Boxes) → Came
+        (record { edges = ⟦<E as SeenEdges>⟧.seen edges.old; clock = clock_seen K.latest K.readings K.pauses clock; boxes = map C.seen stock.items })
+        (record { edges = ⟦<E as SeenEdges>⟧.seen edges.new; clock = clock_seen K.latest K.readings K.pauses result.clock; boxes = map C.seen result.stock.items })
+        (Some (Audit words.entry.journal.now words.entry.topology.now)) boxes result.topology result.journal.steps result.verdict }
+{
+    match read_named(alloc, words.topology, edges) {
+        Ok(topology) => audit_journal(alloc, words.journal, topology, stock, edges, clock),
+        Err(refusal) => refused(alloc, refusal, stock, clock),
+    }
+}
+
+/// Judges the journal of this name by the topology.
+fn audit_journal<E: Edges, C: Boxed, K: Clock>(
+    alloc: Global,
+    name: &str,
+    topology: Topology,
+    stock: Vec<C>,
+    edges: &mut E,
+    clock: K,
+) -> Ran<C, K>
+    requires sound { IsSound topology }
+    ensures comes { ComesAudited
+        (record { edges = ⟦<E as SeenEdges>⟧.seen edges.old; clock = clock_seen K.latest K.readings K.pauses clock; boxes = map C.seen stock.items })
+        (record { edges = ⟦<E as SeenEdges>⟧.seen edges.new; clock = clock_seen K.latest K.readings K.pauses result.clock; boxes = map C.seen result.stock.items })
+        name.now topology result.topology result.journal.steps result.verdict }
+{
+    match audit_named(alloc, name, &topology, edges) {
+        Ok(summary) => audited(alloc, topology, &summary, stock, clock),
         Err(refusal) => refused(alloc, refusal, stock, clock),
     }
 }

@@ -9,3 +9,4 @@ pub mod Beginning
 pub mod Judging
 pub mod Naming
 pub mod Legality
+pub mod Placing

@@ -38,7 +38,7 @@ pub(crate) fn named_at(
 }
 
 /// Whether the job of the post is out.
-fn is_out(core: &Core, post: Post) -> bool
+pub(crate) fn is_out(core: &Core, post: Post) -> bool
     requires holds { Holds core.now }
     ensures { result ≡ is_out_as core.now.journal.steps post }
 {

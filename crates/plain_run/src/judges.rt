@@ -112,7 +112,7 @@ fn judge_accepted(
 }
 
 /// Whether the pipeline has halted.
-fn has_halted(core: &Core) -> bool
+pub(crate) fn has_halted(core: &Core) -> bool
     requires holds { Holds core.now }
     ensures { result ≡ happened is_halt core.now.journal.steps }
 {

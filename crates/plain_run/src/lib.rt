@@ -1,7 +1,8 @@
 //! A journal judged step by step.
 //!
 //! A `PlainRun` has a topology and the steps so far. `step` appends the step that it is given where that is legal, and says
-//! whether it is; `chunk` says which message a job that is out works on at a place. A step costs what the run spent on it.
+//! whether it is; `chunk` says which message a job that is out works on at a place; `places`, `is_drained` and `has_halted` say
+//! what the steps come to. A step costs what the run spent on it.
 #![tactic(auto)]
 
 mod accepts;
@@ -17,6 +18,7 @@ mod given;
 mod jobs;
 mod judges;
 mod run;
+mod standing;
 mod takes;
 mod works;
 

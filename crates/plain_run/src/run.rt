@@ -1,17 +1,24 @@
 //! The run.
 
-ghost use Rattle.std.specs.Prelude.{◌≡◌, ◌∷◌, [], true, false, IfOk, IfErr, OnErr, Ok};
+ghost use Rattle.std.specs.Prelude.{◌≡◌, ◌∷◌, [], true, false, length, IfOk, IfErr, OnErr, Ok};
+ghost use Rattle.std.specs.List.{filter_map};
 ghost use Rattle.pipe_types.specs.Sound.{IsSound};
-ghost use Rattle.pipe_model.specs.Legal.{allows, is_legal};
+ghost use Rattle.pipe_model.specs.Acknowledgements.{numbers_upto};
+ghost use Rattle.pipe_model.specs.History.{accepted as accepted_in};
+ghost use Rattle.pipe_model.specs.Flow.{place};
+ghost use Rattle.pipe_model.specs.Legal.{allows, is_legal, happened, is_halt};
+ghost use Rattle.pipe_model.specs.Moves.{is_drained as is_drained_as};
 ghost use Rattle.core_state.specs.Stands.{Stands};
 ghost use Rattle.plain_run.specs.Jobs.{named_at as named_at_as};
 
 use crate::after::After;
 use crate::jobs::named_at;
-use crate::judges::judge;
+use crate::judges::{has_halted, judge};
+use crate::standing::{accepted, is_drained, places};
 use crate::works::{Works, new_works};
 use core_state::Core;
 use pipe_journal::Journal;
+use pipe_types::message::Place;
 use pipe_types::numbers::{MsgNo, Post, StageNo};
 use pipe_types::step::Step;
 use pipe_types::topology::Topology;
@@ -116,6 +123,35 @@ impl PlainRun {
         ensures { result.now ≡ self.now.topology }
     {
         self.core.topology()
+    }
+
+    /// How many messages were accepted.
+    pub fn accepted(&self) -> u32
+        ensures { result ≡ accepted_in self.now.steps }
+    {
+        accepted(&self.core)
+    }
+
+    /// The places of the accepted messages, in order of their numbers.
+    pub fn places(&self) -> &[Place]
+        ensures all { result.now ≡ filter_map (place self.now.topology self.now.steps) (numbers_upto (accepted_in self.now.steps)) }
+        ensures len { length result.now ≡ accepted_in self.now.steps }
+    {
+        places(&self.core)
+    }
+
+    /// Whether the drain has begun, no job is out, and every accepted message is acknowledged or lost.
+    pub fn is_drained(&self) -> bool
+        ensures { result ≡ is_drained_as self.now.topology self.now.steps }
+    {
+        is_drained(&self.core)
+    }
+
+    /// Whether the pipeline has halted.
+    pub fn has_halted(&self) -> bool
+        ensures { result ≡ happened is_halt self.now.steps }
+    {
+        has_halted(&self.core)
     }
 
     /// The topology and the steps so far.

@@ -12,7 +12,7 @@ use Rattle.clap.specs.declared.builder.command.Command.{Command as Program}
 use Rattle.clap.specs.declared.builder.command.Command.TheViews.{out-Command}
 use Rattle.clap.specs.declared.error.ErrorKind.{ErrorKind}
 use Rattle.clap.specs.declared.error.ErrorKind.TheVariants.{OutOfMemory}
-use Rattle.program_words.specs.Words.{Command, Run, Gen, bare_grammar, gen_of, grammar, named_in, run_in, taken_of, workers_in}
+use Rattle.program_words.specs.Words.{Command, Run, Gen, Audit, audit_of, bare_grammar, gen_of, grammar, named_in, run_in, taken_of, workers_in}
 
 -- where clap finds no fault, the command is that of the subcommand it found
 pub no_fault : (words : List Text) (entered : Option (Text × List Row)) → fault_of grammar words ≡ [] → entered ≡ subcommand_of grammar words
@@ -72,6 +72,19 @@ no_topology None count topology none = refl
 no_topology (Some s) None topology none = refl
 no_topology (Some s) (Some n) None none = refl
 no_topology (Some s) (Some n) (Some t) none = cc
+
+-- an audit, by its parts
+pub audit_read : (journal topology : Option Text) (j t : Text) → Some j ≡ journal → Some t ≡ topology → Some (Audit j t) ≡ audit_of journal topology
+audit_read journal topology j t first second = rw (← first, ← second) refl
+
+pub no_journal : (journal topology : Option Text) → None ≡ journal → None ≡ audit_of journal topology
+no_journal None topology none = refl
+no_journal (Some j) topology none = cc
+
+pub none_audited : (journal topology : Option Text) → None ≡ topology → None ≡ audit_of journal topology
+none_audited None topology none = refl
+none_audited (Some j) None none = refl
+none_audited (Some j) (Some t) none = cc
 
 -- something whose source is no default is given
 pub explicit : {A : Type 0} (of : A → Option ValueSource) (eq : ValueSource → ValueSource → Bool) (found : Option A) (source : Option ValueSource) (b : Bool)

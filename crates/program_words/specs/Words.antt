@@ -16,14 +16,15 @@ use Rattle.program_words.specs.declared.words.Command as code
 use Rattle.program_words.specs.declared.words.Command.TheVariants as coded
 
 -- `flow` with the name of a source and a prefix, `check` and `upgrade` with a topology file, `run` with one, the number of
--- workers, and whether the acknowledgements and the steps are asked for, and `gen` with a seed, how many records are to be
--- generated, and a topology file
+-- workers, and whether the acknowledgements and the steps are asked for, `gen` with a seed, how many records are to be
+-- generated, and a topology file, and `audit` with the name of a source and a topology file
 pub data Command : Type 0 where
   Flow : (source prefix : List ℕ) → Command
   Check : (topology : List ℕ) → Command
   Run : (topology : List ℕ) → (workers : ℕ) → (acks steps : Bool) → Command
   Gen : (seed count : ℕ) → (topology : List ℕ) → Command
   Upgrade : (topology : List ℕ) → Command
+  Audit : (journal topology : List ℕ) → Command
 
 -- ---- `flow`
 
@@ -67,6 +68,10 @@ gen_grammar = with_rule (with_rule (with_rule (new_app (codes "gen")) (word_rule
 abbrev pub upgrade_grammar : App
 upgrade_grammar = with_rule (new_app (codes "upgrade")) topology_rule
 
+-- `audit JOURNAL TOPOLOGY`
+abbrev pub audit_grammar : App
+audit_grammar = with_rule (with_rule (new_app (codes "audit")) (word_rule (codes "journal"))) topology_rule
+
 -- a program whose words come without its name, and which has no help
 abbrev pub bare_grammar : App
 bare_grammar = on_top (λ s. record s {
@@ -75,12 +80,12 @@ bare_grammar = on_top (λ s. record s {
   disable_help_subcommand = true;
 }) (new_app (codes "wamiondry"))
 
--- `check`, `run`, `gen` or `upgrade`, each with its own words after it. By what clap takes of it: the command's word comes first; after
+-- `check`, `run`, `gen`, `upgrade` or `audit`, each with its own words after it. By what clap takes of it: the command's word comes first; after
 -- it options and the other words stand in any order, these among themselves in the order given; an option is written in full and at most once, `--workers N` or
 -- `--workers=N`, `--acks` and `--steps` without a value; `--` ends the options; there is no help and no version
 abbrev pub grammar : App
 grammar =
-    with_subcommand (with_subcommand (with_subcommand (with_subcommand bare_grammar check_grammar.top) run_grammar.top) gen_grammar.top) upgrade_grammar.top
+    with_subcommand (with_subcommand (with_subcommand (with_subcommand (with_subcommand bare_grammar check_grammar.top) run_grammar.top) gen_grammar.top) upgrade_grammar.top) audit_grammar.top
 
 -- ---- from clap's matches to the command
 
@@ -120,12 +125,20 @@ gen_of _ _ _ = None
 abbrev pub gen_in : List Row → Option Command
 gen_in rows = gen_of (number_at (codes "seed") 0 4294967295 rows) (number_at (codes "count") 1 2000000 rows) (first_of (codes "topology") rows)
 
+abbrev pub audit_of : (journal topology : Option Text) → Option Command
+audit_of (Some journal) (Some topology) = Some (Audit journal topology)
+audit_of _ _ = None
+
+abbrev pub audit_in : List Row → Option Command
+audit_in rows = audit_of (first_of (codes "journal") rows) (first_of (codes "topology") rows)
+
 -- the command of this name, by what was found of its own words
 abbrev pub named_in : Text × List Row → Option Command
 named_in entered = if bytes_eq entered.0 (codes "check") then check_in entered.1
     else (if bytes_eq entered.0 (codes "run") then run_in entered.1
     else (if bytes_eq entered.0 (codes "gen") then gen_in entered.1
-    else (if bytes_eq entered.0 (codes "upgrade") then upgrade_in entered.1 else None)))
+    else (if bytes_eq entered.0 (codes "upgrade") then upgrade_in entered.1
+    else (if bytes_eq entered.0 (codes "audit") then audit_in entered.1 else None))))
 
 -- what clap takes: it finds no fault in the words, and they name a command
 unfoldable pub taken_of : List Text → Option Command
@@ -148,4 +161,5 @@ seen_as (Some (coded.Flow words)) = Some (Flow words.source.now words.prefix.now
 seen_as (Some (coded.Check topology)) = Some (Check topology.now)
 seen_as (Some (coded.Gen words)) = Some (Gen words.seed words.count words.topology.now)
 seen_as (Some (coded.Upgrade topology)) = Some (Upgrade topology.now)
+seen_as (Some (coded.Audit words)) = Some (Audit words.journal.now words.topology.now)
 seen_as (Some (coded.Run words)) = Some (Run words.topology.now words.workers words.acks words.steps)

@@ -8,4 +8,4 @@ pub mod refusals;
 pub mod words;
 
 pub use refusals::{counts_line, edge_line, memory_line, stock_line, topology_line, usage_line};
-pub use words::{Command, FlowWords, GenWords, RunWords, read_words};
+pub use words::{AuditWords, Command, FlowWords, GenWords, RunWords, read_words};

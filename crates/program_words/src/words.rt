@@ -4,7 +4,7 @@ ghost use Rattle.std.specs.Prelude.{◌≡◌, ◌==◌, ◌||◌, ◌&&◌, IfO
 ghost use Rattle.clap.specs.Words.{app_of, found_of, rows_of, rule_of, subcommand_rows_of};
 ghost use Rattle.clap.specs.Takes.{is_given};
 ghost use Rattle.pipe_types.specs.Sound.{is_between};
-ghost use Rattle.program_words.specs.Words.{command_of, texts_of, seen_as, flow_of, taken_of, named_in, check_in, upgrade_in, run_in, gen_in, workers_in, workers_of, number_in as number_in_of, number_at as number_at_of, grammar, check_grammar, run_grammar, gen_grammar, upgrade_grammar, flag_rule, word_rule};
+ghost use Rattle.program_words.specs.Words.{command_of, texts_of, seen_as, flow_of, taken_of, named_in, check_in, upgrade_in, run_in, gen_in, audit_in, workers_in, workers_of, number_in as number_in_of, number_at as number_at_of, grammar, check_grammar, run_grammar, gen_grammar, upgrade_grammar, audit_grammar, flag_rule, word_rule};
 
 use clap::error::ErrorKind;
 use clap::parser::ValueSource;
@@ -44,6 +44,13 @@ pub struct GenWords<'a> {
     pub topology: &'a str,
 }
 
+/// `audit JOURNAL TOPOLOGY`: the name of a source that holds a journal, and that of a topology file.
+#[derive(Clone, Copy, Drop)]
+pub struct AuditWords<'a> {
+    pub journal: &'a str,
+    pub topology: &'a str,
+}
+
 /// A command of the program.
 #[derive(Clone, Copy, Drop)]
 pub enum Command<'a> {
@@ -54,6 +61,7 @@ pub enum Command<'a> {
     Gen(GenWords<'a>),
     /// `upgrade TOPOLOGY`: the name of a topology file.
     Upgrade(&'a str),
+    Audit(AuditWords<'a>),
 }
 
 /// The command, and none where the words are no command. The words come without the program's name. The error is want
@@ -104,6 +112,7 @@ fn matched_command<'a>(matches: &ArgMatches<'a>) -> Option<Command<'a>>
         "run" => run_words(found),
         "gen" => gen_words(found),
         "upgrade" => upgrade_words(found),
+        "audit" => audit_words(found),
         _ => None,
     }
 }
@@ -118,6 +127,15 @@ fn upgrade_words<'a>(matches: &ArgMatches<'a>) -> Option<Command<'a>>
     ensures { seen_as result ≡ upgrade_in (rows_of (found_of matches.now)) }
 {
     Some(Command::Upgrade(matches.get_str("topology")?))
+}
+
+fn audit_words<'a>(matches: &ArgMatches<'a>) -> Option<Command<'a>>
+    ensures { seen_as result ≡ audit_in (rows_of (found_of matches.now)) }
+{
+    Some(Command::Audit(AuditWords {
+        journal: matches.get_str("journal")?,
+        topology: matches.get_str("topology")?,
+    }))
 }
 
 fn run_words<'a>(matches: &ArgMatches<'a>) -> Option<Command<'a>>
@@ -218,7 +236,8 @@ fn clap_program<'a>(alloc: Global) -> Result<clap::Command<'a>, AllocError>
         .subcommand(check_command(alloc)?)?
         .subcommand(run_command(alloc)?)?
         .subcommand(gen_command(alloc)?)?
-        .subcommand(upgrade_command(alloc)?)
+        .subcommand(upgrade_command(alloc)?)?
+        .subcommand(audit_command(alloc)?)
 }
 
 fn check_command<'a>(alloc: Global) -> Result<clap::Command<'a>, AllocError>
@@ -231,6 +250,14 @@ fn upgrade_command<'a>(alloc: Global) -> Result<clap::Command<'a>, AllocError>
     ensures { IfOk result (λ command. app_of command ≡ upgrade_grammar) }
 {
     clap::Command::new(alloc, "upgrade").arg(word(alloc, "topology"))
+}
+
+fn audit_command<'a>(alloc: Global) -> Result<clap::Command<'a>, AllocError>
+    ensures { IfOk result (λ command. app_of command ≡ audit_grammar) }
+{
+    clap::Command::new(alloc, "audit")
+        .arg(word(alloc, "journal"))?
+        .arg(word(alloc, "topology"))
 }
 
 fn gen_command<'a>(alloc: Global) -> Result<clap::Command<'a>, AllocError>

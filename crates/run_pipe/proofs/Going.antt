@@ -3,7 +3,7 @@ use Rattle.std.proofs.Common.{◌≡◌, ◌≢◌, ⊎_elim, ℕ, ◌+◌, ◌*
 use Rattle.std.specs.Prelude.{IfSome, IsSome, is_some, IfOk, OnOk, option_map}
 use Rattle.std.specs.Result.{IsErr}
 use Rattle.work_laws.specs.Left.{work_left}
-use Rattle.stage_moves.specs.Pauses.{may_pause, rounds_left}
+use Rattle.stage_holds.specs.Pauses.{may_pause, rounds_left}
 use Rattle.run_pipe.specs.Measure.{holds_left}
 use Rattle.run_pipe.proofs.Measures.{leaves_no_more, recorded_less, job_first, job_next, pause_first, pause_next}
 use Rattle.std.proofs.lemmas.Option.{none-some}
@@ -20,7 +20,7 @@ use Rattle.pipe_model.specs.Moves as next_move
 use Rattle.move_laws.specs.NextMoves.{IsLegalMove}
 use Rattle.move_laws.proofs.Laws.{move_law}
 use Rattle.move_laws.proofs.Legality.{halted_move}
-use Rattle.stage_moves.proofs.Turning.{drained_at, halted_at}
+use Rattle.stage_holds.proofs.Turning.{drained_at, halted_at}
 use Rattle.pipeline_turn.specs.Jobs.{AreAway}
 use Rattle.pipeline_turn.proofs.Journals.{begins_through}
 use Rattle.pipe_laws.specs.Followed.{FollowsMoves}
@@ -31,9 +31,9 @@ use Rattle.stage_bodies.specs.Posts.{place_at}
 use Rattle.body_laws.specs.Keeps.{Keeps}
 use Rattle.body_laws.specs.Ready.{Ready}
 use Rattle.body_laws.proofs.Posts.{out_has_post}
-use Rattle.stage_moves.specs.Keeping.{KeepsControl, KeepsControlOn}
+use Rattle.stage_holds.specs.Keeping.{KeepsControl, KeepsControlOn}
 use Rattle.job_laws.specs.Away.{IsAway}
-use Rattle.stage_moves.specs.Clocks.{ClockSeen, KeepsClock, KeepsClockOn}
+use Rattle.stage_holds.specs.Clocks.{ClockSeen, KeepsClock, KeepsClockOn}
 use Rattle.stage_holds.specs.Answers.{with_answered, IsAlwaysRecorded}
 use Rattle.stage_holds.specs.Homes.{IsBack}
 use Rattle.stage_holds.specs.Holds.{AddsHold, AreHome, OutsAre, Holds}

@@ -18,8 +18,8 @@ use Rattle.stage_bodies.specs.Seen.{LineSeen, BodySeen}
 use Rattle.stage_bodies.specs.Posts.{place_at, brings_records}
 use Rattle.stage_bodies.specs.declared.job.Answer.{Answer}
 use Rattle.body_laws.specs.Ready.{Ready}
-use Rattle.stage_moves.specs.Clocks.{ClockSeen}
-use Rattle.stage_moves.specs.Steps.{jobs_begun, still_ticks}
+use Rattle.stage_holds.specs.Clocks.{ClockSeen}
+use Rattle.stage_holds.specs.Steps.{jobs_begun, still_ticks}
 use Rattle.stage_holds.specs.Answers.{with_answered, IsAlwaysRecorded}
 use Rattle.stage_holds.specs.Homes.{IsBack}
 use Rattle.stage_holds.specs.Holds.{AddsAnswer, Comes, IsHome}

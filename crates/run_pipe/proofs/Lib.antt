@@ -9,5 +9,5 @@ mod Homing
 mod Going
 mod Starts
 mod Outcomes
-pub use Rattle.stage_moves.proofs.Kept
-pub use Rattle.stage_moves.proofs.Obeying
+pub use Rattle.stage_holds.proofs.Kept
+pub use Rattle.stage_holds.proofs.Obeying

@@ -9,9 +9,9 @@ use Rattle.pipeline_turn.proofs.Journals.{begins_itself}
 use Rattle.pipe_laws.specs.Followed.{FollowsMoves}
 use Rattle.stage_bodies.specs.Seen.{LineSeen, BodySeen}
 use Rattle.body_laws.specs.Keeps.{has_post}
-use Rattle.stage_moves.specs.Keeping.{KeepsControlOn, KeepsControlPartly}
-use Rattle.stage_moves.proofs.Kept.{kept_partly}
-use Rattle.stage_moves.specs.Clocks.{ClockSeen, KeepsClockOn, KeepsClockPartly}
+use Rattle.stage_holds.specs.Keeping.{KeepsControlOn, KeepsControlPartly}
+use Rattle.stage_holds.proofs.Kept.{kept_partly}
+use Rattle.stage_holds.specs.Clocks.{ClockSeen, KeepsClockOn, KeepsClockPartly}
 use Rattle.run_pipe.specs.declared.ends.RunEnd.{RunEnd}
 use Rattle.run_pipe.specs.Ends.{HasEnded, HasMemory}
 use Rattle.run_pipe.specs.Idle.{HasIdleRows}

@@ -13,9 +13,9 @@ use Rattle.body_laws.specs.Keeps.{Keeps, has_post}
 use Rattle.body_laws.specs.Ready.{IsFilled, Ready, There, IsBodyAt}
 use Rattle.body_laws.proofs.Rises.{rise_none}
 use Rattle.body_laws.proofs.Starts.{starts}
-use Rattle.stage_moves.specs.Keeping.{IsFresh, KeepsControl}
-use Rattle.stage_moves.proofs.Kept.{fresh_control}
-use Rattle.stage_moves.specs.Clocks.{ClockSeen, KeepsClock}
+use Rattle.stage_holds.specs.Keeping.{IsFresh, KeepsControl}
+use Rattle.stage_holds.proofs.Kept.{fresh_control}
+use Rattle.stage_holds.specs.Clocks.{ClockSeen, KeepsClock}
 use Rattle.run_pipe.specs.Away.{post_at, is_gone, away_in}
 use Rattle.run_pipe.specs.Idle.{IsIdle}
 use Rattle.run_pipe.specs.Seen.{PipeState, away_of}

@@ -6,7 +6,7 @@ use Rattle.std.proofs.lemmas.Option.{slice_get-map}
 use Rattle.pipe_types.specs.declared.topology.Topology.{Topology}
 use Rattle.pipe_model.specs.History.{History}
 use Rattle.stage_bodies.specs.Seen.{BodySeen, LineSeen, body_at, looked}
-use Rattle.stage_moves.specs.Clocks.{ClockSeen}
+use Rattle.stage_holds.specs.Clocks.{ClockSeen}
 use Rattle.run_pipe.specs.declared.ends.RunEnd.{RunEnd}
 use Rattle.run_pipe.specs.Seen.{PipeState, PipeSeen, state_of}
 

@@ -10,6 +10,6 @@ pub mod Jobs
 pub mod Rounds
 pub mod Rounded
 pub mod Runs
-pub use Rattle.stage_moves.specs.Clocks
-pub use Rattle.stage_moves.specs.Keeping
-pub use Rattle.stage_moves.specs.Obeyed
+pub use Rattle.stage_holds.specs.Clocks
+pub use Rattle.stage_holds.specs.Keeping
+pub use Rattle.stage_holds.specs.Obeyed

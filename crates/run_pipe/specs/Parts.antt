@@ -4,7 +4,7 @@ use Rattle.std.specs.declared.alloc.AllocError.{AllocError}
 use Rattle.core_state.specs.declared.state.Core.{Core}
 use Rattle.pipe_edges.specs.declared.lines.LineSource.{LineSource}
 use Rattle.stage_bodies.specs.Seen.{BodySeen, LineSeen, body_at}
-use Rattle.stage_moves.specs.Clocks.{ClockSeen}
+use Rattle.stage_holds.specs.Clocks.{ClockSeen}
 use Rattle.run_pipe.specs.declared.ends.RunEnd.{RunEnd}
 use Rattle.run_pipe.specs.Seen.{PipeState}
 

@@ -4,8 +4,8 @@ use Rattle.std.specs.declared.alloc.AllocError.{AllocError}
 use Rattle.pipe_model.specs.Begins.{BeginsWith}
 use Rattle.pipe_laws.specs.Followed.{FollowsMoves}
 use Rattle.body_laws.specs.Keeps.{Keeps}
-use Rattle.stage_moves.specs.Keeping.{KeepsControlOn}
-use Rattle.stage_moves.specs.Clocks.{KeepsClockOn}
+use Rattle.stage_holds.specs.Keeping.{KeepsControlOn}
+use Rattle.stage_holds.specs.Clocks.{KeepsClockOn}
 use Rattle.run_pipe.specs.declared.ends.RunEnd.{RunEnd}
 use Rattle.stage_holds.specs.Rows.{RowsWithin}
 use Rattle.run_pipe.specs.Ends.{HasEnded, HasMemory}

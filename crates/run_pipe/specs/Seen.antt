@@ -5,7 +5,7 @@ use Rattle.pipe_types.specs.declared.numbers.Post.{Post}
 use Rattle.pipe_types.specs.declared.topology.Topology.{Topology}
 use Rattle.pipe_model.specs.History.{History}
 use Rattle.stage_bodies.specs.Seen.{BodySeen, LineSeen, body_at}
-use Rattle.stage_moves.specs.Clocks.{ClockSeen}
+use Rattle.stage_holds.specs.Clocks.{ClockSeen}
 use Rattle.run_pipe.specs.declared.ends.RunEnd.{RunEnd}
 use Rattle.run_pipe.specs.Away.{away_in}
 

@@ -8,8 +8,8 @@ use Rattle.pipe_model.specs.Begins.{BeginsWith}
 use Rattle.stage_bodies.specs.Seen.{LineSeen}
 use Rattle.stage_bodies.specs.Posts.{place_at}
 use Rattle.body_laws.specs.Keeps.{Keeps, has_post}
-use Rattle.stage_moves.specs.Keeping.{KeepsControl, KeepsControlPartly}
-use Rattle.stage_moves.specs.Clocks.{ClockSeen, KeepsClock, KeepsClockPartly}
+use Rattle.stage_holds.specs.Keeping.{KeepsControl, KeepsControlPartly}
+use Rattle.stage_holds.specs.Clocks.{ClockSeen, KeepsClock, KeepsClockPartly}
 use Rattle.run_pipe.specs.declared.ends.RunEnd.{RunEnd}
 use Rattle.run_pipe.specs.Seen.{PipeState}
 

@@ -4,8 +4,8 @@ ghost use Rattle.std.specs.Prelude.{◌≡◌, [], None, Some, Err, IfSome, map,
 ghost use Rattle.core_state.specs.Stands.{Stands};
 ghost use Rattle.stage_bodies.specs.Seen.{body_at, line_seen};
 ghost use Rattle.body_laws.specs.Ready.{IsFilled};
-ghost use Rattle.stage_moves.specs.Keeping.{IsFresh};
-ghost use Rattle.stage_moves.specs.Clocks.{clock_seen};
+ghost use Rattle.stage_holds.specs.Keeping.{IsFresh};
+ghost use Rattle.stage_holds.specs.Clocks.{clock_seen};
 ghost use Rattle.run_pipe.specs.Parts.{state_by};
 ghost use Rattle.run_pipe.specs.Runs.{RanToEnd};
 ghost use Rattle.run_pipe.specs.Seen.{PipeSeen, state_of, away_of};

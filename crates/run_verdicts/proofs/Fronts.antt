@@ -5,7 +5,8 @@ use Rattle.std.proofs.Math.Seq.{take-nil}
 use Rattle.program_words.specs.Refusals.{memory_line}
 use Rattle.run_verdicts.specs.Verdicts.{Adds, AddsPrefix, refusal_text, refusal_status}
 use Rattle.run_verdicts.specs.declared.verdict.Refusal.{Refusal}
-use Rattle.run_verdicts.specs.declared.verdict.Refusal.TheVariants.{Usage, Topology, Stock, Edge, Memory}
+use Rattle.run_verdicts.specs.declared.verdict.Refusal.TheVariants.{Usage, Topology, Stock, Edge, Audit, Memory}
+use Rattle.run_verdicts.specs.declared.audits.AuditFault.TheVariants.{Line, Large, Wait, Source}
 
 -- a front of the first text is a front of both
 front_of : (count : ℕ) (first second : List ℕ) → (n : ℕ) × (take count first ≡ take n (first ++ second))
@@ -48,3 +49,7 @@ memory_front Usage held held' nine begun = absurd (omega (arith, nine))
 memory_front (Topology fault) held held' nine begun = absurd (omega (arith, nine))
 memory_front (Stock shortage) held held' nine begun = absurd (omega (arith, nine))
 memory_front (Edge name) held held' nine begun = absurd (omega (arith, nine))
+memory_front (Audit (Line line cause)) held held' nine begun = absurd (omega (arith, nine))
+memory_front (Audit Large) held held' nine begun = absurd (omega (arith, nine))
+memory_front (Audit Wait) held held' nine begun = absurd (omega (arith, nine))
+memory_front (Audit Source) held held' nine begun = absurd (omega (arith, nine))

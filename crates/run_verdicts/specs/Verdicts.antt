@@ -4,8 +4,9 @@ use Rattle.config_table.specs.declared.fault.ConfigFault.{ConfigFault}
 use Rattle.config_table.specs.declared.fault.ConfigFault.TheVariants.{NotToml, Version, UnknownKey, Missing, WrongType, OutOfRange, DuplicateName, UnknownBatcher, NoStage, TooManyStages, BadDispatch, Unreachable, OutOfMemory}
 use Rattle.config_table.specs.Fault.{number_of}
 use Rattle.program_words.specs.Refusals.{usage_line, topology_line, stock_line, edge_line, memory_line}
+use Rattle.run_verdicts.specs.Audits.{fault_line, fault_status}
 use Rattle.run_verdicts.specs.declared.verdict.Refusal.{Refusal}
-use Rattle.run_verdicts.specs.declared.verdict.Refusal.TheVariants.{Usage, Topology as NoTopology, Stock, Edge, Memory}
+use Rattle.run_verdicts.specs.declared.verdict.Refusal.TheVariants.{Usage, Topology as NoTopology, Stock, Edge, Audit, Memory}
 use Rattle.run_verdicts.specs.declared.verdict.Texts.{Texts}
 use Rattle.run_verdicts.specs.declared.verdict.Verdict.{Verdict}
 use Rattle.run_verdicts.specs.declared.verdict.Verdict.TheVariants.{Refused, Done}
@@ -40,6 +41,7 @@ refusal_text Usage = usage_line
 refusal_text (NoTopology fault) = topology_line (number_of fault) (path_of fault)
 refusal_text (Stock shortage) = stock_line shortage.kind shortage.need shortage.have
 refusal_text (Edge name) = edge_line name
+refusal_text (Audit fault) = fault_line fault
 refusal_text Memory = memory_line
 
 abbrev pub refusal_status : Refusal → ℕ
@@ -47,6 +49,7 @@ refusal_status Usage = 7
 refusal_status (NoTopology fault) = 6
 refusal_status (Stock shortage) = 6
 refusal_status (Edge name) = 5
+refusal_status (Audit fault) = fault_status fault
 refusal_status Memory = 9
 
 abbrev pub or_nothing : Option (List ℕ) → List ℕ

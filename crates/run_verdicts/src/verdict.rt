@@ -5,6 +5,7 @@ ghost use Rattle.pipe_types.specs.Counts.{Rose};
 ghost use Rattle.run_verdicts.specs.Verdicts.{path_of, refusal_text, refusal_status, or_nothing, whole_text, out_text_of, err_text_of, status_in, Adds, AddsPrefix, FaultBy, QuietBy, UnlessNine};
 ghost use Rattle.program_words.specs.Refusals.{memory_line as memory_text};
 
+use crate::audits::{AuditFault, fault_line, fault_status};
 use pipe_config::{ConfigFault, fault_number};
 use pipe_edges::{ByteSink, PutEnd, put_all};
 use pipe_types::bytes::{Bytes, Text};
@@ -32,6 +33,8 @@ pub enum Refusal {
     Stock(Shortage),
     /// Nothing of this name was read or opened.
     Edge(Text),
+    /// The journal was not found legal.
+    Audit(AuditFault),
     Memory,
 }
 
@@ -137,6 +140,7 @@ fn status_of(refusal: &Refusal) -> u8
         Refusal::Usage => 7,
         Refusal::Topology(_) | Refusal::Stock(_) => 6,
         Refusal::Edge(_) => 5,
+        Refusal::Audit(fault) => fault_status(*fault),
         Refusal::Memory => 9,
     }
 }
@@ -151,6 +155,7 @@ fn refusal_line(alloc: Global, refusal: &Refusal) -> Result<Bytes, AllocError>
             stock_line(alloc, shortage.kind, shortage.need, shortage.have)
         }
         Refusal::Edge(name) => edge_line(alloc, name.as_str()),
+        Refusal::Audit(fault) => fault_line(alloc, *fault),
         Refusal::Memory => memory_line(alloc),
     }
 }

@@ -23,7 +23,7 @@ use Rattle.body_laws.specs.Lates.{late_step}
 use Rattle.body_laws.specs.Ready.{Ready}
 use Rattle.body_laws.proofs.Laws.{silent_keeps, silent_ready, names_slot, NamesSlot, answers_only}
 use Rattle.body_laws.proofs.Posts.{same_post-true, out_has_post, no_post_of_control}
-use Rattle.core_jobs.specs.Recorded.{with_answer}
+use Rattle.stage_moves.specs.Recorded.{with_answer}
 use Rattle.stage_moves.specs.Steps.{jobs_begun, still_ticks}
 use Rattle.job_laws.specs.Away.{IsAway, IsAnswerTo, is_from_live}
 use Rattle.job_laws.proofs.Away.{home_ready, unrecorded_home, cut_home, live_home, live_home_ready, late_home, late_home_ready, live_recorded, late_recorded}

@@ -22,7 +22,7 @@ use Rattle.body_laws.specs.Keeps.{Keeps}
 use Rattle.body_laws.specs.Ready.{Ready, There, IsBodyAt}
 use Rattle.body_laws.proofs.Jobs.{begun_ready, ready_fits}
 use Rattle.body_laws.proofs.Laws.{silent_keeps, silent_ready, away_keeps, away_ready}
-use Rattle.core_jobs.specs.Begun.{IsBegun}
+use Rattle.stage_moves.specs.Begun.{IsBegun}
 use Rattle.stage_moves.specs.Steps.{jobs_begun}
 use Rattle.stage_moves.proofs.Kept.{job_keeps}
 use Rattle.job_laws.specs.Away.{IsAway}

@@ -17,7 +17,7 @@ use Rattle.stage_bodies.specs.declared.job.Outcome.{Outcome as Came}
 use Rattle.stage_bodies.specs.declared.job.Outcome.TheVariants as came
 use Rattle.body_laws.specs.Lates.{late_step}
 use Rattle.body_laws.proofs.Posts.{same_post-self}
-use Rattle.core_jobs.specs.Recorded.{and_kill, with_answer}
+use Rattle.stage_moves.specs.Recorded.{and_kill, with_answer}
 use Rattle.stage_moves.specs.Going.{AddsSilently}
 use Rattle.stage_holds.specs.Answers.{is_in_time, with_answered}
 use Rattle.stage_holds.specs.Rows.{RowsWithin}

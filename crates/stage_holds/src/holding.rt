@@ -13,13 +13,12 @@ ghost use Rattle.stage_holds.specs.Parts.{parts_by};
 use crate::homes::come_home;
 use crate::leaves::leave;
 use crate::loads::{Home, Load};
-use core_moves::moves::Move;
 use core_rows::jobs::is_halted;
 use core_rows::posts::is_any_out;
 use core_state::Core;
 use pipe_edges::{ByteSource, Clock, LineSource};
 use stage_bodies::Works;
-use stage_moves::{advance, pause};
+use stage_moves::{Move, advance, pause};
 use std::alloc::AllocError;
 
 /// How a worker goes on behind a hold.

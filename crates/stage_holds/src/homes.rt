@@ -11,11 +11,11 @@ ghost use Rattle.stage_holds.specs.Answers.{is_in_time, answer_step, with_answer
 ghost use Rattle.stage_holds.specs.Holds.{Comes, IsHome};
 
 use crate::loads::Home;
-use core_jobs::record_answer;
 use core_lates::late;
 use core_state::Core;
 use pipe_types::step::LateAnswer;
 use stage_bodies::{Answer, Outcome, Works, place_of, put_back};
+use stage_moves::record_answer;
 use std::alloc::AllocError;
 
 /// Puts the body back to its place, and records the answer: live, or late where the stage was killed since. The error is want

@@ -11,10 +11,10 @@ ghost use Rattle.body_laws.specs.Ready.{Ready};
 ghost use Rattle.stage_holds.specs.Holds.{LeavesOn};
 
 use crate::loads::Load;
-use core_jobs::begin_job;
 use core_state::Core;
 use pipe_types::numbers::StageNo;
 use stage_bodies::{Work, Works, place_of, take_out};
+use stage_moves::begin_job;
 use std::alloc::AllocError;
 
 /// Begins the job of the stage, and takes the body of its post out; behind a fetch its source is told the moment. The error is want of memory: nothing has changed.

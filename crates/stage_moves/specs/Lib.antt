@@ -5,3 +5,5 @@ pub mod Pauses
 pub use Rattle.control_lines.specs.Keeping
 pub use Rattle.control_lines.specs.Obeyed
 pub use Rattle.control_lines.specs.Steps
+pub use Rattle.core_jobs.specs.Begun
+pub use Rattle.core_jobs.specs.Recorded

@@ -13,3 +13,5 @@ mod steps;
 
 pub use advancing::advance;
 pub use clocks::pause;
+pub use core_jobs::{begin_job, record_answer};
+pub use core_moves::moves::Move;

@@ -1,6 +1,6 @@
 use Rattle.std.proofs.Common.{◌∙◌}
-use Rattle.run_verdicts.proofs.Standing.{places_stand}
+use Rattle.plain_run.proofs.Placing.{places_stand}
 use Rattle.run_verdicts.proofs.texts.places_of.Goals as goal
 
 pub returns : goal.returns
-returns c = c.as_slice.ensures.value ∙ places_stand c.args.core.now c.requires.stands
+returns c = c.as_slice.ensures.value ∙ places_stand c.args.core.now c.requires.stands.holds

@@ -1,7 +1,7 @@
 use Rattle.std.proofs.Common.{◌≡◌, ◌∙◌, [], sym, ap, subst, Some, Err}
 use Rattle.std.specs.Prelude.{option_map}
 use Rattle.stage_bodies.specs.Seen.{line_seen}
-use Rattle.stage_moves.specs.Clocks.{clock_seen}
+use Rattle.stage_holds.specs.Clocks.{clock_seen}
 use Rattle.run_pipe.specs.Seen.{PipeState, state_of, away_of}
 use Rattle.run_pipe.proofs.Outcomes.{short_of, short_whole, short_ran, ran_at}
 use Rattle.run_pipe.proofs.Views.{fields_of, seen_of, state_is}

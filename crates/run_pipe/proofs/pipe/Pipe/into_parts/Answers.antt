@@ -1,7 +1,7 @@
 use Rattle.std.proofs.Common.{◌∙◌, sym, ap, subst}
 use Rattle.std.specs.Prelude.{option_map}
 use Rattle.stage_bodies.specs.Seen.{line_seen}
-use Rattle.stage_moves.specs.Clocks.{clock_seen}
+use Rattle.stage_holds.specs.Clocks.{clock_seen}
 use Rattle.run_pipe.specs.Seen.{state_of}
 use Rattle.run_pipe.specs.Whole.{IsWhole}
 use Rattle.run_pipe.proofs.Views.{state_is}

@@ -3,7 +3,7 @@ use Rattle.std.specs.Prelude.{option_map, IsSome}
 use Rattle.pipe_types.specs.declared.topology.Topology.{Topology}
 use Rattle.pipe_model.specs.Legal.{is_legal}
 use Rattle.stage_bodies.specs.Seen.{body_at, line_seen}
-use Rattle.stage_moves.specs.Clocks.{clock_seen}
+use Rattle.stage_holds.specs.Clocks.{clock_seen}
 use Rattle.run_pipe.specs.Jobs.{IsBrought}
 use Rattle.run_pipe.specs.Seen.{PipeState, state_of}
 use Rattle.run_pipe.specs.Rounded.{Rounded}

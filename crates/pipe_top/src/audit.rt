@@ -1,0 +1,139 @@
+//! The journal of an audit.
+
+ghost use Rattle.std.specs.Prelude.{◌≡◌, List, ℕ, IfOk};
+ghost use Rattle.pipe_types.specs.Sound.{IsSound};
+ghost use Rattle.pipe_edges.specs.declared.edges.EdgeKind.TheVariants.{Source};
+ghost use Rattle.edge_names.specs.Named.{GivesSource, Opens, BacksSource};
+ghost use Rattle.pipe_top.specs.Flows.{IsAuditedOrNot, JudgesText, JudgesSource, JudgesOpened, ReadsJournal};
+
+use crate::file::text_of;
+use crate::run::{Ran, refused};
+use edge_names::{SeenEdges, SeenSource};
+use journal_audit::{Summary, Verdict as Judgement, audit};
+use pipe_edges::{ByteSource, EdgeEnd, Edges, WholeRead, read_all};
+use pipe_journal::Journal;
+use pipe_types::bytes::{Bytes, Text};
+use pipe_types::topology::Topology;
+use run_verdicts::{AuditFault, Refusal, Texts, Verdict, legal_text};
+use std::alloc::{AllocError, Global};
+
+/// As many bytes as a journal may have.
+const MOST_BYTES: u64 = 268_435_456;
+
+/// What the text comes to.
+fn judge_text(alloc: Global, topology: &Topology, bytes: &Bytes) -> Result<Summary, Refusal>
+    requires sound { IsSound topology.now }
+    ensures { JudgesText topology.now bytes.now result }
+{
+    match audit(alloc, topology, bytes.as_slice()) {
+        Ok(Judgement::Legal(summary)) => Ok(summary),
+        Ok(Judgement::Bad { line, cause }) => {
+            Err(Refusal::Audit(AuditFault::Line { line, cause }))
+        }
+        Err(_) => Err(Refusal::Memory),
+    }
+}
+
+/// Reads the source to its end, and judges what came.
+fn judge_source<B: ByteSource>(
+    alloc: Global,
+    topology: &Topology,
+    source: &mut B,
+) -> Result<Summary, Refusal>
+    requires sound { IsSound topology.now }
+    ensures { JudgesSource topology.now (⟦<B as SeenSource>⟧.seen source.old) (⟦<B as SeenSource>⟧.seen source.new) result }
+{
+    match read_all(alloc, source, MOST_BYTES) {
+        Ok(WholeRead::All(bytes)) => judge_text(alloc, topology, &bytes),
+        Ok(WholeRead::Large) => Err(Refusal::Audit(AuditFault::Large)),
+        Ok(WholeRead::Empty) => Err(Refusal::Audit(AuditFault::Wait)),
+        Ok(WholeRead::Failed) => Err(Refusal::Audit(AuditFault::Source)),
+        Err(_) => Err(Refusal::Memory),
+    }
+}
+
+/// Opens the source of this name.
+fn open_source<E: Edges>(name: &Text, edges: &mut E) -> Result<E::Source, EdgeEnd>
+    ensures opens { Opens Source name.now (⟦<E as SeenEdges>⟧.seen edges.old) (⟦<E as SeenEdges>⟧.seen edges.new) result }
+    ensures given { IfOk result (λ s. GivesSource (⟦<E as SeenEdges>⟧.seen edges.old) name.now (⟦<E::Source as SeenSource>⟧.seen s)) }
+{
+    edges.open_source(name)
+}
+
+/// Gives a source back under its name.
+fn back_source<E: Edges>(name: &Text, source: E::Source, edges: &mut E) -> Result<(), AllocError>
+    ensures { BacksSource name.now (⟦<E::Source as SeenSource>⟧.seen source) (⟦<E as SeenEdges>⟧.seen edges.old) (⟦<E as SeenEdges>⟧.seen edges.new) result }
+{
+    edges.back_source(name, source)
+}
+
+/// Judges the journal that the source holds, and gives the source back.
+fn judge_opened<E: Edges>(
+    alloc: Global,
+    topology: &Topology,
+    name: &Text,
+    source: E::Source,
+    edges: &mut E,
+) -> Result<Summary, Refusal>
+    requires sound { IsSound topology.now }
+    ensures { JudgesOpened name.now topology.now (⟦<E::Source as SeenSource>⟧.seen source) (⟦<E as SeenEdges>⟧.seen edges.old) (⟦<E as SeenEdges>⟧.seen edges.new) result }
+{
+    let mut source = source;
+    let found = judge_source(alloc, topology, &mut source);
+    match back_source(name, source, edges) {
+        Ok(()) => found,
+        Err(_) => Err(Refusal::Memory),
+    }
+}
+
+/// What the journal of this name comes to, which is opened, read and given back.
+pub(crate) fn audit_named<E: Edges>(
+    alloc: Global,
+    name: &str,
+    topology: &Topology,
+    edges: &mut E,
+) -> Result<Summary, Refusal>
+    requires sound { IsSound topology.now }
+    ensures { ReadsJournal (⟦<E as SeenEdges>⟧.seen edges.old) (⟦<E as SeenEdges>⟧.seen edges.new) name.now topology.now result }
+{
+    let Ok(name) = text_of(alloc, name) else {
+        return Err(Refusal::Memory);
+    };
+    match open_source(&name, edges) {
+        Ok(source) => judge_opened(alloc, topology, &name, source, edges),
+        Err(EdgeEnd::Failed) => Err(Refusal::Edge(name)),
+        Err(EdgeEnd::OutOfMemory) => Err(Refusal::Memory),
+    }
+}
+
+/// What a legal journal comes to.
+pub(crate) fn audited<C, K>(
+    alloc: Global,
+    topology: Topology,
+    summary: &Summary,
+    stock: Vec<C>,
+    clock: K,
+) -> Ran<C, K>
+    requires sound { IsSound topology }
+    ensures same_boxes { result.stock.items ≡ stock.items }
+    ensures same_clock { result.clock ≡ clock }
+    ensures audited { IsAuditedOrNot summary.now topology result.topology result.journal.steps result.verdict }
+{
+    match legal_text(alloc, summary) {
+        Ok(last) => Ran {
+            verdict: Verdict::Done {
+                texts: Texts {
+                    steps: None,
+                    acks: None,
+                    last,
+                },
+                status: 0,
+            },
+            topology: Some(topology),
+            journal: Journal::new(alloc),
+            stock,
+            clock,
+        },
+        Err(_) => refused(alloc, Refusal::Memory, stock, clock),
+    }
+}
