@@ -1,0 +1,15 @@
+pub mod Called
+pub mod Clauses
+pub mod Completes
+pub mod Drains
+pub mod Ends
+pub mod Longs
+pub mod Openings
+pub mod Outcomes
+pub mod Promises
+pub mod Reading
+pub mod Runnables
+pub mod Shares
+pub mod Statuses
+pub mod Unused
+pub mod Audits
