@@ -183,8 +183,8 @@ judged_legal topology before (line ∷ lines) journal legal e = by (line_in (job
       where
         by_judge : (b : Bool) → is_legal topology (step ∷ before) ≡ b
             → unless_bad (judged.judge (is_legal topology (step ∷ before))) (line_after before) (lines_in judged topology (step ∷ before) lines) ≡ Ok journal → is_legal topology journal ≡ true
-        by_judge true ok f = more step ok (sym (ap (λ (c : Bool). unless_bad (judged.judge c) (line_after before) (lines_in judged topology (step ∷ before) lines)) ok) ∙ f)
-        by_judge false no f = absurd (let wrong = sym (ap (λ (c : Bool). unless_bad (judged.judge c) (line_after before) (lines_in judged topology (step ∷ before) lines)) no) ∙ f in cc)
+        by_judge true allowed f = more step allowed (sym (ap (λ (c : Bool). unless_bad (judged.judge c) (line_after before) (lines_in judged topology (step ∷ before) lines)) allowed) ∙ f)
+        by_judge false refused f = absurd (let wrong = sym (ap (λ (c : Bool). unless_bad (judged.judge c) (line_after before) (lines_in judged topology (step ∷ before) lines)) refused) ∙ f in cc)
 
 pub text_legal : (topology : Topology) (text : List ℕ) (journal : History) → text_in judged topology text ≡ Ok journal → is_legal topology journal ≡ true
 unfolding text_in

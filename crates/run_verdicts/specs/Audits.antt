@@ -1,6 +1,7 @@
 -- What an audit writes, and its status where the journal is not found legal.
 use Rattle.std.specs.Prelude.{ℕ, List, [], ◌++◌, codes, decimal, if◌then◌else◌}
 use Rattle.program_words.specs.Refusals.{lf}
+use Rattle.journal_texts.specs.Report.{count_line}
 use Rattle.journal_audit.specs.declared.verdict.BadCause.{BadCause}
 use Rattle.journal_audit.specs.declared.verdict.BadCause.TheVariants.{Header, Word, Number, Bytes, End, Step}
 use Rattle.journal_audit.specs.declared.verdict.Summary.{Summary}
@@ -36,18 +37,20 @@ fault_status Source = 4
 abbrev pub end_word : Summary → List ℕ
 end_word summary = if summary.drained then codes "drained" else (if summary.halted then codes "halted" else codes "open")
 
--- WORD N, and what stands behind its line
-abbrev pub count_line : (word : List ℕ) → ℕ → (rest : List ℕ) → List ℕ
-count_line word n rest = word ++ (codes " " ++ (decimal n ++ (lf ++ rest)))
+-- legal N WORD
+abbrev pub legal_line : (steps : ℕ) → (word : List ℕ) → List ℕ
+legal_line steps word = codes "legal " ++ decimal steps ++ codes " " ++ word ++ lf
 
--- legal N WORD, and then the counts, one a line
+-- the counts of messages, one a line
+abbrev pub count_lines : Summary → List ℕ
+count_lines summary =
+    count_line (codes "accepted") summary.accepted
+    ++ count_line (codes "successful") summary.successful
+    ++ count_line (codes "failed") summary.failed
+    ++ count_line (codes "lost") summary.lost
+
 abbrev pub counts_text : (word : List ℕ) → Summary → List ℕ
-counts_text word summary =
-    codes "legal " ++ (decimal summary.steps ++ (codes " " ++ (word ++ (lf
-    ++ count_line (codes "accepted") summary.accepted
-    (count_line (codes "successful") summary.successful
-    (count_line (codes "failed") summary.failed
-    (count_line (codes "lost") summary.lost [])))))))
+counts_text word summary = legal_line summary.steps word ++ count_lines summary
 
 abbrev pub legal_text : Summary → List ℕ
 legal_text summary = counts_text (end_word summary) summary

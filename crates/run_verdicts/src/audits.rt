@@ -1,6 +1,7 @@
 //! What an audit writes.
 
-ghost use Rattle.std.specs.Prelude.{◌≡◌, IfOk, string_bytes};
+ghost use Rattle.std.specs.Prelude.{◌≡◌, ◌++◌, IfOk, OnOk, string_bytes};
+ghost use Rattle.journal_texts.specs.Report.{count_line};
 ghost use Rattle.run_verdicts.specs.Audits as text;
 
 use journal_audit::{BadCause, Summary};
@@ -27,22 +28,48 @@ pub fn legal_text(alloc: Global, summary: &Summary) -> Result<Bytes, AllocError>
 }
 
 /// The same, with this word.
-#[tactic(auto, using(std::proofs::lemmas::List::append_assoc))]
 fn counts_text(alloc: Global, word: &str, summary: &Summary) -> Result<Bytes, AllocError>
     ensures { IfOk result (λ written. written ≡ text.counts_text word.now summary.now) }
 {
-    let Summary {
-        steps,
-        accepted,
-        successful,
-        failed,
-        lost,
-        drained: _,
-        halted: _,
-    } = *summary;
-    bytes_of(format!(in alloc;
-        "legal {steps} {word}\naccepted {accepted}\nsuccessful {successful}\nfailed {failed}\nlost {lost}\n"
-    )?)
+    let mut out = Vec::new(alloc);
+    put_legal(alloc, &mut out, summary.steps, word)?;
+    put_counts(alloc, &mut out, summary)?;
+    Ok(Bytes::from_vec(out))
+}
+
+/// Writes how many steps there are, and the word.
+#[tactic(auto, using(std::proofs::lemmas::List::append_assoc))]
+fn put_legal(alloc: Global, out: &mut Vec<u8>, steps: u64, word: &str) -> Result<(), AllocError>
+    ensures { OnOk result (out.new.items ≡ out.old.items ++ text.legal_line steps word.now) }
+{
+    let line = format!(in alloc; "legal {steps} {word}\n")?;
+    put(out, &line)
+}
+
+/// Writes the counts of messages, a line each.
+#[tactic(auto, using(std::proofs::lemmas::List::append_assoc))]
+fn put_counts(alloc: Global, out: &mut Vec<u8>, summary: &Summary) -> Result<(), AllocError>
+    ensures { OnOk result (out.new.items ≡ out.old.items ++ text.count_lines summary.now) }
+{
+    put_count(alloc, out, "accepted", summary.accepted)?;
+    put_count(alloc, out, "successful", summary.successful)?;
+    put_count(alloc, out, "failed", summary.failed)?;
+    put_count(alloc, out, "lost", summary.lost)
+}
+
+/// Writes a count behind its word.
+#[tactic(auto, using(std::proofs::lemmas::List::append_assoc))]
+fn put_count(alloc: Global, out: &mut Vec<u8>, word: &str, n: u32) -> Result<(), AllocError>
+    ensures { OnOk result (out.new.items ≡ out.old.items ++ count_line word.now n) }
+{
+    let line = format!(in alloc; "{word} {n}\n")?;
+    put(out, &line)
+}
+
+fn put(out: &mut Vec<u8>, text: &str) -> Result<(), AllocError>
+    ensures { OnOk result (out.new.items ≡ out.old.items ++ text.now) }
+{
+    out.extend_from_slice(text.as_bytes())
 }
 
 fn end_word(summary: &Summary) -> &'static str
