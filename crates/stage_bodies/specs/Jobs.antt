@@ -211,8 +211,19 @@ IsDone (work.Child message) (came.Reply reply) old new =
     Both (λ before after. Replies 1 (message ∷ []) (reply ∷ []) (reset before) after) old.callback new.callback × (new.source ≡ old.source) × (new.sink ≡ old.sink)
 IsDone _ _ old new = ⊥
 
--- memory was wanting: no line is gone, an end stays known, nothing was written, and the callback is the same
+-- a fetch that was cut off keeps the pace; without one the gate stays as it is
+abbrev pub CutKeepsPace : Option Pace → (old new : LineSeen) → Type 0
+CutKeepsPace None old new = new.source.paced ≡ old.source.paced
+CutKeepsPace (Some pace) old new = KeepsPace pace old.source.waits new.source.waits old.source.paced new.source.paced
+
+-- memory was wanting: no line is gone, and an end stays known
+pub record IsCutFetch (old new : LineSeen) : Type 0 where
+  pub reads : ReadsOn [] old new
+  pub end_stays : IfSome old.end (λ e. new.end ≡ Some e)
+  pub paced : CutKeepsPace old.source.paced.pace old new
+
+-- nothing was written, and the callback is the same
 pub record IsCutOff (old new : BodySeen) : Type 0 where
-  pub source : Both (λ before after. ReadsOn [] before after × IfSome before.end (λ e. after.end ≡ Some e)) old.source new.source
+  pub source : Both IsCutFetch old.source new.source
   pub sink : new.sink ≡ old.sink
   pub callback : Both KeepsBox old.callback new.callback
