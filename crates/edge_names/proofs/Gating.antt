@@ -59,9 +59,9 @@ taken_off source g inner is holds = rw is (by g.front holds)
     by None h = record { same_telling = refl; same_bytes = λ t. refl; same_faults = refl; gate = inl refl }
     by (Some f) h = record {
       same_telling = refl;
-      same_bytes = λ t. ap (λ x. x ++ source.left g.inner) (h.1 t) ∙ append_assoc _ f.held (source.left g.inner);
+      same_bytes = λ t. ap (λ x. x ++ source.left g.inner) (h t) ∙ append_assoc _ f.held (source.left g.inner);
       same_faults = refl;
-      gate = inr (h.0, refl);
+      gate = inr (refl, refl);
     }
 
 -- ---- put before
