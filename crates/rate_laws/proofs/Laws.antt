@@ -22,7 +22,6 @@ use Rattle.pipe_model.specs.Posts.{is_out, out_from}
 use Rattle.pipe_model.specs.Legal.{allows, are_records, fetch_out, has_role, is_current, is_legal, is_producer_role, late_fits}
 use Rattle.pipe_laws.proofs.Allowed.{legal_before, legal_step, unowed}
 use Rattle.pipe_laws.proofs.Tests.{and_left, and_right, clash, same_stage-true}
-use Rattle.stage_laws.specs.Numbered.{IsNumberedTopology}
 use Rattle.stage_laws.proofs.Numbering.{numbered_topology}
 use Rattle.rate_laws.specs.Rates.{KeepsRate, KeepsShares, came_by, came_in, fetched_at, interval_of, share_of}
 use Rattle.rate_laws.proofs.Sums.{shares_make, total, total_one, total_same, total_zero}

@@ -1,6 +1,6 @@
 -- The places of producers.
-use Rattle.std.proofs.Common.{◌≡◌, ℕ, zero, suc, ◌+◌, ◌<◌, ◌≤◌, ◌==◌, ◌&&◌, Bool, true, false, List, [], ◌∷◌, length, take, cond, arith, refl, ap, sym, subst, ◌∙◌}
-use Rattle.std.specs.Prelude.{slice_get, Option, Some, None, IsTrue}
+use Rattle.std.proofs.Common.{◌≡◌, ℕ, zero, suc, ◌+◌, ◌==◌, ◌&&◌, true, List, [], ◌∷◌, length, take, arith, refl, ap, sym, subst, ◌∙◌}
+use Rattle.std.specs.Prelude.{slice_get, Some}
 use Rattle.std.proofs.lemmas.Bool.{eqb-true}
 use Rattle.pipe_types.specs.Sound.{IsSound, batchers, is_next, is_ordered, is_producer, may_begin, may_follow, may_go_on, producers}
 use Rattle.pipe_types.specs.declared.topology.Role.{Role}

@@ -1,5 +1,5 @@
 -- What a journal brings in each interval, and what an interval may bring.
-use Rattle.std.specs.Prelude.{ℕ, ◌≡◌, ◌+◌, ◌/◌, ◌%◌, ◌≤◌, ◌==◌, Bool, true, not, ◌&&◌, if◌then◌else◌, List, [], ◌∷◌, length, nat_lt, nat_le, Some}
+use Rattle.std.specs.Prelude.{ℕ, ◌≡◌, ◌+◌, ◌/◌, ◌%◌, ◌≤◌, ◌==◌, Bool, true, not, ◌&&◌, if◌then◌else◌, [], ◌∷◌, length, nat_lt, nat_le, Some}
 use Rattle.pipe_types.specs.Numbers.{same_stage}
 use Rattle.pipe_types.specs.Sound.{is_producer, producers}
 use Rattle.pipe_types.specs.Stages.{spec_of}
