@@ -1,8 +1,18 @@
+use Rattle.std.specs.Prelude.{option_map}
 use Rattle.stage_bodies.specs.Seen.{body_at, source_seen, sink_seen}
+use Rattle.rate_gate.specs.Gate.{pace_of}
 use Rattle.edge_names.specs.Seen.{edges_seen}
-use Rattle.edge_names.specs.Supplies.{fed}
-use Rattle.edge_names.proofs.Cuts.{opens_not}
+use Rattle.edge_names.proofs.Supplying.{feed_cut_off, feed_none, feed_not, feed_opened}
 use Rattle.edge_names.proofs.opening.supply_source_into.Goals as goal
+
+pub returns-in-Ok-clause-opens : goal.returns-in-Ok-clause-opens
+returns-in-Ok-clause-opens g c = ?
+
+pub returns-in-Ok-None-clause-opens : goal.returns-in-Ok-None-clause-opens
+returns-in-Ok-None-clause-opens g c = ?
+
+pub returns-in-Err-gated_lines-clause-opens : goal.returns-in-Err-gated_lines-clause-opens
+returns-in-Err-gated_lines-clause-opens g c = ?
 
 pub returns-in-Err-clause-opens : goal.returns-in-Err-clause-opens
 returns-in-Err-clause-opens g c =
@@ -12,4 +22,4 @@ returns-in-Err-clause-opens g c =
     let seen = edges_seen e.told e.named e.asked e.faults e.sources_back e.sinks_back (source_seen s) (sink_seen k.told k.held k.faults) in
     let table = body_at g.B.Works.look c.args.bodies.now.items in
     let feed = g.S.Supply.feeds c.args.supply.now c.args.spec.now in
-    opens_not (Unit {0}) c.in-Err.unopened (fed feed) c.args.at (seen c.args.edges.now) (seen c.supply.new.edges) table table c.in-Err.ensures.failed c.in-Err.ensures.cut_off
+    feed_not (Unit {0}) c.in-Err.unopened (option_map pace_of c.args.gate) feed c.args.at (seen c.args.edges.now) (seen c.supply.new.edges) table table c.in-Err.ensures.failed c.in-Err.ensures.cut_off
