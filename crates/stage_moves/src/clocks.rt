@@ -15,6 +15,7 @@ use std::alloc::AllocError;
 
 /// How long a pause is at least, in milliseconds, and at most.
 const LEAST_MS: u64 = 1;
+
 const MOST_MS: u64 = 1_000;
 
 /// How many pauses an interval of a rate has, where it is not shorter or longer than these.
