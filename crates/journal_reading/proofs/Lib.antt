@@ -1,2 +1,3 @@
 mod Cuts
 pub mod Reading
+pub use Rattle.plain_run.proofs.Placing

@@ -17,5 +17,6 @@ mod steps;
 
 pub use fault::{JournalFault, JournalRefusal};
 pub use lines::{Cut, first_line, is_header};
+pub use plain_run::PlainRun;
 pub use step::{LineRead, read_step};
 pub use steps::{begin, read_steps};
