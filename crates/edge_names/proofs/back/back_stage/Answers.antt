@@ -20,7 +20,7 @@ returns-in-Some-clause-back g c = λ paces.
     let old = seen c.args.edges.now in
     let new = seen c.take_back.new.edges in
     subst (λ r. OnOk c.take_back.result (GivesOff (named_source (supplied_by r (paces spec) feed spec.edge) body) (named_sink (supplied_by r (paces spec) feed spec.edge) body) old new)) (sym c.in-Producer.is)
-    (off_feed c.take_back.result (paces spec) feed _ _ body old new (sym c.in-Some.ensures.out) c.take_off.ensures c.take_back.ensures.back)
+    (off_feed c.take_back.result (paces spec) feed _ _ body old new (sym {b = source_in body} c.in-Some.ensures.out) c.take_off.ensures c.take_back.ensures.back)
 
 pub returns-in-Some-clause-calm : goal.returns-in-Some-clause-calm
 returns-in-Some-clause-calm g c = λ paces.
@@ -28,7 +28,7 @@ returns-in-Some-clause-calm g c = λ paces.
     let feed = g.S.Supply.feeds c.args.supply.now spec in
     let body = body_at g.B.Works.look c.args.bodies.now.items c.args.at in
     subst (λ r. OnOk c.take_back.result (IsCalm (supplied_by r (paces spec) feed spec.edge) (source_in body))) (sym c.in-Producer.is)
-    (calm_fed c.take_back.result (paces spec) feed _ _ body (sym c.in-Some.ensures.out) c.take_off.ensures c.take_back.ensures.calm)
+    (calm_fed c.take_back.result (paces spec) feed _ _ body (sym {b = source_in body} c.in-Some.ensures.out) c.take_off.ensures c.take_back.ensures.calm)
 
 pub returns-in-None-clause-back : goal.returns-in-None-clause-back
 returns-in-None-clause-back g c = λ paces.
@@ -41,7 +41,7 @@ returns-in-None-clause-back g c = λ paces.
     let body = body_at g.B.Works.look c.args.bodies.now.items c.args.at in
     let old = seen c.args.edges.now in
     subst (λ r. GivesOff (named_source (supplied_by r (paces spec) feed spec.edge) body) (named_sink (supplied_by r (paces spec) feed spec.edge) body) old old) (sym c.in-Producer.is)
-    (off_none (paces spec) feed body old (sym c.in-None.ensures.out) (off_nothing old))
+    (off_none (paces spec) feed body old (sym {b = source_in body} c.in-None.ensures.out) (off_nothing old))
 
 pub returns-in-None-clause-calm : goal.returns-in-None-clause-calm
 returns-in-None-clause-calm g c = λ paces.

@@ -1,6 +1,7 @@
-use Rattle.std.proofs.Common.{ap, sym, ◌∙◌, subst}
-use Rattle.std.specs.Prelude.{IsSome}
+use Rattle.std.proofs.Common.{◌≡◌, ap, sym, ◌∙◌, subst}
+use Rattle.std.specs.Prelude.{IsSome, option_map}
 use Rattle.stage_bodies.specs.Seen.{body_at, source_seen, sink_seen}
+use Rattle.rate_gate.specs.Gate.{pace_of}
 use Rattle.edge_names.specs.Seen.{edges_seen}
 use Rattle.edge_names.specs.Gates.{pace_by, pace_of_stage}
 use Rattle.edge_names.specs.Opened.{OpensOne}
@@ -29,6 +30,6 @@ returns-in-Producer-clause-opens g c =
     let topology = c.args.topology.now in
     let spec = c.args.spec.now in
     let feed = g.S.Supply.feeds c.args.supply.now spec in
-    let same = c.gate_at-gate.ensures.pace ∙ ap (λ n. pace_by topology.rate n spec.index) c.requires.counted in
+    let same : option_map pace_of c.gate_at-gate.result ≡ pace_of_stage topology spec = c.gate_at-gate.ensures.pace ∙ ap (λ n. pace_by topology.rate n spec.index) c.requires.counted in
     let opens = subst (λ p. OpensOne (fed p feed) c.args.at c.supply_source_into.result old new start now) same c.supply_source_into.ensures.opens in
     subst (λ r. OpensOne (supplied_by r (pace_of_stage topology spec) feed spec.edge) c.args.at c.supply_source_into.result old new start now) (sym c.in-Producer.is) opens
