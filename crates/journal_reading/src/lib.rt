@@ -8,6 +8,7 @@
 
 mod copies;
 mod fault;
+mod held;
 mod known;
 pub mod laws;
 mod lines;
