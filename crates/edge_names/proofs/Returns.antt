@@ -6,7 +6,6 @@ use Rattle.std.proofs.lemmas.List.Elements.{All-nil, All-push}
 use Rattle.pipe_types.specs.Numbers.{post}
 use Rattle.pipe_types.specs.declared.topology.StageSpec.{StageSpec}
 use Rattle.pipe_types.specs.declared.topology.Topology.{Topology}
-use Rattle.pipe_edges.specs.declared.edges.EdgeKind.{EdgeKind}
 use Rattle.stage_bodies.specs.Seen.{SourceSeen, SinkSeen, LineSeen, BodySeen}
 use Rattle.stage_bodies.specs.Jobs.{Both}
 use Rattle.stage_bodies.specs.Posts.{place_at}
@@ -15,7 +14,7 @@ use Rattle.edge_names.specs.Seen.{EdgesSeen}
 use Rattle.edge_names.specs.Controls.{IsBackFirst, IsGivenInPart, named_control}
 use Rattle.edge_names.specs.Opened.{AreOpenedAt, IsOpened}
 use Rattle.edge_names.specs.Returned.{AreCalm, GivesBack, GivesOff, IsBackInPart, IsCalm, KeepsCallbacks, named_source, named_sink, source_in, sources_of, sinks_of}
-use Rattle.edge_names.specs.Supplies.{Feeds, Feed, Opened, Made, Supplied, Fed, Written, supplied, written}
+use Rattle.edge_names.specs.Supplies.{Feeds, Opened, Made, Supplied, Fed, Written, supplied, written}
 use Rattle.edge_names.proofs.Gating.{inner_all, inner_more}
 use Rattle.edge_names.proofs.Openings.{take_next, flat_map_next}
 
