@@ -87,11 +87,11 @@ back_first (Err x) feeds topology control table xs ys a b c first all part =
     inr (given.inner, given.back.back_sources ∙ ap (λ z. z ++ given.inner) first.back_sources ∙ append_assoc a.sources_back named given.inner)
 
 -- nothing was given back
-pub none_first : (name : Option (List ℕ)) (control : Option LineSeen) (a b : EdgesSeen) → GivesBack [] [] a b → IsBackFirst name control a b
-none_first name control a b back = inl (back.back_sources ∙ append-nil a.sources_back)
-
 pub none_back : (feeds : Feeds) (topology : Topology) (control : Option LineSeen) (table : ℕ → Option BodySeen) (a b : EdgesSeen) → GivesBack [] [] a b → IsGivenInPart feeds topology control table a b
 none_back feeds topology control table a b back = record { parts = 0; some_left = omega arith; back = off_as [] [] a b back }
+
+pub none_first : (name : Option (List ℕ)) (control : Option LineSeen) (a b : EdgesSeen) → GivesBack [] [] a b → IsBackFirst name control a b
+none_first name control a b back = inl (back.back_sources ∙ append-nil a.sources_back)
 
 sources_step : (feeds : Feeds) (stages : List StageSpec) (n : ℕ) (spec : StageSpec) (was : ℕ → Option BodySeen) → slice_get stages n ≡ Some spec
     → sources_of feeds (take n stages) was ++ named_source (supplied feeds spec) (was (place_at (post spec.no 0))) ≡ sources_of feeds (take (n + 1) stages) was
