@@ -1,2 +1,5 @@
+pub mod Cutting
+pub mod Extending
 pub mod Held
+pub mod Keeping
 pub mod Walks

@@ -1,0 +1,7 @@
+use Rattle.pipe_types.specs.declared.message.Outcome.TheVariants.{Successful}
+use Rattle.journal_texts.specs.Steps.{outcome_text}
+use Rattle.journal_texts.proofs.Lists.{same_step}
+use Rattle.journal_texts.proofs.items.put_successes.Goals as goal
+
+pub loop-at-preserved : goal.loop-at-preserved
+loop-at-preserved c = same_step outcome_text _ c.loop-at.at Successful _ _ c.loop-at.invariant c.in_ok-put_success.ensures
