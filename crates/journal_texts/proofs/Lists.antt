@@ -25,7 +25,7 @@ list_more f [] x = append-nil (f x)
 list_more f (y ∷ ys) x =
     let one : flat_map (next_text f) (x ∷ []) ≡ codes "," ++ f x = append-nil (codes "," ++ f x) in
     ap (λ (text : List ℕ). f y ++ text) (flat_map-append (next_text f) ys (x ∷ []) ∙ ap (λ (text : List ℕ). more_text f ys ++ text) one)
-    ∙ sym (append_assoc {x = f y} {y = more_text f ys} {z = codes "," ++ f x})
+    ∙ sym (append_assoc (f y) (more_text f ys) (codes "," ++ f x))
 
 -- the text of one more item
 pub list_step : {X : Type 0} (f : X → List ℕ) (start : List ℕ) (xs : List X) (i : ℕ) (x : X) (now next : List ℕ)
@@ -36,7 +36,7 @@ list_step f start xs i x now next is so_far written =
     let long : length (take i xs) ≡ i = length-take-le i xs (omega arith) in
     written
     ∙ ap (λ (text : List ℕ). text ++ (separator i ++ f x)) so_far
-    ∙ append_assoc
+    ∙ append_assoc _ _ _
     ∙ ap (λ (n : ℕ). start ++ (list_text f (take i xs) ++ (separator n ++ f x))) (sym long)
     ∙ ap (λ (text : List ℕ). start ++ text) (sym (list_more f (take i xs) x))
     ∙ ap (λ ys. start ++ list_text f ys) (sym (one_more xs i x is))
@@ -52,7 +52,14 @@ pub same_step : {X : Type 0} (f : X → List ℕ) (start : List ℕ) (i : ℕ) (
 same_step f start i x now next so_far written =
     written
     ∙ ap (λ (text : List ℕ). text ++ (separator i ++ f x)) so_far
-    ∙ append_assoc
+    ∙ append_assoc _ _ _
     ∙ ap (λ (n : ℕ). start ++ (list_text f (replicate i x) ++ (separator n ++ f x))) (sym (length-replicate i x))
     ∙ ap (λ (text : List ℕ). start ++ text) (sym (list_more f (replicate i x) x))
     ∙ ap (λ ys. start ++ list_text f ys) (replicate_more i x)
+
+pub separator_none : (at : ℕ) → at ≡ 0 → separator at ≡ []
+separator_none at none = ap separator none
+
+pub separator_some : (at : ℕ) → 0 < at → separator at ≡ codes ","
+separator_some zero some = let none : ⊥ = omega arith in absurd none
+separator_some (suc at) some = refl

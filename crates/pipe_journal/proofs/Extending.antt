@@ -1,11 +1,12 @@
 -- Lists that grow at their end.
-use Rattle.std.proofs.Common.{◌≡◌, ℕ, zero, suc, ◌+◌, ◌-◌, ◌<◌, ◌≤◌, List, [], ◌∷◌, ◌++◌, length, take, drop, refl, sym, ap, ◌∙◌, arith, Option, Some, None, append-nil, append_assoc, length-append, length-take, length-drop, min, map}
-use Rattle.std.specs.Prelude.{slice_get, unwrap_or}
+use Rattle.std.proofs.Common.{◌≡◌, ℕ, zero, suc, ◌+◌, ◌-◌, ◌<◌, ◌≤◌, List, [], ◌∷◌, ◌++◌, length, take, drop, refl, sym, ap, ◌∙◌, arith, Option, Some, None, append-nil, append_assoc, length-append, length-take, length-drop, min, get_or}
+use Rattle.std.specs.Prelude.{slice_get, Result, Ok, Err, IfOk}
 use Rattle.std.proofs.lemmas.List.{take-append-le, drop-append-le, take_all, get_or-take, get_or-drop}
-use Rattle.std.proofs.lemmas.Option.{slice_get-get_or, slice_get_within, get_or_from_slice_get}
+use Rattle.std.proofs.lemmas.Option.{slice_get-get_or, slice_get_read, slice_get_within, get_or_from_slice_get}
+use Rattle.pipe_journal.proofs.Walks.{one_more}
 use Rattle.std.proofs.Math.Seq.{drop-append_seam}
 use Rattle.pipe_journal.specs.Entries.{piece}
-use Rattle.pipe_journal.specs.Packed.{Extends, IsAdded, AreAdded}
+use Rattle.pipe_journal.specs.Grown.{Extends, IsAdded, AreAdded}
 
 pub same : {X : Type 0} (old new : List X) → new ≡ old → Extends old new
 same old new is = record { more = []; is = is ∙ sym (append-nil old) }
@@ -31,7 +32,7 @@ added_there at old x new added =
 pub twice : {X : Type 0} (old mid new : List X) → Extends old mid → Extends mid new → Extends old new
 twice old mid new first second = record {
     more = first.more ++ second.more;
-    is = second.is ∙ ap (λ (xs : _). xs ++ second.more) first.is ∙ append_assoc;
+    is = second.is ∙ ap (λ (xs : _). xs ++ second.more) first.is ∙ append_assoc _ _ _;
   }
 
 pub as_long : {X : Type 0} (old new : List X) → Extends old new → length old ≤ length new
@@ -95,3 +96,29 @@ second_of_two at old x y mid new added is =
     let long : length mid ≡ length old + 1 = ap length added.is ∙ length-append old (x ∷ []) in
     let next : at + 1 ≡ length mid = omega (arith, added.at_is) in
     ap (slice_get new) next ∙ ap (λ ys. slice_get ys (length mid)) is ∙ get_pushed mid y
+
+-- one more item of a list put behind the others
+pub more_taken : {X : Type 0} (start xs : List X) (i : ℕ) (d : X) (now next : List X) → i < length xs → d ≡ get_or xs i d
+    → now ≡ start ++ take i xs → next ≡ now ++ d ∷ [] → next ≡ start ++ take (i + 1) xs
+more_taken start xs i d now next within read so_far added =
+    added
+    ∙ ap (λ ys. ys ++ d ∷ []) so_far
+    ∙ append_assoc _ _ _
+    ∙ ap (λ ys. start ++ ys) (sym (one_more xs i d (slice_get_read xs (length xs) i d refl within read)))
+
+-- the whole list put behind the others
+pub all_taken : {X : Type 0} (first count : ℕ) (start xs : List X) (i : ℕ) (now : List X) → first ≡ length start → count ≡ length xs → length xs ≤ i
+    → now ≡ start ++ take i xs → AreAdded first count start xs now
+all_taken first count start xs i now first_is count_is all so_far =
+    record { first_is = first_is; count_is = count_is; is = so_far ∙ ap (λ ys. start ++ ys) (take_all i xs all) }
+
+-- the place that a call answers, where it answers one
+pub same_place : {X E : Type 0} (place : Result ℕ E) (at : ℕ) (xs : List X) (x : X) → IfOk place (λ n. n ≡ at) → slice_get xs at ≡ Some x
+    → IfOk place (λ n. slice_get xs n ≡ Some x)
+same_place (Ok n) at xs x is there = ap (slice_get xs) is ∙ there
+same_place (Err e) at xs x is there = tt
+
+pub added_places : {X E : Type 0} (place : Result ℕ E) (old : List X) (x : X) (new : List X) → IfOk place (λ at. IsAdded at old x new)
+    → IfOk place (λ at. slice_get new at ≡ Some x)
+added_places (Ok at) old x new added = added_there at old x new added
+added_places (Err e) old x new added = tt

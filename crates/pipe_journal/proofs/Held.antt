@@ -14,7 +14,7 @@ use Rattle.pipe_journal.specs.Readers.{step_at}
 use Rattle.pipe_journal.proofs.Extending.{as_long, same_item, same_piece}
 use Rattle.pipe_journal.specs.Entries.{step_of, steps_of, IsHeld, AreHeld, KeepsValues, Keeps}
 
-still_there : {X : Type 0} (old new : Slab X) (key : ℕ) → KeepsValues old new → ContainsKey old key → ContainsKey new key
+pub still_there : {X : Type 0} (old new : Slab X) (key : ℕ) → KeepsValues old new → ContainsKey old key → ContainsKey new key
 still_there {X} old new key keeps is = subst (λ (slot : Option X). IsSome slot) (sym (keeps key is)) is
 
 module _ (old new : Store) (keeps : Keeps old new) where

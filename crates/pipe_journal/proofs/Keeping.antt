@@ -1,14 +1,15 @@
 -- What a kept reply stands for, whatever is put on the shelves behind its texts.
 use Rattle.std.proofs.Common.{◌≡◌, ℕ, zero, suc, ◌+◌, ◌-◌, ◌<◌, ◌≤◌, Bool, List, [], ◌∷◌, ◌++◌, length, refl, sym, ap, ◌∙◌, arith, map, Some, subst}
 use Rattle.std.specs.Prelude.{slice_get, unwrap_or, Option}
-use Rattle.std.proofs.lemmas.List.{map_push}
+use Rattle.std.proofs.lemmas.List.{map_push, length-map}
 use Rattle.std.proofs.lemmas.Option.{slice_get_within, slice_get-map}
 use Rattle.std.specs.Option.{option_map}
 use Rattle.pipe_types.specs.declared.numbers.MsgNo.{MsgNo}
 use Rattle.pipe_types.specs.declared.numbers.StageNo.{StageNo}
 use Rattle.pipe_types.specs.declared.message.Reply.{Reply}
 use Rattle.pipe_journal.specs.declared.kept.KeptReply.{KeptReply}
-use Rattle.pipe_journal.specs.Packed.{Extends, IsAdded, IsRecord, IsKept, text_at, reply_of, IsFound, AreFound}
+use Rattle.pipe_journal.specs.Grown.{Extends, IsAdded}
+use Rattle.pipe_journal.specs.Packed.{IsRecord, IsKept, text_at, reply_of, IsFound, AreFound}
 use Rattle.pipe_journal.proofs.Extending.{as_long, same_item, get_pushed}
 
 -- a passed message by its texts
@@ -115,3 +116,11 @@ kept_failed records words reasons why text is = record { is = ap Reply.Failed (t
 pub kept_raised : (records words reasons : List (List ℕ)) (why : ℕ) (text : List ℕ) → slice_get reasons why ≡ Some text
     → IsKept records words reasons (KeptReply.Raised why) (Reply.Raised text)
 kept_raised records words reasons why text is = record { is = ap Reply.Raised (text_there reasons why text is); found = slice_get_within reasons why text is }
+
+-- a place of the replies is one of what is kept of them
+pub reply_within : (records words reasons : List (List ℕ)) (replies : List KeptReply) (seen : List Reply) (at : ℕ) → map (reply_of records words reasons) replies ≡ seen
+    → at < length seen → at < length replies
+reply_within records words reasons replies seen at is inside =
+    let long : length (map (reply_of records words reasons) replies) ≡ length replies = length-map replies (reply_of records words reasons) in
+    let same : length (map (reply_of records words reasons) replies) ≡ length seen = ap length is in
+    omega arith

@@ -8,7 +8,7 @@ use Rattle.pipe_types.specs.declared.message.Outcome.{Outcome}
 use Rattle.pipe_types.specs.declared.message.Reply.{Reply}
 use Rattle.pipe_journal.specs.declared.store.Store.{Store}
 use Rattle.pipe_journal.specs.declared.entry.Entry.{Entry}
-use Rattle.pipe_journal.specs.Packed.{Extends}
+use Rattle.pipe_journal.specs.Grown.{Extends}
 use Rattle.pipe_model.specs.History.{History}
 
 abbrev pub is_success : Outcome → Bool

@@ -1,6 +1,7 @@
 pub mod Recorded
 pub mod Cuts
 pub mod Entries
+pub mod Grown
 pub mod Items
 pub mod Packed
 pub mod Seen

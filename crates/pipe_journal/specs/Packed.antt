@@ -4,22 +4,6 @@ use Rattle.std.specs.Bool.{⊤}
 use Rattle.pipe_types.specs.declared.message.Reply.{Reply}
 use Rattle.pipe_journal.specs.declared.kept.KeptReply.{KeptReply}
 
--- the new list begins with the old one
-pub record Extends {X : Type 0} (old new : List X) : Type 0 where
-  pub more : List X
-  pub is : new ≡ old ++ more
-
--- one stands behind the old ones, at this place
-pub record IsAdded {X : Type 0} (at : ℕ) (old : List X) (added : X) (new : List X) : Type 0 where
-  pub at_is : at ≡ length old
-  pub is : new ≡ old ++ added ∷ []
-
--- so many stand behind the old ones, the first at this place
-pub record AreAdded {X : Type 0} (first count : ℕ) (old added new : List X) : Type 0 where
-  pub first_is : first ≡ length old
-  pub count_is : count ≡ length added
-  pub is : new ≡ old ++ added
-
 -- the text at a place
 abbrev pub text_at : List (List ℕ) → ℕ → List ℕ
 text_at texts at = unwrap_or (slice_get texts at) []

@@ -112,10 +112,22 @@ fn are_successes(outcomes: &[Outcome]) -> bool
 fn successes(outcomes: &[Outcome]) -> Option<u32>
     ensures { IfSome result (λ count. outcomes.now ≡ replicate count Successful) }
 {
-    if outcomes.len() > u32::MAX as usize || !are_successes(outcomes) {
-        return None;
+    if are_successes(outcomes) {
+        half(outcomes.len())
+    } else {
+        None
     }
-    Some(outcomes.len() as u32)
+}
+
+/// The count in half its width, where it fits.
+fn half(count: usize) -> Option<u32>
+    ensures { IfSome result (λ n. n ≡ count) }
+{
+    if count > u32::MAX as usize {
+        None
+    } else {
+        Some(count as u32)
+    }
 }
 
 /// The entry of a step that moves into the store.

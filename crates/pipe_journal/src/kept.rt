@@ -1,8 +1,9 @@
 //! The records and the replies of a journal, packed. A reply that passes its message's record on unchanged has no bytes of its own.
 
-ghost use Rattle.std.specs.Prelude.{◌≡◌, List, ℕ, [], ◌∷◌, ◌++◌, ◌+◌, ◌<◌, length, slice_get, Some, true, IfOk, OnOk, OnErr};
+ghost use Rattle.std.specs.Prelude.{◌≡◌, List, ℕ, [], ◌∷◌, ◌++◌, ◌+◌, ◌<◌, length, slice_get, bytes_eq, Some, true, IfOk, OnOk};
 ghost use Rattle.pipe_types.specs.declared.message.Reply.{Reply as ReplyOf};
-ghost use Rattle.pipe_journal.specs.Packed.{Extends, IsAdded, AreAdded, reply_of, IsFound, IsKept, IsRecord};
+ghost use Rattle.pipe_journal.specs.Grown.{Extends, IsAdded, AreAdded};
+ghost use Rattle.pipe_journal.specs.Packed.{text_at, reply_of, IsFound, IsKept, IsRecord};
 ghost use Rattle.pipe_journal.specs.Items.{reply_seen};
 
 use crate::items::{MessageView, ReplyView};
@@ -54,7 +55,7 @@ impl Model for Kept {
 
     ghost Value = { KeptSeen };
 
-    ghost use Rattle.pipe_journal.specs.Packed.{reply_of, AreFound};
+    ghost use Rattle.pipe_journal.specs.Packed.{text_at, reply_of, AreFound};
 
     ghost view = { λ k. record { records = k.records; replies = map (reply_of k.records k.words k.reasons.items) k.replies.items } };
 
@@ -75,11 +76,28 @@ fn short(count: usize) -> Result<u32, AllocError>
 /// Puts the word behind the others, and answers its place.
 fn add_word(words: &mut Shelf, word: &[u8]) -> Result<u32, AllocError>
     ensures added { IfOk result (λ at. IsAdded at words.old word.now words.new) }
-    ensures as_before { OnErr result (words.new ≡ words.old) }
+    ensures extends { Extends words.old words.new }
 {
     let at = short(words.len())?;
     words.push(word)?;
     Ok(at)
+}
+
+/// Whether the two are the same.
+fn is_same(one: &[u8], other: &[u8]) -> bool
+    ensures { result ≡ bytes_eq one.now other.now }
+{
+    one == other
+}
+
+/// Whether the text stands at that place.
+fn is_at(texts: &Shelf, at: usize, text: &[u8]) -> bool
+    ensures { result ≡ true → slice_get texts.now at ≡ Some text.now }
+{
+    if at >= texts.len() {
+        return false;
+    }
+    is_same(texts.get(at), text)
 }
 
 /// The place of the word, which is the last one or a new one.
@@ -87,9 +105,9 @@ fn keep_word(words: &mut Shelf, word: &[u8]) -> Result<u32, AllocError>
     ensures kept { IfOk result (λ at. slice_get words.new at ≡ Some word.now) }
     ensures extends { Extends words.old words.new }
 {
-    let count = words.len();
-    if count > 0 && words.get(count - 1) == word {
-        short(count - 1)
+    let last = words.len().saturating_sub(1);
+    if is_at(words, last, word) {
+        short(last)
     } else {
         add_word(words, word)
     }
@@ -109,11 +127,21 @@ fn add_pair(words: &mut Shelf, first: &[u8], second: &[u8]) -> Result<u32, Alloc
 /// Puts the reason behind the others, and answers its place.
 fn add_reason(reasons: &mut Vec<Reason>, why: &Reason) -> Result<u32, AllocError>
     ensures added { IfOk result (λ at. IsAdded at reasons.old.items why.now reasons.new.items) }
-    ensures as_before { OnErr result (reasons.new.items ≡ reasons.old.items) }
+    ensures extends { Extends reasons.old.items reasons.new.items }
 {
     let at = short(reasons.len())?;
     reasons.push(*why)?;
     Ok(at)
+}
+
+/// Whether the reason with this text stands at that place.
+fn is_reason_at(reasons: &[Reason], at: usize, text: &[u8]) -> bool
+    ensures { result ≡ true → slice_get reasons.now at ≡ Some text.now }
+{
+    match reasons.get(at) {
+        Some(reason) => is_same(reason.as_bytes(), text),
+        None => false,
+    }
 }
 
 /// The place of the reason, which is the last one or a new one.
@@ -121,9 +149,9 @@ fn keep_reason(reasons: &mut Vec<Reason>, why: &Reason) -> Result<u32, AllocErro
     ensures kept { IfOk result (λ at. slice_get reasons.new.items at ≡ Some why.now) }
     ensures extends { Extends reasons.old.items reasons.new.items }
 {
-    let count = reasons.len();
-    if count > 0 && reasons[count - 1].as_bytes() == why.as_bytes() {
-        short(count - 1)
+    let last = reasons.len().saturating_sub(1);
+    if is_reason_at(reasons, last, why.as_bytes()) {
+        short(last)
     } else {
         add_reason(reasons, why)
     }
@@ -133,11 +161,10 @@ fn keep_reason(reasons: &mut Vec<Reason>, why: &Reason) -> Result<u32, AllocErro
 fn is_record(records: &Shelf, no: MsgNo, payload: &[u8]) -> bool
     ensures { result ≡ true → IsRecord records.now no.0 payload.now }
 {
-    let at = no.0 as usize;
-    if at == 0 || records.len() < at {
+    if no.0 == 0 {
         return false;
     }
-    records.get(at - 1) == payload
+    is_at(records, no.0 as usize - 1, payload)
 }
 
 /// The message packed. Where there is no room it is not kept.
@@ -213,6 +240,22 @@ fn keep_reply(
     }
 }
 
+/// The text at that place.
+fn text_of(texts: &Shelf, at: usize) -> &[u8]
+    requires { at < length texts.now }
+    ensures { result.now ≡ text_at texts.now at }
+{
+    texts.get(at)
+}
+
+/// The reason at that place.
+fn reason_of(reasons: &[Reason], at: usize) -> &Reason
+    requires { at < length reasons.now }
+    ensures { result.now ≡ text_at reasons.now at }
+{
+    &reasons[at]
+}
+
 /// A kept reply, its texts lent.
 fn view_kept<'a>(
     records: &'a Shelf,
@@ -231,8 +274,8 @@ fn view_kept<'a>(
             no,
             key,
         } => ReplyView::Pass(MessageView {
-            payload: records.get(no.0 as usize - 1),
-            key: words.get(key as usize),
+            payload: text_of(records, no.0 as usize - 1),
+            key: text_of(words, key as usize),
             no,
             producer,
             batcher,
@@ -245,15 +288,15 @@ fn view_kept<'a>(
             no,
             key,
         } => ReplyView::Pass(MessageView {
-            payload: words.get(key as usize + 1),
-            key: words.get(key as usize),
+            payload: text_of(words, key as usize + 1),
+            key: text_of(words, key as usize),
             no,
             producer,
             batcher,
             flush,
         }),
-        KeptReply::Failed(why) => ReplyView::Failed(&reasons[why as usize]),
-        KeptReply::Raised(why) => ReplyView::Raised(&reasons[why as usize]),
+        KeptReply::Failed(why) => ReplyView::Failed(reason_of(reasons, why as usize)),
+        KeptReply::Raised(why) => ReplyView::Raised(reason_of(reasons, why as usize)),
         KeptReply::Crashed => ReplyView::Crashed,
     }
 }
@@ -306,7 +349,7 @@ impl Kept {
     /// Puts the record behind the others. Where there is no room for it they stay as they were.
     fn add_record(&mut self, record: &Bytes) -> Result<(), AllocError>
         ensures added { OnOk result (self.new.records ≡ self.old.records ++ record.now ∷ []) }
-        ensures as_before { OnErr result (self.new.records ≡ self.old.records) }
+        ensures extends { Extends self.old.records self.new.records }
         ensures replies { self.new.replies ≡ self.old.replies }
     {
         self.records.push(record.as_slice())
@@ -330,7 +373,7 @@ impl Kept {
     /// Puts the reply behind the others, and answers its place. Where there is no room for it they stay as they were.
     pub(crate) fn add_reply(&mut self, reply: &Reply) -> Result<u32, AllocError>
         ensures added { IfOk result (λ at. IsAdded at self.old.replies reply.now self.new.replies) }
-        ensures as_before { OnErr result (self.new.replies ≡ self.old.replies) }
+        ensures extends { Extends self.old.replies self.new.replies }
         ensures records { self.new.records ≡ self.old.records }
     {
         let at = short(self.replies.len())?;

@@ -2,6 +2,7 @@
 
 ghost use Rattle.std.specs.Prelude.{◌≡◌, [], ◌∷◌, ◌++◌, ◌<◌, length, slice_get, Some, OnOk, OnErr};
 ghost use Rattle.pipe_journal.specs.Cuts.{start_at, cut, AreEnds};
+ghost use Rattle.pipe_journal.specs.Grown.{Extends};
 
 use std::alloc::{AllocError, Global};
 use std::marker::Model;
@@ -75,6 +76,7 @@ impl Shelf {
     pub(crate) fn push(&mut self, text: &[u8]) -> Result<(), AllocError>
         ensures added { OnOk result (self.new ≡ self.old ++ text.now ∷ []) }
         ensures as_before { OnErr result (self.new ≡ self.old) }
+        ensures extends { Extends self.old self.new }
     {
         let begin = self.bytes.len();
         if begin > u32::MAX as usize || text.len() > u32::MAX as usize - begin {

@@ -1,10 +1,12 @@
 //! What the steps hold besides their numbers: the records and the replies packed, and beside them each step that cannot be packed, as
 //! it came. Nothing is ever taken out, so a place keeps what stands there.
 
-ghost use Rattle.std.specs.Prelude.{◌≡◌, ◌≤◌, ◌+◌, IsOk, OnOk};
+ghost use Rattle.std.specs.Prelude.{◌≡◌, ◌≤◌, ◌<◌, ◌+◌, length, IsOk, OnOk};
 ghost use Rattle.slab.specs.Slab.{ContainsKey};
-ghost use Rattle.pipe_journal.specs.Entries.{KeepsValues, Keeps, room_in, spare_of, step_in};
+ghost use Rattle.pipe_journal.specs.Entries.{KeepsValues, Keeps, room_in, spare_of, reply_in, step_in};
+ghost use Rattle.pipe_journal.specs.Items.{reply_seen};
 
+use crate::items::ReplyView;
 use crate::kept::Kept;
 use pipe_types::step::Step;
 use slab::Slab;
@@ -50,6 +52,14 @@ impl Store {
         ensures spare { spare_of self.old ≤ spare_of self.new + 1 }
     {
         self.whole.insert_reserved(step)
+    }
+
+    /// The reply at that place.
+    pub(crate) fn reply(&self, at: u32) -> ReplyView<'_>
+        requires { at < length self.now.kept.replies }
+        ensures { reply_seen result ≡ reply_in self.now.kept.replies at }
+    {
+        self.kept.reply(at as usize)
     }
 
     /// The step under the key.

@@ -404,7 +404,7 @@ pub(crate) fn view_entry(store: &Store, entry: Entry) -> StepView<'_>
         Entry::ChildEnd { stage, slot, reply } => StepView::ChildEnd {
             stage,
             slot,
-            reply: store.kept.reply(reply as usize),
+            reply: store.reply(reply),
         },
         Entry::Kill { stage, why } => StepView::Kill { stage, why },
         Entry::Restart { stage } => StepView::Restart { stage },
