@@ -1,5 +1,5 @@
 -- A fetch as it is seen.
-use Rattle.std.proofs.Common.{◌≡◌, ◌≤◌, Bool, ℕ, List, [], ◌∷◌, length, refl, ap, ◌∙◌, arith}
+use Rattle.std.proofs.Common.{◌≡◌, ◌≤◌, ℕ, List, [], ◌∷◌, length, refl, ap, ◌∙◌, arith}
 use Rattle.std.specs.Prelude.{Option, Some, None, Result, Ok, Err, IfSome, IsNone, All}
 use Rattle.std.proofs.lemmas.List.{append-nil}
 use Rattle.std.proofs.lemmas.List.Elements.{All-nil, All-cons, All-head, All-tail}
@@ -19,8 +19,8 @@ use Rattle.pipe_edges.specs.declared.reading.Fetched.TheVariants.{Records, NotYe
 use Rattle.source_lines.specs.Read.{IsReadFrom}
 use Rattle.source_lines.proofs.Fetches.{Fetches, read_more}
 use Rattle.stage_bodies.specs.Seen.{SourceSeen, LineSeen, source_seen, line_seen}
-use Rattle.stage_bodies.specs.Jobs.{Both, ReadsOn, IsFetched, Fetches as FetchesOn, FetchGives, FetchIsHeldUp, FetchIsPaced, records_of as records_in_outcome}
-use Rattle.body_jobs.specs.Fetched.{came_of, IsUnread}
+use Rattle.stage_bodies.specs.Jobs.{Both, ReadsOn, IsFetched, Fetches as FetchesOn, FetchGives, FetchIsHeldUp, FetchIsPaced, CutKeepsPace, IsCutFetch, records_of as records_in_outcome}
+use Rattle.body_jobs.specs.Fetched.{came_of}
 
 -- the same line source over what is seen of its bytes
 abbrev over : {B C : Type 0} → (B → C) → LineSource B → LineSource C
@@ -164,7 +164,7 @@ fetched_on {E = E} source old new max x came is f needed = rw is (record {
     counts Fault k = k
     counts TooLong k = tt
 
-    held_up : (pace : Pace) (x : Fetched) → IsHeldUpBy pace (source.waits (line_source old)) (source.waits (line_source new)) (source.paced (line_source old)) (source.paced (line_source new)) x
+    held_up : (pace : Pace) (x : Fetched) → IsHeldUpBy pace (source.paced (line_source old)) (source.paced (line_source new)) x
         → FetchIsHeldUp pace (line_seen source old) (line_seen source new) (came_of x)
     held_up pace (Records rs) k = tt
     held_up pace NotYet k = k
@@ -172,7 +172,7 @@ fetched_on {E = E} source old new max x came is f needed = rw is (record {
     held_up pace Fault k = tt
     held_up pace TooLong k = tt
 
-    paced : (p : Option Pace) → FetchIsPacedBy {E = E} p (source.waits (line_source old)) (source.waits (line_source new)) (source.paced (line_source old)) (source.paced (line_source new)) (waiting old) (waiting new) (Ok x)
+    paced : (p : Option Pace) → FetchIsPacedBy {E = E} p (source.paced (line_source old)) (source.paced (line_source new)) (waiting old) (waiting new) (Ok x)
         → FetchIsPaced p (came_of x) (line_seen source old) (line_seen source new)
     paced None k = k
     paced (Some pace) k = record { kept = k.kept; counted = λ step. counts x (k.counted step); held_up = held_up pace x k.held_up }
@@ -196,15 +196,27 @@ fetched_on {E = E} source old new max x came is f needed = rw is (record {
 -- a fetch for which memory was wanting
 pub unread : {B E : Type 0} (source : SourceOf B) (old new : LineSource B) (max : ℕ) (e : E)
     → Fetches source old new max (Err e)
-    → IsUnread (line_seen source old) (line_seen source new)
-unread source old new max e f =
-    (reads_on source old new max (Err e) f, stays (λ x. Err e ≡ Ok (answer_of x)) old new (line_end_of old) refl f.again)
+    → IsCutFetch (line_seen source old) (line_seen source new)
+unread {E = E} source old new max e f = record {
+  reads = reads_on source old new max (Err e) f;
+  end_stays = stays (λ x. Err e ≡ Ok (answer_of x)) old new (line_end_of old) refl f.again;
+  paced = paced (source.paced (line_source old)).pace f.paced;
+}
+  where
+    paced : (p : Option Pace) → FetchIsPacedBy {E = E} p (source.paced (line_source old)) (source.paced (line_source new)) (waiting old) (waiting new) (Err e)
+        → CutKeepsPace p (line_seen source old) (line_seen source new)
+    paced None k = k
+    paced (Some pace) k = k.kept
 
 -- a source that no job read
-pub untouched : (now : Option LineSeen) → Both IsUnread now now
+pub untouched : (now : Option LineSeen) → Both IsCutFetch now now
 untouched None = tt
-untouched (Some now) = (not_read now, known now.end)
+untouched (Some now) = record { reads = not_read now; end_stays = known now.end; paced = paced now.source.paced.pace }
   where
+    paced : (p : Option Pace) → CutKeepsPace p now now
+    paced None = refl
+    paced (Some pace) = record { same_pace = refl; same_moment = refl; within = λ low. low; own_stays = omega arith }
+
     known : (end : Option LineEnd) → IfSome end (λ e. end ≡ Some e)
     known None = tt
     known (Some e) = refl

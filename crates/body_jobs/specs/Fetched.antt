@@ -1,10 +1,7 @@
 -- What a fetch of lines is as the outcome of a job.
-use Rattle.std.specs.Prelude.{◌≡◌, [], IfSome, Some}
 use Rattle.pipe_types.specs.declared.step.SourceHow.TheVariants as how
 use Rattle.pipe_edges.specs.declared.reading.Fetched.{Fetched}
 use Rattle.pipe_edges.specs.declared.reading.Fetched.TheVariants as fetched
-use Rattle.stage_bodies.specs.Seen.{LineSeen}
-use Rattle.stage_bodies.specs.Jobs.{ReadsOn}
 use Rattle.stage_bodies.specs.declared.job.Outcome.{Outcome}
 use Rattle.stage_bodies.specs.declared.job.Outcome.TheVariants as came
 
@@ -14,7 +11,3 @@ came_of fetched.NotYet = came.NotYet
 came_of fetched.End = came.Ended how.End
 came_of fetched.Fault = came.Ended how.Fault
 came_of fetched.TooLong = came.Ended how.TooLong
-
--- no line is gone, and an end stays known
-abbrev pub IsUnread : (old new : LineSeen) → Type 0
-IsUnread old new = ReadsOn [] old new × IfSome old.end (λ e. new.end ≡ Some e)

@@ -4,8 +4,8 @@ ghost use Rattle.std.specs.Prelude.{◌≡◌, ◌<◌, [], OnErr, IfOk};
 ghost use Rattle.pipe_edges.specs.LineSource.{waiting};
 ghost use Rattle.pipe_edges.specs.Needed.{ReadsAsNeeded};
 ghost use Rattle.stage_bodies.specs.Seen.{line_seen};
-ghost use Rattle.stage_bodies.specs.Jobs.{Fetches};
-ghost use Rattle.body_jobs.specs.Fetched.{came_of, IsUnread};
+ghost use Rattle.stage_bodies.specs.Jobs.{Fetches, IsCutFetch};
+ghost use Rattle.body_jobs.specs.Fetched.{came_of};
 
 use pipe_edges::{ByteSource, Fetched, LineSource};
 use pipe_types::step::SourceHow;
@@ -18,7 +18,7 @@ pub fn fetch<S: ByteSource>(source: &mut LineSource<S>, most: u32) -> Result<Out
     requires { 0 < most }
     ensures done { IfOk result (λ came. Fetches most came
         (line_seen S.ByteSource source.old) (line_seen S.ByteSource source.new)) }
-    ensures cut_off { OnErr result (IsUnread
+    ensures cut_off { OnErr result (IsCutFetch
         (line_seen S.ByteSource source.old) (line_seen S.ByteSource source.new)) }
     ensures needed { OnErr result (ReadsAsNeeded (waiting source.old) (waiting source.new) []) }
 {

@@ -47,6 +47,7 @@ fn fetch_next<S: ByteSource + Drop, K: ByteSink + Drop>(
     fetch(source, most)
 }
 
+#[tactic(auto, using(crate::proofs::Sources::untouched))]
 fn answer_chunk<S: ByteSource + Drop, K: ByteSink + Drop>(
     body: &mut Body<S, K>,
     alloc: Global,
@@ -92,6 +93,7 @@ pub(crate) fn start_over(callback: &mut Box<dyn Callback + Send>)
     callback.reset();
 }
 
+#[tactic(auto, using(crate::proofs::Sources::untouched))]
 fn write_batch<S: ByteSource + Drop, K: ByteSink + Drop>(
     body: &mut Body<S, K>,
     alloc: Global,

@@ -38,8 +38,10 @@ use Rattle.stage_job.specs.Lawful.{AreLawful}
 use Rattle.stage_bodies.specs.Lawful.{IsLawfulEnd}
 use Rattle.stage_bodies.specs.Seen.{SourceSeen, LineSeen, SinkSeen, BoxSeen}
 use Rattle.stage_bodies.specs.Reads.{AreReadFrom}
-use Rattle.stage_bodies.specs.Jobs.{KeepsBox, ReadsOn, IsFetched, Fetches, Replies, Ends, Writes, text_by, is_bad_end, reset}
+use Rattle.stage_bodies.specs.Jobs.{CutKeepsPace, KeepsBox, ReadsOn, IsFetched, Fetches, Replies, Ends, Writes, text_by, is_bad_end, reset}
 use Rattle.stage_bodies.specs.declared.job.Outcome.TheVariants as came
+use Rattle.pace_laws.specs.Pacing.{IsTold, PaceGoes, PaceRests}
+use Rattle.pace_laws.proofs.Fetching.{accepts, cut_of, ends, loses, rests}
 use Rattle.body_laws.specs.Counts.{short_writes, calls_of, bad_of, one_more, resets_of}
 use Rattle.body_laws.specs.Lawful.{has_sink, IsLawfulWrite}
 use Rattle.body_laws.specs.Keeps.{IsKnownEnd, KeepsSource, KeepsSink, IsCounted, KeepsCallback}
@@ -74,44 +76,48 @@ end_known (Some how.TooLong) old new stays known = rw known at stays
 end_known (Some how.Limit) old new stays known = known
 
 -- these records were read, and the journal does not have them
-pub source_reads : (before : History) (s : StageNo) (records : List (List ℕ)) (a b c : LineSeen) → KeepsSource before s [] a b → ReadsOn records b c → IfSome b.end (λ e. c.end ≡ Some e) → KeepsSource before s records a c
-source_reads before s records a b c k on stays = record {
+pub source_reads : (before : History) (s : StageNo) (records : List (List ℕ)) (a b c : LineSeen) → KeepsSource before s true [] a b → ReadsOn records b c → IfSome b.end (λ e. c.end ≡ Some e) → CutKeepsPace b.source.paced.pace b c → KeepsSource before s false records a c
+source_reads before s records a b c k on stays cut = record {
   read = subst (λ r. AreReadFrom a.source c (r ++ records)) (append-nil (fed before s)) (on a.source (fed before s ++ []) k.read);
   known = end_known (source_end before s) b.end c.end stays k.known;
   quiet = rise_stays (quiets before s) a.source.waits b.source.waits c.source.waits k.quiet (waits_stay a.source (fed before s ++ []) records b c k.read on);
+  paced = loses a.source.paced.pace before s a.source b c refl cut k.paced;
 }
 
 -- a later journal has them
 pub source_accepts : (before after : History) (s : StageNo) (most : ℕ) (records : List (List ℕ)) (a b c : LineSeen) → fed after s ≡ fed before s ++ records → source_end after s ≡ source_end before s → quiets after s ≡ quiets before s
-    → KeepsSource before s [] a b → Fetches most (came.Records records) b c → KeepsSource after s [] a c
-source_accepts before after s most records a b c same_fed same_end same_quiets k fetched =
-    let on = source_reads before s records a b c k fetched.reads fetched.end_stays in
+    → PaceGoes before after s records → IsTold before s b → KeepsSource before s true [] a b → Fetches most (came.Records records) b c → KeepsSource after s true [] a c
+source_accepts before after s most records a b c same_fed same_end same_quiets goes told k fetched =
+    let on = source_reads before s records a b c k fetched.reads fetched.end_stays (cut_of b.source.paced.pace (came.Records records) b c fetched.paced) in
     record {
       read = rw same_fed (subst (λ r. AreReadFrom a.source c r) (sym (append-nil (fed before s ++ records))) on.read);
       known = rw same_end on.known;
       quiet = rw same_quiets on.quiet;
+      paced = accepts a.source.paced.pace before after s most records a.source b c refl goes told fetched k.paced;
     }
 
 -- it has one more quiet
 pub source_rests : (before after : History) (s : StageNo) (most : ℕ) (a b c : LineSeen) → fed after s ≡ fed before s → source_end after s ≡ source_end before s → quiets after s ≡ quiets before s + 1
-    → KeepsSource before s [] a b → Fetches most came.NotYet b c → KeepsSource after s [] a c
-source_rests before after s most a b c same_fed same_end same_quiets k fetched =
-    let on = source_reads before s [] a b c k fetched.reads fetched.end_stays in
+    → PaceRests before after s → IsTold before s b → KeepsSource before s true [] a b → Fetches most came.NotYet b c → KeepsSource after s true [] a c
+source_rests before after s most a b c same_fed same_end same_quiets goes told k fetched =
+    let on = source_reads before s [] a b c k fetched.reads fetched.end_stays (cut_of b.source.paced.pace came.NotYet b c fetched.paced) in
     record {
       read = rw same_fed on.read;
       known = rw same_end on.known;
       quiet = rw same_quiets (rise_one (quiets before s) a.source.waits b.source.waits c.source.waits k.quiet fetched.answer.0 (waits_stay a.source (fed before s ++ []) [] b c k.read fetched.reads));
+      paced = rests a.source.paced.pace before after s most a.source b c refl goes told fetched k.paced;
     }
 
 -- it has the end
 pub source_ends : (before after : History) (s : StageNo) (most : ℕ) (h : SourceHow) (a b c : LineSeen) → fed after s ≡ fed before s → source_end after s ≡ Some h → quiets after s ≡ quiets before s
-    → KeepsSource before s [] a b → Fetches most (came.Ended h) b c → KeepsSource after s [] a c
-source_ends before after s most h a b c same_fed same_end same_quiets k fetched =
-    let on = source_reads before s [] a b c k fetched.reads fetched.end_stays in
+    → PaceGoes before after s [] → IsTold before s b → KeepsSource before s true [] a b → Fetches most (came.Ended h) b c → KeepsSource after s true [] a c
+source_ends before after s most h a b c same_fed same_end same_quiets goes told k fetched =
+    let on = source_reads before s [] a b c k fetched.reads fetched.end_stays (cut_of b.source.paced.pace (came.Ended h) b c fetched.paced) in
     record {
       read = rw same_fed on.read;
       known = rw same_end (by_how h fetched.answer);
       quiet = rw same_quiets on.quiet;
+      paced = ends a.source.paced.pace before after s most h a.source b c refl goes told fetched k.paced;
     }
   where
     by_how : (h : SourceHow) → IsFetched most b.source.waits c.source.waits c.waiting c.end (came.Ended h) → IsKnownEnd (Some h) c.end

@@ -24,7 +24,7 @@ use Rattle.stage_bodies.specs.declared.job.Work.TheVariants as work
 use Rattle.stage_bodies.specs.declared.job.Outcome.{Outcome as Came}
 use Rattle.stage_bodies.specs.declared.job.Outcome.TheVariants as came
 use Rattle.body_laws.specs.Keeps.{is_silent, KeepsBody, KeepsPartly, Keeps}
-use Rattle.body_laws.specs.Ready.{IsBodyAt, Ready}
+use Rattle.body_laws.specs.Ready.{IsBodyAt, Ready, WasTold}
 use Rattle.body_laws.proofs.Posts.{same_post-true, same_post-self, out_has_post, no_post_of_control}
 use Rattle.body_laws.proofs.Steps.{current_out}
 use Rattle.body_laws.proofs.Staying.{keeps_quietly, ready_quietly, keeps_away, ready_away, keeps_back, ready_back, keeps_answered, ready_answered}
@@ -164,13 +164,13 @@ both_whole topology h h' p (Some a) old new f k = f a k
 both_whole topology h h' p None old new f k = absurd k
 
 answer_keeps_at : (topology : Topology) (before : History) (p : Post) (w : Work) (o : Came) (old new : BodySeen) (opened now after : ℕ → Option BodySeen) → IsSound topology → is_legal topology (step_of p o ∷ before) ≡ true → IsOutNow topology before p → IsWorkOf topology before p w
-    → IsBodyAt topology before p old → IsDone w o old new → Both (KeepsBody topology before p) (opened (place_at p)) (Some old) → ((s : ℕ) → after s ≡ (if place_at p == s then Some new else now s))
+    → IsBodyAt topology before p old → WasTold before p.stage w old → IsDone w o old new → Both (KeepsBody topology before p) (opened (place_at p)) (Some old) → ((s : ℕ) → after s ≡ (if place_at p == s then Some new else now s))
     → Keeps topology before opened now → Keeps topology (step_of p o ∷ before) opened after
-answer_keeps_at topology before p w o old new opened now after sound legal out is fit done stood moved keeps =
+answer_keeps_at topology before p w o old new opened now after sound legal out is fit told done stood moved keeps =
     let names = names_slot topology before p w o old new is done in
     keeps_answered topology before (step_of p o) p new opened now after sound legal out.slot (λ q here apart. others p q o names apart) (λ q. step_restarts p o q.stage)
     (home before p o (stage_low topology before p sound (legal_before topology before (step_of p o) legal) out) names) moved
-    (both_whole topology before (step_of p o ∷ before) p (opened (place_at p)) old new (λ a k. answered_body topology before p w o a old new out.live is fit done k) stood) keeps
+    (both_whole topology before (step_of p o ∷ before) p (opened (place_at p)) old new (λ a k. answered_body topology before p w o a old new out.live is fit told done k) stood) keeps
 
 answer_ready_at : (topology : Topology) (before : History) (p : Post) (w : Work) (o : Came) (old new : BodySeen) (now after : ℕ → Option BodySeen) → IsSound topology → is_legal topology (step_of p o ∷ before) ≡ true → IsOutNow topology before p → IsWorkOf topology before p w
     → IsBodyAt topology before p old → IsDone w o old new → ((s : ℕ) → after s ≡ (if place_at p == s then Some new else now s))
@@ -180,11 +180,11 @@ answer_ready_at topology before p w o old new now after sound legal out is fit d
     (answered_fit topology before p w o old new out.live is fit done) ready
 
 pub answer_keeps : (topology : Topology) (before : History) (job : Job) (answer : Answer) (old new : BodySeen) (opened now after : ℕ → Option BodySeen) → IsSound topology → is_legal topology (step_of answer.post answer.outcome ∷ before) ≡ true
-    → IsJobOf topology before job → answer.post ≡ job.post → IsBodyAt topology before job.post old → IsDone job.work answer.outcome old new → Both (KeepsBody topology before job.post) (opened (place_at job.post)) (Some old)
+    → IsJobOf topology before job → answer.post ≡ job.post → IsBodyAt topology before job.post old → WasTold before job.post.stage job.work old → IsDone job.work answer.outcome old new → Both (KeepsBody topology before job.post) (opened (place_at job.post)) (Some old)
     → ((s : ℕ) → after s ≡ (if place_at job.post == s then Some new else now s)) → Keeps topology before opened now → Keeps topology (step_of answer.post answer.outcome ∷ before) opened after
-answer_keeps topology before job answer old new opened now after sound legal is same fit done stood moved keeps =
+answer_keeps topology before job answer old new opened now after sound legal is same fit told done stood moved keeps =
     subst (λ p. Keeps topology (step_of p answer.outcome ∷ before) opened after) (sym same)
-    (answer_keeps_at topology before job.post job.work answer.outcome old new opened now after sound (subst (λ p. is_legal topology (step_of p answer.outcome ∷ before) ≡ true) same legal) is.out is.work fit done stood moved keeps)
+    (answer_keeps_at topology before job.post job.work answer.outcome old new opened now after sound (subst (λ p. is_legal topology (step_of p answer.outcome ∷ before) ≡ true) same legal) is.out is.work fit told done stood moved keeps)
 
 pub answer_ready : (topology : Topology) (before : History) (job : Job) (answer : Answer) (old new : BodySeen) (now after : ℕ → Option BodySeen) → IsSound topology → is_legal topology (step_of answer.post answer.outcome ∷ before) ≡ true
     → IsJobOf topology before job → answer.post ≡ job.post → IsBodyAt topology before job.post old → IsDone job.work answer.outcome old new

@@ -56,15 +56,15 @@ callback_restarts topology before p a b c k r = record {
   lawful = (k.lawful, tt);
 }
 
-source_restarts : (before : History) (s : StageNo) (a b : Option LineSeen) → Both (KeepsSource before s []) a b → Both (KeepsSource (Restart s ∷ before) s []) a b
-source_restarts before s a b k = both_map (λ x y h. source_as before (Restart s ∷ before) s x y refl refl refl h) a b k
+source_restarts : (before : History) (s : StageNo) (a b : Option LineSeen) → Both (KeepsSource before s true []) a b → Both (KeepsSource (Restart s ∷ before) s true []) a b
+source_restarts before s a b k = both_map (λ x y h. source_as before (Restart s ∷ before) s x y refl refl refl (record { came = λ interval i. refl; own = λ share interval. refl; same_fetch = refl }) h) a b k
 
 sink_restarts : (topology : Topology) (before : History) (s : StageNo) (a b : Option SinkSeen) → Both (KeepsSink topology before s) a b → Both (KeepsSink topology (Restart s ∷ before) s) a b
 sink_restarts topology before s a b k = both_map (λ x y h. sink_as topology before (Restart s ∷ before) s x y refl refl h) a b k
 
 body_restarts : (topology : Topology) (before : History) (p : Post) (a b c : BodySeen) → KeepsBody topology before p a b → IsResetBody b c → KeepsBody topology (Restart p.stage ∷ before) p a c
 body_restarts topology before p a b c k r = record {
-  source = source_restarts before p.stage a.source c.source (subst (λ o. Both (KeepsSource before p.stage []) a.source o) (sym r.source) k.source);
+  source = source_restarts before p.stage a.source c.source (subst (λ o. Both (KeepsSource before p.stage true []) a.source o) (sym r.source) k.source);
   sink = sink_restarts topology before p.stage a.sink c.sink (subst (λ o. Both (KeepsSink topology before p.stage) a.sink o) (sym r.sink) k.sink);
   callback = both_then (λ x y z h g. callback_restarts topology before p x y z h g) a.callback b.callback c.callback k.callback r.callback;
 }

@@ -1,5 +1,5 @@
 -- Bodies that nothing was done to stand where the empty journal leaves them.
-use Rattle.std.proofs.Common.{◌≡◌, ℕ, [], refl, sym, ◌∙◌, Some, None, Option, arith}
+use Rattle.std.proofs.Common.{◌≡◌, ℕ, [], refl, sym, ◌∙◌, Some, None, Option, arith, true}
 use Rattle.std.specs.Prelude.{IfSome}
 use Rattle.std.proofs.lemmas.List.{append-nil}
 use Rattle.std.proofs.lemmas.List.Elements.{All-nil}
@@ -16,13 +16,15 @@ use Rattle.stage_bodies.specs.Jobs.{Both}
 use Rattle.stage_bodies.specs.Posts.{place_at}
 use Rattle.body_laws.specs.Keeps.{KeepsSource, KeepsSink, KeepsCallback, KeepsBody, Keeps}
 use Rattle.body_laws.specs.Ready.{IsUnused, IsFilled}
+use Rattle.pace_laws.specs.Pacing.{IsNewGate}
+use Rattle.pace_laws.proofs.Fetching.{starts as begins}
 use Rattle.body_laws.proofs.Rises.{rise_none}
 
 no_end : {A : Type 0} (now : Option LineEnd) (e : LineEnd) → now ≡ None → now ≡ Some e → A
 no_end now e none is = let x : None ≡ Some e = sym none ∙ is in cc
 
-source_starts : (s : StageNo) (a : LineSeen) → a.waiting ≡ [] → a.end ≡ None → KeepsSource [] s [] a a
-source_starts s a empty none = record {
+source_starts : (s : StageNo) (a : LineSeen) → a.waiting ≡ [] → a.end ≡ None → IsNewGate a.source.paced → KeepsSource [] s true [] a a
+source_starts s a empty none gate = record {
   read = record {
     same_telling = refl;
     each_is_a_line = All-nil IsLine;
@@ -36,6 +38,7 @@ source_starts s a empty none = record {
   };
   known = tt;
   quiet = rise_none a.source.waits;
+  paced = begins s a.source.paced.pace a gate.fresh gate.some empty;
 }
 
 sink_starts : (topology : Topology) (s : StageNo) (a : SinkSeen) → KeepsSink topology [] s a a
@@ -53,14 +56,14 @@ callback_starts topology p a zero_count = record {
 
 body_starts : (topology : Topology) (p : Post) (a : BodySeen) → IsUnused a → KeepsBody topology [] p a a
 body_starts topology p a unused = record {
-  source = by_source a.source unused.waiting unused.end;
+  source = by_source a.source unused.waiting unused.end unused.gate;
   sink = by_sink a.sink;
   callback = by_callback a.callback unused.count;
 }
   where
-    by_source : (x : Option LineSeen) → IfSome x (λ lines. lines.waiting ≡ []) → IfSome x (λ lines. lines.end ≡ None) → Both (KeepsSource [] p.stage []) x x
-    by_source (Some lines) empty none = source_starts p.stage lines empty none
-    by_source None empty none = tt
+    by_source : (x : Option LineSeen) → IfSome x (λ lines. lines.waiting ≡ []) → IfSome x (λ lines. lines.end ≡ None) → IfSome x (λ lines. IsNewGate lines.source.paced) → Both (KeepsSource [] p.stage true []) x x
+    by_source (Some lines) empty none gate = source_starts p.stage lines empty none gate
+    by_source None empty none gate = tt
 
     by_sink : (x : Option SinkSeen) → Both (KeepsSink topology [] p.stage) x x
     by_sink (Some sink) = sink_starts topology p.stage sink

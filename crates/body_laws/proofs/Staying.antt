@@ -1,8 +1,9 @@
 -- Bodies of which a step says nothing stand as before.
 use Rattle.std.proofs.Common.{◌≡◌, ℕ, ◌<◌, List, [], ◌∷◌, Bool, true, false, refl, ap, sym, ◌∙◌, subst, inl, inr, Some, None, Option}
-use Rattle.std.specs.Prelude.{not, ◌&&◌, ◌||◌, ◌==◌, if◌then◌else◌}
+use Rattle.std.specs.Prelude.{IfSome, not, ◌&&◌, ◌||◌, ◌==◌, if◌then◌else◌}
 use Rattle.std.proofs.lemmas.Bool.{eqb-true}
 use Rattle.pipe_types.specs.declared.numbers.Post.{Post}
+use Rattle.pipe_types.specs.declared.numbers.StageNo.{StageNo}
 use Rattle.pipe_types.specs.declared.topology.Role.{Role}
 use Rattle.pipe_types.specs.declared.topology.Role.TheVariants.{Producer, Processor, Supervisor, Batcher, BatchProcessor}
 use Rattle.pipe_types.specs.declared.topology.StageSpec.{StageSpec}
@@ -18,6 +19,7 @@ use Rattle.pipe_laws.proofs.Tests.{clash}
 use Rattle.stage_bodies.specs.Seen.{LineSeen, SinkSeen, BoxSeen, BodySeen}
 use Rattle.stage_bodies.specs.Jobs.{Both}
 use Rattle.stage_bodies.specs.Posts.{place_at}
+use Rattle.pace_laws.proofs.Fetching.{part as pace_part, stays as pace_on}
 use Rattle.body_laws.specs.Keeps.{has_post, KeepsSource, KeepsSink, IsCounted, KeepsCallback, KeepsBody, KeepsPartly, KeepsPost, Keeps}
 use Rattle.body_laws.specs.Ready.{There, IsArmed, IsBodyFor, IsBodyAt, Ready}
 use Rattle.body_laws.proofs.Posts.{few_slots, own_places}
@@ -39,6 +41,13 @@ both_then f (Some a) None z h k = absurd h
 both_then f None (Some b) z h k = absurd h
 both_then f None None (Some c) h k = absurd k
 
+-- with what is known of the second
+pub both_with : {A : Type 0} → (P : A → A → Type 0) (T : A → Type 0) (x y : Option A) → Both P x y → IfSome y T → Both (λ a b. P a b × T b) x y
+both_with P T (Some a) (Some b) h t = (h, t)
+both_with P T None None h t = h
+both_with P T (Some a) None h t = h
+both_with P T None (Some b) h t = h
+
 pub there_map : {A : Type 0} {P Q : A → Type 0} → ((a : A) → P a → Q a) → (x : Option A) → There x P → There x Q
 there_map f (Some a) h = f a h
 there_map f None h = h
@@ -48,11 +57,12 @@ there_map f None h = h
 counted_stays : (topology : Topology) (before : History) (step : Step) (p : Post) (box : BoxSeen) → Stays topology before step p → IsCounted topology before p.stage box → IsCounted topology (step ∷ before) p.stage box
 counted_stays topology before step p box st k = λ own calm live. k own calm (st.present live) ∙ sym st.count
 
-source_stays : (topology : Topology) (before : History) (step : Step) (p : Post) (lost : List (List ℕ)) (a b : LineSeen) → Stays topology before step p → KeepsSource before p.stage lost a b → KeepsSource (step ∷ before) p.stage lost a b
-source_stays topology before step p lost a b st k = record {
+source_stays : (topology : Topology) (before : History) (step : Step) (p : Post) (whole : Bool) (lost : List (List ℕ)) (a b : LineSeen) → Stays topology before step p → KeepsSource before p.stage whole lost a b → KeepsSource (step ∷ before) p.stage whole lost a b
+source_stays topology before step p whole lost a b st k = record {
   read = rw st.fed k.read;
   known = rw st.end k.known;
   quiet = rw st.quiets k.quiet;
+  paced = pace_on a.source.paced.pace before (step ∷ before) p.stage whole a.source b st.paced k.paced;
 }
 
 sink_stays : (topology : Topology) (before : History) (step : Step) (p : Post) (a b : SinkSeen) → Stays topology before step p → KeepsSink topology before p.stage a b → KeepsSink topology (step ∷ before) p.stage a b
@@ -75,14 +85,14 @@ callback_stays topology before step p a b st k = record {
 
 pub body_stays : (topology : Topology) (before : History) (step : Step) (p : Post) (a b : BodySeen) → Stays topology before step p → KeepsBody topology before p a b → KeepsBody topology (step ∷ before) p a b
 body_stays topology before step p a b st k = record {
-  source = both_map (λ x y h. source_stays topology before step p [] x y st h) a.source b.source k.source;
+  source = both_map (λ x y h. source_stays topology before step p true [] x y st h) a.source b.source k.source;
   sink = both_map (λ x y h. sink_stays topology before step p x y st h) a.sink b.sink k.sink;
   callback = both_map (λ x y h. callback_stays topology before step p x y st h) a.callback b.callback k.callback;
 }
 
 pub partly_stays : (topology : Topology) (before : History) (step : Step) (p : Post) (a b : BodySeen) → Stays topology before step p → KeepsPartly topology before p a b → KeepsPartly topology (step ∷ before) p a b
 partly_stays topology before step p a b st k = record {
-  source = both_map (λ x y h. (h.0, source_stays topology before step p h.0 x y st h.1)) a.source b.source k.source;
+  source = both_map (λ x y h. (h.0, source_stays topology before step p false h.0 x y st h.1)) a.source b.source k.source;
   sink = both_map (λ x y h. sink_stays topology before step p x y st h) a.sink b.sink k.sink;
   callback = k.callback;
 }
@@ -114,10 +124,13 @@ ready_stays topology before step p body st k = there_map (λ spec h. body_for_st
 pub out_as : (topology : Topology) (before : History) (p : Post) (b c : Bool) (x y : Option BodySeen) → b ≡ c → KeepsPost topology before p c x y → KeepsPost topology before p b x y
 out_as topology before p b c x y e k = rw e k
 
+source_is_part : (before : History) (s : StageNo) (a b : LineSeen) → KeepsSource before s true [] a b → KeepsSource before s false [] a b
+source_is_part before s a b k = record { read = k.read; known = k.known; quiet = k.quiet; paced = pace_part a.source.paced.pace before s a.source b k.paced }
+
 -- a body that stands where the journal leaves it stands so in part
 pub whole_is_part : (topology : Topology) (before : History) (p : Post) (a b : BodySeen) → KeepsBody topology before p a b → KeepsPartly topology before p a b
 whole_is_part topology before p a b k = record {
-  source = both_map (λ x y h. ([], h)) a.source b.source k.source;
+  source = both_map (λ x y h. ([], source_is_part before p.stage x y h)) a.source b.source k.source;
   sink = k.sink;
   callback = both_map (λ x y h. h.kept) a.callback b.callback k.callback;
 }

@@ -26,6 +26,8 @@ use Rattle.pipe_laws.proofs.Busy.{was_live, two_roles, producer_supervises}
 use Rattle.pipe_laws.proofs.Idle.{processor_supervisor}
 use Rattle.pipe_laws.specs.Read.{quiets}
 use Rattle.stage_callback.specs.Laws.{Law}
+use Rattle.pace_laws.specs.Pacing.{PaceStays}
+use Rattle.pace_laws.proofs.Going.{brings, pace_stays}
 use Rattle.body_laws.specs.Counts.{short_writes, calls_of, bad_of, resets_of}
 use Rattle.body_laws.specs.Lawful.{IsLawfulStep}
 use Rattle.body_laws.specs.Keeps.{has_post}
@@ -110,11 +112,20 @@ restart_stays : (step : Step) (s : StageNo) → tells_of step s ≡ false → re
 restart_stays (Restart t) s e = e
 restart_stays _ s e = refl
 
+-- a step that says nothing of a stage brings nothing of it
+untold_brings : (step : Step) (s : StageNo) → tells_of step s ≡ false → brings step s ≡ false
+untold_brings (Accept t records) s e = e
+untold_brings (Quiet t) s e = e
+untold_brings (Late t slot i (late.Records records)) s e = e
+untold_brings (Late t slot i late.Quiet) s e = e
+untold_brings _ s e = refl
+
 -- what the journal says of the post stays as it was
 pub record Stays (topology : Topology) (before : History) (step : Step) (p : Post) : Type 0 where
   pub fed : fed (step ∷ before) p.stage ≡ fed before p.stage
   pub end : source_end (step ∷ before) p.stage ≡ source_end before p.stage
   pub quiets : quiets (step ∷ before) p.stage ≡ quiets before p.stage
+  pub paced : PaceStays before (step ∷ before) p.stage
   pub text : sink_text topology (step ∷ before) p.stage ≡ sink_text topology before p.stage
   pub short : short_writes topology (step ∷ before) p.stage ≡ short_writes topology before p.stage
   pub count : count topology (step ∷ before) p.stage ≡ count topology before p.stage
@@ -149,11 +160,12 @@ present_stays topology before step s h r now = by_live (is_live topology (step �
     by_live true e now = is_present topology before s (was_live topology before step s r e)
     by_live false e now = by_put (puts_out step (post s 0)) refl now
 
-pub stays_untold : (topology : Topology) (before : History) (step : Step) (p : Post) → allows topology before step ≡ true → tells_of step p.stage ≡ false → answers step p ≡ false → Stays topology before step p
-stays_untold topology before step p h e a = record {
+pub stays_untold : (topology : Topology) (before : History) (step : Step) (p : Post) → is_legal topology (step ∷ before) ≡ true → tells_of step p.stage ≡ false → answers step p ≡ false → Stays topology before step p
+stays_untold topology before step p legal e a = let h = legal_step topology before step legal in record {
   fed = fed_stays step before p.stage e;
   end = end_stays step before p.stage e;
   quiets = quiets_stay step before p.stage e;
+  paced = pace_stays topology before step p.stage legal (untold_brings step p.stage e);
   text = text_stays topology step before p.stage e;
   short = short_stays topology step before p.stage e;
   count = count_stays topology step before p.stage e;
@@ -293,7 +305,7 @@ untold topology before _ p sound legal here apart r = refl
 pub stays : (topology : Topology) (before : History) (step : Step) (p : Post) → IsSound topology → is_legal topology (step ∷ before) ≡ true → has_post topology p ≡ true
     → answers step p ≡ false → restarts step p.stage ≡ false → Stays topology before step p
 stays topology before step p sound legal here apart r =
-    stays_untold topology before step p (legal_step topology before step legal) (untold topology before step p sound legal here apart r) apart
+    stays_untold topology before step p legal (untold topology before step p sound legal here apart r) apart
 
 -- ---- whether a post is out
 

@@ -28,6 +28,7 @@ use Rattle.stage_bodies.specs.Seen.{LineSeen, SinkSeen, BoxSeen, BodySeen}
 use Rattle.stage_bodies.specs.Reads.{AreReadFrom}
 use Rattle.stage_bodies.specs.Jobs.{Both, KeepsBox}
 use Rattle.stage_bodies.specs.Posts.{place_at}
+use Rattle.pace_laws.specs.Pacing.{KeepsPace}
 use Rattle.body_laws.specs.Counts.{short_writes, calls_of, bad_of, resets_of}
 use Rattle.body_laws.specs.Lawful.{AreLawfulAnswers}
 
@@ -57,11 +58,12 @@ IsKnownEnd (Some how.TooLong) now = now ≡ Some end.TooLong
 IsKnownEnd (Some how.Limit) now = ⊥
 
 -- what was read is what the journal has of the producer, and then what was lost; the end and each quiet have their cause in
--- the source
-pub record KeepsSource (before : History) (s : StageNo) (lost : List (List ℕ)) (opened now : LineSeen) : Type 0 where
+-- the source; it keeps its pace, of which more is known where every answer is in the journal
+pub record KeepsSource (before : History) (s : StageNo) (whole : Bool) (lost : List (List ℕ)) (opened now : LineSeen) : Type 0 where
   pub read : AreReadFrom opened.source now (fed before s ++ lost)
   pub known : IsKnownEnd (source_end before s) now.end
   pub quiet : RoseBy (quiets before s) opened.source.waits now.source.waits
+  pub paced : KeepsPace before s whole opened.source now
 
 -- ---- sinks
 
@@ -94,13 +96,13 @@ pub record KeepsCallback (topology : Topology) (before : History) (p : Post) (op
 
 -- the body stands where the journal leaves it
 pub record KeepsBody (topology : Topology) (before : History) (p : Post) (opened now : BodySeen) : Type 0 where
-  pub source : Both (KeepsSource before p.stage []) opened.source now.source
+  pub source : Both (KeepsSource before p.stage true []) opened.source now.source
   pub sink : Both (KeepsSink topology before p.stage) opened.sink now.sink
   pub callback : Both (KeepsCallback topology before p) opened.callback now.callback
 
 -- the same, where a job was cut off, or the records that it brought are not in the journal: its source may have given more lines
 pub record KeepsPartly (topology : Topology) (before : History) (p : Post) (opened now : BodySeen) : Type 0 where
-  pub source : Both (λ old new. (lost : List (List ℕ)) × KeepsSource before p.stage lost old new) opened.source now.source
+  pub source : Both (λ old new. (lost : List (List ℕ)) × KeepsSource before p.stage false lost old new) opened.source now.source
   pub sink : Both (KeepsSink topology before p.stage) opened.sink now.sink
   pub callback : Both KeepsBox opened.callback now.callback
 

@@ -12,6 +12,9 @@ use Rattle.pipe_model.specs.History.{History}
 use Rattle.pipe_model.specs.Posts.{is_out}
 use Rattle.stage_bodies.specs.Seen.{BoxSeen, BodySeen}
 use Rattle.stage_bodies.specs.Posts.{place_at}
+use Rattle.stage_bodies.specs.declared.job.Work.{Work}
+use Rattle.stage_bodies.specs.declared.job.Work.TheVariants as work
+use Rattle.pace_laws.specs.Pacing.{IsNewGate, IsTold}
 use Rattle.body_laws.specs.Keeps.{has_post, IsCounted}
 
 -- one is there, and so
@@ -42,15 +45,21 @@ IsBodyOf topology before s spec body = IsBodyFor topology before s spec spec.rol
 abbrev pub IsBodyAt : Topology → History → Post → BodySeen → Type 0
 IsBodyAt topology before p body = There (spec_of topology p.stage) (λ spec. IsBodyOf topology before p.stage spec body)
 
+-- the source of a body that left for a fetch was told the moment of the fetch
+abbrev pub WasTold : History → StageNo → Work → BodySeen → Type 0
+WasTold before s (work.Fetch most) body = IfSome body.source (IsTold before s)
+WasTold before s _ body = Unit {0}
+
 -- the body of each post that is not out is there, and holds what its jobs need
 abbrev pub Ready : Topology → History → (ℕ → Option BodySeen) → Type 0
 Ready topology before now =
     (p : Post) → IsTrue (has_post topology p) → is_out before p ≡ false → There (now (place_at p)) (IsBodyAt topology before p)
 
--- nothing was read of its source, and a built-in callback counted nothing
+-- nothing was read of its source, whose gate was told no moment and has given nothing; and a built-in callback counted nothing
 pub record IsUnused (body : BodySeen) : Type 0 where
   pub waiting : IfSome body.source (λ lines. lines.waiting ≡ [])
   pub end : IfSome body.source (λ lines. lines.end ≡ None)
+  pub gate : IfSome body.source (λ lines. IsNewGate lines.source.paced)
   pub count : IfSome body.callback (λ box. box.kind ≢ Own → box.count ≡ 0)
 
 -- the bodies that a run begins with: each post has its own, which is unused

@@ -37,7 +37,7 @@ ghost use Rattle.stage_bodies.specs.declared.job.Work.{Work};
 ghost use Rattle.body_laws.specs.Keeps.{has_post, is_silent, KeepsBody, Keeps};
 ghost use Rattle.body_laws.specs.Lates.{late_step, AreReset};
 ghost use Rattle.body_laws.specs.Passes.{all_pass};
-ghost use Rattle.body_laws.specs.Ready.{There, IsBodyAt, Ready, IsFilled};
+ghost use Rattle.body_laws.specs.Ready.{There, IsBodyAt, Ready, IsFilled, WasTold};
 
 /// Posts with slots below 16 have places of their own.
 #[tactic(auto, using(crate::proofs::Posts::own_places))]
@@ -139,7 +139,7 @@ pub fn calm_stages_never_crash()
 pub fn answers_keep_bodies()
     ensures { (topology : Topology) (before : History) (job : Job) (answer : Answer) (old new : BodySeen) (opened now after : ℕ → Option BodySeen) →
         IsSound topology → IsTrue (is_legal topology (step_of answer.post answer.outcome ∷ before)) →
-        IsJobOf topology before job → answer.post ≡ job.post → IsBodyAt topology before job.post old → IsDone job.work answer.outcome old new →
+        IsJobOf topology before job → answer.post ≡ job.post → IsBodyAt topology before job.post old → WasTold before job.post.stage job.work old → IsDone job.work answer.outcome old new →
         Both (KeepsBody topology before job.post) (opened (place_at job.post)) (Some old) →
         ((s : ℕ) → after s ≡ (if place_at job.post == s then Some new else now s)) →
         Keeps topology before opened now → Keeps topology (step_of answer.post answer.outcome ∷ before) opened after }
@@ -191,7 +191,7 @@ pub fn messages_fit_their_stages()
 pub fn late_answers_keep_bodies()
     ensures { (topology : Topology) (before : History) (p : Post) (work : Work) (incarnation : ℕ) (outcome : Came) (old new : BodySeen) (opened now after : ℕ → Option BodySeen) →
         IsSound topology → IsTrue (is_legal topology (late_step p incarnation outcome ∷ before)) →
-        IsWorkOf topology before p work → IsBodyAt topology before p old → IsDone work outcome old new →
+        IsWorkOf topology before p work → IsBodyAt topology before p old → WasTold before p.stage work old → IsDone work outcome old new →
         Both (KeepsBody topology before p) (opened (place_at p)) (Some old) →
         ((s : ℕ) → after s ≡ (if place_at p == s then Some new else now s)) →
         Keeps topology before opened now → Keeps topology (late_step p incarnation outcome ∷ before) opened after }

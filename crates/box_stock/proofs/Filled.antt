@@ -19,10 +19,13 @@ use Rattle.stage_bodies.specs.Jobs.{Both}
 use Rattle.stage_bodies.specs.Posts.{place_at}
 use Rattle.stage_laws.proofs.Numbering.{numbered_topology}
 use Rattle.body_laws.specs.Keeps.{has_slot, has_post, has_post_in}
+use Rattle.pipe_edges.specs.Paces.{Pace, PaceSeen}
+use Rattle.edge_names.specs.Gates.{ArePaces}
+use Rattle.pace_laws.specs.Pacing.{IsNewGate, IsPace, at_start}
 use Rattle.body_laws.specs.Ready.{There, IsArmed, IsBodyFor, IsBodyAt, IsUnused, IsFilled}
 use Rattle.body_laws.proofs.Posts.{few_slots}
 use Rattle.edge_names.specs.Seen.{EdgesSeen}
-use Rattle.edge_names.specs.Supplies.{Feed, Opened, Made, Supplied, Fed, Written, FeedsProducers, by_name, fed, feed_by, supplied_by, written}
+use Rattle.edge_names.specs.Supplies.{Feeds, Feed, Supplied, Fed, Written, FeedsProducers, by_name, fed, feed_by, supplied_by, written}
 use Rattle.edge_names.specs.Opened.{AreHome, AreOpened, HasFeed, HasSink, IsOpened, supplied_at, supplied_in}
 use Rattle.box_stock.specs.Lends.{AreHandedOut, IsBodyBefore, bare_body, body_with}
 
@@ -57,6 +60,7 @@ unused_with : (spec : StageSpec) (box : BoxSeen) (body : BodySeen) → IsWith sp
 unused_with spec box body w = record {
   waiting = subst (λ o. IfSome o (λ (lines : LineSeen). lines.waiting ≡ [])) (sym w.source) tt;
   end = subst (λ o. IfSome o (λ (lines : LineSeen). lines.end ≡ None)) (sym w.source) tt;
+  gate = subst (λ o. IfSome o (λ (lines : LineSeen). IsNewGate lines.source.paced)) (sym w.source) tt;
   count = subst (λ o. IfSome o (λ (b : BoxSeen). b.kind ≢ Own → b.count ≡ 0)) (sym w.callback) (λ other. w.count);
 }
 
@@ -91,11 +95,17 @@ record IsFreshSource (source : Option LineSeen) : Type 0 where
   pub some : IsSome source
   pub waiting : IfSome source (λ lines. lines.waiting ≡ [])
   pub end : IfSome source (λ lines. lines.end ≡ None)
+  pub gate : IfSome source (λ lines. IsNewGate lines.source.paced)
 
-fresh_source : (edges : EdgesSeen) (feed : Feed) (old new : Option LineSeen) → HasFeed edges (Some (Fed feed)) old new → IsFreshSource new
-fresh_source edges (Opened name) old (Some lines) h = record { some = refl; waiting = h.nothing_waits; end = h.no_end }
-fresh_source edges (Made bytes) old (Some lines) h = record { some = refl; waiting = h.nothing_waits; end = h.no_end }
-fresh_source edges feed old None h = absurd h
+-- a gate that begins has given nothing
+new_gate : (paced : PaceSeen) (pace : Option Pace) → paced ≡ at_start pace → IsPace pace → IsNewGate paced
+new_gate paced pace begins some =
+    let same : paced.pace ≡ pace = ap (λ (p : PaceSeen). p.pace) begins in
+    record { fresh = begins ∙ ap at_start (sym same); some = subst IsPace (sym same) some }
+
+fresh_source : (edges : EdgesSeen) (pace : Option Pace) (feed : Feed) (old new : Option LineSeen) → IsPace pace → HasFeed edges (Some (Fed pace feed)) old new → IsFreshSource new
+fresh_source edges pace feed old (Some lines) some h = record { some = refl; waiting = h.nothing_waits; end = h.no_end; gate = new_gate lines.source.paced pace h.gate some }
+fresh_source edges pace feed old None some h = absurd h
 
 sink_there : (edges : EdgesSeen) (name : List ℕ) (old new : Option SinkSeen) → HasSink edges (Some (Written name)) old new → is_some new ≡ true
 sink_there edges name old (Some sink) h = refl
@@ -103,15 +113,15 @@ sink_there edges name old None h = absurd h
 
 -- ---- by role
 
-ready_producer : (topology : Topology) (edges : EdgesSeen) (s : StageNo) (spec : StageSpec) (what : Option Supplied) (feed : Option Feed) (old new : BodySeen)
-    → IsSome feed → what ≡ fed feed → old ≡ bare_body → IsOpened edges what old new → IsReadyBody topology s spec Producer new
-ready_producer topology edges s spec what None old new some fits is opened = cc
-ready_producer topology edges s spec what (Some feed) old new some fits is opened =
-    let fresh = fresh_source edges feed old.source new.source (subst (λ c. HasFeed edges c old.source new.source) fits opened.source) in
+ready_producer : (topology : Topology) (edges : EdgesSeen) (s : StageNo) (spec : StageSpec) (what : Option Supplied) (pace : Option Pace) (feed : Option Feed) (old new : BodySeen)
+    → IsPace pace → IsSome feed → what ≡ fed pace feed → old ≡ bare_body → IsOpened edges what old new → IsReadyBody topology s spec Producer new
+ready_producer topology edges s spec what pace None old new begins some fits is opened = cc
+ready_producer topology edges s spec what pace (Some feed) old new begins some fits is opened =
+    let fresh = fresh_source edges pace feed old.source new.source begins (subst (λ c. HasFeed edges c old.source new.source) fits opened.source) in
     let none : new.callback ≡ None = opened.callback ∙ ap (λ (b : BodySeen). b.callback) is in
     record {
       ready = fresh.some;
-      unused = record { waiting = fresh.waiting; end = fresh.end; count = subst (λ o. IfSome o (λ (b : BoxSeen). b.kind ≢ Own → b.count ≡ 0)) (sym none) tt };
+      unused = record { waiting = fresh.waiting; end = fresh.end; gate = fresh.gate; count = subst (λ o. IfSome o (λ (b : BoxSeen). b.kind ≢ Own → b.count ≡ 0)) (sym none) tt };
     }
 
 ready_batch : (topology : Topology) (edges : EdgesSeen) (s : StageNo) (spec : StageSpec) (what : Option Supplied) (edge : Option (List ℕ)) (box : BoxSeen) (old new : BodySeen)
@@ -127,21 +137,21 @@ ready_batch topology edges s spec what (Some name) box old new edge calls is own
     let some : is_some new.sink ≡ is_some spec.edge = there ∙ sym (ap is_some edge) in
     record { ready = (with_box topology s spec box new w, some); unused = unused_with spec box new w }
 
-ready_by : (topology : Topology) (edges : EdgesSeen) (s : StageNo) (spec : StageSpec) (what : Option Supplied) (feed : Option Feed) (slot : ℕ) (r : Role) (old new : BodySeen)
-    → has_slot r spec.max slot ≡ true → (r ≡ Producer → IsSome feed) → (slot ≡ 0 → what ≡ supplied_by r feed spec.edge) → (supplied_by r feed spec.edge ≡ None → what ≡ None)
+ready_by : (topology : Topology) (edges : EdgesSeen) (s : StageNo) (spec : StageSpec) (what : Option Supplied) (pace : Option Pace) (feed : Option Feed) (slot : ℕ) (r : Role) (old new : BodySeen)
+    → has_slot r spec.max slot ≡ true → IsPace pace → (r ≡ Producer → IsSome feed) → (slot ≡ 0 → what ≡ supplied_by r pace feed spec.edge) → (supplied_by r pace feed spec.edge ≡ None → what ≡ None)
     → IsBodyBefore spec r old → IsOpened edges what old new → IsReadyBody topology s spec r new
-ready_by topology edges s spec what feed slot Producer old new seat feeds first other held opened =
-    ready_producer topology edges s spec what feed old new (feeds refl) (first (eqb-true slot 0 seat)) held opened
-ready_by topology edges s spec what feed slot Processor old new seat feeds first other held opened =
+ready_by topology edges s spec what pace feed slot Producer old new seat begins feeds first other held opened =
+    ready_producer topology edges s spec what pace feed old new begins (feeds refl) (first (eqb-true slot 0 seat)) held opened
+ready_by topology edges s spec what pace feed slot Processor old new seat begins feeds first other held opened =
     let box = before_with spec old.callback old held in
     let w = still_with edges spec what box.box old new (inl (other refl)) box.is box.own box.kind box.count opened in
     record { ready = with_box topology s spec box.box new w; unused = unused_with spec box.box new w }
-ready_by topology edges s spec what feed slot Supervisor old new seat feeds first other held opened =
+ready_by topology edges s spec what pace feed slot Supervisor old new seat begins feeds first other held opened =
     let box = before_with spec old.callback old held in
     let w = still_with edges spec what box.box old new (inl (other refl)) box.is box.own box.kind box.count opened in
     record { ready = with_box topology s spec box.box new w; unused = unused_with spec box.box new w }
-ready_by topology edges s spec what feed slot Batcher old new seat feeds first other held opened = cc
-ready_by topology edges s spec what feed slot BatchProcessor old new seat feeds first other held opened =
+ready_by topology edges s spec what pace feed slot Batcher old new seat begins feeds first other held opened = cc
+ready_by topology edges s spec what pace feed slot BatchProcessor old new seat begins feeds first other held opened =
     let box = before_with spec old.callback old held in
     ready_batch topology edges s spec what spec.edge box.box old new refl (first (eqb-true slot 0 seat)) box.is box.own box.kind box.count opened
 
@@ -156,17 +166,17 @@ supplied_none : (t : Bool) (x : Option Supplied) → x ≡ None → (if t then x
 supplied_none true x none = none
 supplied_none false x none = refl
 
-ready_post : (feeds : StageSpec → Option Feed) (topology : Topology) (edges : EdgesSeen) (p : Post) (sound : IsSound topology) → FeedsProducers feeds topology → has_post topology p ≡ true → (o : Option StageSpec) → spec_of topology p.stage ≡ o → (x y : Option BodySeen)
+ready_post : (feeds : Feeds) (topology : Topology) (edges : EdgesSeen) (p : Post) (sound : IsSound topology) → FeedsProducers feeds.origin topology → ArePaces feeds.pace → has_post topology p ≡ true → (o : Option StageSpec) → spec_of topology p.stage ≡ o → (x y : Option BodySeen)
     → There x (λ body. There o (λ spec. IsBodyBefore spec spec.role body)) → Both (IsOpened edges (supplied_at feeds topology (length topology.stages) p)) x y
     → There y (λ body. There o (λ spec. IsReadyBody topology p.stage spec spec.role body))
-ready_post feeds topology edges p sound feed post o is None y held opened = absurd held
-ready_post feeds topology edges p sound feed post None is (Some old) y held opened = absurd held
-ready_post feeds topology edges p sound feed post (Some spec) is (Some old) None held opened = absurd opened
-ready_post feeds topology edges p sound feed post (Some spec) is (Some old) (Some new) held opened =
+ready_post feeds topology edges p sound feed paces post o is None y held opened = absurd held
+ready_post feeds topology edges p sound feed paces post None is (Some old) y held opened = absurd held
+ready_post feeds topology edges p sound feed paces post (Some spec) is (Some old) None held opened = absurd opened
+ready_post feeds topology edges p sound feed paces post (Some spec) is (Some old) (Some new) held opened =
     let slot : has_slot spec.role spec.max p.slot ≡ true = sym (ap (λ q. has_post_in q p.slot) is) ∙ post in
     let within = ((numbered_topology topology sound).within p.stage spec is).1 in
-    let fits : supplied_in feeds (spec_of topology p.stage) ≡ supplied_by spec.role (feeds spec) spec.edge = ap (supplied_in feeds) is in
-    ready_by topology edges p.stage spec (supplied_at feeds topology (length topology.stages) p) (feeds spec) p.slot spec.role old new slot (feed p.stage spec is)
+    let fits : supplied_in feeds (spec_of topology p.stage) ≡ supplied_by spec.role (feeds.pace spec) (feeds.origin spec) spec.edge = ap (supplied_in feeds) is in
+    ready_by topology edges p.stage spec (supplied_at feeds topology (length topology.stages) p) (feeds.pace spec) (feeds.origin spec) p.slot spec.role old new slot (paces spec) (feed p.stage spec is)
     (λ first. supplied_zero (p.slot == 0) (nat_le p.stage.0 (length topology.stages)) (supplied_in feeds (spec_of topology p.stage)) (eq-eqb p.slot 0 first) (le-leb p.stage.0 (length topology.stages) within) ∙ fits)
     (λ none. supplied_none (p.slot == 0 && nat_le p.stage.0 (length topology.stages)) (supplied_in feeds (spec_of topology p.stage)) (fits ∙ none))
     held opened
@@ -181,11 +191,11 @@ if_there (Some body) None topology s h = absurd h
 if_there (Some body) (Some sp) topology s h = h.unused
 
 -- a table that was handed out is filled once everything is opened
-pub filled : (feeds : StageSpec → Option Feed) (topology : Topology) (edges : EdgesSeen) (table now : ℕ → Option BodySeen) → IsSound topology → FeedsProducers feeds topology → AreHandedOut topology table
+pub filled : (feeds : Feeds) (topology : Topology) (edges : EdgesSeen) (table now : ℕ → Option BodySeen) → IsSound topology → FeedsProducers feeds.origin topology → ArePaces feeds.pace → AreHandedOut topology table
     → AreOpened feeds topology (length topology.stages) edges table now → IsFilled topology now
-filled feeds topology edges table now sound feed handed opened =
+filled feeds topology edges table now sound feed paces handed opened =
     let all = λ (p : Post) (post : has_post topology p ≡ true).
-    ready_post feeds topology edges p sound feed post (spec_of topology p.stage) refl (table (place_at p)) (now (place_at p)) (handed.posts p post) (opened p (few_slots topology p sound post)) in
+    ready_post feeds topology edges p sound feed paces post (spec_of topology p.stage) refl (table (place_at p)) (now (place_at p)) (handed.posts p post) (opened p (few_slots topology p sound post)) in
     record {
       ready = λ p post out.
           there_map (λ body. There (spec_of topology p.stage) (λ spec. IsReadyBody topology p.stage spec spec.role body)) (IsBodyAt topology [] p) (now (place_at p))
@@ -210,19 +220,19 @@ names_feed topology sound s spec found is = name_by topology spec spec.role (sou
 
 -- ---- what opens finds its body
 
-supplied_post : (r : Role) (max : ℕ) (feed : Option Feed) (edge : Option (List ℕ)) → IsSome (supplied_by r feed edge) → has_slot r max 0 ≡ true
-supplied_post Producer max feed edge some = refl
-supplied_post Processor max feed edge some = cc
-supplied_post Supervisor max feed edge some = cc
-supplied_post Batcher max feed edge some = cc
-supplied_post BatchProcessor max feed edge some = refl
+supplied_post : (r : Role) (max : ℕ) (pace : Option Pace) (feed : Option Feed) (edge : Option (List ℕ)) → IsSome (supplied_by r pace feed edge) → has_slot r max 0 ≡ true
+supplied_post Producer max pace feed edge some = refl
+supplied_post Processor max pace feed edge some = cc
+supplied_post Supervisor max pace feed edge some = cc
+supplied_post Batcher max pace feed edge some = cc
+supplied_post BatchProcessor max pace feed edge some = refl
 
 is_there : {A : Type 0} (P : A → Type 0) (o : Option A) → There o P → IsSome o
 is_there P (Some x) h = refl
 is_there P None h = absurd h
 
 -- every stage that is supplied with something has its body in a table that was handed out
-pub homes : (feeds : StageSpec → Option Feed) (topology : Topology) (table : ℕ → Option BodySeen) → AreHandedOut topology table → AreHome feeds topology table
+pub homes : (feeds : Feeds) (topology : Topology) (table : ℕ → Option BodySeen) → AreHandedOut topology table → AreHome feeds topology table
 homes feeds topology table handed s spec is some =
-    let post_there : has_post topology (post s 0) ≡ true = ap (λ o. has_post_in o 0) is ∙ supplied_post spec.role spec.max (feeds spec) spec.edge some in
+    let post_there : has_post topology (post s 0) ≡ true = ap (λ o. has_post_in o 0) is ∙ supplied_post spec.role spec.max (feeds.pace spec) (feeds.origin spec) spec.edge some in
     is_there (λ body. There (spec_of topology s) (λ sp. IsBodyBefore sp sp.role body)) (table (place_at (post s 0))) (handed.posts (post s 0) post_there)

@@ -14,7 +14,8 @@ ghost use Rattle.pipe_types.specs.declared.topology.Topology.{Topology};
 ghost use Rattle.stage_bodies.specs.Seen.{BodySeen};
 ghost use Rattle.body_laws.specs.Ready.{IsFilled};
 ghost use Rattle.edge_names.specs.Seen.{EdgesSeen};
-ghost use Rattle.edge_names.specs.Supplies.{Feed, FeedsProducers, by_name};
+ghost use Rattle.edge_names.specs.Gates.{ArePaces};
+ghost use Rattle.edge_names.specs.Supplies.{Feeds, FeedsProducers, by_name};
 ghost use Rattle.edge_names.specs.Opened.{AreHome, AreOpened};
 ghost use Rattle.topology_needs.specs.Needs.{boxes_in as boxes_by_kind, shortage_of};
 ghost use Rattle.box_stock.specs.Homes.{Suffices};
@@ -41,7 +42,7 @@ pub fn stocks_without_shortage_suffice()
 
 /// A table that was handed out is filled once everything is opened.
 pub fn opened_tables_are_filled()
-    ensures { (feeds : StageSpec → Option Feed) (topology : Topology) (edges : EdgesSeen) (table now : ℕ → Option BodySeen) → IsSound topology → FeedsProducers feeds topology → AreHandedOut topology table
+    ensures { (feeds : Feeds) (topology : Topology) (edges : EdgesSeen) (table now : ℕ → Option BodySeen) → IsSound topology → FeedsProducers feeds.origin topology → ArePaces feeds.pace → AreHandedOut topology table
         → AreOpened feeds topology (length topology.stages) edges table now → IsFilled topology now }
 {}
 
@@ -54,7 +55,7 @@ pub fn names_feed_producers()
 /// In a table that was handed out every stage that is supplied with something has its body.
 #[tactic(auto, using(crate::proofs::Filled::homes))]
 pub fn handed_out_tables_have_homes()
-    ensures { (feeds : StageSpec → Option Feed) (topology : Topology) (table : ℕ → Option BodySeen) → AreHandedOut topology table → AreHome feeds topology table }
+    ensures { (feeds : Feeds) (topology : Topology) (table : ℕ → Option BodySeen) → AreHandedOut topology table → AreHome feeds topology table }
 {}
 
 /// Where each post of the topology that had a callback has one still, the boxes that were lent are all there.

@@ -141,4 +141,4 @@ stages_of s =
 
 abbrev pub topology_in : Settings → Topology
 topology_in s =
-    record { stages = stages_of s; limits = limits_of s; idle_limit = s.idle_limit; record_limit = s.record_limit; byte_limit = s.byte_limit; control = s.control; rate = None }
+    record { stages = stages_of s; limits = limits_of s; idle_limit = s.idle_limit; record_limit = s.record_limit; byte_limit = s.byte_limit; control = s.control; rate = s.rate }

@@ -276,6 +276,6 @@ pub fn build_topology(alloc: Global, settings: &Settings) -> Result<Topology, Al
         record_limit: settings.record_limit,
         byte_limit: u64::from(settings.byte_limit),
         control,
-        rate: None,
+        rate: settings.rate,
     })
 }

@@ -81,6 +81,7 @@ flow_settings source prefix =
       record_limit = 200000;
       byte_limit = 67108864;
       control = None;
+      rate = None;
       producers = source_settings source ∷ [];
       processors = Some (require_settings prefix);
       supervisor = None;

@@ -1,5 +1,5 @@
 -- The values of a topology file, with the defaults.
-use Rattle.std.specs.Prelude.{codes, ℕ, zero, suc, ◌==◌, not, List, [], ◌∷◌, Option, Some, None, option_map, option_and_then, unwrap_or, if◌then◌else◌, bytes_eq}
+use Rattle.std.specs.Prelude.{codes, ℕ, zero, suc, ◌==◌, not, List, [], ◌∷◌, Option, Some, None, option_map, option_and_then, unwrap_or, if◌then◌else◌, bytes_eq, length}
 use Rattle.pipe_types.specs.Sound.{is_reason}
 use Rattle.pipe_types.specs.declared.topology.CancelMode.{CancelMode}
 use Rattle.pipe_types.specs.declared.topology.CancelMode.TheVariants as cancel
@@ -11,9 +11,10 @@ use Rattle.pipe_types.specs.declared.topology.Kind.{Kind}
 use Rattle.pipe_types.specs.declared.topology.Kind.TheVariants as kind
 use Rattle.pipe_types.specs.declared.topology.Dispatch.{Dispatch}
 use Rattle.pipe_types.specs.declared.topology.Dispatch.TheVariants as dispatch
+use Rattle.pipe_types.specs.declared.topology.Rate.{Rate}
 use Rattle.toml.specs.Data.{Items, no_items, item, Members, as_str, as_array, as_table}
 use Rattle.config_table.specs.declared.format.Key.{Key}
-use Rattle.config_table.specs.declared.format.Key.TheVariants.{Pipeline, Producer, Processors, Supervisor, Batcher, MaxRestarts, MaxSeconds, IdleLimit, RecordLimit, ByteLimit, Control, Name, Source, Mode, BufferSize, BufferKeep, Concurrency, MaxDemand, MinDemand, Cancel, PartitionBy, Kind as KindKey, Steps, Failed, Restart, BatchSize, BatchTimeout, Dispatch as DispatchKey, Select, Sinks}
+use Rattle.config_table.specs.declared.format.Key.TheVariants.{Pipeline, Producer, Processors, Supervisor, Batcher, MaxRestarts, MaxSeconds, IdleLimit, RecordLimit, ByteLimit, Control, AllowedMessages, Interval, Name, Source, Mode, BufferSize, BufferKeep, Concurrency, MaxDemand, MinDemand, Cancel, PartitionBy, Kind as KindKey, Steps, Failed, Restart, BatchSize, BatchTimeout, Dispatch as DispatchKey, Select, Sinks}
 use Rattle.config_table.specs.declared.format.Shape.{Shape}
 use Rattle.config_table.specs.declared.format.Shape.TheVariants as shape
 use Rattle.config_table.specs.declared.format.Range.{Range}
@@ -198,6 +199,15 @@ abbrev pub pipeline_number : Range → Key → Option Members → ℕ
 pipeline_number range key None = range.default
 pipeline_number range key (Some table) = number range key table
 
+-- what is let in, where both the number of messages and the interval are given
+abbrev pub rate_of : (allowed interval : Option ℕ) → Option Rate
+rate_of (Some allowed) (Some interval) = Some (record { allowed = allowed; interval = interval })
+rate_of _ _ = None
+
+abbrev pub rate_in : (producers : ℕ) → Option Members → Option Rate
+rate_in producers None = None
+rate_in producers (Some table) = rate_of (given (format.allowed_messages producers) AllowedMessages table) (given format.interval Interval table)
+
 abbrev pub settings_of : Members → Settings
 settings_of table =
     record {
@@ -207,6 +217,7 @@ settings_of table =
       record_limit = pipeline_number format.record_limit RecordLimit (table_at Pipeline table);
       byte_limit = pipeline_number format.byte_limit ByteLimit (table_at Pipeline table);
       control = option_and_then (text_at Control) (table_at Pipeline table);
+      rate = rate_in (length (producers_at (array_at Producer table))) (table_at Pipeline table);
       producers = producers_at (array_at Producer table);
       processors = option_map processors_of (table_at Processors table);
       supervisor = option_map supervisor_of (table_at Supervisor table);

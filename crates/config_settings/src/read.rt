@@ -13,7 +13,7 @@ use config_table::fault::copied;
 use config_table::format::{Key, Range, Shape, given, number, value_at};
 use pipe_types::bytes::Text;
 use pipe_types::reason::Reason;
-use pipe_types::topology::{CancelMode, ChildMode, Dispatch, Keep, Kind};
+use pipe_types::topology::{CancelMode, ChildMode, Dispatch, Keep, Kind, Rate};
 use std::alloc::{AllocError, Global};
 use toml::{Table, Value};
 
@@ -379,12 +379,43 @@ fn control(alloc: Global, table: &Table) -> Result<Option<Text>, AllocError>
     }
 }
 
+/// What is let in, where both the number of messages and the interval are given.
+fn rate_of(allowed: Option<u32>, interval: Option<u32>) -> Option<Rate>
+    ensures { result ≡ spec.rate_of allowed interval }
+{
+    match (allowed, interval) {
+        (Some(allowed), Some(interval)) => Some(Rate {
+            allowed,
+            interval: u64::from(interval),
+        }),
+        _ => None,
+    }
+}
+
+/// What so many producers let in.
+fn rate(table: &Table, producers: usize) -> Option<Rate>
+    ensures { result ≡ spec.rate_in producers (spec.table_at Key.Pipeline (table_view table.now)) }
+{
+    match table_at(table, Key::Pipeline) {
+        Some(pipeline) => rate_of(
+            given(
+                pipeline,
+                Key::AllowedMessages,
+                Range::allowed_messages(producers),
+            ),
+            given(pipeline, Key::Interval, Range::INTERVAL),
+        ),
+        None => None,
+    }
+}
+
 /// The values of the file with the defaults.
 pub fn read_settings(alloc: Global, table: &Table) -> Result<Settings, AllocError>
     ensures { IfOk result (λ settings. settings ≡ spec.settings_of (table_view table.now)) }
 {
     let control = control(alloc, table)?;
     let producers = producers_at(alloc, table)?;
+    let rate = rate(table, producers.as_slice().len());
     let processors = processors_at(alloc, table)?;
     let supervisor = supervisor_at(alloc, table)?;
     let batchers = batchers_at(alloc, table)?;
@@ -395,6 +426,7 @@ pub fn read_settings(alloc: Global, table: &Table) -> Result<Settings, AllocErro
         record_limit: pipeline_number(table, Key::RecordLimit, Range::RECORD_LIMIT),
         byte_limit: pipeline_number(table, Key::ByteLimit, Range::BYTE_LIMIT),
         control,
+        rate,
         producers,
         processors,
         supervisor,

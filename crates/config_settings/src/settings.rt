@@ -4,7 +4,7 @@ ghost use Rattle.std.specs.Prelude.{◌≡◌};
 
 use pipe_types::bytes::Text;
 use pipe_types::reason::Reason;
-use pipe_types::topology::{CancelMode, ChildMode, Dispatch, Keep, Kind};
+use pipe_types::topology::{CancelMode, ChildMode, Dispatch, Keep, Kind, Rate};
 use std::marker::Model;
 
 /// Texts in the order of the file.
@@ -158,7 +158,7 @@ impl BatcherList {
     }
 }
 
-/// The values of a topology file. A control source is named where there is one.
+/// The values of a topology file. A control source is named where there is one, and so is a rate.
 #[derive(Drop)]
 pub struct Settings {
     pub max_restarts: u32,
@@ -167,6 +167,7 @@ pub struct Settings {
     pub record_limit: u32,
     pub byte_limit: u32,
     pub control: Option<Text>,
+    pub rate: Option<Rate>,
     pub producers: ProducerList,
     pub processors: Option<ProcessorSettings>,
     pub supervisor: Option<SupervisorSettings>,

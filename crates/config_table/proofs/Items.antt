@@ -12,7 +12,7 @@ use Rattle.config_table.specs.declared.format.Section.{Section}
 use Rattle.config_table.specs.declared.format.Row.{Row}
 use Rattle.config_table.specs.Fault.{least, sooner, at_place}
 use Rattle.config_table.specs.Values.{item_count, flaw_faults, text_flaw, item_faults}
-use Rattle.config_table.specs.Walk.{table_faults, each_faults, row_faults, key_faults, unknown_keys, top_faults, faults_of}
+use Rattle.config_table.specs.Walk.{table_faults, each_faults, row_faults, key_faults, unknown_keys, top_faults, faults_beside}
 use Rattle.config_table.proofs.Least.{sooner-part}
 
 pub count_lemma : (vs : List Value) → item_count (items_view vs) ≡ length vs
@@ -52,9 +52,9 @@ unknown_step version path rows left rest e found fault total same is so_far =
     rw is (sooner-part found (key_faults version path rows (string_bytes e.0)) (unknown_keys version path rows (members_view rest)) ∙ rw same at so_far)
 
 -- one more key of the file
-pub top_step : (version : FileVersion) (left rest : List Entry) (e : Entry) (found fault total : Option ConfigFault)
-    → left ≡ e ∷ rest → fault ≡ least (top_faults version (string_bytes e.0) (view e.1))
-    → sooner found (least (faults_of version (members_view left))) ≡ total
-    → sooner (sooner found fault) (least (faults_of version (members_view rest))) ≡ total
-top_step version left rest e found fault total same is so_far =
-    rw is (sooner-part found (top_faults version (string_bytes e.0) (view e.1)) (faults_of version (members_view rest)) ∙ rw same at so_far)
+pub top_step : (version : FileVersion) (producers : ℕ) (left rest : List Entry) (e : Entry) (found fault total : Option ConfigFault)
+    → left ≡ e ∷ rest → fault ≡ least (top_faults version producers (string_bytes e.0) (view e.1))
+    → sooner found (least (faults_beside version producers (members_view left))) ≡ total
+    → sooner (sooner found fault) (least (faults_beside version producers (members_view rest))) ≡ total
+top_step version producers left rest e found fault total same is so_far =
+    rw is (sooner-part found (top_faults version producers (string_bytes e.0) (view e.1)) (faults_beside version producers (members_view rest)) ∙ rw same at so_far)

@@ -1,11 +1,11 @@
 -- The tables of a topology file: for each key its type, its range and its default. Rows stand in byte order of their keys.
-use Rattle.std.specs.Prelude.{codes, ℕ, ◌-◌, ◌/◌, Bool, true, false, List, [], ◌∷◌, Option, Some, None, if◌then◌else◌, ℤ, pos, negsuc, option_and_then, bytes_eq}
+use Rattle.std.specs.Prelude.{codes, ℕ, ◌-◌, ◌/◌, Bool, true, false, List, [], ◌∷◌, Option, Some, None, if◌then◌else◌, ℤ, pos, negsuc, option_and_then, bytes_eq, is_some, min, max}
 use Rattle.pipe_types.specs.Sound.{is_between}
 use Rattle.toml.specs.Data.{Data, Members, get_member, as_integer, as_str}
 use Rattle.config_table.specs.declared.format.FileVersion.{FileVersion}
 use Rattle.config_table.specs.declared.format.FileVersion.TheVariants as version
 use Rattle.config_table.specs.declared.format.Key.{Key}
-use Rattle.config_table.specs.declared.format.Key.TheVariants.{Version, Pipeline, Producer, Processors, Supervisor, Batcher, MaxRestarts, MaxSeconds, IdleLimit, RecordLimit, ByteLimit, Control, Name, Source, Mode, BufferSize, BufferKeep, Concurrency, MaxDemand, MinDemand, Cancel, PartitionBy, Kind, Steps, Failed, Restart, BatchSize, BatchTimeout, Dispatch, Select, Sinks}
+use Rattle.config_table.specs.declared.format.Key.TheVariants.{Version, Pipeline, Producer, Processors, Supervisor, Batcher, MaxRestarts, MaxSeconds, IdleLimit, RecordLimit, ByteLimit, Control, AllowedMessages, Interval, Name, Source, Mode, BufferSize, BufferKeep, Concurrency, MaxDemand, MinDemand, Cancel, PartitionBy, Kind, Steps, Failed, Restart, BatchSize, BatchTimeout, Dispatch, Select, Sinks}
 use Rattle.config_table.specs.declared.format.Range.{Range}
 use Rattle.config_table.specs.declared.format.Shape.TheVariants as shape
 use Rattle.config_table.specs.declared.format.Form.{Form}
@@ -40,6 +40,8 @@ key_name IdleLimit = codes "idle_limit"
 key_name RecordLimit = codes "record_limit"
 key_name ByteLimit = codes "byte_limit"
 key_name Control = codes "control"
+key_name AllowedMessages = codes "allowed_messages"
+key_name Interval = codes "interval"
 key_name Name = codes "name"
 key_name Source = codes "source"
 key_name Mode = codes "mode"
@@ -107,6 +109,14 @@ record_limit = range 1 2000000 200000
 abbrev pub byte_limit : Range
 byte_limit = range 1 536870912 67108864
 
+-- at least one for each producer, with no default: where more than 1000000 would be needed, no number is in the range
+abbrev pub allowed_messages : (producers : ℕ) → Range
+allowed_messages producers = range (min (max producers 1) 1000001) 1000000 1
+
+-- a length of time, which has no default
+abbrev pub interval : Range
+interval = range 1 3600000 1
+
 abbrev pub buffer_size : Range
 buffer_size = range 0 200000 10000
 
@@ -159,14 +169,21 @@ row key form = record { key = key; since = version.One; required = false; form =
 abbrev pub later_row : Key → Form → Row
 later_row key form = record { key = key; since = version.Two; required = false; form = form }
 
+-- and one that stands where another does
+abbrev pub paired_row : Key → (required : Bool) → Form → Row
+paired_row key required form = record { key = key; since = version.Two; required = required; form = form }
+
 abbrev pub required_row : Key → Form → Row
 required_row key form = record { key = key; since = version.One; required = true; form = form }
 
-abbrev pub pipeline_rows : List Row
-pipeline_rows =
-    later_row ByteLimit (Whole byte_limit)
+-- the two keys of a rate stand together
+abbrev pub pipeline_rows : (producers : ℕ) → (has_allowed has_interval : Bool) → List Row
+pipeline_rows producers has_allowed has_interval =
+    paired_row AllowedMessages has_interval (Whole (allowed_messages producers))
+    ∷ later_row ByteLimit (Whole byte_limit)
     ∷ row Control (Text shape.Edge)
     ∷ row IdleLimit (Whole idle_limit)
+    ∷ paired_row Interval has_allowed (Whole interval)
     ∷ row MaxRestarts (Whole max_restarts)
     ∷ row MaxSeconds (Whole max_seconds)
     ∷ later_row RecordLimit (Whole record_limit)
@@ -230,7 +247,7 @@ batcher_rows max_range max concurrency is_broadcast =
     ∷ []
 
 abbrev pub rows : Section → Members → List Row
-rows section.Pipeline table = pipeline_rows
+rows (section.Pipeline producers) table = pipeline_rows producers (is_some (value_at AllowedMessages table)) (is_some (value_at Interval table))
 rows section.Producer table = producer_rows
 rows section.Processors table = processors_rows (number processors_max MaxDemand table)
 rows section.Supervisor table = supervisor_rows (number supervisor_max MaxDemand table)

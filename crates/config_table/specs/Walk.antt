@@ -12,7 +12,7 @@ use Rattle.config_table.specs.declared.format.Section.{Section}
 use Rattle.config_table.specs.declared.format.Section.TheVariants.{Pipeline, Producer, Processors, Supervisor, Batcher}
 use Rattle.config_table.specs.Fault.{under, at_place}
 use Rattle.config_table.specs.Format.{has, key_name, value_at, rows}
-use Rattle.config_table.specs.Values.{value_faults}
+use Rattle.config_table.specs.Values.{value_faults, item_count}
 
 -- the key of a row that a file of this version has
 abbrev pub is_named : FileVersion → List ℕ → Row → Bool
@@ -60,20 +60,31 @@ array_faults v section path None = fault.WrongType path ∷ []
 array_faults v section path (Some items) = each_faults v section path 0 items
 
 -- a key at the top
-abbrev pub top_faults : FileVersion → List ℕ → Data → List ConfigFault
-top_faults v k d =
+abbrev pub top_faults : FileVersion → (producers : ℕ) → List ℕ → Data → List ConfigFault
+top_faults v producers k d =
     if bytes_eq k (key_name key.Batcher) then array_faults v Batcher k (as_array d)
-    else if bytes_eq k (key_name key.Pipeline) then table_faults v Pipeline k (as_table d)
+    else if bytes_eq k (key_name key.Pipeline) then table_faults v (Pipeline producers) k (as_table d)
     else if bytes_eq k (key_name key.Processors) then table_faults v Processors k (as_table d)
     else if bytes_eq k (key_name key.Producer) then array_faults v Producer k (as_array d)
     else if bytes_eq k (key_name key.Supervisor) then table_faults v Supervisor k (as_table d)
     else if bytes_eq k (key_name key.Version) then []
     else fault.UnknownKey k ∷ []
 
--- the faults of every place, in the order of the walk
+-- how many producers the file has, as far as they stand in an array
+abbrev pub count_in : Option Items → ℕ
+count_in None = 0
+count_in (Some items) = item_count items
+
+abbrev pub producer_count : Members → ℕ
+producer_count table = count_in (option_and_then as_array (value_at key.Producer table))
+
+-- the faults of every place, in the order of the walk, beside so many producers
+abbrev pub faults_beside : FileVersion → (producers : ℕ) → Members → List ConfigFault
+faults_beside v producers no_members = []
+faults_beside v producers (member k d ms) = top_faults v producers k d ++ faults_beside v producers ms
+
 abbrev pub faults_of : FileVersion → Members → List ConfigFault
-faults_of v no_members = []
-faults_of v (member k d ms) = top_faults v k d ++ faults_of v ms
+faults_of v table = faults_beside v (producer_count table) table
 
 -- `version` is the whole number 1 or 2
 abbrev pub version_in : Option ℤ → Option FileVersion

@@ -28,6 +28,8 @@ pub enum Key {
     RecordLimit,
     ByteLimit,
     Control,
+    AllowedMessages,
+    Interval,
     Name,
     Source,
     Mode,
@@ -94,10 +96,10 @@ pub struct Row {
     pub form: Form,
 }
 
-/// The tables of the file. Of a producer and a batcher there may be several.
+/// The tables of the file: the pipeline's, with so many producers beside it, and of a producer and a batcher several.
 #[derive(Clone, Copy, PartialEq, Eq)]
 pub enum Section {
-    Pipeline,
+    Pipeline(usize),
     Producer,
     Processors,
     Supervisor,
@@ -137,6 +139,8 @@ impl Key {
             Key::RecordLimit => "record_limit",
             Key::ByteLimit => "byte_limit",
             Key::Control => "control",
+            Key::AllowedMessages => "allowed_messages",
+            Key::Interval => "interval",
             Key::Name => "name",
             Key::Source => "source",
             Key::Mode => "mode",

@@ -45,6 +45,13 @@ impl Range {
         default: 67_108_864,
     };
 
+    /// A length of time in milliseconds, which has no default.
+    pub const INTERVAL: Range = Range {
+        low: 1,
+        high: 3_600_000,
+        default: 1,
+    };
+
     pub const BUFFER_SIZE: Range = Range {
         low: 0,
         high: 200_000,
@@ -93,6 +100,13 @@ impl Range {
         default: 1000,
     };
 
+    /// At least one for each of so many producers. It has no default.
+    pub fn allowed_messages(producers: usize) -> Range
+        ensures { result ≡ format.allowed_messages producers }
+    {
+        range(producers.max(1).min(1_000_001) as u32, 1_000_000, 1)
+    }
+
     /// A batcher asks for a batch at a time.
     pub fn batcher_max(table: &Table) -> Range
         ensures { result ≡ format.batcher_max (table_view table.now) }
@@ -131,6 +145,18 @@ fn later_row(key: Key, form: Form) -> Row
     }
 }
 
+/// A key that a file of version 1 does not have, and that stands where another one does.
+fn paired_row(key: Key, required: bool, form: Form) -> Row
+    ensures { result ≡ format.paired_row key required form }
+{
+    Row {
+        key,
+        since: FileVersion::Two,
+        required,
+        form,
+    }
+}
+
 fn required_row(key: Key, form: Form) -> Row
     ensures { result ≡ format.required_row key form }
 {
@@ -142,13 +168,24 @@ fn required_row(key: Key, form: Form) -> Row
     }
 }
 
-fn pipeline_rows(alloc: Global) -> Result<Vec<Row>, AllocError>
-    ensures { IfOk result (λ rows. rows.items ≡ format.pipeline_rows) }
+fn pipeline_rows(
+    alloc: Global,
+    producers: usize,
+    has_allowed: bool,
+    has_interval: bool,
+) -> Result<Vec<Row>, AllocError>
+    ensures { IfOk result (λ rows. rows.items ≡ format.pipeline_rows producers has_allowed has_interval) }
 {
     let rows = [
+        paired_row(
+            Key::AllowedMessages,
+            has_interval,
+            Form::Whole(Range::allowed_messages(producers)),
+        ),
         later_row(Key::ByteLimit, Form::Whole(Range::BYTE_LIMIT)),
         row(Key::Control, Form::Text(Shape::Edge)),
         row(Key::IdleLimit, Form::Whole(Range::IDLE_LIMIT)),
+        paired_row(Key::Interval, has_allowed, Form::Whole(Range::INTERVAL)),
         row(Key::MaxRestarts, Form::Whole(Range::MAX_RESTARTS)),
         row(Key::MaxSeconds, Form::Whole(Range::MAX_SECONDS)),
         later_row(Key::RecordLimit, Form::Whole(Range::RECORD_LIMIT)),
@@ -248,12 +285,17 @@ fn does_broadcast(table: &Table) -> bool
     }
 }
 
-/// The rows of a table of this section, with the keys of every version; some ranges depend on the values of the table.
+/// The rows of a table of this section, with the keys of every version; some ranges, and which keys are required, depend on
+/// the values of the table.
 pub fn rows(alloc: Global, section: Section, table: &Table) -> Result<Vec<Row>, AllocError>
     ensures { IfOk result (λ rows. rows.items ≡ format.rows section (table_view table.now)) }
 {
     match section {
-        Section::Pipeline => pipeline_rows(alloc),
+        Section::Pipeline(producers) => {
+            let has_allowed = value_at(table, Key::AllowedMessages).is_some();
+            let has_interval = value_at(table, Key::Interval).is_some();
+            pipeline_rows(alloc, producers, has_allowed, has_interval)
+        }
         Section::Producer => producer_rows(alloc),
         Section::Processors => {
             let max = number(table, Key::MaxDemand, Range::PROCESSORS_MAX);

@@ -182,19 +182,20 @@ fn is_key(text: &str, key: Key) -> bool
     text == key.name()
 }
 
-/// The first fault at a key of the file.
+/// The first fault at a key of the file, which has so many producers.
 fn top_fault(
     alloc: Global,
     version: FileVersion,
+    producers: usize,
     key: &str,
     value: &Value,
 ) -> Result<Option<ConfigFault>, AllocError>
-    ensures { IfOk result (λ found. found ≡ least (walk.top_faults version key.now (view value.now))) }
+    ensures { IfOk result (λ found. found ≡ least (walk.top_faults version producers key.now (view value.now))) }
 {
     if is_key(key, Key::Batcher) {
         array_fault(alloc, version, Section::Batcher, key, value)
     } else if is_key(key, Key::Pipeline) {
-        table_fault(alloc, version, Section::Pipeline, key, value)
+        table_fault(alloc, version, Section::Pipeline(producers), key, value)
     } else if is_key(key, Key::Processors) {
         table_fault(alloc, version, Section::Processors, key, value)
     } else if is_key(key, Key::Producer) {
@@ -208,6 +209,37 @@ fn top_fault(
     }
 }
 
+/// How many producers the file has.
+#[tactic(auto, using(crate::proofs::Items::count_lemma))]
+fn producer_count(table: &Table) -> usize
+    ensures { result ≡ walk.producer_count (table_view table.now) }
+{
+    match value_at(table, Key::Producer) {
+        Some(value) => match value.as_array() {
+            Some(items) => items.len(),
+            None => 0,
+        },
+        None => 0,
+    }
+}
+
+/// The first fault of the members of a file that has so many producers.
+fn members_fault(
+    alloc: Global,
+    version: FileVersion,
+    producers: usize,
+    table: &Table,
+) -> Result<Option<ConfigFault>, AllocError>
+    ensures { IfOk result (λ found. found ≡ least (walk.faults_beside version producers (table_view table.now))) }
+{
+    let mut found = None;
+    'members: for (key, value) in table.iter() {
+        let fault = top_fault(alloc, version, producers, key.as_str(), value)?;
+        found = sooner(found, fault);
+    }
+    Ok(found)
+}
+
 /// The fault of the lowest number, 3 to 6, that comes first in the walk of the file.
 pub fn walk_fault(
     alloc: Global,
@@ -216,12 +248,7 @@ pub fn walk_fault(
 ) -> Result<Option<ConfigFault>, AllocError>
     ensures { IfOk result (λ found. found ≡ least (walk.faults_of version (table_view table.now))) }
 {
-    let mut found = None;
-    'members: for (key, value) in table.iter() {
-        let fault = top_fault(alloc, version, key.as_str(), value)?;
-        found = sooner(found, fault);
-    }
-    Ok(found)
+    members_fault(alloc, version, producer_count(table), table)
 }
 
 fn version_in(number: i64) -> Option<FileVersion>

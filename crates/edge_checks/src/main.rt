@@ -9,6 +9,7 @@ mod bodies;
 mod boxes;
 mod connections;
 mod devices;
+mod gates;
 mod handed;
 mod homes;
 mod memory;
@@ -94,6 +95,7 @@ fn run_named(rt: &HostRuntime, told: &mut Told, part: &str, acts: &str) -> Resul
 fn run_in_memory(told: &mut Told, part: &str, acts: &str) -> Result<(), AllocError> {
     match part {
         "lines" => memory::lines(told, acts),
+        "gate" => gates::gate(told, acts),
         "put" => memory::put(told, acts),
         "again" => memory::again(told),
         "offers" => memory::each_offer(told),

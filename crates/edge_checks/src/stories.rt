@@ -30,8 +30,8 @@ fn tell_lines<B: ByteSource>(told: &mut Told, lines: &mut LineSource<B>, most: u
     }
 }
 
-// Tells a fetch, and says whether others follow.
-fn tell_fetch<B: ByteSource>(
+/// Tells a fetch, and says whether others follow.
+pub fn tell_fetch<B: ByteSource>(
     told: &mut Told,
     lines: &mut LineSource<B>,
     most: u32,

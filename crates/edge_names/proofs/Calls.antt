@@ -11,7 +11,7 @@ use Rattle.pipe_edges.specs.declared.source.ByteSource.{Ghosts as SourceOf}
 use Rattle.stage_bodies.specs.Seen.{SourceSeen, SinkSeen, source_seen}
 use Rattle.edge_names.specs.Seen.{EdgesSeen, edges_seen, seen_by_name}
 use Rattle.edge_names.specs.Named.{GivesSource, Opens, BacksSource, back_after}
-use Rattle.edge_names.specs.Supplies.{call_for, fed, feed_by}
+use Rattle.edge_names.specs.Supplies.{feed_call, feed_by}
 use Rattle.edge_names.specs.Opened.{IsOneCut, IsReturned}
 use Rattle.edge_names.proofs.Cuts.{cut_empty}
 
@@ -70,11 +70,11 @@ pub gives_same : {S : Type 0} (source : S → SourceSeen) (x y : S) (edges : Edg
 gives_same source x y edges name same gives = subst (λ z. GivesSource edges name z) (sym (ap source same)) gives
 
 -- of a stage that names its source
-pub named_cut : (edge : Option (List ℕ)) (name : List ℕ) (a b : EdgesSeen) → edge ≡ Some name → IsOneCut (Some (Source, name)) a b → IsOneCut (call_for (fed (feed_by edge))) a b
-named_cut edge name a b is h = subst (λ x. IsOneCut (call_for (fed (feed_by x))) a b) (sym is) h
+pub named_cut : (edge : Option (List ℕ)) (name : List ℕ) (a b : EdgesSeen) → edge ≡ Some name → IsOneCut (Some (Source, name)) a b → IsOneCut (feed_call (feed_by edge)) a b
+named_cut edge name a b is h = subst (λ x. IsOneCut (feed_call (feed_by x)) a b) (sym is) h
 
 -- memory was wanting at the call
-pub named_empty : {T : Type 0} (edge : Option (List ℕ)) (name : List ℕ) (a b : EdgesSeen) (r : Result T EdgeEnd) (end : EdgeEnd) → edge ≡ Some name → r ≡ Err end → end ≡ OutOfMemory → Opens Source name a b r → IsOneCut (call_for (fed (feed_by edge))) a b
+pub named_empty : {T : Type 0} (edge : Option (List ℕ)) (name : List ℕ) (a b : EdgesSeen) (r : Result T EdgeEnd) (end : EdgeEnd) → edge ≡ Some name → r ≡ Err end → end ≡ OutOfMemory → Opens Source name a b r → IsOneCut (feed_call (feed_by edge)) a b
 named_empty edge name a b r end is ended none opens =
     let wanting = subst (λ x. Opens Source name a b x) (ended ∙ ap Err none) opens in
     named_cut edge name a b is (cut_empty (Some (Source, name)) Source name a b wanting)

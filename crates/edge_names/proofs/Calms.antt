@@ -10,7 +10,7 @@ use Rattle.pipe_types.specs.declared.topology.Topology.{Topology}
 use Rattle.stage_bodies.specs.Seen.{SourceSeen, BodySeen}
 use Rattle.stage_bodies.specs.Posts.{place_at}
 use Rattle.stage_laws.specs.Numbered.{IsNumberedTopology}
-use Rattle.edge_names.specs.Supplies.{Feed, supplied}
+use Rattle.edge_names.specs.Supplies.{Feeds, supplied}
 use Rattle.edge_names.specs.Returned.{AreCalm, IsCalm, source_in}
 
 -- what holds of all stages holds of one that is found
@@ -22,7 +22,7 @@ all_found P (x ∷ xs) s spec h e = either (same_stage x.no s) e (all_found P xs
     either true same rest = let is : x ≡ spec = cc in subst P is (All-head P x xs h)
     either false other rest = rest other
 
-pub calm_of_stage : (feeds : StageSpec → Option Feed) (topology : Topology) (s : StageNo) (spec : StageSpec) (table : ℕ → Option BodySeen) → IsNumberedTopology topology → spec_of topology s ≡ Some spec
+pub calm_of_stage : (feeds : Feeds) (topology : Topology) (s : StageNo) (spec : StageSpec) (table : ℕ → Option BodySeen) → IsNumberedTopology topology → spec_of topology s ≡ Some spec
     → AreCalm feeds topology.stages table → IsCalm (supplied feeds spec) (source_in (table (place_at (post s 0))))
 calm_of_stage feeds topology s spec table numbered found calm =
     subst (λ (n : StageNo). IsCalm (supplied feeds spec) (source_in (table (place_at (post n 0))))) (numbered.named s spec found)

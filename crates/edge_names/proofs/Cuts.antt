@@ -14,7 +14,7 @@ use Rattle.edge_names.specs.Named.{GivesSource, Opens}
 use Rattle.edge_names.specs.declared.opening.Unopened.{Unopened}
 use Rattle.edge_names.specs.declared.opening.Unopened.TheVariants.{Failed, OutOfMemory as NoMemory}
 use Rattle.edge_names.specs.Opened.{Asks, AreOpened, IfCutOff, IfFailed, OpensOne, IsCut, IsCutOff, IsFailed, IsOneCut, IsOneFailed, IsReturned, calls_of, uncalled, returned, let_go}
-use Rattle.edge_names.specs.Supplies.{Feed, Supplied, call_for, call_of, supplied}
+use Rattle.edge_names.specs.Supplies.{Feeds, Supplied, call_for, call_of, supplied}
 use Rattle.edge_names.proofs.Openings.{asks_more, gives_source_from}
 
 pub cut_uncalled : (call : Option (EdgeKind × List ℕ)) (a : EdgesSeen) → IsOneCut call a a
@@ -64,7 +64,7 @@ cut_from calls a b call cs back asks (uncalled p q) = uncalled p q
 cut_from calls a b call cs back asks (returned name source p q gives r) = returned name source p q (gives_source_from calls a b name source asks gives) r
 cut_from calls a b call cs back asks (let_go name p q r) = let_go name p q r
 
-pub cut_off : (feeds : StageSpec → Option Feed) (topology : Topology) (n : ℕ) (spec : StageSpec) (a b c : EdgesSeen) (start now : ℕ → Option BodySeen) → slice_get topology.stages n ≡ Some spec
+pub cut_off : (feeds : Feeds) (topology : Topology) (n : ℕ) (spec : StageSpec) (a b c : EdgesSeen) (start now : ℕ → Option BodySeen) → slice_get topology.stages n ≡ Some spec
     → Asks (calls_of feeds (take n topology.stages)) a b → AreOpened feeds topology n a start now → IsOneCut (call_of feeds spec) b c → IsCutOff feeds topology a c start now
 cut_off feeds topology n spec a b c start now here asks opened cut = record {
   at = n;
@@ -85,7 +85,7 @@ pub rose_after : (x y z : ℕ) → x ≤ y → Rose y z → Rose x z
 rose_after x y z le (inl lt) = inl (omega arith)
 rose_after x y z le (inr full) = inr full
 
-pub failed_off : (feeds : StageSpec → Option Feed) (topology : Topology) (n : ℕ) (spec : StageSpec) (name : List ℕ) (a b c : EdgesSeen) (start now : ℕ → Option BodySeen) → slice_get topology.stages n ≡ Some spec
+pub failed_off : (feeds : Feeds) (topology : Topology) (n : ℕ) (spec : StageSpec) (name : List ℕ) (a b c : EdgesSeen) (start now : ℕ → Option BodySeen) → slice_get topology.stages n ≡ Some spec
     → Asks (calls_of feeds (take n topology.stages)) a b → AreOpened feeds topology n a start now → IsOneFailed (call_of feeds spec) name b c → IsFailed feeds topology name a c start now
 failed_off feeds topology n spec name a b c start now here asks opened failed = record {
   at = n;
@@ -100,12 +100,12 @@ failed_off feeds topology n spec name a b c start now here asks opened failed = 
 
 -- ---- by what ended the opening
 
-pub failed_by : (feeds : StageSpec → Option Feed) (T : Type 0) (topology : Topology) (n at : ℕ) (spec : StageSpec) (u : Unopened) (a b c : EdgesSeen) (start mid now : ℕ → Option BodySeen) → slice_get topology.stages n ≡ Some spec
+pub failed_by : (feeds : Feeds) (T : Type 0) (topology : Topology) (n at : ℕ) (spec : StageSpec) (u : Unopened) (a b c : EdgesSeen) (start mid now : ℕ → Option BodySeen) → slice_get topology.stages n ≡ Some spec
     → Asks (calls_of feeds (take n topology.stages)) a b → AreOpened feeds topology n a start now → OpensOne {T = T} (supplied feeds spec) at (Err u) b c mid now → IfFailed u (λ name. IsFailed feeds topology name a c start now)
 failed_by feeds T topology n at spec (Failed name) a b c start mid now here asks opened one = failed_off feeds topology n spec name a b c start now here asks opened one
 failed_by feeds T topology n at spec NoMemory a b c start mid now here asks opened one = tt
 
-pub cut_off_by : (feeds : StageSpec → Option Feed) (T : Type 0) (topology : Topology) (n at : ℕ) (spec : StageSpec) (u : Unopened) (a b c : EdgesSeen) (start mid now : ℕ → Option BodySeen) → slice_get topology.stages n ≡ Some spec
+pub cut_off_by : (feeds : Feeds) (T : Type 0) (topology : Topology) (n at : ℕ) (spec : StageSpec) (u : Unopened) (a b c : EdgesSeen) (start mid now : ℕ → Option BodySeen) → slice_get topology.stages n ≡ Some spec
     → Asks (calls_of feeds (take n topology.stages)) a b → AreOpened feeds topology n a start now → OpensOne {T = T} (supplied feeds spec) at (Err u) b c mid now → IfCutOff u (IsCutOff feeds topology a c start now)
 cut_off_by feeds T topology n at spec (Failed name) a b c start mid now here asks opened one = tt
 cut_off_by feeds T topology n at spec NoMemory a b c start mid now here asks opened one = cut_off feeds topology n spec a b c start now here asks opened one

@@ -13,6 +13,7 @@ use Rattle.pipe_types.specs.declared.numbers.StageNo.{StageNo}
 use Rattle.pipe_types.specs.declared.numbers.Post.{Post}
 use Rattle.pipe_types.specs.declared.topology.StageSpec.{StageSpec}
 use Rattle.pipe_types.specs.declared.topology.Topology.{Topology}
+use Rattle.pipe_edges.specs.Paces.{Pace}
 use Rattle.pipe_edges.specs.declared.edges.EdgeKind.{EdgeKind}
 use Rattle.pipe_edges.specs.declared.edges.EdgeKind.TheVariants.{File, Source, Sink}
 use Rattle.pipe_edges.specs.declared.edges.EdgeEnd.TheVariants.{Failed}
@@ -22,10 +23,15 @@ use Rattle.stage_bodies.specs.Posts.{place_at}
 use Rattle.stage_laws.specs.Numbered.{IsNumberedTopology}
 use Rattle.edge_names.specs.Seen.{EdgesSeen}
 use Rattle.edge_names.specs.Named.{GivesSource, GivesSink, Opens}
-use Rattle.edge_names.specs.Supplies.{Feed, Opened, Made, Supplied, Fed, Written, call_for, call_of, supplied}
-use Rattle.edge_names.specs.Opened.{GivesFeed, Asks, AreHome, AreOpened, AreOpenedAt, HasFeed, HasSource, HasSink, IsOpened, supplied_at, supplied_in, calls_of, one}
+use Rattle.edge_names.specs.Gates.{without_gate}
+use Rattle.edge_names.specs.Supplies.{Feeds, Feed, Opened, Made, Supplied, Fed, Written, call_for, call_of, fed, feed_call, supplied}
+use Rattle.edge_names.specs.Opened.{GivesFed, GivesFeed, Asks, AreHome, AreOpened, AreOpenedAt, HasFeed, HasSource, HasSink, IsOpened, supplied_at, supplied_in, calls_of, one}
 
 -- ---- calls
+
+pub fed_call : (pace : Option Pace) (feed : Option Feed) → call_for (fed pace feed) ≡ feed_call feed
+fed_call pace (Some feed) = refl
+fed_call pace None = refl
 
 pub asks_nothing : (a : EdgesSeen) → Asks [] a a
 asks_nothing a = record {
@@ -86,17 +92,20 @@ has_source_from calls a b (Some (Source, name)) x y None asks e h = h
 has_source_from calls a b (Some (Source, name)) x y (Some lines) asks e h =
     record { source = gives_source_from calls a b name lines.source asks h.source; nothing_waits = h.nothing_waits; no_end = h.no_end }
 
+gives_feed_from : (calls : List (EdgeKind × List ℕ)) (a b : EdgesSeen) (feed : Feed) (source : SourceSeen) → Asks calls a b → GivesFeed b feed source → GivesFeed a feed source
+gives_feed_from calls a b (Opened name) source asks h = gives_source_from calls a b name source asks h
+gives_feed_from calls a b (Made bytes) source asks h = h
+
 pub has_feed_from : (calls : List (EdgeKind × List ℕ)) (a b : EdgesSeen) (what : Option Supplied) (x y z : Option LineSeen) → Asks calls a b → y ≡ x → HasFeed b what y z → HasFeed a what x z
 has_feed_from calls a b None x y z asks e h = h ∙ e
 has_feed_from calls a b (Some (Written name)) x y z asks e h = h ∙ e
-has_feed_from calls a b (Some (Fed feed)) x y None asks e h = h
-has_feed_from calls a b (Some (Fed (Made bytes))) x y (Some lines) asks e h = h
-has_feed_from calls a b (Some (Fed (Opened name))) x y (Some lines) asks e h =
-    record { source = gives_source_from calls a b name lines.source asks h.source; nothing_waits = h.nothing_waits; no_end = h.no_end }
+has_feed_from calls a b (Some (Fed pace feed)) x y None asks e h = h
+has_feed_from calls a b (Some (Fed pace feed)) x y (Some lines) asks e h =
+    record { source = gives_feed_from calls a b feed (without_gate lines.source) asks h.source; gate = h.gate; nothing_waits = h.nothing_waits; no_end = h.no_end }
 
 pub has_sink_from : (calls : List (EdgeKind × List ℕ)) (a b : EdgesSeen) (what : Option Supplied) (x y z : Option SinkSeen) → Asks calls a b → y ≡ x → HasSink b what y z → HasSink a what x z
 has_sink_from calls a b None x y z asks e h = h ∙ e
-has_sink_from calls a b (Some (Fed feed)) x y z asks e h = h ∙ e
+has_sink_from calls a b (Some (Fed pace feed)) x y z asks e h = h ∙ e
 has_sink_from calls a b (Some (Written name)) x y None asks e h = h
 has_sink_from calls a b (Some (Written name)) x y (Some sink) asks e h = gives_sink_from calls a b name sink asks h
 
@@ -124,17 +133,17 @@ body_more calls a b t c d None None (Some z) asks none h k = absurd k
 
 -- ---- posts
 
-chosen : (feeds : StageSpec → Option Feed) (x y : Bool) (spec : Option StageSpec) → x ≡ true → y ≡ true → (if x && y then supplied_in feeds spec else None) ≡ supplied_in feeds spec
+chosen : (feeds : Feeds) (x y : Bool) (spec : Option StageSpec) → x ≡ true → y ≡ true → (if x && y then supplied_in feeds spec else None) ≡ supplied_in feeds spec
 chosen feeds true true spec e h = refl
 chosen feeds true false spec e h = cc
 chosen feeds false y spec e h = cc
 
-unchosen : (feeds : StageSpec → Option Feed) (x y : Bool) (spec : Option StageSpec) → y ≡ false → (if x && y then supplied_in feeds spec else None) ≡ None
+unchosen : (feeds : Feeds) (x y : Bool) (spec : Option StageSpec) → y ≡ false → (if x && y then supplied_in feeds spec else None) ≡ None
 unchosen feeds true true spec e = cc
 unchosen feeds true false spec e = refl
 unchosen feeds false y spec e = refl
 
-unslotted : (feeds : StageSpec → Option Feed) (x y : Bool) (spec : Option StageSpec) → x ≡ false → (if x && y then supplied_in feeds spec else None) ≡ None
+unslotted : (feeds : Feeds) (x y : Bool) (spec : Option StageSpec) → x ≡ false → (if x && y then supplied_in feeds spec else None) ≡ None
 unslotted feeds true y spec e = cc
 unslotted feeds false y spec e = refl
 
@@ -153,12 +162,12 @@ pub flat_map_next : {A B : Type 0} (f : A → List B) (xs : List A) (x : A) → 
 flat_map_next f [] x = append-nil (f x)
 flat_map_next f (y ∷ xs) x = ap (λ z. f y ++ z) (flat_map_next f xs x) ∙ sym (append_assoc (f y) (flat_map f xs) (f x))
 
-pub calls_step : (feeds : StageSpec → Option Feed) (stages : List StageSpec) (n : ℕ) (spec : StageSpec) → slice_get stages n ≡ Some spec → calls_of feeds (take n stages) ++ one (call_of feeds spec) ≡ calls_of feeds (take (n + 1) stages)
+pub calls_step : (feeds : Feeds) (stages : List StageSpec) (n : ℕ) (spec : StageSpec) → slice_get stages n ≡ Some spec → calls_of feeds (take n stages) ++ one (call_of feeds spec) ≡ calls_of feeds (take (n + 1) stages)
 calls_step feeds stages n spec here =
     sym (ap (calls_of feeds) (take_next stages n spec here) ∙ flat_map_next (λ (s : StageSpec). one (call_of feeds s)) (take n stages) spec)
 
 -- at the place of the next stage there was nothing to open, and its call is its own; elsewhere the call is as it was
-call_step : (feeds : StageSpec → Option Feed) (topology : Topology) (n : ℕ) (spec : StageSpec) (p : Post) → IsNumberedTopology topology → slice_get topology.stages n ≡ Some spec → p.slot < 16
+call_step : (feeds : Feeds) (topology : Topology) (n : ℕ) (spec : StageSpec) (p : Post) → IsNumberedTopology topology → slice_get topology.stages n ≡ Some spec → p.slot < 16
     → (supplied_at feeds topology (n + 1) p ≡ (if spec.no.0 * 16 + 0 == place_at p then supplied feeds spec else supplied_at feeds topology n p)) × ((spec.no.0 * 16 + 0 == place_at p) ≡ true → supplied_at feeds topology n p ≡ None)
 call_step feeds topology n spec p numbered here low = either (spec.no.0 * 16 + 0 == place_at p) refl
   where
@@ -189,13 +198,13 @@ call_step feeds topology n spec p numbered here low = either (spec.no.0 * 16 + 0
     either false e = (slot_one (p.slot == 0) refl (λ same. eqb-false (spec.no.0 * 16 + 0) (place_at p) e (sym same)), λ h. cc)
 
 -- behind the last stage all are opened
-pub opened_all : (feeds : StageSpec → Option Feed) (topology : Topology) (n : ℕ) (edges : EdgesSeen) (old new : ℕ → Option BodySeen) → n ≤ length topology.stages → length topology.stages ≤ n
+pub opened_all : (feeds : Feeds) (topology : Topology) (n : ℕ) (edges : EdgesSeen) (old new : ℕ → Option BodySeen) → n ≤ length topology.stages → length topology.stages ≤ n
     → AreOpened feeds topology n edges old new → AreOpened feeds topology (length topology.stages) edges old new
 opened_all feeds topology n edges old new within past opened =
     let same : n ≡ length topology.stages = omega (arith, within, past) in
     subst (λ (m : ℕ). AreOpened feeds topology m edges old new) same opened
 
-pub opened_start : (feeds : StageSpec → Option Feed) (topology : Topology) (edges : EdgesSeen) (old : ℕ → Option BodySeen) → IsNumberedTopology topology → AreOpened feeds topology 0 edges old old
+pub opened_start : (feeds : Feeds) (topology : Topology) (edges : EdgesSeen) (old : ℕ → Option BodySeen) → IsNumberedTopology topology → AreOpened feeds topology 0 edges old old
 opened_start feeds topology edges old numbered p low =
     subst (λ c. Both (IsOpened edges c) (old (place_at p)) (old (place_at p))) (sym (none (p.slot == 0) p.stage.0 refl (spec_of topology p.stage) refl)) (same_body edges (old (place_at p)))
   where
@@ -206,19 +215,19 @@ opened_start feeds topology edges old numbered p low =
     none true zero is (Some spec) e = absurd (let w = numbered.within p.stage spec e in omega (arith, w.0, is))
 
 -- one stage more
-pub opened_more : (feeds : StageSpec → Option Feed) (topology : Topology) (n : ℕ) (spec : StageSpec) (calls : List (EdgeKind × List ℕ)) (a b : EdgesSeen) (old mid new : ℕ → Option BodySeen) → IsNumberedTopology topology → slice_get topology.stages n ≡ Some spec
+pub opened_more : (feeds : Feeds) (topology : Topology) (n : ℕ) (spec : StageSpec) (calls : List (EdgeKind × List ℕ)) (a b : EdgesSeen) (old mid new : ℕ → Option BodySeen) → IsNumberedTopology topology → slice_get topology.stages n ≡ Some spec
     → Asks calls a b → AreOpened feeds topology n a old mid → AreOpenedAt (spec.no.0 * 16 + 0) (supplied feeds spec) b mid new → AreOpened feeds topology (n + 1) a old new
 opened_more feeds topology n spec calls a b old mid new numbered here asks h k p low =
     let step = call_step feeds topology n spec p numbered here low in
     subst (λ c. Both (IsOpened a c) (old (place_at p)) (new (place_at p))) (sym step.0)
     (body_more calls a b (spec.no.0 * 16 + 0 == place_at p) (supplied_at feeds topology n p) (supplied feeds spec) (old (place_at p)) (mid (place_at p)) (new (place_at p)) asks step.1 (h p low) (k (place_at p)))
 
-pub asked_more : (feeds : StageSpec → Option Feed) (stages : List StageSpec) (n : ℕ) (spec : StageSpec) (a b c : EdgesSeen) → slice_get stages n ≡ Some spec
+pub asked_more : (feeds : Feeds) (stages : List StageSpec) (n : ℕ) (spec : StageSpec) (a b c : EdgesSeen) → slice_get stages n ≡ Some spec
     → Asks (calls_of feeds (take n stages)) a b → Asks (one (call_of feeds spec)) b c → Asks (calls_of feeds (take (n + 1) stages)) a c
 asked_more feeds stages n spec a b c here h k =
     subst (λ calls. Asks calls a c) (calls_step feeds stages n spec here) (asks_more (calls_of feeds (take n stages)) (one (call_of feeds spec)) a b c h k)
 
-pub opened_turn : (feeds : StageSpec → Option Feed) (topology : Topology) (n at : ℕ) (spec : StageSpec) (calls : List (EdgeKind × List ℕ)) (a b : EdgesSeen) (old mid new : ℕ → Option BodySeen) → IsNumberedTopology topology → slice_get topology.stages n ≡ Some spec
+pub opened_turn : (feeds : Feeds) (topology : Topology) (n at : ℕ) (spec : StageSpec) (calls : List (EdgeKind × List ℕ)) (a b : EdgesSeen) (old mid new : ℕ → Option BodySeen) → IsNumberedTopology topology → slice_get topology.stages n ≡ Some spec
     → at ≡ spec.no.0 * 16 + 0 → Asks calls a b → AreOpened feeds topology n a old mid → AreOpenedAt at (supplied feeds spec) b mid new → AreOpened feeds topology (n + 1) a old new
 opened_turn feeds topology n at spec calls a b old mid new numbered here is asks h k =
     opened_more feeds topology n spec calls a b old mid new numbered here asks h (subst (λ x. AreOpenedAt x (supplied feeds spec) b mid new) is k)
@@ -236,22 +245,22 @@ still_home edges c None y h some = grind arith
 pub some_at : (table : ℕ → Option BodySeen) (at place : ℕ) → at ≡ place → IsSome (table place) → IsSome (table at)
 some_at table at place e some = subst (λ x. IsSome (table x)) (sym e) some
 
-pub home_still : (feeds : StageSpec → Option Feed) (topology : Topology) (at : ℕ) (what : Option Supplied) (edges : EdgesSeen) (old new : ℕ → Option BodySeen) → AreHome feeds topology old → AreOpenedAt at what edges old new → AreHome feeds topology new
+pub home_still : (feeds : Feeds) (topology : Topology) (at : ℕ) (what : Option Supplied) (edges : EdgesSeen) (old new : ℕ → Option BodySeen) → AreHome feeds topology old → AreOpenedAt at what edges old new → AreHome feeds topology new
 home_still feeds topology at what edges old new home h s spec found some =
     still_home edges (if at == place_at (post s 0) then what else None) (old (place_at (post s 0))) (new (place_at (post s 0))) (h (place_at (post s 0))) (home s spec found some)
 
 -- ---- what a whole opening says of a body
 
-pub opened_stage : (feeds : StageSpec → Option Feed) (topology : Topology) (s : StageNo) (spec : StageSpec) (edges : EdgesSeen) (old new : ℕ → Option BodySeen) → IsNumberedTopology topology → spec_of topology s ≡ Some spec
+pub opened_stage : (feeds : Feeds) (topology : Topology) (s : StageNo) (spec : StageSpec) (edges : EdgesSeen) (old new : ℕ → Option BodySeen) → IsNumberedTopology topology → spec_of topology s ≡ Some spec
     → AreOpened feeds topology (length topology.stages) edges old new → Both (IsOpened edges (supplied feeds spec)) (old (place_at (post s 0))) (new (place_at (post s 0)))
 opened_stage feeds topology s spec edges old new numbered found h =
     let within : nat_le s.0 (length topology.stages) ≡ true = le-leb s.0 (length topology.stages) (numbered.within s spec found).1 in
     subst (λ c. Both (IsOpened edges c) (old (place_at (post s 0))) (new (place_at (post s 0)))) (chosen feeds true (nat_le s.0 (length topology.stages)) (spec_of topology s) refl within ∙ ap (supplied_in feeds) found) (h (post s 0) (omega arith))
 
 -- what was supplied is there
-pub given_feed : (edges : EdgesSeen) (feed : Feed) (old new : Option LineSeen) → HasFeed edges (Some (Fed feed)) old new → (lines : LineSeen) × (new ≡ Some lines) × GivesFeed edges feed lines
-given_feed edges feed old (Some lines) h = (lines, refl, h)
-given_feed edges feed old None h = absurd h
+pub given_feed : (edges : EdgesSeen) (pace : Option Pace) (feed : Feed) (old new : Option LineSeen) → HasFeed edges (Some (Fed pace feed)) old new → (lines : LineSeen) × (new ≡ Some lines) × GivesFed edges pace feed lines
+given_feed edges pace feed old (Some lines) h = (lines, refl, h)
+given_feed edges pace feed old None h = absurd h
 
 pub given_sink : (edges : EdgesSeen) (name : List ℕ) (old new : Option SinkSeen) → HasSink edges (Some (Written name)) old new → (sink : SinkSeen) × (new ≡ Some sink) × GivesSink edges name sink
 given_sink edges name old (Some sink) h = (sink, refl, h)
@@ -266,16 +275,16 @@ abbrev name_in : Option (EdgeKind × List ℕ) → List ℕ
 name_in (Some call) = call.1
 name_in None = []
 
-pub call_opens_source : (what : Option Supplied) (name : List ℕ) → call_for what ≡ Some (Source, name) → what ≡ Some (Fed (Opened name))
-call_opens_source (Some (Fed (Opened n))) name e = let same : n ≡ name = ap name_in e in ap (λ z. Some (Fed (Opened z))) same
-call_opens_source (Some (Fed (Made bytes))) name e = cc
+pub call_opens_source : (what : Option Supplied) (name : List ℕ) → call_for what ≡ Some (Source, name) → (pace : Option Pace) × (what ≡ Some (Fed pace (Opened name)))
+call_opens_source (Some (Fed pace (Opened n))) name e = let same : n ≡ name = ap name_in e in (pace, ap (λ z. Some (Fed pace (Opened z))) same)
+call_opens_source (Some (Fed pace (Made bytes))) name e = cc
 call_opens_source (Some (Written n)) name e = let kind : Sink ≡ Source = ap kind_in e in cc
 call_opens_source None name e = cc
 
 pub call_opens_sink : (what : Option Supplied) (name : List ℕ) → call_for what ≡ Some (Sink, name) → what ≡ Some (Written name)
 call_opens_sink (Some (Written n)) name e = let same : n ≡ name = ap name_in e in ap (λ z. Some (Written z)) same
-call_opens_sink (Some (Fed (Opened n))) name e = let kind : Source ≡ Sink = ap kind_in e in cc
-call_opens_sink (Some (Fed (Made bytes))) name e = cc
+call_opens_sink (Some (Fed pace (Opened n))) name e = let kind : Source ≡ Sink = ap kind_in e in cc
+call_opens_sink (Some (Fed pace (Made bytes))) name e = cc
 call_opens_sink None name e = cc
 
 same_as_before : (edges : EdgesSeen) (x y : Option BodySeen) → Both (IsOpened edges None) x y → y ≡ x
@@ -285,7 +294,7 @@ same_as_before edges (Some x) None h = absurd h
 same_as_before edges None (Some y) h = absurd h
 
 -- the body of another slot is as it was
-pub opened_slot : (feeds : StageSpec → Option Feed) (topology : Topology) (n : ℕ) (p : Post) (edges : EdgesSeen) (old new : ℕ → Option BodySeen) → 1 ≤ p.slot → p.slot < 16 → AreOpened feeds topology n edges old new → new (place_at p) ≡ old (place_at p)
+pub opened_slot : (feeds : Feeds) (topology : Topology) (n : ℕ) (p : Post) (edges : EdgesSeen) (old new : ℕ → Option BodySeen) → 1 ≤ p.slot → p.slot < 16 → AreOpened feeds topology n edges old new → new (place_at p) ≡ old (place_at p)
 opened_slot feeds topology n p edges old new least low h =
     let none : (p.slot == 0) ≡ false = ne_eqb p.slot 0 (λ e. omega (arith, e, least)) in
     same_as_before edges (old (place_at p)) (new (place_at p))

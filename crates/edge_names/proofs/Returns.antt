@@ -14,8 +14,9 @@ use Rattle.stage_laws.specs.Numbered.{IsNumberedTopology}
 use Rattle.edge_names.specs.Seen.{EdgesSeen}
 use Rattle.edge_names.specs.Controls.{IsGivenInPart, named_control}
 use Rattle.edge_names.specs.Opened.{AreOpenedAt, IsOpened}
-use Rattle.edge_names.specs.Returned.{AreCalm, GivesBack, IsBackInPart, IsCalm, KeepsCallbacks, named_source, named_sink, source_in, sources_of, sinks_of}
-use Rattle.edge_names.specs.Supplies.{Feed, Opened, Made, Supplied, Fed, Written, supplied, written}
+use Rattle.edge_names.specs.Returned.{AreCalm, GivesBack, GivesOff, IsBackInPart, IsCalm, KeepsCallbacks, named_source, named_sink, source_in, sources_of, sinks_of}
+use Rattle.edge_names.specs.Supplies.{Feeds, Feed, Opened, Made, Supplied, Fed, Written, supplied, written}
+use Rattle.edge_names.proofs.Gating.{inner_all, inner_more}
 use Rattle.edge_names.proofs.Openings.{take_next, flat_map_next}
 
 pub back_nothing : (a : EdgesSeen) → GivesBack [] [] a a
@@ -42,39 +43,59 @@ back_same xs ys a b c h k =
     let more : GivesBack (xs ++ []) (ys ++ []) a c = back_more xs [] ys [] a b c h k in
     rw (append-nil xs, append-nil ys) at more
 
+-- ---- without gates
+
+pub off_nothing : (a : EdgesSeen) → GivesOff [] [] a a
+off_nothing a = record { inner = []; ungated = tt; back = back_nothing a }
+
+-- sources without gates
+pub off_as : (xs : List (List ℕ × SourceSeen)) (ys : List (List ℕ × SinkSeen)) (a b : EdgesSeen) → GivesBack xs ys a b → GivesOff xs ys a b
+off_as xs ys a b h = record { inner = xs; ungated = inner_all xs; back = h }
+
+pub off_more : (xs xs' : List (List ℕ × SourceSeen)) (ys ys' : List (List ℕ × SinkSeen)) (a b c : EdgesSeen) → GivesOff xs ys a b → GivesOff xs' ys' b c → GivesOff (xs ++ xs') (ys ++ ys') a c
+off_more xs xs' ys ys' a b c h k = record {
+  inner = h.inner ++ k.inner;
+  ungated = inner_more xs h.inner xs' k.inner h.ungated k.ungated;
+  back = back_more h.inner k.inner ys ys' a b c h.back k.back;
+}
+
+-- nothing more was given back
+pub off_same : (xs : List (List ℕ × SourceSeen)) (ys : List (List ℕ × SinkSeen)) (a b c : EdgesSeen) → GivesOff xs ys a b → GivesBack [] [] b c → GivesOff xs ys a c
+off_same xs ys a b c h k = record { inner = h.inner; ungated = h.ungated; back = back_same h.inner ys a b c h.back k }
+
 -- the control source was given back, and the first stages
-part_back : (feeds : StageSpec → Option Feed) (topology : Topology) (control : Option LineSeen) (table : ℕ → Option BodySeen) (a b c : EdgesSeen) → GivesBack (named_control topology.control control) [] a b → IsBackInPart feeds topology table b c → IsGivenInPart feeds topology control table a c
+part_back : (feeds : Feeds) (topology : Topology) (control : Option LineSeen) (table : ℕ → Option BodySeen) (a b c : EdgesSeen) → GivesBack (named_control topology.control control) [] a b → IsBackInPart feeds topology table b c → IsGivenInPart feeds topology control table a c
 part_back feeds topology control table a b c first part = record {
   parts = suc part.stages;
   some_left = omega (arith, part.some_left);
-  back = back_more (named_control topology.control control) (sources_of feeds (take part.stages topology.stages) table) [] (sinks_of feeds (take part.stages topology.stages) table) a b c first part.back;
+  back = off_more (named_control topology.control control) (sources_of feeds (take part.stages topology.stages) table) [] (sinks_of feeds (take part.stages topology.stages) table) a b c (off_as (named_control topology.control control) [] a b first) part.back;
 }
 
-pub part_back_on : (feeds : StageSpec → Option Feed) (T E : Type 0) (r : Result T E) (topology : Topology) (control : Option LineSeen) (table : ℕ → Option BodySeen) (a b c : EdgesSeen) → GivesBack (named_control topology.control control) [] a b
+pub part_back_on : (feeds : Feeds) (T E : Type 0) (r : Result T E) (topology : Topology) (control : Option LineSeen) (table : ℕ → Option BodySeen) (a b c : EdgesSeen) → GivesBack (named_control topology.control control) [] a b
     → OnErr r (IsBackInPart feeds topology table b c) → OnErr r (IsGivenInPart feeds topology control table a c)
 part_back_on feeds T E (Ok done) topology control table a b c first part = tt
 part_back_on feeds T E (Err error) topology control table a b c first part = part_back feeds topology control table a b c first part
 
 -- nothing was given back
-pub none_back : (feeds : StageSpec → Option Feed) (topology : Topology) (control : Option LineSeen) (table : ℕ → Option BodySeen) (a b : EdgesSeen) → GivesBack [] [] a b → IsGivenInPart feeds topology control table a b
-none_back feeds topology control table a b back = record { parts = 0; some_left = omega arith; back = back }
+pub none_back : (feeds : Feeds) (topology : Topology) (control : Option LineSeen) (table : ℕ → Option BodySeen) (a b : EdgesSeen) → GivesBack [] [] a b → IsGivenInPart feeds topology control table a b
+none_back feeds topology control table a b back = record { parts = 0; some_left = omega arith; back = off_as [] [] a b back }
 
-sources_step : (feeds : StageSpec → Option Feed) (stages : List StageSpec) (n : ℕ) (spec : StageSpec) (was : ℕ → Option BodySeen) → slice_get stages n ≡ Some spec
+sources_step : (feeds : Feeds) (stages : List StageSpec) (n : ℕ) (spec : StageSpec) (was : ℕ → Option BodySeen) → slice_get stages n ≡ Some spec
     → sources_of feeds (take n stages) was ++ named_source (supplied feeds spec) (was (place_at (post spec.no 0))) ≡ sources_of feeds (take (n + 1) stages) was
 sources_step feeds stages n spec was here =
     sym (ap (λ (xs : List StageSpec). sources_of feeds xs was) (take_next stages n spec here) ∙ flat_map_next (λ (s : StageSpec). named_source (supplied feeds s) (was (place_at (post s.no 0)))) (take n stages) spec)
 
-sinks_step : (feeds : StageSpec → Option Feed) (stages : List StageSpec) (n : ℕ) (spec : StageSpec) (was : ℕ → Option BodySeen) → slice_get stages n ≡ Some spec
+sinks_step : (feeds : Feeds) (stages : List StageSpec) (n : ℕ) (spec : StageSpec) (was : ℕ → Option BodySeen) → slice_get stages n ≡ Some spec
     → sinks_of feeds (take n stages) was ++ named_sink (supplied feeds spec) (was (place_at (post spec.no 0))) ≡ sinks_of feeds (take (n + 1) stages) was
 sinks_step feeds stages n spec was here =
     sym (ap (λ (xs : List StageSpec). sinks_of feeds xs was) (take_next stages n spec here) ∙ flat_map_next (λ (s : StageSpec). named_sink (supplied feeds s) (was (place_at (post s.no 0)))) (take n stages) spec)
 
 -- one stage more
-pub back_turn : (feeds : StageSpec → Option Feed) (topology : Topology) (n at : ℕ) (spec : StageSpec) (was now : ℕ → Option BodySeen) (a b c : EdgesSeen) → IsNumberedTopology topology → slice_get topology.stages n ≡ Some spec
+pub back_turn : (feeds : Feeds) (topology : Topology) (n at : ℕ) (spec : StageSpec) (was now : ℕ → Option BodySeen) (a b c : EdgesSeen) → IsNumberedTopology topology → slice_get topology.stages n ≡ Some spec
     → at ≡ spec.no.0 * 16 + 0 → ((s : ℕ) → (n + 1) * 16 ≤ s → now s ≡ was s)
-    → GivesBack (sources_of feeds (take n topology.stages) was) (sinks_of feeds (take n topology.stages) was) a b
-    → GivesBack (named_source (supplied feeds spec) (now at)) (named_sink (supplied feeds spec) (now at)) b c
-    → GivesBack (sources_of feeds (take (n + 1) topology.stages) was) (sinks_of feeds (take (n + 1) topology.stages) was) a c
+    → GivesOff (sources_of feeds (take n topology.stages) was) (sinks_of feeds (take n topology.stages) was) a b
+    → GivesOff (named_source (supplied feeds spec) (now at)) (named_sink (supplied feeds spec) (now at)) b c
+    → GivesOff (sources_of feeds (take (n + 1) topology.stages) was) (sinks_of feeds (take (n + 1) topology.stages) was) a c
 back_turn feeds topology n at spec was now a b c numbered here is rest h k =
     let no = numbered.numbers n spec here in
     let place = place_at (post spec.no 0) in
@@ -83,10 +104,10 @@ back_turn feeds topology n at spec was now a b c numbered here is rest h k =
     let source = named_source (supplied feeds spec) (was place) in
     let sink = named_sink (supplied feeds spec) (was place) in
     let same : now at ≡ was place = ap now is ∙ rest place (omega (arith, no)) in
-    let given = subst (λ x. GivesBack (named_source (supplied feeds spec) x) (named_sink (supplied feeds spec) x) b c) same k in
-    let more : GivesBack (sources ++ source) (sinks ++ sink) a c = back_more sources source sinks sink a b c h given in
-    let by_sources = subst (λ xs. GivesBack xs (sinks ++ sink) a c) (sources_step feeds topology.stages n spec was here) more in
-    subst (λ ys. GivesBack (sources_of feeds (take (n + 1) topology.stages) was) ys a c) (sinks_step feeds topology.stages n spec was here) by_sources
+    let given = subst (λ x. GivesOff (named_source (supplied feeds spec) x) (named_sink (supplied feeds spec) x) b c) same k in
+    let more : GivesOff (sources ++ source) (sinks ++ sink) a c = off_more sources source sinks sink a b c h given in
+    let by_sources = subst (λ xs. GivesOff xs (sinks ++ sink) a c) (sources_step feeds topology.stages n spec was here) more in
+    subst (λ ys. GivesOff (sources_of feeds (take (n + 1) topology.stages) was) ys a c) (sinks_step feeds topology.stages n spec was here) by_sources
 
 pub rest_turn : (topology : Topology) (n at : ℕ) (spec : StageSpec) (was now next : ℕ → Option BodySeen) → IsNumberedTopology topology → slice_get topology.stages n ≡ Some spec
     → at ≡ spec.no.0 * 16 + 0 → ((s : ℕ) → (n + 1) * 16 ≤ s → now s ≡ was s) → ((s : ℕ) → ¬ (at ≡ s) → next s ≡ now s)
@@ -126,9 +147,9 @@ callbacks_at at what edges x y h s = one_callback (if at == s then what else Non
 
 -- where no source stands, and where a sink is written
 pub calm_none : (what : Option Supplied) (source : Option SourceSeen) → None ≡ source → IsCalm what source
-calm_none (Some (Fed (Made bytes))) None e = tt
-calm_none (Some (Fed (Made bytes))) (Some source) e = cc
-calm_none (Some (Fed (Opened name))) source e = tt
+calm_none (Some (Fed pace (Made bytes))) None e = tt
+calm_none (Some (Fed pace (Made bytes))) (Some source) e = cc
+calm_none (Some (Fed pace (Opened name))) source e = tt
 calm_none (Some (Written name)) source e = tt
 calm_none None source e = tt
 
@@ -136,14 +157,14 @@ pub calm_written : (name : Option (List ℕ)) (source : Option SourceSeen) → I
 calm_written (Some name) source = tt
 calm_written None source = tt
 
-abbrev calm_in : (StageSpec → Option Feed) → (ℕ → Option BodySeen) → StageSpec → Type 0
+abbrev calm_in : Feeds → (ℕ → Option BodySeen) → StageSpec → Type 0
 calm_in feeds table spec = IsCalm (supplied feeds spec) (source_in (table (place_at (post spec.no 0))))
 
 -- before the first stage, and one stage more
-pub calm_start : (feeds : StageSpec → Option Feed) (was : ℕ → Option BodySeen) → AreCalm feeds [] was
+pub calm_start : (feeds : Feeds) (was : ℕ → Option BodySeen) → AreCalm feeds [] was
 calm_start feeds was = All-nil (calm_in feeds was)
 
-pub calm_turn : (feeds : StageSpec → Option Feed) (topology : Topology) (n at : ℕ) (spec : StageSpec) (was now : ℕ → Option BodySeen) → IsNumberedTopology topology → slice_get topology.stages n ≡ Some spec
+pub calm_turn : (feeds : Feeds) (topology : Topology) (n at : ℕ) (spec : StageSpec) (was now : ℕ → Option BodySeen) → IsNumberedTopology topology → slice_get topology.stages n ≡ Some spec
     → at ≡ spec.no.0 * 16 + 0 → ((s : ℕ) → (n + 1) * 16 ≤ s → now s ≡ was s)
     → AreCalm feeds (take n topology.stages) was → IsCalm (supplied feeds spec) (source_in (now at)) → AreCalm feeds (take (n + 1) topology.stages) was
 calm_turn feeds topology n at spec was now numbered here is rest h k =

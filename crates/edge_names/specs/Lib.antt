@@ -1,5 +1,6 @@
 pub mod Seen
 pub mod Named
+pub mod Gates
 pub mod Supplies
 pub mod Opened
 pub mod Returned

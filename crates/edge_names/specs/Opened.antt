@@ -9,6 +9,7 @@ use Rattle.pipe_types.specs.declared.numbers.Post.{Post}
 use Rattle.pipe_types.specs.declared.topology.StageSpec.{StageSpec}
 use Rattle.pipe_types.specs.declared.topology.Topology.{Topology}
 use Rattle.pipe_edges.specs.Named.{StandsAsBefore}
+use Rattle.pipe_edges.specs.Paces.{Pace}
 use Rattle.pipe_edges.specs.declared.edges.EdgeKind.{EdgeKind}
 use Rattle.pipe_edges.specs.declared.edges.EdgeKind.TheVariants.{Source}
 use Rattle.stage_bodies.specs.Seen.{SourceSeen, SinkSeen, LineSeen, BodySeen}
@@ -16,7 +17,9 @@ use Rattle.stage_bodies.specs.Jobs.{Both}
 use Rattle.stage_bodies.specs.Posts.{place_at}
 use Rattle.edge_names.specs.Seen.{EdgesSeen}
 use Rattle.edge_names.specs.Named.{GivesSource, GivesSink}
-use Rattle.edge_names.specs.Supplies.{Feed, Opened, Made, Supplied, Fed, Written, IsMade, call_for, call_of, supplied}
+use Rattle.pace_laws.specs.Pacing.{at_start}
+use Rattle.edge_names.specs.Gates.{without_gate}
+use Rattle.edge_names.specs.Supplies.{Feeds, Feed, Opened, Made, Supplied, Fed, Written, IsMade, call_for, call_of, supplied}
 use Rattle.edge_names.specs.declared.opening.Unopened.{Unopened}
 use Rattle.edge_names.specs.declared.opening.Unopened.TheVariants.{Failed, OutOfMemory}
 
@@ -27,10 +30,10 @@ one (Some x) = x ∷ []
 one None = []
 
 -- the calls of these stages, in their order
-abbrev pub calls_of : (StageSpec → Option Feed) → List StageSpec → List (EdgeKind × List ℕ)
+abbrev pub calls_of : Feeds → List StageSpec → List (EdgeKind × List ℕ)
 calls_of feeds stages = flat_map (λ spec. one (call_of feeds spec)) stages
 
-abbrev pub edge_calls : (StageSpec → Option Feed) → Topology → List (EdgeKind × List ℕ)
+abbrev pub edge_calls : Feeds → Topology → List (EdgeKind × List ℕ)
 edge_calls feeds topology = calls_of feeds topology.stages
 
 -- these calls were made, and nothing was given back
@@ -59,20 +62,28 @@ HasSource edges (Some (Source, name)) old (Some lines) = GivesLines edges name l
 HasSource edges (Some (Source, name)) old None = ⊥
 HasSource edges _ old new = new ≡ old
 
--- a source of these bytes, of which no line was read
-pub record GivesMade (bytes : List ℕ) (lines : LineSeen) : Type 0 where
-  pub source : IsMade bytes lines.source
+-- the source that a supply gives: the one that its call opened, or one that was made
+abbrev pub GivesFeed : EdgesSeen → Feed → SourceSeen → Type 0
+GivesFeed edges (Opened name) source = GivesSource edges name source
+GivesFeed edges (Made bytes) source = IsMade bytes source
+
+-- where there is one
+abbrev pub IsSupplied : EdgesSeen → Option Feed → Option SourceSeen → Type 0
+IsSupplied edges (Some feed) (Some source) = GivesFeed edges feed source
+IsSupplied edges None None = Unit {0}
+IsSupplied edges _ _ = ⊥
+
+-- such a source, of which no line was read; its gate, if it has one, was told no moment and has given nothing
+pub record GivesFed (edges : EdgesSeen) (pace : Option Pace) (feed : Feed) (lines : LineSeen) : Type 0 where
+  pub source : GivesFeed edges feed (without_gate lines.source)
+  pub gate : lines.source.paced ≡ at_start pace
   pub nothing_waits : lines.waiting ≡ []
   pub no_end : lines.end ≡ None
 
-abbrev pub GivesFeed : EdgesSeen → Feed → LineSeen → Type 0
-GivesFeed edges (Opened name) lines = GivesLines edges name lines
-GivesFeed edges (Made bytes) lines = GivesMade bytes lines
-
 -- the source that a body has where this was supplied
 abbrev pub HasFeed : EdgesSeen → Option Supplied → (old new : Option LineSeen) → Type 0
-HasFeed edges (Some (Fed feed)) old (Some lines) = GivesFeed edges feed lines
-HasFeed edges (Some (Fed feed)) old None = ⊥
+HasFeed edges (Some (Fed pace feed)) old (Some lines) = GivesFed edges pace feed lines
+HasFeed edges (Some (Fed pace feed)) old None = ⊥
 HasFeed edges (Some (Written name)) old new = new ≡ old
 HasFeed edges None old new = new ≡ old
 
@@ -80,7 +91,7 @@ HasFeed edges None old new = new ≡ old
 abbrev pub HasSink : EdgesSeen → Option Supplied → (old new : Option SinkSeen) → Type 0
 HasSink edges (Some (Written name)) old (Some sink) = GivesSink edges name sink
 HasSink edges (Some (Written name)) old None = ⊥
-HasSink edges (Some (Fed feed)) old new = new ≡ old
+HasSink edges (Some (Fed pace feed)) old new = new ≡ old
 HasSink edges None old new = new ≡ old
 
 -- the body has what was supplied, and is else as it was
@@ -89,25 +100,25 @@ pub record IsOpened (edges : EdgesSeen) (what : Option Supplied) (old new : Body
   pub sink : HasSink edges what old.sink new.sink
   pub callback : new.callback ≡ old.callback
 
-abbrev pub supplied_in : (StageSpec → Option Feed) → Option StageSpec → Option Supplied
+abbrev pub supplied_in : Feeds → Option StageSpec → Option Supplied
 supplied_in feeds (Some spec) = supplied feeds spec
 supplied_in feeds None = None
 
-abbrev pub call_in : (StageSpec → Option Feed) → Option StageSpec → Option (EdgeKind × List ℕ)
+abbrev pub call_in : Feeds → Option StageSpec → Option (EdgeKind × List ℕ)
 call_in feeds (Some spec) = call_of feeds spec
 call_in feeds None = None
 
 -- what the body of a post is supplied with, where the first n stages were: a stage's is for its slot 0
-abbrev pub supplied_at : (StageSpec → Option Feed) → Topology → (n : ℕ) → Post → Option Supplied
+abbrev pub supplied_at : Feeds → Topology → (n : ℕ) → Post → Option Supplied
 supplied_at feeds topology n p = if p.slot == 0 && nat_le p.stage.0 n then supplied_in feeds (spec_of topology p.stage) else None
 
 -- the bodies have what the first n stages were supplied with, and are else as they were
-abbrev pub AreOpened : (StageSpec → Option Feed) → Topology → (n : ℕ) → EdgesSeen → (old new : ℕ → Option BodySeen) → Type 0
+abbrev pub AreOpened : Feeds → Topology → (n : ℕ) → EdgesSeen → (old new : ℕ → Option BodySeen) → Type 0
 AreOpened feeds topology n edges old new =
     (p : Post) → p.slot < 16 → Both (IsOpened edges (supplied_at feeds topology n p)) (old (place_at p)) (new (place_at p))
 
 -- the body of every stage that is supplied with something is there
-abbrev pub AreHome : (StageSpec → Option Feed) → Topology → (ℕ → Option BodySeen) → Type 0
+abbrev pub AreHome : Feeds → Topology → (ℕ → Option BodySeen) → Type 0
 AreHome feeds topology table =
     (s : StageNo) (spec : StageSpec) → spec_of topology s ≡ Some spec → IsSome (supplied feeds spec) → IsSome (table (place_at (post s 0)))
 
@@ -122,7 +133,7 @@ IfCutOff (Failed name) P = Unit {0}
 IfCutOff OutOfMemory P = P
 
 -- the call of a stage failed by this name, after those of the stages before it, whose bodies have what these opened
-pub record IsFailed (feeds : StageSpec → Option Feed) (topology : Topology) (name : List ℕ) (old new : EdgesSeen) (start now : ℕ → Option BodySeen) : Type 0 where
+pub record IsFailed (feeds : Feeds) (topology : Topology) (name : List ℕ) (old new : EdgesSeen) (start now : ℕ → Option BodySeen) : Type 0 where
   pub at : ℕ
   pub kind : EdgeKind
   pub spec : StageSpec
@@ -186,7 +197,7 @@ pub record IsReturned (name : List ℕ) (source : SourceSeen) (old new : EdgesSe
 -- ---- all stages
 
 -- memory was wanting at a stage, after the calls of the stages before it, whose bodies have what these opened
-pub record IsCutOff (feeds : StageSpec → Option Feed) (topology : Topology) (old new : EdgesSeen) (start now : ℕ → Option BodySeen) : Type 0 where
+pub record IsCutOff (feeds : Feeds) (topology : Topology) (old new : EdgesSeen) (start now : ℕ → Option BodySeen) : Type 0 where
   pub at : ℕ
   pub spec : StageSpec
   pub here : slice_get topology.stages at ≡ Some spec

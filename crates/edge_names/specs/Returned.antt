@@ -8,7 +8,8 @@ use Rattle.stage_bodies.specs.Seen.{SourceSeen, SinkSeen, BodySeen}
 use Rattle.stage_bodies.specs.Jobs.{Both}
 use Rattle.stage_bodies.specs.Posts.{place_at}
 use Rattle.edge_names.specs.Seen.{EdgesSeen}
-use Rattle.edge_names.specs.Supplies.{Feed, Opened, Made, Supplied, Fed, Written, given_back, supplied}
+use Rattle.edge_names.specs.Gates.{AreInner, HasNoWait}
+use Rattle.edge_names.specs.Supplies.{Feeds, Feed, Opened, Made, Supplied, Fed, Written, given_back, supplied}
 
 -- ---- what is given back
 
@@ -24,9 +25,9 @@ abbrev pub with_name : {A : Type 0} → List ℕ → Option A → List (List ℕ
 with_name name (Some x) = (name, x) ∷ []
 with_name name None = []
 
--- a source, as it is given back where this was supplied
+-- a source, as it is given back where this was supplied, but for its gate
 abbrev pub fed_back : Option Supplied → Option SourceSeen → List (List ℕ × SourceSeen)
-fed_back (Some (Fed feed)) source = given_back feed source
+fed_back (Some (Fed pace feed)) source = given_back (Some feed) source
 fed_back (Some (Written name)) source = []
 fed_back None source = []
 
@@ -37,15 +38,15 @@ named_source what body = fed_back what (source_in body)
 -- the sink that stands in the body of a stage that opened one, with its name
 abbrev pub named_sink : Option Supplied → Option BodySeen → List (List ℕ × SinkSeen)
 named_sink (Some (Written name)) body = with_name name (sink_in body)
-named_sink (Some (Fed feed)) body = []
+named_sink (Some (Fed pace feed)) body = []
 named_sink None body = []
 
 -- the sources of these stages that are given back, with their names, in stage order
-abbrev pub sources_of : (StageSpec → Option Feed) → List StageSpec → (ℕ → Option BodySeen) → List (List ℕ × SourceSeen)
+abbrev pub sources_of : Feeds → List StageSpec → (ℕ → Option BodySeen) → List (List ℕ × SourceSeen)
 sources_of feeds stages table = flat_map (λ spec. named_source (supplied feeds spec) (table (place_at (post spec.no 0)))) stages
 
 -- the sinks of these stages, with their names, in stage order
-abbrev pub sinks_of : (StageSpec → Option Feed) → List StageSpec → (ℕ → Option BodySeen) → List (List ℕ × SinkSeen)
+abbrev pub sinks_of : Feeds → List StageSpec → (ℕ → Option BodySeen) → List (List ℕ × SinkSeen)
 sinks_of feeds stages table = flat_map (λ spec. named_sink (supplied feeds spec) (table (place_at (post spec.no 0)))) stages
 
 -- these were given back, and nothing was asked
@@ -56,22 +57,34 @@ pub record GivesBack (sources : List (List ℕ × SourceSeen)) (sinks : List (Li
   pub back_sinks : new.sinks_back ≡ old.sinks_back ++ sinks
   pub no_fault : new.faults ≡ old.faults
 
+-- the same, each source without its gate
+pub record GivesOff (sources : List (List ℕ × SourceSeen)) (sinks : List (List ℕ × SinkSeen)) (old new : EdgesSeen) : Type 0 where
+  pub inner : List (List ℕ × SourceSeen)
+  pub ungated : AreInner sources inner
+  pub back : GivesBack inner sinks old new
+
 -- memory was wanting: what the first stages opened was given back
-pub record IsBackInPart (feeds : StageSpec → Option Feed) (topology : Topology) (table : ℕ → Option BodySeen) (old new : EdgesSeen) : Type 0 where
+pub record IsBackInPart (feeds : Feeds) (topology : Topology) (table : ℕ → Option BodySeen) (old new : EdgesSeen) : Type 0 where
   pub stages : ℕ
   pub some_left : stages < length topology.stages
-  pub back : GivesBack (sources_of feeds (take stages topology.stages) table) (sinks_of feeds (take stages topology.stages) table) old new
+  pub back : GivesOff (sources_of feeds (take stages topology.stages) table) (sinks_of feeds (take stages topology.stages) table) old new
 
 -- a source that was made has counted no fault and no wait
+abbrev pub IsCalmFeed : Option Feed → SourceSeen → Type 0
+IsCalmFeed (Some (Made bytes)) source = (source.faults ≡ 0) × (source.waits ≡ 0)
+IsCalmFeed (Some (Opened name)) source = Unit {0}
+IsCalmFeed None source = Unit {0}
+
+-- nor in its gate, beside the gate's own
 abbrev pub IsCalm : Option Supplied → Option SourceSeen → Type 0
-IsCalm (Some (Fed (Made bytes))) (Some source) = (source.faults ≡ 0) × (source.waits ≡ 0)
-IsCalm (Some (Fed (Made bytes))) None = Unit {0}
-IsCalm (Some (Fed (Opened name))) source = Unit {0}
+IsCalm (Some (Fed pace (Made bytes))) (Some source) = (source.faults ≡ 0) × HasNoWait source
+IsCalm (Some (Fed pace (Made bytes))) None = Unit {0}
+IsCalm (Some (Fed pace (Opened name))) source = Unit {0}
 IsCalm (Some (Written name)) source = Unit {0}
 IsCalm None source = Unit {0}
 
 -- the sources that were made for these stages, as they stand in the bodies, have counted no fault and no wait
-abbrev pub AreCalm : (StageSpec → Option Feed) → List StageSpec → (ℕ → Option BodySeen) → Type 0
+abbrev pub AreCalm : Feeds → List StageSpec → (ℕ → Option BodySeen) → Type 0
 AreCalm feeds stages table = All (λ spec. IsCalm (supplied feeds spec) (source_in (table (place_at (post spec.no 0))))) stages
 
 -- every body has the callback that it had

@@ -6,47 +6,58 @@ use Rattle.pipe_types.specs.declared.topology.StageSpec.{StageSpec}
 use Rattle.pipe_types.specs.declared.topology.Topology.{Topology}
 use Rattle.pipe_types.specs.declared.numbers.StageNo.{StageNo}
 use Rattle.pipe_types.specs.Stages.{spec_of}
-use Rattle.pipe_edges.specs.Paces.{unpaced}
+use Rattle.pipe_edges.specs.Paces.{Pace, unpaced}
 use Rattle.pipe_edges.specs.declared.edges.EdgeKind.{EdgeKind}
 use Rattle.pipe_edges.specs.declared.edges.EdgeKind.TheVariants.{Source, Sink}
 use Rattle.stage_bodies.specs.Seen.{SourceSeen}
+use Rattle.edge_names.specs.Gates.{pace_of_stage}
 
 -- how a producer comes to its source: it is opened by this name, or made of these bytes without a call
 pub data Feed : Type 0 where
   Opened : (name : List ℕ) → Feed
   Made : (bytes : List ℕ) → Feed
 
--- what goes into the body of a stage: the source of a producer, or the sink that is opened by this name
+-- what goes into the body of a stage: the source of a producer, in a gate where it has a pace, or the sink that is opened by this
+-- name
 pub data Supplied : Type 0 where
-  Fed : (feed : Feed) → Supplied
+  Fed : (pace : Option Pace) → (feed : Feed) → Supplied
   Written : (name : List ℕ) → Supplied
 
-abbrev pub fed : Option Feed → Option Supplied
-fed (Some feed) = Some (Fed feed)
-fed None = None
+-- how the producers of a run come to their sources, and at which paces these are read
+pub record Feeds : Type 0 where
+  pub origin : StageSpec → Option Feed
+  pub pace : StageSpec → Option Pace
+
+abbrev pub fed : Option Pace → Option Feed → Option Supplied
+fed pace (Some feed) = Some (Fed pace feed)
+fed pace None = None
 
 abbrev pub written : Option (List ℕ) → Option Supplied
 written (Some name) = Some (Written name)
 written None = None
 
-abbrev pub supplied_by : Role → Option Feed → (edge : Option (List ℕ)) → Option Supplied
-supplied_by Producer feed edge = fed feed
-supplied_by BatchProcessor feed edge = written edge
-supplied_by _ feed edge = None
+abbrev pub supplied_by : Role → Option Pace → Option Feed → (edge : Option (List ℕ)) → Option Supplied
+supplied_by Producer pace feed edge = fed pace feed
+supplied_by BatchProcessor pace feed edge = written edge
+supplied_by _ pace feed edge = None
 
 -- what goes into the body of a stage: a producer's source by the supply, a batch processor's sink by its name, if it has one
-abbrev pub supplied : (StageSpec → Option Feed) → StageSpec → Option Supplied
-supplied feeds spec = supplied_by spec.role (feeds spec) spec.edge
+abbrev pub supplied : Feeds → StageSpec → Option Supplied
+supplied feeds spec = supplied_by spec.role (feeds.pace spec) (feeds.origin spec) spec.edge
 
 -- the call by name that it takes
+abbrev pub feed_call : Option Feed → Option (EdgeKind × List ℕ)
+feed_call (Some (Opened name)) = Some (Source, name)
+feed_call (Some (Made bytes)) = None
+feed_call None = None
+
 abbrev pub call_for : Option Supplied → Option (EdgeKind × List ℕ)
-call_for (Some (Fed (Opened name))) = Some (Source, name)
-call_for (Some (Fed (Made bytes))) = None
+call_for (Some (Fed pace feed)) = feed_call (Some feed)
 call_for (Some (Written name)) = Some (Sink, name)
 call_for None = None
 
 -- the call by name that a stage makes
-abbrev pub call_of : (StageSpec → Option Feed) → StageSpec → Option (EdgeKind × List ℕ)
+abbrev pub call_of : Feeds → StageSpec → Option (EdgeKind × List ℕ)
 call_of feeds spec = call_for (supplied feeds spec)
 
 -- ---- supplies
@@ -58,6 +69,10 @@ feed_by None = None
 -- each producer opens the source that it names
 abbrev pub by_name : StageSpec → Option Feed
 by_name spec = feed_by spec.edge
+
+-- in a run of this topology, which may have a rate
+abbrev pub at_paces : Topology → (StageSpec → Option Feed) → Feeds
+at_paces topology origin = record { origin = origin; pace = pace_of_stage topology }
 
 -- every producer has its source
 abbrev pub FeedsProducers : (StageSpec → Option Feed) → Topology → Type 0
@@ -74,8 +89,9 @@ pub record IsMade (bytes : List ℕ) (source : SourceSeen) : Type 0 where
   pub no_wait : source.waits ≡ 0
   pub no_pace : source.paced ≡ unpaced
 
--- what is given back of a producer's source that stands in its body, with its name
-abbrev pub given_back : Feed → Option SourceSeen → List (List ℕ × SourceSeen)
-given_back (Opened name) (Some source) = (name, source) ∷ []
-given_back (Opened name) None = []
-given_back (Made bytes) source = []
+-- what is given back of a producer's source, with its name
+abbrev pub given_back : Option Feed → Option SourceSeen → List (List ℕ × SourceSeen)
+given_back (Some (Opened name)) (Some source) = (name, source) ∷ []
+given_back (Some (Opened name)) None = []
+given_back (Some (Made bytes)) source = []
+given_back None source = []

@@ -1,18 +1,22 @@
 //! Giving back by name, in stage order.
 
-ghost use Rattle.std.specs.Prelude.{◌≡◌, ◌≢◌, ◌++◌, ℕ, [], length, option_map, OnOk, OnErr};
+ghost use Rattle.std.specs.Prelude.{◌≡◌, ◌≢◌, ◌++◌, ℕ, [], Option, length, option_map, OnOk, OnErr};
 ghost use Rattle.pipe_types.specs.Sound.{IsSound};
 ghost use Rattle.stage_bodies.specs.Seen.{body_at, line_seen};
 ghost use Rattle.edge_names.specs.Controls.{IsGivenInPart, named_control};
-ghost use Rattle.edge_names.specs.Supplies.{supplied, written};
-ghost use Rattle.edge_names.specs.Returned.{AreCalm, GivesBack, IsBackInPart, IsCalm, KeepsCallbacks, named_source, named_sink, source_in, sink_in, sources_of, sinks_of};
+ghost use Rattle.edge_names.specs.Supplies.{at_paces, supplied, written};
+ghost use Rattle.pipe_edges.specs.Paces.{Pace};
+ghost use Rattle.pipe_types.specs.declared.topology.StageSpec.{StageSpec};
+ghost use Rattle.edge_names.specs.Returned.{AreCalm, GivesBack, GivesOff, IsBackInPart, IsCalm, KeepsCallbacks, named_source, named_sink, source_in, sink_in, sources_of, sinks_of};
 
 use crate::control::back_control;
+use crate::gates::take_off;
 use crate::seen::{SeenEdges, SeenSink, SeenSource, back_sink};
 use crate::supply::Supply;
 use pipe_edges::{ByteSink, ByteSource, Edges, LineSource};
 use pipe_types::numbers::Post;
 use pipe_types::topology::{Role, StageSpec, Topology};
+use rate_gate::GatedSource;
 use stage_bodies::{Houses, place_of, put_back, take_out};
 use std::alloc::AllocError;
 
@@ -73,26 +77,25 @@ fn back_sink_of<E: Edges, P: ByteSource, B: Houses<P, E::Sink>>(
     }
 }
 
-/// Gives back what a stage opened, if it stands in the body at this place.
-#[tactic(auto, using(crate::proofs::Returns::calm_none, crate::proofs::Returns::calm_written))]
-fn back_stage<E: Edges, S: Supply<E>, B: Houses<S::Source, E::Sink>>(
+/// Gives back what a stage opened, if it stands in the body at this place, whatever its pace was; a source without its gate.
+fn back_stage<E: Edges, S: Supply<E>, B: Houses<GatedSource<S::Source>, E::Sink>>(
     supply: &S,
     spec: &StageSpec,
     at: usize,
     bodies: &mut Vec<Option<B>>,
     edges: &mut E,
 ) -> Result<(), AllocError>
-    ensures back { OnOk result (GivesBack (named_source (supplied (S.feeds supply.now) spec.now) (body_at B.look bodies.old.items at)) (named_sink (supplied (S.feeds supply.now) spec.now) (body_at B.look bodies.old.items at))
+    ensures back { (paces : StageSpec → Option Pace) → OnOk result (GivesOff (named_source (supplied (record { origin = S.feeds supply.now; pace = paces }) spec.now) (body_at B.look bodies.old.items at)) (named_sink (supplied (record { origin = S.feeds supply.now; pace = paces }) spec.now) (body_at B.look bodies.old.items at))
         (⟦<E as SeenEdges>⟧.seen edges.old) (⟦<E as SeenEdges>⟧.seen edges.new)) }
     ensures nothing { OnErr result (GivesBack [] [] (⟦<E as SeenEdges>⟧.seen edges.old) (⟦<E as SeenEdges>⟧.seen edges.new)) }
-    ensures calm { OnOk result (IsCalm (supplied (S.feeds supply.now) spec.now) (source_in (body_at B.look bodies.old.items at))) }
+    ensures calm { (paces : StageSpec → Option Pace) → OnOk result (IsCalm (supplied (record { origin = S.feeds supply.now; pace = paces }) spec.now) (source_in (body_at B.look bodies.old.items at))) }
     ensures others { (s : ℕ) → at ≢ s → body_at B.look bodies.new.items s ≡ body_at B.look bodies.old.items s }
     ensures callbacks { KeepsCallbacks (body_at B.look bodies.old.items) (body_at B.look bodies.new.items) }
     ensures len { length bodies.new.items ≡ length bodies.old.items }
 {
     match spec.role {
         Role::Producer => match source_out(bodies, at) {
-            Some(source) => supply.take_back(spec, source, edges),
+            Some(gated) => supply.take_back(spec, take_off(gated), edges),
             None => Ok(()),
         },
         Role::BatchProcessor => back_sink_of(spec, at, bodies, edges),
@@ -102,17 +105,17 @@ fn back_stage<E: Edges, S: Supply<E>, B: Houses<S::Source, E::Sink>>(
 
 /// Gives the sources and sinks that stand in the bodies back under the names of their stages, in stage order. Want of memory
 /// ends it: the source or sink at hand is then let go, and those of later stages stay in their bodies.
-fn give_back_stages<E: Edges, S: Supply<E>, B: Houses<S::Source, E::Sink>>(
+fn give_back_stages<E: Edges, S: Supply<E>, B: Houses<GatedSource<S::Source>, E::Sink>>(
     supply: &S,
     topology: &Topology,
     bodies: &mut Vec<Option<B>>,
     edges: &mut E,
 ) -> Result<(), AllocError>
     requires sound { IsSound topology.now }
-    ensures back { OnOk result (GivesBack (sources_of (S.feeds supply.now) topology.now.stages (body_at B.look bodies.old.items)) (sinks_of (S.feeds supply.now) topology.now.stages (body_at B.look bodies.old.items))
+    ensures back { OnOk result (GivesOff (sources_of (at_paces topology.now (S.feeds supply.now)) topology.now.stages (body_at B.look bodies.old.items)) (sinks_of (at_paces topology.now (S.feeds supply.now)) topology.now.stages (body_at B.look bodies.old.items))
         (⟦<E as SeenEdges>⟧.seen edges.old) (⟦<E as SeenEdges>⟧.seen edges.new)) }
-    ensures in_part { OnErr result (IsBackInPart (S.feeds supply.now) topology.now (body_at B.look bodies.old.items) (⟦<E as SeenEdges>⟧.seen edges.old) (⟦<E as SeenEdges>⟧.seen edges.new)) }
-    ensures calm { OnOk result (AreCalm (S.feeds supply.now) topology.now.stages (body_at B.look bodies.old.items)) }
+    ensures in_part { OnErr result (IsBackInPart (at_paces topology.now (S.feeds supply.now)) topology.now (body_at B.look bodies.old.items) (⟦<E as SeenEdges>⟧.seen edges.old) (⟦<E as SeenEdges>⟧.seen edges.new)) }
+    ensures calm { OnOk result (AreCalm (at_paces topology.now (S.feeds supply.now)) topology.now.stages (body_at B.look bodies.old.items)) }
     ensures callbacks { KeepsCallbacks (body_at B.look bodies.old.items) (body_at B.look bodies.new.items) }
     ensures len { length bodies.new.items ≡ length bodies.old.items }
 {
@@ -131,7 +134,7 @@ fn give_back_stages<E: Edges, S: Supply<E>, B: Houses<S::Source, E::Sink>>(
 
 /// Gives the control source back under its name, and then the sources and sinks that stand in the bodies. Want of memory ends
 /// it, and nothing more is given back.
-pub fn give_back<E: Edges, S: Supply<E>, B: Houses<S::Source, E::Sink>>(
+pub fn give_back<E: Edges, S: Supply<E>, B: Houses<GatedSource<S::Source>, E::Sink>>(
     supply: &S,
     topology: &Topology,
     control: Option<LineSource<E::Source>>,
@@ -139,14 +142,14 @@ pub fn give_back<E: Edges, S: Supply<E>, B: Houses<S::Source, E::Sink>>(
     edges: &mut E,
 ) -> Result<(), AllocError>
     requires sound { IsSound topology.now }
-    ensures back { OnOk result (GivesBack
+    ensures back { OnOk result (GivesOff
         (named_control topology.now.control (option_map (line_seen E.Source.ByteSource) control)
-        ++ sources_of (S.feeds supply.now) topology.now.stages (body_at B.look bodies.old.items))
-        (sinks_of (S.feeds supply.now) topology.now.stages (body_at B.look bodies.old.items))
+        ++ sources_of (at_paces topology.now (S.feeds supply.now)) topology.now.stages (body_at B.look bodies.old.items))
+        (sinks_of (at_paces topology.now (S.feeds supply.now)) topology.now.stages (body_at B.look bodies.old.items))
         (⟦<E as SeenEdges>⟧.seen edges.old) (⟦<E as SeenEdges>⟧.seen edges.new)) }
-    ensures in_part { OnErr result (IsGivenInPart (S.feeds supply.now) topology.now (option_map (line_seen E.Source.ByteSource) control)
+    ensures in_part { OnErr result (IsGivenInPart (at_paces topology.now (S.feeds supply.now)) topology.now (option_map (line_seen E.Source.ByteSource) control)
         (body_at B.look bodies.old.items) (⟦<E as SeenEdges>⟧.seen edges.old) (⟦<E as SeenEdges>⟧.seen edges.new)) }
-    ensures calm { OnOk result (AreCalm (S.feeds supply.now) topology.now.stages (body_at B.look bodies.old.items)) }
+    ensures calm { OnOk result (AreCalm (at_paces topology.now (S.feeds supply.now)) topology.now.stages (body_at B.look bodies.old.items)) }
     ensures callbacks { KeepsCallbacks (body_at B.look bodies.old.items) (body_at B.look bodies.new.items) }
     ensures len { length bodies.new.items ≡ length bodies.old.items }
 {

@@ -1,4 +1,5 @@
-//! What a run opens by name, in stage order, into its bodies, and gives back.
+//! What a run opens by name, in stage order, into its bodies, and gives back. Where the topology has a rate, each producer's
+//! source stands in a gate with its share.
 //!
 //! The control source is no stage's, and is the first. A producer comes to its source by the supply of the run (`ByName`: it
 //! opens it), and a batch processor opens its sink, if it has one, in the order of the stages, and they stand in the bodies of
@@ -9,6 +10,7 @@
 
 mod back;
 mod control;
+mod gates;
 mod lines;
 mod opening;
 mod seen;

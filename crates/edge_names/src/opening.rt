@@ -1,15 +1,19 @@
 //! Opening by name, in stage order.
 
-ghost use Rattle.std.specs.Prelude.{◌≡◌, ◌==◌, ℕ, None, Some, if◌then◌else◌, length, option_map, IfOk, IfErr, OnOk, OnErr, IsSome};
+ghost use Rattle.std.specs.Prelude.{◌≡◌, ◌≤◌, ◌==◌, ℕ, None, Some, if◌then◌else◌, length, option_map, IfOk, IfErr, IfSome, OnOk, OnErr, IsSome};
 ghost use Rattle.pipe_types.specs.Sound.{IsSound};
 ghost use Rattle.stage_bodies.specs.Seen.{line_seen, body_at, with_source, with_sink};
 ghost use Rattle.edge_names.specs.Controls.{IsCutShort, IsUndone, control_call, run_calls};
 ghost use Rattle.edge_names.specs.Opened.{Asks, AreHome, AreOpened, HasSource, IfCutOff, IfFailed, IsCutOff, IsFailed, OpensOne, edge_calls};
-ghost use Rattle.edge_names.specs.Supplies.{Written, fed, supplied};
+ghost use Rattle.edge_names.specs.Gates.{IsShared};
+ghost use Rattle.edge_names.specs.Supplies.{Written, at_paces, fed, supplied};
+ghost use Rattle.pipe_types.specs.Sound.{producers as producers_of};
+ghost use Rattle.rate_gate.specs.Gate.{pace_of, moment_of, given_of};
 ghost use Rattle.edge_names.specs.Returned.{KeepsCallbacks};
 
 use crate::back::give_back;
 use crate::control::open_control;
+use crate::gates::{count_producers, gate_at, gated_lines};
 use crate::lines::copy_text;
 use crate::seen::{SeenEdges, SeenSink, open_sink};
 use crate::supply::Supply;
@@ -17,6 +21,7 @@ use pipe_edges::{ByteSink, ByteSource, EdgeEnd, Edges, LineSource};
 use pipe_types::bytes::Text;
 use pipe_types::numbers::Post;
 use pipe_types::topology::{Role, StageSpec, Topology};
+use rate_gate::{Gate, GatedSource};
 use stage_bodies::{Houses, place_of, put_back, take_out};
 use std::alloc::Global;
 
@@ -62,25 +67,34 @@ fn set_sink<S: ByteSource, K: ByteSink + Drop, B: Houses<S, K>>(
     }
 }
 
-/// Supplies a producer with its source, into the body at this place.
-fn supply_source_into<E: Edges, S: Supply<E>, B: Houses<S::Source, E::Sink>>(
+/// Supplies a producer with its source, in this gate, into the body at this place. For want of memory the source goes back, as far
+/// as there is memory for that.
+fn supply_source_into<E: Edges, S: Supply<E>, B: Houses<GatedSource<S::Source>, E::Sink>>(
     alloc: Global,
     supply: &S,
     spec: &StageSpec,
+    gate: Option<Gate>,
     at: usize,
     bodies: &mut Vec<Option<B>>,
     edges: &mut E,
 ) -> Result<(), Unopened>
-    requires home { IsSome (fed (S.feeds supply.now spec.now)) → IsSome (body_at B.look bodies.old.items at) }
-    ensures opens { OpensOne (fed (S.feeds supply.now spec.now)) at result (⟦<E as SeenEdges>⟧.seen edges.old) (⟦<E as SeenEdges>⟧.seen edges.new) (body_at B.look bodies.old.items) (body_at B.look bodies.new.items) }
+    requires begun { IfSome gate (λ g. (moment_of g ≡ 0) × (given_of g ≡ 0)) }
+    requires home { IsSome (S.feeds supply.now spec.now) → IsSome (body_at B.look bodies.old.items at) }
+    ensures opens { OpensOne (fed (option_map pace_of gate) (S.feeds supply.now spec.now)) at result (⟦<E as SeenEdges>⟧.seen edges.old) (⟦<E as SeenEdges>⟧.seen edges.new) (body_at B.look bodies.old.items) (body_at B.look bodies.new.items) }
     ensures same { OnErr result (bodies.new.items ≡ bodies.old.items) }
     ensures len { length bodies.new.items ≡ length bodies.old.items }
 {
     match supply.supply(alloc, spec, edges) {
-        Ok(Some(lines)) => {
-            set_source(bodies, at, lines);
-            Ok(())
-        }
+        Ok(Some(source)) => match gated_lines(alloc, source, gate) {
+            Ok(lines) => {
+                set_source(bodies, at, lines);
+                Ok(())
+            }
+            Err((source, _)) => {
+                let _ = supply.take_back(spec, source, edges);
+                Err(Unopened::OutOfMemory)
+            }
+        },
         Ok(None) => Ok(()),
         Err(unopened) => Err(unopened),
     }
@@ -112,22 +126,31 @@ fn open_sink_into<E: Edges, P: ByteSource, B: Houses<P, E::Sink>>(
     }
 }
 
-/// Opens what a stage has, into the body at this place.
-fn open_stage<E: Edges, S: Supply<E>, B: Houses<S::Source, E::Sink>>(
+/// Opens what a stage has, into the body at this place: a source in its gate, where the topology, which has so many producers, has a
+/// rate.
+fn open_stage<E: Edges, S: Supply<E>, B: Houses<GatedSource<S::Source>, E::Sink>>(
     alloc: Global,
     supply: &S,
+    topology: &Topology,
+    producers: u32,
     spec: &StageSpec,
     at: usize,
     bodies: &mut Vec<Option<B>>,
     edges: &mut E,
 ) -> Result<(), Unopened>
-    requires home { IsSome (supplied (S.feeds supply.now) spec.now) → IsSome (body_at B.look bodies.old.items at) }
-    ensures opens { OpensOne (supplied (S.feeds supply.now) spec.now) at result (⟦<E as SeenEdges>⟧.seen edges.old) (⟦<E as SeenEdges>⟧.seen edges.new) (body_at B.look bodies.old.items) (body_at B.look bodies.new.items) }
+    requires counted { producers ≡ length (producers_of topology.now.stages) }
+    requires some { 1 ≤ producers }
+    requires shared { IfSome topology.now.rate (IsShared producers) }
+    requires home { IsSome (supplied (at_paces topology.now (S.feeds supply.now)) spec.now) → IsSome (body_at B.look bodies.old.items at) }
+    ensures opens { OpensOne (supplied (at_paces topology.now (S.feeds supply.now)) spec.now) at result (⟦<E as SeenEdges>⟧.seen edges.old) (⟦<E as SeenEdges>⟧.seen edges.new) (body_at B.look bodies.old.items) (body_at B.look bodies.new.items) }
     ensures same { OnErr result (bodies.new.items ≡ bodies.old.items) }
     ensures len { length bodies.new.items ≡ length bodies.old.items }
 {
     match spec.role {
-        Role::Producer => supply_source_into(alloc, supply, spec, at, bodies, edges),
+        Role::Producer => {
+            let gate = gate_at(&topology.rate, producers, spec.index);
+            supply_source_into(alloc, supply, spec, gate, at, bodies, edges)
+        }
         Role::BatchProcessor => match &spec.edge {
             Some(name) => open_sink_into(alloc, name, at, bodies, edges),
             None => Ok(()),
@@ -136,9 +159,9 @@ fn open_stage<E: Edges, S: Supply<E>, B: Houses<S::Source, E::Sink>>(
     }
 }
 
-/// Supplies the producers with their sources and opens the sinks of the batch processors, in stage order, into their bodies. After a
+/// Supplies the producers with their sources, each in its gate where there is a rate, and opens the sinks of the batch processors, in stage order, into their bodies. After a
 /// failure what was opened before it stands in the bodies.
-fn open_stages<E: Edges, S: Supply<E>, B: Houses<S::Source, E::Sink>>(
+fn open_stages<E: Edges, S: Supply<E>, B: Houses<GatedSource<S::Source>, E::Sink>>(
     alloc: Global,
     supply: &S,
     topology: &Topology,
@@ -146,20 +169,21 @@ fn open_stages<E: Edges, S: Supply<E>, B: Houses<S::Source, E::Sink>>(
     edges: &mut E,
 ) -> Result<(), Unopened>
     requires sound { IsSound topology.now }
-    requires home { AreHome (S.feeds supply.now) topology.now (body_at B.look bodies.old.items) }
-    ensures asks { OnOk result (Asks (edge_calls (S.feeds supply.now) topology.now) (⟦<E as SeenEdges>⟧.seen edges.old) (⟦<E as SeenEdges>⟧.seen edges.new)) }
-    ensures opened { OnOk result (AreOpened (S.feeds supply.now) topology.now (length topology.now.stages) (⟦<E as SeenEdges>⟧.seen edges.old) (body_at B.look bodies.old.items) (body_at B.look bodies.new.items)) }
-    ensures failed { IfErr result (λ e. IfFailed e (λ name. IsFailed (S.feeds supply.now) topology.now name (⟦<E as SeenEdges>⟧.seen edges.old) (⟦<E as SeenEdges>⟧.seen edges.new) (body_at B.look bodies.old.items) (body_at B.look bodies.new.items))) }
-    ensures cut_off { IfErr result (λ e. IfCutOff e (IsCutOff (S.feeds supply.now) topology.now (⟦<E as SeenEdges>⟧.seen edges.old) (⟦<E as SeenEdges>⟧.seen edges.new) (body_at B.look bodies.old.items) (body_at B.look bodies.new.items))) }
+    requires home { AreHome (at_paces topology.now (S.feeds supply.now)) topology.now (body_at B.look bodies.old.items) }
+    ensures asks { OnOk result (Asks (edge_calls (at_paces topology.now (S.feeds supply.now)) topology.now) (⟦<E as SeenEdges>⟧.seen edges.old) (⟦<E as SeenEdges>⟧.seen edges.new)) }
+    ensures opened { OnOk result (AreOpened (at_paces topology.now (S.feeds supply.now)) topology.now (length topology.now.stages) (⟦<E as SeenEdges>⟧.seen edges.old) (body_at B.look bodies.old.items) (body_at B.look bodies.new.items)) }
+    ensures failed { IfErr result (λ e. IfFailed e (λ name. IsFailed (at_paces topology.now (S.feeds supply.now)) topology.now name (⟦<E as SeenEdges>⟧.seen edges.old) (⟦<E as SeenEdges>⟧.seen edges.new) (body_at B.look bodies.old.items) (body_at B.look bodies.new.items))) }
+    ensures cut_off { IfErr result (λ e. IfCutOff e (IsCutOff (at_paces topology.now (S.feeds supply.now)) topology.now (⟦<E as SeenEdges>⟧.seen edges.old) (⟦<E as SeenEdges>⟧.seen edges.new) (body_at B.look bodies.old.items) (body_at B.look bodies.new.items))) }
     ensures len { length bodies.new.items ≡ length bodies.old.items }
     ensures callbacks { KeepsCallbacks (body_at B.look bodies.old.items) (body_at B.look bodies.new.items) }
 {
+    let producers = count_producers(topology);
     for spec in topology.stages.as_slice() {
         let at = place_of(Post {
             stage: spec.no,
             slot: 0,
         });
-        match open_stage(alloc, supply, spec, at, bodies, edges) {
+        match open_stage(alloc, supply, topology, producers, spec, at, bodies, edges) {
             Ok(()) => {}
             Err(unopened) => return Err(unopened),
         }
@@ -169,7 +193,7 @@ fn open_stages<E: Edges, S: Supply<E>, B: Houses<S::Source, E::Sink>>(
 
 /// Opens the control source, and then what the stages name; or gives back what was opened before a call failed, the control
 /// source first. Where giving back finds no memory, or opening did, some of what was opened may still stand in the bodies.
-pub fn open_or_give_back<E: Edges, S: Supply<E>, B: Houses<S::Source, E::Sink>>(
+pub fn open_or_give_back<E: Edges, S: Supply<E>, B: Houses<GatedSource<S::Source>, E::Sink>>(
     alloc: Global,
     supply: &S,
     topology: &Topology,
@@ -177,13 +201,13 @@ pub fn open_or_give_back<E: Edges, S: Supply<E>, B: Houses<S::Source, E::Sink>>(
     edges: &mut E,
 ) -> Result<Option<LineSource<E::Source>>, Unopened>
     requires sound { IsSound topology.now }
-    requires home { AreHome (S.feeds supply.now) topology.now (body_at B.look bodies.old.items) }
-    ensures asks { OnOk result (Asks (run_calls (S.feeds supply.now) topology.now) (⟦<E as SeenEdges>⟧.seen edges.old) (⟦<E as SeenEdges>⟧.seen edges.new)) }
+    requires home { AreHome (at_paces topology.now (S.feeds supply.now)) topology.now (body_at B.look bodies.old.items) }
+    ensures asks { OnOk result (Asks (run_calls (at_paces topology.now (S.feeds supply.now)) topology.now) (⟦<E as SeenEdges>⟧.seen edges.old) (⟦<E as SeenEdges>⟧.seen edges.new)) }
     ensures control { IfOk result (λ control. HasSource (⟦<E as SeenEdges>⟧.seen edges.old) (control_call topology.now.control) None
         (option_map (line_seen E.Source.ByteSource) control)) }
-    ensures opened { OnOk result (AreOpened (S.feeds supply.now) topology.now (length topology.now.stages) (⟦<E as SeenEdges>⟧.seen edges.old) (body_at B.look bodies.old.items) (body_at B.look bodies.new.items)) }
-    ensures undone { IfErr result (λ e. IfFailed e (λ name. IsUndone (S.feeds supply.now) topology.now name (body_at B.look bodies.old.items) (⟦<E as SeenEdges>⟧.seen edges.old) (⟦<E as SeenEdges>⟧.seen edges.new))) }
-    ensures in_part { IfErr result (λ e. IfCutOff e (IsCutShort (S.feeds supply.now) topology.now (body_at B.look bodies.old.items) (⟦<E as SeenEdges>⟧.seen edges.old) (⟦<E as SeenEdges>⟧.seen edges.new))) }
+    ensures opened { OnOk result (AreOpened (at_paces topology.now (S.feeds supply.now)) topology.now (length topology.now.stages) (⟦<E as SeenEdges>⟧.seen edges.old) (body_at B.look bodies.old.items) (body_at B.look bodies.new.items)) }
+    ensures undone { IfErr result (λ e. IfFailed e (λ name. IsUndone (at_paces topology.now (S.feeds supply.now)) topology.now name (body_at B.look bodies.old.items) (⟦<E as SeenEdges>⟧.seen edges.old) (⟦<E as SeenEdges>⟧.seen edges.new))) }
+    ensures in_part { IfErr result (λ e. IfCutOff e (IsCutShort (at_paces topology.now (S.feeds supply.now)) topology.now (body_at B.look bodies.old.items) (⟦<E as SeenEdges>⟧.seen edges.old) (⟦<E as SeenEdges>⟧.seen edges.new))) }
     ensures len { length bodies.new.items ≡ length bodies.old.items }
     ensures callbacks { KeepsCallbacks (body_at B.look bodies.old.items) (body_at B.look bodies.new.items) }
 {

@@ -7,22 +7,23 @@ use Rattle.std.proofs.lemmas.List.Elements.{recursion_from_All}
 use Rattle.pipe_types.specs.declared.step.Step.{Step}
 use Rattle.pipe_types.specs.declared.topology.Topology.{Topology}
 use Rattle.pipe_types.specs.Sound.{IsSound}
-use Rattle.pipe_model.specs.History.{History, incarnation}
+use Rattle.pipe_model.specs.History.{History, incarnation, now as time}
 use Rattle.pipe_model.specs.Lives.{is_live}
 use Rattle.pipe_model.specs.Posts.{puts_out, answers, is_out, out_from}
-use Rattle.pipe_model.specs.Legal.{is_legal, allows, owed, happened, is_halt}
+use Rattle.pipe_model.specs.Legal.{is_legal, allows, owed, happened, is_halt, has_role, is_producer_role}
 use Rattle.pipe_laws.proofs.Tests.{clash, and_left, and_right, both}
 use Rattle.pipe_laws.proofs.Allowed.{legal_before}
 use Rattle.pipe_laws.proofs.Ends.{halted_dead}
 use Rattle.stage_bodies.specs.Seen.{BodySeen}
 use Rattle.stage_bodies.specs.Jobs.{Both, IsDone, IsCutOff}
+use Rattle.stage_bodies.specs.Moments.{told_for}
 use Rattle.stage_bodies.specs.Posts.{place_at, IsJobOf, step_of, brings_records}
 use Rattle.stage_bodies.specs.declared.job.Answer.{Answer}
 use Rattle.stage_bodies.specs.declared.job.Job.{Job}
 use Rattle.stage_bodies.specs.declared.job.Outcome.{Outcome as Came}
 use Rattle.body_laws.specs.Keeps.{KeepsBody, Keeps}
 use Rattle.body_laws.specs.Lates.{late_step}
-use Rattle.body_laws.specs.Ready.{There, IsBodyAt, Ready}
+use Rattle.body_laws.specs.Ready.{There, IsBodyAt, Ready, WasTold}
 use Rattle.body_laws.proofs.Posts.{out_has_post}
 use Rattle.body_laws.proofs.Steps.{Stays, stays, current_out}
 use Rattle.body_laws.proofs.Staying.{both_map, body_stays, ready_stays, keeps_back, ready_back}
@@ -33,26 +34,32 @@ use Rattle.body_laws.proofs.Allowed.{answer_allowed}
 use Rattle.job_laws.specs.Away.{IsAway, is_from_live, AreElsewhere, IsAnswerTo}
 use Rattle.job_laws.proofs.Outs.{put_out_once, stays_out, from_stays, no_restart, from_present}
 use Rattle.job_laws.proofs.Works.{work_stays}
+use Rattle.job_laws.proofs.Telling.{fetch_moment, kept_told, ready_told, still_told, was_told}
 use Rattle.job_laws.proofs.Lates.{late_allowed}
 
 -- ---- a job leaves
 
-pub out_away : (topology : Topology) (before : History) (opened : Option BodySeen) (job : Job) (body : BodySeen) → IsJobOf topology before job → IsBodyAt topology before job.post body → Both (KeepsBody topology before job.post) opened (Some body) → IsAway topology before opened job body
-out_away topology before opened job body is fit kept = record {
+pub out_away : (topology : Topology) (before : History) (opened : Option BodySeen) (job : Job) (body : BodySeen) → IsJobOf topology before job → IsBodyAt topology before job.post body → Both (KeepsBody topology before job.post) opened (Some body) → WasTold before job.post.stage job.work body → IsAway topology before opened job body
+out_away topology before opened job body is fit kept told = record {
   out = current_out before job.post.stage job.post.slot is.out.current;
   from = eqb-true (out_from before job.post) (incarnation before job.post.stage) (and_right (is_out before job.post) _ is.out.current) ∙ sym is.incarnation;
   slot = is.out.slot;
   work = is.work;
   ready = fit;
   kept = kept;
+  told = told;
 }
 
 pub leaves : (topology : Topology) (before : History) (step : Step) (job : Job) (body : BodySeen) (opened now : ℕ → Option BodySeen) → IsSound topology → is_legal topology (step ∷ before) ≡ true → puts_out step job.post ≡ true → IsJobOf topology (step ∷ before) job
-    → now (place_at job.post) ≡ Some body → Keeps topology before opened now → Ready topology before now → IsAway topology (step ∷ before) (opened (place_at job.post)) job body
+    → now (place_at job.post) ≡ Some body → Keeps topology before opened now → Ready topology before now → IsAway topology (step ∷ before) (opened (place_at job.post)) job (told_for job.work (time (step ∷ before)) body)
 leaves topology before step job body opened now sound legal put is there keeps ready =
-    out_away topology (step ∷ before) (opened (place_at job.post)) job body is
-    (subst (λ x. There x (IsBodyAt topology (step ∷ before) job.post)) there (begun_ready topology before step job.post now sound legal put ready))
-    (subst (λ x. Both (KeepsBody topology (step ∷ before) job.post) (opened (place_at job.post)) x) there (begun_keeps topology before step job.post opened now sound legal put keeps))
+    let after = step ∷ before in
+    let moment = λ (role : has_role topology job.post.stage is_producer_role ≡ true). fetch_moment topology before step job.post legal put role in
+    out_away topology after (opened (place_at job.post)) job (told_for job.work (time after) body) is
+    (ready_told topology after job.post job.work (time after) body (subst (λ x. There x (IsBodyAt topology after job.post)) there (begun_ready topology before step job.post now sound legal put ready)))
+    (kept_told topology after job.post job.work (time after) (opened (place_at job.post)) body is.work moment
+    (subst (λ x. Both (KeepsBody topology after job.post) (opened (place_at job.post)) x) there (begun_keeps topology before step job.post opened now sound legal put keeps)))
+    (was_told topology after job.post job.work (time after) body is.work moment)
 
 -- ---- it stays away
 
@@ -64,6 +71,7 @@ away_stays topology before step opened job body sound legal unanswered away = re
   work = work_stays topology before step job.post job.work sound legal away.out unanswered away.work;
   ready = ready_stays topology before step job.post body st away.ready;
   kept = both_map (λ a b k. body_stays topology before step job.post a b st k) opened (Some body) away.kept;
+  told = still_told topology before step job.post job.work body (put_out_once topology before step job.post legal away.out) away.work away.told;
 }
   where
     st : Stays topology before step job.post
@@ -131,7 +139,7 @@ late_recorded topology before opened job answer old new sound legal calm away go
 pub live_home : (topology : Topology) (before : History) (job : Job) (answer : Answer) (old new : BodySeen) (opened now after : ℕ → Option BodySeen) → IsSound topology → is_legal topology (step_of answer.post answer.outcome ∷ before) ≡ true → IsAway topology before (opened (place_at job.post)) job old
     → is_from_live topology before job ≡ true → IsAnswerTo job answer → IsDone job.work answer.outcome old new → ((s : ℕ) → after s ≡ (if place_at job.post == s then Some new else now s)) → Keeps topology before opened now → Keeps topology (step_of answer.post answer.outcome ∷ before) opened after
 live_home topology before job answer old new opened now after sound legal away from to done moved keeps =
-    answer_keeps topology before job answer old new opened now after sound legal (live_out topology before (opened (place_at job.post)) job old (legal_before topology before (step_of answer.post answer.outcome) legal) away from) to.post away.ready done away.kept moved keeps
+    answer_keeps topology before job answer old new opened now after sound legal (live_out topology before (opened (place_at job.post)) job old (legal_before topology before (step_of answer.post answer.outcome) legal) away from) to.post away.ready away.told done away.kept moved keeps
 
 pub live_home_ready : (topology : Topology) (before : History) (opened : Option BodySeen) (job : Job) (answer : Answer) (old new : BodySeen) (now after : ℕ → Option BodySeen) → IsSound topology → is_legal topology (step_of answer.post answer.outcome ∷ before) ≡ true → IsAway topology before opened job old
     → is_from_live topology before job ≡ true → IsAnswerTo job answer → IsDone job.work answer.outcome old new → ((s : ℕ) → after s ≡ (if place_at job.post == s then Some new else now s)) → Ready topology before now → Ready topology (step_of answer.post answer.outcome ∷ before) after
@@ -142,7 +150,7 @@ pub late_home : (topology : Topology) (before : History) (job : Job) (answer : A
     → IsAnswerTo job answer → IsDone job.work answer.outcome old new → ((s : ℕ) → after s ≡ (if place_at job.post == s then Some new else now s)) → Keeps topology before opened now → Keeps topology (late_step answer.post answer.incarnation answer.outcome ∷ before) opened after
 late_home topology before job answer old new opened now after sound legal away to done moved keeps =
     as_late (λ step. Keeps topology (step ∷ before) opened after) job answer to
-    (late_keeps topology before job.post job.work job.incarnation answer.outcome old new opened now after sound (from_late (λ step. is_legal topology (step ∷ before) ≡ true) job answer to legal) away.work away.ready done away.kept moved keeps)
+    (late_keeps topology before job.post job.work job.incarnation answer.outcome old new opened now after sound (from_late (λ step. is_legal topology (step ∷ before) ≡ true) job answer to legal) away.work away.ready away.told done away.kept moved keeps)
 
 pub late_home_ready : (topology : Topology) (before : History) (opened : Option BodySeen) (job : Job) (answer : Answer) (old new : BodySeen) (now after : ℕ → Option BodySeen) → IsSound topology → is_legal topology (late_step answer.post answer.incarnation answer.outcome ∷ before) ≡ true → IsAway topology before opened job old
     → IsAnswerTo job answer → IsDone job.work answer.outcome old new → ((s : ℕ) → after s ≡ (if place_at job.post == s then Some new else now s)) → Ready topology before now → Ready topology (late_step answer.post answer.incarnation answer.outcome ∷ before) after

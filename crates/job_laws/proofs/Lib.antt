@@ -4,5 +4,6 @@ pub mod Batches
 pub mod Taken
 pub mod Works
 pub mod Lates
+pub mod Telling
 pub mod Away
 pub mod Others

@@ -12,10 +12,10 @@ use Rattle.stage_bodies.specs.Posts.{IsWorkOf}
 use Rattle.stage_bodies.specs.declared.job.Answer.{Answer}
 use Rattle.stage_bodies.specs.declared.job.Job.{Job}
 use Rattle.body_laws.specs.Keeps.{KeepsBody}
-use Rattle.body_laws.specs.Ready.{IsBodyAt}
+use Rattle.body_laws.specs.Ready.{IsBodyAt, WasTold}
 
 -- the job is out and its work is what the journal says; the body that left with it holds what the job needs, and stands where
--- the journal leaves it
+-- the journal leaves it; the source of a fetch was told its moment
 pub record IsAway (topology : Topology) (before : History) (opened : Option BodySeen) (job : Job) (body : BodySeen) : Type 0 where
   pub out : is_out before job.post ≡ true
   pub from : out_from before job.post ≡ job.incarnation
@@ -23,6 +23,7 @@ pub record IsAway (topology : Topology) (before : History) (opened : Option Body
   pub work : IsWorkOf topology before job.post job.work
   pub ready : IsBodyAt topology before job.post body
   pub kept : Both (KeepsBody topology before job.post) opened (Some body)
+  pub told : WasTold before job.post.stage job.work body
 
 -- the incarnation that the job left from is live
 abbrev pub is_from_live : Topology → History → Job → Bool

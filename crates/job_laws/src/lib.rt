@@ -11,7 +11,7 @@ ghost use Rattle.pipe_types.specs.declared.numbers.Post.{Post};
 ghost use Rattle.pipe_types.specs.declared.step.Step.{Step};
 ghost use Rattle.pipe_types.specs.declared.topology.Topology.{Topology};
 ghost use Rattle.pipe_types.specs.Sound.{IsSound};
-ghost use Rattle.pipe_model.specs.History.{History, incarnation};
+ghost use Rattle.pipe_model.specs.History.{History, incarnation, now as now_of};
 ghost use Rattle.pipe_model.specs.Legal.{is_legal, allows, owed};
 ghost use Rattle.pipe_model.specs.Posts.{answers, puts_out};
 ghost use Rattle.stage_bodies.specs.Seen.{BodySeen};
@@ -22,15 +22,16 @@ ghost use Rattle.stage_bodies.specs.declared.job.Job.{Job};
 ghost use Rattle.stage_bodies.specs.declared.job.Outcome.{Outcome as Came};
 ghost use Rattle.body_laws.specs.Keeps.{is_silent, KeepsBody, Keeps};
 ghost use Rattle.body_laws.specs.Lates.{late_step};
-ghost use Rattle.body_laws.specs.Ready.{IsBodyAt, Ready};
+ghost use Rattle.body_laws.specs.Ready.{IsBodyAt, Ready, WasTold};
+ghost use Rattle.stage_bodies.specs.Moments.{told_for};
 ghost use Rattle.job_laws.specs.Away.{IsAway, is_from_live, AreElsewhere, IsAnswerTo};
 
-/// A job leaves with its body after the step that puts its post out.
+/// A job leaves with its body after the step that puts its post out; for a fetch its source is told the moment.
 pub fn jobs_leave_with_their_bodies()
     ensures { (topology : Topology) (before : History) (step : Step) (job : Job) (body : BodySeen) (opened now : ℕ → Option BodySeen) →
         IsSound topology → IsTrue (is_legal topology (step ∷ before)) → puts_out step job.post ≡ true → IsJobOf topology (step ∷ before) job →
         now (place_at job.post) ≡ Some body → Keeps topology before opened now → Ready topology before now →
-        IsAway topology (step ∷ before) (opened (place_at job.post)) job body }
+        IsAway topology (step ∷ before) (opened (place_at job.post)) job (told_for job.work (now_of (step ∷ before)) body) }
 {}
 
 /// So is a job away that is out now, with a body that stands where the journal leaves it and holds what the job needs.
@@ -38,7 +39,7 @@ pub fn jobs_leave_with_their_bodies()
 pub fn jobs_out_are_away()
     ensures { (topology : Topology) (before : History) (opened : Option BodySeen) (job : Job) (body : BodySeen) →
         IsJobOf topology before job → IsBodyAt topology before job.post body → Both (KeepsBody topology before job.post) opened (Some body) →
-        IsAway topology before opened job body }
+        WasTold before job.post.stage job.work body → IsAway topology before opened job body }
 {}
 
 /// A step that does not answer the job changes nothing of it: not its work, nor what the journal says of its body.

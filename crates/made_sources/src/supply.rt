@@ -1,15 +1,15 @@
 //! The supply of a run over generated records.
 
 ghost use Rattle.std.specs.Prelude.{◌≡◌, ◌≤◌, IfOk};
-ghost use Rattle.stage_bodies.specs.Seen.{line_seen};
-ghost use Rattle.edge_names.specs.Opened.{GivesMade};
+ghost use Rattle.stage_bodies.specs.Seen.{source_seen};
+ghost use Rattle.edge_names.specs.Supplies.{IsMade};
 ghost use Rattle.pipe_edges.specs.Texts.{ended};
 ghost use Rattle.made_sources.specs.Records.{records_made};
 
 use crate::records::made_source;
 use crate::source::MadeSource;
 use edge_names::{Supply, Unopened};
-use pipe_edges::{ByteSource, Edges, LineSource};
+use pipe_edges::{ByteSource, Edges};
 use pipe_types::topology::StageSpec;
 use std::alloc::{AllocError, Global};
 
@@ -39,15 +39,11 @@ impl Made {
         }
     }
 
-    /// The records of the producer at this place, from 0, as lines of which none was read.
-    fn lines_at(&self, alloc: Global, place: u32) -> Result<LineSource<MadeSource>, AllocError>
-        ensures { IfOk result (λ lines. GivesMade (ended (records_made (seed_of self.now) (producers_of self.now) place (count_of self.now))) (line_seen ⟦<MadeSource as ByteSource>⟧ lines)) }
+    /// The records of the producer at this place, from 0, of which none was read.
+    fn source_at(&self, alloc: Global, place: u32) -> Result<MadeSource, AllocError>
+        ensures { IfOk result (λ source. IsMade (ended (records_made (seed_of self.now) (producers_of self.now) place (count_of self.now))) (source_seen ⟦<MadeSource as ByteSource>⟧ source)) }
     {
-        let source = made_source(alloc, self.seed, self.count, self.producers, place)?;
-        match LineSource::new(alloc, source) {
-            Ok(lines) => Ok(lines),
-            Err((_, error)) => Err(error),
-        }
+        made_source(alloc, self.seed, self.count, self.producers, place)
     }
 }
 
@@ -64,10 +60,10 @@ impl<E: Edges> Supply<E> for Made {
         alloc: Global,
         spec: &StageSpec,
         edges: &mut E,
-    ) -> Result<Option<LineSource<MadeSource>>, Unopened> {
+    ) -> Result<Option<MadeSource>, Unopened> {
         let _ = edges;
-        match self.lines_at(alloc, u32::from(spec.no.0).saturating_sub(1)) {
-            Ok(lines) => Ok(Some(lines)),
+        match self.source_at(alloc, u32::from(spec.no.0).saturating_sub(1)) {
+            Ok(source) => Ok(Some(source)),
             Err(AllocError) => Err(Unopened::OutOfMemory),
         }
     }

@@ -8,6 +8,7 @@ use Rattle.pipe_types.specs.declared.topology.Topology.{Topology}
 use Rattle.pipe_types.specs.Stages.{spec_of}
 use Rattle.pipe_model.specs.History.{History}
 use Rattle.pipe_model.specs.Outside.{fed}
+use Rattle.pipe_edges.specs.Paces.{Pace}
 use Rattle.pipe_edges.specs.declared.edges.EdgeKind.{EdgeKind}
 use Rattle.pipe_edges.specs.declared.edges.EdgeKind.TheVariants.{File, Source}
 use Rattle.program_words.specs.Words.{Command, command_of}
@@ -19,13 +20,13 @@ use Rattle.stage_bodies.specs.Seen.{SinkSeen, BoxSeen}
 use Rattle.source_lines.specs.Cut.{AreFirstLines}
 use Rattle.body_laws.specs.Ready.{There}
 use Rattle.edge_names.specs.Seen.{EdgesSeen}
-use Rattle.edge_names.specs.Supplies.{Opened, Fed, by_name, supplied}
+use Rattle.edge_names.specs.Supplies.{Feeds, Opened, Fed, supplied}
 use Rattle.edge_names.specs.Opened.{call_in, supplied_in}
 use Rattle.edge_names.proofs.Openings.{call_opens_source}
 use Rattle.pipe_config.specs.File.{topology_of_file}
 use Rattle.pipe_top.specs.Boxes.{AreBoxesLeft}
-use Rattle.pipe_top.specs.Outside.{IsOutside, IsSourceRead}
-use Rattle.pipe_top.specs.Cases.{Case, Named, Runs, InCase, IsNamedFile, calls_of, case_of, file_name, for_topology, run_case, unless_short}
+use Rattle.pipe_top.specs.Outside.{IsFedRead, IsOutside}
+use Rattle.pipe_top.specs.Cases.{Case, Named, Runs, InCase, IsNamedFile, calls_of, case_of, feeds_of, file_name, for_topology, run_case, unless_short}
 use Rattle.pipe_top.specs.Runs.{OutsideSeen, IsCall, IsEndOf, IsOutsideOf}
 use Rattle.own_callback.specs.Came.{run_words, case_of_file}
 use Rattle.own_callback.proofs.Commanded.{run_command, run_words_run}
@@ -47,7 +48,7 @@ written_first held held' text e adds = adds ∙ ap (λ (h : List ℕ). h ++ text
 
 -- what a whole run left of its outside
 pub record IsUsedWhole (topology : Topology) (before : History) (old new : OutsideSeen) : Type 0 where
-  pub outside : IsOutside by_name true topology before old.edges new.edges
+  pub outside : IsOutside (feeds_of Named topology) true topology before old.edges new.edges
   pub boxes : AreBoxesLeft true topology before old.boxes new.boxes
 
 got : Topology → Option Topology → Topology
@@ -58,7 +59,7 @@ abbrev shown_run : Topology → Case
 shown_run topology = Runs (record { steps = true; acks = true }) Named topology
 
 module _ (before : History) (status : ℕ) (calls : List (EdgeKind × List ℕ)) (old new : OutsideSeen) where
-  whole : (topology : Topology) (b : Bool) → (b ≡ false → status ≡ 9) → status ≤ 4 → IsOutside by_name b topology before old.edges new.edges → AreBoxesLeft b topology before old.boxes new.boxes
+  whole : (topology : Topology) (b : Bool) → (b ≡ false → status ≡ 9) → status ≤ 4 → IsOutside (feeds_of Named topology) b topology before old.edges new.edges → AreBoxesLeft b topology before old.boxes new.boxes
       → IsUsedWhole topology before old new
   whole topology true wanting low outside boxes = record { outside = outside; boxes = boxes }
   whole topology false wanting low outside boxes = let nine : status ≡ 9 = wanting refl in absurd (omega (arith, low, nine))
@@ -103,15 +104,17 @@ there (Some x) P Q t f = f x t
 there None P Q t f = absurd t
 
 -- a stage that makes this call is supplied with what it opens
-opens : (o : Option StageSpec) (name : List ℕ) → call_in by_name o ≡ Some (Source, name) → supplied_in by_name o ≡ Some (Fed (Opened name))
-opens (Some spec) name call = call_opens_source (supplied by_name spec) name call
-opens None name call = cc
+opens : (feeds : Feeds) (o : Option StageSpec) (name : List ℕ) → call_in feeds o ≡ Some (Source, name) → (pace : Option Pace) × (supplied_in feeds o ≡ Some (Fed pace (Opened name)))
+opens feeds (Some spec) name call = call_opens_source (supplied feeds spec) name call
+opens feeds None name call = cc
 
 -- it accepted the first of the lines that stand under the name of its source
-first_lines : (topology : Topology) (before : History) (old new : EdgesSeen) (name bytes : List ℕ) (p : StageNo) → IsOutside by_name true topology before old new → IsTrue old.told → old.named Source name ≡ bytes
-    → call_in by_name (spec_of topology p) ≡ Some (Source, name) → AreFirstLines bytes (fed before p)
+first_lines : (topology : Topology) (before : History) (old new : EdgesSeen) (name bytes : List ℕ) (p : StageNo) → IsOutside (feeds_of Named topology) true topology before old new → IsTrue old.told → old.named Source name ≡ bytes
+    → call_in (feeds_of Named topology) (spec_of topology p) ≡ Some (Source, name) → AreFirstLines bytes (fed before p)
 first_lines topology before old new name bytes p outside told stands call =
-    there _ (IsSourceRead old before p name) (AreFirstLines bytes (fed before p)) (outside.used.sources p (Opened name) (opens (spec_of topology p) name call)) (λ source read.
+    let supply = opens (feeds_of Named topology) (spec_of topology p) name call in
+    there _ (IsFedRead true old before p supply.0 (Opened name)) (AreFirstLines bytes (fed before p)) (outside.used.sources p supply.0 (Opened name) supply.1) (λ source fed_so.
+    let read = fed_so.read in
     let gave = read.given.given told in
     let same : source.taken ++ source.left ≡ bytes = read.same_bytes gave.0 ∙ (gave.1 ∙ stands) in
     subst (λ (b : List ℕ). AreFirstLines b (fed before p)) same (read.reads.in_order (read.same_telling ∙ gave.0)))
@@ -119,7 +122,7 @@ first_lines topology before old new name bytes p outside told stands call =
 -- what a whole run read, and how it left the one box
 pub accepted : (topology : Option Topology) (before : History) (old new : OutsideSeen) (name bytes : List ℕ)
     → IfSome topology (λ t. IsUsedWhole t before old new) → IsTrue old.edges.told → old.edges.named Source name ≡ bytes
-    → IfSome topology (λ t. (p : StageNo) → call_in by_name (spec_of t p) ≡ Some (Source, name) → AreFirstLines bytes (fed before p))
+    → IfSome topology (λ t. (p : StageNo) → call_in (feeds_of Named t) (spec_of t p) ≡ Some (Source, name) → AreFirstLines bytes (fed before p))
 accepted None before old new name bytes whole told stands = tt
 accepted (Some t) before old new name bytes whole told stands = λ p call. first_lines t before old.edges new.edges name bytes p whole.outside told stands call
 

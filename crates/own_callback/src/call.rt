@@ -9,10 +9,10 @@ ghost use Rattle.pipe_edges.specs.declared.edges.EdgeKind.{EdgeKind};
 ghost use Rattle.mem_edges.specs.MemEdges.{named_in};
 ghost use Rattle.mem_edges.specs.MemSink.{held_by, IsUnwritten};
 ghost use Rattle.source_lines.specs.Cut.{AreFirstLines};
-ghost use Rattle.edge_names.specs.Supplies.{by_name};
 ghost use Rattle.edge_names.specs.Opened.{call_in};
 ghost use Rattle.box_stock.specs.Lends.{kinds_of};
 ghost use Rattle.pipe_top.specs.Boxes.{AreBoxesLeft};
+ghost use Rattle.pipe_top.specs.Cases.{Named, feeds_of};
 ghost use Rattle.pipe_top.specs.Runs.{IsRunOrNone, IsEndOf, IsStatusOf, out_text};
 ghost use Rattle.own_callback.specs.Came.{run_words, case_of_file};
 ghost use Rattle.own_callback.specs.Plain.{WritesPlainText};
@@ -24,6 +24,7 @@ use pipe_journal::Journal;
 use pipe_top::run_program;
 use pipe_types::bytes::{Bytes, Text};
 use pipe_types::topology::Topology;
+use rate_gate::GatedSource;
 use stage_bodies::Houses;
 use std::alloc::{AllocError, Global};
 use std::sync::Wait;
@@ -48,8 +49,8 @@ pub struct Came<C> {
 pub fn run_with<
     R: Threads + Wait + Sync,
     C: Boxed,
-    B: Carries<C> + Houses<MemSource, MemSink> + Send,
-    G: Carries<C> + Houses<MadeSource, MemSink> + Send,
+    B: Carries<C> + Houses<GatedSource<MemSource>, MemSink> + Send,
+    G: Carries<C> + Houses<GatedSource<MadeSource>, MemSink> + Send,
 >(
     rt: &R,
     alloc: Global,
@@ -72,7 +73,7 @@ pub fn run_with<
         → held_by came.out ≡ out_text came.journal.steps (case_of_file (kinds_of C.seen stock.items) file.now)) }
     // What a producer of these lines accepted are the first of them.
     ensures lines { IfOk result (λ came. came.status ≤ 4 → IfSome came.topology (λ topology. (p : StageNo)
-        → call_in by_name (spec_of topology p) ≡ Some (EdgeKind.Source, codes "mem:a") → AreFirstLines lines.now (fed came.journal.steps p))) }
+        → call_in (feeds_of Named topology) (spec_of topology p) ≡ Some (EdgeKind.Source, codes "mem:a") → AreFirstLines lines.now (fed came.journal.steps p))) }
     // The callbacks, in their order, counted each call, and each answer other than success, that the journal says of their posts.
     ensures counted { IfOk result (λ came. came.status ≤ 4 → IfSome came.topology (λ topology.
         AreBoxesLeft true topology came.journal.steps (map C.seen stock.items)
@@ -161,8 +162,8 @@ pub(crate) fn bytes(alloc: Global, text: &str) -> Result<Bytes, AllocError>
 pub fn run_plain<
     R: Threads + Wait + Sync,
     C: Boxed,
-    B: Carries<C> + Houses<MemSource, MemSink> + Send,
-    G: Carries<C> + Houses<MadeSource, MemSink> + Send,
+    B: Carries<C> + Houses<GatedSource<MemSource>, MemSink> + Send,
+    G: Carries<C> + Houses<GatedSource<MadeSource>, MemSink> + Send,
 >(
     rt: &R,
     alloc: Global,

@@ -13,6 +13,7 @@ use pipe_journal::Journal;
 use pipe_top::run_program;
 use pipe_types::bytes::Bytes;
 use pipe_types::topology::Topology;
+use rate_gate::GatedSource;
 use stage_bodies::Houses;
 use std::alloc::{AllocError, Global};
 use std::sync::Wait;
@@ -38,8 +39,8 @@ pub struct LinesEnd<C> {
 pub fn run_lines<
     R: Threads + Wait + Sync,
     C: Boxed,
-    B: Carries<C> + Houses<MemSource, MemSink> + Send,
-    G: Carries<C> + Houses<MadeSource, MemSink> + Send,
+    B: Carries<C> + Houses<GatedSource<MemSource>, MemSink> + Send,
+    G: Carries<C> + Houses<GatedSource<MadeSource>, MemSink> + Send,
 >(rt: &R, alloc: Global, file: &str, lines: &str, stock: Vec<C>) -> Result<LinesEnd<C>, AllocError>
     // The journal is legal and keeps every claim, and each step of its own accord was the next move.
     ensures run { IfOk result (λ end. IsRunOrNone end.topology end.journal.steps) }

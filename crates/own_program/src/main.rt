@@ -13,6 +13,7 @@ use order_lines::OrderLines;
 use orders::Orders;
 use own_handler::OwnBox;
 use pipe_top::run_program;
+use rate_gate::GatedSource;
 use stage_callback::Callback;
 use std::alloc::AllocError;
 use std::process::ExitCode;
@@ -57,8 +58,8 @@ fn run<R: Threads + Wait + Sync>(rt: &HostRuntime, waits: &R) -> Result<u8, Allo
         R,
         RealEdges,
         BoxedCallback,
-        Body<RealSource<Reader>, RealOut<Writer>>,
-        Body<MadeSource, RealOut<Writer>>,
+        Body<GatedSource<RealSource<Reader>>, RealOut<Writer>>,
+        Body<GatedSource<MadeSource>, RealOut<Writer>>,
         RealClock,
     >(
         waits, alloc, &words, stock, &mut edges, clock, &mut out, &mut err,

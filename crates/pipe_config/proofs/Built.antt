@@ -1,5 +1,5 @@
 -- The topology of settings that fit and that no fault names is sound.
-use Rattle.std.proofs.Common.{◌≡◌, ℕ, suc, ◌+◌, ◌-◌, ◌*◌, ◌%◌, ◌<◌, ◌≤◌, Bool, true, false, not, ◌&&◌, ◌||◌, ◌==◌, nat_le, nat_lt, codes, map, List, [], ◌∷◌, ◌++◌, length, Option, Some, None, is_some, is_none, unwrap_or, flat_map, cond, refl, ap, sym, ◌∙◌, arith, length-append}
+use Rattle.std.proofs.Common.{◌≡◌, ℕ, suc, ◌+◌, ◌-◌, ◌*◌, ◌%◌, ◌<◌, ◌≤◌, Bool, true, false, not, ◌&&◌, ◌||◌, ◌==◌, nat_le, nat_lt, codes, map, List, [], ◌∷◌, ◌++◌, length, Option, Some, None, is_some, is_none, unwrap_or, flat_map, cond, refl, ap, sym, subst, ◌∙◌, arith, length-append}
 use Rattle.std.proofs.lemmas.Bool.{eq-eqb, and_parts, le-leb, leb-true}
 use Rattle.std.proofs.lemmas.Bool.Decides.{nat_tests}
 use Rattle.std.proofs.lemmas.List.Folds.{list_all-append}
@@ -7,7 +7,7 @@ use Rattle.pipe_types.specs.declared.topology.RestartLimit.{RestartLimit}
 use Rattle.std.specs.List.{list_all}
 use Rattle.pipe_types.specs.declared.topology.StageSpec.{StageSpec}
 use Rattle.pipe_types.specs.declared.topology.Role.TheVariants as role
-use Rattle.pipe_types.specs.Sound.{IsSound, is_between, is_name, is_named, is_batch_processor, has_fields, is_reached, producers, processors, batchers, batch_processors, is_window, is_limit, is_control, is_lines, is_reason, are_settings}
+use Rattle.pipe_types.specs.Sound.{IsSound, is_between, is_name, is_named, is_batch_processor, has_fields, is_reached, producers, processors, batchers, batch_processors, is_window, is_limit, is_control, is_rate, is_lines, is_reason, are_settings}
 use Rattle.config_table.specs.declared.fault.ConfigFault.TheVariants as fault
 use Rattle.config_settings.specs.declared.settings.ProducerSettings.{ProducerSettings}
 use Rattle.config_settings.specs.declared.settings.ProcessorSettings.{ProcessorSettings}
@@ -308,13 +308,13 @@ limits_fit s fit most seconds =
     (list_all-append is_limit b (c ++ d) ∙ both (all_limits_fit s (processor_limits s.processors) most seconds cs)
     (list_all-append is_limit c d ∙ both (all_limits_fit s (supervisor_limits s.supervisor) most seconds ss) (all_limits_fit s (batcher_limits s.batchers) most seconds bs))))
 
-settings_fit : (s : Settings) → IsFit s → are_settings (topology_in s) ≡ true
-settings_fit s fit =
+settings_fit : (s : Settings) → IsFit s → length (producers (stages_of s)) ≡ length s.producers → are_settings (topology_in s) ≡ true
+settings_fit s fit count =
     let (restarts, others) = and_parts (nat_le s.max_restarts 1000 && is_between 1 3600 s.max_seconds) (nat_le s.idle_limit 1000000 && is_control s.control) fit.pipeline in
     let (most, seconds) = and_parts (nat_le s.max_restarts 1000) (is_between 1 3600 s.max_seconds) restarts in
     let (idle, control) = and_parts (nat_le s.idle_limit 1000000) (is_control s.control) others in
     let some : 1 ≤ length (limits_of s) = omega arith in
-    both (both (le-leb 1 (length (limits_of s)) some) (both (limits_fit s fit most seconds) (limited_stages s))) (both (both idle control) (both fit.sizes refl))
+    both (both (le-leb 1 (length (limits_of s)) some) (both (limits_fit s fit most seconds) (limited_stages s))) (both (both idle control) (both fit.sizes (subst (λ (k : ℕ). is_rate k s.rate ≡ true) (sym count) fit.rate)))
 
 pub built_is_sound : (s : Settings) → IsFit s → faults_in s ≡ [] → IsSound (topology_in s)
 built_is_sound s fit h =
@@ -367,5 +367,5 @@ built_is_sound s fit h =
           (supervisor_fields all first l3 s.supervisor fit.supervisor (supervisor_rules s.supervisor fit.supervisor supervisor_straight))
           (batcher_fields all second l4 0 s.batchers counted fit.batchers) (member_fields all second third l4 0 s.batchers found fit.batchers batcher_straight);
       reached = rw batchers_are (reached all known first second l2 l4 s.processors s.supervisor s.batchers is_enough processors_are unreached);
-      settings = settings_fit s fit;
+      settings = settings_fit s fit (ap length producers_are ∙ length-producers field n 1 0 s.producers);
     }

@@ -30,7 +30,7 @@ use Rattle.config_table.specs.declared.format.Shape.TheVariants as shape
 use Rattle.config_table.specs.Fault.{under, at_place}
 use Rattle.config_table.specs.Format.{has, key_name, value_at, rows}
 use Rattle.config_table.specs.Values.{number_flaw, text_flaw, rules_flaw, sinks_flaw, select_flaw, flaw_faults, item_faults, items_faults, value_faults}
-use Rattle.config_table.specs.Walk.{is_named, is_known, key_faults, unknown_keys, held_faults, row_faults, rows_faults, table_faults, each_faults, array_faults, top_faults, faults_of, version_in, version_of}
+use Rattle.config_table.specs.Walk.{is_named, is_known, key_faults, unknown_keys, held_faults, row_faults, rows_faults, table_faults, each_faults, array_faults, top_faults, producer_count, faults_beside, faults_of, version_in, version_of}
 use Rattle.pipe_config.specs.Flat.{is_text, are_texts, is_leaf, are_leaves, is_leaf_table, are_leaf_tables, is_part, is_flat, are_distinct, table_is_distinct, tables_are_distinct, part_is_distinct, parts_are_distinct}
 use Rattle.pipe_config.proofs.Named.{both}
 use Rattle.pipe_config.proofs.Distinct.{nothing_left}
@@ -229,10 +229,10 @@ branch : {A : Type 0} (b : Bool) {x y : List ConfigFault} → (x ≡ [] → A) �
 branch true f g h = f h
 branch false f g h = g h
 
-top_part : (v : FileVersion) (k : List ℕ) (d : Data) → part_is_distinct d ≡ true → (k ≡ codes "version" → is_part d ≡ true) → top_faults v k d ≡ [] → is_part d ≡ true
-top_part v k d once number =
+top_part : (v : FileVersion) (n : ℕ) (k : List ℕ) (d : Data) → part_is_distinct d ≡ true → (k ≡ codes "version" → is_part d ≡ true) → top_faults v n k d ≡ [] → is_part d ≡ true
+top_part v n k d once number =
     branch (bytes_eq k (key_name key.Batcher)) (array_part v section.Batcher k d once)
-    (branch (bytes_eq k (key_name key.Pipeline)) (table_part v section.Pipeline k d once)
+    (branch (bytes_eq k (key_name key.Pipeline)) (table_part v (section.Pipeline n) k d once)
     (branch (bytes_eq k (key_name key.Processors)) (table_part v section.Processors k d once)
     (branch (bytes_eq k (key_name key.Producer)) (array_part v section.Producer k d once)
     (branch (bytes_eq k (key_name key.Supervisor)) (table_part v section.Supervisor k d once)
@@ -254,17 +254,17 @@ number_part v (table ms) h = cc
 version_part : (v : FileVersion) (t : Members) → version_of t ≡ Some v → (d : Data) → get_member (codes "version") t ≡ Some d → is_part d ≡ true
 version_part v t h d found = number_part v d (sym (ap (λ (o : Option Data). version_in (option_and_then as_integer o)) found) ∙ h)
 
-flat_from : (v : FileVersion) (t : Members) → ((d : Data) → get_member (codes "version") t ≡ Some d → is_part d ≡ true) → (ms : Members) → ((k : List ℕ) (d : Data) → get_member k ms ≡ Some d → get_member k t ≡ Some d)
-    → are_distinct ms ≡ true → parts_are_distinct ms ≡ true → faults_of v ms ≡ [] → is_flat ms ≡ true
-flat_from v t number no_members within once parts clear = refl
-flat_from v t number (member k d ms) within once parts clear =
+flat_from : (v : FileVersion) (n : ℕ) (t : Members) → ((d : Data) → get_member (codes "version") t ≡ Some d → is_part d ≡ true) → (ms : Members) → ((k : List ℕ) (d : Data) → get_member k ms ≡ Some d → get_member k t ≡ Some d)
+    → are_distinct ms ≡ true → parts_are_distinct ms ≡ true → faults_beside v n ms ≡ [] → is_flat ms ≡ true
+flat_from v n t number no_members within once parts clear = refl
+flat_from v n t number (member k d ms) within once parts clear =
     let (new, others) = and_parts (is_none (get_member k ms)) (are_distinct ms) once in
     let (part, rest) = and_parts (part_is_distinct d) (parts_are_distinct ms) parts in
-    let (here, more) = nothing_left (top_faults v k d) (faults_of v ms) clear in
+    let (here, more) = nothing_left (top_faults v n k d) (faults_beside v n ms) clear in
     let none : get_member k ms ≡ None = none_is (get_member k ms) new in
-    both (top_part v k d part (λ same. number d (ap (λ (x : List ℕ). get_member x t) (sym same) ∙ within k d (found_here k d ms))) here)
-    (flat_from v t number ms (λ j e found. within j e (found_later j k d e ms none found)) others rest more)
+    both (top_part v n k d part (λ same. number d (ap (λ (x : List ℕ). get_member x t) (sym same) ∙ within k d (found_here k d ms))) here)
+    (flat_from v n t number ms (λ j e found. within j e (found_later j k d e ms none found)) others rest more)
 
 -- the table of a file of version 2 without faults in its places is flat
 pub flat_table : (t : Members) → are_distinct t ≡ true → parts_are_distinct t ≡ true → version_of t ≡ Some Two → faults_of Two t ≡ [] → is_flat t ≡ true
-flat_table t once parts version clear = flat_from Two t (version_part Two t version) t (λ k d found. found) once parts clear
+flat_table t once parts version clear = flat_from Two (producer_count t) t (version_part Two t version) t (λ k d found. found) once parts clear

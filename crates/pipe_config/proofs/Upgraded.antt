@@ -1,5 +1,5 @@
 -- A table with version 2 names the topology that it named.
-use Rattle.std.proofs.Common.{◌≡◌, ◌≢◌, ℕ, ◌+◌, ◌≤◌, length, ltb, pos, arith, Bool, true, false, not, ◌&&◌, ◌||◌, cond, codes, List, [], ◌∷◌, ◌++◌, flat_map, Option, Some, None, Result, Ok, Err, Ordering, Less, Equal, Greater, String, Global, string_bytes, nat_cmp, is_eq, refl, ap, sym, ◌∙◌, subst}
+use Rattle.std.proofs.Common.{◌≡◌, ◌≢◌, ℕ, ◌+◌, ◌≤◌, length, ltb, pos, arith, Bool, true, false, not, ◌&&◌, ◌||◌, cond, codes, List, [], ◌∷◌, ◌++◌, flat_map, Option, Some, None, is_some, option_and_then, Result, Ok, Err, Ordering, Less, Equal, Greater, String, Global, string_bytes, nat_cmp, is_eq, refl, ap, sym, ◌∙◌, subst}
 use Rattle.std.proofs.lemmas.Bool.{and_parts}
 use Rattle.std.proofs.lemmas.Bool.Decides.{nat_tests}
 use Rattle.std.specs.Str.{is_utf8}
@@ -28,8 +28,8 @@ use Rattle.config_table.specs.declared.format.Row.{Row}
 use Rattle.config_table.specs.declared.format.Section.{Section}
 use Rattle.config_table.specs.declared.format.Section.TheVariants as section
 use Rattle.config_table.specs.Fault.{least, under, at_place}
-use Rattle.config_table.specs.Format.{has, key_name, value_at, rows}
-use Rattle.config_table.specs.Walk.{is_named, is_known, key_faults, unknown_keys, missing_faults, held_faults, row_faults, rows_faults, table_faults, each_faults, array_faults, top_faults, faults_of, version_of}
+use Rattle.config_table.specs.Format.{has, key_name, value_at, pipeline_rows, rows}
+use Rattle.config_table.specs.Walk.{is_named, is_known, key_faults, unknown_keys, missing_faults, held_faults, row_faults, rows_faults, table_faults, each_faults, array_faults, top_faults, count_in, producer_count, faults_beside, faults_of, version_of}
 use Rattle.config_settings.specs.Settings.{settings_of}
 use Rattle.pipe_config.specs.File.{unless, judged, topology_by, topology_of, topology_of_table, topology_of_file, IsAccepted}
 use Rattle.pipe_config.specs.Upgrade.{set_member, with_version_2, refusal_of, IsUpgrade, IsRefused}
@@ -172,17 +172,26 @@ each_lift path t all (r ∷ rest) right unknown h =
     lift_append {x = row_faults One path t r} {y = flat_map (row_faults One path t) rest} {u = row_faults Two path t r} {w = flat_map (row_faults Two path t) rest}
     (row_lift path t all r here unknown) (each_lift path t all rest more unknown) h
 
-right_rows : (s : Section) (t : Members) → list_all (is_right (rows s t)) (rows s t) ≡ true
-right_rows section.Pipeline t = refl
-right_rows section.Producer t = refl
-right_rows section.Processors t = refl
-right_rows section.Supervisor t = refl
-right_rows section.Batcher t = refl
+-- the keys of a rate are not there, and so neither is required
+right_pipeline : (n : ℕ) (has_allowed has_interval : Bool) → has_allowed ≡ false → has_interval ≡ false
+    → list_all (is_right (pipeline_rows n has_allowed has_interval)) (pipeline_rows n has_allowed has_interval) ≡ true
+right_pipeline n false false e f = refl
+right_pipeline n true b e f = cc
+right_pipeline n false true e f = cc
+
+right_rows : (s : Section) (path : List ℕ) (t : Members) → unknown_keys One path (rows s t) t ≡ [] → list_all (is_right (rows s t)) (rows s t) ≡ true
+right_rows (section.Pipeline n) path t h =
+    right_pipeline n (is_some (value_at key.AllowedMessages t)) (is_some (value_at key.Interval t)) (ap is_some (absent path (rows (section.Pipeline n) t) (key_name key.AllowedMessages) t refl h))
+    (ap is_some (absent path (rows (section.Pipeline n) t) (key_name key.Interval) t refl h))
+right_rows section.Producer path t h = refl
+right_rows section.Processors path t h = refl
+right_rows section.Supervisor path t h = refl
+right_rows section.Batcher path t h = refl
 
 rows_lift : (s : Section) (path : List ℕ) (t : Members) → rows_faults One path (rows s t) t ≡ [] → rows_faults Two path (rows s t) t ≡ []
 rows_lift s path t h =
     let (unknown, held) = nothing_left (unknown_keys One path (rows s t) t) (flat_map (row_faults One path t) (rows s t)) h in
-    rw (unknown_lift path (rows s t) t unknown, each_lift path t (rows s t) (rows s t) (right_rows s t) unknown held) refl
+    rw (unknown_lift path (rows s t) t unknown, each_lift path t (rows s t) (rows s t) (right_rows s path t unknown) unknown held) refl
 
 table_lift : (s : Section) (path : List ℕ) (o : Option Members) → table_faults One s path o ≡ [] → table_faults Two s path o ≡ []
 table_lift s path None h = h
@@ -198,35 +207,35 @@ array_lift : (s : Section) (path : List ℕ) (o : Option Items) → array_faults
 array_lift s path None h = h
 array_lift s path (Some ds) h = items_lift s path 0 ds h
 
-top_lift : (k : List ℕ) (d : Data) → top_faults One k d ≡ [] → top_faults Two k d ≡ []
-top_lift k d =
+top_lift : (n : ℕ) (k : List ℕ) (d : Data) → top_faults One n k d ≡ [] → top_faults Two n k d ≡ []
+top_lift n k d =
     lift_cond (bytes_eq k (key_name key.Batcher)) (array_lift section.Batcher k (as_array d))
-    (lift_cond (bytes_eq k (key_name key.Pipeline)) (table_lift section.Pipeline k (as_table d))
+    (lift_cond (bytes_eq k (key_name key.Pipeline)) (table_lift (section.Pipeline n) k (as_table d))
     (lift_cond (bytes_eq k (key_name key.Processors)) (table_lift section.Processors k (as_table d))
     (lift_cond (bytes_eq k (key_name key.Producer)) (array_lift section.Producer k (as_array d))
     (lift_cond (bytes_eq k (key_name key.Supervisor)) (table_lift section.Supervisor k (as_table d)) (λ h. h)))))
 
-file_lift : (ms : Members) → faults_of One ms ≡ [] → faults_of Two ms ≡ []
-file_lift no_members h = h
-file_lift (member k d ms) h = lift_append {x = top_faults One k d} {y = faults_of One ms} {u = top_faults Two k d} {w = faults_of Two ms} (top_lift k d) (file_lift ms) h
+file_lift : (n : ℕ) (ms : Members) → faults_beside One n ms ≡ [] → faults_beside Two n ms ≡ []
+file_lift n no_members h = h
+file_lift n (member k d ms) h = lift_append {x = top_faults One n k d} {y = faults_beside One n ms} {u = top_faults Two n k d} {w = faults_beside Two n ms} (top_lift n k d) (file_lift n ms) h
 
 any_lift : (v : FileVersion) (ms : Members) → faults_of v ms ≡ [] → faults_of Two ms ≡ []
-any_lift One ms h = file_lift ms h
+any_lift One ms h = file_lift (producer_count ms) ms h
 any_lift Two ms h = h
 
 -- ---- the table with version 2
 
-set_clear : (d : Data) (ms : Members) → faults_of Two ms ≡ [] → faults_of Two (set_member (codes "version") d ms) ≡ []
-set_clear d no_members h = refl
-set_clear d (member l e ms) h =
-    let (here, more) = nothing_left (top_faults Two l e) (faults_of Two ms) h in
-    by_order (slice_cmp nat_cmp (codes "version") l) refl here more (set_clear d ms more)
+set_clear : (n : ℕ) (d : Data) (ms : Members) → faults_beside Two n ms ≡ [] → faults_beside Two n (set_member (codes "version") d ms) ≡ []
+set_clear n d no_members h = refl
+set_clear n d (member l e ms) h =
+    let (here, more) = nothing_left (top_faults Two n l e) (faults_beside Two n ms) h in
+    by_order (slice_cmp nat_cmp (codes "version") l) refl here more (set_clear n d ms more)
   where
-    by_order : (o : Ordering) → slice_cmp nat_cmp (codes "version") l ≡ o → top_faults Two l e ≡ [] → faults_of Two ms ≡ [] → faults_of Two (set_member (codes "version") d ms) ≡ []
-        → faults_of Two (match_ordering o (member (codes "version") d (member l e ms)) (member l d ms) (member l e (set_member (codes "version") d ms))) ≡ []
+    by_order : (o : Ordering) → slice_cmp nat_cmp (codes "version") l ≡ o → top_faults Two n l e ≡ [] → faults_beside Two n ms ≡ [] → faults_beside Two n (set_member (codes "version") d ms) ≡ []
+        → faults_beside Two n (match_ordering o (member (codes "version") d (member l e ms)) (member l d ms) (member l e (set_member (codes "version") d ms))) ≡ []
     by_order Less is here more later = rw (here, more) refl
     by_order Equal is here more later =
-        let none : top_faults Two l d ≡ [] = subst (λ (x : List ℕ). top_faults Two x d ≡ []) (same_bytes (codes "version") l is) refl in
+        let none : top_faults Two n l d ≡ [] = subst (λ (x : List ℕ). top_faults Two n x d ≡ []) (same_bytes (codes "version") l is) refl in
         rw (none, more) refl
     by_order Greater is here more later = rw (here, later) refl
 
@@ -244,7 +253,10 @@ pub is_version_2 : (ms : Members) → version_of (with_version_2 ms) ≡ Some Tw
 is_version_2 ms = rw (get_set (codes "version") (integer (pos 2)) ms) refl
 
 clear_again : (v : FileVersion) (ms : Members) → least (faults_of v ms) ≡ None → faults_of Two (with_version_2 ms) ≡ []
-clear_again v ms e = set_clear (integer (pos 2)) ms (any_lift v ms (least_none (faults_of v ms) e))
+clear_again v ms e =
+    let clear : faults_of Two ms ≡ [] = any_lift v ms (least_none (faults_of v ms) e) in
+    let same : producer_count (with_version_2 ms) ≡ producer_count ms = ap (λ (o : Option Data). count_in (option_and_then as_array o)) (get_other (codes "producer") (codes "version") (integer (pos 2)) ms refl) in
+    ap (λ (n : ℕ). faults_beside Two n (with_version_2 ms)) same ∙ set_clear (producer_count ms) (integer (pos 2)) ms clear
 
 judged_again : (v : FileVersion) (ms : Members) (o : Option ConfigFault) (t : Topology) → least (faults_of v ms) ≡ o → unless o (judged (settings_of ms)) ≡ Ok t → topology_by (Some Two) (with_version_2 ms) ≡ Ok t
 judged_again v ms (Some fault) t e h = cc

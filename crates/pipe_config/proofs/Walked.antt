@@ -1,5 +1,5 @@
 -- What the walk of a file without faults says of its values.
-use Rattle.std.proofs.Common.{◌≡◌, ℕ, zero, suc, ◌+◌, ◌-◌, ◌/◌, ◌<◌, ◌≤◌, ℤ, pos, negsuc, Bool, true, false, not, cond, nat_le, nat_lt, List, [], ◌∷◌, ◌++◌, length, flat_map, Option, Some, None, option_map, option_and_then, unwrap_or, Ordering, Less, Equal, Greater, nat_cmp, refl, ap, sym, ◌∙◌, subst, arith, ◌&&◌, ◌||◌, ◌==◌, codes, is_none}
+use Rattle.std.proofs.Common.{◌≡◌, ℕ, zero, suc, ◌+◌, ◌-◌, ◌/◌, ◌<◌, ◌≤◌, ℤ, pos, negsuc, Bool, true, false, not, cond, nat_le, nat_lt, List, [], ◌∷◌, ◌++◌, length, flat_map, Option, Some, None, option_map, option_and_then, unwrap_or, Ordering, Less, Equal, Greater, nat_cmp, refl, ap, sym, ◌∙◌, subst, arith, ◌&&◌, ◌||◌, ◌==◌, codes, is_none, min, max}
 use Rattle.std.proofs.lemmas.Bool.{and_parts, le-leb, leb-true}
 use Rattle.std.proofs.lemmas.Bool.Decides.{nat_tests}
 use Rattle.std.proofs.lemmas.Map.Text.{is_eq-slice_cmp}
@@ -7,7 +7,7 @@ use Rattle.std.proofs.lemmas.Slice.Eq.{bytes_eq-Decides}
 use Rattle.std.specs.Ordering.{match_ordering, is_eq}
 use Rattle.std.specs.Cmp.Lexicographic.{slice_cmp}
 use Rattle.std.specs.List.{list_all}
-use Rattle.pipe_types.specs.Sound.{is_between, is_name, is_reason, is_lines, is_control}
+use Rattle.pipe_types.specs.Sound.{is_between, is_name, is_reason, is_lines, is_control, is_rate}
 use Rattle.toml.specs.Data.{Data, Items, no_items, item, Members, no_members, member, get_member, as_integer, as_str, as_array, as_table}
 use Rattle.config_table.specs.declared.fault.ConfigFault.{ConfigFault}
 use Rattle.config_table.specs.declared.format.FileVersion.{FileVersion}
@@ -26,7 +26,7 @@ use Rattle.config_table.specs.Values.{item_count, item_faults, items_faults, fla
 use Rattle.config_table.specs.Shape.{fits}
 use Rattle.config_table.specs.declared.format.Shape.{Shape}
 use Rattle.config_table.specs.declared.value.Flaw.TheVariants.{OutOfRange}
-use Rattle.config_table.specs.Walk.{held_faults, row_faults, rows_faults, unknown_keys, table_faults, each_faults, array_faults, top_faults, faults_of}
+use Rattle.config_table.specs.Walk.{held_faults, row_faults, rows_faults, unknown_keys, table_faults, each_faults, array_faults, top_faults, producer_count, faults_beside, faults_of}
 use Rattle.config_settings.specs.Settings as settings
 use Rattle.config_settings.specs.Settings.{texts_in, text_before, table_at, array_at, settings_of, producers_in, producers_at, batchers_in, batchers_at, producer_of, processors_of, supervisor_of, batcher_of, own_limit, reason_of, kind_of, demand_of, pipeline_number}
 use Rattle.config_build.specs.Limits.{producer_limits, processor_limits, supervisor_limits, batcher_limits}
@@ -51,27 +51,27 @@ least_none (x ∷ faults) h = absurd (sooner_some x (least faults) h)
 same_bytes : (k l : List ℕ) → slice_cmp nat_cmp k l ≡ Equal → k ≡ l
 same_bytes k l e = (bytes_eq-Decides k l).0 (sym (is_eq-slice_cmp k l) ∙ ap is_eq e)
 
-found_here : (v : FileVersion) (o : Ordering) (k l : List ℕ) (d e : Data) (found : Option Data) → slice_cmp nat_cmp k l ≡ o → match_ordering o found (Some e) found ≡ Some d → top_faults v l e ≡ [] → (found ≡ Some d → top_faults v k d ≡ []) → top_faults v k d ≡ []
-found_here v Less k l d e found is h clear later = later h
-found_here v Equal k l d e found is h clear later =
+found_here : (v : FileVersion) (n : ℕ) (o : Ordering) (k l : List ℕ) (d e : Data) (found : Option Data) → slice_cmp nat_cmp k l ≡ o → match_ordering o found (Some e) found ≡ Some d → top_faults v n l e ≡ [] → (found ≡ Some d → top_faults v n k d ≡ []) → top_faults v n k d ≡ []
+found_here v n Less k l d e found is h clear later = later h
+found_here v n Equal k l d e found is h clear later =
     let same : e ≡ d = cc in
-    subst (λ (x : List ℕ). top_faults v x d ≡ []) (sym (same_bytes k l is)) (subst (λ (y : Data). top_faults v l y ≡ []) same clear)
-found_here v Greater k l d e found is h clear later = later h
+    subst (λ (x : List ℕ). top_faults v n x d ≡ []) (sym (same_bytes k l is)) (subst (λ (y : Data). top_faults v n l y ≡ []) same clear)
+found_here v n Greater k l d e found is h clear later = later h
 
 -- a key of a file without faults has none
-at_key : (v : FileVersion) (ms : Members) (k : List ℕ) (d : Data) → faults_of v ms ≡ [] → get_member k ms ≡ Some d → top_faults v k d ≡ []
-at_key v no_members k d clear h = cc
-at_key v (member l e ms) k d clear h =
-    let (here, more) = nothing_left (top_faults v l e) (faults_of v ms) clear in
-    found_here v (slice_cmp nat_cmp k l) k l d e (get_member k ms) refl h here (at_key v ms k d more)
+at_key : (v : FileVersion) (n : ℕ) (ms : Members) (k : List ℕ) (d : Data) → faults_beside v n ms ≡ [] → get_member k ms ≡ Some d → top_faults v n k d ≡ []
+at_key v n no_members k d clear h = cc
+at_key v n (member l e ms) k d clear h =
+    let (here, more) = nothing_left (top_faults v n l e) (faults_beside v n ms) clear in
+    found_here v n (slice_cmp nat_cmp k l) k l d e (get_member k ms) refl h here (at_key v n ms k d more)
 
-held_table : (v : FileVersion) (ms : Members) (k : Key) (s : Section) (o : Option Data) (t : Members) → ((d : Data) → top_faults v (key_name k) d ≡ table_faults v s (key_name k) (as_table d)) → faults_of v ms ≡ [] → value_at k ms ≡ o → option_and_then as_table o ≡ Some t → rows_faults v (key_name k) (rows s t) t ≡ []
-held_table v ms k s None t same clear is h = cc
-held_table v ms k s (Some d) t same clear is h = rw h at (sym (same d) ∙ at_key v ms (key_name k) d clear is)
+held_table : (v : FileVersion) (n : ℕ) (ms : Members) (k : Key) (s : Section) (o : Option Data) (t : Members) → ((d : Data) → top_faults v n (key_name k) d ≡ table_faults v s (key_name k) (as_table d)) → faults_beside v n ms ≡ [] → value_at k ms ≡ o → option_and_then as_table o ≡ Some t → rows_faults v (key_name k) (rows s t) t ≡ []
+held_table v n ms k s None t same clear is h = cc
+held_table v n ms k s (Some d) t same clear is h = rw h at (sym (same d) ∙ at_key v n ms (key_name k) d clear is)
 
-held_array : (v : FileVersion) (ms : Members) (k : Key) (s : Section) (o : Option Data) (items : Items) → ((d : Data) → top_faults v (key_name k) d ≡ array_faults v s (key_name k) (as_array d)) → faults_of v ms ≡ [] → value_at k ms ≡ o → option_and_then as_array o ≡ Some items → each_faults v s (key_name k) 0 items ≡ []
-held_array v ms k s None items same clear is h = cc
-held_array v ms k s (Some d) items same clear is h = rw h at (sym (same d) ∙ at_key v ms (key_name k) d clear is)
+held_array : (v : FileVersion) (n : ℕ) (ms : Members) (k : Key) (s : Section) (o : Option Data) (items : Items) → ((d : Data) → top_faults v n (key_name k) d ≡ array_faults v s (key_name k) (as_array d)) → faults_beside v n ms ≡ [] → value_at k ms ≡ o → option_and_then as_array o ≡ Some items → each_faults v s (key_name k) 0 items ≡ []
+held_array v n ms k s None items same clear is h = cc
+held_array v n ms k s (Some d) items same clear is h = rw h at (sym (same d) ∙ at_key v n ms (key_name k) d clear is)
 
 abbrev RowsClear : FileVersion → List ℕ → Members → List Row → Type 0
 RowsClear v path t [] = Unit {0}
@@ -295,9 +295,9 @@ pipeline_between : (r : Range) (k : Key) (o : Option Members) → is_between r.l
 pipeline_between r k None h = h
 pipeline_between r k (Some t) h = number_between r k t h
 
-control_given : (v : FileVersion) (o : Option Members) → ((t : Members) → o ≡ Some t → rows_faults v (key_name key.Pipeline) (rows section.Pipeline t) t ≡ []) → is_control (option_and_then (settings.text_at key.Control) o) ≡ true
-control_given v None h = refl
-control_given v (Some t) h = control_clear _ (value_at key.Control t) (table_clear v (key_name key.Pipeline) t format.pipeline_rows (h t refl)).1.0
+control_given : (v : FileVersion) (n : ℕ) (o : Option Members) → ((t : Members) → o ≡ Some t → rows_faults v (key_name key.Pipeline) (rows (section.Pipeline n) t) t ≡ []) → is_control (option_and_then (settings.text_at key.Control) o) ≡ true
+control_given v n None h = refl
+control_given v n (Some t) h = control_clear _ (value_at key.Control t) (table_clear v (key_name key.Pipeline) t (rows (section.Pipeline n) t) (h t refl)).1.1.0
 
 -- limits of their own, which are in range as they are read
 
@@ -354,6 +354,37 @@ supervisor_own : (o : Option Members) → list_all limit_fits (supervisor_limits
 supervisor_own None = refl
 supervisor_own (Some t) = both (own_given t) refl
 
+-- what is let in, which is enough for every producer as it is read
+
+rate_between : (n k : ℕ) → is_between (min (max n 1) 1000001) 1000000 k ≡ true → (is_between 1 1000000 k && nat_le n k) ≡ true
+rate_between n k h =
+    let (low, high) = and_parts (nat_le (min (max n 1) 1000001) k) (nat_le k 1000000) h in
+    let least : min (max n 1) 1000001 ≤ k = leb-true (min (max n 1) 1000001) k low in
+    let most : k ≤ 1000000 = leb-true k 1000000 high in
+    both (both (le-leb 1 k (omega (arith, least, most))) high) (le-leb n k (omega (arith, least, most)))
+
+interval_given : (n k : ℕ) (z : Option ℤ) → (is_between 1 1000000 k && nat_le n k) ≡ true → is_rate n (settings.rate_of (Some k) (given_number format.interval z)) ≡ true
+interval_given n k None h = refl
+interval_given n k (Some (negsuc i)) h = refl
+interval_given n k (Some (pos i)) h = chosen (is_between 1 3600000 i) refl
+  where
+    chosen : (b : Bool) → is_between 1 3600000 i ≡ b → is_rate n (settings.rate_of (Some k) (cond b (Some i) None)) ≡ true
+    chosen true e = both h e
+    chosen false e = refl
+
+allowed_given : (n : ℕ) (y z : Option ℤ) → is_rate n (settings.rate_of (given_number (format.allowed_messages n) y) (given_number format.interval z)) ≡ true
+allowed_given n None z = refl
+allowed_given n (Some (negsuc k)) z = refl
+allowed_given n (Some (pos k)) z = chosen (is_between (min (max n 1) 1000001) 1000000 k) refl
+  where
+    chosen : (b : Bool) → is_between (min (max n 1) 1000001) 1000000 k ≡ b → is_rate n (settings.rate_of (cond b (Some k) None) (given_number format.interval z)) ≡ true
+    chosen true e = interval_given n k z (rate_between n k e)
+    chosen false e = refl
+
+rate_given : (n : ℕ) (o : Option Members) → is_rate n (settings.rate_in n o) ≡ true
+rate_given n None = refl
+rate_given n (Some t) = allowed_given n (option_and_then as_integer (value_at key.AllowedMessages t)) (option_and_then as_integer (value_at key.Interval t))
+
 most_of : (low high n : ℕ) → is_between low high n ≡ true → nat_le n high ≡ true
 most_of low high n h = (and_parts (nat_le low n) (nat_le n high) h).1
 
@@ -362,15 +393,16 @@ pub walked_fits : (v : FileVersion) (table : Members) → least (faults_of v tab
 walked_fits v table h =
     let clear : faults_of v table ≡ [] = least_none (faults_of v table) h in
     record {
-      producers = producers_given v (array_at key.Producer table) (λ items is. held_array v table key.Producer section.Producer (value_at key.Producer table) items (λ d. refl) clear refl is);
-      processors = processors_given v (table_at key.Processors table) (λ t is. held_table v table key.Processors section.Processors (value_at key.Processors table) t (λ d. refl) clear refl is);
-      supervisor = supervisor_given v (table_at key.Supervisor table) (λ t is. held_table v table key.Supervisor section.Supervisor (value_at key.Supervisor table) t (λ d. refl) clear refl is);
-      batchers = batchers_given v (array_at key.Batcher table) (λ items is. held_array v table key.Batcher section.Batcher (value_at key.Batcher table) items (λ d. refl) clear refl is);
+      producers = producers_given v (array_at key.Producer table) (λ items is. held_array v (producer_count table) table key.Producer section.Producer (value_at key.Producer table) items (λ d. refl) clear refl is);
+      processors = processors_given v (table_at key.Processors table) (λ t is. held_table v (producer_count table) table key.Processors section.Processors (value_at key.Processors table) t (λ d. refl) clear refl is);
+      supervisor = supervisor_given v (table_at key.Supervisor table) (λ t is. held_table v (producer_count table) table key.Supervisor section.Supervisor (value_at key.Supervisor table) t (λ d. refl) clear refl is);
+      batchers = batchers_given v (array_at key.Batcher table) (λ items is. held_array v (producer_count table) table key.Batcher section.Batcher (value_at key.Batcher table) items (λ d. refl) clear refl is);
       pipeline = both
           (both (most_of 0 1000 (pipeline_number format.max_restarts key.MaxRestarts (table_at key.Pipeline table)) (pipeline_between format.max_restarts key.MaxRestarts (table_at key.Pipeline table) refl))
           (pipeline_between format.max_seconds key.MaxSeconds (table_at key.Pipeline table) refl))
           (both (most_of 0 1000000 (pipeline_number format.idle_limit key.IdleLimit (table_at key.Pipeline table)) (pipeline_between format.idle_limit key.IdleLimit (table_at key.Pipeline table) refl))
-          (control_given v (table_at key.Pipeline table) (λ t is. held_table v table key.Pipeline section.Pipeline (value_at key.Pipeline table) t (λ d. refl) clear refl is)));
+          (control_given v (producer_count table) (table_at key.Pipeline table) (λ t is. held_table v (producer_count table) table key.Pipeline (section.Pipeline (producer_count table)) (value_at key.Pipeline table) t (λ d. refl) clear refl is)));
       limits = both (producers_at_own (array_at key.Producer table)) (both (processors_own (table_at key.Processors table)) (both (supervisor_own (table_at key.Supervisor table)) (batchers_at_own (array_at key.Batcher table))));
       sizes = both (pipeline_between format.record_limit key.RecordLimit (table_at key.Pipeline table) refl) (pipeline_between format.byte_limit key.ByteLimit (table_at key.Pipeline table) refl);
+      rate = rate_given (length (producers_at (array_at key.Producer table))) (table_at key.Pipeline table);
     }

@@ -3,7 +3,7 @@ use Rattle.std.specs.Prelude.{ℕ, Bool, true, false, not, ◌&&◌, ◌||◌, n
 use Rattle.std.specs.List.{list_all}
 use Rattle.pipe_types.specs.declared.topology.Dispatch.{Dispatch}
 use Rattle.pipe_types.specs.declared.topology.Dispatch.TheVariants.{Broadcast}
-use Rattle.pipe_types.specs.Sound.{is_between, is_name, is_reason, is_lines, is_control}
+use Rattle.pipe_types.specs.Sound.{is_between, is_name, is_reason, is_lines, is_control, is_rate}
 use Rattle.config_settings.specs.declared.settings.OwnLimit.{OwnLimit}
 use Rattle.config_settings.specs.declared.settings.Demand.{Demand}
 use Rattle.config_settings.specs.declared.settings.Handler.{Handler}
@@ -90,3 +90,4 @@ pub record IsFit (s : Settings) : Type 0 where
   pub pipeline : IsTrue (pipeline_fits s)
   pub limits : IsTrue (limits_fit s)
   pub sizes : IsTrue (sizes_fit s)
+  pub rate : IsTrue (is_rate (length s.producers) s.rate)

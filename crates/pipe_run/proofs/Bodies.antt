@@ -22,24 +22,25 @@ use Rattle.stage_bodies.specs.Posts.{place_at}
 use Rattle.body_laws.specs.Keeps.{Keeps, KeepsPost, KeepsSource, KeepsSink, has_slot}
 use Rattle.body_laws.specs.Ready.{There}
 use Rattle.body_laws.proofs.Posts.{first_post, producer_post}
-use Rattle.edge_names.specs.Supplies.{Feed, Supplied, Fed, Written, fed, supplied, supplied_by, written}
+use Rattle.edge_names.specs.Supplies.{Feeds, Feed, Supplied, Fed, Written, fed, supplied, supplied_by, written}
+use Rattle.pipe_edges.specs.Paces.{Pace}
 use Rattle.edge_names.specs.Seen.{EdgesSeen}
 use Rattle.edge_names.specs.Named.{GivesSink}
-use Rattle.edge_names.specs.Opened.{AreHome, AreOpened, GivesFeed, IsOpened, supplied_in}
+use Rattle.edge_names.specs.Opened.{AreHome, AreOpened, GivesFed, IsOpened, supplied_in}
 use Rattle.edge_names.specs.Returned.{AreCalm, IsCalm, source_in, sink_in}
 use Rattle.edge_names.proofs.Openings.{opened_stage, given_feed, given_sink}
-use Rattle.pipe_run.specs.Outside.{AreUsed, IsFeedRead, IsSinkWritten}
-use Rattle.pipe_run.proofs.Sources.{feed_read}
+use Rattle.pipe_run.specs.Outside.{AreUsed, IsFedRead, IsSinkWritten}
+use Rattle.pipe_run.proofs.Sources.{fed_read}
 use Rattle.pipe_run.proofs.Sinks.{sink_written}
 
 -- ---- the stage that is supplied
 
-record IsStageOf (feeds : StageSpec → Option Feed) (topology : Topology) (s : StageNo) (what : Supplied) : Type 0 where
+record IsStageOf (feeds : Feeds) (topology : Topology) (s : StageNo) (what : Supplied) : Type 0 where
   pub spec : StageSpec
   pub found : spec_of topology s ≡ Some spec
   pub fits : supplied feeds spec ≡ Some what
 
-stage_of : (feeds : StageSpec → Option Feed) (topology : Topology) (s : StageNo) (what : Supplied) → supplied_in feeds (spec_of topology s) ≡ Some what → IsStageOf feeds topology s what
+stage_of : (feeds : Feeds) (topology : Topology) (s : StageNo) (what : Supplied) → supplied_in feeds (spec_of topology s) ≡ Some what → IsStageOf feeds topology s what
 stage_of feeds topology s what e = by (spec_of topology s) refl e
   where
     by : (o : Option StageSpec) → spec_of topology s ≡ o → supplied_in feeds o ≡ Some what → IsStageOf feeds topology s what
@@ -47,36 +48,36 @@ stage_of feeds topology s what e = by (spec_of topology s) refl e
     by (Some spec) is e = record { spec = spec; found = is; fits = e }
 
 abbrev is_fed : Option Supplied → Bool
-is_fed (Some (Fed feed)) = true
+is_fed (Some (Fed pace feed)) = true
 is_fed (Some (Written name)) = false
 is_fed None = false
 
 abbrev is_written : Option Supplied → Bool
 is_written (Some (Written name)) = true
-is_written (Some (Fed feed)) = false
+is_written (Some (Fed pace feed)) = false
 is_written None = false
 
 written_not_fed : (edge : Option (List ℕ)) → is_fed (written edge) ≡ false
 written_not_fed (Some name) = refl
 written_not_fed None = refl
 
-fed_not_written : (feed : Option Feed) → is_written (fed feed) ≡ false
-fed_not_written (Some feed) = refl
-fed_not_written None = refl
+fed_not_written : (pace : Option Pace) (feed : Option Feed) → is_written (fed pace feed) ≡ false
+fed_not_written pace (Some feed) = refl
+fed_not_written pace None = refl
 
-source_role : (r : Role) (given : Option Feed) (edge : Option (List ℕ)) (feed : Feed) → supplied_by r given edge ≡ Some (Fed feed) → is_producer_role r ≡ true
-source_role Producer given edge feed e = refl
-source_role Processor given edge feed e = cc
-source_role Supervisor given edge feed e = cc
-source_role Batcher given edge feed e = cc
-source_role BatchProcessor given edge feed e = let no : is_fed (written edge) ≡ false = written_not_fed edge in let yes : is_fed (written edge) ≡ true = ap is_fed e in cc
+source_role : (r : Role) (at : Option Pace) (given : Option Feed) (edge : Option (List ℕ)) (pace : Option Pace) (feed : Feed) → supplied_by r at given edge ≡ Some (Fed pace feed) → is_producer_role r ≡ true
+source_role Producer at given edge pace feed e = refl
+source_role Processor at given edge pace feed e = cc
+source_role Supervisor at given edge pace feed e = cc
+source_role Batcher at given edge pace feed e = cc
+source_role BatchProcessor at given edge pace feed e = let no : is_fed (written edge) ≡ false = written_not_fed edge in let yes : is_fed (written edge) ≡ true = ap is_fed e in cc
 
-sink_role : (r : Role) (given : Option Feed) (edge : Option (List ℕ)) (name : List ℕ) → supplied_by r given edge ≡ Some (Written name) → is_batch_processor_role r ≡ true
-sink_role BatchProcessor given edge name e = refl
-sink_role Processor given edge name e = cc
-sink_role Supervisor given edge name e = cc
-sink_role Batcher given edge name e = cc
-sink_role Producer given edge name e = let no : is_written (fed given) ≡ false = fed_not_written given in let yes : is_written (fed given) ≡ true = ap is_written e in cc
+sink_role : (r : Role) (at : Option Pace) (given : Option Feed) (edge : Option (List ℕ)) (name : List ℕ) → supplied_by r at given edge ≡ Some (Written name) → is_batch_processor_role r ≡ true
+sink_role BatchProcessor at given edge name e = refl
+sink_role Processor at given edge name e = cc
+sink_role Supervisor at given edge name e = cc
+sink_role Batcher at given edge name e = cc
+sink_role Producer at given edge name e = let no : is_written (fed at given) ≡ false = fed_not_written at given in let yes : is_written (fed at given) ≡ true = ap is_written e in cc
 
 batch_post : (r : Role) (max : ℕ) → is_batch_processor_role r ≡ true → has_slot r max 0 ≡ true
 batch_post BatchProcessor max h = refl
@@ -99,17 +100,17 @@ some_from P None h = absurd h
 there_at : {A : Type 0} (P : A → Type 0) (o : Option A) (x : A) → o ≡ Some x → P x → There o P
 there_at P o x e h = subst (λ z. There z P) (sym e) h
 
-record IsSourceOpened (edges : EdgesSeen) (feed : Feed) (body : Option BodySeen) : Type 0 where
+record IsSourceOpened (edges : EdgesSeen) (pace : Option Pace) (feed : Feed) (body : Option BodySeen) : Type 0 where
   pub lines : LineSeen
   pub has : There body (λ b. b.source ≡ Some lines)
-  pub gives : GivesFeed edges feed lines
+  pub gives : GivesFed edges pace feed lines
 
-source_opened : (edges : EdgesSeen) (feed : Feed) (x y : Option BodySeen) → IsSome x → Both (IsOpened edges (Some (Fed feed))) x y → IsSourceOpened edges feed y
-source_opened edges feed (Some a) (Some b) some h =
-    let g = given_feed edges feed a.source b.source h.source in
+source_opened : (edges : EdgesSeen) (pace : Option Pace) (feed : Feed) (x y : Option BodySeen) → IsSome x → Both (IsOpened edges (Some (Fed pace feed))) x y → IsSourceOpened edges pace feed y
+source_opened edges pace feed (Some a) (Some b) some h =
+    let g = given_feed edges pace feed a.source b.source h.source in
     record { lines = g.0; has = g.1; gives = g.2 }
-source_opened edges feed (Some a) None some h = absurd h
-source_opened edges feed None y some h = let x : false ≡ true = some in cc
+source_opened edges pace feed (Some a) None some h = absurd h
+source_opened edges pace feed None y some h = let x : false ≡ true = some in cc
 
 record IsSinkOpened (edges : EdgesSeen) (name : List ℕ) (body : Option BodySeen) : Type 0 where
   pub sink : SinkSeen
@@ -128,29 +129,32 @@ sink_opened edges name None y some h = let x : false ≡ true = some in cc
 record IsSourceKept (before : History) (s : StageNo) (out : Bool) (opened : LineSeen) (body : Option BodySeen) : Type 0 where
   pub now : LineSeen
   pub is : source_in body ≡ Some now.source
+  pub full : Bool
   pub lost : List (List ℕ)
   pub in_fetch : (lost ≡ []) ⊎ (out ≡ true)
-  pub keeps : KeepsSource before s lost opened now
+  pub keeps : KeepsSource before s full lost opened now
 
-source_whole : (before : History) (s : StageNo) (out : Bool) (lines : LineSeen) (c : BodySeen) (x y : Option LineSeen) → x ≡ Some lines → c.source ≡ y → Both (KeepsSource before s []) x y → IsSourceKept before s out lines (Some c)
+source_whole : (before : History) (s : StageNo) (out : Bool) (lines : LineSeen) (c : BodySeen) (x y : Option LineSeen) → x ≡ Some lines → c.source ≡ y → Both (KeepsSource before s true []) x y → IsSourceKept before s out lines (Some c)
 source_whole before s out lines c (Some a) (Some now) e is h = record {
   now = now;
   is = ap (option_map (λ (l : LineSeen). l.source)) is;
+  full = true;
   lost = [];
   in_fetch = inl refl;
-  keeps = let same : a ≡ lines = cc in subst (λ z. KeepsSource before s [] z now) same h;
+  keeps = let same : a ≡ lines = cc in subst (λ z. KeepsSource before s true [] z now) same h;
 }
 source_whole before s out lines c (Some a) None e is h = absurd h
 source_whole before s out lines c None y e is h = cc
 
 source_partly : (before : History) (s : StageNo) (lines : LineSeen) (c : BodySeen) (x y : Option LineSeen) → x ≡ Some lines → c.source ≡ y
-    → Both (λ old new. (lost : List (List ℕ)) × KeepsSource before s lost old new) x y → IsSourceKept before s true lines (Some c)
+    → Both (λ old new. (lost : List (List ℕ)) × KeepsSource before s false lost old new) x y → IsSourceKept before s true lines (Some c)
 source_partly before s lines c (Some a) (Some now) e is h = record {
   now = now;
   is = ap (option_map (λ (l : LineSeen). l.source)) is;
+  full = false;
   lost = h.0;
   in_fetch = inr refl;
-  keeps = let same : a ≡ lines = cc in subst (λ z. KeepsSource before s h.0 z now) same h.1;
+  keeps = let same : a ≡ lines = cc in subst (λ z. KeepsSource before s false h.0 z now) same h.1;
 }
 source_partly before s lines c (Some a) None e is h = absurd h
 source_partly before s lines c None y e is h = cc
@@ -187,7 +191,7 @@ sink_kept topology before p out sink None n has some k = absurd has
 -- ---- all
 
 -- a run of which the bodies keep the journal, after everything was opened
-pub record IsRunFrom (feeds : StageSpec → Option Feed) (whole : Bool) (topology : Topology) (edges : EdgesSeen) (before : History) (table opened bodies : ℕ → Option BodySeen) : Type 0 where
+pub record IsRunFrom (feeds : Feeds) (whole : Bool) (topology : Topology) (edges : EdgesSeen) (before : History) (table opened bodies : ℕ → Option BodySeen) : Type 0 where
   pub sound : IsSound topology
   pub legal : is_legal topology before ≡ true
   pub home : AreHome feeds topology table
@@ -206,37 +210,37 @@ of_stage P s spec (x ∷ stages) found each = either (same_stage x.no s) found (
     either false is rest = rest is
 
 -- a source that was made, as it stands in the body of its stage
-calm_at : (feeds : StageSpec → Option Feed) (topology : Topology) (s : StageNo) (spec : StageSpec) (what : Supplied) (bodies : ℕ → Option BodySeen) (source : SourceSeen) → spec_of topology s ≡ Some spec → spec.no ≡ s → supplied feeds spec ≡ Some what
+calm_at : (feeds : Feeds) (topology : Topology) (s : StageNo) (spec : StageSpec) (what : Supplied) (bodies : ℕ → Option BodySeen) (source : SourceSeen) → spec_of topology s ≡ Some spec → spec.no ≡ s → supplied feeds spec ≡ Some what
     → source_in (bodies (place_at (post s 0))) ≡ Some source → AreCalm feeds topology.stages bodies → IsCalm (Some what) (Some source)
 calm_at feeds topology s spec what bodies source found named fits is calm =
     let own : IsCalm (supplied feeds spec) (source_in (bodies (place_at (post spec.no 0)))) = of_stage (λ x. IsCalm (supplied feeds x) (source_in (bodies (place_at (post x.no 0))))) s spec topology.stages found calm in
     let here : IsCalm (supplied feeds spec) (source_in (bodies (place_at (post s 0)))) = subst (λ t. IsCalm (supplied feeds spec) (source_in (bodies (place_at (post t 0))))) named own in
     subst (λ o. IsCalm (Some what) o) is (subst (λ o. IsCalm o (source_in (bodies (place_at (post s 0))))) fits here)
 
-sources_used : (feeds : StageSpec → Option Feed) (whole : Bool) (topology : Topology) (edges : EdgesSeen) (before : History) (table opened bodies : ℕ → Option BodySeen) → IsRunFrom feeds whole topology edges before table opened bodies
-    → (s : StageNo) (feed : Feed) → supplied_in feeds (spec_of topology s) ≡ Some (Fed feed) → There (source_in (bodies (place_at (post s 0)))) (IsFeedRead whole edges before s feed)
-sources_used feeds whole topology edges before table opened bodies run s feed e =
+sources_used : (feeds : Feeds) (whole : Bool) (topology : Topology) (edges : EdgesSeen) (before : History) (table opened bodies : ℕ → Option BodySeen) → IsRunFrom feeds whole topology edges before table opened bodies
+    → (s : StageNo) (pace : Option Pace) (feed : Feed) → supplied_in feeds (spec_of topology s) ≡ Some (Fed pace feed) → There (source_in (bodies (place_at (post s 0)))) (IsFedRead whole edges before s pace feed)
+sources_used feeds whole topology edges before table opened bodies run s pace feed e =
     let at = place_at (post s 0) in
-    let c = stage_of feeds topology s (Fed feed) e in
+    let c = stage_of feeds topology s (Fed pace feed) e in
     let numbered = numbered_topology topology run.sound in
-    let role = role_at topology s c.spec is_producer_role c.found (source_role c.spec.role (feeds c.spec) c.spec.edge feed c.fits) in
+    let role = role_at topology s c.spec is_producer_role c.found (source_role c.spec.role (feeds.pace c.spec) (feeds.origin c.spec) c.spec.edge pace feed c.fits) in
     let some : IsSome (supplied feeds c.spec) = subst (λ (o : Option Supplied). IsSome o) (sym c.fits) refl in
     let both = subst (λ o. Both (IsOpened edges o) (table at) (opened at)) c.fits (opened_stage feeds topology s c.spec edges table opened numbered c.found run.opens) in
-    let o = source_opened edges feed (table at) (opened at) (run.home s c.spec c.found some) both in
+    let o = source_opened edges pace feed (table at) (opened at) (run.home s c.spec c.found some) both in
     let there = run.stay at (some_from (λ b. b.source ≡ Some o.lines) (opened at) o.has) in
     let kept = source_kept topology before (post s 0) (is_out before (post s 0)) o.lines (opened at) (bodies at) o.has there (run.keeps (post s 0) (first_post topology s is_producer_role producer_post role)) in
     let own : same_stage s (stage 0) ≡ false = ne_eqb s.0 0 (λ zero. omega (arith, zero, (numbered.within s c.spec c.found).0)) in
-    there_at (IsFeedRead whole edges before s feed) (source_in (bodies at)) kept.now.source kept.is
-    (feed_read whole topology before s kept.lost edges feed o.lines kept.now run.legal role own kept.in_fetch o.gives kept.keeps
-    (λ w. calm_at feeds topology s c.spec (Fed feed) bodies kept.now.source c.found (numbered.named s c.spec c.found) c.fits kept.is (run.calm w)))
+    there_at (IsFedRead whole edges before s pace feed) (source_in (bodies at)) kept.now.source kept.is
+    (fed_read whole topology before s kept.full kept.lost edges pace feed o.lines kept.now run.legal role own kept.in_fetch o.gives kept.keeps
+    (λ w. calm_at feeds topology s c.spec (Fed pace feed) bodies kept.now.source c.found (numbered.named s c.spec c.found) c.fits kept.is (run.calm w)))
 
-sinks_used : (feeds : StageSpec → Option Feed) (whole : Bool) (topology : Topology) (edges : EdgesSeen) (before : History) (table opened bodies : ℕ → Option BodySeen) → IsRunFrom feeds whole topology edges before table opened bodies
+sinks_used : (feeds : Feeds) (whole : Bool) (topology : Topology) (edges : EdgesSeen) (before : History) (table opened bodies : ℕ → Option BodySeen) → IsRunFrom feeds whole topology edges before table opened bodies
     → (s : StageNo) (name : List ℕ) → supplied_in feeds (spec_of topology s) ≡ Some (Written name) → There (sink_in (bodies (place_at (post s 0)))) (IsSinkWritten topology edges before s name)
 sinks_used feeds whole topology edges before table opened bodies run s name e =
     let at = place_at (post s 0) in
     let c = stage_of feeds topology s (Written name) e in
     let numbered = numbered_topology topology run.sound in
-    let role = role_at topology s c.spec is_batch_processor_role c.found (sink_role c.spec.role (feeds c.spec) c.spec.edge name c.fits) in
+    let role = role_at topology s c.spec is_batch_processor_role c.found (sink_role c.spec.role (feeds.pace c.spec) (feeds.origin c.spec) c.spec.edge name c.fits) in
     let some : IsSome (supplied feeds c.spec) = subst (λ (o : Option Supplied). IsSome o) (sym c.fits) refl in
     let both = subst (λ o. Both (IsOpened edges o) (table at) (opened at)) c.fits (opened_stage feeds topology s c.spec edges table opened numbered c.found run.opens) in
     let o = sink_opened edges name (table at) (opened at) (run.home s c.spec c.found some) both in
@@ -245,6 +249,6 @@ sinks_used feeds whole topology edges before table opened bodies run s name e =
     there_at (IsSinkWritten topology edges before s name) (sink_in (bodies at)) kept.now kept.is
     (sink_written topology before s edges name o.sink kept.now o.gives kept.keeps)
 
-pub used : (feeds : StageSpec → Option Feed) (whole : Bool) (topology : Topology) (edges : EdgesSeen) (before : History) (table opened bodies : ℕ → Option BodySeen) → IsRunFrom feeds whole topology edges before table opened bodies → AreUsed feeds whole topology edges before bodies
+pub used : (feeds : Feeds) (whole : Bool) (topology : Topology) (edges : EdgesSeen) (before : History) (table opened bodies : ℕ → Option BodySeen) → IsRunFrom feeds whole topology edges before table opened bodies → AreUsed feeds whole topology edges before bodies
 used feeds whole topology edges before table opened bodies run =
     record { sources = sources_used feeds whole topology edges before table opened bodies run; sinks = sinks_used feeds whole topology edges before table opened bodies run }

@@ -7,17 +7,17 @@ use Rattle.pipe_types.specs.declared.topology.Topology.{Topology}
 use Rattle.pipe_model.specs.History.{History}
 use Rattle.pipe_edges.specs.declared.edges.EdgeKind.{EdgeKind}
 use Rattle.stage_bodies.specs.Seen.{SourceSeen, SinkSeen, LineSeen, BodySeen}
-use Rattle.edge_names.specs.Supplies.{Feed}
+use Rattle.edge_names.specs.Supplies.{Feeds}
 use Rattle.edge_names.specs.Seen.{EdgesSeen}
 use Rattle.edge_names.specs.Controls.{IsControlCut, IsCutShort, IsStageCut, IsStageUndone, IsUndone, control_call, first_sources, first_sinks, run_calls}
 use Rattle.edge_names.specs.Opened.{Asks, IsOneFailed, calls_of, edge_calls, one, uncalled}
-use Rattle.edge_names.specs.Returned.{GivesBack}
+use Rattle.edge_names.specs.Returned.{GivesOff}
 use Rattle.edge_names.proofs.Undoes.{calls_parts}
 use Rattle.box_stock.specs.Lends.{AreHandedOut}
 use Rattle.pipe_run.specs.Outside.{AreAsked, AreUsed, HasControl, IsControlUnopened, IsOpenedInPart, IsOutside, IsStageUnopened}
 use Rattle.pipe_run.specs.Whole.{HasFailed, HasWanted}
 
-unopened_control : (feeds : StageSpec → Option Feed) (topology : Topology) (name : List ℕ) (old new : EdgesSeen) → IsOneFailed (control_call topology.control) name old new → IsControlUnopened feeds topology name (edge_calls feeds topology) old new
+unopened_control : (feeds : Feeds) (topology : Topology) (name : List ℕ) (old new : EdgesSeen) → IsOneFailed (control_call topology.control) name old new → IsControlUnopened feeds topology name (edge_calls feeds topology) old new
 unopened_control feeds topology name old new failed = record {
   call = named topology.control failed.is;
   to_come = refl;
@@ -29,7 +29,7 @@ unopened_control feeds topology name old new failed = record {
     named (Some n) is = ap (option_map (λ (call : EdgeKind × List ℕ). call.1)) is
     named None is = cc
 
-unopened_stage : (feeds : StageSpec → Option Feed) (topology : Topology) (name : List ℕ) (start : ℕ → Option BodySeen) (old new : EdgesSeen) → AreHandedOut topology start → (u : IsStageUndone feeds topology name start old new)
+unopened_stage : (feeds : Feeds) (topology : Topology) (name : List ℕ) (start : ℕ → Option BodySeen) (old new : EdgesSeen) → AreHandedOut topology start → (u : IsStageUndone feeds topology name start old new)
     → IsStageUnopened feeds topology name (calls_of feeds (drop (u.at + 1) topology.stages)) old new
 unopened_stage feeds topology name start old new handed u = record {
   at = u.at;
@@ -44,11 +44,13 @@ unopened_stage feeds topology name start old new handed u = record {
   handed = handed;
   bodies = u.opened;
   opened = u.bodies;
+  inner = u.inner;
+  ungated = u.ungated;
   sources = u.sources;
   sinks = u.sinks;
 }
 
-pub failed_by : (feeds : StageSpec → Option Feed) (topology : Topology) (name : List ℕ) (start : ℕ → Option BodySeen) (old new : EdgesSeen) → AreHandedOut topology start → IsUndone feeds topology name start old new → HasFailed feeds topology name old new
+pub failed_by : (feeds : Feeds) (topology : Topology) (name : List ℕ) (start : ℕ → Option BodySeen) (old new : EdgesSeen) → AreHandedOut topology start → IsUndone feeds topology name start old new → HasFailed feeds topology name old new
 failed_by feeds topology name start old new handed (inl failed) = record {
   kind = failed.kind;
   front = [];
@@ -79,7 +81,7 @@ failed_by feeds topology name start old new handed (inr u) =
     }
 
 -- memory was wanting before anything was asked
-pub unasked : (feeds : StageSpec → Option Feed) (topology : Topology) (edges : EdgesSeen) → HasWanted feeds topology edges edges
+pub unasked : (feeds : Feeds) (topology : Topology) (edges : EdgesSeen) → HasWanted feeds topology edges edges
 unasked feeds topology edges = record {
   front = [];
   rest = run_calls feeds topology;
@@ -96,7 +98,7 @@ unasked feeds topology edges = record {
 }
 
 -- memory was wanting in opening
-pub wanted : (feeds : StageSpec → Option Feed) (topology : Topology) (start : ℕ → Option BodySeen) (old new : EdgesSeen) → AreHandedOut topology start → IsCutShort feeds topology start old new → HasWanted feeds topology old new
+pub wanted : (feeds : Feeds) (topology : Topology) (start : ℕ → Option BodySeen) (old new : EdgesSeen) → AreHandedOut topology start → IsCutShort feeds topology start old new → HasWanted feeds topology old new
 wanted feeds topology start old new handed cut = record {
   front = cut.front;
   rest = cut.rest;
@@ -110,16 +112,16 @@ wanted feeds topology start old new handed cut = record {
     by_part (inr stage) = inr (start, handed, stage)
 
 -- what was opened was asked for, and nothing more
-pub asked_all : (calls : List (EdgeKind × List ℕ)) (sources : List (List ℕ × SourceSeen)) (sinks : List (List ℕ × SinkSeen)) (old mid new : EdgesSeen) → Asks calls old mid → GivesBack sources sinks mid new → AreAsked calls old new
+pub asked_all : (calls : List (EdgeKind × List ℕ)) (sources : List (List ℕ × SourceSeen)) (sinks : List (List ℕ × SinkSeen)) (old mid new : EdgesSeen) → Asks calls old mid → GivesOff sources sinks mid new → AreAsked calls old new
 asked_all calls sources sinks old mid new asks back = record {
-  same_telling = back.same_telling ∙ asks.same_telling;
-  asked = λ t. back.asked (subst (λ b. IsTrue b) (sym asks.same_telling) t) ∙ asks.asked t;
-  faults_stay = omega (arith, asks.faults_stay, back.no_fault);
+  same_telling = back.back.same_telling ∙ asks.same_telling;
+  asked = λ t. back.back.asked (subst (λ b. IsTrue b) (sym asks.same_telling) t) ∙ asks.asked t;
+  faults_stay = omega (arith, asks.faults_stay, back.back.no_fault);
 }
 
-pub outside : (feeds : StageSpec → Option Feed) (whole : Bool) (topology : Topology) (before : History) (calls : List (EdgeKind × List ℕ)) (old mid new : EdgesSeen) (control : Option LineSeen) (bodies : ℕ → Option BodySeen) (n : ℕ) → (IsTrue whole → n ≡ suc (length topology.stages))
+pub outside : (feeds : Feeds) (whole : Bool) (topology : Topology) (before : History) (calls : List (EdgeKind × List ℕ)) (old mid new : EdgesSeen) (control : Option LineSeen) (bodies : ℕ → Option BodySeen) (n : ℕ) → (IsTrue whole → n ≡ suc (length topology.stages))
     → HasControl topology old before topology.control control → AreUsed feeds whole topology old before bodies
-    → Asks calls old mid → GivesBack (first_sources feeds n topology control bodies) (first_sinks feeds n topology bodies) mid new → IsOutside feeds whole topology before old new
+    → Asks calls old mid → GivesOff (first_sources feeds n topology control bodies) (first_sinks feeds n topology bodies) mid new → IsOutside feeds whole topology before old new
 outside feeds whole topology before calls old mid new control bodies n all obeyed used asks back = record {
   control = control;
   obeyed = obeyed;
@@ -127,6 +129,8 @@ outside feeds whole topology before calls old mid new control bodies n all obeye
   used = used;
   parts = n;
   all = all;
-  sources = back.back_sources ∙ ap (λ z. z ++ first_sources feeds n topology control bodies) asks.sources;
-  sinks = back.back_sinks ∙ ap (λ z. z ++ first_sinks feeds n topology bodies) asks.sinks;
+  inner = back.inner;
+  ungated = back.ungated;
+  sources = back.back.back_sources ∙ ap (λ z. z ++ back.inner) asks.sources;
+  sinks = back.back.back_sinks ∙ ap (λ z. z ++ first_sinks feeds n topology bodies) asks.sinks;
 }

@@ -8,3 +8,4 @@ mod Stocks
 mod Calls
 mod Runs
 mod Wholes
+mod Rates

@@ -1,19 +1,22 @@
 -- A source that was made of records gives these records.
 use Rattle.std.proofs.Common.{◌≡◌, ◌≤◌, ℕ, List, [], ◌∷◌, ◌++◌, length, Bool, arith, refl, ap, sym, ◌∙◌, subst, inl, inr}
-use Rattle.std.specs.Prelude.{All}
+use Rattle.std.specs.Prelude.{All, IsSome, Option, None, true, false}
 use Rattle.std.proofs.lemmas.List.{append-nil, length-append}
 use Rattle.std.proofs.lemmas.List.Elements.{All-nil, All-cons, All-head, All-tail}
 use Rattle.pipe_types.specs.Counts.{Rose}
 use Rattle.pipe_types.specs.Lines.{max_bytes, pieces, lines}
 use Rattle.pipe_types.specs.declared.numbers.StageNo.{StageNo}
+use Rattle.pipe_types.specs.declared.topology.Rate.{Rate}
 use Rattle.pipe_model.specs.History.{History}
 use Rattle.pipe_model.specs.Outside.{fed}
+use Rattle.pipe_edges.specs.Paces.{PaceSeen, unpaced}
 use Rattle.pipe_edges.specs.Texts.{IsLine, ended}
 use Rattle.pipe_edges.proofs.TextLaws.{lines_ended, lines_nil, pieces_front}
 use Rattle.source_lines.specs.Cut.{AreAllLines, AreFirstLines, AreLinesBeforeLong, HasShortLines}
 use Rattle.pipe_laws.specs.Read.{quiets}
 use Rattle.stage_job.specs.Chunks.{RoseBy}
 use Rattle.stage_bodies.specs.Seen.{SourceSeen}
+use Rattle.edge_names.specs.Gates.{HasNoWait}
 use Rattle.pipe_run.specs.Outside.{IsMadeRead}
 use Rattle.pipe_run.specs.Records.{ReadsRecords}
 
@@ -38,8 +41,16 @@ none_risen : (times now : ℕ) → now ≡ 0 → RoseBy times 0 now → times �
 none_risen times now none (inl low) = omega (arith, none, low)
 none_risen times now none (inr full) = absurd (omega (arith, none, full))
 
-pub reads_records : (whole : Bool) (before : History) (p : StageNo) (records : List (List ℕ)) (source : SourceSeen) → All IsLine records → IsMadeRead whole before p (ended records) source → ReadsRecords whole before p records
-reads_records whole before p records source each made =
+-- without a gate no wait was counted
+no_waits : (source : SourceSeen) → HasNoWait source → source.paced ≡ unpaced → source.waits ≡ 0
+no_waits source (inl none) plain = none
+no_waits source (inr (some, own)) plain =
+    let none : IsSome unpaced.pace = subst (λ (p : PaceSeen). IsSome p.pace) plain some in
+    let x : false ≡ true = none in cc
+
+pub reads_records : (whole : Bool) (rate : Option Rate) (before : History) (p : StageNo) (records : List (List ℕ)) (source : SourceSeen) → All IsLine records → IsMadeRead whole before p (ended records) source
+    → (rate ≡ None → source.paced ≡ unpaced) → ReadsRecords whole rate before p records
+reads_records whole rate before p records source each made plain =
     let bytes = made.same_bytes in
     let first = subst (λ b. AreFirstLines b (fed before p)) bytes (made.reads.in_order made.tells) in
     record {
@@ -47,7 +58,7 @@ reads_records whole before p records source each made =
       all = λ e. (subst (λ b. AreAllLines b (fed before p)) bytes (made.reads.whole made.tells e)).all ∙ lines_are records each;
       no_long = λ e. not_too_long records (fed before p) each (subst (λ b. AreLinesBeforeLong b (fed before p)) bytes (made.reads.too_long made.tells e));
       no_fault = λ w e. not_risen source.faults (made.calm w).0 (made.reads.fault e);
-      no_quiet = λ w. none_risen (quiets before p) source.waits (made.calm w).1 made.reads.quiet;
+      no_quiet = λ w none. none_risen (quiets before p) source.waits (no_waits source (made.calm w).1 (plain none)) made.reads.quiet;
     }
 
 -- ---- short lines

@@ -17,10 +17,10 @@ use Rattle.run_pipe.specs.declared.ends.RunEnd.{RunEnd}
 use Rattle.run_pipe.specs.declared.ends.RunEnd.TheVariants.{Drained, Halted}
 use Rattle.run_pipe.specs.Seen.{PipeState}
 use Rattle.run_pipe.specs.Runs.{HasRun}
-use Rattle.edge_names.specs.Supplies.{Feed}
+use Rattle.edge_names.specs.Supplies.{Feeds, Feed, at_paces}
 use Rattle.edge_names.specs.Seen.{EdgesSeen}
 use Rattle.edge_names.specs.Controls.{IsGivenInPart, first_sources, first_sinks, named_control}
-use Rattle.edge_names.specs.Returned.{AreCalm, GivesBack, KeepsCallbacks, sources_of, sinks_of}
+use Rattle.edge_names.specs.Returned.{AreCalm, GivesOff, KeepsCallbacks, sources_of, sinks_of}
 use Rattle.pipe_run.specs.Steps.{WentOn}
 use Rattle.pipe_run.specs.Whole.{HasCome}
 
@@ -49,19 +49,19 @@ partly_obeyed : {E : Type 0} (r : Result RunEnd E) (topology : Topology) (before
 partly_obeyed (Ok end) topology before opened now k = kept_partly topology before opened now k
 partly_obeyed (Err e) topology before opened now k = k
 
-all_back : (feeds : StageSpec → Option Feed) (topology : Topology) (control : Option LineSeen) (bodies : ℕ → Option BodySeen) (old new : EdgesSeen)
-    → GivesBack (named_control topology.control control ++ sources_of feeds topology.stages bodies) (sinks_of feeds topology.stages bodies) old new
-    → GivesBack (first_sources feeds (suc (length topology.stages)) topology control bodies) (first_sinks feeds (suc (length topology.stages)) topology bodies) old new
+all_back : (feeds : Feeds) (topology : Topology) (control : Option LineSeen) (bodies : ℕ → Option BodySeen) (old new : EdgesSeen)
+    → GivesOff (named_control topology.control control ++ sources_of feeds topology.stages bodies) (sinks_of feeds topology.stages bodies) old new
+    → GivesOff (first_sources feeds (suc (length topology.stages)) topology control bodies) (first_sinks feeds (suc (length topology.stages)) topology bodies) old new
 all_back feeds topology control bodies old new h =
     let stages = topology.stages in
-    subst (λ (xs : List StageSpec). GivesBack (named_control topology.control control ++ sources_of feeds xs bodies) (sinks_of feeds xs bodies) old new) (sym (take_all (length stages) stages (omega arith))) h
+    subst (λ (xs : List StageSpec). GivesOff (named_control topology.control control ++ sources_of feeds xs bodies) (sinks_of feeds xs bodies) old new) (sym (take_all (length stages) stages (omega arith))) h
 
-back_of : (feeds : StageSpec → Option Feed) (topology same : Topology) (control : Option LineSeen) (bodies : ℕ → Option BodySeen) (old new : EdgesSeen) → topology ≡ same
-    → GivesBack (named_control topology.control control ++ sources_of feeds topology.stages bodies) (sinks_of feeds topology.stages bodies) old new
-    → GivesBack (named_control same.control control ++ sources_of feeds same.stages bodies) (sinks_of feeds same.stages bodies) old new
-back_of feeds topology same control bodies old new e h = subst (λ (t : Topology). GivesBack (named_control t.control control ++ sources_of feeds t.stages bodies) (sinks_of feeds t.stages bodies) old new) e h
+back_of : (feeds : Feeds) (topology same : Topology) (control : Option LineSeen) (bodies : ℕ → Option BodySeen) (old new : EdgesSeen) → topology ≡ same
+    → GivesOff (named_control topology.control control ++ sources_of feeds topology.stages bodies) (sinks_of feeds topology.stages bodies) old new
+    → GivesOff (named_control same.control control ++ sources_of feeds same.stages bodies) (sinks_of feeds same.stages bodies) old new
+back_of feeds topology same control bodies old new e h = subst (λ (t : Topology). GivesOff (named_control t.control control ++ sources_of feeds t.stages bodies) (sinks_of feeds t.stages bodies) old new) e h
 
-calm_of : (feeds : StageSpec → Option Feed) (topology same : Topology) (bodies : ℕ → Option BodySeen) → topology ≡ same → AreCalm feeds topology.stages bodies → AreCalm feeds same.stages bodies
+calm_of : (feeds : Feeds) (topology same : Topology) (bodies : ℕ → Option BodySeen) → topology ≡ same → AreCalm feeds topology.stages bodies → AreCalm feeds same.stages bodies
 calm_of feeds topology same bodies e h = subst (λ (t : Topology). AreCalm feeds t.stages bodies) e h
 
 -- ---- the parts of a pipe
@@ -83,8 +83,8 @@ ran_to o opened p final end first last is ran =
 -- ---- the whole
 
 -- all was given back of the topology that stands in the core
-pub went : (feeds : StageSpec → Option Feed) (r : Result RunEnd AllocError) (opened p : PipeState) (topology : Topology) (final : ℕ → Option BodySeen) (old new : EdgesSeen) → HasRun opened p r → topology ≡ p.topology
-    → GivesBack (named_control topology.control p.control ++ sources_of feeds topology.stages p.home) (sinks_of feeds topology.stages p.home) old new → AreCalm feeds topology.stages p.home → KeepsCallbacks p.home final
+went : (feeds : Feeds) (r : Result RunEnd AllocError) (opened p : PipeState) (topology : Topology) (final : ℕ → Option BodySeen) (old new : EdgesSeen) → HasRun opened p r → topology ≡ p.topology
+    → GivesOff (named_control topology.control p.control ++ sources_of feeds topology.stages p.home) (sinks_of feeds topology.stages p.home) old new → AreCalm feeds topology.stages p.home → KeepsCallbacks p.home final
     → WentOn feeds (is_ok r) opened.topology p.steps opened.home final opened.control old new opened.clock p.clock
 went feeds (Ok end) opened p topology final old new h same back calm kept = record {
   follows = h.follows;
@@ -122,7 +122,7 @@ went feeds (Err e) opened p topology final old new h same back calm kept = recor
 }
 
 -- there was no memory for giving all back
-pub went_in_part : (feeds : StageSpec → Option Feed) (r : Result RunEnd AllocError) (opened p : PipeState) (topology : Topology) (final : ℕ → Option BodySeen) (old new : EdgesSeen) → HasRun opened p r → topology ≡ p.topology
+went_in_part : (feeds : Feeds) (r : Result RunEnd AllocError) (opened p : PipeState) (topology : Topology) (final : ℕ → Option BodySeen) (old new : EdgesSeen) → HasRun opened p r → topology ≡ p.topology
     → IsGivenInPart feeds topology p.control p.home old new → KeepsCallbacks p.home final → WentOn feeds false opened.topology p.steps opened.home final opened.control old new opened.clock p.clock
 went_in_part feeds r opened p topology final old new h same given kept =
     let part = subst (λ (t : Topology). IsGivenInPart feeds t p.control p.home old new) (same ∙ h.topology) given in
@@ -143,3 +143,19 @@ went_in_part feeds r opened p topology final old new h same given kept =
       calm = λ w. not_whole w;
       kept = kept;
     }
+
+-- ---- with the sources in their gates
+
+pub went_at : (origin : StageSpec → Option Feed) (r : Result RunEnd AllocError) (opened p : PipeState) (topology : Topology) (final : ℕ → Option BodySeen) (old new : EdgesSeen) → HasRun opened p r → topology ≡ p.topology
+    → GivesOff (named_control topology.control p.control ++ sources_of (at_paces topology origin) topology.stages p.home) (sinks_of (at_paces topology origin) topology.stages p.home) old new → AreCalm (at_paces topology origin) topology.stages p.home → KeepsCallbacks p.home final
+    → WentOn (at_paces opened.topology origin) (is_ok r) opened.topology p.steps opened.home final opened.control old new opened.clock p.clock
+went_at origin r opened p topology final old new h same back calm kept =
+    subst (λ (t : Topology). WentOn (at_paces t origin) (is_ok r) opened.topology p.steps opened.home final opened.control old new opened.clock p.clock) (same ∙ h.topology)
+    (went (at_paces topology origin) r opened p topology final old new h same back calm kept)
+
+pub went_in_part_at : (origin : StageSpec → Option Feed) (r : Result RunEnd AllocError) (opened p : PipeState) (topology : Topology) (final : ℕ → Option BodySeen) (old new : EdgesSeen) → HasRun opened p r → topology ≡ p.topology
+    → IsGivenInPart (at_paces topology origin) topology p.control p.home old new → KeepsCallbacks p.home final
+    → WentOn (at_paces opened.topology origin) false opened.topology p.steps opened.home final opened.control old new opened.clock p.clock
+went_in_part_at origin r opened p topology final old new h same given kept =
+    subst (λ (t : Topology). WentOn (at_paces t origin) false opened.topology p.steps opened.home final opened.control old new opened.clock p.clock) (same ∙ h.topology)
+    (went_in_part (at_paces topology origin) r opened p topology final old new h same given kept)

@@ -1,5 +1,5 @@
 -- From what a body's source was read to, to what the journal says of the source that was opened.
-use Rattle.std.proofs.Common.{◌≡◌, ℕ, List, [], ◌∷◌, ◌++◌, Bool, true, false, refl, ap, sym, ◌∙◌, subst, inl, inr, Option, Some}
+use Rattle.std.proofs.Common.{◌≡◌, ℕ, List, [], ◌∷◌, ◌++◌, Bool, true, false, refl, ap, sym, ◌∙◌, subst, inl, inr, arith, Option, Some, None}
 use Rattle.std.specs.Prelude.{IsTrue, ◌⊎◌, ◌||◌, if◌then◌else◌}
 use Rattle.std.proofs.lemmas.List.{append_assoc, append-nil}
 use Rattle.pipe_types.specs.Counts.{Rose}
@@ -25,12 +25,17 @@ use Rattle.stage_job.specs.Chunks.{RoseBy}
 use Rattle.stage_bodies.specs.Reads.{AreReadFrom}
 use Rattle.stage_bodies.specs.Seen.{SourceSeen, LineSeen}
 use Rattle.body_laws.specs.Keeps.{IsKnownEnd, KeepsSource}
+use Rattle.pipe_edges.specs.Paces.{Pace, PaceSeen}
+use Rattle.rate_laws.specs.Rates.{own_quiets}
+use Rattle.pace_laws.specs.Pacing.{KeepsPaceBy, at_start}
 use Rattle.edge_names.specs.Seen.{EdgesSeen}
-use Rattle.edge_names.specs.Supplies.{Feed, Opened, Made, Fed}
-use Rattle.edge_names.specs.Opened.{GivesFeed, GivesLines, GivesMade}
+use Rattle.edge_names.specs.Named.{GivesSource}
+use Rattle.edge_names.specs.Supplies.{Feed, Opened, Made, Fed, IsMade}
+use Rattle.edge_names.specs.Gates.{without_gate}
+use Rattle.edge_names.specs.Opened.{GivesFeed, GivesFed}
 use Rattle.edge_names.specs.Returned.{IsCalm}
 use Rattle.run_pipe.proofs.Obeying.{first_lines, before_long}
-use Rattle.pipe_run.specs.Outside.{ReadsSource, IsFeedRead, IsMadeRead, IsSourceRead}
+use Rattle.pipe_run.specs.Outside.{ReadsSource, IsFeedRead, IsFedRead, IsMadeRead, IsSourceRead, KeepsItsPace}
 
 -- ---- ends
 
@@ -98,9 +103,9 @@ record IsUncounted (source : SourceSeen) : Type 0 where
   pub no_wait : source.waits ≡ 0
 
 -- the journal's records are the first of the source's lines, and where it ended they are as its end says
-reads_source : (topology : Topology) (before : History) (s : StageNo) (lost : List (List ℕ)) (opened now : LineSeen) → is_legal topology before ≡ true → has_role topology s is_producer_role ≡ true → same_stage s (stage 0) ≡ false
-    → (lost ≡ []) ⊎ (is_out before (post s 0) ≡ true) → IsUncounted opened.source → KeepsSource before s lost opened now → ReadsSource before s now.source
-reads_source topology before s lost opened now legal role own in_fetch fresh k =
+reads_source : (topology : Topology) (before : History) (s : StageNo) (full : Bool) (lost : List (List ℕ)) (opened now : LineSeen) → is_legal topology before ≡ true → has_role topology s is_producer_role ≡ true → same_stage s (stage 0) ≡ false
+    → (lost ≡ []) ⊎ (is_out before (post s 0) ≡ true) → IsUncounted opened.source → KeepsSource before s full lost opened now → ReadsSource before s now.source
+reads_source topology before s full lost opened now legal role own in_fetch fresh k =
     let f = fed before s in
     let source = opened.source in
     let told_then = λ (t : IsTrue now.source.told). subst (λ b. b ≡ true) k.read.same_telling t in
@@ -125,26 +130,42 @@ reads_source topology before s lost opened now legal role own in_fetch fresh k =
       quiet = subst (λ n. RoseBy (quiets before s) n now.source.waits) fresh.no_wait k.quiet;
     }
 
-source_read : (topology : Topology) (before : History) (s : StageNo) (lost : List (List ℕ)) (edges : EdgesSeen) (name : List ℕ) (opened now : LineSeen) → is_legal topology before ≡ true → has_role topology s is_producer_role ≡ true → same_stage s (stage 0) ≡ false
-    → (lost ≡ []) ⊎ (is_out before (post s 0) ≡ true) → GivesLines edges name opened → KeepsSource before s lost opened now → IsSourceRead edges before s name now.source
-source_read topology before s lost edges name opened now legal role own in_fetch gives k = record {
+source_read : (topology : Topology) (before : History) (s : StageNo) (full : Bool) (lost : List (List ℕ)) (edges : EdgesSeen) (name : List ℕ) (opened now : LineSeen) → is_legal topology before ≡ true → has_role topology s is_producer_role ≡ true → same_stage s (stage 0) ≡ false
+    → (lost ≡ []) ⊎ (is_out before (post s 0) ≡ true) → GivesSource edges name (without_gate opened.source) → KeepsSource before s full lost opened now → IsSourceRead edges before s name now.source
+source_read topology before s full lost edges name opened now legal role own in_fetch gives k = record {
   opened = opened.source;
-  given = gives.source;
+  given = gives;
   same_telling = k.read.same_telling;
-  same_bytes = λ t. all_bytes opened.source now (fed before s ++ lost) gives.source.nothing_taken k.read t;
-  reads = reads_source topology before s lost opened now legal role own in_fetch (record { nothing_taken = gives.source.nothing_taken; no_fault = gives.source.no_fault; no_wait = gives.source.no_wait }) k;
+  same_bytes = λ t. all_bytes opened.source now (fed before s ++ lost) gives.nothing_taken k.read t;
+  reads = reads_source topology before s full lost opened now legal role own in_fetch (record { nothing_taken = gives.nothing_taken; no_fault = gives.no_fault; no_wait = gives.no_wait }) k;
 }
 
-made_read : (whole : Bool) (topology : Topology) (before : History) (s : StageNo) (lost : List (List ℕ)) (bytes : List ℕ) (opened now : LineSeen) → is_legal topology before ≡ true → has_role topology s is_producer_role ≡ true → same_stage s (stage 0) ≡ false
-    → (lost ≡ []) ⊎ (is_out before (post s 0) ≡ true) → GivesMade bytes opened → KeepsSource before s lost opened now → (IsTrue whole → IsCalm (Some (Fed (Made bytes))) (Some now.source)) → IsMadeRead whole before s bytes now.source
-made_read whole topology before s lost bytes opened now legal role own in_fetch gives k calm = record {
-  tells = subst (λ b. b ≡ true) (sym k.read.same_telling) gives.source.tells;
-  same_bytes = all_bytes opened.source now (fed before s ++ lost) gives.source.nothing_taken k.read gives.source.tells ∙ gives.source.all_left;
-  reads = reads_source topology before s lost opened now legal role own in_fetch (record { nothing_taken = gives.source.nothing_taken; no_fault = gives.source.no_fault; no_wait = gives.source.no_wait }) k;
+made_read : (whole : Bool) (topology : Topology) (before : History) (s : StageNo) (full : Bool) (lost : List (List ℕ)) (pace : Option Pace) (bytes : List ℕ) (opened now : LineSeen) → is_legal topology before ≡ true → has_role topology s is_producer_role ≡ true → same_stage s (stage 0) ≡ false
+    → (lost ≡ []) ⊎ (is_out before (post s 0) ≡ true) → IsMade bytes (without_gate opened.source) → KeepsSource before s full lost opened now → (IsTrue whole → IsCalm (Some (Fed pace (Made bytes))) (Some now.source)) → IsMadeRead whole before s bytes now.source
+made_read whole topology before s full lost pace bytes opened now legal role own in_fetch gives k calm = record {
+  tells = subst (λ b. b ≡ true) (sym k.read.same_telling) gives.tells;
+  same_bytes = all_bytes opened.source now (fed before s ++ lost) gives.nothing_taken k.read gives.tells ∙ gives.all_left;
+  reads = reads_source topology before s full lost opened now legal role own in_fetch (record { nothing_taken = gives.nothing_taken; no_fault = gives.no_fault; no_wait = gives.no_wait }) k;
   calm = calm;
 }
 
-pub feed_read : (whole : Bool) (topology : Topology) (before : History) (s : StageNo) (lost : List (List ℕ)) (edges : EdgesSeen) (feed : Feed) (opened now : LineSeen) → is_legal topology before ≡ true → has_role topology s is_producer_role ≡ true → same_stage s (stage 0) ≡ false
-    → (lost ≡ []) ⊎ (is_out before (post s 0) ≡ true) → GivesFeed edges feed opened → KeepsSource before s lost opened now → (IsTrue whole → IsCalm (Some (Fed feed)) (Some now.source)) → IsFeedRead whole edges before s feed now.source
-feed_read whole topology before s lost edges (Opened name) opened now legal role own in_fetch gives k calm = source_read topology before s lost edges name opened now legal role own in_fetch gives k
-feed_read whole topology before s lost edges (Made bytes) opened now legal role own in_fetch gives k calm = made_read whole topology before s lost bytes opened now legal role own in_fetch gives k calm
+feed_read : (whole : Bool) (topology : Topology) (before : History) (s : StageNo) (full : Bool) (lost : List (List ℕ)) (edges : EdgesSeen) (pace : Option Pace) (feed : Feed) (opened now : LineSeen) → is_legal topology before ≡ true → has_role topology s is_producer_role ≡ true → same_stage s (stage 0) ≡ false
+    → (lost ≡ []) ⊎ (is_out before (post s 0) ≡ true) → GivesFeed edges feed (without_gate opened.source) → KeepsSource before s full lost opened now → (IsTrue whole → IsCalm (Some (Fed pace feed)) (Some now.source)) → IsFeedRead whole edges before s feed now.source
+feed_read whole topology before s full lost edges pace (Opened name) opened now legal role own in_fetch gives k calm = source_read topology before s full lost edges name opened now legal role own in_fetch gives k
+feed_read whole topology before s full lost edges pace (Made bytes) opened now legal role own in_fetch gives k calm = made_read whole topology before s full lost pace bytes opened now legal role own in_fetch gives k calm
+
+-- ---- its pace
+
+kept_pace : (pace : Option Pace) (before : History) (s : StageNo) (full : Bool) (opened : SourceSeen) (now : LineSeen) → opened.paced ≡ at_start pace → KeepsPaceBy pace before s full opened now → KeepsItsPace pace before s now.source
+kept_pace None before s full opened now begins k = k ∙ begins
+kept_pace (Some pace) before s full opened now begins k =
+    (k.within, subst (λ n. RoseBy (own_quiets pace.share pace.interval before s) n now.source.paced.own) (ap (λ (p : PaceSeen). p.own) begins) k.own)
+
+pub fed_read : (whole : Bool) (topology : Topology) (before : History) (s : StageNo) (full : Bool) (lost : List (List ℕ)) (edges : EdgesSeen) (pace : Option Pace) (feed : Feed) (opened now : LineSeen) → is_legal topology before ≡ true → has_role topology s is_producer_role ≡ true → same_stage s (stage 0) ≡ false
+    → (lost ≡ []) ⊎ (is_out before (post s 0) ≡ true) → GivesFed edges pace feed opened → KeepsSource before s full lost opened now → (IsTrue whole → IsCalm (Some (Fed pace feed)) (Some now.source)) → IsFedRead whole edges before s pace feed now.source
+fed_read whole topology before s full lost edges pace feed opened now legal role own in_fetch gives k calm =
+    let same : opened.source.paced.pace ≡ pace = ap (λ (p : PaceSeen). p.pace) gives.gate in
+    record {
+      read = feed_read whole topology before s full lost edges pace feed opened now legal role own in_fetch gives.source k calm;
+      pace = kept_pace pace before s full opened.source now gives.gate (subst (λ p. KeepsPaceBy p before s full opened.source now) same k.paced);
+    }

@@ -8,7 +8,7 @@ use Rattle.pipe_model.specs.History.{History}
 use Rattle.pipe_model.specs.Legal.{is_legal}
 use Rattle.stage_bodies.specs.Seen.{LineSeen, BoxSeen, BodySeen}
 use Rattle.run_pipe.specs.Clocks.{ClockSeen}
-use Rattle.edge_names.specs.Supplies.{Feed}
+use Rattle.edge_names.specs.Supplies.{Feeds}
 use Rattle.edge_names.specs.Seen.{EdgesSeen}
 use Rattle.edge_names.specs.Controls.{control_call, first_sources, first_sinks, run_calls}
 use Rattle.edge_names.specs.Opened.{AreOpened, Asks, HasSource}
@@ -28,7 +28,7 @@ use Rattle.pipe_run.proofs.Controls.{has_control, no_control}
 use Rattle.pipe_run.proofs.Stocks.{IsTakenBack, boxes_left, boxes_same}
 
 -- everything was opened, the rounds went on, and all was given back
-pub run_of : (feeds : StageSpec → Option Feed) (whole : Bool) (topology : Topology) (before : History) (table opened final : ℕ → Option BodySeen) (fresh : Option LineSeen) (old mid new : EdgesSeen) (clock clock' : ClockSeen) → IsSound topology → is_legal topology before ≡ true → AreHandedOut topology table
+pub run_of : (feeds : Feeds) (whole : Bool) (topology : Topology) (before : History) (table opened final : ℕ → Option BodySeen) (fresh : Option LineSeen) (old mid new : EdgesSeen) (clock clock' : ClockSeen) → IsSound topology → is_legal topology before ≡ true → AreHandedOut topology table
     → AreOpened feeds topology (length topology.stages) old table opened → HasSource old (control_call topology.control) None fresh → Asks (run_calls feeds topology) old mid → WentOn feeds whole topology before opened final fresh mid new clock clock'
     → IsRunOf feeds whole topology before old new clock clock'
 run_of feeds whole topology before table opened final fresh old mid new clock clock' sound legal handed opens lines asks went =
@@ -52,7 +52,7 @@ run_of feeds whole topology before table opened final fresh old mid new clock cl
       asks = asked_all (run_calls feeds topology) (first_sources feeds went.parts topology went.control went.bodies) (first_sinks feeds went.parts topology went.bodies) old mid new asks went.back;
     }
 
-pub run_leaves : (feeds : StageSpec → Option Feed) (whole : Bool) (topology : Topology) (before : History) (table opened final : ℕ → Option BodySeen) (fresh : Option LineSeen) (mid new : EdgesSeen) (clock clock' : ClockSeen) → IsSound topology → KeepsCallbacks table opened
+pub run_leaves : (feeds : Feeds) (whole : Bool) (topology : Topology) (before : History) (table opened final : ℕ → Option BodySeen) (fresh : Option LineSeen) (mid new : EdgesSeen) (clock clock' : ClockSeen) → IsSound topology → KeepsCallbacks table opened
     → WentOn feeds whole topology before opened final fresh mid new clock clock' → LeavesCallbacks whole topology before table final
 run_leaves feeds whole topology before table opened final fresh mid new clock clock' sound first went =
     leaves whole topology before table opened went.bodies final sound first went.keeps went.none_out went.stay went.kept

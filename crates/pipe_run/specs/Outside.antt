@@ -18,9 +18,12 @@ use Rattle.stage_bodies.specs.Posts.{place_at}
 use Rattle.body_laws.specs.Counts.{short_writes}
 use Rattle.body_laws.specs.Ready.{There}
 use Rattle.run_pipe.specs.Obeyed.{IsControlRead}
+use Rattle.pipe_edges.specs.Paces.{Pace, unpaced}
+use Rattle.rate_laws.specs.Rates.{came_by, own_quiets}
 use Rattle.edge_names.specs.Seen.{EdgesSeen}
+use Rattle.edge_names.specs.Gates.{AreInner, HasNoWait, without_gate}
 use Rattle.edge_names.specs.Named.{GivesSource, GivesSink}
-use Rattle.edge_names.specs.Supplies.{Feed, Opened, Made, Fed, Written, call_of}
+use Rattle.edge_names.specs.Supplies.{Feeds, Feed, Opened, Made, Fed, Written, call_of}
 use Rattle.edge_names.specs.Opened.{AreOpened, HasSource, supplied_in, calls_of, edge_calls}
 use Rattle.edge_names.specs.Returned.{source_in, sink_in, sources_of, sinks_of}
 use Rattle.edge_names.specs.Controls.{IsControlCut, IsStageCut, control_call, named_control, first_sources, first_sinks}
@@ -36,10 +39,11 @@ pub record ReadsSource (before : History) (p : StageNo) (source : SourceSeen) : 
   pub fault : source_end before p ≡ Some Fault → Rose 0 source.faults
   pub quiet : RoseBy (quiets before p) 0 source.waits
 
--- the source that was opened under this name has the bytes that stood there, and the journal's records are its lines
+-- the source that was opened under this name, without its gate, has the bytes that stood there, and the journal's records are its
+-- lines
 pub record IsSourceRead (edges : EdgesSeen) (before : History) (p : StageNo) (name : List ℕ) (source : SourceSeen) : Type 0 where
   pub opened : SourceSeen
-  pub given : GivesSource edges name opened
+  pub given : GivesSource edges name (without_gate opened)
   pub same_telling : source.told ≡ opened.told
   pub same_bytes : IsTrue opened.told → source.taken ++ source.left ≡ opened.left
   pub reads : ReadsSource before p source
@@ -69,39 +73,54 @@ pub record IsSinkWritten (topology : Topology) (edges : EdgesSeen) (before : His
   pub short : RoseBy (short_writes topology before s) 0 sink.faults
 
 -- the source that was made of these bytes has them, and the journal's records are its lines. In a whole run it has counted no
--- fault and no wait
+-- fault, and it was never the source itself that had nothing ready
 pub record IsMadeRead (whole : Bool) (before : History) (p : StageNo) (bytes : List ℕ) (source : SourceSeen) : Type 0 where
   pub tells : IsTrue source.told
   pub same_bytes : source.taken ++ source.left ≡ bytes
   pub reads : ReadsSource before p source
-  pub calm : IsTrue whole → (source.faults ≡ 0) × (source.waits ≡ 0)
+  pub calm : IsTrue whole → (source.faults ≡ 0) × HasNoWait source
 
 -- the source of a producer, however it came to it
 abbrev pub IsFeedRead : (whole : Bool) → EdgesSeen → History → (p : StageNo) → Feed → SourceSeen → Type 0
 IsFeedRead whole edges before p (Opened name) source = IsSourceRead edges before p name source
 IsFeedRead whole edges before p (Made bytes) source = IsMadeRead whole before p bytes source
 
+-- no interval brought more records than the share, and the source itself had nothing ready at least once for each quiet of the journal
+-- that came while the share had one left; without a pace it has no gate
+abbrev pub KeepsItsPace : Option Pace → History → (p : StageNo) → SourceSeen → Type 0
+KeepsItsPace None before p source = source.paced ≡ unpaced
+KeepsItsPace (Some pace) before p source =
+    ((i : ℕ) → came_by p pace.interval i before ≤ pace.share)
+    × RoseBy (own_quiets pace.share pace.interval before p) 0 source.paced.own
+
+-- the source of a producer that is read at this pace
+pub record IsFedRead (whole : Bool) (edges : EdgesSeen) (before : History) (p : StageNo) (at : Option Pace) (feed : Feed) (source : SourceSeen) : Type 0 where
+  pub read : IsFeedRead whole edges before p feed source
+  pub pace : KeepsItsPace at before p source
+
 -- the bodies of the stages hold what they were supplied with, each source read and each sink written as the journal says
-pub record AreUsed (feeds : StageSpec → Option Feed) (whole : Bool) (topology : Topology) (edges : EdgesSeen) (before : History) (bodies : ℕ → Option BodySeen) : Type 0 where
-  pub sources : (s : StageNo) (feed : Feed) → supplied_in feeds (spec_of topology s) ≡ Some (Fed feed)
-      → There (source_in (bodies (place_at (post s 0)))) (IsFeedRead whole edges before s feed)
+pub record AreUsed (feeds : Feeds) (whole : Bool) (topology : Topology) (edges : EdgesSeen) (before : History) (bodies : ℕ → Option BodySeen) : Type 0 where
+  pub sources : (s : StageNo) (pace : Option Pace) (feed : Feed) → supplied_in feeds (spec_of topology s) ≡ Some (Fed pace feed)
+      → There (source_in (bodies (place_at (post s 0)))) (IsFedRead whole edges before s pace feed)
   pub sinks : (s : StageNo) (name : List ℕ) → supplied_in feeds (spec_of topology s) ≡ Some (Written name)
       → There (sink_in (bodies (place_at (post s 0)))) (IsSinkWritten topology edges before s name)
 
 -- everything that was opened by name was read and written as the journal says, and then given back, the control source first
--- and then what the stages opened, in their order: all of it, unless memory was wanting
-pub record IsOutside (feeds : StageSpec → Option Feed) (whole : Bool) (topology : Topology) (before : History) (old new : EdgesSeen) : Type 0 where
+-- and then what the stages opened, in their order, each source without its gate: all of it, unless memory was wanting
+pub record IsOutside (feeds : Feeds) (whole : Bool) (topology : Topology) (before : History) (old new : EdgesSeen) : Type 0 where
   pub control : Option LineSeen
   pub obeyed : HasControl topology old before topology.control control
   pub bodies : ℕ → Option BodySeen
   pub used : AreUsed feeds whole topology old before bodies
   pub parts : ℕ
   pub all : IsTrue whole → parts ≡ suc (length topology.stages)
-  pub sources : new.sources_back ≡ old.sources_back ++ first_sources feeds parts topology control bodies
+  pub inner : List (List ℕ × SourceSeen)
+  pub ungated : AreInner (first_sources feeds parts topology control bodies) inner
+  pub sources : new.sources_back ≡ old.sources_back ++ inner
   pub sinks : new.sinks_back ≡ old.sinks_back ++ first_sinks feeds parts topology bodies
 
 -- the call of the control source failed by this name, with these calls still to come, and nothing was given back
-pub record IsControlUnopened (feeds : StageSpec → Option Feed) (topology : Topology) (name : List ℕ) (rest : List (EdgeKind × List ℕ)) (old new : EdgesSeen) : Type 0 where
+pub record IsControlUnopened (feeds : Feeds) (topology : Topology) (name : List ℕ) (rest : List (EdgeKind × List ℕ)) (old new : EdgesSeen) : Type 0 where
   pub call : topology.control ≡ Some name
   pub to_come : rest ≡ edge_calls feeds topology
   pub sources : new.sources_back ≡ old.sources_back
@@ -109,7 +128,7 @@ pub record IsControlUnopened (feeds : StageSpec → Option Feed) (topology : Top
 
 -- the call of a stage failed by this name, with these calls still to come, and the control source and then what the stages before
 -- it had opened, in their order, was given back, unread and unwritten
-pub record IsStageUnopened (feeds : StageSpec → Option Feed) (topology : Topology) (name : List ℕ) (rest : List (EdgeKind × List ℕ)) (old new : EdgesSeen) : Type 0 where
+pub record IsStageUnopened (feeds : Feeds) (topology : Topology) (name : List ℕ) (rest : List (EdgeKind × List ℕ)) (old new : EdgesSeen) : Type 0 where
   pub at : ℕ
   pub kind : EdgeKind
   pub spec : StageSpec
@@ -122,16 +141,18 @@ pub record IsStageUnopened (feeds : StageSpec → Option Feed) (topology : Topol
   pub handed : AreHandedOut topology start
   pub bodies : ℕ → Option BodySeen
   pub opened : AreOpened feeds topology at old start bodies
-  pub sources : new.sources_back ≡ old.sources_back ++ (named_control topology.control control ++ sources_of feeds topology.stages bodies)
+  pub inner : List (List ℕ × SourceSeen)
+  pub ungated : AreInner (named_control topology.control control ++ sources_of feeds topology.stages bodies) inner
+  pub sources : new.sources_back ≡ old.sources_back ++ inner
   pub sinks : new.sinks_back ≡ old.sinks_back ++ sinks_of feeds topology.stages bodies
 
 -- a call that opens failed by this name, with these calls still to come, and what was opened before it was given back
-abbrev pub IsUnopened : (StageSpec → Option Feed) → Topology → (name : List ℕ) → (rest : List (EdgeKind × List ℕ)) → (old new : EdgesSeen) → Type 0
+abbrev pub IsUnopened : Feeds → Topology → (name : List ℕ) → (rest : List (EdgeKind × List ℕ)) → (old new : EdgesSeen) → Type 0
 IsUnopened feeds topology name rest old new = IsControlUnopened feeds topology name rest old new ⊎ IsStageUnopened feeds topology name rest old new
 
 -- memory was wanting before all was opened, with these calls still to come, and what was opened was given back, unread and
 -- unwritten: all of it or the first parts
-abbrev pub IsOpenedInPart : (StageSpec → Option Feed) → Topology → (rest : List (EdgeKind × List ℕ)) → (old new : EdgesSeen) → Type 0
+abbrev pub IsOpenedInPart : Feeds → Topology → (rest : List (EdgeKind × List ℕ)) → (old new : EdgesSeen) → Type 0
 IsOpenedInPart feeds topology rest old new =
     IsControlCut feeds topology rest old new
     ⊎ ((start : ℕ → Option BodySeen) × AreHandedOut topology start × IsStageCut feeds topology start rest old new)

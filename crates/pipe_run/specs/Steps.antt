@@ -9,15 +9,15 @@ use Rattle.stage_bodies.specs.Seen.{LineSeen, BodySeen}
 use Rattle.body_laws.specs.Keeps.{Keeps}
 use Rattle.run_pipe.specs.Keeping.{KeepsControlPartly}
 use Rattle.run_pipe.specs.Clocks.{ClockSeen}
-use Rattle.edge_names.specs.Supplies.{Feed}
+use Rattle.edge_names.specs.Supplies.{Feeds}
 use Rattle.edge_names.specs.Seen.{EdgesSeen}
-use Rattle.edge_names.specs.Returned.{AreCalm, GivesBack, KeepsCallbacks}
+use Rattle.edge_names.specs.Returned.{AreCalm, GivesOff, KeepsCallbacks}
 use Rattle.edge_names.specs.Controls.{first_sources, first_sinks}
 use Rattle.pipe_run.specs.Whole.{HasCome, IsIdleWithin, IsTimeOf}
 
 -- the run went on from the opened bodies and the control source, and then what was opened was given back, the control source
--- first and then that of the stages: all of it, unless memory was wanting
-pub record WentOn (feeds : StageSpec → Option Feed) (whole : Bool) (topology : Topology) (before : History) (opened final : ℕ → Option BodySeen) (fresh : Option LineSeen) (old new : EdgesSeen) (clock clock' : ClockSeen) : Type 0 where
+-- first and then that of the stages, each source without its gate: all of it, unless memory was wanting
+pub record WentOn (feeds : Feeds) (whole : Bool) (topology : Topology) (before : History) (opened final : ℕ → Option BodySeen) (fresh : Option LineSeen) (old new : EdgesSeen) (clock clock' : ClockSeen) : Type 0 where
   pub follows : FollowsMoves topology before
   pub ended : IsTrue whole → HasCome topology before
   pub idle : IsTrue whole → IsIdleWithin topology before
@@ -30,6 +30,6 @@ pub record WentOn (feeds : StageSpec → Option Feed) (whole : Bool) (topology :
   pub stay : (at : ℕ) → IsSome (opened at) → IsSome (bodies at)
   pub parts : ℕ
   pub all : IsTrue whole → parts ≡ suc (length topology.stages)
-  pub back : GivesBack (first_sources feeds parts topology control bodies) (first_sinks feeds parts topology bodies) old new
+  pub back : GivesOff (first_sources feeds parts topology control bodies) (first_sinks feeds parts topology bodies) old new
   pub calm : IsTrue whole → AreCalm feeds topology.stages bodies
   pub kept : KeepsCallbacks bodies final

@@ -1,7 +1,6 @@
 -- What a whole run comes to, and what a run comes to that does not begin.
 use Rattle.std.specs.Prelude.{◌≡◌, ◌≤◌, ◌⊎◌, ◌++◌, ◌∷◌, [], true, false, Bool, List, ℕ, IsTrue, Option, None}
 use Rattle.pipe_types.specs.Counts.{Rose}
-use Rattle.pipe_types.specs.declared.topology.StageSpec.{StageSpec}
 use Rattle.pipe_types.specs.declared.topology.Topology.{Topology}
 use Rattle.pipe_model.specs.History.{History}
 use Rattle.pipe_model.specs.Legal.{happened, is_halt}
@@ -11,7 +10,7 @@ use Rattle.pipe_laws.specs.Followed.{FollowsMoves}
 use Rattle.pipe_laws.specs.Read.{HasNoControl}
 use Rattle.run_pipe.specs.Clocks.{ClockSeen, KeepsClock, KeepsClockPartly}
 use Rattle.run_pipe.specs.Idle.{HasIdleRows}
-use Rattle.edge_names.specs.Supplies.{Feed}
+use Rattle.edge_names.specs.Supplies.{Feeds}
 use Rattle.edge_names.specs.Seen.{EdgesSeen}
 use Rattle.edge_names.specs.Controls.{run_calls}
 use Rattle.pipe_run.specs.Outside.{AreAsked, IsOpenedInPart, IsOutside, IsUnopened}
@@ -33,7 +32,7 @@ IsTimeOf false before old new = KeepsClockPartly before old new
 
 -- a run to its end, or until memory was wanting: each step of its own accord was the next move, none comes from a control
 -- source where none is named, its rows of quiet answers keep to the idle limit, and its time is the clock's
-pub record IsRunOf (feeds : StageSpec → Option Feed) (whole : Bool) (topology : Topology) (before : History) (old new : EdgesSeen) (clock clock' : ClockSeen) : Type 0 where
+pub record IsRunOf (feeds : Feeds) (whole : Bool) (topology : Topology) (before : History) (old new : EdgesSeen) (clock clock' : ClockSeen) : Type 0 where
   pub follows : FollowsMoves topology before
   pub control : topology.control ≡ None → HasNoControl before
   pub ended : IsTrue whole → HasCome topology before
@@ -43,7 +42,7 @@ pub record IsRunOf (feeds : StageSpec → Option Feed) (whole : Bool) (topology 
   pub asks : AreAsked (run_calls feeds topology) old new
 
 -- a call by this name failed: it was the last, and what was opened before it was given back
-pub record HasFailed (feeds : StageSpec → Option Feed) (topology : Topology) (name : List ℕ) (old new : EdgesSeen) : Type 0 where
+pub record HasFailed (feeds : Feeds) (topology : Topology) (name : List ℕ) (old new : EdgesSeen) : Type 0 where
   pub kind : EdgeKind
   pub front : List (EdgeKind × List ℕ)
   pub rest : List (EdgeKind × List ℕ)
@@ -53,7 +52,7 @@ pub record HasFailed (feeds : StageSpec → Option Feed) (topology : Topology) (
   pub back : IsUnopened feeds topology name rest old new
 
 -- memory was wanting before the run began: so many of the calls were made, and what they opened was given back
-pub record HasWanted (feeds : StageSpec → Option Feed) (topology : Topology) (old new : EdgesSeen) : Type 0 where
+pub record HasWanted (feeds : Feeds) (topology : Topology) (old new : EdgesSeen) : Type 0 where
   pub front : List (EdgeKind × List ℕ)
   pub rest : List (EdgeKind × List ℕ)
   pub calls : run_calls feeds topology ≡ front ++ rest

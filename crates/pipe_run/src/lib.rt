@@ -4,9 +4,11 @@
 //! halted, gives sources and sinks back under their names, and answers the core with the journal, and the boxes in their order.
 #![tactic(auto)]
 
-ghost use Rattle.std.specs.Prelude.{ℕ, Bool, List, All};
+ghost use Rattle.std.specs.Prelude.{◌≡◌, ℕ, Bool, List, All, Option, None};
 ghost use Rattle.pipe_types.specs.declared.numbers.StageNo.{StageNo};
+ghost use Rattle.pipe_types.specs.declared.topology.Rate.{Rate};
 ghost use Rattle.pipe_model.specs.History.{History};
+ghost use Rattle.pipe_edges.specs.Paces.{unpaced};
 ghost use Rattle.pipe_edges.specs.Texts.{IsLine, ended};
 ghost use Rattle.stage_bodies.specs.Seen.{SourceSeen};
 ghost use Rattle.pipe_run.specs.Outside.{IsMadeRead};
@@ -18,6 +20,6 @@ pub use run::{Ended, NoRun, Run, run_topology};
 
 /// A run reads the records, in their order, of a source that was made of records.
 pub fn made_sources_give_their_records()
-    ensures { (whole : Bool) (before : History) (p : StageNo) (records : List (List ℕ)) (source : SourceSeen) → All IsLine records
-        → IsMadeRead whole before p (ended records) source → ReadsRecords whole before p records }
+    ensures { (whole : Bool) (rate : Option Rate) (before : History) (p : StageNo) (records : List (List ℕ)) (source : SourceSeen) → All IsLine records
+        → IsMadeRead whole before p (ended records) source → (rate ≡ None → source.paced ≡ unpaced) → ReadsRecords whole rate before p records }
 {}

@@ -9,7 +9,8 @@ ghost use Rattle.body_laws.specs.Ready.{IsFilled};
 ghost use Rattle.run_pipe.specs.Keeping.{IsFresh};
 ghost use Rattle.run_pipe.specs.Clocks.{clock_seen};
 ghost use Rattle.run_pipe.specs.Ends.{HasEnded};
-ghost use Rattle.edge_names.specs.Supplies.{FeedsProducers};
+ghost use Rattle.edge_names.specs.Supplies.{FeedsProducers, at_paces};
+ghost use Rattle.rate_laws.specs.Rates.{KeepsRate};
 ghost use Rattle.edge_names.specs.Returned.{KeepsCallbacks};
 ghost use Rattle.box_stock.specs.Homes.{Suffices};
 ghost use Rattle.box_stock.specs.Lends.{AreHandedOut, AreStillThere, IsSameBox, box_at, kinds_of};
@@ -24,6 +25,7 @@ use pipe_edges::{ByteSource, Clock, Edges, LineSource};
 use pipe_journal::NoWatch;
 use pipe_types::bytes::Text;
 use pipe_types::topology::Topology;
+use rate_gate::GatedSource;
 use run_pipe::{Pipe, PipeParts, RunEnd, run_workers};
 use stage_bodies::Houses;
 use std::alloc::{AllocError, Global};
@@ -67,15 +69,15 @@ struct Went<B, K> {
     clock: K,
 }
 
-/// Runs the topology on so many workers, on one at least, with sources by the supply and boxes of the stock, which come back in
-/// their order. Nothing is opened before the memory for the run was found. Where the topology has no idle limit, it may wait for
+/// Runs the topology on so many workers, on one at least, with sources by the supply, each in its gate where the topology has a
+/// rate, and boxes of the stock, which come back in their order. Nothing is opened before the memory for the run was found. Where the topology has no idle limit, it may wait for
 /// its sources for ever.
 pub fn run_topology<
     R: Threads + Wait + Sync,
     E: Edges,
     Q: Supply<E>,
     C: Boxed,
-    B: Carries<C> + Houses<Q::Source, E::Sink> + Send,
+    B: Carries<C> + Houses<GatedSource<Q::Source>, E::Sink> + Send,
     K: Clock + Send,
 >(
     rt: &R,
@@ -92,12 +94,13 @@ pub fn run_topology<
     requires suffices { Suffices topology (kinds_of C.seen stock.items) }
     ensures topology { IfOk result.run (λ run. run.core.topology ≡ topology) }
     ensures stands { IfOk result.run (λ run. Stands run.core) }
-    ensures ran { IfOk result.run (λ run. IsRunOf (Q.feeds supply.now) (is_ok run.end) topology run.core.journal.steps (⟦<E as SeenEdges>⟧.seen edges.old) (⟦<E as SeenEdges>⟧.seen edges.new)
+    ensures ran { IfOk result.run (λ run. IsRunOf (at_paces topology (Q.feeds supply.now)) (is_ok run.end) topology run.core.journal.steps (⟦<E as SeenEdges>⟧.seen edges.old) (⟦<E as SeenEdges>⟧.seen edges.new)
         (clock_seen K.latest K.readings K.pauses clock) (clock_seen K.latest K.readings K.pauses result.clock)) }
     ensures ended { IfOk result.run (λ run. IfOk run.end (HasEnded topology run.core.journal.steps)) }
+    ensures rate { IfOk result.run (λ run. IfSome topology.rate (λ rate. KeepsRate rate run.core.journal.steps)) }
     ensures boxes { IfOk result.run (λ run. AreBoxesLeft (is_ok run.end) topology run.core.journal.steps (map C.seen stock.items) (map C.seen result.stock.items)) }
-    ensures failed { IfErr result.run (λ e. IfUnopened e (λ name. HasFailed (Q.feeds supply.now) topology name (⟦<E as SeenEdges>⟧.seen edges.old) (⟦<E as SeenEdges>⟧.seen edges.new))) }
-    ensures wanting { IfErr result.run (λ e. IfWanting e (HasWanted (Q.feeds supply.now) topology (⟦<E as SeenEdges>⟧.seen edges.old) (⟦<E as SeenEdges>⟧.seen edges.new))) }
+    ensures failed { IfErr result.run (λ e. IfUnopened e (λ name. HasFailed (at_paces topology (Q.feeds supply.now)) topology name (⟦<E as SeenEdges>⟧.seen edges.old) (⟦<E as SeenEdges>⟧.seen edges.new))) }
+    ensures wanting { IfErr result.run (λ e. IfWanting e (HasWanted (at_paces topology (Q.feeds supply.now)) topology (⟦<E as SeenEdges>⟧.seen edges.old) (⟦<E as SeenEdges>⟧.seen edges.new))) }
     ensures same_boxes { OnErr result.run (AreSameBoxes (map C.seen stock.items) (map C.seen result.stock.items)) }
     ensures same_clock { OnErr result.run (result.clock ≡ clock) }
 {
@@ -123,7 +126,7 @@ fn run_bodies<
     E: Edges,
     Q: Supply<E>,
     C: Boxed,
-    B: Carries<C> + Houses<Q::Source, E::Sink> + Send,
+    B: Carries<C> + Houses<GatedSource<Q::Source>, E::Sink> + Send,
     K: Clock + Send,
 >(
     rt: &R,
@@ -140,12 +143,13 @@ fn run_bodies<
     requires handed { AreHandedOut topology (body_at B.look bodies.items) }
     ensures topology { IfOk result.run (λ run. run.core.topology ≡ topology) }
     ensures stands { IfOk result.run (λ run. Stands run.core) }
-    ensures ran { IfOk result.run (λ run. IsRunOf (Q.feeds supply.now) (is_ok run.end) topology run.core.journal.steps (⟦<E as SeenEdges>⟧.seen edges.old) (⟦<E as SeenEdges>⟧.seen edges.new)
+    ensures ran { IfOk result.run (λ run. IsRunOf (at_paces topology (Q.feeds supply.now)) (is_ok run.end) topology run.core.journal.steps (⟦<E as SeenEdges>⟧.seen edges.old) (⟦<E as SeenEdges>⟧.seen edges.new)
         (clock_seen K.latest K.readings K.pauses clock) (clock_seen K.latest K.readings K.pauses result.clock)) }
     ensures ended { IfOk result.run (λ run. IfOk run.end (HasEnded topology run.core.journal.steps)) }
+    ensures rate { IfOk result.run (λ run. IfSome topology.rate (λ rate. KeepsRate rate run.core.journal.steps)) }
     ensures boxes { IfOk result.run (λ run. LeavesCallbacks (is_ok run.end) topology run.core.journal.steps (body_at B.look bodies.items) (body_at B.look result.bodies.items)) }
-    ensures failed { IfErr result.run (λ e. IfUnopened e (λ name. HasFailed (Q.feeds supply.now) topology name (⟦<E as SeenEdges>⟧.seen edges.old) (⟦<E as SeenEdges>⟧.seen edges.new))) }
-    ensures wanting { IfErr result.run (λ e. IfWanting e (HasWanted (Q.feeds supply.now) topology (⟦<E as SeenEdges>⟧.seen edges.old) (⟦<E as SeenEdges>⟧.seen edges.new))) }
+    ensures failed { IfErr result.run (λ e. IfUnopened e (λ name. HasFailed (at_paces topology (Q.feeds supply.now)) topology name (⟦<E as SeenEdges>⟧.seen edges.old) (⟦<E as SeenEdges>⟧.seen edges.new))) }
+    ensures wanting { IfErr result.run (λ e. IfWanting e (HasWanted (at_paces topology (Q.feeds supply.now)) topology (⟦<E as SeenEdges>⟧.seen edges.old) (⟦<E as SeenEdges>⟧.seen edges.new))) }
     ensures same_callbacks { OnErr result.run (KeepsCallbacks (body_at B.look bodies.items) (body_at B.look result.bodies.items)) }
     ensures same_clock { OnErr result.run (result.clock ≡ clock) }
 {
@@ -186,7 +190,7 @@ fn run_opened<
     R: Threads + Wait + Sync,
     E: Edges,
     Q: Supply<E>,
-    B: Houses<Q::Source, E::Sink> + Send,
+    B: Houses<GatedSource<Q::Source>, E::Sink> + Send,
     K: Clock + Send,
 >(
     rt: &R,
@@ -206,7 +210,7 @@ fn run_opened<
     ensures topology { result.run.core.topology ≡ core.topology }
     ensures stands { Stands result.run.core }
     ensures ended { IfOk result.run.end (HasEnded core.topology result.run.core.journal.steps) }
-    ensures went { WentOn (Q.feeds supply.now) (is_ok result.run.end) core.topology result.run.core.journal.steps (body_at B.look bodies.items) (body_at B.look result.bodies.items)
+    ensures went { WentOn (at_paces core.topology (Q.feeds supply.now)) (is_ok result.run.end) core.topology result.run.core.journal.steps (body_at B.look bodies.items) (body_at B.look result.bodies.items)
         (option_map (line_seen E.Source.ByteSource) control)
         (⟦<E as SeenEdges>⟧.seen edges.old) (⟦<E as SeenEdges>⟧.seen edges.new) (clock_seen K.latest K.readings K.pauses clock) (clock_seen K.latest K.readings K.pauses result.clock) }
 {

@@ -5,10 +5,10 @@ use Rattle.std.proofs.lemmas.List.{append_assoc}
 use Rattle.std.proofs.lemmas.List.Elements.{All-cons}
 use Rattle.pipe_types.specs.Counts.{Rose}
 use Rattle.pipe_types.specs.declared.numbers.StageNo.{StageNo}
-use Rattle.pipe_types.specs.declared.topology.StageSpec.{StageSpec}
 use Rattle.pipe_types.specs.declared.topology.Topology.{Topology}
 use Rattle.pipe_types.specs.Numbers.{post}
 use Rattle.pipe_model.specs.History.{History}
+use Rattle.pipe_edges.specs.Paces.{Pace}
 use Rattle.pipe_edges.specs.declared.edges.EdgeKind.{EdgeKind}
 use Rattle.pipe_edges.specs.declared.edges.EdgeKind.TheVariants.{File, Source, Sink}
 use Rattle.stage_bodies.specs.Seen.{SourceSeen, SinkSeen, LineSeen, BodySeen}
@@ -16,17 +16,18 @@ use Rattle.stage_bodies.specs.Jobs.{Both}
 use Rattle.stage_bodies.specs.Posts.{place_at}
 use Rattle.body_laws.specs.Ready.{There}
 use Rattle.edge_names.specs.Seen.{EdgesSeen}
+use Rattle.edge_names.specs.Gates.{without_gate}
 use Rattle.edge_names.specs.Named.{GivesSource, GivesSink}
-use Rattle.edge_names.specs.Opened.{GivesFeed, HasFeed, HasSource, HasSink, IsCut, IsOpened, AreOpened, supplied_at, let_go, returned, uncalled}
-use Rattle.edge_names.specs.Supplies.{Feed, Opened, Made, Supplied, Fed, Written, call_of}
-use Rattle.edge_names.specs.Controls.{IsFailedInPart, IsStageCut, control_call, named_control, first_sources, first_sinks}
-use Rattle.edge_names.specs.Returned.{source_in, sink_in, sources_of, sinks_of}
-use Rattle.pipe_run.specs.Outside.{IsFeedRead, IsSourceRead, IsSinkWritten, AreUsed, IsControlUsed, HasControl, IsOpenedInPart, IsOutside, IsStageUnopened, IsUnopened}
+use Rattle.edge_names.specs.Opened.{GivesFed, GivesFeed, HasFeed, HasSource, HasSink, IsCut, IsOpened, AreOpened, supplied_at, let_go, returned, uncalled}
+use Rattle.edge_names.specs.Supplies.{Feeds, Feed, Opened, Made, Supplied, Fed, Written, call_of}
+use Rattle.edge_names.specs.Controls.{IsFailedInPart, IsStageCut, control_call, first_sinks}
+use Rattle.edge_names.specs.Returned.{source_in, sink_in, sinks_of}
+use Rattle.pipe_run.specs.Outside.{IsFedRead, IsFeedRead, IsSourceRead, IsSinkWritten, AreUsed, IsControlUsed, HasControl, IsOpenedInPart, IsOutside, IsStageUnopened, IsUnopened}
 use Rattle.pipe_top.specs.Cases.{feeds_of, Case, NoCommand, NoTopology as BadTopology, TooFew, Checks, Upgrades, Audits, Rejects, Runs}
-use Rattle.pipe_top.specs.Audits.{IsAuditOf, MayBeBack}
-use Rattle.journal_audit.specs.declared.verdict.Summary.{Summary}
-use Rattle.run_verdicts.specs.declared.audits.AuditFault.{AuditFault}
 use Rattle.pipe_top.specs.Runs.{OutsideSeen, IsUntouched, IsJournalBack, IsAuditedIn, IsNothingBack, IsBrokenOff, IsGivenUp, HasRunOrNot, IsOutsideOf, FailsAt}
+use Rattle.pipe_top.specs.Audits.{IsAuditOf, MayBeBack}
+use Rattle.run_verdicts.specs.Judged.{Summary}
+use Rattle.run_verdicts.specs.declared.audits.AuditFault.{AuditFault}
 use Rattle.pipe_top.specs.Flows.{IsEarly, Outcome, AskedBy, ComesBy}
 use Rattle.run_verdicts.specs.declared.verdict.Refusal.TheVariants.{Usage, Topology as NoTopology, Stock, Edge, Audit, Memory}
 use Rattle.run_verdicts.specs.declared.verdict.Verdict.{Verdict}
@@ -69,24 +70,28 @@ has_source old new (Some (Sink, name)) x y same h = h
 has_source old new (Some (File, name)) x y same h = h
 has_source old new None x y same h = h
 
-gives_feed : (old new : EdgesSeen) (feed : Feed) (lines : LineSeen) → SameNames old new → GivesFeed new feed lines → GivesFeed old feed lines
-gives_feed old new (Opened name) lines same h = record {
-  source = gives_source old new name lines.source same h.source;
+gives_feed : (old new : EdgesSeen) (feed : Feed) (source : SourceSeen) → SameNames old new → GivesFeed new feed source → GivesFeed old feed source
+gives_feed old new (Opened name) source same h = gives_source old new name source same h
+gives_feed old new (Made bytes) source same h = h
+
+gives_fed : (old new : EdgesSeen) (pace : Option Pace) (feed : Feed) (lines : LineSeen) → SameNames old new → GivesFed new pace feed lines → GivesFed old pace feed lines
+gives_fed old new pace feed lines same h = record {
+  source = gives_feed old new feed (without_gate lines.source) same h.source;
+  gate = h.gate;
   nothing_waits = h.nothing_waits;
   no_end = h.no_end;
 }
-gives_feed old new (Made bytes) lines same h = h
 
 has_feed : (old new : EdgesSeen) (what : Option Supplied) (x y : Option LineSeen) → SameNames old new → HasFeed new what x y → HasFeed old what x y
-has_feed old new (Some (Fed feed)) x (Some lines) same h = gives_feed old new feed lines same h
-has_feed old new (Some (Fed feed)) x None same h = absurd h
+has_feed old new (Some (Fed pace feed)) x (Some lines) same h = gives_fed old new pace feed lines same h
+has_feed old new (Some (Fed pace feed)) x None same h = absurd h
 has_feed old new (Some (Written name)) x y same h = h
 has_feed old new None x y same h = h
 
 has_sink : (old new : EdgesSeen) (what : Option Supplied) (x y : Option SinkSeen) → SameNames old new → HasSink new what x y → HasSink old what x y
 has_sink old new (Some (Written name)) x (Some sink) same h = gives_sink old new name sink same h
 has_sink old new (Some (Written name)) x None same h = absurd h
-has_sink old new (Some (Fed feed)) x y same h = h
+has_sink old new (Some (Fed pace feed)) x y same h = h
 has_sink old new None x y same h = h
 
 is_opened : (old new : EdgesSeen) (what : Option Supplied) (x y : BodySeen) → SameNames old new → IsOpened new what x y → IsOpened old what x y
@@ -106,7 +111,7 @@ there_as : {A : Type 0} (P Q : A → Type 0) (x : Option A) → ((a : A) → P a
 there_as P Q (Some a) so h = so a h
 there_as P Q None so h = absurd h
 
-are_opened : (feeds : StageSpec → Option Feed) (topology : Topology) (n : ℕ) (old new : EdgesSeen) (start bodies : ℕ → Option BodySeen) → SameNames old new → AreOpened feeds topology n new start bodies → AreOpened feeds topology n old start bodies
+are_opened : (feeds : Feeds) (topology : Topology) (n : ℕ) (old new : EdgesSeen) (start bodies : ℕ → Option BodySeen) → SameNames old new → AreOpened feeds topology n new start bodies → AreOpened feeds topology n old start bodies
 are_opened feeds topology n old new start bodies same h = λ p few.
     both_as (IsOpened new (supplied_at feeds topology n p)) (IsOpened old (supplied_at feeds topology n p)) (start (place_at p)) (bodies (place_at p))
     (λ x y. is_opened old new (supplied_at feeds topology n p) x y same) (h p few)
@@ -114,7 +119,7 @@ are_opened feeds topology n old new start bodies same h = λ p few.
 source_read : (old new : EdgesSeen) (before : History) (p : StageNo) (name : List ℕ) (source : SourceSeen) → SameNames old new → IsSourceRead new before p name source → IsSourceRead old before p name source
 source_read old new before p name source same x = record {
   opened = x.opened;
-  given = gives_source old new name x.opened same x.given;
+  given = gives_source old new name (without_gate x.opened) same x.given;
   same_telling = x.same_telling;
   same_bytes = x.same_bytes;
   reads = x.reads;
@@ -123,6 +128,12 @@ source_read old new before p name source same x = record {
 feed_read : (whole : Bool) (before : History) (p : StageNo) (feed : Feed) (old new : EdgesSeen) (source : SourceSeen) → SameNames old new → IsFeedRead whole new before p feed source → IsFeedRead whole old before p feed source
 feed_read whole before p (Opened name) old new source same x = source_read old new before p name source same x
 feed_read whole before p (Made bytes) old new source same x = x
+
+fed_read : (whole : Bool) (before : History) (p : StageNo) (pace : Option Pace) (feed : Feed) (old new : EdgesSeen) (source : SourceSeen) → SameNames old new → IsFedRead whole new before p pace feed source → IsFedRead whole old before p pace feed source
+fed_read whole before p pace feed old new source same x = record {
+  read = feed_read whole before p feed old new source same x.read;
+  pace = x.pace;
+}
 
 control_used : (topology : Topology) (old new : EdgesSeen) (before : History) (name : List ℕ) (source : SourceSeen) → SameNames old new → IsControlUsed topology new before name source → IsControlUsed topology old before name source
 control_used topology old new before name source same x = record {
@@ -149,12 +160,12 @@ sink_written topology old new before s name sink same x = record {
   short = x.short;
 }
 
-are_used : (feeds : StageSpec → Option Feed) (whole : Bool) (topology : Topology) (old new : EdgesSeen) (before : History) (bodies : ℕ → Option BodySeen) → SameNames old new
+are_used : (feeds : Feeds) (whole : Bool) (topology : Topology) (old new : EdgesSeen) (before : History) (bodies : ℕ → Option BodySeen) → SameNames old new
     → AreUsed feeds whole topology new before bodies → AreUsed feeds whole topology old before bodies
 are_used feeds whole topology old new before bodies same x = record {
-  sources = λ s feed is.
-      there_as (IsFeedRead whole new before s feed) (IsFeedRead whole old before s feed) (source_in (bodies (place_at (post s 0))))
-      (λ source. feed_read whole before s feed old new source same) (x.sources s feed is);
+  sources = λ s pace feed is.
+      there_as (IsFedRead whole new before s pace feed) (IsFedRead whole old before s pace feed) (source_in (bodies (place_at (post s 0))))
+      (λ source. fed_read whole before s pace feed old new source same) (x.sources s pace feed is);
   sinks = λ s name call.
       there_as (IsSinkWritten topology new before s name) (IsSinkWritten topology old before s name) (sink_in (bodies (place_at (post s 0))))
       (λ sink. sink_written topology old new before s name sink same) (x.sinks s name call);
@@ -191,7 +202,7 @@ pub record Called (old new : EdgesSeen) (call : EdgeKind × List ℕ) : Type 0 w
 abbrev with_edges : OutsideSeen → EdgesSeen → OutsideSeen
 with_edges old edges = record old { edges = edges }
 
-outside_as : (feeds : StageSpec → Option Feed) (whole : Bool) (topology : Topology) (before : History) (call : EdgeKind × List ℕ) (old middle new : EdgesSeen) → Called old middle call
+outside_as : (feeds : Feeds) (whole : Bool) (topology : Topology) (before : History) (call : EdgeKind × List ℕ) (old middle new : EdgesSeen) → Called old middle call
     → IsOutside feeds whole topology before middle new → IsOutside feeds whole topology before old new
 outside_as feeds whole topology before call old middle new c x = record {
   control = x.control;
@@ -200,11 +211,13 @@ outside_as feeds whole topology before call old middle new c x = record {
   used = are_used feeds whole topology old middle before x.bodies c.names x.used;
   parts = x.parts;
   all = x.all;
-  sources = x.sources ∙ ap (λ l. l ++ first_sources feeds x.parts topology x.control x.bodies) c.same_sources;
+  inner = x.inner;
+  ungated = x.ungated;
+  sources = x.sources ∙ ap (λ l. l ++ x.inner) c.same_sources;
   sinks = x.sinks ∙ ap (λ l. l ++ first_sinks feeds x.parts topology x.bodies) c.same_sinks;
 }
 
-stage_unopened_as : (feeds : StageSpec → Option Feed) (topology : Topology) (name : List ℕ) (rest : List (EdgeKind × List ℕ)) (call : EdgeKind × List ℕ) (old middle new : EdgesSeen) → Called old middle call
+stage_unopened_as : (feeds : Feeds) (topology : Topology) (name : List ℕ) (rest : List (EdgeKind × List ℕ)) (call : EdgeKind × List ℕ) (old middle new : EdgesSeen) → Called old middle call
     → IsStageUnopened feeds topology name rest middle new → IsStageUnopened feeds topology name rest old new
 stage_unopened_as feeds topology name rest call old middle new c x = record {
   at = x.at;
@@ -219,11 +232,13 @@ stage_unopened_as feeds topology name rest call old middle new c x = record {
   handed = x.handed;
   bodies = x.bodies;
   opened = are_opened feeds topology x.at old middle x.start x.bodies c.names x.opened;
-  sources = x.sources ∙ ap (λ l. l ++ (named_control topology.control x.control ++ sources_of feeds topology.stages x.bodies)) c.same_sources;
+  inner = x.inner;
+  ungated = x.ungated;
+  sources = x.sources ∙ ap (λ l. l ++ x.inner) c.same_sources;
   sinks = x.sinks ∙ ap (λ l. l ++ sinks_of feeds topology.stages x.bodies) c.same_sinks;
 }
 
-unopened_as : (feeds : StageSpec → Option Feed) (topology : Topology) (name : List ℕ) (rest : List (EdgeKind × List ℕ)) (call : EdgeKind × List ℕ) (old middle new : EdgesSeen) → Called old middle call
+unopened_as : (feeds : Feeds) (topology : Topology) (name : List ℕ) (rest : List (EdgeKind × List ℕ)) (call : EdgeKind × List ℕ) (old middle new : EdgesSeen) → Called old middle call
     → IsUnopened feeds topology name rest middle new → IsUnopened feeds topology name rest old new
 unopened_as feeds topology name rest call old middle new c (inl x) = inl (record {
   call = x.call;
@@ -233,12 +248,12 @@ unopened_as feeds topology name rest call old middle new c (inl x) = inl (record
 })
 unopened_as feeds topology name rest call old middle new c (inr x) = inr (stage_unopened_as feeds topology name rest call old middle new c x)
 
-given_back_as : (feeds : StageSpec → Option Feed) (is_file : Type 0) (topology : Topology) (name : List ℕ) (rest : List (EdgeKind × List ℕ)) (call : EdgeKind × List ℕ) (old middle new : EdgesSeen) → Called old middle call
+given_back_as : (feeds : Feeds) (is_file : Type 0) (topology : Topology) (name : List ℕ) (rest : List (EdgeKind × List ℕ)) (call : EdgeKind × List ℕ) (old middle new : EdgesSeen) → Called old middle call
     → (is_file × IsNothingBack middle new) ⊎ IsUnopened feeds topology name rest middle new → (is_file × IsNothingBack old new) ⊎ IsUnopened feeds topology name rest old new
 given_back_as feeds is_file topology name rest call old middle new c (inl x) = inl (x.0, (x.1.0 ∙ c.same_sources, x.1.1 ∙ c.same_sinks))
 given_back_as feeds is_file topology name rest call old middle new c (inr x) = inr (unopened_as feeds topology name rest call old middle new c x)
 
-given_up_as : (feeds : StageSpec → Option Feed) (topology : Topology) (call : EdgeKind × List ℕ) (calls : List (EdgeKind × List ℕ)) (old middle new : EdgesSeen) → Called old middle call → IsGivenUp feeds calls topology middle new → IsGivenUp feeds (call ∷ calls) topology old new
+given_up_as : (feeds : Feeds) (topology : Topology) (call : EdgeKind × List ℕ) (calls : List (EdgeKind × List ℕ)) (old middle new : EdgesSeen) → Called old middle call → IsGivenUp feeds calls topology middle new → IsGivenUp feeds (call ∷ calls) topology old new
 unfolding fails_as
 given_up_as feeds topology call calls old middle new c x = record {
   name = x.name;
@@ -268,7 +283,7 @@ either_as : (topology : Topology) (of : Option (EdgeKind × List ℕ)) (calls : 
 either_as topology of calls back parts call old middle new c (inl x) = inl (cut_as old middle of calls back c.names x)
 either_as topology of calls back parts call old middle new c (inr x) = inr (failed_in_part_as topology of calls back parts call old middle new c x)
 
-stage_cut_as : (feeds : StageSpec → Option Feed) (topology : Topology) (start : ℕ → Option BodySeen) (rest : List (EdgeKind × List ℕ)) (call : EdgeKind × List ℕ) (old middle new : EdgesSeen) → Called old middle call
+stage_cut_as : (feeds : Feeds) (topology : Topology) (start : ℕ → Option BodySeen) (rest : List (EdgeKind × List ℕ)) (call : EdgeKind × List ℕ) (old middle new : EdgesSeen) → Called old middle call
     → IsStageCut feeds topology start rest middle new → IsStageCut feeds topology start rest old new
 stage_cut_as feeds topology start rest call old middle new c x = record {
   at = x.at;
@@ -283,11 +298,13 @@ stage_cut_as feeds topology start rest call old middle new c x = record {
   lines = has_source old middle (control_call topology.control) None x.control c.names x.lines;
   opened = x.opened;
   bodies = are_opened feeds topology x.at old middle start x.opened c.names x.bodies;
-  sources = x.sources ∙ ap (λ l. l ++ (x.back ++ first_sources feeds x.parts topology x.control x.opened)) c.same_sources;
+  inner = x.inner;
+  ungated = x.ungated;
+  sources = x.sources ∙ ap (λ l. l ++ (x.back ++ x.inner)) c.same_sources;
   sinks = x.sinks ∙ ap (λ l. l ++ first_sinks feeds x.parts topology x.opened) c.same_sinks;
 }
 
-opened_in_part_as : (feeds : StageSpec → Option Feed) (topology : Topology) (rest : List (EdgeKind × List ℕ)) (call : EdgeKind × List ℕ) (old middle new : EdgesSeen) → Called old middle call
+opened_in_part_as : (feeds : Feeds) (topology : Topology) (rest : List (EdgeKind × List ℕ)) (call : EdgeKind × List ℕ) (old middle new : EdgesSeen) → Called old middle call
     → IsOpenedInPart feeds topology rest middle new → IsOpenedInPart feeds topology rest old new
 opened_in_part_as feeds topology rest call old middle new c (inl x) = inl (record {
   calls = x.calls;
@@ -299,7 +316,7 @@ opened_in_part_as feeds topology rest call old middle new c (inl x) = inl (recor
 })
 opened_in_part_as feeds topology rest call old middle new c (inr x) = inr (x.0, x.1, stage_cut_as feeds topology x.0 rest call old middle new c x.2)
 
-broken_off_as : (feeds : StageSpec → Option Feed) (topology : Topology) (call : EdgeKind × List ℕ) (calls : List (EdgeKind × List ℕ)) (old middle new : EdgesSeen) → Called old middle call → IsBrokenOff feeds calls topology middle new → IsBrokenOff feeds (call ∷ calls) topology old new
+broken_off_as : (feeds : Feeds) (topology : Topology) (call : EdgeKind × List ℕ) (calls : List (EdgeKind × List ℕ)) (old middle new : EdgesSeen) → Called old middle call → IsBrokenOff feeds calls topology middle new → IsBrokenOff feeds (call ∷ calls) topology old new
 broken_off_as feeds topology call calls old middle new c x = record {
   front = call ∷ x.front;
   rest = x.rest;
@@ -313,12 +330,12 @@ broken_off_as feeds topology call calls old middle new c x = record {
     by_back (inl b) = inl (All-cons (λ (f : EdgeKind × List ℕ). f.0 ≡ File) call x.front c.is_file b.0, (b.1.0 ∙ c.same_sources, b.1.1 ∙ c.same_sinks))
     by_back (inr b) = inr (opened_in_part_as feeds topology x.rest call old middle new c b)
 
-given_or_wanting : (feeds : StageSpec → Option Feed) (memory : Type 0) (topology : Topology) (call : EdgeKind × List ℕ) (calls : List (EdgeKind × List ℕ)) (old middle new : EdgesSeen) → Called old middle call
+given_or_wanting : (feeds : Feeds) (memory : Type 0) (topology : Topology) (call : EdgeKind × List ℕ) (calls : List (EdgeKind × List ℕ)) (old middle new : EdgesSeen) → Called old middle call
     → (memory × IsBrokenOff feeds calls topology middle new) ⊎ IsGivenUp feeds calls topology middle new → (memory × IsBrokenOff feeds (call ∷ calls) topology old new) ⊎ IsGivenUp feeds (call ∷ calls) topology old new
 given_or_wanting feeds memory topology call calls old middle new c (inl m) = inl (m.0, broken_off_as feeds topology call calls old middle new c m.1)
 given_or_wanting feeds memory topology call calls old middle new c (inr x) = inr (given_up_as feeds topology call calls old middle new c x)
 
-run_or_not_as : (feeds : StageSpec → Option Feed) (memory : Type 0) (wanted : Topology) (topology : Option Topology) (before : History) (call : EdgeKind × List ℕ) (calls : List (EdgeKind × List ℕ)) (old : OutsideSeen) (middle : EdgesSeen) (new : OutsideSeen)
+run_or_not_as : (feeds : Feeds) (memory : Type 0) (wanted : Topology) (topology : Option Topology) (before : History) (call : EdgeKind × List ℕ) (calls : List (EdgeKind × List ℕ)) (old : OutsideSeen) (middle : EdgesSeen) (new : OutsideSeen)
     → Called old.edges middle call → HasRunOrNot feeds memory calls wanted topology before (with_edges old middle) new → HasRunOrNot feeds memory (call ∷ calls) wanted topology before old new
 run_or_not_as feeds memory wanted (Some t) before call calls old middle new c x = record {
   whole = x.whole;

@@ -4,13 +4,12 @@ use Rattle.std.specs.Prelude.{◌⊎◌, IsTrue}
 use Rattle.std.proofs.lemmas.List.{append-nil, append_assoc, take_all, take_at}
 use Rattle.std.proofs.Math.Seq.{take-nil}
 use Rattle.std.proofs.lemmas.Bool.{le-leb}
-use Rattle.pipe_types.specs.declared.topology.StageSpec.{StageSpec}
 use Rattle.pipe_types.specs.declared.topology.Topology.{Topology}
 use Rattle.pipe_model.specs.History.{History}
 use Rattle.pipe_edges.specs.declared.edges.EdgeKind.{EdgeKind}
-use Rattle.edge_names.specs.Supplies.{Feed}
+use Rattle.edge_names.specs.Supplies.{Feeds}
 use Rattle.program_words.specs.Refusals.{memory_line}
-use Rattle.journal_audit.specs.declared.verdict.Summary.{Summary}
+use Rattle.run_verdicts.specs.Judged.{Summary}
 use Rattle.program_words.specs.Words.{Command, Flow, Check, Run, Gen, Upgrade, Audit as AuditOf}
 use Rattle.topology_needs.specs.declared.stock.Boxes.{Boxes}
 use Rattle.topology_needs.specs.declared.stock.Shortage.{Shortage}
@@ -534,7 +533,7 @@ not_opened (Audits name summary wanted) fails memory calls topology before verdi
 not_opened (Rejects name fault wanted) fails memory calls topology before verdict old new o u out = absurd (reject_opened name fault wanted fails topology before verdict o u)
 not_opened (Runs shows feeding wanted) fails memory calls topology before verdict old new o u out = absurd (run_opened shows feeding wanted fails topology before verdict o u)
 
-used_as : (feeds : StageSpec → Option Feed) (memory wanting : Type 0) → (memory → wanting) → (wanted : Topology) (before : History) (old new : OutsideSeen) → HasUsed feeds memory wanted before old new → HasUsed feeds wanting wanted before old new
+used_as : (feeds : Feeds) (memory wanting : Type 0) → (memory → wanting) → (wanted : Topology) (before : History) (old new : OutsideSeen) → HasUsed feeds memory wanted before old new → HasUsed feeds wanting wanted before old new
 used_as feeds memory wanting so wanted before old new used = record {
   whole = used.whole;
   wanting = λ none. so (used.wanting none);
@@ -544,14 +543,14 @@ used_as feeds memory wanting so wanted before old new used = record {
   boxes = used.boxes;
 }
 
-not_begun_as : (feeds : StageSpec → Option Feed) (memory wanting : Type 0) → (memory → wanting) → (calls : List (EdgeKind × List ℕ)) (wanted : Topology) (old new : OutsideSeen) → HasNotBegun feeds memory calls wanted old new → HasNotBegun feeds wanting calls wanted old new
+not_begun_as : (feeds : Feeds) (memory wanting : Type 0) → (memory → wanting) → (calls : List (EdgeKind × List ℕ)) (wanted : Topology) (old new : OutsideSeen) → HasNotBegun feeds memory calls wanted old new → HasNotBegun feeds wanting calls wanted old new
 not_begun_as feeds memory wanting so calls wanted old new n = record { edges = by_edges n.edges; clock = n.clock; boxes = n.boxes }
   where
     by_edges : (memory × IsBrokenOff feeds calls wanted old.edges new.edges) ⊎ IsGivenUp feeds calls wanted old.edges new.edges → (wanting × IsBrokenOff feeds calls wanted old.edges new.edges) ⊎ IsGivenUp feeds calls wanted old.edges new.edges
     by_edges (inl m) = inl (so m.0, m.1)
     by_edges (inr given) = inr given
 
-run_or_not_as : (feeds : StageSpec → Option Feed) (memory wanting : Type 0) → (memory → wanting) → (calls : List (EdgeKind × List ℕ)) (wanted : Topology) (topology : Option Topology) (before : History) (old new : OutsideSeen)
+run_or_not_as : (feeds : Feeds) (memory wanting : Type 0) → (memory → wanting) → (calls : List (EdgeKind × List ℕ)) (wanted : Topology) (topology : Option Topology) (before : History) (old new : OutsideSeen)
     → HasRunOrNot feeds memory calls wanted topology before old new → HasRunOrNot feeds wanting calls wanted topology before old new
 run_or_not_as feeds memory wanting so calls wanted (Some topology) before old new r = used_as feeds memory wanting so wanted before old new r
 run_or_not_as feeds memory wanting so calls wanted None before old new r = not_begun_as feeds memory wanting so calls wanted old new r

@@ -19,9 +19,11 @@ use Rattle.pipe_types.specs.declared.topology.Topology.{Topology}
 use Rattle.pipe_model.specs.History.{History}
 use Rattle.pipe_model.specs.Legal.{happened, is_drain, is_halt, has_role, is_producer_role}
 use Rattle.pipe_model.specs.Outside.{fed, source_end}
+use Rattle.pipe_edges.specs.Paces.{Pace}
 use Rattle.pipe_edges.specs.declared.edges.EdgeKind.{EdgeKind}
 use Rattle.pipe_edges.specs.declared.edges.EdgeKind.TheVariants.{Source}
 use Rattle.journal_texts.specs.Report.{places, is_fault, is_lost, is_failed, is_source_fault}
+use Rattle.source_lines.specs.Cut.{HasShortLines}
 use Rattle.pipe_laws.specs.Read.{HasNoControl}
 use Rattle.stage_bodies.specs.Seen.{SourceSeen, LineSeen, BodySeen}
 use Rattle.stage_bodies.specs.Posts.{place_at}
@@ -31,10 +33,11 @@ use Rattle.body_laws.proofs.Posts.{some_role}
 use Rattle.pipe_laws.proofs.Tests.{and_left, and_right, clash, same_stage-true}
 use Rattle.edge_names.specs.Seen.{EdgesSeen}
 use Rattle.edge_names.specs.Opened.{supplied_in}
-use Rattle.edge_names.specs.Supplies.{Feed, Opened, Fed, by_name, fed as supplied_feed, feed_by, supplied, supplied_by}
+use Rattle.edge_names.specs.Gates.{AreInner, IsInner, pace_of_stage}
+use Rattle.edge_names.specs.Supplies.{Feeds, Opened, Fed, fed as supplied_feed, feed_by, supplied, supplied_by}
 use Rattle.edge_names.specs.Controls.{named_control, first_sources}
 use Rattle.edge_names.specs.Returned.{fed_back, named_source, source_in, sources_of}
-use Rattle.pipe_run.specs.Outside.{HasControl, IsOutside, IsSourceRead, ReadsSource}
+use Rattle.pipe_run.specs.Outside.{HasControl, IsFedRead, IsOutside, ReadsSource}
 use Rattle.pipe_run.specs.Whole.{HasCome}
 use Rattle.run_verdicts.specs.Verdicts.{status_in}
 use Rattle.pipe_top.specs.Runs.{OutsideSeen, IsRun, IsEnded, HasUsed, IsOutsideOf, IsFaultless, AreFaultless, IsReadWhole, IsComplete, IsCompleteIn, is_limit_drain, is_control_drain, is_idle_drain}
@@ -71,7 +74,7 @@ All-back P [] ys each = each
 All-back P (x ∷ xs) ys each = All-back P xs ys (All-tail P x (xs ++ ys) each)
 
 -- what holds of all that was given back holds of the source of each stage
-given_of : (feeds : StageSpec → Option Feed) (P : List ℕ × SourceSeen → Type 0) (bodies : ℕ → Option BodySeen) (s : StageNo) (spec : StageSpec) (stages : List StageSpec) → spec_in stages s ≡ Some spec → All P (sources_of feeds stages bodies)
+given_of : (feeds : Feeds) (P : List ℕ × SourceSeen → Type 0) (bodies : ℕ → Option BodySeen) (s : StageNo) (spec : StageSpec) (stages : List StageSpec) → spec_in stages s ≡ Some spec → All P (sources_of feeds stages bodies)
     → All P (named_source (supplied feeds spec) (bodies (place_at (post s 0))))
 given_of feeds P bodies s spec [] found each = cc
 given_of feeds P bodies s spec (x ∷ stages) found each =
@@ -94,28 +97,47 @@ has_edge topology p spec sound found producer =
     let fields : is_producer_in topology.stages spec ≡ true = fields_of topology p spec Producer sound found producer in
     and_right (is_size spec.size) _ (and_right (by_demand spec spec.dispatch || (by_partition (length (processors topology.stages)) spec spec.dispatch && nat_le spec.field 255)) _ (and_left ((by_demand spec spec.dispatch || (by_partition (length (processors topology.stages)) spec spec.dispatch && nat_le spec.field 255)) && (is_size spec.size && is_some spec.edge)) _ fields))
 
-source_well_read : (topology : Topology) (before : History) (old new : EdgesSeen) (p : StageNo) (spec : StageSpec) (name : List ℕ) (o : Option SourceSeen) → (outside : IsOutside by_name true topology before old new)
-    → source_in (outside.bodies (place_at (post p 0))) ≡ o → supplied by_name spec ≡ Some (Fed (Opened name)) → There o (IsSourceRead old before p name)
-    → All (λ (given : List ℕ × SourceSeen). IsFaultless given.1) (named_source (supplied by_name spec) (outside.bodies (place_at (post p 0)))) → IsWellRead before p
-source_well_read topology before old new p spec name None outside is call there each = absurd there
-source_well_read topology before old new p spec name (Some source) outside is call there each = record {
+source_well_read : (topology : Topology) (before : History) (old new : EdgesSeen) (p : StageNo) (spec : StageSpec) (pace : Option Pace) (name : List ℕ) (o : Option SourceSeen) → (outside : IsOutside (feeds_of Named topology) true topology before old new)
+    → source_in (outside.bodies (place_at (post p 0))) ≡ o → supplied (feeds_of Named topology) spec ≡ Some (Fed pace (Opened name)) → There o (IsFedRead true old before p pace (Opened name))
+    → All (λ (given : List ℕ × SourceSeen). IsFaultless given.1) (named_source (supplied (feeds_of Named topology) spec) (outside.bodies (place_at (post p 0)))) → IsWellRead before p
+source_well_read topology before old new p spec pace name None outside is call there each = absurd there
+source_well_read topology before old new p spec pace name (Some source) outside is call there each = record {
   source = source;
-  reads = there.reads;
+  reads = there.read.reads;
   fine = All-head (λ (given : List ℕ × SourceSeen). IsFaultless given.1) (name, source) [] (subst (All (λ (given : List ℕ × SourceSeen). IsFaultless given.1)) given each);
 }
   where
-    given : named_source (supplied by_name spec) (outside.bodies (place_at (post p 0))) ≡ (name, source) ∷ []
-    given = ap (λ c. named_source c (outside.bodies (place_at (post p 0)))) call ∙ ap (fed_back (Some (Fed (Opened name)))) is
+    given : named_source (supplied (feeds_of Named topology) spec) (outside.bodies (place_at (post p 0))) ≡ (name, source) ∷ []
+    given = ap (λ c. named_source c (outside.bodies (place_at (post p 0)))) call ∙ ap (fed_back (Some (Fed pace (Opened name)))) is
 
--- all that a whole run gave back, the control source first
-given_back : (feeds : StageSpec → Option Feed) (P : List ℕ × SourceSeen → Type 0) (topology : Topology) (before : History) (old new : EdgesSeen) → (outside : IsOutside feeds true topology before old new)
-    → ((back : List (List ℕ × SourceSeen)) → new.sources_back ≡ old.sources_back ++ back → All P back)
-    → All P (named_control topology.control outside.control ++ sources_of feeds topology.stages outside.bodies)
-given_back feeds P topology before old new outside each =
-    let first : All P (first_sources feeds (suc (length topology.stages)) topology outside.control outside.bodies) =
-    subst (λ n. All P (first_sources feeds n topology outside.control outside.bodies)) (outside.all refl) (each (first_sources feeds outside.parts topology outside.control outside.bodies) outside.sources)
+-- a source in its gate is faultless where it is without it
+fine_gated : (gated inner : SourceSeen) → IsInner gated inner → IsFaultless inner → IsFaultless gated
+fine_gated gated inner is fine =
+    let tells : IsTrue gated.told = rw is.same_telling at fine.tells in
+    record {
+      no_fault = λ rose. fine.no_fault (rw is.same_faults rose);
+      tells = tells;
+      short = subst HasShortLines (is.same_bytes tells) fine.short;
+    }
+
+fine_all : (gated inner : List (List ℕ × SourceSeen)) → AreInner gated inner → All (λ (given : List ℕ × SourceSeen). IsFaultless given.1) inner → All (λ (given : List ℕ × SourceSeen). IsFaultless given.1) gated
+fine_all [] [] are each = each
+fine_all (g ∷ gated) (i ∷ inner) are each =
+    All-cons (λ (given : List ℕ × SourceSeen). IsFaultless given.1) g gated
+    (fine_gated g.1 i.1 are.1 (All-head (λ (given : List ℕ × SourceSeen). IsFaultless given.1) i inner each))
+    (fine_all gated inner are.2 (All-tail (λ (given : List ℕ × SourceSeen). IsFaultless given.1) i inner each))
+fine_all [] (i ∷ inner) are each = absurd are
+fine_all (g ∷ gated) [] are each = absurd are
+
+-- all that a whole run gave back, the control source first, is faultless as it stood in its gate
+given_back : (feeds : Feeds) (topology : Topology) (before : History) (old new : EdgesSeen) → (outside : IsOutside feeds true topology before old new) → AreFaultless old new
+    → All (λ (given : List ℕ × SourceSeen). IsFaultless given.1) (named_control topology.control outside.control ++ sources_of feeds topology.stages outside.bodies)
+given_back feeds topology before old new outside faultless =
+    let gated = fine_all (first_sources feeds outside.parts topology outside.control outside.bodies) outside.inner outside.ungated (faultless outside.inner outside.sources) in
+    let first : All (λ (given : List ℕ × SourceSeen). IsFaultless given.1) (first_sources feeds (suc (length topology.stages)) topology outside.control outside.bodies) =
+    subst (λ n. All (λ (given : List ℕ × SourceSeen). IsFaultless given.1) (first_sources feeds n topology outside.control outside.bodies)) (outside.all refl) gated
     in
-    subst (λ stages. All P (named_control topology.control outside.control ++ sources_of feeds stages outside.bodies)) (take_all (length topology.stages) topology.stages (omega arith)) first
+    subst (λ stages. All (λ (given : List ℕ × SourceSeen). IsFaultless given.1) (named_control topology.control outside.control ++ sources_of feeds stages outside.bodies)) (take_all (length topology.stages) topology.stages (omega arith)) first
 
 -- the control source did not end with a fault or with a line that is too long
 abbrev IsControlFine : History → Type 0
@@ -135,31 +157,32 @@ control_well_read topology before edges None None none used each end is = let no
 control_well_read topology before edges (Some name) None none used each end is = absurd used
 control_well_read topology before edges None (Some now) none used each end is = absurd used
 
-pub control_fine : (feeds : StageSpec → Option Feed) (topology : Topology) (before : History) (old new : EdgesSeen) → (topology.control ≡ None → HasNoControl before) → IsOutside feeds true topology before old new → AreFaultless old new → IsControlFine before
+pub control_fine : (feeds : Feeds) (topology : Topology) (before : History) (old new : EdgesSeen) → (topology.control ≡ None → HasNoControl before) → IsOutside feeds true topology before old new → AreFaultless old new → IsControlFine before
 control_fine feeds topology before old new none outside faultless =
     control_well_read topology before old topology.control outside.control none outside.obeyed
     (All-front (λ (given : List ℕ × SourceSeen). IsFaultless given.1) (named_control topology.control outside.control) (sources_of feeds topology.stages outside.bodies)
-    (given_back feeds (λ given. IsFaultless given.1) topology before old new outside faultless))
+    (given_back feeds topology before old new outside faultless))
 
-named_well_read : (topology : Topology) (before : History) (old new : EdgesSeen) → IsSound topology → IsOutside by_name true topology before old new → AreFaultless old new → AreWellRead topology before
+named_well_read : (topology : Topology) (before : History) (old new : EdgesSeen) → IsSound topology → IsOutside (feeds_of Named topology) true topology before old new → AreFaultless old new → AreWellRead topology before
 named_well_read topology before old new sound outside faultless p role =
     let found = some_role topology p is_producer_role role in
     by_edge found.0 found.1 (producer_is found.0.role found.2) found.0.edge refl
   where
-    back : All (λ (given : List ℕ × SourceSeen). IsFaultless given.1) (sources_of by_name topology.stages outside.bodies)
+    back : All (λ (given : List ℕ × SourceSeen). IsFaultless given.1) (sources_of (feeds_of Named topology) topology.stages outside.bodies)
     back =
-        All-back (λ (given : List ℕ × SourceSeen). IsFaultless given.1) (named_control topology.control outside.control) (sources_of by_name topology.stages outside.bodies)
-        (given_back by_name (λ given. IsFaultless given.1) topology before old new outside faultless)
+        All-back (λ (given : List ℕ × SourceSeen). IsFaultless given.1) (named_control topology.control outside.control) (sources_of (feeds_of Named topology) topology.stages outside.bodies)
+        (given_back (feeds_of Named topology) topology before old new outside faultless)
 
     by_edge : (spec : StageSpec) → spec_of topology p ≡ Some spec → spec.role ≡ Producer → (o : Option (List ℕ)) → spec.edge ≡ o → IsWellRead before p
     by_edge spec found producer None is =
         let some : is_some spec.edge ≡ true = has_edge topology p spec sound found producer in
         clash (is_some spec.edge) some (ap is_some is)
     by_edge spec found producer (Some name) is =
-        let call : supplied by_name spec ≡ Some (Fed (Opened name)) = ap (λ r. supplied_by r (feed_by spec.edge) spec.edge) producer ∙ ap (λ o. supplied_feed (feed_by o)) is in
-        source_well_read topology before old new p spec name (source_in (outside.bodies (place_at (post p 0)))) outside refl call
-        (outside.used.sources p (Opened name) (ap (supplied_in by_name) found ∙ call))
-        (given_of by_name (λ given. IsFaultless given.1) outside.bodies p spec topology.stages found back)
+        let pace = pace_of_stage topology spec in
+        let call : supplied (feeds_of Named topology) spec ≡ Some (Fed pace (Opened name)) = ap (λ r. supplied_by r pace (feed_by spec.edge) spec.edge) producer ∙ ap (λ o. supplied_feed pace (feed_by o)) is in
+        source_well_read topology before old new p spec pace name (source_in (outside.bodies (place_at (post p 0)))) outside refl call
+        (outside.used.sources p pace (Opened name) (ap (supplied_in (feeds_of Named topology)) found ∙ call))
+        (given_of (feeds_of Named topology) (λ given. IsFaultless given.1) outside.bodies p spec topology.stages found back)
 
 not_risen : (now : ℕ) → now ≡ 0 → Rose 0 now → ⊥
 not_risen now none (inl low) = omega (arith, none, low)
@@ -250,7 +273,7 @@ memory_or topology fails before verdict status is (inl memory) calm = wanting to
 memory_or topology fails before verdict status is (inr f) calm = absurd (calm f.name f.so)
 
 -- where memory was not wanting, all was used
-all_used : (feeds : StageSpec → Option Feed) (memory : Type 0) (topology : Topology) (before : History) (old new : OutsideSeen) → HasUsed feeds memory topology before old new → (memory → ⊥) → IsOutside feeds true topology before old.edges new.edges
+all_used : (feeds : Feeds) (memory : Type 0) (topology : Topology) (before : History) (old new : OutsideSeen) → HasUsed feeds memory topology before old new → (memory → ⊥) → IsOutside feeds true topology before old.edges new.edges
 all_used feeds memory topology before old new used never = by_whole used.whole used.wanting used.outside
   where
     by_whole : (b : Bool) → (b ≡ false → memory) → IsOutside feeds b topology before old.edges new.edges → IsOutside feeds true topology before old.edges new.edges

@@ -1,9 +1,10 @@
 -- What comes of a topology that is to run: it is refused, what it names is not opened, or it runs.
 use Rattle.std.proofs.Common.{◌≡◌, ℕ, List, [], ◌++◌, length, take, Bool, false, Option, Some, None, refl, sym, ◌∙◌, ap, subst, inl, inr, arith}
-use Rattle.std.specs.Prelude.{unwrap_or}
+use Rattle.std.specs.Prelude.{IfSome, unwrap_or}
 use Rattle.std.proofs.lemmas.List.{append-nil, take_all, take_at}
 use Rattle.pipe_types.specs.Counts.{Rose}
 use Rattle.pipe_types.specs.Sound.{IsSound}
+use Rattle.pipe_types.specs.declared.topology.Rate.{Rate}
 use Rattle.pipe_types.specs.declared.topology.StageSpec.{StageSpec}
 use Rattle.pipe_types.specs.declared.topology.Topology.{Topology}
 use Rattle.pipe_model.specs.History.{History}
@@ -12,8 +13,9 @@ use Rattle.core_state.specs.declared.state.Core.{Core}
 use Rattle.core_state.specs.Stands.{Stands}
 use Rattle.pipe_laws.specs.Followed.{FollowsMoves}
 use Rattle.pipe_laws.specs.Read.{HasNoControl}
+use Rattle.rate_laws.specs.Rates.{KeepsRate}
 use Rattle.pipe_laws.proofs.Claims.{keeps_claims}
-use Rattle.edge_names.specs.Supplies.{Feed}
+use Rattle.edge_names.specs.Supplies.{Feed, at_paces}
 use Rattle.edge_names.specs.Controls.{run_calls}
 use Rattle.topology_needs.specs.declared.stock.Shortage.{Shortage}
 use Rattle.pipe_run.specs.Boxes.{AreBoxesLeft, AreSameBoxes}
@@ -64,12 +66,19 @@ all_asked (Refused (Stock shortage)) calls asked asked' is = is
 all_asked (Refused (Audit fault)) calls asked asked' is = is
 
 -- a run that the core stands for
-run_by : (core : Core) → Stands core → FollowsMoves core.topology core.journal.steps → (core.topology.control ≡ None → HasNoControl core.journal.steps) → IsRun core.topology core.journal.steps
-run_by core x follows control = record {
+run_by : (core : Core) → Stands core → FollowsMoves core.topology core.journal.steps → (core.topology.control ≡ None → HasNoControl core.journal.steps)
+    → IfSome core.topology.rate (λ rate. KeepsRate rate core.journal.steps) → IsRun core.topology core.journal.steps
+run_by core x follows control rated = record {
   claims = keeps_claims core.topology core.journal.steps x.holds.sound x.holds.legal;
   moves = follows;
   control = control;
+  rate = rated;
 }
+
+-- nothing was brought
+no_record : (rate : Option Rate) → IfSome rate (λ r. KeepsRate r [])
+no_record (Some r) = λ i. omega arith
+no_record None = tt
 
 -- no step is a run
 pub unrun : (topology : Topology) → IsSound topology → IsRun topology []
@@ -80,16 +89,18 @@ unrun topology sound = record {
     no_step = refl;
     no_end = refl;
   };
+  rate = no_record topology.rate;
 }
 
 -- what was named was opened
 pub ran : (old new : OutsideSeen) (shows : Shows) (feeding : Feeding) (feeds : StageSpec → Option Feed) (wanted : Topology) (whole : Bool) (core : Core) (topology : Option Topology) (before : History) (verdict : Verdict)
-    → IsFedBy feeding wanted feeds → core.topology ≡ wanted → Stands core → IsRunOf feeds whole wanted core.journal.steps old.edges new.edges old.clock new.clock → AreBoxesLeft whole wanted core.journal.steps old.boxes new.boxes
+    → IsFedBy feeding wanted feeds → core.topology ≡ wanted → Stands core → IsRunOf (at_paces wanted feeds) whole wanted core.journal.steps old.edges new.edges old.clock new.clock → IfSome wanted.rate (λ rate. KeepsRate rate core.journal.steps)
+    → AreBoxesLeft whole wanted core.journal.steps old.boxes new.boxes
     → topology ≡ Some core.topology → before ≡ core.journal.steps → IsJudgement verdict shows core.topology core.journal.steps → (whole ≡ false → verdict ≡ Refused Memory)
     → ComesBy old new (Runs shows feeding wanted) (run_calls (feeds_of feeding wanted) wanted) topology before verdict
-ran old new shows feeding feeds wanted whole core topology before verdict fed same stands went boxes own steps judged wanting =
-    let r = subst (λ (f : StageSpec → Option Feed). IsRunOf f whole wanted core.journal.steps old.edges new.edges old.clock new.clock) fed.is went in
-    let run : IsRun wanted core.journal.steps = rw same at (run_by core stands (rw same r.follows) (rw same r.control)) in
+ran old new shows feeding feeds wanted whole core topology before verdict fed same stands went rated boxes own steps judged wanting =
+    let r = subst (λ (f : StageSpec → Option Feed). IsRunOf (at_paces wanted f) whole wanted core.journal.steps old.edges new.edges old.clock new.clock) fed.is went in
+    let run : IsRun wanted core.journal.steps = rw same at (run_by core stands (rw same r.follows) (rw same r.control) (rw same rated)) in
     rw (own ∙ ap Some same, steps) (record {
       outcome = inr (record {
         sound = rw same at stands.holds.sound;
@@ -113,11 +124,11 @@ ran old new shows feeding feeds wanted whole core topology before verdict fed sa
 
 -- a call by this name failed
 pub unopened : (old new : OutsideSeen) (shows : Shows) (feeding : Feeding) (feeds : StageSpec → Option Feed) (wanted : Topology) (name : List ℕ) (topology : Option Topology) (before : History) (verdict : Verdict)
-    → IsFedBy feeding wanted feeds → HasFailed feeds wanted name old.edges new.edges → new.clock ≡ old.clock → AreSameBoxes old.boxes new.boxes
+    → IsFedBy feeding wanted feeds → HasFailed (at_paces wanted feeds) wanted name old.edges new.edges → new.clock ≡ old.clock → AreSameBoxes old.boxes new.boxes
     → verdict ≡ Refused (Edge name) → (topology ≡ None) × (before ≡ [])
     → ComesBy old new (Runs shows feeding wanted) (run_calls (feeds_of feeding wanted) wanted) topology before verdict
 unopened old new shows feeding feeds wanted name topology before verdict fed away clock boxes is none =
-    let a = subst (λ (f : StageSpec → Option Feed). HasFailed f wanted name old.edges new.edges) fed.is away in
+    let a = subst (λ (f : StageSpec → Option Feed). HasFailed (at_paces wanted f) wanted name old.edges new.edges) fed.is away in
     let failed : FailsAt old.edges.told (run_calls (feeds_of feeding wanted) wanted) old.edges.asked new.edges.asked (Rose old.edges.faults new.edges.faults) name = record {
       kind = a.kind;
       front = a.front;
@@ -140,11 +151,11 @@ unopened old new shows feeding feeds wanted name topology before verdict fed awa
 
 -- memory was wanting before all was opened
 pub unopened_memory : (old new : OutsideSeen) (shows : Shows) (feeding : Feeding) (feeds : StageSpec → Option Feed) (wanted : Topology) (topology : Option Topology) (before : History) (verdict : Verdict)
-    → IsFedBy feeding wanted feeds → HasWanted feeds wanted old.edges new.edges → new.clock ≡ old.clock → AreSameBoxes old.boxes new.boxes
+    → IsFedBy feeding wanted feeds → HasWanted (at_paces wanted feeds) wanted old.edges new.edges → new.clock ≡ old.clock → AreSameBoxes old.boxes new.boxes
     → verdict ≡ Refused Memory → (topology ≡ None) × (before ≡ [])
     → ComesBy old new (Runs shows feeding wanted) (run_calls (feeds_of feeding wanted) wanted) topology before verdict
 unopened_memory old new shows feeding feeds wanted topology before verdict fed away clock boxes is none =
-    let a = subst (λ (f : StageSpec → Option Feed). HasWanted f wanted old.edges new.edges) fed.is away in
+    let a = subst (λ (f : StageSpec → Option Feed). HasWanted (at_paces wanted f) wanted old.edges new.edges) fed.is away in
     rw (is, none.0) (record {
       outcome = inl none.1;
       outside = record {

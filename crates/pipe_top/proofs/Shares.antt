@@ -11,6 +11,7 @@ use Rattle.pipe_types.specs.declared.topology.StageSpec.{StageSpec}
 use Rattle.pipe_types.specs.declared.topology.Topology.{Topology}
 use Rattle.pipe_model.specs.History.{History}
 use Rattle.pipe_model.specs.Legal.{has_role, is_producer_role}
+use Rattle.pipe_edges.specs.Paces.{Pace, unpaced}
 use Rattle.pipe_edges.specs.Texts.{IsLine, ended}
 use Rattle.pipe_edges.specs.declared.edges.EdgeKind.{EdgeKind}
 use Rattle.source_lines.specs.Cut.{HasShortLines}
@@ -22,14 +23,15 @@ use Rattle.body_laws.specs.Ready.{There}
 use Rattle.body_laws.proofs.Posts.{some_role}
 use Rattle.edge_names.specs.Seen.{EdgesSeen}
 use Rattle.edge_names.specs.Opened.{supplied_in}
+use Rattle.edge_names.specs.Gates.{pace_by, pace_of_stage}
 use Rattle.edge_names.specs.Supplies.{Fed, Made, Supplied, supplied, supplied_by}
 use Rattle.edge_names.specs.Returned.{source_in}
 use Rattle.made_sources.specs.Records.{records_made}
 use Rattle.made_sources.specs.Feeds.{made_feeds}
 use Rattle.made_sources.proofs.Lines.{made_lines}
-use Rattle.pipe_run.specs.Outside.{IsMadeRead, IsOutside}
+use Rattle.pipe_run.specs.Outside.{IsFedRead, IsMadeRead, IsOutside, KeepsItsPace}
 use Rattle.pipe_run.proofs.Records.{reads_records, short_ended}
-use Rattle.pipe_top.specs.Cases.{Case, NoCommand, NoTopology as BadTopology, TooFew, Checks, Upgrades, Audits, Rejects, Runs, Feeding, Named, MadeFrom, feeds_of}
+use Rattle.pipe_top.specs.Cases.{Case, NoCommand, NoTopology as BadTopology, TooFew, Checks, Upgrades, Audits, Rejects, Runs, Feeding, Named, MadeFrom, feeds_of, origin_of}
 use Rattle.pipe_top.specs.Runs.{OutsideSeen, HasUsed, IsOutsideOf, ReadShares, AreShares, ReadsGenerated}
 use Rattle.pipe_top.specs.Flows.{IsFew, Outcome}
 use Rattle.run_verdicts.specs.declared.verdict.Verdict.{Verdict}
@@ -65,25 +67,27 @@ share seed count topology p = records_made seed (length (producers topology.stag
 pub record IsShareRead (seed count : ℕ) (topology : Topology) (before : History) (whole : Bool) (p : StageNo) : Type 0 where
   pub source : SourceSeen
   pub made : IsMadeRead whole before p (ended (share seed count topology p)) source
+  pub plain : topology.rate ≡ None → source.paced ≡ unpaced
   pub lines : All IsLine (share seed count topology p)
   pub short : HasShortLines (source.taken ++ source.left)
 
 made_supplied : (seed count : ℕ) (topology : Topology) (p : StageNo) (spec : StageSpec) → spec.no ≡ p → spec.role ≡ Producer
-    → supplied (feeds_of (MadeFrom seed count) topology) spec ≡ Some (Fed (Made (ended (share seed count topology p))))
+    → supplied (feeds_of (MadeFrom seed count) topology) spec ≡ Some (Fed (pace_of_stage topology spec) (Made (ended (share seed count topology p))))
 made_supplied seed count topology p spec number producer =
-    ap (λ (r : Role). supplied_by r (feeds_of (MadeFrom seed count) topology spec) spec.edge) producer
-    ∙ ap (λ (n : StageNo). Some (Fed (Made (ended (share seed count topology n))))) number
+    ap (λ (r : Role). supplied_by r (pace_of_stage topology spec) (origin_of (MadeFrom seed count) topology spec) spec.edge) producer
+    ∙ ap (λ (n : StageNo). Some (Fed (pace_of_stage topology spec) (Made (ended (share seed count topology n))))) number
 
-there_is : (seed count : ℕ) (topology : Topology) (before : History) (whole : Bool) (p : StageNo) (o : Option SourceSeen) → count < 2 ^ 32
-    → There o (IsMadeRead whole before p (ended (share seed count topology p))) → IsShareRead seed count topology before whole p
-there_is seed count topology before whole p None few made = absurd made
-there_is seed count topology before whole p (Some source) few made =
+there_is : (seed count : ℕ) (topology : Topology) (before : History) (old : EdgesSeen) (whole : Bool) (p : StageNo) (spec : StageSpec) (o : Option SourceSeen) → count < 2 ^ 32
+    → There o (IsFedRead whole old before p (pace_of_stage topology spec) (Made (ended (share seed count topology p)))) → IsShareRead seed count topology before whole p
+there_is seed count topology before old whole p spec None few made = absurd made
+there_is seed count topology before old whole p spec (Some source) few made =
     let lines = (made_lines seed (length (producers topology.stages)) (p.0 - 1) count few).1 in
     record {
       source = source;
-      made = made;
+      made = made.read;
+      plain = λ none. subst (λ rate. KeepsItsPace (pace_by rate (length (producers topology.stages)) spec.index) before p source) none made.pace;
       lines = lines;
-      short = subst HasShortLines (sym made.same_bytes) (short_ended (share seed count topology p) lines);
+      short = subst HasShortLines (sym made.read.same_bytes) (short_ended (share seed count topology p) lines);
     }
 
 pub share_read : (seed count : ℕ) (topology : Topology) (before : History) (old new : EdgesSeen) (whole : Bool) → IsSound topology → count < 2 ^ 32
@@ -92,8 +96,8 @@ share_read seed count topology before old new whole sound few outside p role =
     let found = some_role topology p is_producer_role role in
     let number = (numbered_topology topology sound).named p found.0 found.1 in
     let supply = made_supplied seed count topology p found.0 number (producer_is found.0.role found.2) in
-    there_is seed count topology before whole p (source_in (outside.bodies (place_at (post p 0)))) few
-    (outside.used.sources p (Made (ended (share seed count topology p))) (ap (supplied_in (feeds_of (MadeFrom seed count) topology)) found.1 ∙ supply))
+    there_is seed count topology before old whole p found.0 (source_in (outside.bodies (place_at (post p 0)))) few
+    (outside.used.sources p (pace_of_stage topology found.0) (Made (ended (share seed count topology p))) (ap (supplied_in (feeds_of (MadeFrom seed count) topology)) found.1 ∙ supply))
 
 shares_read : (seed count : ℕ) (memory : Type 0) (wanted : Topology) (before : History) (old new : OutsideSeen) → IsSound wanted → count < 2 ^ 32 → HasUsed (feeds_of (MadeFrom seed count) wanted) memory wanted before old new
     → ReadShares memory seed count wanted before
@@ -102,7 +106,7 @@ shares_read seed count memory wanted before old new sound few used = record {
   wanting = used.wanting;
   reads = λ p role.
       let read = share_read seed count wanted before old.edges new.edges used.whole sound few used.outside p role in
-      reads_records used.whole before p (share seed count wanted p) read.source read.lines read.made;
+      reads_records used.whole wanted.rate before p (share seed count wanted p) read.source read.lines read.made read.plain;
 }
 
 -- ---- in the case of the call

@@ -4,7 +4,6 @@ use Rattle.std.specs.Prelude.{◌⊎◌, IsTrue, slice_get}
 use Rattle.std.proofs.lemmas.List.{append-nil}
 use Rattle.std.proofs.lemmas.List.Elements.{All-nil, All-cons}
 use Rattle.std.proofs.Math.Seq.{take-nil}
-use Rattle.pipe_types.specs.declared.topology.StageSpec.{StageSpec}
 use Rattle.pipe_types.specs.declared.topology.Topology.{Topology}
 use Rattle.pipe_model.specs.History.{History}
 use Rattle.pipe_edges.specs.declared.edges.EdgeKind.{EdgeKind}
@@ -12,7 +11,7 @@ use Rattle.pipe_edges.specs.declared.edges.EdgeKind.TheVariants.{File}
 use Rattle.stage_bodies.specs.Seen.{BoxSeen}
 use Rattle.stage_bodies.specs.Jobs.{Both}
 use Rattle.edge_names.specs.Seen.{EdgesSeen}
-use Rattle.edge_names.specs.Supplies.{Feed}
+use Rattle.edge_names.specs.Supplies.{Feeds}
 use Rattle.box_stock.specs.Lends.{IsSameBox}
 use Rattle.pipe_run.specs.Boxes.{AreSameBoxes}
 use Rattle.pipe_top.specs.Cases.{feeds_of, Case, NoCommand, NoTopology, TooFew, Checks, Upgrades, Audits, Rejects, Runs}
@@ -39,7 +38,7 @@ no_journal_back name old new u = record { sources = inl u.sources; sinks = u.sin
 
 -- where nothing is used there was no run, since memory was wanting or a call by name failed
 pub outside_of_none : (memory : Type 0) (calls : List (EdgeKind × List ℕ)) (before : History) (case : Case) (old new : OutsideSeen) → IsUntouched old new
-    → ((feeds : StageSpec → Option Feed) (wanted : Topology) → (memory × IsBrokenOff feeds calls wanted old.edges new.edges) ⊎ IsGivenUp feeds calls wanted old.edges new.edges) → IsOutsideOf memory calls None before case old new
+    → ((feeds : Feeds) (wanted : Topology) → (memory × IsBrokenOff feeds calls wanted old.edges new.edges) ⊎ IsGivenUp feeds calls wanted old.edges new.edges) → IsOutsideOf memory calls None before case old new
 outside_of_none memory calls before NoCommand old new u why = u
 outside_of_none memory calls before (NoTopology fault) old new u why = u
 outside_of_none memory calls before (TooFew shortage) old new u why = u
@@ -54,7 +53,7 @@ outside_of_none memory calls before (Runs shows feeding wanted) old new u why = 
 }
 
 -- no call was made, and nothing was given back
-pub off_unasked : (calls : List (EdgeKind × List ℕ)) (old new : EdgesSeen) → new.asked ≡ old.asked → IsNothingBack old new → (feeds : StageSpec → Option Feed) (wanted : Topology) → IsBrokenOff feeds calls wanted old new
+pub off_unasked : (calls : List (EdgeKind × List ℕ)) (old new : EdgesSeen) → new.asked ≡ old.asked → IsNothingBack old new → (feeds : Feeds) (wanted : Topology) → IsBrokenOff feeds calls wanted old new
 off_unasked calls old new asked none feeds wanted = record {
   front = [];
   rest = calls;
@@ -65,7 +64,7 @@ off_unasked calls old new asked none feeds wanted = record {
 
 -- the first call was made or not, and nothing was given back
 pub off_file : (name : List ℕ) (calls : List (EdgeKind × List ℕ)) (old new : EdgesSeen) → (IsTrue old.told → Asks ((File, name) ∷ []) old.asked new.asked) → IsNothingBack old new
-    → (feeds : StageSpec → Option Feed) (wanted : Topology) → IsBrokenOff feeds ((File, name) ∷ calls) wanted old new
+    → (feeds : Feeds) (wanted : Topology) → IsBrokenOff feeds ((File, name) ∷ calls) wanted old new
 off_file name calls old new asks none feeds wanted = by_telling old.told refl
   where
     unmade : (IsTrue old.told → new.asked ≡ old.asked ++ []) → IsBrokenOff feeds ((File, name) ∷ calls) wanted old new
@@ -87,7 +86,7 @@ off_file name calls old new asks none feeds wanted = by_telling old.told refl
 
 -- memory was wanting before anything was opened
 pub wanting : (old new : OutsideSeen) (case : Case) (calls : List (EdgeKind × List ℕ)) (topology : Option Topology) (before : History) (verdict : Verdict)
-    → verdict ≡ Refused Memory → (topology ≡ None) × (before ≡ []) → IsUntouched old new → (IsTrue old.edges.told → Asks calls old.edges.asked new.edges.asked) → ((feeds : StageSpec → Option Feed) (wanted : Topology) → IsBrokenOff feeds calls wanted old.edges new.edges)
+    → verdict ≡ Refused Memory → (topology ≡ None) × (before ≡ []) → IsUntouched old new → (IsTrue old.edges.told → Asks calls old.edges.asked new.edges.asked) → ((feeds : Feeds) (wanted : Topology) → IsBrokenOff feeds calls wanted old.edges new.edges)
     → new.edges.told ≡ old.edges.told → ComesBy old new case calls topology before verdict
 wanting old new case calls topology before verdict is none untouched asks off telling =
     rw (is, none.0) (record {

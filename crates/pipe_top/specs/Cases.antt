@@ -8,9 +8,9 @@ use Rattle.pipe_edges.specs.declared.edges.EdgeKind.TheVariants.{File, Source}
 use Rattle.config_table.specs.declared.fault.ConfigFault.{ConfigFault}
 use Rattle.pipe_config.specs.File.{topology_of_file}
 use Rattle.config_flow.specs.Flow.{flow_topology_of}
-use Rattle.journal_audit.specs.declared.verdict.Summary.{Summary}
+use Rattle.run_verdicts.specs.Judged.{Summary}
 use Rattle.program_words.specs.Words.{Command, Flow, Check, Run, Gen, Upgrade, Audit}
-use Rattle.edge_names.specs.Supplies.{Feed, by_name}
+use Rattle.edge_names.specs.Supplies.{Feeds, Feed, at_paces, by_name}
 use Rattle.edge_names.specs.Controls.{run_calls}
 use Rattle.made_sources.specs.Feeds.{made_feeds}
 use Rattle.topology_needs.specs.declared.stock.Boxes.{Boxes}
@@ -25,9 +25,13 @@ pub data Feeding : Type 0 where
   Named : Feeding
   MadeFrom : (seed count : ℕ) → Feeding
 
-abbrev pub feeds_of : Feeding → Topology → (StageSpec → Option Feed)
-feeds_of Named topology = by_name
-feeds_of (MadeFrom seed count) topology = made_feeds seed count (length (producers topology.stages))
+abbrev pub origin_of : Feeding → Topology → (StageSpec → Option Feed)
+origin_of Named topology = by_name
+origin_of (MadeFrom seed count) topology = made_feeds seed count (length (producers topology.stages))
+
+-- the same, each in its gate where the topology has a rate
+abbrev pub feeds_of : Feeding → Topology → Feeds
+feeds_of feeding topology = at_paces topology (origin_of feeding topology)
 
 -- the words are no command; the file is no topology; the stock has too few boxes of a kind; the topology is only checked; its
 -- file is written with this text as version 2; the journal of this name is legal for it and comes to this, or is not found legal;

@@ -1,5 +1,5 @@
 -- What a call promises of its run, its texts, its outside and the calls by name.
-use Rattle.std.specs.Prelude.{◌≡◌, ◌≢◌, ◌≤◌, ◌⊎◌, Bool, true, false, ℕ, List, [], ◌∷◌, ◌++◌, ◌-◌, take, length, All, IsTrue, Option, Some, None, Ok, Err, if◌then◌else◌, nat_le}
+use Rattle.std.specs.Prelude.{◌≡◌, ◌≢◌, ◌≤◌, ◌⊎◌, Bool, true, false, ℕ, List, [], ◌∷◌, ◌++◌, ◌-◌, take, length, All, IsTrue, IfSome, Option, Some, None, Ok, Err, if◌then◌else◌, nat_le}
 use Rattle.pipe_types.specs.Counts.{Rose}
 use Rattle.pipe_types.specs.declared.numbers.StageNo.{StageNo}
 use Rattle.pipe_types.specs.declared.step.DrainCause.TheVariants.{Control, Limit, Idle}
@@ -7,7 +7,6 @@ use Rattle.pipe_types.specs.declared.step.SourceHow.TheVariants.{End}
 use Rattle.pipe_types.specs.declared.step.Step.{Step}
 use Rattle.pipe_types.specs.declared.step.Step.TheVariants.{Drain}
 use Rattle.pipe_types.specs.Sound.{producers}
-use Rattle.pipe_types.specs.declared.topology.StageSpec.{StageSpec}
 use Rattle.pipe_types.specs.declared.topology.Topology.{Topology}
 use Rattle.pipe_model.specs.History.{History}
 use Rattle.pipe_model.specs.Legal.{happened, is_halt, has_role, is_producer_role}
@@ -28,11 +27,12 @@ use Rattle.source_lines.specs.Cut.{HasShortLines}
 use Rattle.pipe_laws.specs.KeptClaims.{KeepsClaims}
 use Rattle.pipe_laws.specs.Followed.{FollowsMoves}
 use Rattle.pipe_laws.specs.Read.{HasNoControl}
+use Rattle.rate_laws.specs.Rates.{KeepsRate}
 use Rattle.stage_bodies.specs.Seen.{SourceSeen, SinkSeen, BoxSeen}
 use Rattle.pipe_run.specs.Clocks.{ClockSeen}
 use Rattle.edge_names.specs.Seen.{EdgesSeen}
 use Rattle.pipe_run.specs.Boxes.{AreBoxesLeft, AreSameBoxes}
-use Rattle.edge_names.specs.Supplies.{Feed}
+use Rattle.edge_names.specs.Supplies.{Feeds}
 use Rattle.made_sources.specs.Records.{records_made}
 use Rattle.pipe_run.specs.Records.{ReadsRecords}
 use Rattle.pipe_run.specs.Outside.{IsOpenedInPart, IsOutside, IsUnopened}
@@ -50,12 +50,13 @@ pub record OutsideSeen : Type 0 where
   pub clock : ClockSeen
   pub boxes : List BoxSeen
 
--- the journal is legal and keeps every claim, each step of the pipeline's own accord was the next move, and nothing comes from
--- a control source where none is named
+-- the journal is legal and keeps every claim, each step of the pipeline's own accord was the next move, nothing comes from a
+-- control source where none is named, and no interval brings more records than a rate allows
 pub record IsRun (topology : Topology) (before : History) : Type 0 where
   pub claims : KeepsClaims topology before
   pub moves : FollowsMoves topology before
   pub control : topology.control ≡ None → HasNoControl before
+  pub rate : IfSome topology.rate (λ rate. KeepsRate rate before)
 
 -- the journal of a run, or no topology and no step
 abbrev pub IsRunOrNone : Option Topology → History → Type 0
@@ -176,7 +177,7 @@ pub record IsUntouched (old new : OutsideSeen) : Type 0 where
 
 -- a run read, wrote and gave back what its topology names, its time is the clock's, its rows of quiet answers keep to the idle
 -- limit, and its stages used the boxes; where memory was wanting, in part
-pub record HasUsed (feeds : StageSpec → Option Feed) (memory : Type 0) (topology : Topology) (before : History) (old new : OutsideSeen) : Type 0 where
+pub record HasUsed (feeds : Feeds) (memory : Type 0) (topology : Topology) (before : History) (old new : OutsideSeen) : Type 0 where
   pub whole : Bool
   pub wanting : whole ≡ false → memory
   pub outside : IsOutside feeds whole topology before old.edges new.edges
@@ -189,14 +190,14 @@ abbrev pub IsNothingBack : (old new : EdgesSeen) → Type 0
 IsNothingBack old new = (new.sources_back ≡ old.sources_back) × (new.sinks_back ≡ old.sinks_back)
 
 -- a call by name failed, and what was opened before it was given back; where it was to read the topology file, nothing was opened
-pub record IsGivenUp (feeds : StageSpec → Option Feed) (calls : List (EdgeKind × List ℕ)) (topology : Topology) (old new : EdgesSeen) : Type 0 where
+pub record IsGivenUp (feeds : Feeds) (calls : List (EdgeKind × List ℕ)) (topology : Topology) (old new : EdgesSeen) : Type 0 where
   pub name : List ℕ
   pub fails : FailsAt old.told calls old.asked new.asked (Rose old.faults new.faults) name
   pub back : ((fails.kind ≡ File) × IsNothingBack old new) ⊎ IsUnopened feeds topology name fails.rest old new
 
 -- memory was wanting before the run began: so many of the calls were made, and no source or sink was opened, or what was opened
 -- was given back, unread and unwritten, as far as there was memory for that
-pub record IsBrokenOff (feeds : StageSpec → Option Feed) (calls : List (EdgeKind × List ℕ)) (topology : Topology) (old new : EdgesSeen) : Type 0 where
+pub record IsBrokenOff (feeds : Feeds) (calls : List (EdgeKind × List ℕ)) (topology : Topology) (old new : EdgesSeen) : Type 0 where
   pub front : List (EdgeKind × List ℕ)
   pub rest : List (EdgeKind × List ℕ)
   pub parts : calls ≡ front ++ rest
@@ -205,12 +206,12 @@ pub record IsBrokenOff (feeds : StageSpec → Option Feed) (calls : List (EdgeKi
 
 -- a run did not begin, since memory was wanting or a call by name failed: the clock was not used, and the boxes are the same,
 -- though some may be armed
-pub record HasNotBegun (feeds : StageSpec → Option Feed) (memory : Type 0) (calls : List (EdgeKind × List ℕ)) (topology : Topology) (old new : OutsideSeen) : Type 0 where
+pub record HasNotBegun (feeds : Feeds) (memory : Type 0) (calls : List (EdgeKind × List ℕ)) (topology : Topology) (old new : OutsideSeen) : Type 0 where
   pub edges : (memory × IsBrokenOff feeds calls topology old.edges new.edges) ⊎ IsGivenUp feeds calls topology old.edges new.edges
   pub clock : new.clock ≡ old.clock
   pub boxes : AreSameBoxes old.boxes new.boxes
 
-abbrev pub HasRunOrNot : (feeds : StageSpec → Option Feed) → (memory : Type 0) → (calls : List (EdgeKind × List ℕ)) → (wanted : Topology) → Option Topology → History → (old new : OutsideSeen) → Type 0
+abbrev pub HasRunOrNot : (feeds : Feeds) → (memory : Type 0) → (calls : List (EdgeKind × List ℕ)) → (wanted : Topology) → Option Topology → History → (old new : OutsideSeen) → Type 0
 HasRunOrNot feeds memory calls wanted (Some topology) before old new = HasUsed feeds memory wanted before old new
 HasRunOrNot feeds memory calls wanted None before old new = HasNotBegun feeds memory calls wanted old new
 
@@ -239,12 +240,12 @@ IsAuditedIn _ old new = Unit {0}
 -- ---- generated records
 
 -- of the records that the seed gives each producer read its share, in order, as far as the journal says: all of it where its
--- source came to its end. No source failed or had nothing ready, unless memory was wanting
+-- source came to its end. No source failed or, where there is no rate, had nothing ready, unless memory was wanting
 pub record ReadShares (memory : Type 0) (seed count : ℕ) (topology : Topology) (before : History) : Type 0 where
   pub whole : Bool
   pub wanting : whole ≡ false → memory
   pub reads : (p : StageNo) → has_role topology p is_producer_role ≡ true
-      → ReadsRecords whole before p (records_made seed (length (producers topology.stages)) (p.0 - 1) count)
+      → ReadsRecords whole topology.rate before p (records_made seed (length (producers topology.stages)) (p.0 - 1) count)
 
 abbrev pub AreShares : (memory : Type 0) → Option Topology → Feeding → (wanted : Topology) → History → Type 0
 AreShares memory (Some topology) (MadeFrom seed count) wanted before = ReadShares memory seed count wanted before

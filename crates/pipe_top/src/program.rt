@@ -25,6 +25,7 @@ use pipe_edges::{Clock, Edges};
 use pipe_journal::Journal;
 use pipe_types::topology::{Role, StageSpec, Topology};
 use program_words::{AuditWords, Command, FlowWords, GenWords, RunWords, read_words};
+use rate_gate::GatedSource;
 use run_verdicts::{Refusal, Shows, write_verdict};
 use stage_bodies::Houses;
 use std::alloc::Global;
@@ -49,8 +50,8 @@ pub fn run_program<
     R: Threads + Wait + Sync,
     E: Edges,
     C: Boxed,
-    B: Carries<C> + Houses<E::Source, E::Sink> + Send,
-    G: Carries<C> + Houses<MadeSource, E::Sink> + Send,
+    B: Carries<C> + Houses<GatedSource<E::Source>, E::Sink> + Send,
+    G: Carries<C> + Houses<GatedSource<MadeSource>, E::Sink> + Send,
     K: Clock + Send + Drop,
 >(
     rt: &R,
@@ -63,7 +64,8 @@ pub fn run_program<
     err: &mut E::Out,
 ) -> RunEnd<C, K>
     ensures known { IsKnownStatus result.status }
-    // The journal is legal and keeps every claim, and each step of its own accord was the next move.
+    // The journal is legal and keeps every claim, each step of its own accord was the next move, and no interval brings more
+    // records than a rate allows.
     ensures run { IsRunOrNone result.topology result.journal.steps }
     // What the call comes to in the case of its words, of the bytes of their topology file, and of the stock.
     ensures call { InCase (E.told edges.old) (E.named edges.old) (command_of (texts_of words.now.items)) (boxes_in (kinds_of C.seen stock.items))
@@ -107,8 +109,8 @@ fn run_words<
     R: Threads + Wait + Sync,
     E: Edges,
     C: Boxed,
-    B: Carries<C> + Houses<E::Source, E::Sink> + Send,
-    G: Carries<C> + Houses<MadeSource, E::Sink> + Send,
+    B: Carries<C> + Houses<GatedSource<E::Source>, E::Sink> + Send,
+    G: Carries<C> + Houses<GatedSource<MadeSource>, E::Sink> + Send,
     K: Clock + Send + Drop,
 >(rt: &R, alloc: Global, words: &Vec<String>, stock: Vec<C>, edges: &mut E, clock: K) -> Ran<C, K>
     ensures came { Came
@@ -139,7 +141,7 @@ fn run_flow<
     R: Threads + Wait + Sync,
     E: Edges,
     C: Boxed,
-    B: Carries<C> + Houses<E::Source, E::Sink> + Send,
+    B: Carries<C> + Houses<GatedSource<E::Source>, E::Sink> + Send,
     K: Clock + Send + Drop,
 >(rt: &R, alloc: Global, words: FlowWords<'_>, stock: Vec<C>, edges: &mut E, clock: K) -> Ran<C, K>
     ensures came { Came
@@ -242,7 +244,7 @@ fn run_file<
     R: Threads + Wait + Sync,
     E: Edges,
     C: Boxed,
-    B: Carries<C> + Houses<E::Source, E::Sink> + Send,
+    B: Carries<C> + Houses<GatedSource<E::Source>, E::Sink> + Send,
     K: Clock + Send + Drop,
 >(rt: &R, alloc: Global, words: RunWords<'_>, stock: Vec<C>, edges: &mut E, clock: K) -> Ran<C, K>
     ensures came { Came
@@ -275,7 +277,7 @@ fn run_generated<
     R: Threads + Wait + Sync,
     E: Edges,
     C: Boxed,
-    G: Carries<C> + Houses<MadeSource, E::Sink> + Send,
+    G: Carries<C> + Houses<GatedSource<MadeSource>, E::Sink> + Send,
     K: Clock + Send + Drop,
 >(rt: &R, alloc: Global, words: GenWords<'_>, stock: Vec<C>, edges: &mut E, clock: K) -> Ran<C, K>
     ensures came { Came

@@ -21,6 +21,7 @@ use pipe_edges::{Clock, Edges};
 use pipe_journal::Journal;
 use pipe_run::{Ended, NoRun, Run, run_topology};
 use pipe_types::topology::Topology;
+use rate_gate::GatedSource;
 use run_verdicts::{Refusal, Shows, Verdict, places_of, texts_of};
 use stage_bodies::Houses;
 use std::alloc::Global;
@@ -60,7 +61,7 @@ pub(crate) fn run_or_refuse<
     E: Edges,
     Q: Supply<E>,
     C: Boxed,
-    B: Carries<C> + Houses<Q::Source, E::Sink> + Send,
+    B: Carries<C> + Houses<GatedSource<Q::Source>, E::Sink> + Send,
     K: Clock + Send + Drop,
 >(
     rt: &R,
@@ -104,7 +105,7 @@ fn run_supplied<
     E: Edges,
     Q: Supply<E>,
     C: Boxed,
-    B: Carries<C> + Houses<Q::Source, E::Sink> + Send,
+    B: Carries<C> + Houses<GatedSource<Q::Source>, E::Sink> + Send,
     K: Clock + Send + Drop,
 >(
     rt: &R,

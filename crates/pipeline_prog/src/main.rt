@@ -8,6 +8,7 @@ use file_socket_sinks::{
 };
 use made_sources::MadeSource;
 use pipe_top::run_program;
+use rate_gate::GatedSource;
 use stage_callback::{Callback, LinesBox, StepsBox};
 use std::alloc::AllocError;
 use std::process::ExitCode;
@@ -58,8 +59,8 @@ fn run<R: Threads + Wait + Sync>(rt: &HostRuntime, waits: &R) -> Result<u8, Allo
         R,
         RealEdges,
         Handler,
-        Body<RealSource<Reader>, RealOut<Writer>>,
-        Body<MadeSource, RealOut<Writer>>,
+        Body<GatedSource<RealSource<Reader>>, RealOut<Writer>>,
+        Body<GatedSource<MadeSource>, RealOut<Writer>>,
         RealClock,
     >(
         waits, alloc, &words, stock, &mut edges, clock, &mut out, &mut err,

@@ -6,9 +6,10 @@ use super::texts::{has_line, has_word, pieces_in};
 use body_jobs::Body;
 use made_sources::MadeSource;
 use mem_edges::{MemClock, MemEdges, MemSink, MemSource};
+use own_callback::run_program;
 use pipe_journal::Journal;
-use pipe_top::run_program;
 use pipe_types::topology::Kind;
+use rate_gate::GatedSource;
 use stage_callback::{Callback, LinesBox, StepsBox};
 use std::alloc::{AllocError, Global};
 use std::io;
@@ -171,8 +172,8 @@ pub fn call<R: Threads + Wait + Sync>(
         R,
         MemEdges,
         Handler,
-        Body<MemSource, MemSink>,
-        Body<MadeSource, MemSink>,
+        Body<GatedSource<MemSource>, MemSink>,
+        Body<GatedSource<MadeSource>, MemSink>,
         MemClock,
     >(
         rt,

@@ -189,11 +189,21 @@ fn interventions(journal: &str) -> usize {
 
 /// How many lines of the sources of the topology begin so.
 fn lines_in(case: &Case, word: &str) -> usize {
-    let lines = lines_with(case.text("a"), word);
-    if case.text("file").contains("mem:b") {
-        lines.saturating_add(lines_with(case.text("b"), word))
+    let second = lines_under(case, "mem:b", "b", word);
+    let third = lines_under(case, "mem:c", "c", word);
+    let fourth = lines_under(case, "mem:d", "d", word);
+    lines_with(case.text("a"), word)
+        .saturating_add(second)
+        .saturating_add(third)
+        .saturating_add(fourth)
+}
+
+/// How many lines of the source of this name begin so, where the topology has it.
+fn lines_under(case: &Case, source: &str, lines: &str, word: &str) -> usize {
+    if case.text("file").contains(source) {
+        lines_with(case.text(lines), word)
     } else {
-        lines
+        0
     }
 }
 

@@ -17,6 +17,7 @@ mod making;
 mod meets;
 mod outside;
 mod own;
+mod rates;
 mod reading;
 mod slow;
 mod texts;

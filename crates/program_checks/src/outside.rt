@@ -92,6 +92,10 @@ fn edges_of(alloc: Global, case: &Case) -> Result<MemEdges, AllocError> {
         text_of(alloc, "mem:c")?,
         source_of(alloc, case, "c", "c.acts")?,
     )?;
+    edges.add_source(
+        text_of(alloc, "mem:d")?,
+        source_of(alloc, case, "d", "d.acts")?,
+    )?;
     add_first(alloc, case, edges)
 }
 

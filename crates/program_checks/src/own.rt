@@ -12,6 +12,7 @@ use mem_edges::{MemSink, MemSource};
 use own_callback::{Came, LinesEnd, PlainLines, ThirdCrashes, run_lines, run_with};
 use own_handler::{OwnBox, PassAll};
 use pipe_types::bytes::Bytes;
+use rate_gate::GatedSource;
 use std::io;
 use std::sync::atomic::AtomicU64;
 use std::sync::{Arc, Wait};
@@ -48,14 +49,12 @@ fn run_third<R: Threads + Wait + Sync>(
     let (file, lines) = (case.text("file"), case.text("a"));
     let mut stock: Vec<Handler> = Vec::new(rt.alloc());
     stock.push(Box::new(rt.alloc(), ThirdCrashes::new(rt.alloc()))?)?;
-    let came = run_with::<_, _, Body<MemSource, MemSink>, Body<MadeSource, MemSink>>(
-        waits,
-        rt.alloc(),
-        count,
-        file,
-        lines,
-        stock,
-    )?;
+    let came = run_with::<
+        _,
+        _,
+        Body<GatedSource<MemSource>, MemSink>,
+        Body<GatedSource<MadeSource>, MemSink>,
+    >(waits, rt.alloc(), count, file, lines, stock)?;
     tell_own(rt, case, count, &came)
 }
 
@@ -77,14 +76,12 @@ fn run_meets<R: Threads + Wait + Sync>(
         let meets = Meets::new(rt.alloc(), Arc::try_clone(&begun)?, group, looks);
         stock.push(Box::new(rt.alloc(), meets)?)?;
     }
-    let came = run_with::<_, _, Body<MemSource, MemSink>, Body<MadeSource, MemSink>>(
-        waits,
-        rt.alloc(),
-        count,
-        file,
-        lines,
-        stock,
-    )?;
+    let came = run_with::<
+        _,
+        _,
+        Body<GatedSource<MemSource>, MemSink>,
+        Body<GatedSource<MadeSource>, MemSink>,
+    >(waits, rt.alloc(), count, file, lines, stock)?;
     tell_own(rt, case, count, &came)
 }
 
@@ -128,13 +125,12 @@ fn run_stock<R: Threads + Wait + Sync>(
     case: &Case,
     stock: Vec<Handler>,
 ) -> io::Result<()> {
-    let end = run_lines::<_, _, Body<MemSource, MemSink>, Body<MadeSource, MemSink>>(
-        waits,
-        rt.alloc(),
-        case.text("file"),
-        case.text("a"),
-        stock,
-    )?;
+    let end = run_lines::<
+        _,
+        _,
+        Body<GatedSource<MemSource>, MemSink>,
+        Body<GatedSource<MadeSource>, MemSink>,
+    >(waits, rt.alloc(), case.text("file"), case.text("a"), stock)?;
     tell_end(rt, &end)
 }
 

@@ -2,6 +2,7 @@
 
 use super::case::Case;
 use super::judge::{Came, Counts, counts_of, fault_in_ends, fault_in_texts, parts_of};
+use super::rates::fault_in_rate;
 use pipe_config::read_topology;
 use pipe_replay::replay_plain;
 use pipe_types::message::{Loss, Outcome, Place};
@@ -77,14 +78,16 @@ fn fault_in_state(state: &PlainState, counts: Counts) -> &'static str {
 /// What is wrong by the slow machine, or nothing.
 fn fault_by_steps(
     alloc: Global,
-    file: &str,
+    case: &Case,
     steps: &[Step],
     counts: Counts,
 ) -> Result<&'static str, AllocError> {
-    let Ok(topology) = read_topology(alloc, file.as_bytes()) else {
+    let Ok(topology) = read_topology(alloc, case.text("file").as_bytes()) else {
         return Ok("no accepted file");
     };
+    let rate = fault_in_rate(alloc, case, &topology, steps)?;
     match replay_plain(alloc, &topology, steps)? {
+        Some(_) if rate != "" => Ok(rate),
         Some(state) => Ok(fault_in_state(&state, counts)),
         None => Ok("not legal"),
     }
@@ -110,6 +113,6 @@ pub fn fault_in(
     } else if ends != "" || calm {
         Ok(ends)
     } else {
-        fault_by_steps(alloc, case.text("file"), steps, counts)
+        fault_by_steps(alloc, case, steps, counts)
     }
 }

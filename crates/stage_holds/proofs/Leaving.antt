@@ -9,13 +9,14 @@ use Rattle.pipe_types.specs.declared.step.Step.{Step}
 use Rattle.pipe_types.specs.declared.step.Step.TheVariants.{Fetch, Take, Child}
 use Rattle.pipe_types.specs.declared.topology.Topology.{Topology}
 use Rattle.pipe_types.specs.Sound.{IsSound}
-use Rattle.pipe_model.specs.History.{History}
+use Rattle.pipe_model.specs.History.{History, now}
 use Rattle.pipe_model.specs.Posts.{puts_out, answers, is_out}
 use Rattle.pipe_model.specs.Legal.{is_legal, owed, quiet_row}
 use Rattle.pipe_model.specs.Moves.{move, Job as JobMove}
 use Rattle.pipe_laws.specs.Followed.{FollowsMoves}
 use Rattle.stage_bodies.specs.Seen.{BodySeen}
 use Rattle.stage_bodies.specs.Jobs.{Fits}
+use Rattle.stage_bodies.specs.Moments.{told_for}
 use Rattle.stage_bodies.specs.Posts.{place_at, IsJobOf}
 use Rattle.stage_bodies.specs.declared.job.Job.{Job}
 use Rattle.body_laws.specs.Keeps.{Keeps}
@@ -37,6 +38,7 @@ use Rattle.stage_holds.specs.declared.loads.Load.{Load}
 use Rattle.stage_holds.specs.Holds.{AddsHold, AreHome, OutsAre, Leaves, LeavesOn}
 use Rattle.stage_holds.specs.Rows.{RowsWithin}
 use Rattle.stage_holds.proofs.Outing.{begun_outs}
+use Rattle.stage_holds.proofs.Telling.{told_fits}
 
 pub record Gone (topology : Topology) (before after : History) (home away : ℕ → Option BodySeen) (job : Job) (body : BodySeen) : Type 0 where
   pub sound : IsSound topology
@@ -90,9 +92,9 @@ module _ {topology : Topology} {before after : History} {home away : ℕ → Opt
       subst (λ h. Keeps topology h opened away) (sym g.began.is)
       (away_keeps topology (g.began.step ∷ before) job.post opened home away g.sound g.is.out g.gone (silent_keeps topology before g.began.step opened home g.sound g.legal g.began.silent k))
 
-  pub goes_away : (opened : ℕ → Option BodySeen) → Keeps topology before opened home → IsAway topology after (opened (place_at job.post)) job body
+  pub goes_away : (opened : ℕ → Option BodySeen) → Keeps topology before opened home → IsAway topology after (opened (place_at job.post)) job (told_for job.work (now after) body)
   goes_away opened k =
-      subst (λ h. IsAway topology h (opened (place_at job.post)) job body) (sym g.began.is)
+      subst (λ h. IsAway topology h (opened (place_at job.post)) job (told_for job.work (now h) body)) (sym g.began.is)
       (leaves topology before g.began.step job body opened home g.sound g.legal g.began.puts g.is g.at k g.ready)
 
   pub goes_fit : Fits job.work body
@@ -239,13 +241,14 @@ same_homes home back same = λ at. (λ e. inr (empty (back at) (home at) (sym (s
 
 -- ---- all of it
 
-pub leaves_by : {B : Type 0} (look : B → BodySeen) (load : Load B) (topology : Topology) (before after : History) (home away : ℕ → Option BodySeen) → Gone topology before after home away load.job (look load.body) → Leaves look load topology before home after away
-leaves_by look load topology before after home away g = record {
+-- behind a fetch its source was told the moment
+pub leaves_by : {B : Type 0} (look : B → BodySeen) (load : Load B) (body : BodySeen) (topology : Topology) (before after : History) (home away : ℕ → Option BodySeen) → look load.body ≡ told_for load.job.work (now after) body → Gone topology before after home away load.job body → Leaves look load topology before home after away
+leaves_by look load body topology before after home away is g = record {
   follows = goes_follows g;
   ready = goes_ready g;
   keeps = goes_keeps g;
-  load = goes_away g;
-  fits = goes_fit g;
+  load = λ opened k. subst (λ b. IsAway topology after (opened (place_at load.job.post)) load.job b) (sym is) (goes_away g opened k);
+  fits = subst (λ b. Fits load.job.work b) (sym is) (told_fits load.job.work (now after) body (goes_fit g));
   adds = goes_adds g;
   within = goes_within g;
   outs = goes_outs g;

@@ -1,12 +1,13 @@
 use Rattle.std.specs.Prelude.{option_map}
 use Rattle.stage_bodies.specs.Seen.{body_at, line_seen, source_seen, sink_seen}
 use Rattle.edge_names.specs.Seen.{edges_seen}
+use Rattle.edge_names.specs.Supplies.{at_paces}
 use Rattle.edge_names.proofs.Returns.{none_back, part_back_on}
 use Rattle.edge_names.proofs.back.give_back.Goals as goal
 
 pub returns-in-Ok-clause-in_part : goal.returns-in-Ok-clause-in_part
 returns-in-Ok-clause-in_part g c =
-    let feeds = g.S.Supply.feeds c.args.supply.now in
+    let feeds = at_paces c.args.topology.now (g.S.Supply.feeds c.args.supply.now) in
     let e = g.E.Edges in
     let s = g.E.Source.ByteSource in
     let k = g.E.Sink.ByteSink in
@@ -17,7 +18,7 @@ returns-in-Ok-clause-in_part g c =
 
 pub returns-in-Err-clause-in_part : goal.returns-in-Err-clause-in_part
 returns-in-Err-clause-in_part g c =
-    let feeds = g.S.Supply.feeds c.args.supply.now in
+    let feeds = at_paces c.args.topology.now (g.S.Supply.feeds c.args.supply.now) in
     let e = g.E.Edges in
     let s = g.E.Source.ByteSource in
     let k = g.E.Sink.ByteSink in

@@ -2,13 +2,14 @@ use Rattle.std.proofs.Common.{refl, ◌∙◌}
 use Rattle.stage_bodies.specs.Seen.{body_at, source_seen, sink_seen}
 use Rattle.stage_laws.proofs.Numbering.{numbered_topology}
 use Rattle.edge_names.specs.Seen.{edges_seen}
+use Rattle.edge_names.specs.Supplies.{at_paces}
 use Rattle.edge_names.proofs.Openings.{here_at}
-use Rattle.edge_names.proofs.Returns.{back_nothing, back_turn, callbacks_more, callbacks_same, calm_start, calm_turn, rest_turn}
+use Rattle.edge_names.proofs.Returns.{off_nothing, back_turn, callbacks_more, callbacks_same, calm_start, calm_turn, rest_turn}
 use Rattle.edge_names.proofs.back.give_back_stages.Goals as goal
 
 pub loop-spec-init : goal.loop-spec-init
 loop-spec-init g c =
-    let feeds = g.S.Supply.feeds c.args.supply.now in
+    let feeds = at_paces c.args.topology.now (g.S.Supply.feeds c.args.supply.now) in
     let e = g.E.Edges in
     let s = g.E.Source.ByteSource in
     let k = g.E.Sink.ByteSink in
@@ -17,14 +18,14 @@ loop-spec-init g c =
     record {
       len = refl;
       rest = λ s le. refl;
-      back = back_nothing (seen c.args.edges.now);
+      back = off_nothing (seen c.args.edges.now);
       calm = calm_start feeds was;
       callbacks = callbacks_same was;
     }
 
 pub loop-spec-preserved : goal.loop-spec-preserved
 loop-spec-preserved g c =
-    let feeds = g.S.Supply.feeds c.args.supply.now in
+    let feeds = at_paces c.args.topology.now (g.S.Supply.feeds c.args.supply.now) in
     let e = g.E.Edges in
     let s = g.E.Source.ByteSource in
     let k = g.E.Sink.ByteSink in
@@ -43,7 +44,7 @@ loop-spec-preserved g c =
     record {
       len = c.in-Ok.ensures.len ∙ x.len;
       rest = rest_turn topology n at spec was now next numbered here c.place_of-at.ensures x.rest c.in-Ok.ensures.others;
-      back = back_turn feeds topology n at spec was now (seen c.args.edges.now) (seen c.loop-spec.edges) (seen c.back_stage.new.edges) numbered here c.place_of-at.ensures x.rest x.back c.in-Ok.ensures.back;
-      calm = calm_turn feeds topology n at spec was now numbered here c.place_of-at.ensures x.rest x.calm c.in-Ok.ensures.calm;
+      back = back_turn feeds topology n at spec was now (seen c.args.edges.now) (seen c.loop-spec.edges) (seen c.back_stage.new.edges) numbered here c.place_of-at.ensures x.rest x.back (c.in-Ok.ensures.back feeds.pace);
+      calm = calm_turn feeds topology n at spec was now numbered here c.place_of-at.ensures x.rest x.calm (c.in-Ok.ensures.calm feeds.pace);
       callbacks = callbacks_more was now next x.callbacks c.in-Ok.ensures.callbacks;
     }

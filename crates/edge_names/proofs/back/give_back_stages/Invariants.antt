@@ -1,12 +1,13 @@
 use Rattle.std.proofs.Common.{◌≡◌, ◌≤◌, ◌+◌, ◌*◌, ℕ, take, length}
 use Rattle.stage_bodies.specs.Seen.{body_at, source_seen, sink_seen}
 use Rattle.edge_names.specs.Seen.{edges_seen}
-use Rattle.edge_names.specs.Returned.{AreCalm, GivesBack, KeepsCallbacks, sources_of, sinks_of}
+use Rattle.edge_names.specs.Supplies.{at_paces}
+use Rattle.edge_names.specs.Returned.{AreCalm, GivesOff, KeepsCallbacks, sources_of, sinks_of}
 use Rattle.edge_names.proofs.back.give_back_stages.Given as goal
 
 abbrev pub invariant-loop-spec : goal.invariant-loop-spec
 invariant-loop-spec g l =
-    let feeds = g.S.Supply.feeds l.fn.supply in
+    let feeds = at_paces l.fn.topology (g.S.Supply.feeds l.fn.supply) in
     let e = g.E.Edges in
     let s = g.E.Source.ByteSource in
     let k = g.E.Sink.ByteSink in
@@ -17,7 +18,7 @@ invariant-loop-spec g l =
     record {
       len : length l.bodies.items ≡ length l.fn.bodies.items;
       rest : (s : ℕ) → (l.spec-index + 1) * 16 ≤ s → now s ≡ was s;
-      back : GivesBack (sources_of feeds done was) (sinks_of feeds done was) (seen l.fn.edges) (seen l.edges);
+      back : GivesOff (sources_of feeds done was) (sinks_of feeds done was) (seen l.fn.edges) (seen l.edges);
       calm : AreCalm feeds done was;
       callbacks : KeepsCallbacks was now;
     }

@@ -2,6 +2,7 @@ use Rattle.std.proofs.Common.{suc, length}
 use Rattle.std.specs.Prelude.{option_map}
 use Rattle.stage_bodies.specs.Seen.{body_at, line_seen, source_seen, sink_seen}
 use Rattle.edge_names.specs.Seen.{edges_seen}
+use Rattle.edge_names.specs.Supplies.{at_paces}
 use Rattle.edge_names.specs.Controls.{control_call}
 use Rattle.edge_names.specs.Opened.{one}
 use Rattle.edge_names.proofs.Undoes.{all_parts, opened_from, short_any, short_by, short_first_by, undone_by, undone_first}
@@ -9,7 +10,7 @@ use Rattle.edge_names.proofs.opening.open_or_give_back.Goals as goal
 
 pub returns-in-Ok-open_stages-clause-opened : goal.returns-in-Ok-open_stages-clause-opened
 returns-in-Ok-open_stages-clause-opened g c =
-    let feeds = g.S.Supply.feeds c.args.supply.now in
+    let feeds = at_paces c.args.topology.now (g.S.Supply.feeds c.args.supply.now) in
     let e = g.E.Edges in
     let s = g.E.Source.ByteSource in
     let k = g.E.Sink.ByteSink in
@@ -22,7 +23,7 @@ returns-in-Ok-open_stages-clause-opened g c =
 
 pub returns-in-Ok-give_back-clause-undone : goal.returns-in-Ok-give_back-clause-undone
 returns-in-Ok-give_back-clause-undone g c =
-    let feeds = g.S.Supply.feeds c.args.supply.now in
+    let feeds = at_paces c.args.topology.now (g.S.Supply.feeds c.args.supply.now) in
     let e = g.E.Edges in
     let s = g.E.Source.ByteSource in
     let k = g.E.Sink.ByteSink in
@@ -38,7 +39,7 @@ returns-in-Ok-give_back-clause-undone g c =
 
 pub returns-in-Ok-give_back-clause-in_part : goal.returns-in-Ok-give_back-clause-in_part
 returns-in-Ok-give_back-clause-in_part g c =
-    let feeds = g.S.Supply.feeds c.args.supply.now in
+    let feeds = at_paces c.args.topology.now (g.S.Supply.feeds c.args.supply.now) in
     let e = g.E.Edges in
     let s = g.E.Source.ByteSource in
     let k = g.E.Sink.ByteSink in
@@ -56,7 +57,7 @@ returns-in-Ok-give_back-clause-in_part g c =
 
 pub returns-in-Err-give_back-clause-in_part : goal.returns-in-Err-give_back-clause-in_part
 returns-in-Err-give_back-clause-in_part g c =
-    let feeds = g.S.Supply.feeds c.args.supply.now in
+    let feeds = at_paces c.args.topology.now (g.S.Supply.feeds c.args.supply.now) in
     let e = g.E.Edges in
     let s = g.E.Source.ByteSource in
     let k = g.E.Sink.ByteSink in
@@ -74,7 +75,7 @@ returns-in-Err-give_back-clause-in_part g c =
 
 pub returns-in-Err-clause-undone : goal.returns-in-Err-clause-undone
 returns-in-Err-clause-undone g c =
-    let feeds = g.S.Supply.feeds c.args.supply.now in
+    let feeds = at_paces c.args.topology.now (g.S.Supply.feeds c.args.supply.now) in
     let e = g.E.Edges in
     let s = g.E.Source.ByteSource in
     let k = g.E.Sink.ByteSink in
@@ -87,7 +88,7 @@ returns-in-Err-clause-undone g c =
 
 pub returns-in-Err-clause-in_part : goal.returns-in-Err-clause-in_part
 returns-in-Err-clause-in_part g c =
-    let feeds = g.S.Supply.feeds c.args.supply.now in
+    let feeds = at_paces c.args.topology.now (g.S.Supply.feeds c.args.supply.now) in
     let e = g.E.Edges in
     let s = g.E.Source.ByteSource in
     let k = g.E.Sink.ByteSink in

@@ -1,9 +1,10 @@
-use Rattle.std.proofs.Common.{◌+◌, ◌*◌, refl, ◌∙◌, take}
+use Rattle.std.proofs.Common.{◌+◌, ◌*◌, refl, ◌∙◌, take, arith}
 use Rattle.stage_bodies.specs.Seen.{body_at, source_seen, sink_seen}
 use Rattle.stage_laws.proofs.Numbering.{numbered_topology}
 use Rattle.edge_names.specs.Seen.{edges_seen}
-use Rattle.edge_names.specs.Supplies.{supplied}
+use Rattle.edge_names.specs.Supplies.{at_paces, supplied}
 use Rattle.edge_names.specs.Opened.{calls_of}
+use Rattle.edge_names.proofs.Gating.{is_shared, some_producer}
 use Rattle.edge_names.proofs.Openings.{asks_nothing, asked_more, here_at, home_still, opened_all, opened_start, opened_turn, some_at}
 use Rattle.edge_names.proofs.Returns.{callbacks_at, callbacks_more, callbacks_same}
 use Rattle.edge_names.proofs.Cuts.{failed_by, cut_off_by}
@@ -11,7 +12,7 @@ use Rattle.edge_names.proofs.opening.open_stages.Goals as goal
 
 pub loop-spec-init : goal.loop-spec-init
 loop-spec-init g c =
-    let feeds = g.S.Supply.feeds c.args.supply.now in
+    let feeds = at_paces c.args.topology.now (g.S.Supply.feeds c.args.supply.now) in
     let e = g.E.Edges in
     let s = g.E.Source.ByteSource in
     let k = g.E.Sink.ByteSink in
@@ -35,7 +36,7 @@ open_stage-requires-clause-home g c κs within = λ some.
 
 pub returns-in-Err-clause-failed : goal.returns-in-Err-clause-failed
 returns-in-Err-clause-failed g c =
-    let feeds = g.S.Supply.feeds c.args.supply.now in
+    let feeds = at_paces c.args.topology.now (g.S.Supply.feeds c.args.supply.now) in
     let e = g.E.Edges in
     let s = g.E.Source.ByteSource in
     let k = g.E.Sink.ByteSink in
@@ -51,7 +52,7 @@ returns-in-Err-clause-failed g c =
 
 pub returns-in-Err-clause-cut_off : goal.returns-in-Err-clause-cut_off
 returns-in-Err-clause-cut_off g c =
-    let feeds = g.S.Supply.feeds c.args.supply.now in
+    let feeds = at_paces c.args.topology.now (g.S.Supply.feeds c.args.supply.now) in
     let e = g.E.Edges in
     let s = g.E.Source.ByteSource in
     let k = g.E.Sink.ByteSink in
@@ -67,7 +68,7 @@ returns-in-Err-clause-cut_off g c =
 
 pub loop-spec-preserved : goal.loop-spec-preserved
 loop-spec-preserved g c =
-    let feeds = g.S.Supply.feeds c.args.supply.now in
+    let feeds = at_paces c.args.topology.now (g.S.Supply.feeds c.args.supply.now) in
     let e = g.E.Edges in
     let s = g.E.Source.ByteSource in
     let k = g.E.Sink.ByteSink in
@@ -95,7 +96,7 @@ loop-spec-preserved g c =
 
 pub returns-clause-opened : goal.returns-clause-opened
 returns-clause-opened g c =
-    let feeds = g.S.Supply.feeds c.args.supply.now in
+    let feeds = at_paces c.args.topology.now (g.S.Supply.feeds c.args.supply.now) in
     let e = g.E.Edges in
     let s = g.E.Source.ByteSource in
     let k = g.E.Sink.ByteSink in
@@ -103,3 +104,11 @@ returns-clause-opened g c =
     let look = g.B.Works.look in
     opened_all feeds c.args.topology.now c.loop-spec.spec-index (seen c.args.edges.now) (body_at look c.args.bodies.now.items) (body_at look c.loop-spec.bodies.items)
     (rw c.as_slice-spec-items.ensures at c.loop-spec.auto.spec-index-end) (rw c.as_slice-spec-items.ensures at c.loop-spec-test.false) c.loop-spec.invariant.opened
+
+pub open_stage-requires-clause-some : goal.open_stage-requires-clause-some
+open_stage-requires-clause-some g c κs within =
+    let least = some_producer c.args.topology.now c.requires.sound in
+    omega (arith, least, c.count_producers-producers.ensures)
+
+pub open_stage-requires-clause-shared : goal.open_stage-requires-clause-shared
+open_stage-requires-clause-shared g c κs within = is_shared c.args.topology.now c.count_producers-producers.result c.count_producers-producers.ensures c.requires.sound

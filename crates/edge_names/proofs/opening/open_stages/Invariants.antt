@@ -1,13 +1,14 @@
 use Rattle.std.proofs.Common.{◌≡◌, length, take}
 use Rattle.stage_bodies.specs.Seen.{body_at, source_seen, sink_seen}
 use Rattle.edge_names.specs.Seen.{edges_seen}
+use Rattle.edge_names.specs.Supplies.{at_paces}
 use Rattle.edge_names.specs.Opened.{Asks, AreHome, AreOpened, calls_of}
 use Rattle.edge_names.specs.Returned.{KeepsCallbacks}
 use Rattle.edge_names.proofs.opening.open_stages.Given as goal
 
 abbrev pub invariant-loop-spec : goal.invariant-loop-spec
 invariant-loop-spec g l =
-    let feeds = g.S.Supply.feeds l.fn.supply in
+    let feeds = at_paces l.fn.topology (g.S.Supply.feeds l.fn.supply) in
     let e = g.E.Edges in
     let s = g.E.Source.ByteSource in
     let k = g.E.Sink.ByteSink in

@@ -1,6 +1,6 @@
 use Rattle.stage_bodies.specs.Seen.{body_at, source_seen, sink_seen}
 use Rattle.edge_names.specs.Seen.{edges_seen}
-use Rattle.pipe_run.proofs.Runs.{has_end, ran_to, went, went_in_part}
+use Rattle.pipe_run.proofs.Runs.{has_end, ran_to, went_at, went_in_part_at}
 use Rattle.pipe_run.proofs.run.run_opened.Goals as goal
 
 pub unwrap-end-requires : goal.unwrap-end-requires
@@ -14,12 +14,12 @@ returns-in-Ok-clause-ended g c = (ran_to _ _ _ _ _ c.new-pipe.ensures.made c.int
 
 pub returns-in-Ok-clause-went : goal.returns-in-Ok-clause-went
 returns-in-Ok-clause-went g c =
-    let feeds = g.Q.Supply.feeds c.args.supply.now in
+    let origin = g.Q.Supply.feeds c.args.supply.now in
     let e = g.E.Edges in
     let s = g.E.Source.ByteSource in
     let k = g.E.Sink.ByteSink in
     let seen = edges_seen e.told e.named e.asked e.faults e.sources_back e.sinks_back (source_seen s) (sink_seen k.told k.held k.faults) in
-    went feeds _ _ _ _ (body_at g.B.Works.look c.give_back.new.bodies.items) (seen c.args.edges.now) (seen c.give_back.new.edges)
+    went_at origin _ _ _ _ (body_at g.B.Works.look c.give_back.new.bodies.items) (seen c.args.edges.now) (seen c.give_back.new.edges)
     (ran_to _ _ _ _ _ c.new-pipe.ensures.made c.into_parts-core.ensures.parts c.unwrap-end.ensures c.run_workers-pipe.ensures.ran)
     c.topology.ensures c.in-Ok.ensures.back c.in-Ok.ensures.calm c.in-Ok.ensures.callbacks
 
@@ -28,11 +28,11 @@ returns-in-Err-clause-topology g c = (ran_to _ _ _ _ _ c.new-pipe.ensures.made c
 
 pub returns-in-Err-clause-went : goal.returns-in-Err-clause-went
 returns-in-Err-clause-went g c =
-    let feeds = g.Q.Supply.feeds c.args.supply.now in
+    let origin = g.Q.Supply.feeds c.args.supply.now in
     let e = g.E.Edges in
     let s = g.E.Source.ByteSource in
     let k = g.E.Sink.ByteSink in
     let seen = edges_seen e.told e.named e.asked e.faults e.sources_back e.sinks_back (source_seen s) (sink_seen k.told k.held k.faults) in
-    went_in_part feeds _ _ _ _ (body_at g.B.Works.look c.give_back.new.bodies.items) (seen c.args.edges.now) (seen c.give_back.new.edges)
+    went_in_part_at origin _ _ _ _ (body_at g.B.Works.look c.give_back.new.bodies.items) (seen c.args.edges.now) (seen c.give_back.new.edges)
     (ran_to _ _ _ _ _ c.new-pipe.ensures.made c.into_parts-core.ensures.parts c.unwrap-end.ensures c.run_workers-pipe.ensures.ran)
     c.topology.ensures c.in-Err.ensures.in_part c.in-Err.ensures.callbacks

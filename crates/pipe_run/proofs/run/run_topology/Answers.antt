@@ -1,5 +1,6 @@
 use Rattle.stage_bodies.specs.Seen.{body_at, source_seen, sink_seen}
 use Rattle.edge_names.specs.Seen.{edges_seen}
+use Rattle.edge_names.specs.Supplies.{at_paces}
 use Rattle.box_stock.proofs.Staying.{still}
 use Rattle.pipe_run.proofs.Calls.{unasked}
 use Rattle.pipe_run.proofs.Stocks.{IsTakenBack, boxes_unlent}
@@ -46,7 +47,8 @@ returns-in-Err-clause-same_boxes g c = boxes_unlent g.C.Boxed.seen c.args.stock.
 
 pub returns-in-Err-clause-wanting : goal.returns-in-Err-clause-wanting
 returns-in-Err-clause-wanting g c =
-    let feeds = g.Q.Supply.feeds c.args.supply.now in
+    let origin = g.Q.Supply.feeds c.args.supply.now in
+    let feeds = at_paces c.args.topology origin in
     let e = g.E.Edges in
     let s = g.E.Source.ByteSource in
     let k = g.E.Sink.ByteSink in

@@ -9,7 +9,7 @@ returns-in-Ok g c =
     let is = c.in-Ok.is in
     record {
       comes = λ feeding fed. ran _ _ c.args.shows feeding _ c.args.topology (is_ok c.in-Ok.run'.end) c.in-Ok.run'.core q.result.topology q.result.journal.steps q.result.verdict
-          fed (rw is at r.topology) (rw is at r.stands) (rw q.ensures.same_clock (rw is at r.ran)) (rw q.ensures.same_boxes (rw is at r.boxes)) q.ensures.topology q.ensures.journal q.ensures.verdict q.ensures.wanting;
+          fed (rw is at r.topology) (rw is at r.stands) (rw q.ensures.same_clock (rw is at r.ran)) (rw is at r.rate) (rw q.ensures.same_boxes (rw is at r.boxes)) q.ensures.topology q.ensures.journal q.ensures.verdict q.ensures.wanting;
     }
 
 pub returns-in-Err-Unopened : goal.returns-in-Err-Unopened

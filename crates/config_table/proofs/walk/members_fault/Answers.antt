@@ -5,7 +5,7 @@ use Rattle.toml.specs.View.{view}
 use Rattle.config_table.specs.Fault.{least}
 use Rattle.config_table.specs.Walk.{top_faults}
 use Rattle.config_table.proofs.Items.{top_step}
-use Rattle.config_table.proofs.walk.walk_fault.Goals as goal
+use Rattle.config_table.proofs.walk.members_fault.Goals as goal
 
 pub members-preserved : goal.members-preserved
 members-preserved c =
@@ -15,6 +15,6 @@ members-preserved c =
       tt,
       tt,
       rw c.sooner-found.ensures
-          (top_step c.args.version c.members.key-iterator c.next.new.self e c.members.found c.in_ok-fault.fault _
-          left (c.in_ok-fault.ensures ∙ ap (λ key. least (top_faults c.args.version key (view e.1))) c.as_str.ensures.value) so_far),
+          (top_step c.args.version c.args.producers c.members.key-iterator c.next.new.self e c.members.found c.in_ok-fault.fault _
+          left (c.in_ok-fault.ensures ∙ ap (λ key. least (top_faults c.args.version c.args.producers key (view e.1))) c.as_str.ensures.value) so_far),
     )

@@ -1,0 +1,5 @@
+pub mod Gate
+pub mod Room
+pub mod Front
+pub mod Gated
+pub mod Fresh

@@ -1,0 +1,4 @@
+mod Sums
+pub mod Times
+mod Places
+pub mod Laws
