@@ -36,7 +36,7 @@ list_step f start xs i x now next is so_far written =
     let long : length (take i xs) ≡ i = length-take-le i xs (omega arith) in
     written
     ∙ ap (λ (text : List ℕ). text ++ (separator i ++ f x)) so_far
-    ∙ append_assoc _ _ _
+    ∙ append_assoc start (list_text f (take i xs)) (separator i ++ f x)
     ∙ ap (λ (n : ℕ). start ++ (list_text f (take i xs) ++ (separator n ++ f x))) (sym long)
     ∙ ap (λ (text : List ℕ). start ++ text) (sym (list_more f (take i xs) x))
     ∙ ap (λ ys. start ++ list_text f ys) (sym (one_more xs i x is))
@@ -52,7 +52,7 @@ pub same_step : {X : Type 0} (f : X → List ℕ) (start : List ℕ) (i : ℕ) (
 same_step f start i x now next so_far written =
     written
     ∙ ap (λ (text : List ℕ). text ++ (separator i ++ f x)) so_far
-    ∙ append_assoc _ _ _
+    ∙ append_assoc start (list_text f (replicate i x)) (separator i ++ f x)
     ∙ ap (λ (n : ℕ). start ++ (list_text f (replicate i x) ++ (separator n ++ f x))) (sym (length-replicate i x))
     ∙ ap (λ (text : List ℕ). start ++ text) (sym (list_more f (replicate i x) x))
     ∙ ap (λ ys. start ++ list_text f ys) (replicate_more i x)

@@ -32,7 +32,7 @@ added_there at old x new added =
 pub twice : {X : Type 0} (old mid new : List X) → Extends old mid → Extends mid new → Extends old new
 twice old mid new first second = record {
     more = first.more ++ second.more;
-    is = second.is ∙ ap (λ (xs : _). xs ++ second.more) first.is ∙ append_assoc _ _ _;
+    is = second.is ∙ ap (λ xs. xs ++ second.more) first.is ∙ append_assoc old first.more second.more;
   }
 
 pub as_long : {X : Type 0} (old new : List X) → Extends old new → length old ≤ length new
@@ -103,7 +103,7 @@ pub more_taken : {X : Type 0} (start xs : List X) (i : ℕ) (d : X) (now next : 
 more_taken start xs i d now next within read so_far added =
     added
     ∙ ap (λ ys. ys ++ d ∷ []) so_far
-    ∙ append_assoc _ _ _
+    ∙ append_assoc start (take i xs) (d ∷ [])
     ∙ ap (λ ys. start ++ ys) (sym (one_more xs i d (slice_get_read xs (length xs) i d refl within read)))
 
 -- the whole list put behind the others

@@ -1,8 +1,8 @@
 -- What a kept reply stands for, whatever is put on the shelves behind its texts.
-use Rattle.std.proofs.Common.{◌≡◌, ℕ, zero, suc, ◌+◌, ◌-◌, ◌<◌, ◌≤◌, Bool, List, [], ◌∷◌, ◌++◌, length, refl, sym, ap, ◌∙◌, arith, map, Some, subst}
+use Rattle.std.proofs.Common.{◌≡◌, ℕ, zero, suc, ◌+◌, ◌-◌, ◌<◌, ◌≤◌, Bool, List, [], ◌∷◌, ◌++◌, length, refl, sym, ap, ◌∙◌, arith, map, get_or, Some, subst}
 use Rattle.std.specs.Prelude.{slice_get, unwrap_or, Option}
 use Rattle.std.proofs.lemmas.List.{map_push, length-map}
-use Rattle.std.proofs.lemmas.Option.{slice_get_within, slice_get-map}
+use Rattle.std.proofs.lemmas.Option.{slice_get_within, slice_get-map, slice_get-get_or}
 use Rattle.std.specs.Option.{option_map}
 use Rattle.pipe_types.specs.declared.numbers.MsgNo.{MsgNo}
 use Rattle.pipe_types.specs.declared.numbers.StageNo.{StageNo}
@@ -126,3 +126,8 @@ reply_within records words reasons replies seen at is inside =
     let long : length (map (reply_of records words reasons) replies) ≡ length replies = length-map replies (reply_of records words reasons) in
     let same : length (map (reply_of records words reasons) replies) ≡ length seen = ap length is in
     omega arith
+
+pub there_text : (texts : List (List ℕ)) (at : ℕ) (text : List ℕ) → at < length texts → text_at texts at ≡ text → slice_get texts at ≡ Some text
+there_text texts at text within is =
+    let there : slice_get texts at ≡ Some (get_or texts at []) = slice_get-get_or texts at [] within in
+    there ∙ ap Some (sym (ap (λ (found : Option (List ℕ)). unwrap_or found []) there) ∙ is)

@@ -30,9 +30,9 @@ keeps_twice old mid new first second = record {
 
 -- outcomes that are all successes are so many
 pub all_same : (outcomes : List Outcome) → list_all is_success outcomes ≡ true → outcomes ≡ replicate (length outcomes) Outcome.Successful
-all_same [] yes = refl
-all_same (Outcome.Successful ∷ outcomes) yes = ap (λ (os : List Outcome). Outcome.Successful ∷ os) (all_same outcomes yes)
-all_same (Outcome.Failed why ∷ outcomes) yes = let none : ⊥ = cc in absurd none
+all_same [] all = refl
+all_same (Outcome.Successful ∷ outcomes) all = ap (λ (os : List Outcome). Outcome.Successful ∷ os) (all_same outcomes all)
+all_same (Outcome.Failed why ∷ outcomes) all = let none : ⊥ = cc in absurd none
 
 pub counted : (count : Option ℕ) (n : ℕ) (outcomes : List Outcome) → IfSome count (λ k. k ≡ n) → outcomes ≡ replicate n Outcome.Successful
     → IfSome count (λ k. outcomes ≡ replicate k Outcome.Successful)

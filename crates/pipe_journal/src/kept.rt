@@ -138,10 +138,10 @@ fn add_reason(reasons: &mut Vec<Reason>, why: &Reason) -> Result<u32, AllocError
 fn is_reason_at(reasons: &[Reason], at: usize, text: &[u8]) -> bool
     ensures { result ≡ true → slice_get reasons.now at ≡ Some text.now }
 {
-    match reasons.get(at) {
-        Some(reason) => is_same(reason.as_bytes(), text),
-        None => false,
+    if at >= reasons.len() {
+        return false;
     }
+    is_same(reason_of(reasons, at).as_bytes(), text)
 }
 
 /// The place of the reason, which is the last one or a new one.
