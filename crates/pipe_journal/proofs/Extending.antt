@@ -31,9 +31,9 @@ added_there at old x new added =
 
 pub twice : {X : Type 0} (old mid new : List X) → Extends old mid → Extends mid new → Extends old new
 twice old mid new first second = record {
-    more = first.more ++ second.more;
-    is = second.is ∙ ap (λ xs. xs ++ second.more) first.is ∙ append_assoc old first.more second.more;
-  }
+  more = first.more ++ second.more;
+  is = second.is ∙ ap (λ xs. xs ++ second.more) first.is ∙ append_assoc old first.more second.more;
+}
 
 pub as_long : {X : Type 0} (old new : List X) → Extends old new → length old ≤ length new
 as_long old new extends =

@@ -96,9 +96,9 @@ pub kept_same : (records words reasons : List (List ℕ)) (flush : Bool) (produc
     → IsKept records words reasons (KeptReply.Same flush producer batcher n key)
     (Reply.Pass (record { payload = payload'; key = text'; no = n; producer = producer; batcher = batcher; flush = flush }))
 kept_same records words reasons flush producer batcher n key payload text payload' text' same is payload_is text_is = record {
-    is = passed flush producer batcher n _ _ _ _ (text_there records (n.0 - 1) payload same.is ∙ payload_is) (text_there words key text is ∙ text_is);
-    found = (same.least, slice_get_within records (n.0 - 1) payload same.is, slice_get_within words key text is);
-  }
+  is = passed flush producer batcher n _ _ _ _ (text_there records (n.0 - 1) payload same.is ∙ payload_is) (text_there words key text is ∙ text_is);
+  found = (same.least, slice_get_within records (n.0 - 1) payload same.is, slice_get_within words key text is);
+}
 
 -- a message with its own payload
 pub kept_changed : (records words reasons : List (List ℕ)) (flush : Bool) (producer : StageNo) (batcher : ℕ) (n : MsgNo) (key : ℕ) (payload text payload' text' : List ℕ)
@@ -107,9 +107,9 @@ pub kept_changed : (records words reasons : List (List ℕ)) (flush : Bool) (pro
     → IsKept records words reasons (KeptReply.Changed flush producer batcher n key)
     (Reply.Pass (record { payload = payload'; key = text'; no = n; producer = producer; batcher = batcher; flush = flush }))
 kept_changed records words reasons flush producer batcher n key payload text payload' text' key_there payload_there payload_is text_is = record {
-    is = passed flush producer batcher n _ _ _ _ (text_there words (key + 1) payload payload_there ∙ payload_is) (text_there words key text key_there ∙ text_is);
-    found = slice_get_within words (key + 1) payload payload_there;
-  }
+  is = passed flush producer batcher n _ _ _ _ (text_there words (key + 1) payload payload_there ∙ payload_is) (text_there words key text key_there ∙ text_is);
+  found = slice_get_within words (key + 1) payload payload_there;
+}
 
 pub kept_failed : (records words reasons : List (List ℕ)) (why : ℕ) (text : List ℕ) → slice_get reasons why ≡ Some text
     → IsKept records words reasons (KeptReply.Failed why) (Reply.Failed text)

@@ -23,10 +23,10 @@ grown store kept records replies = record { records = records; replies = replies
 
 pub keeps_twice : (old mid new : Store) → Keeps old mid → Keeps mid new → Keeps old new
 keeps_twice old mid new first second = record {
-    records = twice _ _ _ first.records second.records;
-    replies = twice _ _ _ first.replies second.replies;
-    whole = λ key is. second.whole key (still_there old.whole mid.whole key first.whole is) ∙ first.whole key is;
-  }
+  records = twice _ _ _ first.records second.records;
+  replies = twice _ _ _ first.replies second.replies;
+  whole = λ key is. second.whole key (still_there old.whole mid.whole key first.whole is) ∙ first.whole key is;
+}
 
 -- outcomes that are all successes are so many
 pub all_same : (outcomes : List Outcome) → list_all is_success outcomes ≡ true → outcomes ≡ replicate (length outcomes) Outcome.Successful

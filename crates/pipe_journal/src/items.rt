@@ -75,7 +75,11 @@ fn among(total: usize, first: u32, count: u32) -> usize
 {
     let first = first as usize;
     let count = count as usize;
-    if first >= total { 0 } else { count.min(total - first) }
+    if first >= total {
+        0
+    } else {
+        count.min(total - first)
+    }
 }
 
 impl<'a> Records<'a> {

@@ -21,8 +21,8 @@ mod store;
 pub mod view;
 mod watch;
 
-pub use journal::Journal;
 pub use items::{MessageView, Records, Replies, ReplyView};
+pub use journal::Journal;
 pub use kept::Kept;
 pub use view::{AnswerView, EndView, StepView};
 pub use watch::{NoWatch, Watch, WatchEnd};

@@ -43,9 +43,9 @@ returns-clause-added c =
     record {
       at_is = omega (arith, long, seen_long, k.replies.ok.0, c.in_ok-at.ensures, c.len.ensures);
       is = ap (map (reply_of k.records c.keep_reply.new.words c.keep_reply.new.reasons.items)) (c.push_reserved.ensures.items ∙ ap (λ kepts. kepts ++ c.in_ok-kept.kept ∷ []) c.in_ok-reserve.ensures.items)
-      ∙ replies_more k.records k.records k.words c.keep_reply.new.words k.reasons.items c.keep_reply.new.reasons.items (same _ _ refl) c.keep_reply.ensures.words
-      c.keep_reply.ensures.reasons k.replies.items c.in_ok-kept.kept c.args.reply.now c.self.invariant c.in_ok-kept.ensures.kept.is
-      ∙ ap (λ (seen : KeptSeen). seen.replies ++ c.args.reply.now ∷ []) c.self.view_is;
+          ∙ replies_more k.records k.records k.words c.keep_reply.new.words k.reasons.items c.keep_reply.new.reasons.items (same _ _ refl) c.keep_reply.ensures.words
+          c.keep_reply.ensures.reasons k.replies.items c.in_ok-kept.kept c.args.reply.now c.self.invariant c.in_ok-kept.ensures.kept.is
+          ∙ ap (λ (seen : KeptSeen). seen.replies ++ c.args.reply.now ∷ []) c.self.view_is;
     }
 
 pub returns-clause-extends : goal.returns-clause-extends
