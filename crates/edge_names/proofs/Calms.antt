@@ -1,13 +1,13 @@
 -- What made sources have counted, stage by stage.
-use Rattle.std.proofs.Common.{◌≡◌, ℕ, Bool, true, false, List, [], ◌∷◌, ◌∙◌, subst, ap}
-use Rattle.std.specs.Prelude.{Option, Some, None, if◌then◌else◌, All}
+use Rattle.std.proofs.Common.{◌≡◌, ℕ, Bool, true, false, List, [], ◌∷◌, subst}
+use Rattle.std.specs.Prelude.{Option, Some, if◌then◌else◌, All}
 use Rattle.std.proofs.lemmas.List.Elements.{All-head, All-tail}
 use Rattle.pipe_types.specs.Numbers.{post, same_stage}
 use Rattle.pipe_types.specs.Stages.{spec_in, spec_of}
 use Rattle.pipe_types.specs.declared.numbers.StageNo.{StageNo}
 use Rattle.pipe_types.specs.declared.topology.StageSpec.{StageSpec}
 use Rattle.pipe_types.specs.declared.topology.Topology.{Topology}
-use Rattle.stage_bodies.specs.Seen.{SourceSeen, BodySeen}
+use Rattle.stage_bodies.specs.Seen.{BodySeen}
 use Rattle.stage_bodies.specs.Posts.{place_at}
 use Rattle.stage_laws.specs.Numbered.{IsNumberedTopology}
 use Rattle.edge_names.specs.Supplies.{Feeds, supplied}

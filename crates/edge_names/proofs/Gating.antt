@@ -1,7 +1,7 @@
 -- Laws of gates that are put before sources and taken off again.
 use mir.Val.{bool_byte}
-use Rattle.std.proofs.Common.{◌≡◌, ℕ, ◌+◌, ◌*◌, ◌/◌, ◌-◌, ◌<◌, ◌≤◌, Bool, true, false, cond, nat_le, ◌==◌, ◌&&◌, get_or, take, length, List, [], ◌∷◌, ◌++◌, refl, ap, sym, ◌∙◌, subst, inl, inr, arith}
-use Rattle.std.specs.Prelude.{Option, Some, None, IsTrue, IsSome, IfSome, option_map}
+use Rattle.std.proofs.Common.{◌≡◌, ℕ, ◌+◌, ◌/◌, ◌<◌, ◌≤◌, Bool, true, false, cond, nat_le, ◌==◌, ◌&&◌, get_or, take, length, List, [], ◌∷◌, ◌++◌, refl, ap, sym, ◌∙◌, subst, inl, inr, arith}
+use Rattle.std.specs.Prelude.{Option, Some, None, IsTrue, IfSome, option_map}
 use Rattle.std.proofs.lemmas.Bool.{leb-true}
 use Rattle.std.proofs.lemmas.List.{append_assoc}
 use Rattle.std.proofs.lemmas.List.Filters.{length-filter_more}
@@ -22,9 +22,8 @@ use Rattle.rate_gate.specs.declared.gate.Gate.{Gate}
 use Rattle.stage_bodies.specs.Seen.{SourceSeen, LineSeen, source_seen}
 use Rattle.pace_laws.specs.Pacing.{IsPace}
 use Rattle.edge_names.specs.Seen.{EdgesSeen}
-use Rattle.edge_names.specs.Named.{GivesSource}
 use Rattle.edge_names.specs.Gates.{AreInner, ArePaces, IsGated, IsInner, IsShared, pace_by, pace_of_stage, without_gate}
-use Rattle.edge_names.specs.Supplies.{Feed, Opened, Made, IsMade}
+use Rattle.edge_names.specs.Supplies.{Feed, Opened, Made}
 use Rattle.edge_names.specs.Opened.{GivesFed, GivesFeed}
 
 -- ---- taken off

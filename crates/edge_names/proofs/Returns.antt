@@ -1,21 +1,20 @@
 -- What giving back adds, and what bodies keep.
-use Rattle.std.proofs.Common.{◌≡◌, ℕ, suc, ◌+◌, ◌*◌, ◌≤◌, List, [], ◌++◌, take, refl, ap, sym, ◌∙◌, subst, arith}
-use Rattle.std.specs.Prelude.{slice_get, ◌==◌, Option, Some, None, Result, Ok, Err, OnErr, if◌then◌else◌}
+use Rattle.std.proofs.Common.{◌≡◌, ℕ, suc, ◌+◌, ◌*◌, ◌≤◌, List, [], ◌++◌, take, refl, ap, sym, ◌∙◌, subst, inl, inr, arith}
+use Rattle.std.specs.Prelude.{slice_get, ◌==◌, Option, Some, None, Result, Ok, Err, OnOk, OnErr, if◌then◌else◌}
 use Rattle.std.proofs.lemmas.List.{append-nil, append_assoc}
 use Rattle.std.proofs.lemmas.List.Elements.{All-nil, All-push}
 use Rattle.pipe_types.specs.Numbers.{post}
 use Rattle.pipe_types.specs.declared.topology.StageSpec.{StageSpec}
 use Rattle.pipe_types.specs.declared.topology.Topology.{Topology}
-use Rattle.pipe_edges.specs.declared.edges.EdgeKind.{EdgeKind}
 use Rattle.stage_bodies.specs.Seen.{SourceSeen, SinkSeen, LineSeen, BodySeen}
 use Rattle.stage_bodies.specs.Jobs.{Both}
 use Rattle.stage_bodies.specs.Posts.{place_at}
 use Rattle.stage_laws.specs.Numbered.{IsNumberedTopology}
 use Rattle.edge_names.specs.Seen.{EdgesSeen}
-use Rattle.edge_names.specs.Controls.{IsGivenInPart, named_control}
+use Rattle.edge_names.specs.Controls.{IsBackFirst, IsGivenInPart, named_control}
 use Rattle.edge_names.specs.Opened.{AreOpenedAt, IsOpened}
 use Rattle.edge_names.specs.Returned.{AreCalm, GivesBack, GivesOff, IsBackInPart, IsCalm, KeepsCallbacks, named_source, named_sink, source_in, sources_of, sinks_of}
-use Rattle.edge_names.specs.Supplies.{Feeds, Feed, Opened, Made, Supplied, Fed, Written, supplied, written}
+use Rattle.edge_names.specs.Supplies.{Feeds, Opened, Made, Supplied, Fed, Written, supplied, written}
 use Rattle.edge_names.proofs.Gating.{inner_all, inner_more}
 use Rattle.edge_names.proofs.Openings.{take_next, flat_map_next}
 
@@ -76,9 +75,23 @@ pub part_back_on : (feeds : Feeds) (T E : Type 0) (r : Result T E) (topology : T
 part_back_on feeds T E (Ok done) topology control table a b c first part = tt
 part_back_on feeds T E (Err error) topology control table a b c first part = part_back feeds topology control table a b c first part
 
+-- it was given back before the others
+pub back_first : {T E : Type 0} (r : Result T E) (feeds : Feeds) (topology : Topology) (control : Option LineSeen) (table : ℕ → Option BodySeen) (xs : List (List ℕ × SourceSeen)) (ys : List (List ℕ × SinkSeen)) (a b c : EdgesSeen)
+    → GivesBack (named_control topology.control control) [] a b → OnOk r (GivesOff xs ys b c) → OnErr r (IsBackInPart feeds topology table b c) → IsBackFirst topology.control control a c
+back_first (Ok x) feeds topology control table xs ys a b c first all part =
+    let named = named_control topology.control control in
+    inr (all.inner, all.back.back_sources ∙ ap (λ z. z ++ all.inner) first.back_sources ∙ append_assoc a.sources_back named all.inner)
+back_first (Err x) feeds topology control table xs ys a b c first all part =
+    let named = named_control topology.control control in
+    let given = part.back in
+    inr (given.inner, given.back.back_sources ∙ ap (λ z. z ++ given.inner) first.back_sources ∙ append_assoc a.sources_back named given.inner)
+
 -- nothing was given back
 pub none_back : (feeds : Feeds) (topology : Topology) (control : Option LineSeen) (table : ℕ → Option BodySeen) (a b : EdgesSeen) → GivesBack [] [] a b → IsGivenInPart feeds topology control table a b
 none_back feeds topology control table a b back = record { parts = 0; some_left = omega arith; back = off_as [] [] a b back }
+
+pub none_first : (name : Option (List ℕ)) (control : Option LineSeen) (a b : EdgesSeen) → GivesBack [] [] a b → IsBackFirst name control a b
+none_first name control a b back = inl (back.back_sources ∙ append-nil a.sources_back)
 
 sources_step : (feeds : Feeds) (stages : List StageSpec) (n : ℕ) (spec : StageSpec) (was : ℕ → Option BodySeen) → slice_get stages n ≡ Some spec
     → sources_of feeds (take n stages) was ++ named_source (supplied feeds spec) (was (place_at (post spec.no 0))) ≡ sources_of feeds (take (n + 1) stages) was

@@ -5,12 +5,12 @@ use Rattle.std.proofs.lemmas.List.{append-nil}
 use Rattle.pipe_edges.specs.Paces.{Pace}
 use Rattle.pipe_edges.specs.declared.edges.EdgeKind.{EdgeKind}
 use Rattle.pipe_edges.specs.declared.edges.EdgeKind.TheVariants.{Source}
-use Rattle.stage_bodies.specs.Seen.{SourceSeen, SinkSeen, LineSeen, BodySeen, with_source}
+use Rattle.stage_bodies.specs.Seen.{SourceSeen, LineSeen, BodySeen, with_source}
 use Rattle.stage_bodies.specs.Jobs.{Both}
 use Rattle.edge_names.specs.Seen.{EdgesSeen}
 use Rattle.edge_names.specs.Gates.{HasNoWait, IsGated, IsInner}
 use Rattle.edge_names.specs.Supplies.{Feed, Opened, Made, Supplied, Fed, Written, call_for, fed, feed_call, given_back, written}
-use Rattle.edge_names.specs.Opened.{Asks, AreOpenedAt, GivesFed, HasFeed, HasSink, IfCutOff, IfFailed, IsCut, IsOneCut, IsOneFailed, IsOpened, IsSupplied, OpensOne, let_go, one, returned, uncalled}
+use Rattle.edge_names.specs.Opened.{Asks, AreOpenedAt, GivesFed, IfCutOff, IfFailed, IsCut, IsOneCut, IsOneFailed, IsOpened, IsSupplied, OpensOne, let_go, one, returned, uncalled}
 use Rattle.edge_names.specs.Returned.{GivesBack, GivesOff, IsCalm, IsCalmFeed, named_sink, named_source, source_in}
 use Rattle.edge_names.specs.declared.opening.Unopened.{Unopened}
 use Rattle.edge_names.proofs.Cuts.{opens_not}

@@ -45,6 +45,11 @@ abbrev pub first_sinks : Feeds → (n : ℕ) → Topology → (ℕ → Option Bo
 first_sinks feeds zero topology table = []
 first_sinks feeds (suc n) topology table = sinks_of feeds (take n topology.stages) table
 
+-- the control source was given back as it was, before all others, or nothing was given back
+abbrev pub IsBackFirst : Option (List ℕ) → Option LineSeen → (old new : EdgesSeen) → Type 0
+IsBackFirst name control old new =
+    (new.sources_back ≡ old.sources_back) ⊎ ((others : List (List ℕ × SourceSeen)) × (new.sources_back ≡ old.sources_back ++ (named_control name control ++ others)))
+
 -- memory was wanting: what the first parts opened was given back
 pub record IsGivenInPart (feeds : Feeds) (topology : Topology) (control : Option LineSeen) (table : ℕ → Option BodySeen) (old new : EdgesSeen) : Type 0 where
   pub parts : ℕ

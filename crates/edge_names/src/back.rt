@@ -3,7 +3,7 @@
 ghost use Rattle.std.specs.Prelude.{◌≡◌, ◌≢◌, ◌++◌, ℕ, [], Option, length, option_map, OnOk, OnErr};
 ghost use Rattle.pipe_types.specs.Sound.{IsSound};
 ghost use Rattle.stage_bodies.specs.Seen.{body_at, line_seen};
-ghost use Rattle.edge_names.specs.Controls.{IsGivenInPart, named_control};
+ghost use Rattle.edge_names.specs.Controls.{IsBackFirst, IsGivenInPart, named_control};
 ghost use Rattle.edge_names.specs.Supplies.{at_paces, supplied, written};
 ghost use Rattle.pipe_edges.specs.Paces.{Pace};
 ghost use Rattle.pipe_types.specs.declared.topology.StageSpec.{StageSpec};
@@ -147,6 +147,7 @@ pub fn give_back<E: Edges, S: Supply<E>, B: Houses<GatedSource<S::Source>, E::Si
         ++ sources_of (at_paces topology.now (S.feeds supply.now)) topology.now.stages (body_at B.look bodies.old.items))
         (sinks_of (at_paces topology.now (S.feeds supply.now)) topology.now.stages (body_at B.look bodies.old.items))
         (⟦<E as SeenEdges>⟧.seen edges.old) (⟦<E as SeenEdges>⟧.seen edges.new)) }
+    ensures first { IsBackFirst topology.now.control (option_map (line_seen E.Source.ByteSource) control) (⟦<E as SeenEdges>⟧.seen edges.old) (⟦<E as SeenEdges>⟧.seen edges.new) }
     ensures in_part { OnErr result (IsGivenInPart (at_paces topology.now (S.feeds supply.now)) topology.now (option_map (line_seen E.Source.ByteSource) control)
         (body_at B.look bodies.old.items) (⟦<E as SeenEdges>⟧.seen edges.old) (⟦<E as SeenEdges>⟧.seen edges.new)) }
     ensures calm { OnOk result (AreCalm (at_paces topology.now (S.feeds supply.now)) topology.now.stages (body_at B.look bodies.old.items)) }

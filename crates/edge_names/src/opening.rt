@@ -159,8 +159,8 @@ fn open_stage<E: Edges, S: Supply<E>, B: Houses<GatedSource<S::Source>, E::Sink>
     }
 }
 
-/// Supplies the producers with their sources, each in its gate where there is a rate, and opens the sinks of the batch processors, in stage order, into their bodies. After a
-/// failure what was opened before it stands in the bodies.
+/// Supplies the producers with their sources, each in its gate where there is a rate, and opens the sinks of the batch processors,
+/// in stage order, into their bodies. After a failure what was opened before it stands in the bodies.
 fn open_stages<E: Edges, S: Supply<E>, B: Houses<GatedSource<S::Source>, E::Sink>>(
     alloc: Global,
     supply: &S,

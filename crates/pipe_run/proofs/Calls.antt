@@ -9,7 +9,7 @@ use Rattle.pipe_edges.specs.declared.edges.EdgeKind.{EdgeKind}
 use Rattle.stage_bodies.specs.Seen.{SourceSeen, SinkSeen, LineSeen, BodySeen}
 use Rattle.edge_names.specs.Supplies.{Feeds}
 use Rattle.edge_names.specs.Seen.{EdgesSeen}
-use Rattle.edge_names.specs.Controls.{IsControlCut, IsCutShort, IsStageCut, IsStageUndone, IsUndone, control_call, first_sources, first_sinks, run_calls}
+use Rattle.edge_names.specs.Controls.{IsBackFirst, IsControlCut, IsCutShort, IsStageCut, IsStageUndone, IsUndone, control_call, first_sources, first_sinks, named_control, run_calls}
 use Rattle.edge_names.specs.Opened.{Asks, IsOneFailed, calls_of, edge_calls, one, uncalled}
 use Rattle.edge_names.specs.Returned.{GivesOff}
 use Rattle.edge_names.proofs.Undoes.{calls_parts}
@@ -121,8 +121,8 @@ asked_all calls sources sinks old mid new asks back = record {
 
 pub outside : (feeds : Feeds) (whole : Bool) (topology : Topology) (before : History) (calls : List (EdgeKind × List ℕ)) (old mid new : EdgesSeen) (control : Option LineSeen) (bodies : ℕ → Option BodySeen) (n : ℕ) → (IsTrue whole → n ≡ suc (length topology.stages))
     → HasControl topology old before topology.control control → AreUsed feeds whole topology old before bodies
-    → Asks calls old mid → GivesOff (first_sources feeds n topology control bodies) (first_sinks feeds n topology bodies) mid new → IsOutside feeds whole topology before old new
-outside feeds whole topology before calls old mid new control bodies n all obeyed used asks back = record {
+    → Asks calls old mid → GivesOff (first_sources feeds n topology control bodies) (first_sinks feeds n topology bodies) mid new → IsBackFirst topology.control control mid new → IsOutside feeds whole topology before old new
+outside feeds whole topology before calls old mid new control bodies n all obeyed used asks back first = record {
   control = control;
   obeyed = obeyed;
   bodies = bodies;
@@ -131,6 +131,11 @@ outside feeds whole topology before calls old mid new control bodies n all obeye
   all = all;
   inner = back.inner;
   ungated = back.ungated;
+  first = by_first first;
   sources = back.back.back_sources ∙ ap (λ z. z ++ back.inner) asks.sources;
   sinks = back.back.back_sinks ∙ ap (λ z. z ++ first_sinks feeds n topology bodies) asks.sinks;
 }
+  where
+    by_first : IsBackFirst topology.control control mid new → IsBackFirst topology.control control old new
+    by_first (inl same) = inl (same ∙ asks.sources)
+    by_first (inr given) = inr (given.0, given.1 ∙ ap (λ z. z ++ (named_control topology.control control ++ given.0)) asks.sources)

@@ -19,7 +19,7 @@ use Rattle.run_pipe.specs.Seen.{PipeState}
 use Rattle.run_pipe.specs.Runs.{HasRun}
 use Rattle.edge_names.specs.Supplies.{Feeds, Feed, at_paces}
 use Rattle.edge_names.specs.Seen.{EdgesSeen}
-use Rattle.edge_names.specs.Controls.{IsGivenInPart, first_sources, first_sinks, named_control}
+use Rattle.edge_names.specs.Controls.{IsBackFirst, IsGivenInPart, first_sources, first_sinks, named_control}
 use Rattle.edge_names.specs.Returned.{AreCalm, GivesOff, KeepsCallbacks, sources_of, sinks_of}
 use Rattle.pipe_run.specs.Steps.{WentOn}
 use Rattle.pipe_run.specs.Whole.{HasCome}
@@ -84,9 +84,9 @@ ran_to o opened p final end first last is ran =
 
 -- all was given back of the topology that stands in the core
 went : (feeds : Feeds) (r : Result RunEnd AllocError) (opened p : PipeState) (topology : Topology) (final : ℕ → Option BodySeen) (old new : EdgesSeen) → HasRun opened p r → topology ≡ p.topology
-    → GivesOff (named_control topology.control p.control ++ sources_of feeds topology.stages p.home) (sinks_of feeds topology.stages p.home) old new → AreCalm feeds topology.stages p.home → KeepsCallbacks p.home final
+    → GivesOff (named_control topology.control p.control ++ sources_of feeds topology.stages p.home) (sinks_of feeds topology.stages p.home) old new → IsBackFirst topology.control p.control old new → AreCalm feeds topology.stages p.home → KeepsCallbacks p.home final
     → WentOn feeds (is_ok r) opened.topology p.steps opened.home final opened.control old new opened.clock p.clock
-went feeds (Ok end) opened p topology final old new h same back calm kept = record {
+went feeds (Ok end) opened p topology final old new h same back first calm kept = record {
   follows = h.follows;
   ended = λ w. has_come opened.topology p.steps end h.ended;
   idle = λ w. h.idle;
@@ -100,10 +100,11 @@ went feeds (Ok end) opened p topology final old new h same back calm kept = reco
   parts = suc (length opened.topology.stages);
   all = λ w. refl;
   back = all_back feeds opened.topology p.control p.home old new (back_of feeds topology opened.topology p.control p.home old new (same ∙ h.topology) back);
+  first = subst (λ (t : Topology). IsBackFirst t.control p.control old new) (same ∙ h.topology) first;
   calm = λ w. calm_of feeds topology opened.topology p.home (same ∙ h.topology) calm;
   kept = kept;
 }
-went feeds (Err e) opened p topology final old new h same back calm kept = record {
+went feeds (Err e) opened p topology final old new h same back first calm kept = record {
   follows = h.follows;
   ended = λ w. not_whole w;
   idle = λ w. not_whole w;
@@ -117,14 +118,15 @@ went feeds (Err e) opened p topology final old new h same back calm kept = recor
   parts = suc (length opened.topology.stages);
   all = λ w. refl;
   back = all_back feeds opened.topology p.control p.home old new (back_of feeds topology opened.topology p.control p.home old new (same ∙ h.topology) back);
+  first = subst (λ (t : Topology). IsBackFirst t.control p.control old new) (same ∙ h.topology) first;
   calm = λ w. calm_of feeds topology opened.topology p.home (same ∙ h.topology) calm;
   kept = kept;
 }
 
 -- there was no memory for giving all back
 went_in_part : (feeds : Feeds) (r : Result RunEnd AllocError) (opened p : PipeState) (topology : Topology) (final : ℕ → Option BodySeen) (old new : EdgesSeen) → HasRun opened p r → topology ≡ p.topology
-    → IsGivenInPart feeds topology p.control p.home old new → KeepsCallbacks p.home final → WentOn feeds false opened.topology p.steps opened.home final opened.control old new opened.clock p.clock
-went_in_part feeds r opened p topology final old new h same given kept =
+    → IsGivenInPart feeds topology p.control p.home old new → IsBackFirst topology.control p.control old new → KeepsCallbacks p.home final → WentOn feeds false opened.topology p.steps opened.home final opened.control old new opened.clock p.clock
+went_in_part feeds r opened p topology final old new h same given first kept =
     let part = subst (λ (t : Topology). IsGivenInPart feeds t p.control p.home old new) (same ∙ h.topology) given in
     record {
       follows = h.follows;
@@ -140,6 +142,7 @@ went_in_part feeds r opened p topology final old new h same given kept =
       parts = part.parts;
       all = λ w. not_whole w;
       back = part.back;
+      first = subst (λ (t : Topology). IsBackFirst t.control p.control old new) (same ∙ h.topology) first;
       calm = λ w. not_whole w;
       kept = kept;
     }
@@ -147,15 +150,15 @@ went_in_part feeds r opened p topology final old new h same given kept =
 -- ---- with the sources in their gates
 
 pub went_at : (origin : StageSpec → Option Feed) (r : Result RunEnd AllocError) (opened p : PipeState) (topology : Topology) (final : ℕ → Option BodySeen) (old new : EdgesSeen) → HasRun opened p r → topology ≡ p.topology
-    → GivesOff (named_control topology.control p.control ++ sources_of (at_paces topology origin) topology.stages p.home) (sinks_of (at_paces topology origin) topology.stages p.home) old new → AreCalm (at_paces topology origin) topology.stages p.home → KeepsCallbacks p.home final
+    → GivesOff (named_control topology.control p.control ++ sources_of (at_paces topology origin) topology.stages p.home) (sinks_of (at_paces topology origin) topology.stages p.home) old new → IsBackFirst topology.control p.control old new → AreCalm (at_paces topology origin) topology.stages p.home → KeepsCallbacks p.home final
     → WentOn (at_paces opened.topology origin) (is_ok r) opened.topology p.steps opened.home final opened.control old new opened.clock p.clock
-went_at origin r opened p topology final old new h same back calm kept =
+went_at origin r opened p topology final old new h same back first calm kept =
     subst (λ (t : Topology). WentOn (at_paces t origin) (is_ok r) opened.topology p.steps opened.home final opened.control old new opened.clock p.clock) (same ∙ h.topology)
-    (went (at_paces topology origin) r opened p topology final old new h same back calm kept)
+    (went (at_paces topology origin) r opened p topology final old new h same back first calm kept)
 
 pub went_in_part_at : (origin : StageSpec → Option Feed) (r : Result RunEnd AllocError) (opened p : PipeState) (topology : Topology) (final : ℕ → Option BodySeen) (old new : EdgesSeen) → HasRun opened p r → topology ≡ p.topology
-    → IsGivenInPart (at_paces topology origin) topology p.control p.home old new → KeepsCallbacks p.home final
+    → IsGivenInPart (at_paces topology origin) topology p.control p.home old new → IsBackFirst topology.control p.control old new → KeepsCallbacks p.home final
     → WentOn (at_paces opened.topology origin) false opened.topology p.steps opened.home final opened.control old new opened.clock p.clock
-went_in_part_at origin r opened p topology final old new h same given kept =
+went_in_part_at origin r opened p topology final old new h same given first kept =
     subst (λ (t : Topology). WentOn (at_paces t origin) false opened.topology p.steps opened.home final opened.control old new opened.clock p.clock) (same ∙ h.topology)
-    (went_in_part (at_paces topology origin) r opened p topology final old new h same given kept)
+    (went_in_part (at_paces topology origin) r opened p topology final old new h same given first kept)

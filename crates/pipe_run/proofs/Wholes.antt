@@ -47,7 +47,7 @@ run_of feeds whole topology before table opened final fresh old mid new clock cl
       control = λ none. no_control topology old before topology.control fresh went.control none lines went.obeyed;
       ended = went.ended;
       idle = went.idle;
-      outside = outside feeds whole topology before (run_calls feeds topology) old mid new went.control went.bodies went.parts went.all obeyed (used feeds whole topology old before table opened went.bodies from) asks went.back;
+      outside = outside feeds whole topology before (run_calls feeds topology) old mid new went.control went.bodies went.parts went.all obeyed (used feeds whole topology old before table opened went.bodies from) asks went.back went.first;
       time = went.time;
       asks = asked_all (run_calls feeds topology) (first_sources feeds went.parts topology went.control went.bodies) (first_sinks feeds went.parts topology went.bodies) old mid new asks went.back;
     }

@@ -26,7 +26,7 @@ use Rattle.edge_names.specs.Named.{GivesSource, GivesSink}
 use Rattle.edge_names.specs.Supplies.{Feeds, Feed, Opened, Made, Fed, Written, call_of}
 use Rattle.edge_names.specs.Opened.{AreOpened, HasSource, supplied_in, calls_of, edge_calls}
 use Rattle.edge_names.specs.Returned.{source_in, sink_in, sources_of, sinks_of}
-use Rattle.edge_names.specs.Controls.{IsControlCut, IsStageCut, control_call, named_control, first_sources, first_sinks}
+use Rattle.edge_names.specs.Controls.{IsBackFirst, IsControlCut, IsStageCut, control_call, named_control, first_sources, first_sinks}
 use Rattle.box_stock.specs.Lends.{AreHandedOut}
 
 -- the records are the first lines of what the source gave and has left: all of them, none too long, where it ended; all
@@ -106,7 +106,8 @@ pub record AreUsed (feeds : Feeds) (whole : Bool) (topology : Topology) (edges :
       → There (sink_in (bodies (place_at (post s 0)))) (IsSinkWritten topology edges before s name)
 
 -- everything that was opened by name was read and written as the journal says, and then given back, the control source first
--- and then what the stages opened, in their order, each source without its gate: all of it, unless memory was wanting
+-- and as it was, and then what the stages opened, in their order, each source without its gate: all of it, unless memory was
+-- wanting
 pub record IsOutside (feeds : Feeds) (whole : Bool) (topology : Topology) (before : History) (old new : EdgesSeen) : Type 0 where
   pub control : Option LineSeen
   pub obeyed : HasControl topology old before topology.control control
@@ -116,6 +117,7 @@ pub record IsOutside (feeds : Feeds) (whole : Bool) (topology : Topology) (befor
   pub all : IsTrue whole → parts ≡ suc (length topology.stages)
   pub inner : List (List ℕ × SourceSeen)
   pub ungated : AreInner (first_sources feeds parts topology control bodies) inner
+  pub first : IsBackFirst topology.control control old new
   pub sources : new.sources_back ≡ old.sources_back ++ inner
   pub sinks : new.sinks_back ≡ old.sinks_back ++ first_sinks feeds parts topology bodies
 

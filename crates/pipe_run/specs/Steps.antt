@@ -12,7 +12,7 @@ use Rattle.run_pipe.specs.Clocks.{ClockSeen}
 use Rattle.edge_names.specs.Supplies.{Feeds}
 use Rattle.edge_names.specs.Seen.{EdgesSeen}
 use Rattle.edge_names.specs.Returned.{AreCalm, GivesOff, KeepsCallbacks}
-use Rattle.edge_names.specs.Controls.{first_sources, first_sinks}
+use Rattle.edge_names.specs.Controls.{IsBackFirst, first_sources, first_sinks}
 use Rattle.pipe_run.specs.Whole.{HasCome, IsIdleWithin, IsTimeOf}
 
 -- the run went on from the opened bodies and the control source, and then what was opened was given back, the control source
@@ -31,5 +31,6 @@ pub record WentOn (feeds : Feeds) (whole : Bool) (topology : Topology) (before :
   pub parts : ℕ
   pub all : IsTrue whole → parts ≡ suc (length topology.stages)
   pub back : GivesOff (first_sources feeds parts topology control bodies) (first_sinks feeds parts topology bodies) old new
+  pub first : IsBackFirst topology.control control old new
   pub calm : IsTrue whole → AreCalm feeds topology.stages bodies
   pub kept : KeepsCallbacks bodies final

@@ -70,8 +70,8 @@ struct Went<B, K> {
 }
 
 /// Runs the topology on so many workers, on one at least, with sources by the supply, each in its gate where the topology has a
-/// rate, and boxes of the stock, which come back in their order. Nothing is opened before the memory for the run was found. Where the topology has no idle limit, it may wait for
-/// its sources for ever.
+/// rate, and boxes of the stock, which come back in their order. Nothing is opened before the memory for the run was found. Where
+/// the topology has no idle limit, it may wait for its sources for ever.
 pub fn run_topology<
     R: Threads + Wait + Sync,
     E: Edges,

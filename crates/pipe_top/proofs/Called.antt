@@ -20,7 +20,7 @@ use Rattle.edge_names.specs.Gates.{without_gate}
 use Rattle.edge_names.specs.Named.{GivesSource, GivesSink}
 use Rattle.edge_names.specs.Opened.{GivesFed, GivesFeed, HasFeed, HasSource, HasSink, IsCut, IsOpened, AreOpened, supplied_at, let_go, returned, uncalled}
 use Rattle.edge_names.specs.Supplies.{Feeds, Feed, Opened, Made, Supplied, Fed, Written, call_of}
-use Rattle.edge_names.specs.Controls.{IsFailedInPart, IsStageCut, control_call, first_sinks}
+use Rattle.edge_names.specs.Controls.{IsBackFirst, IsFailedInPart, IsStageCut, control_call, first_sinks, named_control}
 use Rattle.edge_names.specs.Returned.{source_in, sink_in, sinks_of}
 use Rattle.pipe_run.specs.Outside.{IsFedRead, IsFeedRead, IsSourceRead, IsSinkWritten, AreUsed, IsControlUsed, HasControl, IsOpenedInPart, IsOutside, IsStageUnopened, IsUnopened}
 use Rattle.pipe_top.specs.Cases.{feeds_of, Case, NoCommand, NoTopology as BadTopology, TooFew, Checks, Upgrades, Audits, Rejects, Runs}
@@ -202,6 +202,10 @@ pub record Called (old new : EdgesSeen) (call : EdgeKind × List ℕ) : Type 0 w
 abbrev with_edges : OutsideSeen → EdgesSeen → OutsideSeen
 with_edges old edges = record old { edges = edges }
 
+back_first_as : (name : Option (List ℕ)) (control : Option LineSeen) (call : EdgeKind × List ℕ) (old middle new : EdgesSeen) → Called old middle call → IsBackFirst name control middle new → IsBackFirst name control old new
+back_first_as name control call old middle new c (inl same) = inl (same ∙ c.same_sources)
+back_first_as name control call old middle new c (inr given) = inr (given.0, given.1 ∙ ap (λ l. l ++ (named_control name control ++ given.0)) c.same_sources)
+
 outside_as : (feeds : Feeds) (whole : Bool) (topology : Topology) (before : History) (call : EdgeKind × List ℕ) (old middle new : EdgesSeen) → Called old middle call
     → IsOutside feeds whole topology before middle new → IsOutside feeds whole topology before old new
 outside_as feeds whole topology before call old middle new c x = record {
@@ -213,6 +217,7 @@ outside_as feeds whole topology before call old middle new c x = record {
   all = x.all;
   inner = x.inner;
   ungated = x.ungated;
+  first = back_first_as topology.control x.control call old middle new c x.first;
   sources = x.sources ∙ ap (λ l. l ++ x.inner) c.same_sources;
   sinks = x.sinks ∙ ap (λ l. l ++ first_sinks feeds x.parts topology x.bodies) c.same_sinks;
 }

@@ -21,7 +21,7 @@ returns-in-Ok-clause-went g c =
     let seen = edges_seen e.told e.named e.asked e.faults e.sources_back e.sinks_back (source_seen s) (sink_seen k.told k.held k.faults) in
     went_at origin _ _ _ _ (body_at g.B.Works.look c.give_back.new.bodies.items) (seen c.args.edges.now) (seen c.give_back.new.edges)
     (ran_to _ _ _ _ _ c.new-pipe.ensures.made c.into_parts-core.ensures.parts c.unwrap-end.ensures c.run_workers-pipe.ensures.ran)
-    c.topology.ensures c.in-Ok.ensures.back c.in-Ok.ensures.calm c.in-Ok.ensures.callbacks
+    c.topology.ensures c.in-Ok.ensures.back c.in-Ok.ensures.first c.in-Ok.ensures.calm c.in-Ok.ensures.callbacks
 
 pub returns-in-Err-clause-topology : goal.returns-in-Err-clause-topology
 returns-in-Err-clause-topology g c = (ran_to _ _ _ _ _ c.new-pipe.ensures.made c.into_parts-core.ensures.parts c.unwrap-end.ensures c.run_workers-pipe.ensures.ran).topology
@@ -35,4 +35,4 @@ returns-in-Err-clause-went g c =
     let seen = edges_seen e.told e.named e.asked e.faults e.sources_back e.sinks_back (source_seen s) (sink_seen k.told k.held k.faults) in
     went_in_part_at origin _ _ _ _ (body_at g.B.Works.look c.give_back.new.bodies.items) (seen c.args.edges.now) (seen c.give_back.new.edges)
     (ran_to _ _ _ _ _ c.new-pipe.ensures.made c.into_parts-core.ensures.parts c.unwrap-end.ensures c.run_workers-pipe.ensures.ran)
-    c.topology.ensures c.in-Err.ensures.in_part c.in-Err.ensures.callbacks
+    c.topology.ensures c.in-Err.ensures.in_part c.in-Err.ensures.first c.in-Err.ensures.callbacks
