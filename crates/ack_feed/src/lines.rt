@@ -1,0 +1,140 @@
+//! Lines that go to a sink.
+
+ghost use Rattle.std.specs.Prelude.{◌≡◌, ◌≤◌, ◌++◌, ◌∷◌, ℕ, List, [], true, false, drop, length, ◌<◌, IfOk, IfErr, IsTrue};
+ghost use Rattle.pipe_types.specs.Counts.{Rose};
+ghost use Rattle.ack_feed.specs.Fed.{IsFed, Failing, is_failed};
+
+use circular_buffer::HeapCircularBuffer;
+use pipe_edges::{ByteSink, PutEnd, put_all};
+use pipe_types::bytes::Bytes;
+use std::alloc::{AllocError, Global};
+
+/// What a call of a feed came to.
+#[derive(Clone, Copy, PartialEq, Eq)]
+pub enum FeedEnd {
+    Done,
+    Failed,
+}
+
+/// Lines that are held, and the sink that they go to.
+#[derive(Drop)]
+pub struct LineFeed<K> {
+    sink: K,
+    lines: HeapCircularBuffer<Bytes>,
+    // How many bytes of its line went out by the write that failed.
+    fault: Option<usize>,
+    ghost has_room: { 1 ≤ lines.capacity },
+}
+
+impl<K: ByteSink> LineFeed<K> {
+    ghost use Rattle.ack_feed.specs.Lines.{sink_of, held_lines, room_of, has_failed};
+
+    /// A feed that holds no line, to this sink. It takes the memory for `room` lines here. Where memory is wanting the sink is given
+    /// back.
+    pub fn new(alloc: Global, sink: K, room: u16) -> Result<LineFeed<K>, (K, AllocError)>
+        requires least { 1 ≤ room }
+        requires most { room ≤ 64 }
+        ensures sink { IfOk result (λ f. sink_of f ≡ sink) }
+        ensures empty { IfOk result (λ f. held_lines f ≡ []) }
+        ensures room { IfOk result (λ f. room_of f ≡ room) }
+        ensures whole { IfOk result (λ f. has_failed f ≡ false) }
+        ensures returned { IfErr result (λ e. e.0 ≡ sink) }
+    {
+        match HeapCircularBuffer::with_capacity(alloc, room as usize) {
+            Ok(lines) => Ok(LineFeed {
+                sink,
+                lines,
+                fault: None,
+            }),
+            Err(failed) => Err((sink, failed)),
+        }
+    }
+
+    /// The sink. Lines that are held are let go.
+    pub fn into_sink(self) -> K
+        ensures { result ≡ sink_of self }
+    {
+        let LineFeed { sink, lines, fault } = self;
+        let _ = fault;
+        drop(lines);
+        sink
+    }
+
+    /// Puts the line behind those that are held. Where as many are held as there is room for, it first writes the first of them. After
+    /// a write that failed the line is let go, and nothing is written any more.
+    #[tactic(auto, using(crate::proofs::Feeding::push_fed, crate::proofs::Feeding::let_go))]
+    pub fn send(&mut self, line: Bytes) -> FeedEnd
+        ensures fed { (begun : List ℕ) (sent : List (List ℕ)) → IsTrue (K.told (sink_of self.old))
+            → IsFed begun sent (K.held (sink_of self.old)) (held_lines self.old) (has_failed self.old)
+            → IsFed begun (sent ++ line ∷ []) (K.held (sink_of self.new)) (held_lines self.new) (has_failed self.new) }
+        ensures same_telling { K.told (sink_of self.new) ≡ K.told (sink_of self.old) }
+        ensures room { room_of self.new ≡ room_of self.old }
+        ensures failed { has_failed self.new ≡ is_failed result }
+        ensures over { has_failed self.old ≡ true → self.new ≡ self.old }
+        ensures faults_stay { K.faults (sink_of self.old) ≤ K.faults (sink_of self.new) }
+        ensures cause { Failing (has_failed self.old) (K.faults (sink_of self.old)) (K.faults (sink_of self.new)) result }
+    {
+        if self.fault.is_some() {
+            return FeedEnd::Failed;
+        }
+        if self.lines.is_full() {
+            if self.write_first() == FeedEnd::Failed {
+                return FeedEnd::Failed;
+            }
+        }
+        match self.lines.try_push_back(line) {
+            Ok(()) => FeedEnd::Done,
+            Err(_) => unreachable!(),
+        }
+    }
+
+    /// Writes all lines that are held, in their order. After a write that failed nothing is written any more.
+    pub fn flush(&mut self) -> FeedEnd
+        ensures fed { (begun : List ℕ) (sent : List (List ℕ)) → IsTrue (K.told (sink_of self.old))
+            → IsFed begun sent (K.held (sink_of self.old)) (held_lines self.old) (has_failed self.old)
+            → IsFed begun sent (K.held (sink_of self.new)) (held_lines self.new) (has_failed self.new) }
+        ensures all { has_failed self.new ≡ false → held_lines self.new ≡ [] }
+        ensures same_telling { K.told (sink_of self.new) ≡ K.told (sink_of self.old) }
+        ensures room { room_of self.new ≡ room_of self.old }
+        ensures failed { has_failed self.new ≡ is_failed result }
+        ensures over { has_failed self.old ≡ true → self.new ≡ self.old }
+        ensures faults_stay { K.faults (sink_of self.old) ≤ K.faults (sink_of self.new) }
+        ensures cause { Failing (has_failed self.old) (K.faults (sink_of self.old)) (K.faults (sink_of self.new)) result }
+    {
+        if self.fault.is_some() {
+            return FeedEnd::Failed;
+        }
+        while !self.lines.is_empty() {
+            if self.write_first() == FeedEnd::Failed {
+                return FeedEnd::Failed;
+            }
+        }
+        FeedEnd::Done
+    }
+
+    // Writes the first line that is held.
+    fn write_first(&mut self) -> FeedEnd
+        requires some { 0 < length (held_lines self.old) }
+        requires whole { has_failed self.old ≡ false }
+        ensures fed { (begun : List ℕ) (sent : List (List ℕ)) → IsTrue (K.told (sink_of self.old))
+            → IsFed begun sent (K.held (sink_of self.old)) (held_lines self.old) false
+            → IsFed begun sent (K.held (sink_of self.new)) (held_lines self.new) (has_failed self.new) }
+        ensures lines { held_lines self.new ≡ drop 1 (held_lines self.old) }
+        ensures same_telling { K.told (sink_of self.new) ≡ K.told (sink_of self.old) }
+        ensures room { room_of self.new ≡ room_of self.old }
+        ensures failed { has_failed self.new ≡ is_failed result }
+        ensures faults_stay { K.faults (sink_of self.old) ≤ K.faults (sink_of self.new) }
+        ensures cause { Failing false (K.faults (sink_of self.old)) (K.faults (sink_of self.new)) result }
+    {
+        let Some(line) = self.lines.pop_front() else {
+            unreachable!();
+        };
+        match put_all(&mut self.sink, &line) {
+            PutEnd::All => FeedEnd::Done,
+            PutEnd::Failed(count) => {
+                self.fault = Some(count);
+                FeedEnd::Failed
+            }
+        }
+    }
+}

@@ -1,0 +1,3 @@
+pub mod Touched
+pub mod Climbs
+pub mod Entries
