@@ -104,7 +104,7 @@ impl<K: ByteSink> LineFeed<K> {
         if self.fault.is_some() {
             return FeedEnd::Failed;
         }
-        while !self.lines.is_empty() {
+        'empty: while !self.lines.is_empty() {
             if self.write_first() == FeedEnd::Failed {
                 return FeedEnd::Failed;
             }
