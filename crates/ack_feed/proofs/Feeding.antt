@@ -1,72 +1,54 @@
--- What lines that are written, held and let go make of what the sink got.
-use Rattle.std.proofs.Common.{◌≡◌, ℕ, List, [], ◌∷◌, ◌++◌, length, take, drop, Bool, true, false, refl, ap, sym, ◌∙◌, subst, arith}
-use Rattle.std.proofs.lemmas.List.{append_assoc, append_cancel_left, take-append-drop, take_all}
+-- What lines that are written and held make of what the sink got.
+use Rattle.std.proofs.Common.{◌≡◌, ℕ, zero, ◌+◌, ◌<◌, ◌≤◌, List, [], ◌∷◌, ◌++◌, length, take, drop, Bool, true, false, refl, ap, sym, ◌∙◌, subst, Some, None, Option, arith}
+use Rattle.std.specs.Prelude.{slice_get}
+use Rattle.std.proofs.lemmas.List.{append_assoc, append-nil, take-append-drop, take_all, drop-append-le}
 use Rattle.std.proofs.lemmas.List.Elements.{flat_map-append}
-use Rattle.ack_feed.specs.Fed.{text_of, HoldsFront, IsFed}
+use Rattle.ack_feed.specs.Fed.{text_of, IsFed}
 
 abbrev Text : Type 0
 Text = List ℕ
 
--- the text of the lines and one more
-more : (lines : List Text) (line : Text) → text_of (lines ++ line ∷ []) ≡ text_of lines ++ (line ++ [])
-more lines line = flat_map-append (λ (l : Text). l) lines (line ∷ [])
+-- the first line of those that are held, and the others
+pub first_is : (lines : List Text) (line : Text) → slice_get lines 0 ≡ Some line → lines ≡ line ∷ drop 1 lines
+first_is [] line e = cc
+first_is (l ∷ lines) line e = let same : l ≡ line = cc in ap (λ x. x ∷ lines) same
 
--- so many bytes of the first line went out
-pub put_fed : (begun : Text) (sent : List Text) (held held' line : Text) (lines : List Text) (w : ℕ) (failed : Bool) → IsFed begun sent held (line ∷ lines) false → held' ≡ held ++ take w line
-    → (failed ≡ false → length line ≤ w) → IsFed begun sent held' lines failed
-put_fed begun sent held held' line lines w failed fed put all = record {
-  front = (old.0 ++ take w line, now, drop w line ++ text_of lines, joined);
-  whole = λ going.
-      ap (λ h. h ++ text_of lines) (put ∙ ap (λ l. held ++ l) (take_all w line (all going)))
-      ∙ (append_assoc held line (text_of lines) ∙ fed.whole refl);
-}
+-- so many bytes of the first line went out, and are still to be let go
+pub put_part : (begun : Text) (sent lines : List Text) (held held' line : Text) (w : ℕ) → lines ≡ line ∷ drop 1 lines → w ≤ length line → held' ≡ held ++ take w line
+    → IsFed begun sent held (text_of lines) → IsFed begun sent held' (drop w (text_of lines))
+put_part begun sent lines held held' line w first within put fed = (
+  fed.0 ++ take w line,
+  put ∙ (ap (λ h. h ++ take w line) fed.1 ∙ append_assoc begun fed.0 (take w line)),
+  append_assoc fed.0 (take w line) (drop w (text_of lines)) ∙ (ap (λ t. fed.0 ++ t) parts ∙ fed.2),
+)
   where
-    old : HoldsFront begun (text_of sent) held
-    old = fed.front
+    rest : Text
+    rest = text_of (drop 1 lines)
 
-    now : held' ≡ begun ++ (old.0 ++ take w line)
-    now = put ∙ (ap (λ h. h ++ take w line) old.1 ∙ append_assoc begun old.0 (take w line))
+    all : text_of lines ≡ line ++ rest
+    all = ap text_of first
 
-    -- what it got and what is to come is the text
-    parts : old.0 ++ (line ++ text_of lines) ≡ text_of sent
+    parts : take w line ++ drop w (text_of lines) ≡ text_of lines
     parts =
-        append_cancel_left begun (old.0 ++ (line ++ text_of lines)) (text_of sent)
-        (sym (append_assoc begun old.0 (line ++ text_of lines)) ∙ (ap (λ h. h ++ (line ++ text_of lines)) (sym old.1) ∙ fed.whole refl))
+        ap (λ t. take w line ++ drop w t) all
+        ∙ (ap (λ t. take w line ++ t) (drop-append-le w line rest within)
+        ∙ (sym (append_assoc (take w line) (drop w line) rest) ∙ (ap (λ t. t ++ rest) (take-append-drop w line) ∙ sym all)))
 
-    joined : (old.0 ++ take w line) ++ (drop w line ++ text_of lines) ≡ text_of sent
-    joined =
-        append_assoc old.0 (take w line) (drop w line ++ text_of lines)
-        ∙ (ap (λ t. old.0 ++ t) (sym (append_assoc (take w line) (drop w line) (text_of lines)) ∙ ap (λ l. l ++ text_of lines) (take-append-drop w line)) ∙ parts)
-
--- a front of a text is one of a longer text
-longer : (begun text more_text held : Text) → HoldsFront begun text held → HoldsFront begun (text ++ more_text) held
-longer begun text more_text held f = (f.0, f.1, f.2 ++ more_text, sym (append_assoc f.0 f.2 more_text) ∙ ap (λ t. t ++ more_text) f.3)
+-- all of the first line went out, and it is let go
+pub put_whole : (begun : Text) (sent lines : List Text) (held held' line : Text) → lines ≡ line ∷ drop 1 lines → held' ≡ held ++ take (length line) line
+    → IsFed begun sent held (text_of lines) → IsFed begun sent held' (text_of (drop 1 lines))
+put_whole begun sent lines held held' line first put fed = (
+  fed.0 ++ line,
+  put ∙ (ap (λ t. held ++ t) (take_all (length line) line (omega arith)) ∙ (ap (λ h. h ++ line) fed.1 ∙ append_assoc begun fed.0 line)),
+  append_assoc fed.0 line (text_of (drop 1 lines)) ∙ (ap (λ t. fed.0 ++ t) (sym (ap text_of first)) ∙ fed.2),
+)
 
 -- a line is held behind the others
-pub push_fed : (begun : Text) (sent : List Text) (held line : Text) (lines : List Text) (failed : Bool) → IsFed begun sent held lines failed → IsFed begun (sent ++ line ∷ []) held (lines ++ line ∷ []) failed
-push_fed begun sent held line lines failed fed = record {
-  front = subst (λ t. HoldsFront begun t held) (sym (more sent line)) (longer begun (text_of sent) (line ++ []) held fed.front);
-  whole = λ going.
-      ap (λ t. held ++ t) (more lines line)
-      ∙ (sym (append_assoc held (text_of lines) (line ++ []))
-      ∙ (ap (λ t. t ++ (line ++ [])) (fed.whole going)
-      ∙ (append_assoc begun (text_of sent) (line ++ []) ∙ ap (λ t. begun ++ t) (sym (more sent line)))));
-}
-
--- a line is let go after a write that failed
-pub let_go : (begun : Text) (sent : List Text) (held line : Text) (lines : List Text) (failed : Bool) → failed ≡ true → IsFed begun sent held lines failed → IsFed begun (sent ++ line ∷ []) held lines failed
-let_go begun sent held line lines failed over fed = record {
-  front = subst (λ t. HoldsFront begun t held) (sym (more sent line)) (longer begun (text_of sent) (line ++ []) held fed.front);
-  whole = λ going. let no : true ≡ false = sym over ∙ going in cc;
-}
-
--- nothing was sent yet
-pub none_fed : (begun : Text) → IsFed begun [] begun [] false
-none_fed begun = record {
-  front = ([], append_nil_to begun, [], refl);
-  whole = λ going. refl;
-}
-  where
-    append_nil_to : (xs : Text) → xs ≡ xs ++ []
-    append_nil_to [] = refl
-    append_nil_to (x ∷ xs) = ap (λ ys. x ∷ ys) (append_nil_to xs)
+pub push_fed : (begun : Text) (sent lines : List Text) (held line : Text) → IsFed begun sent held (text_of lines) → IsFed begun (sent ++ line ∷ []) held (text_of (lines ++ line ∷ []))
+push_fed begun sent lines held line fed = (
+  fed.0,
+  fed.1,
+  ap (λ t. fed.0 ++ t) (flat_map-append (λ (l : Text). l) lines (line ∷ []))
+      ∙ (sym (append_assoc fed.0 (text_of lines) (line ++ []))
+      ∙ (ap (λ t. t ++ (line ++ [])) fed.2 ∙ sym (flat_map-append (λ (l : Text). l) sent (line ∷ [])))),
+)

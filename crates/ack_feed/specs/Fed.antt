@@ -1,5 +1,5 @@
 -- What a sink got of the lines that it was sent.
-use Rattle.std.specs.Prelude.{◌≡◌, ℕ, Bool, true, false, List, ◌++◌}
+use Rattle.std.specs.Prelude.{◌≡◌, ℕ, Bool, true, false, List, [], ◌∷◌, ◌++◌}
 use Rattle.std.specs.List.{flat_map}
 use Rattle.pipe_types.specs.Counts.{Rose}
 use Rattle.ack_feed.specs.declared.lines.FeedEnd.{FeedEnd}
@@ -9,15 +9,14 @@ use Rattle.ack_feed.specs.declared.lines.FeedEnd.TheVariants.{Done, Failed}
 abbrev pub text_of : List (List ℕ) → List ℕ
 text_of lines = flat_map (λ line. line) lines
 
--- it holds what it began with and a front of the text
-abbrev pub HoldsFront : (begun text held : List ℕ) → Type 0
-HoldsFront begun text held = (got : List ℕ) × (held ≡ begun ++ got) × (rest : List ℕ) × (got ++ rest ≡ text)
+-- a sink that began with these bytes holds besides a front of the text of the lines that it was sent: all but what is still to be written
+abbrev pub IsFed : (begun : List ℕ) (sent : List (List ℕ)) (held rest : List ℕ) → Type 0
+IsFed begun sent held rest = (got : List ℕ) × (held ≡ begun ++ got) × (got ++ rest ≡ text_of sent)
 
--- a sink that began with these bytes and was sent these lines holds a front of their text besides; and until a write fails, all but the
--- lines that are still held
-pub record IsFed (begun : List ℕ) (sent : List (List ℕ)) (held : List ℕ) (lines : List (List ℕ)) (failed : Bool) : Type 0 where
-  pub front : HoldsFront begun (text_of sent) held
-  pub whole : failed ≡ false → held ++ text_of lines ≡ begun ++ text_of sent
+-- the lines that were sent, one more where it was not let go
+abbrev pub sent_after : FeedEnd → List (List ℕ) → (line : List ℕ) → List (List ℕ)
+sent_after Done sent line = sent ++ line ∷ []
+sent_after Failed sent line = sent
 
 abbrev pub is_failed : FeedEnd → Bool
 is_failed Failed = true

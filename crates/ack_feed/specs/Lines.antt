@@ -1,5 +1,6 @@
 -- What a feed of lines shows.
-use Rattle.std.specs.Prelude.{ℕ, Bool, List, is_some}
+use Rattle.std.specs.Prelude.{ℕ, Bool, List, drop, is_some, unwrap_or}
+use Rattle.ack_feed.specs.Fed.{text_of}
 use Rattle.ack_feed.specs.declared.lines.LineFeed.{LineFeed}
 
 -- where the lines go
@@ -10,7 +11,11 @@ sink_of feed = feed.sink
 abbrev pub held_lines : {K : Type 0} → LineFeed K → List (List ℕ)
 held_lines feed = feed.lines.items
 
--- how many there is room for
+-- the bytes that are still to be written
+abbrev pub pending : {K : Type 0} → LineFeed K → List ℕ
+pending feed = drop (unwrap_or feed.fault 0) (text_of feed.lines.items)
+
+-- for how many lines there is room
 abbrev pub room_of : {K : Type 0} → LineFeed K → ℕ
 room_of feed = feed.lines.capacity
 

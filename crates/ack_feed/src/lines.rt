@@ -1,8 +1,7 @@
 //! Lines that go to a sink.
 
-ghost use Rattle.std.specs.Prelude.{◌≡◌, ◌≤◌, ◌++◌, ◌∷◌, ℕ, List, [], true, false, drop, length, ◌<◌, IfOk, IfErr, IsTrue};
-ghost use Rattle.pipe_types.specs.Counts.{Rose};
-ghost use Rattle.ack_feed.specs.Fed.{IsFed, Failing, is_failed};
+ghost use Rattle.std.specs.Prelude.{◌≡◌, ◌≤◌, ◌<◌, ℕ, List, [], true, false, length, IfOk, IfErr, IsTrue};
+ghost use Rattle.ack_feed.specs.Fed.{IsFed, Failing, is_failed, sent_after};
 
 use circular_buffer::HeapCircularBuffer;
 use pipe_edges::{ByteSink, PutEnd, put_all};
@@ -21,13 +20,13 @@ pub enum FeedEnd {
 pub struct LineFeed<K> {
     sink: K,
     lines: HeapCircularBuffer<Bytes>,
-    // How many bytes of its line went out by the write that failed.
+    // How many bytes of the first line went out before a write failed.
     fault: Option<usize>,
     ghost has_room: { 1 ≤ lines.capacity },
 }
 
 impl<K: ByteSink> LineFeed<K> {
-    ghost use Rattle.ack_feed.specs.Lines.{sink_of, held_lines, room_of, has_failed};
+    ghost use Rattle.ack_feed.specs.Lines.{sink_of, held_lines, pending, room_of, has_failed};
 
     /// A feed that holds no line, to this sink. It takes the memory for `room` lines here. Where memory is wanting the sink is given
     /// back.
@@ -62,11 +61,10 @@ impl<K: ByteSink> LineFeed<K> {
 
     /// Puts the line behind those that are held. Where as many are held as there is room for, it first writes the first of them. After
     /// a write that failed the line is let go, and nothing is written any more.
-    #[tactic(auto, using(crate::proofs::Feeding::push_fed, crate::proofs::Feeding::let_go))]
     pub fn send(&mut self, line: Bytes) -> FeedEnd
         ensures fed { (begun : List ℕ) (sent : List (List ℕ)) → IsTrue (K.told (sink_of self.old))
-            → IsFed begun sent (K.held (sink_of self.old)) (held_lines self.old) (has_failed self.old)
-            → IsFed begun (sent ++ line ∷ []) (K.held (sink_of self.new)) (held_lines self.new) (has_failed self.new) }
+            → IsFed begun sent (K.held (sink_of self.old)) (pending self.old)
+            → IsFed begun (sent_after result sent line) (K.held (sink_of self.new)) (pending self.new) }
         ensures same_telling { K.told (sink_of self.new) ≡ K.told (sink_of self.old) }
         ensures room { room_of self.new ≡ room_of self.old }
         ensures failed { has_failed self.new ≡ is_failed result }
@@ -91,9 +89,9 @@ impl<K: ByteSink> LineFeed<K> {
     /// Writes all lines that are held, in their order. After a write that failed nothing is written any more.
     pub fn flush(&mut self) -> FeedEnd
         ensures fed { (begun : List ℕ) (sent : List (List ℕ)) → IsTrue (K.told (sink_of self.old))
-            → IsFed begun sent (K.held (sink_of self.old)) (held_lines self.old) (has_failed self.old)
-            → IsFed begun sent (K.held (sink_of self.new)) (held_lines self.new) (has_failed self.new) }
-        ensures all { has_failed self.new ≡ false → held_lines self.new ≡ [] }
+            → IsFed begun sent (K.held (sink_of self.old)) (pending self.old)
+            → IsFed begun sent (K.held (sink_of self.new)) (pending self.new) }
+        ensures all { has_failed self.new ≡ false → pending self.new ≡ [] }
         ensures same_telling { K.told (sink_of self.new) ≡ K.told (sink_of self.old) }
         ensures room { room_of self.new ≡ room_of self.old }
         ensures failed { has_failed self.new ≡ is_failed result }
@@ -112,25 +110,28 @@ impl<K: ByteSink> LineFeed<K> {
         FeedEnd::Done
     }
 
-    // Writes the first line that is held.
+    // Writes the first line that is held, and lets it go where all of it went out.
     fn write_first(&mut self) -> FeedEnd
         requires some { 0 < length (held_lines self.old) }
         requires whole { has_failed self.old ≡ false }
         ensures fed { (begun : List ℕ) (sent : List (List ℕ)) → IsTrue (K.told (sink_of self.old))
-            → IsFed begun sent (K.held (sink_of self.old)) (held_lines self.old) false
-            → IsFed begun sent (K.held (sink_of self.new)) (held_lines self.new) (has_failed self.new) }
-        ensures lines { held_lines self.new ≡ drop 1 (held_lines self.old) }
+            → IsFed begun sent (K.held (sink_of self.old)) (pending self.old)
+            → IsFed begun sent (K.held (sink_of self.new)) (pending self.new) }
+        ensures lines { has_failed self.new ≡ false → length (held_lines self.new) < length (held_lines self.old) }
         ensures same_telling { K.told (sink_of self.new) ≡ K.told (sink_of self.old) }
         ensures room { room_of self.new ≡ room_of self.old }
         ensures failed { has_failed self.new ≡ is_failed result }
         ensures faults_stay { K.faults (sink_of self.old) ≤ K.faults (sink_of self.new) }
         ensures cause { Failing false (K.faults (sink_of self.old)) (K.faults (sink_of self.new)) result }
     {
-        let Some(line) = self.lines.pop_front() else {
+        let Some(line) = self.lines.front() else {
             unreachable!();
         };
-        match put_all(&mut self.sink, &line) {
-            PutEnd::All => FeedEnd::Done,
+        match put_all(&mut self.sink, line) {
+            PutEnd::All => {
+                self.lines.pop_front();
+                FeedEnd::Done
+            }
             PutEnd::Failed(count) => {
                 self.fault = Some(count);
                 FeedEnd::Failed
