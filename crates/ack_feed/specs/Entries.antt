@@ -1,5 +1,5 @@
 -- The acknowledgements of the last step of a journal, from what it settled.
-use Rattle.std.specs.Prelude.{ℕ, Bool, true, false, List, [], ◌∷◌, drop, Option, Some, option_map}
+use Rattle.std.specs.Prelude.{ℕ, List, [], ◌∷◌, drop, Option, Some, option_map}
 use Rattle.std.specs.List.{filter_map}
 use Rattle.pipe_types.specs.declared.numbers.StageNo.{StageNo}
 use Rattle.pipe_types.specs.declared.numbers.MsgNo.{MsgNo}
@@ -27,10 +27,6 @@ abbrev pub last_entries : Topology → History → List Acknowledgement
 last_entries topology [] = []
 last_entries topology (step ∷ before) = acknowledged_by topology before step
 
--- the steps of a cursor: of a run that is a step ahead all but the last
-abbrev pub steps_seen : (ahead : Bool) → History → History
-steps_seen true steps = drop 1 steps
-steps_seen false steps = steps
-
-abbrev pub cursor_seen : RunSeen → (ahead : Bool) → RunSeen
-cursor_seen run ahead = record { topology = run.topology; steps = steps_seen ahead run.steps }
+-- a run without so many of its last steps
+abbrev pub cursor_seen : RunSeen → (ahead : ℕ) → RunSeen
+cursor_seen run ahead = record { topology = run.topology; steps = drop ahead run.steps }

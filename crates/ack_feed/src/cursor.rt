@@ -1,6 +1,6 @@
 //! What each step of a journal acknowledges.
 
-ghost use Rattle.std.specs.Prelude.{◌≡◌, ◌∷◌, ◌<◌, [], true, length, drop, IfOk, IfErr, OnOk, OnErr};
+ghost use Rattle.std.specs.Prelude.{◌≡◌, ◌∷◌, ◌<◌, ◌≤◌, [], true, length, drop, IfOk, IfErr, OnOk, OnErr};
 ghost use Rattle.pipe_types.specs.Sound.{IsSound};
 ghost use Rattle.pipe_model.specs.Acknowledgements.{acknowledged_by};
 ghost use Rattle.pipe_model.specs.Legal.{allows};
@@ -20,12 +20,12 @@ use std::marker::Model;
 pub struct AckCursor {
     alloc: Global,
     run: PlainRun,
-    // The run has a step more, whose acknowledgements found no memory.
-    ahead: bool,
+    // How many steps more the run has: those whose acknowledgements, or what was made of them, found no memory.
+    ahead: u64,
 }
 
 impl Model for AckCursor {
-    ghost use Rattle.std.specs.Prelude.{◌≡◌, ◌<◌, true, length};
+    ghost use Rattle.std.specs.Prelude.{◌≤◌, length};
     ghost use Rattle.plain_run.specs.Seen.{RunSeen};
     ghost use Rattle.ack_feed.specs.Entries.{cursor_seen};
 
@@ -33,7 +33,7 @@ impl Model for AckCursor {
 
     ghost view = { λ c. cursor_seen c.run c.ahead };
 
-    ghost invariant = { λ c. c.ahead ≡ true → 0 < length c.run.steps };
+    ghost invariant = { λ c. c.ahead ≤ length c.run.steps };
 }
 
 impl AckCursor {
@@ -48,7 +48,7 @@ impl AckCursor {
             Ok(run) => Ok(AckCursor {
                 alloc,
                 run,
-                ahead: false,
+                ahead: 0,
             }),
             Err(refused) => Err(refused),
         }
@@ -63,26 +63,49 @@ impl AckCursor {
         ensures topology { self.new.topology ≡ self.old.topology }
         ensures unchanged { OnErr result (self.new ≡ self.old) }
     {
-        if self.ahead {
-            self.run = without_last(self.alloc, &self.run)?;
-            self.ahead = false;
+        if self.ahead > 0 {
+            self.run = without_last(self.alloc, &self.run, self.ahead)?;
+            self.ahead = 0;
         }
         self.run.step(step)?;
         match entries_of(self.alloc, &self.run) {
             Ok(acks) => Ok(acks),
             Err(failed) => {
-                self.ahead = true;
+                self.ahead = 1;
                 Err(failed)
             }
         }
     }
+
+    /// The number of steps.
+    pub fn len(&self) -> u64
+        ensures { result ≡ length self.now.steps }
+    {
+        self.run.journal().len() - self.ahead
+    }
+
+    /// The topology.
+    pub fn topology(&self) -> &Topology
+        ensures { result.now ≡ self.now.topology }
+    {
+        self.run.topology()
+    }
+
+    /// Takes the last step back. It takes no memory now: the next step does.
+    pub(crate) fn step_back(&mut self)
+        requires some { 0 < length self.old.steps }
+        ensures steps { self.new.steps ≡ drop 1 self.old.steps }
+        ensures topology { self.new.topology ≡ self.old.topology }
+    {
+        self.ahead += 1;
+    }
 }
 
-/// The run as it was before its last step.
-fn without_last(alloc: Global, run: &PlainRun) -> Result<PlainRun, AllocError>
-    requires { 0 < length run.now.steps }
+/// The run as it was before so many of its last steps.
+fn without_last(alloc: Global, run: &PlainRun, last: u64) -> Result<PlainRun, AllocError>
+    requires { last ≤ length run.now.steps }
     ensures topology { IfOk result (λ back. back.topology ≡ run.now.topology) }
-    ensures steps { IfOk result (λ back. back.steps ≡ drop 1 run.now.steps) }
+    ensures steps { IfOk result (λ back. back.steps ≡ drop last run.now.steps) }
 {
     let topology = copy_topology(alloc, run.topology())?;
     let mut back = match PlainRun::new(alloc, topology) {
@@ -90,7 +113,7 @@ fn without_last(alloc: Global, run: &PlainRun) -> Result<PlainRun, AllocError>
         Err((_, failed)) => return Err(failed),
     };
     let journal = run.journal();
-    for at in 0..journal.len() - 1 {
+    for at in 0..journal.len() - last {
         if let Some(step) = journal.get(at)? {
             back.step(&step)?;
         }

@@ -1,6 +1,6 @@
 //! Lines that go to a sink.
 
-ghost use Rattle.std.specs.Prelude.{◌≡◌, ◌≤◌, ◌<◌, ℕ, List, [], true, false, length, IfOk, IfErr, IsTrue};
+ghost use Rattle.std.specs.Prelude.{◌≡◌, ◌≤◌, ◌<◌, ◌++◌, ◌∷◌, ℕ, List, [], true, false, length, IfOk, IfErr, IsTrue};
 ghost use Rattle.ack_feed.specs.Fed.{IsFed, Failing, is_failed, sent_after};
 
 use circular_buffer::HeapCircularBuffer;
@@ -72,17 +72,47 @@ impl<K: ByteSink> LineFeed<K> {
         ensures faults_stay { K.faults (sink_of self.old) ≤ K.faults (sink_of self.new) }
         ensures cause { Failing (has_failed self.old) (K.faults (sink_of self.old)) (K.faults (sink_of self.new)) result }
     {
+        if self.make_room() == FeedEnd::Failed {
+            return FeedEnd::Failed;
+        }
+        self.push(line);
+        FeedEnd::Done
+    }
+
+    // Where as many lines are held as there is room for, writes the first of them.
+    pub(crate) fn make_room(&mut self) -> FeedEnd
+        ensures fed { (begun : List ℕ) (sent : List (List ℕ)) → IsTrue (K.told (sink_of self.old))
+            → IsFed begun sent (K.held (sink_of self.old)) (pending self.old)
+            → IsFed begun sent (K.held (sink_of self.new)) (pending self.new) }
+        ensures some_room { has_failed self.new ≡ false → length (held_lines self.new) < room_of self.new }
+        ensures same_telling { K.told (sink_of self.new) ≡ K.told (sink_of self.old) }
+        ensures room { room_of self.new ≡ room_of self.old }
+        ensures failed { has_failed self.new ≡ is_failed result }
+        ensures over { has_failed self.old ≡ true → self.new ≡ self.old }
+        ensures faults_stay { K.faults (sink_of self.old) ≤ K.faults (sink_of self.new) }
+        ensures cause { Failing (has_failed self.old) (K.faults (sink_of self.old)) (K.faults (sink_of self.new)) result }
+    {
         if self.fault.is_some() {
             return FeedEnd::Failed;
         }
-        if self.lines.is_full() {
-            if self.write_first() == FeedEnd::Failed {
-                return FeedEnd::Failed;
-            }
+        if !self.lines.is_full() {
+            return FeedEnd::Done;
         }
-        match self.lines.try_push_back(line) {
-            Ok(()) => FeedEnd::Done,
-            Err(_) => unreachable!(),
+        self.write_first()
+    }
+
+    // Puts the line behind those that are held.
+    pub(crate) fn push(&mut self, line: Bytes)
+        requires some_room { length (held_lines self.old) < room_of self.old }
+        requires whole { has_failed self.old ≡ false }
+        ensures fed { (begun : List ℕ) (sent : List (List ℕ)) → IsFed begun sent (K.held (sink_of self.old)) (pending self.old)
+            → IsFed begun (sent ++ line ∷ []) (K.held (sink_of self.new)) (pending self.new) }
+        ensures sink { sink_of self.new ≡ sink_of self.old }
+        ensures room { room_of self.new ≡ room_of self.old }
+        ensures whole { has_failed self.new ≡ false }
+    {
+        if self.lines.try_push_back(line).is_err() {
+            unreachable!();
         }
     }
 
