@@ -1,6 +1,6 @@
 -- A step acknowledges no message but those that it may.
-use Rattle.std.proofs.Common.{◌≡◌, ℕ, List, [], ◌∷◌, ◌++◌, ◌+◌, map, length, Bool, true, false, refl, ap, sym, ◌∙◌, Some, None, Option, subst}
-use Rattle.std.specs.Prelude.{if◌then◌else◌, not, ◌==◌, ◌&&◌, ◌||◌, filter, option_map, option_to_list, is_some, unwrap_or, position}
+use Rattle.std.proofs.Common.{◌≡◌, ℕ, List, [], ◌∷◌, ◌++◌, ◌+◌, map, length, Bool, true, false, refl, ap, sym, ◌∙◌, Some, None, Option, subst, inl, inr}
+use Rattle.std.specs.Prelude.{◌⊎◌, if◌then◌else◌, not, ◌==◌, ◌&&◌, ◌||◌, filter, option_map, option_to_list, is_some, unwrap_or, position}
 use Rattle.std.specs.List.{flat_map}
 use Rattle.std.proofs.lemmas.Bool.{eqb-true, eq-eqb, false_from_ne_true}
 use Rattle.pipe_types.specs.declared.numbers.StageNo.{StageNo}
@@ -65,50 +65,49 @@ among_right (x ∷ xs) ys n h = or_right (x == n) (among (xs ++ ys) n) (among_ri
 
 among_left : (xs ys : List ℕ) (n : ℕ) → among xs n ≡ true → among (xs ++ ys) n ≡ true
 among_left [] ys n h = cc
-among_left (x ∷ xs) ys n h = by (x == n) h
+among_left (x ∷ xs) ys n h = by (x == n) h (among_left xs ys n)
   where
-    by : (b : Bool) → (b || among xs n) ≡ true → (b || among (xs ++ ys) n) ≡ true
-    by true k = refl
-    by false k = among_left xs ys n k
+    by : (b : Bool) → (b || among xs n) ≡ true → (among xs n ≡ true → among (xs ++ ys) n ≡ true) → (b || among (xs ++ ys) n) ≡ true
+    by true k rest = refl
+    by false k rest = rest k
 
 -- a message of one of the batches is among those of all
 pub among_messages : (f : ℕ → List ℕ) (bs : List ℕ) (b n : ℕ) → among bs b ≡ true → among (f b) n ≡ true → among (flat_map f bs) n ≡ true
 among_messages f [] b n there h = cc
-among_messages f (x ∷ bs) b n there h = by (x == b) refl there
+among_messages f (x ∷ bs) b n there h = by (x == b) refl there (λ k. among_messages f bs b n k h)
   where
-    by : (c : Bool) → (x == b) ≡ c → (c || among bs b) ≡ true → among (f x ++ flat_map f bs) n ≡ true
-    by true e k = among_left (f x) (flat_map f bs) n (ap (λ y. among (f y) n) (eqb-true x b e) ∙ h)
-    by false e k = among_right (f x) (flat_map f bs) n (among_messages f bs b n k h)
+    by : (c : Bool) → (x == b) ≡ c → (c || among bs b) ≡ true → (among bs b ≡ true → among (flat_map f bs) n ≡ true) → among (f x ++ flat_map f bs) n ≡ true
+    by true e k rest = among_left (f x) (flat_map f bs) n (ap (λ y. among (f y) n) (eqb-true x b e) ∙ h)
+    by false e k rest = among_right (f x) (flat_map f bs) n (rest k)
+
+-- what is among two lists is among one of them
+split : (xs ys : List ℕ) (n : ℕ) → among (xs ++ ys) n ≡ true → (among xs n ≡ true) ⊎ (among ys n ≡ true)
+split [] ys n h = inr h
+split (x ∷ xs) ys n h = by (x == n) h (split xs ys n)
+  where
+    by : (b : Bool) → (b || among (xs ++ ys) n) ≡ true → (among (xs ++ ys) n ≡ true → (among xs n ≡ true) ⊎ (among ys n ≡ true)) → ((b || among xs n) ≡ true) ⊎ (among ys n ≡ true)
+    by true k rest = inl refl
+    by false k rest = rest k
 
 -- and each of all is of one
 pub of_one : (f : ℕ → List ℕ) (bs : List ℕ) (n : ℕ) → among (flat_map f bs) n ≡ true → (b : ℕ) × (among bs b ≡ true) × (among (f b) n ≡ true)
 of_one f [] n h = cc
-of_one f (x ∷ bs) n h = parts (f x) refl h
+of_one f (x ∷ bs) n h = by (split (f x) (flat_map f bs) n h) (of_one f bs n)
   where
-    rest : among (flat_map f bs) n ≡ true → (b : ℕ) × (among (x ∷ bs) b ≡ true) × (among (f b) n ≡ true)
-    rest k = let r = of_one f bs n k in (r.0, or_right (x == r.0) (among bs r.0) r.1, r.2)
-
-    here : among (f x) n ≡ true → (b : ℕ) × (among (x ∷ bs) b ≡ true) × (among (f b) n ≡ true)
-    here k = (x, ap (λ c. c || among bs x) (eq-eqb x x refl), k)
-
-    parts : (ys : List ℕ) → ((among ys n ≡ true) → among (f x) n ≡ true) → among (ys ++ flat_map f bs) n ≡ true → (b : ℕ) × (among (x ∷ bs) b ≡ true) × (among (f b) n ≡ true)
-    parts [] own k = rest k
-    parts (y ∷ ys) own k = by (y == n) refl k
-      where
-        by : (c : Bool) → (y == n) ≡ c → (c || among (ys ++ flat_map f bs) n) ≡ true → (b : ℕ) × (among (x ∷ bs) b ≡ true) × (among (f b) n ≡ true)
-        by true e g = here (own (ap (λ d. d || among ys n) e))
-        by false e g = parts ys (λ t. own (or_right (y == n) (among ys n) t)) g
+    by : (among (f x) n ≡ true) ⊎ (among (flat_map f bs) n ≡ true) → (among (flat_map f bs) n ≡ true → (b : ℕ) × (among bs b ≡ true) × (among (f b) n ≡ true)) → (b : ℕ) × (among (x ∷ bs) b ≡ true) × (among (f b) n ≡ true)
+    by (inl own) rest = (x, ap (λ c. c || among bs x) (eq-eqb x x refl), own)
+    by (inr later) rest = let r = rest later in (r.0, or_right (x == r.0) (among bs r.0) r.1, r.2)
 
 -- Chunks
 
 replied : (chunk : List ℕ) (replies : List Reply) (n : ℕ) → is_some (reply_to chunk replies n) ≡ true → among chunk n ≡ true
 replied [] replies n h = cc
 replied (m ∷ chunk) [] n h = cc
-replied (m ∷ chunk) (r ∷ replies) n h = by (m == n) h
+replied (m ∷ chunk) (r ∷ replies) n h = by (m == n) h (replied chunk replies n)
   where
-    by : (b : Bool) → is_some (if b then Some r else reply_to chunk replies n) ≡ true → (b || among chunk n) ≡ true
-    by true k = refl
-    by false k = replied chunk replies n k
+    by : (b : Bool) → is_some (if b then Some r else reply_to chunk replies n) ≡ true → (is_some (reply_to chunk replies n) ≡ true → among chunk n ≡ true) → (b || among chunk n) ≡ true
+    by true k rest = refl
+    by false k rest = rest k
 
 answered_some : (b : Bool) (s : StageNo) (o : Option Reply) → is_acked (Some (answered b s o)) ≡ true → is_some o ≡ true
 answered_some b s (Some r) h = refl
