@@ -1,8 +1,8 @@
 -- What lines that are written and held make of what the sink got.
 use Rattle.std.proofs.Common.{◌≡◌, ℕ, zero, ◌+◌, ◌<◌, ◌≤◌, List, [], ◌∷◌, ◌++◌, length, take, drop, Bool, true, false, refl, ap, sym, ◌∙◌, subst, Some, None, Option, arith}
-use Rattle.std.specs.Prelude.{slice_get}
+use Rattle.std.specs.Prelude.{slice_get, is_some, unwrap_or}
 use Rattle.std.proofs.lemmas.List.{append_assoc, append-nil, take-append-drop, take_all, drop-append-le}
-use Rattle.std.proofs.lemmas.List.Elements.{flat_map-append}
+use Rattle.std.proofs.lemmas.List.Concat.{flat_map-append}
 use Rattle.ack_feed.specs.Fed.{text_of, IsFed}
 
 abbrev Text : Type 0
@@ -52,3 +52,8 @@ push_fed begun sent lines held line fed = (
       ∙ (sym (append_assoc fed.0 (text_of lines) (line ++ []))
       ∙ (ap (λ t. t ++ (line ++ [])) fed.2 ∙ sym (flat_map-append (λ (l : Text). l) sent (line ∷ [])))),
 )
+
+-- until a write fails, all of the lines that are held is still to be written
+pub all_pending : (fault : Option ℕ) (text : Text) → is_some fault ≡ false → drop (unwrap_or fault 0) text ≡ text
+all_pending None text e = refl
+all_pending (Some w) text e = cc

@@ -95,7 +95,7 @@ impl<K: ByteSink> LineFeed<K> {
         if self.fault.is_some() {
             return FeedEnd::Failed;
         }
-        if !self.lines.is_full() {
+        if self.lines.len() < self.lines.capacity() {
             return FeedEnd::Done;
         }
         self.write_first()

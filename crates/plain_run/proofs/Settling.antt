@@ -1,6 +1,6 @@
 -- What the tables say of the messages that the last step acknowledged.
 use Rattle.std.proofs.Common.{◌≡◌, ℕ, zero, suc, ◌<◌, ◌≤◌, List, [], ◌∷◌, ◌++◌, map, length, get_or, Bool, true, false, refl, ap, sym, ◌∙◌, subst, Some, None, Option, inl, inr, arith}
-use Rattle.std.specs.Prelude.{◌⊎◌, ◌&&◌, ◌||◌, ◌==◌, not, filter, slice_get, option_to_list, is_some, if◌then◌else◌}
+use Rattle.std.specs.Prelude.{◌⊎◌, ◌&&◌, ◌==◌, not, filter, slice_get, is_some, if◌then◌else◌, Contains}
 use Rattle.std.specs.List.{flat_map}
 use Rattle.std.specs.List.Sorted.{IsStrictlyIncreasing}
 use Rattle.std.proofs.lemmas.Bool.{cases_lt, false_from_ne_true}
@@ -20,7 +20,7 @@ use Rattle.pipe_laws.proofs.Tests.{clash, and_right}
 use Rattle.queue_laws.proofs.Alone.{serves_each}
 use Rattle.settle_laws.specs.Settled.{is_newly, settled_last, touched, messages_in}
 use Rattle.settle_laws.proofs.Touched.{within_touched, among_messages, of_one}
-use Rattle.settle_laws.proofs.Climbs.{Climbs, climbs, climbs_filter, same_members, among_filter, among_upto, upto_climbs}
+use Rattle.settle_laws.proofs.Climbs.{climbs, climbs_filter, same_members, among_filter, among_upto, upto_climbs, among_contains, contains_among}
 use Rattle.settle_laws.proofs.Entries.{newly_is}
 use Rattle.core_laws.specs.Columns.{mark, waiting_parts, part_of}
 use Rattle.core_laws.proofs.Marks.{mark_is}
@@ -132,3 +132,15 @@ queue_numbers topology before s = each (waiting topology before s)
 pub messages_step : (f g : ℕ → List ℕ) → ((b : ℕ) → g b ≡ f b) → (bs : List ℕ) → flat_map g bs ≡ flat_map f bs
 messages_step f g same [] = refl
 messages_step f g same (b ∷ bs) = let here = same b in let rest = messages_step f g same bs in λ i. here i ++ rest i
+
+-- Members
+
+-- what two lists contain alike is among them alike
+pub same_among : (xs ys : List ℕ) (n : ℕ) → (Contains xs n → Contains ys n) → (Contains ys n → Contains xs n) → among ys n ≡ among xs n
+same_among xs ys n there back = by (among xs n) refl (among ys n) refl
+  where
+    by : (a : Bool) → among xs n ≡ a → (b : Bool) → among ys n ≡ b → among ys n ≡ among xs n
+    by true e true f = f ∙ sym e
+    by false e false f = f ∙ sym e
+    by true e false f = clash (among ys n) (contains_among ys n (there (among_contains xs n e))) f
+    by false e true f = clash (among xs n) (contains_among xs n (back (among_contains ys n f))) e
