@@ -1,22 +1,27 @@
 -- What the tables say of the messages that the last step acknowledged.
 use Rattle.std.proofs.Common.{◌≡◌, ℕ, zero, suc, ◌<◌, ◌≤◌, List, [], ◌∷◌, ◌++◌, map, length, get_or, Bool, true, false, refl, ap, sym, ◌∙◌, subst, Some, None, Option, inl, inr, arith}
-use Rattle.std.specs.Prelude.{◌⊎◌, ◌&&◌, ◌==◌, not, filter, slice_get, is_some, if◌then◌else◌, Contains}
+use Rattle.std.specs.Prelude.{◌⊎◌, ◌&&◌, ◌==◌, not, filter, slice_get, option_to_list, is_some, if◌then◌else◌, Contains}
 use Rattle.std.specs.List.{flat_map}
 use Rattle.std.specs.List.Sorted.{IsStrictlyIncreasing}
 use Rattle.std.proofs.lemmas.Bool.{cases_lt, false_from_ne_true}
 use Rattle.pipe_types.specs.declared.numbers.StageNo.{StageNo}
 use Rattle.pipe_types.specs.declared.topology.Topology.{Topology}
 use Rattle.pipe_types.specs.declared.step.Step.{Step}
+use Rattle.pipe_types.specs.declared.step.Step.TheVariants.{Dispatch, Done, Wrote, ChildEnd}
+use Rattle.pipe_types.specs.Numbers.{post}
 use Rattle.pipe_types.specs.declared.message.Place.{Place}
 use Rattle.pipe_types.specs.Stages.{spec_of}
-use Rattle.pipe_model.specs.History.{History, accepted}
+use Rattle.pipe_model.specs.History.{History, accepted, incarnation}
+use Rattle.pipe_model.specs.Posts.{is_out, out_from, in_slot}
+use Rattle.pipe_model.specs.Work.{taken_units}
 use Rattle.pipe_model.specs.Flow.{place, batch, numbers_in, among, is_number, alone, waiting, kind_in, is_batcher, view_of, serving_by, rooms_by, served_by, mark_in, is_empty, subs_of, deliveries}
 use Rattle.pipe_model.specs.Acknowledgements.{is_acked, numbers_upto}
 use Rattle.pipe_model.specs.Places.{settled_at}
-use Rattle.pipe_model.specs.Legal.{is_legal}
+use Rattle.pipe_model.specs.Legal.{is_legal, allows}
 use Rattle.pipe_laws.proofs.Accepted.{placed_accepted}
 use Rattle.pipe_laws.proofs.Lists.{Each, each_among, each_filter, each_weaker, all_among}
-use Rattle.pipe_laws.proofs.Tests.{clash, and_right}
+use Rattle.pipe_laws.proofs.Allowed.{child_end_facts}
+use Rattle.pipe_laws.proofs.Tests.{clash, and_left, and_right}
 use Rattle.queue_laws.proofs.Alone.{serves_each}
 use Rattle.settle_laws.specs.Settled.{is_newly, settled_last, touched, messages_in}
 use Rattle.settle_laws.proofs.Touched.{within_touched, among_messages, of_one}
@@ -26,7 +31,13 @@ use Rattle.core_laws.specs.Columns.{mark, waiting_parts, part_of}
 use Rattle.core_laws.proofs.Marks.{mark_is}
 use Rattle.core_state.specs.declared.state.Core.{Core}
 use Rattle.core_state.specs.Stands.{Fields, Holds}
-use Rattle.plain_run.specs.Acked.{acked_by}
+use Rattle.core_laws.specs.Columns.{is_broadcast}
+use Rattle.core_sends.proofs.Front.{none_lone}
+use Rattle.core_tables.specs.Tables.{list_at, queue_at}
+use Rattle.plain_run.specs.declared.works.Works.{Works}
+use Rattle.plain_run.specs.Works.{WorksStand, numbers_at}
+use Rattle.plain_run.specs.Acked.{acked_by, touched_in}
+use Rattle.plain_run.proofs.Working.{numbers_are, started_is}
 
 and_none : (a : Bool) → (a && false) ≡ false
 and_none true = refl
@@ -127,12 +138,6 @@ queue_numbers topology before s = each (waiting topology before s)
     each [] = refl
     each (n ∷ ns) = ap (λ ms. n ∷ ms) (each ns)
 
--- Messages of batches, batch after batch
-
-pub messages_step : (f g : ℕ → List ℕ) → ((b : ℕ) → g b ≡ f b) → (bs : List ℕ) → flat_map g bs ≡ flat_map f bs
-messages_step f g same [] = refl
-messages_step f g same (b ∷ bs) = let here = same b in let rest = messages_step f g same bs in λ i. here i ++ rest i
-
 -- Members
 
 -- what two lists contain alike is among them alike
@@ -144,3 +149,61 @@ same_among xs ys n there back = by (among xs n) refl (among ys n) refl
     by false e false f = f ∙ sym e
     by true e false f = clash (among ys n) (contains_among ys n (there (among_contains xs n e))) f
     by false e true f = clash (among xs n) (contains_among xs n (back (among_contains ys n f))) e
+
+-- What was touched
+
+same_messages : (f g : ℕ → List ℕ) → ((b : ℕ) → g b ≡ f b) → (bs : List ℕ) → flat_map g bs ≡ flat_map f bs
+same_messages f g same [] = refl
+same_messages f g same (b ∷ bs) = let here = same b in let rest = same_messages f g same bs in λ i. here i ++ rest i
+
+-- the tables have the messages of these batches
+table_messages : (core : Core) (bs : List ℕ) → Holds core → flat_map (numbers_at core.batches.items) bs ≡ messages_in core.topology core.journal.steps bs
+table_messages core bs x =
+    same_messages (λ b. numbers_in (batch core.topology core.journal.steps b)) (numbers_at core.batches.items) (λ b. numbers_are core b x) bs
+
+-- what a legal step touches is among what the tables say
+touched_within : (core : Core) (works : Works) (step : Step) (n : ℕ) → Holds core → WorksStand core.topology core.journal.steps works → allows core.topology core.journal.steps step ≡ true
+    → among (touched core.topology core.journal.steps step) n ≡ true → among (touched_in core works step) n ≡ true
+touched_within core works (Done s replies) n x w legal h = ap (λ ns. among ns n) (x.fields.chunks s) ∙ h
+touched_within core works (Wrote s bytes end) n x w legal h =
+    ap (λ bs. among (flat_map (numbers_at core.batches.items) bs) n) (w.taken s)
+    ∙ (ap (λ ns. among ns n) (table_messages core (taken_units core.topology core.journal.steps s) x) ∙ h)
+touched_within core works (ChildEnd s slot reply) n x w legal h =
+    let facts = child_end_facts core.topology core.journal.steps s slot reply legal in
+    let out = and_left (is_out core.journal.steps (post s slot)) (out_from core.journal.steps (post s slot) == incarnation core.journal.steps s) facts.current in
+    ap (λ (o : Option ℕ). among (option_to_list o) n) (started_is core works s slot x w out) ∙ h
+touched_within core works (Dispatch s) n x w legal h = by (is_broadcast (kind_in (spec_of core.topology s))) refl
+  where
+    by : (b : Bool) → is_broadcast (kind_in (spec_of core.topology s)) ≡ b
+        → among (if b then flat_map (numbers_at core.batches.items) (map (λ (unit : ℕ × ℕ). unit.1) (queue_at core.waiting.items s)) else []) n ≡ true
+    by true e =
+        ap (λ (us : List (ℕ × ℕ)). among (flat_map (numbers_at core.batches.items) (map (λ (unit : ℕ × ℕ). unit.1) us)) n) (x.fields.waiting s)
+        ∙ (ap (λ bs. among (flat_map (numbers_at core.batches.items) bs) n) (queue_numbers core.topology core.journal.steps s)
+        ∙ (ap (λ ns. among ns n) (table_messages core (waiting core.topology core.journal.steps s) x) ∙ alone_within core.topology core.journal.steps s n h))
+    by false e =
+        clash (among (messages_in core.topology core.journal.steps (alone core.topology core.journal.steps s)) n) h
+        (ap (λ bs. among (messages_in core.topology core.journal.steps bs) n) (none_lone core.topology core.journal.steps s e))
+touched_within core works step n x w legal h = cc
+
+-- The step
+
+-- what is found of a step that was appended is what it acknowledged
+pub noted : (old new : Core) (works : Works) (step : Step) (numbers found : List ℕ) (mark : ℕ) → Holds old → WorksStand old.topology old.journal.steps works → Holds new
+    → new.topology ≡ old.topology → new.journal.steps ≡ step ∷ old.journal.steps → allows old.topology old.journal.steps step ≡ true
+    → numbers ≡ touched_in old works step → mark ≡ length old.journal.steps → IsStrictlyIncreasing found
+    → ((n : ℕ) → among found n ≡ (acked_by new.places.items new.settled.items mark n && among numbers n)) → found ≡ settled_last new.topology new.journal.steps
+noted old new works step numbers found mark x w y topology written legal given at rises members =
+    settled_is new old.topology old.journal.steps step numbers found fields now
+    (λ n h. ap (λ ns. among ns n) given ∙ touched_within old works step n x w legal h) rises
+    (λ n. members n ∙ ap (λ k. acked_by new.places.items new.settled.items k n && among numbers n) at)
+    ∙ (λ i. settled_last (sym topology i) (sym written i))
+  where
+    fields : Fields new old.topology (step ∷ old.journal.steps)
+    fields = subst (λ t. Fields new t (step ∷ old.journal.steps)) topology (subst (λ h. Fields new new.topology h) written y.fields)
+
+    now : is_legal old.topology (step ∷ old.journal.steps) ≡ true
+    now = subst (λ t. is_legal t (step ∷ old.journal.steps) ≡ true) topology (subst (λ h. is_legal new.topology h ≡ true) written y.legal)
+
+-- where no step was appended, it is what it was
+pub unnoted : (old new : Core) (found : List ℕ) → new.topology ≡ old.topology → new.journal.steps ≡ old.journal.steps → found ≡ settled_last old.topology old.journal.steps → found ≡ settled_last new.topology new.journal.steps
+unnoted old new found topology steps e = e ∙ (λ i. settled_last (sym topology i) (sym steps i))

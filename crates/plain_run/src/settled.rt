@@ -1,24 +1,26 @@
 //! What the last step acknowledged. It is found among what the step touched, so it costs no more than that.
 
 ghost use Rattle.std.specs.Prelude.{◌≡◌, ◌∷◌, ◌&&◌, ◌↔◌, ℕ, true, false, length, map, nat_lt, is_some, filter, option_map, option_copied, option_to_list, slice_get, unwrap_or, Contains, IfOk, OnErr};
+ghost use Rattle.std.specs.List.{flat_map};
 ghost use Rattle.std.specs.List.Sorted.{IsStrictlyIncreasing};
 ghost use Rattle.pipe_types.specs.Stages.{spec_of};
 ghost use Rattle.pipe_model.specs.Acknowledgements.{is_acked as is_acked_as};
-ghost use Rattle.pipe_model.specs.Flow.{alone, among, is_number, kind_in};
+ghost use Rattle.pipe_model.specs.Flow.{among, is_number, kind_in};
 ghost use Rattle.pipe_model.specs.Legal.{allows};
-ghost use Rattle.core_laws.specs.Columns.{is_broadcast, running};
-ghost use Rattle.core_tables.specs.Tables.{queue_at};
+ghost use Rattle.core_laws.specs.Columns.{is_broadcast};
+ghost use Rattle.core_tables.specs.Tables.{list_at, queue_at};
 ghost use Rattle.core_state.specs.Stands.{Holds};
-ghost use Rattle.settle_laws.specs.Settled.{messages_in, settled_last, touched as touched_as};
-ghost use Rattle.plain_run.specs.Acked.{acked_by, row_of, outcome_row, row_seen};
+ghost use Rattle.settle_laws.specs.Settled.{settled_last};
+ghost use Rattle.plain_run.specs.Acked.{acked_by, row_of, outcome_row, row_seen, touched_in, waiting_in};
 ghost use Rattle.plain_run.specs.Runs.{IsRun};
-ghost use Rattle.plain_run.specs.Works.{WorksStand};
+ghost use Rattle.plain_run.specs.Works.{numbers_at as numbers_at_as};
 
 use crate::after::After;
 use crate::given::numbers_at;
 use crate::judges::judge;
 use crate::works::{Works, started_in, taken_in};
 use core_state::Core;
+use core_tables::rows::BatchRow;
 use pipe_types::message::{Outcome, Place};
 use pipe_types::numbers::{MsgNo, StageNo};
 use pipe_types::step::Step;
@@ -48,66 +50,68 @@ pub(crate) fn judge_and_note(
     let numbers = touched(core, works, step)?;
     let mark = core.journal.len();
     let next = judge(core, works, after, step)?;
-    if next.is_some() {
-        *settled = settled_of(core, numbers, mark);
+    if next.is_none() {
+        return Ok(next);
     }
+    *settled = settled_of(core, numbers, mark);
     Ok(next)
 }
 
-/// Among these messages are all that the step acknowledges, where it is legal.
-pub(crate) fn touched(core: &Core, works: &Works, step: &Step) -> Result<Vec<u32>, AllocError>
-    requires holds { Holds core.now }
-    requires works { WorksStand core.now.topology core.now.journal.steps works.now }
-    ensures { IfOk result (λ numbers. allows core.now.topology core.now.journal.steps step.now ≡ true → (n : ℕ) →
-        among (touched_as core.now.topology core.now.journal.steps step.now) n ≡ true → among numbers.items n ≡ true) }
+/// The messages that the step touches, where it is legal: it acknowledges no others.
+fn touched(core: &Core, works: &Works, step: &Step) -> Result<Vec<u32>, AllocError>
+    ensures { IfOk result (λ numbers. numbers.items ≡ touched_in core.now works.now step.now) }
 {
     match step {
-        Step::Done { stage, .. } => chunk_of(core, *stage),
-        Step::Wrote { stage, .. } => messages_of(core, taken_in(&works.taken, *stage)),
-        Step::ChildEnd { stage, slot, .. } => one_of(core.alloc, started_in(&works.started, *stage, *slot)),
+        Step::Done { stage, .. } => chunk_of(core.alloc, &core.chunks, *stage),
+        Step::Wrote { stage, .. } => {
+            messages_of(core.alloc, &core.batches, taken_in(&works.taken, *stage))
+        }
+        Step::ChildEnd { stage, slot, .. } => {
+            one_of(core.alloc, started_in(&works.started, *stage, *slot))
+        }
         Step::Dispatch { stage } => waiting_messages(core, *stage),
         _ => Ok(Vec::new(core.alloc)),
     }
 }
 
-/// The messages that run in the stage.
-fn chunk_of(core: &Core, stage: StageNo) -> Result<Vec<u32>, AllocError>
-    requires holds { Holds core.now }
-    ensures { IfOk result (λ numbers. numbers.items ≡ running core.now.topology core.now.journal.steps stage) }
+/// The list of the stage.
+fn chunk_of(alloc: Global, chunks: &[Vec<u32>], stage: StageNo) -> Result<Vec<u32>, AllocError>
+    ensures { IfOk result (λ numbers. numbers.items ≡ list_at chunks.now stage) }
 {
-    Vec::from_slice(core.alloc, taken_in(&core.chunks, stage))
+    Vec::from_slice(alloc, taken_in(chunks, stage))
 }
 
 /// The number, where there is one.
 fn one_of(alloc: Global, held: Option<u32>) -> Result<Vec<u32>, AllocError>
     ensures { IfOk result (λ numbers. numbers.items ≡ option_to_list held) }
 {
-    held.into_iter().collect(alloc)
+    let mut numbers = Vec::new(alloc);
+    if let Some(no) = held {
+        numbers.push(no)?;
+    }
+    Ok(numbers)
 }
 
 /// The messages of these closed batches, in their order.
-fn messages_of(core: &Core, batches: &[u32]) -> Result<Vec<u32>, AllocError>
-    requires holds { Holds core.now }
-    ensures { IfOk result (λ numbers. numbers.items ≡ messages_in core.now.topology core.now.journal.steps batches.now) }
+fn messages_of(alloc: Global, rows: &[BatchRow], batches: &[u32]) -> Result<Vec<u32>, AllocError>
+    ensures { IfOk result (λ numbers. numbers.items ≡ flat_map (numbers_at_as rows.now) batches.now) }
 {
-    let mut numbers = Vec::new(core.alloc);
+    let mut numbers = Vec::new(alloc);
     for no in batches {
-        numbers.extend_from_slice(numbers_at(&core.batches, *no))?;
+        numbers.extend_from_slice(numbers_at(rows, *no))?;
     }
     Ok(numbers)
 }
 
 /// The messages of the batches that wait in a stage that broadcasts. Another stage serves none alone.
 fn waiting_messages(core: &Core, stage: StageNo) -> Result<Vec<u32>, AllocError>
-    requires holds { Holds core.now }
-    ensures { IfOk result (λ numbers. (n : ℕ) →
-        among (messages_in core.now.topology core.now.journal.steps (alone core.now.topology core.now.journal.steps stage)) n ≡ true → among numbers.items n ≡ true) }
+    ensures { IfOk result (λ numbers. numbers.items ≡ waiting_in core.now stage) }
 {
     if !does_broadcast(&core.topology, stage) {
         return Ok(Vec::new(core.alloc));
     }
-    let batches = waiting_in(core.alloc, &core.waiting, stage)?;
-    messages_of(core, &batches)
+    let batches = units_in(core.alloc, &core.waiting, stage)?;
+    messages_of(core.alloc, &core.batches, &batches)
 }
 
 /// Whether the stage broadcasts.
@@ -121,7 +125,7 @@ fn does_broadcast(topology: &Topology, stage: StageNo) -> bool
 }
 
 /// The units that wait in the stage.
-fn waiting_in(
+fn units_in(
     alloc: Global,
     waiting: &[VecDeque<(u32, u32)>],
     stage: StageNo,
