@@ -4,8 +4,9 @@ ghost use Rattle.std.specs.Prelude.{◌≡◌, ◌∷◌, ◌<◌, ◌≤◌, []
 ghost use Rattle.pipe_types.specs.Sound.{IsSound};
 ghost use Rattle.pipe_model.specs.Acknowledgements.{acknowledged_by};
 ghost use Rattle.pipe_model.specs.Legal.{allows};
-ghost use Rattle.settle_laws.specs.Settled.{settled_last};
-ghost use Rattle.ack_feed.specs.Entries.{verdicts_of as verdicts_of_numbers, last_entries};
+ghost use Rattle.pipe_types.specs.declared.step.Step.{Step as StepSeen};
+ghost use Rattle.pipe_model.specs.History.{History};
+ghost use Rattle.settle_laws.specs.Settled.{settled_last, verdicts_of as verdicts_of_numbers};
 
 use journal_reading::copy_topology;
 use message_ack::{AckList, Verdict, group};
@@ -123,7 +124,7 @@ fn without_last(alloc: Global, run: &PlainRun, last: u64) -> Result<PlainRun, Al
 
 /// What the last step of the run acknowledged.
 fn entries_of(alloc: Global, run: &PlainRun) -> Result<AckList, AllocError>
-    ensures { IfOk result (λ acks. acks ≡ last_entries run.now.topology run.now.steps) }
+    ensures { IfOk result (λ acks. (before : History) (step : StepSeen) → run.now.steps ≡ step ∷ before → acks ≡ acknowledged_by run.now.topology before step) }
 {
     let verdicts = verdicts_of(alloc, run)?;
     group(alloc, &verdicts)
