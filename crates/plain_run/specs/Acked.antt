@@ -29,16 +29,16 @@ acked_by places marks mark zero = false
 acked_by places marks mark (suc i) = is_number (slice_get marks i) mark && is_acked (slice_get places i)
 
 -- number, producer and outcome of an acknowledged message
-abbrev pub outcome_row : ℕ → Option StageNo → Option Place → Option (MsgNo × (StageNo × Outcome))
-outcome_row n (Some p) (Some (Acked outcome)) = Some (message_no n, (p, outcome))
+abbrev pub outcome_row : ℕ → Option StageNo → Option Place → Option (MsgNo × StageNo × Outcome)
+outcome_row n (Some p) (Some (Acked outcome)) = Some (message_no n, p, outcome)
 outcome_row n _ _ = None
 
-abbrev pub row_of : Topology → History → Option ℕ → Option (MsgNo × (StageNo × Outcome))
+abbrev pub row_of : Topology → History → Option ℕ → Option (MsgNo × StageNo × Outcome)
 row_of topology before None = None
 row_of topology before (Some n) = outcome_row n (producer_of before n) (place topology before n)
 
 -- the reference stands for what it points to
-abbrev pub row_seen : MsgNo × (StageNo × Bor Outcome) → MsgNo × (StageNo × Outcome)
+abbrev pub row_seen : MsgNo × StageNo × Bor Outcome → MsgNo × StageNo × Outcome
 row_seen row = (row.0, row.1, row.2.now)
 
 -- the messages of the batches that wait in a stage that broadcasts

@@ -14,6 +14,6 @@ pub record IsRun (core : Core) (held : Works) (after : After) : Type 0 where
   pub works : WorksStand core.topology core.journal.steps held
 
 -- and what its last step acknowledged
-pub record IsWhole (core : Core) (held : Works) (after : After) (settled : List ℕ) : Type 0 where
+pub record IsWhole (core : Core) (held : Works) (after : After) (acked : List ℕ) : Type 0 where
   pub run : IsRun core held after
-  pub settled : settled ≡ settled_last core.topology core.journal.steps
+  pub settled : acked ≡ settled_last core.topology core.journal.steps

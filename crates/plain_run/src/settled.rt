@@ -183,7 +183,7 @@ fn is_acked_by(places: &[Place], marks: &[u64], no: u32, mark: u64) -> bool
 }
 
 fn is_marked(held: Option<&u64>, mark: u64) -> bool
-    ensures { result ≡ is_number (option_copied held) mark }
+    ensures { result ≡ is_number (option_copied held.entry) mark }
 {
     match held {
         Some(at) => *at == mark,
@@ -192,7 +192,7 @@ fn is_marked(held: Option<&u64>, mark: u64) -> bool
 }
 
 fn is_acked(place: Option<&Place>) -> bool
-    ensures { result ≡ is_acked_as (option_copied place) }
+    ensures { result ≡ is_acked_as (option_copied place.entry) }
 {
     matches!(place, Some(Place::Acked(_)))
 }
@@ -218,7 +218,7 @@ fn outcome_of<'a>(
     producer: Option<&StageNo>,
     place: Option<&'a Place>,
 ) -> Option<(MsgNo, StageNo, &'a Outcome)>
-    ensures { option_map row_seen result ≡ outcome_row no (option_copied producer) (option_copied place) }
+    ensures { option_map row_seen result ≡ outcome_row no (option_copied producer.entry) (option_copied place.entry) }
 {
     match (producer, place) {
         (Some(producer), Some(Place::Acked(outcome))) => Some((MsgNo(no), *producer, outcome)),
