@@ -9,8 +9,8 @@ ghost use Rattle.pipe_model.specs.Flow.{place};
 ghost use Rattle.pipe_model.specs.Legal.{allows, is_legal, happened, is_halt};
 ghost use Rattle.pipe_model.specs.Moves.{is_drained as is_drained_as};
 ghost use Rattle.core_state.specs.Stands.{Stands};
-ghost use Rattle.settle_laws.specs.Settled.{settled_last};
-ghost use Rattle.plain_run.specs.Acked.{row_of, row_seen};
+ghost use Rattle.settle_laws.specs.Settled.{row_of, settled_last};
+ghost use Rattle.plain_run.specs.Acked.{row_seen};
 ghost use Rattle.plain_run.specs.Jobs.{named_at as named_at_as};
 
 use crate::after::After;

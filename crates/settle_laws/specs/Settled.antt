@@ -1,9 +1,14 @@
 -- What a step acknowledges, and the messages that it may acknowledge.
-use Rattle.std.specs.Prelude.{ℕ, Bool, List, [], ◌∷◌, filter, not, ◌&&◌, Option, Some, None, option_to_list}
-use Rattle.std.specs.List.{flat_map}
+use Rattle.std.specs.Prelude.{ℕ, Bool, List, [], ◌∷◌, filter, not, ◌&&◌, Option, Some, None, option_map, option_to_list}
+use Rattle.std.specs.List.{flat_map, filter_map}
 use Rattle.pipe_types.specs.declared.numbers.StageNo.{StageNo}
 use Rattle.pipe_types.specs.declared.topology.Topology.{Topology}
+use Rattle.pipe_types.specs.declared.numbers.MsgNo.{MsgNo}
+use Rattle.pipe_types.specs.declared.message.Outcome.{Outcome}
 use Rattle.pipe_types.specs.declared.message.Place.{Place}
+use Rattle.pipe_types.specs.declared.message.Place.TheVariants.{Acked}
+use Rattle.pipe_types.specs.Numbers.{message_no}
+use Rattle.message_ack.specs.declared.verdicts.Verdict.{Verdict}
 use Rattle.pipe_types.specs.declared.step.Step.{Step}
 use Rattle.pipe_types.specs.declared.step.Step.TheVariants.{Dispatch, Done, Wrote, ChildEnd}
 use Rattle.pipe_model.specs.History.{History, accepted}
@@ -38,3 +43,25 @@ touched topology before _ = []
 -- of these messages the producer's that stand so
 abbrev pub of_producer : Topology → History → List ℕ → StageNo → (side : Option Place → Bool) → List ℕ
 of_producer topology before numbers p side = filter (λ n. is_producer (producer_of before n) p && side (place topology before n)) numbers
+
+-- Rows and verdicts
+
+-- number, producer and outcome of an acknowledged message
+abbrev pub outcome_row : ℕ → Option StageNo → Option Place → Option (MsgNo × StageNo × Outcome)
+outcome_row n (Some p) (Some (Acked outcome)) = Some (message_no n, p, outcome)
+outcome_row n _ _ = None
+
+abbrev pub row_of : Topology → History → Option ℕ → Option (MsgNo × StageNo × Outcome)
+row_of topology before None = None
+row_of topology before (Some n) = outcome_row n (producer_of before n) (place topology before n)
+
+-- the verdict that a row is
+abbrev pub verdict_in : MsgNo × StageNo × Outcome → Verdict
+verdict_in row = record { no = row.0; producer = row.1; outcome = row.2 }
+
+abbrev pub verdict_of : Topology → History → ℕ → Option Verdict
+verdict_of topology before n = option_map verdict_in (row_of topology before (Some n))
+
+-- the verdicts on those of these messages that are acknowledged, in their order
+abbrev pub verdicts_of : Topology → History → List ℕ → List Verdict
+verdicts_of topology before numbers = filter_map (verdict_of topology before) numbers
