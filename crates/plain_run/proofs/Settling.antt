@@ -1,6 +1,6 @@
 -- What the tables say of the messages that the last step acknowledged.
 use Rattle.std.proofs.Common.{◌≡◌, ℕ, zero, suc, ◌<◌, ◌≤◌, List, [], ◌∷◌, ◌++◌, map, length, get_or, Bool, true, false, refl, ap, sym, ◌∙◌, subst, Some, None, Option, inl, inr, arith}
-use Rattle.std.specs.Prelude.{◌⊎◌, ◌&&◌, ◌==◌, not, filter, slice_get, option_to_list, is_some, if◌then◌else◌, Contains}
+use Rattle.std.specs.Prelude.{◌⊎◌, ◌&&◌, ◌==◌, not, cond, filter, nat_lt, option_map, slice_get, option_to_list, is_some, if◌then◌else◌, Contains}
 use Rattle.std.specs.List.{flat_map}
 use Rattle.std.specs.List.Sorted.{IsStrictlyIncreasing}
 use Rattle.std.proofs.lemmas.Bool.{cases_lt, false_from_ne_true}
@@ -10,6 +10,7 @@ use Rattle.pipe_types.specs.declared.step.Step.{Step}
 use Rattle.pipe_types.specs.declared.step.Step.TheVariants.{Dispatch, Done, Wrote, ChildEnd}
 use Rattle.pipe_types.specs.Numbers.{post}
 use Rattle.pipe_types.specs.declared.message.Place.{Place}
+use Rattle.pipe_types.specs.declared.message.Place.TheVariants.{Waiting, Inbox, Running, Gathered, InBatch, Acked, Lost}
 use Rattle.pipe_types.specs.Stages.{spec_of}
 use Rattle.pipe_model.specs.History.{History, accepted, incarnation}
 use Rattle.pipe_model.specs.Posts.{is_out, out_from, in_slot}
@@ -19,6 +20,7 @@ use Rattle.pipe_model.specs.Acknowledgements.{is_acked, numbers_upto}
 use Rattle.pipe_model.specs.Places.{settled_at}
 use Rattle.pipe_model.specs.Legal.{is_legal, allows}
 use Rattle.pipe_laws.proofs.Accepted.{placed_accepted}
+use Rattle.pipe_laws.proofs.Acknowledged.{produced}
 use Rattle.pipe_laws.proofs.Lists.{Each, each_among, each_filter, each_weaker, all_among}
 use Rattle.pipe_laws.proofs.Allowed.{child_end_facts}
 use Rattle.pipe_laws.proofs.Tests.{clash, and_left, and_right}
@@ -36,7 +38,7 @@ use Rattle.core_sends.proofs.Front.{none_lone}
 use Rattle.core_tables.specs.Tables.{list_at, queue_at}
 use Rattle.plain_run.specs.declared.works.Works.{Works}
 use Rattle.plain_run.specs.Works.{WorksStand, numbers_at}
-use Rattle.plain_run.specs.Acked.{acked_by, touched_in}
+use Rattle.plain_run.specs.Acked.{acked_by, touched_in, outcome_row, row_of}
 use Rattle.plain_run.proofs.Working.{numbers_are, started_is}
 
 and_none : (a : Bool) → (a && false) ≡ false
@@ -207,3 +209,63 @@ noted old new works step numbers found mark x w y topology written legal given a
 -- where no step was appended, it is what it was
 pub unnoted : (old new : Core) (found : List ℕ) → new.topology ≡ old.topology → new.journal.steps ≡ old.journal.steps → found ≡ settled_last old.topology old.journal.steps → found ≡ settled_last new.topology new.journal.steps
 unnoted old new found topology steps e = e ∙ (λ i. settled_last (sym topology i) (sym steps i))
+
+-- The rows
+
+slice_filter : (p : ℕ → Bool) (xs : List ℕ) (i n : ℕ) → slice_get (filter p xs) i ≡ Some n → p n ≡ true
+slice_filter p [] i n e = cc
+slice_filter p (x ∷ xs) i n e = by (p x) refl i e (λ k. slice_filter p xs k n)
+  where
+    by : (b : Bool) → p x ≡ b → (j : ℕ) → slice_get (cond b (x ∷ filter p xs) (filter p xs)) j ≡ Some n → ((k : ℕ) → slice_get (filter p xs) k ≡ Some n → p n ≡ true) → p n ≡ true
+    by true g zero h rest = let same : x ≡ n = cc in ap p (sym same) ∙ g
+    by true g (suc j) h rest = rest j h
+    by false g j h rest = rest j h
+
+-- a message of the list has a number from 1, a producer and an outcome
+pub record IsRow (topology : Topology) (before : History) (n : ℕ) : Type 0 where
+  pub least : 1 ≤ n
+  pub row : is_some (row_of topology before (Some n)) ≡ true
+
+pub listed_row : (topology : Topology) (before : History) (numbers : List ℕ) (at n : ℕ) → is_legal topology before ≡ true → numbers ≡ settled_last topology before → slice_get numbers at ≡ Some n → IsRow topology before n
+listed_row topology before numbers at n legal is here = by before legal (ap (λ ns. slice_get ns at) (sym is) ∙ here)
+  where
+    some_row : (q : StageNo) (o : Option Place) → is_acked o ≡ true → is_some (outcome_row n (Some q) o) ≡ true
+    some_row q (Some (Acked outcome)) h = refl
+    some_row q None h = cc
+    some_row q (Some (Lost l)) h = cc
+    some_row q (Some (Waiting t)) h = cc
+    some_row q (Some (Inbox u)) h = cc
+    some_row q (Some (Running t)) h = cc
+    some_row q (Some (Gathered t)) h = cc
+    some_row q (Some (InBatch b)) h = cc
+
+    placed : (o : Option Place) → is_acked o ≡ true → is_some o ≡ true
+    placed None h = cc
+    placed (Some p) h = refl
+
+    by : (J : History) → is_legal topology J ≡ true → slice_get (settled_last topology J) at ≡ Some n → IsRow topology J n
+    by [] h e = cc
+    by (step ∷ J) h e =
+        let acked : is_acked (place topology (step ∷ J) n) ≡ true =
+        and_right (not (is_acked (place topology J n))) (is_acked (place topology (step ∷ J) n)) (slice_filter (is_newly topology J step) (numbers_upto (accepted (step ∷ J))) at n e) in
+        let in_range = placed_accepted topology (step ∷ J) n (placed (place topology (step ∷ J) n) acked) in
+        let made = produced topology (step ∷ J) n h in_range.0 in_range.1 in
+        record {
+          least = in_range.0;
+          row = ap (λ q. is_some (outcome_row n q (place topology (step ∷ J) n))) made.1 ∙ some_row made.0 (place topology (step ∷ J) n) acked;
+        }
+
+-- a place of a list
+pub in_list : (numbers : List ℕ) (at n : ℕ) → slice_get numbers at ≡ Some n → true ≡ nat_lt at (length numbers)
+in_list [] at n e = cc
+in_list (m ∷ numbers) zero n e = refl
+in_list (m ∷ numbers) (suc at) n e = in_list numbers at n e
+
+pub past_list : (numbers : List ℕ) (at : ℕ) → slice_get numbers at ≡ None → false ≡ nat_lt at (length numbers)
+past_list [] at e = refl
+past_list (m ∷ numbers) zero e = cc
+past_list (m ∷ numbers) (suc at) e = past_list numbers at e
+
+pub some_mapped : {A B : Type 0} (f : A → B) (o : Option A) (q : Option B) → option_map f o ≡ q → is_some q ≡ true → is_some o ≡ true
+some_mapped f None q e h = let no : is_some q ≡ false = ap is_some (sym e) in clash (is_some q) h no
+some_mapped f (Some x) q e h = refl

@@ -1,6 +1,6 @@
 //! What the last step acknowledged. It is found among what the step touched, so it costs no more than that.
 
-ghost use Rattle.std.specs.Prelude.{◌≡◌, ◌∷◌, ◌&&◌, ◌↔◌, ℕ, true, false, length, map, nat_lt, is_some, filter, option_map, option_copied, option_to_list, slice_get, unwrap_or, Contains, IfOk, OnErr};
+ghost use Rattle.std.specs.Prelude.{◌≡◌, ◌∷◌, ◌≤◌, ◌&&◌, ◌↔◌, Some, ℕ, true, false, length, map, nat_lt, is_some, filter, option_map, option_copied, option_to_list, slice_get, unwrap_or, Contains, IfOk, OnErr};
 ghost use Rattle.std.specs.List.{flat_map};
 ghost use Rattle.std.specs.List.Sorted.{IsStrictlyIncreasing};
 ghost use Rattle.pipe_types.specs.Stages.{spec_of};
@@ -11,7 +11,7 @@ ghost use Rattle.core_laws.specs.Columns.{is_broadcast};
 ghost use Rattle.core_tables.specs.Tables.{list_at, queue_at};
 ghost use Rattle.core_state.specs.Stands.{Holds};
 ghost use Rattle.settle_laws.specs.Settled.{settled_last};
-ghost use Rattle.plain_run.specs.Acked.{acked_by, row_of, outcome_row, row_seen, touched_in, waiting_in};
+ghost use Rattle.plain_run.specs.Acked.{acked_by, outcome_row, row_of, row_seen, touched_in, waiting_in};
 ghost use Rattle.plain_run.specs.Runs.{IsRun};
 ghost use Rattle.plain_run.specs.Works.{numbers_at as numbers_at_as};
 
@@ -208,9 +208,20 @@ pub(crate) fn settled_row<'a>(
     ensures row { option_map row_seen result ≡ row_of core.now.topology core.now.journal.steps (slice_get settled.now at) }
     ensures past { is_some result ≡ nat_lt at (length settled.now) }
 {
-    let no = *settled.get(at)?;
-    let place = no as usize - 1;
-    outcome_of(no, core.producers.get(place), core.places.get(place))
+    match settled.get(at) {
+        Some(no) => row_at(core, *no),
+        None => None,
+    }
+}
+
+/// The message with its producer and its outcome, where it is acknowledged.
+fn row_at(core: &Core, no: u32) -> Option<(MsgNo, StageNo, &Outcome)>
+    requires holds { Holds core.now }
+    requires least { 1 ≤ no }
+    ensures { option_map row_seen result ≡ row_of core.now.topology core.now.journal.steps (Some no) }
+{
+    let at = no as usize - 1;
+    outcome_of(no, core.producers.get(at), core.places.get(at))
 }
 
 fn outcome_of<'a>(
