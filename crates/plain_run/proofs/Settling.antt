@@ -3,7 +3,7 @@ use Rattle.std.proofs.Common.{◌≡◌, ℕ, zero, suc, ◌<◌, ◌≤◌, Lis
 use Rattle.std.specs.Prelude.{◌⊎◌, ◌&&◌, ◌==◌, not, cond, filter, nat_lt, option_map, slice_get, option_to_list, is_some, if◌then◌else◌, Contains}
 use Rattle.std.specs.List.{flat_map}
 use Rattle.std.specs.List.Sorted.{IsStrictlyIncreasing}
-use Rattle.std.proofs.lemmas.Bool.{cases_lt, false_from_ne_true}
+use Rattle.std.proofs.lemmas.Bool.{cases_lt, false_from_ne_true, lt-ltb, ltb-true}
 use Rattle.pipe_types.specs.declared.numbers.StageNo.{StageNo}
 use Rattle.pipe_types.specs.declared.topology.Topology.{Topology}
 use Rattle.pipe_types.specs.declared.step.Step.{Step}
@@ -256,15 +256,21 @@ listed_row topology before numbers at n legal is here = by before legal (ap (λ 
         }
 
 -- a place of a list
+within_list : (numbers : List ℕ) (at n : ℕ) → slice_get numbers at ≡ Some n → at < length numbers
+within_list [] at n e = cc
+within_list (m ∷ numbers) zero n e = omega arith
+within_list (m ∷ numbers) (suc at) n e = let rest : at < length numbers = within_list numbers at n e in omega (arith, rest)
+
+beyond_list : (numbers : List ℕ) (at : ℕ) → slice_get numbers at ≡ None → length numbers ≤ at
+beyond_list [] at e = omega arith
+beyond_list (m ∷ numbers) zero e = cc
+beyond_list (m ∷ numbers) (suc at) e = let rest : length numbers ≤ at = beyond_list numbers at e in omega (arith, rest)
+
 pub in_list : (numbers : List ℕ) (at n : ℕ) → slice_get numbers at ≡ Some n → true ≡ nat_lt at (length numbers)
-in_list [] at n e = cc
-in_list (m ∷ numbers) zero n e = refl
-in_list (m ∷ numbers) (suc at) n e = in_list numbers at n e
+in_list numbers at n e = sym (lt-ltb at (length numbers) (within_list numbers at n e))
 
 pub past_list : (numbers : List ℕ) (at : ℕ) → slice_get numbers at ≡ None → false ≡ nat_lt at (length numbers)
-past_list [] at e = refl
-past_list (m ∷ numbers) zero e = cc
-past_list (m ∷ numbers) (suc at) e = past_list numbers at e
+past_list numbers at e = sym (false_from_ne_true (nat_lt at (length numbers)) (λ h. let low : at < length numbers = ltb-true at (length numbers) h in let high = beyond_list numbers at e in omega (arith, low, high)))
 
 pub some_mapped : {A B : Type 0} (f : A → B) (o : Option A) (q : Option B) → option_map f o ≡ q → is_some q ≡ true → is_some o ≡ true
 some_mapped f None q e h = let no : is_some q ≡ false = ap is_some (sym e) in clash (is_some q) h no

@@ -17,6 +17,7 @@ ghost use Rattle.plain_run.specs.Works.{numbers_at as numbers_at_as};
 
 use crate::after::After;
 use crate::given::numbers_at;
+use crate::jobs::{number_at, producer_at};
 use crate::judges::judge;
 use crate::works::{Works, started_in, taken_in};
 use core_state::Core;
@@ -208,8 +209,8 @@ pub(crate) fn settled_row<'a>(
     ensures row { option_map row_seen result ≡ row_of core.now.topology core.now.journal.steps (slice_get settled.now at) }
     ensures past { is_some result ≡ nat_lt at (length settled.now) }
 {
-    match settled.get(at) {
-        Some(no) => row_at(core, *no),
+    match number_at(settled, at) {
+        Some(no) => row_at(core, no),
         None => None,
     }
 }
@@ -221,18 +222,25 @@ fn row_at(core: &Core, no: u32) -> Option<(MsgNo, StageNo, &Outcome)>
     ensures { option_map row_seen result ≡ row_of core.now.topology core.now.journal.steps (Some no) }
 {
     let at = no as usize - 1;
-    outcome_of(no, core.producers.get(at), core.places.get(at))
+    outcome_of(no, producer_at(&core.producers, at), place_at(&core.places, at))
+}
+
+/// The place of the message that was accepted after so many others.
+fn place_at(places: &[Place], others: usize) -> Option<&Place>
+    ensures { option_copied result ≡ slice_get places.now others }
+{
+    places.get(others)
 }
 
 fn outcome_of<'a>(
     no: u32,
-    producer: Option<&StageNo>,
+    producer: Option<StageNo>,
     place: Option<&'a Place>,
 ) -> Option<(MsgNo, StageNo, &'a Outcome)>
-    ensures { option_map row_seen result ≡ outcome_row no (option_copied producer.entry) (option_copied place.entry) }
+    ensures { option_map row_seen result ≡ outcome_row no producer (option_copied place.entry) }
 {
     match (producer, place) {
-        (Some(producer), Some(Place::Acked(outcome))) => Some((MsgNo(no), *producer, outcome)),
+        (Some(producer), Some(Place::Acked(outcome))) => Some((MsgNo(no), producer, outcome)),
         _ => None,
     }
 }
