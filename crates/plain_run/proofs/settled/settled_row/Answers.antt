@@ -1,12 +1,7 @@
 use Rattle.std.proofs.Common.{◌≡◌, ap, sym, ◌∙◌, Some, None}
-<<<<<<< HEAD
-use Rattle.std.specs.Prelude.{slice_get, option_copied}
+use Rattle.std.specs.Prelude.{slice_get}
 use Rattle.settle_laws.specs.Settled.{row_of}
 use Rattle.plain_run.specs.Acked.{row_seen}
-=======
-use Rattle.std.specs.Prelude.{slice_get}
-use Rattle.plain_run.specs.Acked.{row_of, row_seen}
->>>>>>> 9f5e1c9365b837d7dcf86eec67110754f5a1e875
 use Rattle.plain_run.proofs.Settling.{listed_row, in_list, past_list, some_mapped}
 use Rattle.plain_run.proofs.settled.settled_row.Goals as goal
 
