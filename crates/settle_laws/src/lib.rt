@@ -33,7 +33,6 @@ pub fn entries_are_of_the_last_step()
 {}
 
 /// What the verdicts on the messages that the last step acknowledged are grouped to, by producer, are the step's acknowledgements.
-#[tactic(auto, using(crate::proofs::Grouped::grouped))]
 pub fn grouped_verdicts_are_acknowledgements()
     ensures { (topology : Topology) (before : History) (step : Step) (acks : List Acknowledgement) → IsSound topology → IsTrue (is_legal topology (step ∷ before)) →
         AreAcknowledgements (verdicts_of topology (step ∷ before) (settled_last topology (step ∷ before))) acks → acks ≡ acknowledged_by topology before step }
