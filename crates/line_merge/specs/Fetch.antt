@@ -1,0 +1,40 @@
+-- What a fetch of a merge says.
+use Rattle.std.specs.Prelude.{◌≡◌, ℕ, List, [], ◌++◌, length, map, Option, Some, None}
+use Rattle.pipe_edges.specs.declared.source.ByteSource.{Ghosts as SourceOf}
+use Rattle.pipe_edges.specs.declared.lines.LineSource.{LineSource}
+use Rattle.pipe_edges.specs.declared.reading.Fetched.{Fetched}
+use Rattle.pipe_edges.specs.declared.reading.Fetched.TheVariants as fetched
+use Rattle.line_merge.specs.Streams.{Both, There}
+use Rattle.line_merge.specs.Tries.{HasNone, HasEnded, HasFailed, HasTooLong, IsOpen}
+use Rattle.line_merge.specs.Merged.{IsMergedFrom}
+use Rattle.line_merge.specs.declared.merge.LineMerge.{LineMerge}
+use Rattle.line_merge.specs.declared.item.MergeEnd.{MergeEnd}
+use Rattle.line_merge.specs.declared.item.MergeEnd.TheVariants.{End, Fault, TooLong}
+
+-- these records, each with its place, follow what was given before
+abbrev pub MergesOn : {B : Type 0} → SourceOf B → (records : List (List ℕ)) → (old new : LineMerge B) → Type 0
+MergesOn {B} source records old new =
+    (opened : List B) (given : List (ℕ × List ℕ)) → IsMergedFrom source opened old given
+    → (more : List (ℕ × List ℕ)) × (map (λ d. d.1) more ≡ records) × IsMergedFrom source opened new (given ++ more)
+
+-- the answer that names an end
+abbrev pub answer_to : MergeEnd → Fetched
+answer_to End = fetched.End
+answer_to (Fault place) = fetched.Fault
+answer_to (TooLong place) = fetched.TooLong
+
+-- the first answer of its kind: exactly one line; or nothing, where some source is open and the waits of each open one rose; or
+-- each has ended; or some source failed now; or some source has a line that is too long
+abbrev pub FetchHasCause : {B : Type 0} → SourceOf B → (old new : ℕ → Option (LineSource B)) → Fetched → Type 0
+FetchHasCause source old new (fetched.Records records) = length records ≡ 1
+FetchHasCause source old new fetched.NotYet = ((k : ℕ) → Both (HasNone source) (old k) (new k)) × ((k : ℕ) × There IsOpen (old k) (new k))
+FetchHasCause source old new fetched.End = (k : ℕ) → Both HasEnded (old k) (new k)
+FetchHasCause source old new fetched.Fault = (k : ℕ) × There (HasFailed source) (old k) (new k)
+FetchHasCause source old new fetched.TooLong = (k : ℕ) × There HasTooLong (old k) (new k)
+
+-- an end is known for good
+abbrev pub Remembers : Option MergeEnd → Fetched → Type 0
+Remembers now fetched.End = now ≡ Some End
+Remembers now fetched.Fault = (k : ℕ) × (now ≡ Some (Fault k))
+Remembers now fetched.TooLong = (k : ℕ) × (now ≡ Some (TooLong k))
+Remembers now _ = now ≡ None

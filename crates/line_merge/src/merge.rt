@@ -1,0 +1,139 @@
+//! The merge.
+
+ghost use Rattle.std.specs.Prelude.{◌≡◌, ◌≤◌, ◌<◌, ◌++◌, [], ℕ, List, None, Some, IsNone, IfOk, IfErr, IfSome, Ok, length, slice_get, vec_capacity};
+ghost use Rattle.line_merge.specs.Items.{item_of, end_by, given_by};
+ghost use Rattle.line_merge.specs.Fetch.{answer_to, Remembers};
+ghost use Rattle.pipe_edges.specs.Fetch.{records_in};
+
+use crate::item::{MergeEnd, MergeItem};
+use crate::list::SourceList;
+use crate::streams::{close_all, next_round, open_all};
+use pipe_edges::{ByteSource, Fetched, LineSource};
+use pipe_types::bytes::BytesList;
+use std::alloc::{AllocError, Global};
+
+/// The most sources of a merge.
+pub const MAX_STREAMS: usize = 64;
+
+/// Hands out the lines of 2 to 64 sources.
+#[derive(Drop)]
+pub struct LineMerge<B> {
+    alloc: Global,
+    streams: Vec<LineSource<B>>,
+    order: Vec<u16>,
+    end: Option<MergeEnd>,
+    room: Vec<B>,
+    ghost few: { length streams.items ≤ 64 },
+    ghost placed: { next_place order.items ≤ length streams.items },
+    ghost empty: { room.items ≡ [] },
+    ghost roomy: { length streams.items ≤ vec_capacity room },
+}
+
+impl<B: ByteSource + Drop> LineMerge<B> {
+    ghost use Rattle.line_merge.specs.Streams.{stream_at, places_of, merge_end_of, next_place};
+    ghost use Rattle.line_merge.specs.Tries.{RoundHasCause};
+    ghost use Rattle.line_merge.specs.Merged.{IsMergedFrom, HasNoPace, sources_of};
+    ghost use Rattle.line_merge.specs.Fetch.{MergesOn, FetchHasCause};
+
+    /// Over these sources. For want of memory they come back as they were.
+    pub fn new(
+        alloc: Global,
+        sources: SourceList<B>,
+    ) -> Result<LineMerge<B>, (SourceList<B>, AllocError)>
+        requires some { 2 ≤ length sources }
+        requires few { length sources ≤ 64 }
+        ensures merged { IfOk result (λ m. IsMergedFrom B.ByteSource sources m []) }
+        ensures sources { IfOk result (λ m. sources_of m ≡ sources) }
+        ensures open { IfOk result (λ m. merge_end_of m ≡ None) }
+        ensures err { IfErr result (λ e. e.0 ≡ sources) }
+    {
+        match open_all(alloc, sources.into_vec()) {
+            Ok((streams, room)) => Ok(LineMerge {
+                alloc,
+                streams,
+                order: Vec::new(alloc),
+                end: None,
+                room,
+            }),
+            Err((sources, e)) => Err((SourceList::from_vec(sources), e)),
+        }
+    }
+
+    /// The sources in order, with all that they counted. Bytes that were read and not handed out are let go.
+    pub fn into_sources(self) -> SourceList<B>
+        ensures { result ≡ sources_of self }
+    {
+        let LineMerge {
+            alloc,
+            streams,
+            order,
+            end,
+            room,
+        } = self;
+        let _ = (alloc, end);
+        drop(order);
+        SourceList::from_vec(close_all(streams, room))
+    }
+
+    /// The places of the lines that were given, in order.
+    pub fn order(&self) -> &[u16]
+        ensures { result.now ≡ places_of self.now }
+    {
+        self.order.as_slice()
+    }
+
+    /// Tries the open sources once each, from the place after the last line's round to that place: the first that has a line
+    /// gives it. One that has ended is closed, and passed over. A source that fails, or has a line that is too long, ends the
+    /// merge, and so does the end of all; each is answered again by every later call. For want of memory no line is gone.
+    pub fn poll(&mut self) -> Result<MergeItem, AllocError>
+        // The lines of each source are the first of its lines, in order, each whole and once.
+        ensures merged { (opened : List B) (given : List (ℕ × List ℕ)) → IsMergedFrom B.ByteSource opened self.old given
+            → IsMergedFrom B.ByteSource opened self.new (given ++ given_by result) }
+        ensures cause { IfOk result (λ item. IsNone (merge_end_of self.old)
+            → RoundHasCause B.ByteSource (next_place (places_of self.old)) (stream_at self.old) (stream_at self.new) item) }
+        ensures remembers { IfOk result (λ item. merge_end_of self.new ≡ end_by item) }
+        ensures again { IfSome (merge_end_of self.old) (λ e. (result ≡ Ok (item_of e)) × (self.new ≡ self.old)) }
+        // Where the sources have no pace, none comes to them.
+        ensures unpaced { HasNoPace B.ByteSource self.old → HasNoPace B.ByteSource self.new }
+    {
+        if let Some(end) = self.end {
+            return Ok(end.item());
+        }
+        self.order.reserve(1)?;
+        let first = match self.order.last() {
+            Some(place) => usize::from(*place) + 1,
+            None => 0,
+        };
+        let item = next_round(&mut self.streams, first)?;
+        self.end = item.end();
+        if let MergeItem::Line(place, _) = &item {
+            self.order.push_reserved(*place);
+        }
+        Ok(item)
+    }
+
+    /// Polls once, and hands out a line as the one record. An end is answered again by every later call. For want of memory no
+    /// line is gone.
+    pub fn fetch(&mut self, max: u32) -> Result<Fetched, AllocError>
+        requires { 0 < max }
+        ensures merged { MergesOn B.ByteSource (records_in result) self.old self.new }
+        ensures cause { IfOk result (λ answer. IsNone (merge_end_of self.old)
+            → FetchHasCause B.ByteSource (stream_at self.old) (stream_at self.new) answer) }
+        ensures remembers { IfOk result (λ answer. Remembers (merge_end_of self.new) answer) }
+        ensures again { IfSome (merge_end_of self.old) (λ e. IfOk result (λ answer. answer ≡ answer_to e) × (self.new ≡ self.old)) }
+        ensures unpaced { HasNoPace B.ByteSource self.old → HasNoPace B.ByteSource self.new }
+    {
+        let _ = max;
+        let mut records = Vec::with_capacity(self.alloc, 1)?;
+        Ok(match self.poll()? {
+            MergeItem::Line(_, line) => {
+                records.push_reserved(line);
+                Fetched::Records(BytesList::from_vec(records))
+            }
+            MergeItem::NotYet => Fetched::NotYet,
+            MergeItem::End => Fetched::End,
+            MergeItem::Fault(_) => Fetched::Fault,
+            MergeItem::TooLong(_) => Fetched::TooLong,
+        })
+    }
+}
