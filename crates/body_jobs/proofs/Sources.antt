@@ -1,5 +1,5 @@
 -- A fetch as it is seen.
-use Rattle.std.proofs.Common.{◌≡◌, ◌≤◌, Bool, ℕ, List, [], ◌∷◌, length, refl, ap, ◌∙◌, arith, inl}
+use Rattle.std.proofs.Common.{◌≡◌, ◌≤◌, Bool, ℕ, List, [], ◌∷◌, length, refl, ap, ◌∙◌, arith}
 use Rattle.std.specs.Prelude.{Option, Some, None, Result, Ok, Err, IfSome, IsNone, All}
 use Rattle.std.proofs.lemmas.List.{append-nil}
 use Rattle.std.proofs.lemmas.List.Elements.{All-nil, All-cons, All-head, All-tail}
@@ -164,7 +164,7 @@ fetched_on {E = E} source old new max x came is f needed = rw is (record {
     counts Fault k = k
     counts TooLong k = tt
 
-    held_up : (pace : Pace) (x : Fetched) → IsHeldUpBy pace (source.waits (line_source old)) (source.waits (line_source new)) (source.paced (line_source old)) (source.paced (line_source new)) x
+    held_up : (pace : Pace) (x : Fetched) → IsHeldUpBy pace (source.paced (line_source old)) (source.paced (line_source new)) x
         → FetchIsHeldUp pace (line_seen source old) (line_seen source new) (came_of x)
     held_up pace (Records rs) k = tt
     held_up pace NotYet k = k
@@ -172,7 +172,7 @@ fetched_on {E = E} source old new max x came is f needed = rw is (record {
     held_up pace Fault k = tt
     held_up pace TooLong k = tt
 
-    paced : (p : Option Pace) → FetchIsPacedBy {E = E} p (source.waits (line_source old)) (source.waits (line_source new)) (source.paced (line_source old)) (source.paced (line_source new)) (waiting old) (waiting new) (Ok x)
+    paced : (p : Option Pace) → FetchIsPacedBy {E = E} p (source.paced (line_source old)) (source.paced (line_source new)) (waiting old) (waiting new) (Ok x)
         → FetchIsPaced p (came_of x) (line_seen source old) (line_seen source new)
     paced None k = k
     paced (Some pace) k = record { kept = k.kept; counted = λ step. counts x (k.counted step); held_up = held_up pace x k.held_up }
@@ -203,7 +203,7 @@ unread {E = E} source old new max e f = record {
   paced = paced (source.paced (line_source old)).pace f.paced;
 }
   where
-    paced : (p : Option Pace) → FetchIsPacedBy {E = E} p (source.waits (line_source old)) (source.waits (line_source new)) (source.paced (line_source old)) (source.paced (line_source new)) (waiting old) (waiting new) (Err e)
+    paced : (p : Option Pace) → FetchIsPacedBy {E = E} p (source.paced (line_source old)) (source.paced (line_source new)) (waiting old) (waiting new) (Err e)
         → CutKeepsPace p (line_seen source old) (line_seen source new)
     paced None k = k
     paced (Some pace) k = k.kept
@@ -215,7 +215,7 @@ untouched (Some now) = record { reads = not_read now; end_stays = known now.end;
   where
     paced : (p : Option Pace) → CutKeepsPace p now now
     paced None = refl
-    paced (Some pace) = record { same_pace = refl; same_moment = refl; within = λ low. low; stops_stay = omega arith; own_waits_stay = inl (omega arith) }
+    paced (Some pace) = record { same_pace = refl; same_moment = refl; within = λ low. low; own_stays = omega arith }
 
     known : (end : Option LineEnd) → IfSome end (λ e. end ≡ Some e)
     known None = tt

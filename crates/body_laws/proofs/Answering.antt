@@ -81,7 +81,7 @@ source_reads before s records a b c k on stays cut = record {
   read = subst (λ r. AreReadFrom a.source c (r ++ records)) (append-nil (fed before s)) (on a.source (fed before s ++ []) k.read);
   known = end_known (source_end before s) b.end c.end stays k.known;
   quiet = rise_stays (quiets before s) a.source.waits b.source.waits c.source.waits k.quiet (waits_stay a.source (fed before s ++ []) records b c k.read on);
-  paced = loses a.source.paced.pace before s a.source b c refl (waits_stay a.source (fed before s ++ []) records b c k.read on) cut k.paced;
+  paced = loses a.source.paced.pace before s a.source b c refl cut k.paced;
 }
 
 -- a later journal has them
@@ -93,7 +93,7 @@ source_accepts before after s most records a b c same_fed same_end same_quiets g
       read = rw same_fed (subst (λ r. AreReadFrom a.source c r) (sym (append-nil (fed before s ++ records))) on.read);
       known = rw same_end on.known;
       quiet = rw same_quiets on.quiet;
-      paced = accepts a.source.paced.pace before after s most records a.source b c refl (waits_stay a.source (fed before s ++ []) records b c k.read fetched.reads) goes told fetched k.paced;
+      paced = accepts a.source.paced.pace before after s most records a.source b c refl goes told fetched k.paced;
     }
 
 -- it has one more quiet
@@ -105,7 +105,7 @@ source_rests before after s most a b c same_fed same_end same_quiets goes told k
       read = rw same_fed on.read;
       known = rw same_end on.known;
       quiet = rw same_quiets (rise_one (quiets before s) a.source.waits b.source.waits c.source.waits k.quiet fetched.answer.0 (waits_stay a.source (fed before s ++ []) [] b c k.read fetched.reads));
-      paced = rests a.source.paced.pace before after s most a.source b c refl (waits_stay a.source (fed before s ++ []) [] b c k.read fetched.reads) goes told fetched k.paced;
+      paced = rests a.source.paced.pace before after s most a.source b c refl goes told fetched k.paced;
     }
 
 -- it has the end
@@ -117,7 +117,7 @@ source_ends before after s most h a b c same_fed same_end same_quiets goes told 
       read = rw same_fed on.read;
       known = rw same_end (by_how h fetched.answer);
       quiet = rw same_quiets on.quiet;
-      paced = ends a.source.paced.pace before after s most h a.source b c refl (waits_stay a.source (fed before s ++ []) [] b c k.read fetched.reads) goes told fetched k.paced;
+      paced = ends a.source.paced.pace before after s most h a.source b c refl goes told fetched k.paced;
     }
   where
     by_how : (h : SourceHow) → IsFetched most b.source.waits c.source.waits c.waiting c.end (came.Ended h) → IsKnownEnd (Some h) c.end

@@ -17,24 +17,13 @@ use Rattle.pipe_model.specs.Work.{count, batch_of}
 use Rattle.pipe_laws.proofs.Tests.{same_stage-self}
 use Rattle.stage_callback.specs.Callbacks.{is_passed}
 use Rattle.stage_job.specs.Chunks.{RoseBy}
+pub use Rattle.pace_laws.proofs.Rises.{rise_none, rise_one, rise_stays}
 use Rattle.body_laws.specs.Counts.{one_more}
-
-pub rise_none : (a : ℕ) → RoseBy 0 a a
-rise_none a = inl (omega arith)
-
-pub rise_stays : (n a b c : ℕ) → RoseBy n a b → b ≤ c → RoseBy n a c
-rise_stays n a b c (inl low) le = inl (omega (arith, low, le))
-rise_stays n a b c (inr full) le = inr (omega (arith, full, le))
 
 pub rise_more : (m n a b c : ℕ) → RoseBy m a b → RoseBy n b c → b ≤ c → RoseBy (m + n) a c
 rise_more m n a b c (inl low) (inl more) le = inl (omega (arith, low, more))
 rise_more m n a b c (inl low) (inr full) le = inr full
 rise_more m n a b c (inr full) r le = inr (omega (arith, full, le))
-
-pub rise_one : (m a b c : ℕ) → RoseBy m a b → Rose b c → b ≤ c → RoseBy (m + 1) a c
-rise_one m a b c (inl low) (inl more) le = inl (omega (arith, low, more))
-rise_one m a b c (inl low) (inr full) le = inr (omega (arith, full))
-rise_one m a b c (inr full) r le = inr (omega (arith, full, le))
 
 pub rise_if : (t : Bool) (m a b c : ℕ) → RoseBy m a b → (t ≡ true → Rose b c) → b ≤ c → RoseBy (one_more t m) a c
 rise_if true m a b c r rose le = rise_one m a b c r (rose refl) le

@@ -112,8 +112,7 @@ restart_stays : (step : Step) (s : StageNo) → tells_of step s ≡ false → re
 restart_stays (Restart t) s e = e
 restart_stays _ s e = refl
 
--- what the journal says of the post stays as it was
--- nor of what comes at its pace
+-- a step that says nothing of a stage brings nothing of it
 untold_brings : (step : Step) (s : StageNo) → tells_of step s ≡ false → brings step s ≡ false
 untold_brings (Accept t records) s e = e
 untold_brings (Quiet t) s e = e
@@ -121,6 +120,7 @@ untold_brings (Late t slot i (late.Records records)) s e = e
 untold_brings (Late t slot i late.Quiet) s e = e
 untold_brings _ s e = refl
 
+-- what the journal says of the post stays as it was
 pub record Stays (topology : Topology) (before : History) (step : Step) (p : Post) : Type 0 where
   pub fed : fed (step ∷ before) p.stage ≡ fed before p.stage
   pub end : source_end (step ∷ before) p.stage ≡ source_end before p.stage

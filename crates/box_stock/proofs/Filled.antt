@@ -19,13 +19,12 @@ use Rattle.stage_bodies.specs.Jobs.{Both}
 use Rattle.stage_bodies.specs.Posts.{place_at}
 use Rattle.stage_laws.proofs.Numbering.{numbered_topology}
 use Rattle.body_laws.specs.Keeps.{has_slot, has_post, has_post_in}
-use Rattle.pipe_edges.specs.Paces.{PaceSeen}
+use Rattle.pipe_edges.specs.Paces.{Pace, PaceSeen}
 use Rattle.edge_names.specs.Gates.{ArePaces}
 use Rattle.pace_laws.specs.Pacing.{IsNewGate, IsPace, at_start}
 use Rattle.body_laws.specs.Ready.{There, IsArmed, IsBodyFor, IsBodyAt, IsUnused, IsFilled}
 use Rattle.body_laws.proofs.Posts.{few_slots}
 use Rattle.edge_names.specs.Seen.{EdgesSeen}
-use Rattle.pipe_edges.specs.Paces.{Pace}
 use Rattle.edge_names.specs.Supplies.{Feeds, Feed, Supplied, Fed, Written, FeedsProducers, by_name, fed, feed_by, supplied_by, written}
 use Rattle.edge_names.specs.Opened.{AreHome, AreOpened, HasFeed, HasSink, IsOpened, supplied_at, supplied_in}
 use Rattle.box_stock.specs.Lends.{AreHandedOut, IsBodyBefore, bare_body, body_with}

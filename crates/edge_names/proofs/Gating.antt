@@ -1,5 +1,5 @@
 -- Laws of gates that are put before sources and taken off again.
-use Rattle.std.proofs.Common.{◌≡◌, ℕ, ◌+◌, ◌*◌, ◌/◌, ◌-◌, ◌<◌, ◌≤◌, Bool, true, false, cond, nat_le, ◌==◌, ◌&&◌, get_or, take, length, List, [], ◌∷◌, ◌++◌, refl, ap, sym, ◌∙◌, subst, arith}
+use Rattle.std.proofs.Common.{◌≡◌, ℕ, ◌+◌, ◌*◌, ◌/◌, ◌-◌, ◌<◌, ◌≤◌, Bool, true, false, cond, nat_le, ◌==◌, ◌&&◌, get_or, take, length, List, [], ◌∷◌, ◌++◌, refl, ap, sym, ◌∙◌, subst, inl, inr, arith}
 use Rattle.std.specs.Prelude.{Option, Some, None, IsTrue, IsSome, IfSome, option_map}
 use Rattle.std.proofs.lemmas.Bool.{leb-true}
 use Rattle.std.proofs.lemmas.List.{append_assoc}
@@ -10,7 +10,7 @@ use Rattle.pipe_types.specs.declared.topology.Rate.{Rate}
 use Rattle.pipe_types.specs.declared.topology.StageSpec.{StageSpec}
 use Rattle.pipe_types.specs.declared.topology.Topology.{Topology}
 use Rattle.pipe_laws.proofs.Tests.{and_left, and_right}
-use Rattle.pipe_edges.specs.Paces.{Pace, unpaced, own_waits}
+use Rattle.pipe_edges.specs.Paces.{Pace, unpaced}
 use Rattle.pipe_edges.specs.declared.source.ByteSource.{Ghosts as SourceOf}
 use Rattle.pipe_edges.specs.declared.reading.LineEnd.{LineEnd}
 use Rattle.rate_gate.specs.Fresh.{front_of}
@@ -29,7 +29,7 @@ use Rattle.edge_names.specs.Opened.{GivesFed, GivesFeed}
 -- ---- taken off
 
 inner_same : (source : SourceSeen) → IsInner source source
-inner_same source = record { same_telling = refl; same_bytes = λ t. refl; same_faults = refl; own_waits = omega arith; same = λ none. refl }
+inner_same source = record { same_telling = refl; same_bytes = λ t. refl; same_faults = refl; gate = inl refl }
 
 pub inner_all : (xs : List (List ℕ × SourceSeen)) → AreInner xs xs
 inner_all [] = tt
@@ -49,32 +49,27 @@ gated_seen source g = record {
   left = left_by g.front (source.left g.inner);
   faults = source.faults g.inner;
   waits = waits_by g.front (source.waits g.inner);
-  paced = paced_by g.front (source.paced g.inner);
+  paced = paced_by g.front (source.waits g.inner) (source.paced g.inner);
 }
 
 pub taken_off : {S : Type 0} (source : SourceOf S) (g : GatedSeen S) (inner : S) → inner ≡ g.inner → HoldsLastBy g.front (source.told g.inner) (source.taken g.inner) → IsInner (gated_seen source g) (source_seen source inner)
 taken_off source g inner is holds = rw is (by g.front holds)
   where
     by : (front : Option FrontSeen) → HoldsLastBy front (source.told g.inner) (source.taken g.inner) → IsInner (gated_seen source (record { inner = g.inner; front = front })) (source_seen source g.inner)
-    by None h = record { same_telling = refl; same_bytes = λ t. refl; same_faults = refl; own_waits = omega arith; same = λ none. refl }
+    by None h = record { same_telling = refl; same_bytes = λ t. refl; same_faults = refl; gate = inl refl }
     by (Some f) h = record {
       same_telling = refl;
-      same_bytes = λ t. ap (λ x. x ++ source.left g.inner) (h.1 t) ∙ append_assoc _ f.held (source.left g.inner);
+      same_bytes = λ t. ap (λ x. x ++ source.left g.inner) (h t) ∙ append_assoc _ f.held (source.left g.inner);
       same_faults = refl;
-      own_waits = omega arith;
-      same = λ none. absurd (no_pace f.paced.pace h.0 none);
+      gate = inr (refl, refl);
     }
-
-    no_pace : (pace : Option Pace) → IsSome pace → pace ≡ None → ⊥
-    no_pace (Some pace) some none = cc
-    no_pace None some none = cc
 
 -- ---- put before
 
 pub gated_is : {S : Type 0} (source : SourceOf S) (gate : Option Gate) (s : S) (g : GatedSeen S) (waiting : List ℕ) (end : Option LineEnd) → IfSome gate (λ x. (moment_of x ≡ 0) × (given_of x ≡ 0)) → g.inner ≡ s → g.front ≡ option_map front_of gate
     → waiting ≡ [] → end ≡ None → IsGated (option_map pace_of gate) (source_seen source s) (record { source = gated_seen source g; waiting = waiting; end = end })
 gated_is source None s g waiting end begun inner front none_waits no_end =
-    rw (front, inner) (record { told = refl; taken = λ h. h; left = refl; faults = refl; waits = λ h. h; paced = λ h. h; nothing_waits = none_waits; no_end = no_end })
+    rw (front, inner) (record { told = refl; taken = λ h. h; left = refl; faults = refl; waits = λ h. h; paced = λ none h. h; nothing_waits = none_waits; no_end = no_end })
 gated_is source (Some gate) s g waiting end begun inner front none_waits no_end =
     rw (front, inner) (record {
       told = refl;
@@ -82,7 +77,7 @@ gated_is source (Some gate) s g waiting end begun inner front none_waits no_end 
       left = refl;
       faults = refl;
       waits = λ h. omega (arith, h);
-      paced = λ h. rw (begun.0, begun.1) refl;
+      paced = λ none h. rw (begun.0, begun.1, none) refl;
       nothing_waits = none_waits;
       no_end = no_end;
     })
@@ -91,6 +86,11 @@ gated_is source (Some gate) s g waiting end begun inner front none_waits no_end 
 plain : (edges : EdgesSeen) (feed : Feed) (source : SourceSeen) → GivesFeed edges feed source → source.paced ≡ unpaced
 plain edges (Opened name) source h = h.no_pace
 plain edges (Made bytes) source h = h.no_pace
+
+-- nor a wait
+unwaited : (edges : EdgesSeen) (feed : Feed) (source : SourceSeen) → GivesFeed edges feed source → source.waits ≡ 0
+unwaited edges (Opened name) source h = h.no_wait
+unwaited edges (Made bytes) source h = h.no_wait
 
 in_its_gate : (edges : EdgesSeen) (pace : Option Pace) (feed : Feed) (source : SourceSeen) (lines : LineSeen) → IsGated pace source lines → GivesFeed edges feed source → GivesFeed edges feed (without_gate lines.source)
 in_its_gate edges pace (Opened name) source lines g h = record {
@@ -112,7 +112,7 @@ in_its_gate edges pace (Made bytes) source lines g h = record {
 pub fed_gated : (edges : EdgesSeen) (pace : Option Pace) (feed : Feed) (source : SourceSeen) (lines : LineSeen) → IsGated pace source lines → GivesFeed edges feed source → GivesFed edges pace feed lines
 fed_gated edges pace feed source lines g h = record {
   source = in_its_gate edges pace feed source lines g h;
-  gate = g.paced (plain edges feed source h);
+  gate = g.paced (unwaited edges feed source h) (plain edges feed source h);
   nothing_waits = g.nothing_waits;
   no_end = g.no_end;
 }

@@ -1,6 +1,6 @@
 -- What becomes of the sources that a supply gives and takes back.
-use Rattle.std.proofs.Common.{◌≡◌, ℕ, ◌==◌, Bool, true, false, List, [], ◌∷◌, ◌++◌, refl, ap, sym, ◌∙◌, subst, arith}
-use Rattle.std.specs.Prelude.{Option, Some, None, Result, Ok, Err, OnOk, OnErr, IsSome, option_map, if◌then◌else◌}
+use Rattle.std.proofs.Common.{◌≡◌, ℕ, ◌==◌, Bool, true, false, List, [], ◌∷◌, ◌++◌, refl, ap, sym, ◌∙◌, subst, inl, inr, arith}
+use Rattle.std.specs.Prelude.{◌⊎◌, Option, Some, None, Result, Ok, Err, OnOk, OnErr, IsSome, option_map, if◌then◌else◌}
 use Rattle.std.proofs.lemmas.List.{append-nil}
 use Rattle.pipe_edges.specs.Paces.{Pace}
 use Rattle.pipe_edges.specs.declared.edges.EdgeKind.{EdgeKind}
@@ -8,7 +8,7 @@ use Rattle.pipe_edges.specs.declared.edges.EdgeKind.TheVariants.{Source}
 use Rattle.stage_bodies.specs.Seen.{SourceSeen, SinkSeen, LineSeen, BodySeen, with_source}
 use Rattle.stage_bodies.specs.Jobs.{Both}
 use Rattle.edge_names.specs.Seen.{EdgesSeen}
-use Rattle.edge_names.specs.Gates.{IsGated, IsInner}
+use Rattle.edge_names.specs.Gates.{HasNoWait, IsGated, IsInner}
 use Rattle.edge_names.specs.Supplies.{Feed, Opened, Made, Supplied, Fed, Written, call_for, fed, feed_call, given_back, written}
 use Rattle.edge_names.specs.Opened.{Asks, AreOpenedAt, GivesFed, HasFeed, HasSink, IfCutOff, IfFailed, IsCut, IsOneCut, IsOneFailed, IsOpened, IsSupplied, OpensOne, let_go, one, returned, uncalled}
 use Rattle.edge_names.specs.Returned.{GivesBack, GivesOff, IsCalm, IsCalmFeed, named_sink, named_source, source_in}
@@ -123,6 +123,10 @@ off_written (Ok x) None body a b back = off_as [] [] a b back
 -- one that was made counted nothing beside its gate
 pub calm_gated : (pace : Option Pace) (feed : Option Feed) (gated inner : SourceSeen) (body : Option BodySeen) → source_in body ≡ Some gated → IsInner gated inner → IsCalmFeed feed inner → IsCalm (fed pace feed) (source_in body)
 calm_gated pace (Some (Made bytes)) gated inner body stands is calm =
-    subst (λ o. IsCalm (Some (Fed pace (Made bytes))) o) (sym stands) (sym is.same_faults ∙ calm.0, let low = is.own_waits in let none = calm.1 in omega (arith, low, none))
+    subst (λ o. IsCalm (Some (Fed pace (Made bytes))) o) (sym stands) (sym is.same_faults ∙ calm.0, by_gate is.gate)
+  where
+    by_gate : (inner ≡ gated) ⊎ (IsSome gated.paced.pace × (gated.paced.own ≡ inner.waits)) → HasNoWait gated
+    by_gate (inl same) = inl (ap (λ (s : SourceSeen). s.waits) (sym same) ∙ calm.1)
+    by_gate (inr gate) = inr (gate.0, gate.1 ∙ calm.1)
 calm_gated pace (Some (Opened name)) gated inner body stands is calm = tt
 calm_gated pace None gated inner body stands is calm = tt

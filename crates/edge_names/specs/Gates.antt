@@ -1,10 +1,10 @@
 -- The gates before the sources of producers, and the sources without them.
-use Rattle.std.specs.Prelude.{◌≡◌, ◌≤◌, ◌++◌, ℕ, List, [], ◌∷◌, length, Option, Some, None, IsTrue}
+use Rattle.std.specs.Prelude.{◌≡◌, ◌≤◌, ◌⊎◌, ◌++◌, ℕ, List, [], ◌∷◌, length, Option, Some, None, IsSome, IsTrue}
 use Rattle.pipe_types.specs.Sound.{producers}
 use Rattle.pipe_types.specs.declared.topology.Rate.{Rate}
 use Rattle.pipe_types.specs.declared.topology.StageSpec.{StageSpec}
 use Rattle.pipe_types.specs.declared.topology.Topology.{Topology}
-use Rattle.pipe_edges.specs.Paces.{Pace, unpaced, own_waits}
+use Rattle.pipe_edges.specs.Paces.{Pace, unpaced}
 use Rattle.rate_laws.specs.Rates.{share_of}
 use Rattle.pace_laws.specs.Pacing.{IsPace, at_start}
 use Rattle.stage_bodies.specs.Seen.{SourceSeen, LineSeen}
@@ -42,20 +42,23 @@ pub record IsGated (pace : Option Pace) (source : SourceSeen) (lines : LineSeen)
   pub left : lines.source.left ≡ source.left
   pub faults : lines.source.faults ≡ source.faults
   pub waits : source.waits ≡ 0 → lines.source.waits ≡ 0
-  pub paced : source.paced ≡ unpaced → lines.source.paced ≡ at_start pace
+  pub paced : source.waits ≡ 0 → source.paced ≡ unpaced → lines.source.paced ≡ at_start pace
   pub nothing_waits : lines.waiting ≡ []
   pub no_end : lines.end ≡ None
 
 -- ---- a source that came out of its gate
 
--- it tells as its gate did, of the same bytes, though it may have read some ahead; it failed as often, and nothing was ready of
--- its own at least as often as was counted beside the stops. Without a pace it is what was seen
+-- it tells as its gate did, of the same bytes, though it may have read some ahead, and it failed as often; it is what was seen, or
+-- its gate counted how often it had nothing ready
 pub record IsInner (gated inner : SourceSeen) : Type 0 where
   pub same_telling : inner.told ≡ gated.told
   pub same_bytes : IsTrue gated.told → inner.taken ++ inner.left ≡ gated.taken ++ gated.left
   pub same_faults : inner.faults ≡ gated.faults
-  pub own_waits : own_waits gated.waits gated.paced ≤ inner.waits
-  pub same : gated.paced.pace ≡ None → inner ≡ gated
+  pub gate : (inner ≡ gated) ⊎ (IsSome gated.paced.pace × (gated.paced.own ≡ inner.waits))
+
+-- it always had something ready, though its gate may have stopped
+abbrev pub HasNoWait : SourceSeen → Type 0
+HasNoWait source = (source.waits ≡ 0) ⊎ (IsSome source.paced.pace × (source.paced.own ≡ 0))
 
 -- one after another, under the same names
 abbrev pub AreInner : (gated inner : List (List ℕ × SourceSeen)) → Type 0

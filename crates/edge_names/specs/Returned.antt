@@ -8,8 +8,7 @@ use Rattle.stage_bodies.specs.Seen.{SourceSeen, SinkSeen, BodySeen}
 use Rattle.stage_bodies.specs.Jobs.{Both}
 use Rattle.stage_bodies.specs.Posts.{place_at}
 use Rattle.edge_names.specs.Seen.{EdgesSeen}
-use Rattle.edge_names.specs.Gates.{AreInner}
-use Rattle.pipe_edges.specs.Paces.{own_waits}
+use Rattle.edge_names.specs.Gates.{AreInner, HasNoWait}
 use Rattle.edge_names.specs.Supplies.{Feeds, Feed, Opened, Made, Supplied, Fed, Written, given_back, supplied}
 
 -- ---- what is given back
@@ -76,9 +75,9 @@ IsCalmFeed (Some (Made bytes)) source = (source.faults ≡ 0) × (source.waits �
 IsCalmFeed (Some (Opened name)) source = Unit {0}
 IsCalmFeed None source = Unit {0}
 
--- nor in its gate, but for the stops
+-- nor in its gate, beside the gate's own
 abbrev pub IsCalm : Option Supplied → Option SourceSeen → Type 0
-IsCalm (Some (Fed pace (Made bytes))) (Some source) = (source.faults ≡ 0) × (own_waits source.waits source.paced ≡ 0)
+IsCalm (Some (Fed pace (Made bytes))) (Some source) = (source.faults ≡ 0) × HasNoWait source
 IsCalm (Some (Fed pace (Made bytes))) None = Unit {0}
 IsCalm (Some (Fed pace (Opened name))) source = Unit {0}
 IsCalm (Some (Written name)) source = Unit {0}

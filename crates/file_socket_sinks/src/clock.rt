@@ -61,7 +61,11 @@ impl Clock for RealClock {
     }
 
     fn pause(&mut self) {
-        self.rt.sleep(Duration::from_millis(PAUSE_MS));
+        self.pause_for(PAUSE_MS);
+    }
+
+    fn pause_for(&mut self, ms: u64) {
+        self.rt.sleep(Duration::from_millis(ms));
         self.pauses = self.pauses.saturating_add(1);
     }
 }

@@ -8,17 +8,19 @@ use Rattle.pipe_types.specs.declared.numbers.StageNo.{StageNo}
 use Rattle.pipe_types.specs.declared.step.SourceHow.{SourceHow}
 use Rattle.pipe_types.specs.declared.step.SourceHow.TheVariants as how
 use Rattle.pipe_model.specs.History.{History}
-use Rattle.pipe_edges.specs.Paces.{KeepsPace as PaceKept, Pace, PaceSeen, OwnWaitsRose, OwnWaitsStay, given_since, own_waits, told_at, told_by}
-use Rattle.pipe_edges.specs.Pacing.{Gives, IsHeldUp}
+use Rattle.pipe_edges.specs.Paces.{IsHeldUp, KeepsPace as PaceKept, Pace, PaceSeen, given_since, told_at, told_by}
+use Rattle.pipe_edges.specs.Pacing.{Gives}
 use Rattle.pipe_edges.specs.declared.reading.LineEnd.{LineEnd}
 use Rattle.pipe_edges.specs.declared.reading.LineEnd.TheVariants as end
+use Rattle.stage_job.specs.Chunks.{RoseBy}
 use Rattle.stage_bodies.specs.Jobs.{CutKeepsPace, FetchIsPaced, FetchGives, FetchKeepsPace, Fetches, IsFetched}
 use Rattle.stage_bodies.specs.Moments.{told_lines}
 use Rattle.stage_bodies.specs.Seen.{SourceSeen, LineSeen}
 use Rattle.stage_bodies.specs.declared.job.Outcome.{Outcome as Came}
 use Rattle.stage_bodies.specs.declared.job.Outcome.TheVariants as came
 use Rattle.rate_laws.specs.Rates.{came_by, fetched_at, is_used_up, own_quiets}
-use Rattle.pace_laws.specs.Pacing.{IsPace, IsTold, KeepsPaceBy, KeepsShare, OwnRose, PaceGoes, PaceRests, PaceSame, PaceStays, at_start}
+use Rattle.pace_laws.specs.Pacing.{IsPace, IsTold, KeepsPaceBy, KeepsShare, PaceGoes, PaceRests, PaceSame, PaceStays, at_start}
+use Rattle.pace_laws.proofs.Rises.{rise_none, rise_one, rise_stays}
 
 -- ---- intervals
 
@@ -61,7 +63,7 @@ starts s (Some pace) a paced some empty = record {
   past = let m = ap (λ p. p.moment) paced in omega (arith, m);
   low = let g = ap (λ p. p.given) paced in omega (arith, g);
   within = λ i. omega arith;
-  own = inl (omega arith);
+  own = rise_none a.source.paced.own;
   in_pace = λ none short. record {
     given = rw paced (zero_or_same (0 / pace.interval == 0 / pace.interval));
     in_step = rw (paced, empty) (record { unbroken = All-nil (λ b. b ≢ 10); part = refl });
@@ -130,7 +132,7 @@ tells (Some pace) before s opened now is k =
       past = let m = ap (λ x. x.moment) told in omega (arith, m);
       low = let g = ap (λ x. x.given) told in let less = since_low pace.interval p.moment f p.given in let low = k.low in omega (arith, g, less, low);
       within = k.within;
-      own = subst (λ x. OwnRose (own_quiets pace.share pace.interval before s) now.source.waits (own_waits opened.waits opened.paced) (now.source.waits - x)) (sym (ap (λ x. x.stops) told)) k.own;
+      own = subst (λ n. RoseBy (own_quiets pace.share pace.interval before s) opened.paced.own n) (sym (ap (λ x. x.own) told)) k.own;
       in_pace = λ none short. let old = k.in_pace none short in record {
         given = ap (λ x. given_since pace.interval x.moment f x.given) told ∙ same_interval pace.interval f (given_since pace.interval p.moment f p.given) ∙ old.given;
         in_step = record { unbroken = old.in_step.unbroken; part = ap (λ x. x.part) told ∙ old.in_step.part };
@@ -177,32 +179,22 @@ part (Some pace) before s opened now k = record {
 moment_told : (pace : Pace) (f : ℕ) (p : PaceSeen) → p.pace ≡ Some pace → p.moment ≤ f → p ≡ told_at f p → p.moment ≡ f
 moment_told pace f p is past told = ap (λ x. x.moment) (told ∙ told_is pace f p is past)
 
-own_on : (times w w' : ℕ) (a : ℕ) (b c : PaceSeen) → OwnRose times w a (own_waits w b) → OwnWaitsStay w w' b c → w ≤ w' → OwnRose times w' a (own_waits w' c)
-own_on times w w' a b c (inl low) (inl on) le = inl (omega (arith, low, on))
-own_on times w w' a b c (inl low) (inr full) le = inr full
-own_on times w w' a b c (inr full) on le = inr (omega (arith, full, le))
-
-own_one : (times w w' : ℕ) (a : ℕ) (b c : PaceSeen) → OwnRose times w a (own_waits w b) → OwnWaitsRose w w' b c → w ≤ w' → OwnRose (times + 1) w' a (own_waits w' c)
-own_one times w w' a b c (inl low) (inl on) le = inl (omega (arith, low, on))
-own_one times w w' a b c (inl low) (inr full) le = inr full
-own_one times w w' a b c (inr full) on le = inr (omega (arith, full, le))
-
 -- an answer that is not in the journal
-pub loses : (p : Option Pace) (before : History) (s : StageNo) (opened : SourceSeen) (b c : LineSeen) → p ≡ opened.paced.pace → b.source.waits ≤ c.source.waits → CutKeepsPace b.source.paced.pace b c
+pub loses : (p : Option Pace) (before : History) (s : StageNo) (opened : SourceSeen) (b c : LineSeen) → p ≡ opened.paced.pace → CutKeepsPace b.source.paced.pace b c
     → KeepsPaceBy p before s true opened b → KeepsPaceBy p before s false opened c
-loses None before s opened b c is le cut k =
+loses None before s opened b c is cut k =
     let none : b.source.paced.pace ≡ None = ap (λ x. x.pace) k ∙ sym is in
     let same : c.source.paced ≡ b.source.paced = rw none at cut in
     same ∙ k
-loses (Some pace) before s opened b c is le cut k =
-    let kept : PaceKept pace b.source.waits c.source.waits b.source.paced c.source.paced = rw k.same_pace at cut in
+loses (Some pace) before s opened b c is cut k =
+    let kept : PaceKept pace b.source.paced c.source.paced = rw k.same_pace at cut in
     record {
       same_pace = kept.same_pace ∙ k.same_pace;
       some = k.some;
       past = let same = kept.same_moment in let past = k.past in omega (arith, same, past);
       low = kept.within k.low;
       within = k.within;
-      own = own_on (own_quiets pace.share pace.interval before s) b.source.waits c.source.waits (own_waits opened.waits opened.paced) b.source.paced c.source.paced k.own kept.own_waits_stay le;
+      own = rise_stays (own_quiets pace.share pace.interval before s) opened.paced.own b.source.paced.own c.source.paced.own k.own kept.own_stays;
       in_pace = λ w. let x : false ≡ true = w in cc;
     }
 
@@ -216,13 +208,13 @@ not_long : (old new : Option LineEnd) → IfSome old (λ e. new ≡ Some e) → 
 not_long old new stays short is = short (rw is at stays)
 
 -- the records of the fetch are those that came
-pub accepts : (p : Option Pace) (before after : History) (s : StageNo) (most : ℕ) (records : List (List ℕ)) (opened : SourceSeen) (b c : LineSeen) → p ≡ opened.paced.pace → b.source.waits ≤ c.source.waits → PaceGoes before after s records
+pub accepts : (p : Option Pace) (before after : History) (s : StageNo) (most : ℕ) (records : List (List ℕ)) (opened : SourceSeen) (b c : LineSeen) → p ≡ opened.paced.pace → PaceGoes before after s records
     → IsTold before s b → Fetches most (came.Records records) b c → KeepsPaceBy p before s true opened b → KeepsPaceBy p after s true opened c
-accepts None before after s most records opened b c is le goes told fetched k =
+accepts None before after s most records opened b c is goes told fetched k =
     let none : b.source.paced.pace ≡ None = ap (λ x. x.pace) k ∙ sym is in
     let same : c.source.paced ≡ b.source.paced = rw none at fetched.paced in
     same ∙ k
-accepts (Some pace) before after s most records opened b c is le goes told fetched k =
+accepts (Some pace) before after s most records opened b c is goes told fetched k =
     let f = fetched_at before s in
     let here = f / pace.interval in
     let paced : FetchKeepsPace pace (came.Records records) b c = rw k.same_pace at fetched.paced in
@@ -240,8 +232,8 @@ accepts (Some pace) before after s most records opened b c is le goes told fetch
       past = let same = goes.same_fetch in omega (arith, moment', same);
       low = low;
       within = λ i. subst (λ n. n ≤ pace.share) (sym (goes.came pace.interval i)) (each i here (came_by s pace.interval i before) (length records) pace.share (k.within i) (λ e. bound i e total low));
-      own = subst (λ n. OwnRose n c.source.waits (own_waits opened.waits opened.paced) (own_waits c.source.waits c.source.paced)) (sym (goes.own pace.share pace.interval))
-          (own_on (own_quiets pace.share pace.interval before s) b.source.waits c.source.waits (own_waits opened.waits opened.paced) b.source.paced c.source.paced k.own paced.kept.own_waits_stay le);
+      own = subst (λ n. RoseBy n opened.paced.own c.source.paced.own) (sym (goes.own pace.share pace.interval))
+          (rise_stays (own_quiets pace.share pace.interval before s) opened.paced.own b.source.paced.own c.source.paced.own k.own paced.kept.own_stays);
       in_pace = λ none not. record {
         given =
             ap (λ x. given_since pace.interval c.source.paced.moment x c.source.paced.given) goes.same_fetch
@@ -273,13 +265,13 @@ accepts (Some pace) before after s most records opened b c is le goes told fetch
     here_more here old more = ap (λ t. if t then old + more else old) (eq-eqb here here refl)
 
 -- nothing was ready: of its own, or the share is used up
-pub rests : (p : Option Pace) (before after : History) (s : StageNo) (most : ℕ) (opened : SourceSeen) (b c : LineSeen) → p ≡ opened.paced.pace → b.source.waits ≤ c.source.waits → PaceRests before after s
+pub rests : (p : Option Pace) (before after : History) (s : StageNo) (most : ℕ) (opened : SourceSeen) (b c : LineSeen) → p ≡ opened.paced.pace → PaceRests before after s
     → IsTold before s b → Fetches most came.NotYet b c → KeepsPaceBy p before s true opened b → KeepsPaceBy p after s true opened c
-rests None before after s most opened b c is le goes told fetched k =
+rests None before after s most opened b c is goes told fetched k =
     let none : b.source.paced.pace ≡ None = ap (λ x. x.pace) k ∙ sym is in
     let same : c.source.paced ≡ b.source.paced = rw none at fetched.paced in
     same ∙ k
-rests (Some pace) before after s most opened b c is le goes told fetched k =
+rests (Some pace) before after s most opened b c is goes told fetched k =
     let f = fetched_at before s in
     let here = f / pace.interval in
     let paced : FetchKeepsPace pace came.NotYet b c = rw k.same_pace at fetched.paced in
@@ -297,8 +289,8 @@ rests (Some pace) before after s most opened b c is le goes told fetched k =
       past = let same = goes.same_fetch in omega (arith, moment', same);
       low = paced.kept.within k.low;
       within = λ i. let low = k.within i in let same = goes.came pace.interval i in omega (arith, low, same);
-      own = subst (λ n. OwnRose n c.source.waits (own_waits opened.waits opened.paced) (own_waits c.source.waits c.source.paced)) (sym (goes.own pace.share pace.interval))
-          (own_by (is_used_up pace.share pace.interval before s) refl paced.held_up total k.own paced.kept.own_waits_stay);
+      own = subst (λ n. RoseBy n opened.paced.own c.source.paced.own) (sym (goes.own pace.share pace.interval))
+          (own_by (is_used_up pace.share pace.interval before s) refl paced.held_up total k.own paced.kept.own_stays);
       in_pace = λ none not. record {
         given =
             ap (λ x. given_since pace.interval c.source.paced.moment x c.source.paced.given) goes.same_fetch
@@ -314,28 +306,23 @@ rests (Some pace) before after s most opened b c is le goes told fetched k =
     no_end : (e : Option LineEnd) → e ≡ None → e ≡ Some end.TooLong → ⊥
     no_end e none long = let x : None ≡ Some end.TooLong = sym none ∙ long in cc
 
-    own_by : (used : Bool) → is_used_up pace.share pace.interval before s ≡ used → IsHeldUp pace b.source.waits c.source.waits b.source.paced c.source.paced
-        → c.source.paced.given ≡ came_by s pace.interval (fetched_at before s / pace.interval) before
-        → OwnRose (own_quiets pace.share pace.interval before s) b.source.waits (own_waits opened.waits opened.paced) (own_waits b.source.waits b.source.paced)
-        → OwnWaitsStay b.source.waits c.source.waits b.source.paced c.source.paced
-        → OwnRose (if used then own_quiets pace.share pace.interval before s else own_quiets pace.share pace.interval before s + 1) c.source.waits (own_waits opened.waits opened.paced) (own_waits c.source.waits c.source.paced)
-    own_by true e held total own on =
-        own_on (own_quiets pace.share pace.interval before s) b.source.waits c.source.waits (own_waits opened.waits opened.paced) b.source.paced c.source.paced own on le
-    own_by false e (inl rose) total own on =
-        own_one (own_quiets pace.share pace.interval before s) b.source.waits c.source.waits (own_waits opened.waits opened.paced) b.source.paced c.source.paced own rose le
-    own_by false e (inr stop) total own on =
+    own_by : (used : Bool) → is_used_up pace.share pace.interval before s ≡ used → IsHeldUp pace b.source.paced c.source.paced
+        → c.source.paced.given ≡ came_by s pace.interval (fetched_at before s / pace.interval) before → RoseBy (own_quiets pace.share pace.interval before s) opened.paced.own b.source.paced.own → b.source.paced.own ≤ c.source.paced.own
+        → RoseBy (if used then own_quiets pace.share pace.interval before s else own_quiets pace.share pace.interval before s + 1) opened.paced.own c.source.paced.own
+    own_by true e held total own on = rise_stays (own_quiets pace.share pace.interval before s) opened.paced.own b.source.paced.own c.source.paced.own own on
+    own_by false e (inl rose) total own on = rise_one (own_quiets pace.share pace.interval before s) opened.paced.own b.source.paced.own c.source.paced.own own rose on
+    own_by false e (inr full) total own on =
         let low : came_by s pace.interval (fetched_at before s / pace.interval) before < pace.share = leb-false pace.share (came_by s pace.interval (fetched_at before s / pace.interval) before) e in
-        let full = stop.1 in
         absurd (omega (arith, low, total, full))
 
 -- the source ended
-pub ends : (p : Option Pace) (before after : History) (s : StageNo) (most : ℕ) (h : SourceHow) (opened : SourceSeen) (b c : LineSeen) → p ≡ opened.paced.pace → b.source.waits ≤ c.source.waits → PaceGoes before after s []
+pub ends : (p : Option Pace) (before after : History) (s : StageNo) (most : ℕ) (h : SourceHow) (opened : SourceSeen) (b c : LineSeen) → p ≡ opened.paced.pace → PaceGoes before after s []
     → IsTold before s b → Fetches most (came.Ended h) b c → KeepsPaceBy p before s true opened b → KeepsPaceBy p after s true opened c
-ends None before after s most h opened b c is le goes told fetched k =
+ends None before after s most h opened b c is goes told fetched k =
     let none : b.source.paced.pace ≡ None = ap (λ x. x.pace) k ∙ sym is in
     let same : c.source.paced ≡ b.source.paced = rw none at fetched.paced in
     same ∙ k
-ends (Some pace) before after s most h opened b c is le goes told fetched k =
+ends (Some pace) before after s most h opened b c is goes told fetched k =
     let f = fetched_at before s in
     let here = f / pace.interval in
     let paced : FetchKeepsPace pace (came.Ended h) b c = rw k.same_pace at fetched.paced in
@@ -347,8 +334,8 @@ ends (Some pace) before after s most h opened b c is le goes told fetched k =
       past = let same = goes.same_fetch in omega (arith, moment', same);
       low = paced.kept.within k.low;
       within = λ i. let low = k.within i in let same = no_more i in omega (arith, low, same);
-      own = subst (λ n. OwnRose n c.source.waits (own_waits opened.waits opened.paced) (own_waits c.source.waits c.source.paced)) (sym (goes.own pace.share pace.interval))
-          (own_on (own_quiets pace.share pace.interval before s) b.source.waits c.source.waits (own_waits opened.waits opened.paced) b.source.paced c.source.paced k.own paced.kept.own_waits_stay le);
+      own = subst (λ n. RoseBy n opened.paced.own c.source.paced.own) (sym (goes.own pace.share pace.interval))
+          (rise_stays (own_quiets pace.share pace.interval before s) opened.paced.own b.source.paced.own c.source.paced.own k.own paced.kept.own_stays);
       in_pace = λ none not.
           let short = not_long b.end c.end fetched.end_stays not in
           let old = k.in_pace refl short in

@@ -1,2 +1,3 @@
+pub mod Rises
 pub mod Fetching
 pub mod Going

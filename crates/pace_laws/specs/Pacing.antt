@@ -1,26 +1,23 @@
 -- What a journal has to do with the pace of a source.
-use Rattle.std.specs.Prelude.{◌≡◌, ◌≤◌, ◌<◌, ◌⊎◌, ◌+◌, ◌^◌, ◌==◌, ℕ, Bool, false, List, length, if◌then◌else◌, Option, Some, None, IfSome, IsTrue}
+use Rattle.std.specs.Prelude.{◌≡◌, ◌≤◌, ◌<◌, ◌+◌, ◌==◌, ℕ, Bool, false, List, length, if◌then◌else◌, Option, Some, None, IfSome, IsTrue}
 use Rattle.pipe_types.specs.declared.numbers.StageNo.{StageNo}
 use Rattle.pipe_model.specs.History.{History}
-use Rattle.pipe_edges.specs.Paces.{Pace, PaceSeen, given_since, own_waits, told_at}
+use Rattle.pipe_edges.specs.Paces.{Pace, PaceSeen, given_since, told_at}
 use Rattle.pipe_edges.specs.Pacing.{IsInStep}
 use Rattle.pipe_edges.specs.declared.reading.LineEnd.TheVariants as end
+use Rattle.stage_job.specs.Chunks.{RoseBy}
 use Rattle.stage_bodies.specs.Seen.{SourceSeen, LineSeen}
 use Rattle.rate_laws.specs.Rates.{came_by, fetched_at, interval_of, is_used_up, own_quiets}
 
 -- ---- what a source keeps
 
--- nothing was told, given or stopped
+-- nothing was told or given, and the source itself never had nothing ready
 abbrev pub at_start : Option Pace → PaceSeen
-at_start pace = record { pace = pace; moment = 0; given = 0; part = false; stops = 0 }
+at_start pace = record { pace = pace; moment = 0; given = 0; part = false; own = 0 }
 
 -- an interval has a length
 abbrev pub IsPace : Option Pace → Type 0
 IsPace pace = IfSome pace (λ p. 1 ≤ p.interval)
-
--- they rose by at least so many, or the counter of the waits is full
-abbrev pub OwnRose : (times waits : ℕ) → (before now : ℕ) → Type 0
-OwnRose times waits before now = (before + times ≤ now) ⊎ (2 ^ 64 ≤ waits + 1)
 
 -- once it is told the moment of the last fetch, it has given since the interval began what the journal has of that interval, and
 -- what is held is in step
@@ -28,15 +25,15 @@ pub record IsInPace (pace : Pace) (before : History) (s : StageNo) (now : LineSe
   pub given : given_since pace.interval now.source.paced.moment (fetched_at before s) now.source.paced.given ≡ came_by s pace.interval (interval_of pace.interval (fetched_at before s)) before
   pub in_step : IsInStep now.source.paced now.waiting
 
--- no interval has more records than the share; nothing was ready of its own once at least for each quiet of the journal that came
--- while the share had one left; and where every answer is in the journal and no line is too long it is in pace
+-- no interval has more records than the share; the source itself had nothing ready once at least for each quiet of the journal that
+-- came while the share had one left; and where every answer is in the journal and no line is too long it is in pace
 pub record KeepsShare (pace : Pace) (before : History) (s : StageNo) (whole : Bool) (opened : SourceSeen) (now : LineSeen) : Type 0 where
   pub same_pace : now.source.paced.pace ≡ Some pace
   pub some : 1 ≤ pace.interval
   pub past : now.source.paced.moment ≤ fetched_at before s
   pub low : now.source.paced.given ≤ pace.share
   pub within : (i : ℕ) → came_by s pace.interval i before ≤ pace.share
-  pub own : OwnRose (own_quiets pace.share pace.interval before s) now.source.waits (own_waits opened.waits opened.paced) (own_waits now.source.waits now.source.paced)
+  pub own : RoseBy (own_quiets pace.share pace.interval before s) opened.paced.own now.source.paced.own
   pub in_pace : IsTrue whole → ¬ (now.end ≡ Some end.TooLong) → IsInPace pace before s now
 
 abbrev pub KeepsPaceBy : Option Pace → History → StageNo → (whole : Bool) → (opened : SourceSeen) → (now : LineSeen) → Type 0

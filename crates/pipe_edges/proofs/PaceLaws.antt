@@ -1,12 +1,12 @@
 -- Laws of sources with a pace.
-use Rattle.std.proofs.Common.{◌≡◌, ◌≢◌, true, false, ℕ, ◌+◌, ◌-◌, ◌<◌, ◌≤◌, List, [], ◌∷◌, ◌++◌, length, take, arith, refl, ap, sym, subst, ◌∙◌, inl, inr, ◌⊎◌}
-use Rattle.std.specs.Prelude.{All, Option, Some, None, Result, Ok, Err, IfOk, ◌^◌}
+use Rattle.std.proofs.Common.{◌≡◌, ◌≢◌, true, false, ℕ, ◌+◌, ◌<◌, ◌≤◌, List, [], ◌∷◌, ◌++◌, length, take, arith, refl, ap, sym, subst, ◌∙◌, inl, inr, ◌⊎◌}
+use Rattle.std.specs.Prelude.{All, Option, Some, None, Result, Ok, Err, IfOk}
 use Rattle.std.proofs.lemmas.List.{append_assoc}
 use Rattle.std.proofs.lemmas.List.Elements.{All-nil, All-append, All-head, All-tail, All-same}
 use Rattle.pipe_types.specs.Counts.{Rose}
 use Rattle.pipe_edges.specs.Texts.{HasNoLf, IsLine, ended}
-use Rattle.pipe_edges.specs.Paces.{Pace, PaceSeen, KeepsPace, EndsRecord, ReadIsPacedBy}
-use Rattle.pipe_edges.specs.Pacing.{is_begun, Gives, IsHeldUp, IsBetween, RoundCounts, RoundIsHeldUp, RoundKeepsPace, RoundIsPacedBy, FetchCounts, FetchIsHeldUp, FetchIsPacedBy}
+use Rattle.pipe_edges.specs.Paces.{Pace, PaceSeen, IsHeldUp, KeepsPace, EndsRecord, ReadIsPacedBy}
+use Rattle.pipe_edges.specs.Pacing.{is_begun, Gives, IsBetween, RoundCounts, RoundIsHeldUp, RoundKeepsPace, RoundIsPacedBy, FetchCounts, FetchIsHeldUp, FetchIsPacedBy}
 use Rattle.pipe_edges.specs.Stop.{fetched_of}
 use Rattle.pipe_edges.specs.declared.source.ReadEnd.TheVariants.{Got, Failed, Empty}
 use Rattle.pipe_edges.specs.declared.reading.LineEnd.TheVariants as end
@@ -15,64 +15,52 @@ use Rattle.pipe_edges.specs.declared.reading.Stop.TheVariants.{Lines, Last, NotY
 
 -- ---- counts that do not fall
 
-stays_more : (a b c w v big : ℕ) → (a ≤ b) ⊎ (big ≤ w + 1) → (b ≤ c) ⊎ (big ≤ v + 1) → w ≤ v → (a ≤ c) ⊎ (big ≤ v + 1)
-stays_more a b c w v big (inl x) (inl y) le = inl (omega (arith, x, y))
-stays_more a b c w v big (inl x) (inr y) le = inr y
-stays_more a b c w v big (inr x) y le = inr (omega (arith, x, le))
-
-rises_more : (a b c w v big : ℕ) → (a ≤ b) ⊎ (big ≤ w + 1) → (b < c) ⊎ (big ≤ v + 1) → w ≤ v → (a < c) ⊎ (big ≤ v + 1)
-rises_more a b c w v big (inl x) (inl y) le = inl (omega (arith, x, y))
-rises_more a b c w v big (inl x) (inr y) le = inr y
-rises_more a b c w v big (inr x) y le = inr (omega (arith, x, le))
-
 rose_from : (a b c : ℕ) → a ≤ b → Rose b c → Rose a c
 rose_from a b c le (inl below) = inl (omega (arith, le, below))
 rose_from a b c le (inr full) = inr full
 
-keeps_same : (pace : Pace) (w : ℕ) (a : PaceSeen) → KeepsPace pace w w a a
-keeps_same pace w a = record {
+keeps_same : (pace : Pace) (a : PaceSeen) → KeepsPace pace a a
+keeps_same pace a = record {
   same_pace = refl;
   same_moment = refl;
   within = λ h. h;
-  stops_stay = omega arith;
-  own_waits_stay = inl (omega arith);
+  own_stays = omega arith;
 }
 
-keeps_more : (pace : Pace) (u w v : ℕ) (a b c : PaceSeen) → w ≤ v → KeepsPace pace u w a b → KeepsPace pace w v b c → KeepsPace pace u v a c
-keeps_more pace u w v a b c le x y = record {
+keeps_more : (pace : Pace) (a b c : PaceSeen) → KeepsPace pace a b → KeepsPace pace b c → KeepsPace pace a c
+keeps_more pace a b c x y = record {
   same_pace = y.same_pace ∙ x.same_pace;
   same_moment = y.same_moment ∙ x.same_moment;
   within = λ h. y.within (x.within h);
-  stops_stay = omega (arith, x.stops_stay, y.stops_stay);
-  own_waits_stay = stays_more (u - a.stops) (w - b.stops) (v - c.stops) w v (2 ^ 64) x.own_waits_stay y.own_waits_stay le;
+  own_stays = omega (arith, x.own_stays, y.own_stays);
 }
 
-held_up_more : (pace : Pace) (u w v : ℕ) (a b c : PaceSeen) → w ≤ v → KeepsPace pace u w a b → IsHeldUp pace w v b c → IsHeldUp pace u v a c
-held_up_more pace u w v a b c le x (inl own) = inl (rises_more (u - a.stops) (w - b.stops) (v - c.stops) w v (2 ^ 64) x.own_waits_stay own le)
-held_up_more pace u w v a b c le x (inr stop) = inr (rose_from a.stops b.stops c.stops x.stops_stay stop.0, stop.1)
+held_up_more : (pace : Pace) (a b c : PaceSeen) → KeepsPace pace a b → IsHeldUp pace b c → IsHeldUp pace a c
+held_up_more pace a b c x (inl own) = inl (rose_from a.own b.own c.own x.own_stays own)
+held_up_more pace a b c x (inr used) = inr used
 
 -- ---- rounds
 
 -- one round after others
-pub round_more : (E : Type 0) {F : Type 0} (p : Option Pace) (u w v : ℕ) (a b c : PaceSeen) (h i j : List ℕ) (r : Result (Option Stop) F)
-    → a.pace ≡ p → w ≤ v → RoundIsPacedBy {E = E} p u w a b h i (Ok None) → RoundIsPacedBy b.pace w v b c i j r → RoundIsPacedBy p u v a c h j r
-round_more E None u w v a b c h i j r is le x y =
+pub round_more : (E : Type 0) {F : Type 0} (p : Option Pace) (a b c : PaceSeen) (h i j : List ℕ) (r : Result (Option Stop) F)
+    → a.pace ≡ p → RoundIsPacedBy {E = E} p a b h i (Ok None) → RoundIsPacedBy b.pace b c i j r → RoundIsPacedBy p a c h j r
+round_more E None a b c h i j r is x y =
     let none : b.pace ≡ None = ap (λ s. s.pace) x ∙ is in
-    let y' : c ≡ b = subst (λ q. RoundIsPacedBy q w v b c i j r) none y in
+    let y' : c ≡ b = subst (λ q. RoundIsPacedBy q b c i j r) none y in
     y' ∙ x
-round_more E {F = F} (Some pace) u w v a b c h i j r is le x y =
+round_more E {F = F} (Some pace) a b c h i j r is x y =
     let some : b.pace ≡ Some pace = x.kept.same_pace ∙ is in
-    let y' : RoundKeepsPace pace w v b c i j r = subst (λ q. RoundIsPacedBy q w v b c i j r) some y in
+    let y' : RoundKeepsPace pace b c i j r = subst (λ q. RoundIsPacedBy q b c i j r) some y in
     record {
-      kept = keeps_more pace u w v a b c le x.kept y'.kept;
+      kept = keeps_more pace a b c x.kept y'.kept;
       counted = λ before between. y'.counted before (x.counted before between);
       held_up = held_up r y'.held_up;
     } where
-      held_up : (r : Result (Option Stop) F) → IfOk r (RoundIsHeldUp pace w v b c) → IfOk r (RoundIsHeldUp pace u v a c)
+      held_up : (r : Result (Option Stop) F) → IfOk r (RoundIsHeldUp pace b c) → IfOk r (RoundIsHeldUp pace a c)
       held_up (Ok None) k = tt
       held_up (Ok (Some (Lines rs))) k = tt
       held_up (Ok (Some (Last rs))) k = tt
-      held_up (Ok (Some NotYet)) k = held_up_more pace u w v a b c le x.kept k
+      held_up (Ok (Some NotYet)) k = held_up_more pace a b c x.kept k
       held_up (Ok (Some (Ended e))) k = tt
       held_up (Err e) k = tt
 
@@ -116,11 +104,11 @@ cut_counts before a h j (r ∷ rs) (inr full) some cut each =
     let both = none_ended rs j none in
     rw (both.0, both.1) (record { count = full.1; in_step = record { unbroken = All-nil (λ b. b ≢ 10); part = full.2 } })
 
-pub cut_round : (E : Type 0) (p : Option Pace) (w : ℕ) (a : PaceSeen) (h j : List ℕ) (records : List (List ℕ)) → 0 < length records → h ≡ ended records ++ j → All IsLine records
-    → RoundIsPacedBy {E = E} p w w a a h j (Ok (Some (Lines records)))
-cut_round E None w a h j records some cut each = refl
-cut_round E (Some pace) w a h j records some cut each = record {
-  kept = keeps_same pace w a;
+pub cut_round : (E : Type 0) (p : Option Pace) (a : PaceSeen) (h j : List ℕ) (records : List (List ℕ)) → 0 < length records → h ≡ ended records ++ j → All IsLine records
+    → RoundIsPacedBy {E = E} p a a h j (Ok (Some (Lines records)))
+cut_round E None a h j records some cut each = refl
+cut_round E (Some pace) a h j records some cut each = record {
+  kept = keeps_same pace a;
   counted = λ before between. cut_counts before a h j records between some cut each;
   held_up = tt;
 }
@@ -135,12 +123,12 @@ begun : (h i : List ℕ) → length h < length i → is_begun i ≡ true
 begun h [] more = absurd (omega (arith, more))
 begun h (b ∷ bs) more = refl
 
-pub got_round : (E : Type 0) (p : Option Pace) (w v : ℕ) (a b : PaceSeen) (h i piece : List ℕ) (n : ℕ) → HasNoLf h → i ≡ h ++ take n piece → length h < length i
-    → ReadIsPacedBy p w v a b piece (Got n) → RoundIsPacedBy {E = E} p w v a b h i (Ok None)
-got_round E None w v a b h i piece n none added more read = read
-got_round E (Some pace) w v a b h i piece n none added more read = record {
+pub got_round : (E : Type 0) (p : Option Pace) (a b : PaceSeen) (h i piece : List ℕ) (n : ℕ) → HasNoLf h → i ≡ h ++ take n piece → length h < length i
+    → ReadIsPacedBy p a b piece (Got n) → RoundIsPacedBy {E = E} p a b h i (Ok None)
+got_round E None a b h i piece n none added more read = read
+got_round E (Some pace) a b h i piece n none added more read = record {
   kept = read.0;
-  counted = λ before between. counts before (open_of before a h none between) read.1.1;
+  counted = λ before between. counts before (open_of before a h none between) read.1;
   held_up = tt;
 } where
   counts : (before : ℕ) → Gives before 0 a h
@@ -169,34 +157,31 @@ same_step before a b h i same given part gives = rw same (record {
   in_step = record { unbroken = gives.in_step.unbroken; part = part ∙ gives.in_step.part };
 })
 
-pub empty_round : (E : Type 0) (p : Option Pace) (w v : ℕ) (a b : PaceSeen) (h i piece : List ℕ) → HasNoLf h → i ≡ h
-    → ReadIsPacedBy p w v a b piece Empty → RoundIsPacedBy {E = E} p w v a b h i (Ok (Some NotYet))
-empty_round E None w v a b h i piece none same read = read
-empty_round E (Some pace) w v a b h i piece none same read = record {
+pub empty_round : (E : Type 0) (p : Option Pace) (a b : PaceSeen) (h i piece : List ℕ) → HasNoLf h → i ≡ h
+    → ReadIsPacedBy p a b piece Empty → RoundIsPacedBy {E = E} p a b h i (Ok (Some NotYet))
+empty_round E None a b h i piece none same read = read
+empty_round E (Some pace) a b h i piece none same read = record {
   kept = read.0;
   counted = λ before between. same_step before a b h i same read.1.0.0 read.1.0.1 (open_of before a h none between);
-  held_up = held_up read.1.1;
-} where
-  held_up : {A B C : Type 0} → (A × B) ⊎ C → B ⊎ C
-  held_up (inl own) = inl own.1
-  held_up (inr stop) = inr stop
+  held_up = read.1.1;
+}
 
-pub failed_round : (E : Type 0) (p : Option Pace) (w v : ℕ) (a b : PaceSeen) (h i piece : List ℕ) → HasNoLf h → i ≡ h
-    → ReadIsPacedBy p w v a b piece Failed → RoundIsPacedBy {E = E} p w v a b h i (Ok (Some (Ended end.Fault)))
-failed_round E None w v a b h i piece none same read = read
-failed_round E (Some pace) w v a b h i piece none same read = record {
+pub failed_round : (E : Type 0) (p : Option Pace) (a b : PaceSeen) (h i piece : List ℕ) → HasNoLf h → i ≡ h
+    → ReadIsPacedBy p a b piece Failed → RoundIsPacedBy {E = E} p a b h i (Ok (Some (Ended end.Fault)))
+failed_round E None a b h i piece none same read = read
+failed_round E (Some pace) a b h i piece none same read = record {
   kept = read.0;
-  counted = λ before between. same_step before a b h i same read.1.1.0 read.1.1.1 (open_of before a h none between);
+  counted = λ before between. same_step before a b h i same read.1.0 read.1.1 (open_of before a h none between);
   held_up = tt;
 }
 
 -- ---- fetches
 
 -- the rounds of a fetch are the fetch
-pub fetch_of : (E F : Type 0) (p : Option Pace) (w v : ℕ) (a b : PaceSeen) (h i : List ℕ) (stop : Stop)
-    → RoundIsPacedBy {E = E} p w v a b h i (Ok (Some stop)) → FetchIsPacedBy {E = F} p w v a b h i (Ok (fetched_of stop))
-fetch_of E F None w v a b h i stop x = x
-fetch_of E F (Some pace) w v a b h i stop x = record {
+pub fetch_of : (E F : Type 0) (p : Option Pace) (a b : PaceSeen) (h i : List ℕ) (stop : Stop)
+    → RoundIsPacedBy {E = E} p a b h i (Ok (Some stop)) → FetchIsPacedBy {E = F} p a b h i (Ok (fetched_of stop))
+fetch_of E F None a b h i stop x = x
+fetch_of E F (Some pace) a b h i stop x = record {
   kept = x.kept;
   counted = λ step. counts stop (x.counted a.given (inl (record { count = omega arith; in_step = step })));
   held_up = held_up stop x.held_up;
@@ -209,7 +194,7 @@ fetch_of E F (Some pace) w v a b h i stop x = record {
   counts (Ended end.Fault) k = k
   counts (Ended end.TooLong) k = tt
 
-  held_up : (stop : Stop) → RoundIsHeldUp pace w v a b (Some stop) → FetchIsHeldUp pace w v a b (fetched_of stop)
+  held_up : (stop : Stop) → RoundIsHeldUp pace a b (Some stop) → FetchIsHeldUp pace a b (fetched_of stop)
   held_up (Lines rs) k = tt
   held_up (Last rs) k = tt
   held_up NotYet k = k

@@ -1,5 +1,5 @@
 -- What the layers above see of a gate before a source.
-use Rattle.std.specs.Prelude.{◌≡◌, ◌<◌, ◌≤◌, ◌⊎◌, ◌+◌, ◌-◌, ◌/◌, ◌==◌, ◌^◌, ℕ, Bool, true, false, if◌then◌else◌, List, [], ◌∷◌, ◌++◌, take, max, Option, Some, None}
+use Rattle.std.specs.Prelude.{◌≡◌, ◌≤◌, ◌⊎◌, ◌+◌, ◌/◌, ◌==◌, ℕ, Bool, true, false, if◌then◌else◌, List, [], ◌∷◌, ◌++◌, take, max, Option, Some, None}
 use Rattle.pipe_types.specs.Counts.{Rose}
 use Rattle.pipe_edges.specs.Texts.{HasNoLf}
 use Rattle.pipe_edges.specs.declared.source.ReadEnd.{ReadEnd}
@@ -11,16 +11,16 @@ pub record Pace : Type 0 where
   pub interval : ℕ
 
 -- the pace, if there is one; the greatest moment that was told, 0 before the first; the records given since its interval
--- began; whether bytes were given behind the last record; and how often nothing was given since the share was used up
+-- began; whether bytes were given behind the last record; and how often the source itself had nothing ready
 pub record PaceSeen : Type 0 where
   pub pace : Option Pace
   pub moment : ℕ
   pub given : ℕ
   pub part : Bool
-  pub stops : ℕ
+  pub own : ℕ
 
 abbrev pub unpaced : PaceSeen
-unpaced = record { pace = None; moment = 0; given = 0; part = false; stops = 0 }
+unpaced = record { pace = None; moment = 0; given = 0; part = false; own = 0 }
 
 -- ---- moments
 
@@ -39,25 +39,16 @@ told_at now paced = told_by paced.pace now paced
 
 -- ---- reads
 
--- how often nothing was ready, but for the stops
-abbrev pub own_waits : (waits : ℕ) → PaceSeen → ℕ
-own_waits waits paced = waits - paced.stops
-
--- they do not fall, or the counter of the waits is full
-abbrev pub OwnWaitsStay : (waits waits' : ℕ) → (old new : PaceSeen) → Type 0
-OwnWaitsStay waits waits' old new = (own_waits waits old ≤ own_waits waits' new) ⊎ (2 ^ 64 ≤ waits' + 1)
-
--- they rise, or the counter of the waits is full
-abbrev pub OwnWaitsRose : (waits waits' : ℕ) → (old new : PaceSeen) → Type 0
-OwnWaitsRose waits waits' old new = (own_waits waits old < own_waits waits' new) ⊎ (2 ^ 64 ≤ waits' + 1)
-
--- the pace and the moment stay, no more records are given than the share, and the counts do not fall
-pub record KeepsPace (pace : Pace) (waits waits' : ℕ) (old new : PaceSeen) : Type 0 where
+-- the pace and the moment stay, no more records are given than the share, and the source's own count does not fall
+pub record KeepsPace (pace : Pace) (old new : PaceSeen) : Type 0 where
   pub same_pace : new.pace ≡ old.pace
   pub same_moment : new.moment ≡ old.moment
   pub within : old.given ≤ pace.share → new.given ≤ pace.share
-  pub stops_stay : old.stops ≤ new.stops
-  pub own_waits_stay : OwnWaitsStay waits waits' old new
+  pub own_stays : old.own ≤ new.own
+
+-- the source itself had nothing ready, or the share is used up
+abbrev pub IsHeldUp : Pace → (old new : PaceSeen) → Type 0
+IsHeldUp pace old new = Rose old.own new.own ⊎ (new.given ≡ pace.share)
 
 -- the bytes of a record, or of a part of one, of which the last may be an LF and no other is
 pub record EndsRecord (bytes : List ℕ) : Type 0 where
@@ -73,20 +64,18 @@ abbrev pub with_last : (given : ℕ) → (part : Bool) → ℕ
 with_last given true = given + 1
 with_last given false = given
 
--- a record is an LF, or the first end behind bytes without LF; no byte is given behind an LF; a stop is counted only where
--- nothing is given and the share is used up, and else nothing was ready of its own
-abbrev pub ReadCounts : Pace → (waits waits' : ℕ) → (old new : PaceSeen) → (piece : List ℕ) → ReadEnd → Type 0
-ReadCounts pace waits waits' old new piece (Got n) =
-    (new.stops ≡ old.stops) × ((HasNoLf (take n piece) × Goes old.given true old new) ⊎ (EndsRecord (take n piece) × Goes (old.given + 1) false old new))
-ReadCounts pace waits waits' old new piece End = (new.stops ≡ old.stops) × Goes (with_last old.given old.part) false old new
-ReadCounts pace waits waits' old new piece Failed = (new.stops ≡ old.stops) × Goes old.given old.part old new
-ReadCounts pace waits waits' old new piece Empty =
-    Goes old.given old.part old new × (((new.stops ≡ old.stops) × OwnWaitsRose waits waits' old new) ⊎ (Rose old.stops new.stops × (new.given ≡ pace.share)))
+-- a record is an LF, or the first end behind bytes without LF; no byte is given behind an LF; and nothing is ready only where the
+-- source itself had nothing ready or the share is used up
+abbrev pub ReadCounts : Pace → (old new : PaceSeen) → (piece : List ℕ) → ReadEnd → Type 0
+ReadCounts pace old new piece (Got n) = (HasNoLf (take n piece) × Goes old.given true old new) ⊎ (EndsRecord (take n piece) × Goes (old.given + 1) false old new)
+ReadCounts pace old new piece End = Goes (with_last old.given old.part) false old new
+ReadCounts pace old new piece Failed = Goes old.given old.part old new
+ReadCounts pace old new piece Empty = Goes old.given old.part old new × IsHeldUp pace old new
 
-abbrev pub ReadIsPacedBy : Option Pace → (waits waits' : ℕ) → (old new : PaceSeen) → (piece : List ℕ) → ReadEnd → Type 0
-ReadIsPacedBy None waits waits' old new piece end = new ≡ old
-ReadIsPacedBy (Some pace) waits waits' old new piece end = KeepsPace pace waits waits' old new × ReadCounts pace waits waits' old new piece end
+abbrev pub ReadIsPacedBy : Option Pace → (old new : PaceSeen) → (piece : List ℕ) → ReadEnd → Type 0
+ReadIsPacedBy None old new piece end = new ≡ old
+ReadIsPacedBy (Some pace) old new piece end = KeepsPace pace old new × ReadCounts pace old new piece end
 
 -- what a read does to what is seen of the gate; without a pace nothing
-abbrev pub ReadIsPaced : (waits waits' : ℕ) → (old new : PaceSeen) → (piece : List ℕ) → ReadEnd → Type 0
-ReadIsPaced waits waits' old new piece end = ReadIsPacedBy old.pace waits waits' old new piece end
+abbrev pub ReadIsPaced : (old new : PaceSeen) → (piece : List ℕ) → ReadEnd → Type 0
+ReadIsPaced old new piece end = ReadIsPacedBy old.pace old new piece end

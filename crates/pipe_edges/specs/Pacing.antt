@@ -1,9 +1,8 @@
 -- What a fetch of lines does with a pace.
 use Rattle.std.specs.Prelude.{◌≡◌, ◌⊎◌, ◌+◌, ℕ, Bool, true, false, List, [], ◌∷◌, ◌++◌, length, take, Option, Some, None, Result, Ok, Err, IfOk}
-use Rattle.pipe_types.specs.Counts.{Rose}
 use Rattle.pipe_edges.specs.declared.source.ByteSource.{Ghosts as SourceOf}
 use Rattle.pipe_edges.specs.Texts.{HasNoLf}
-use Rattle.pipe_edges.specs.Paces.{Pace, PaceSeen, told_at, OwnWaitsRose, KeepsPace, EndsRecord, ReadIsPaced}
+use Rattle.pipe_edges.specs.Paces.{Pace, PaceSeen, told_at, IsHeldUp, KeepsPace, EndsRecord, ReadIsPaced}
 use Rattle.pipe_edges.specs.declared.source.ReadEnd.{ReadEnd}
 use Rattle.pipe_edges.specs.declared.source.ReadEnd.TheVariants.{Got}
 use Rattle.pipe_edges.specs.declared.reading.LineEnd.TheVariants as end
@@ -35,10 +34,6 @@ pub record Gives (before records : ℕ) (paced : PaceSeen) (held : List ℕ) : T
   pub count : paced.given ≡ before + records
   pub in_step : IsInStep paced held
 
--- nothing was ready of its own, or the share is used up
-abbrev pub IsHeldUp : Pace → (waits waits' : ℕ) → (old new : PaceSeen) → Type 0
-IsHeldUp pace waits waits' old new = OwnWaitsRose waits waits' old new ⊎ (Rose old.stops new.stops × (new.given ≡ pace.share))
-
 -- ---- rounds
 
 -- what was read is held
@@ -50,7 +45,7 @@ AddsRead held held' piece _ = held' ≡ held
 pub record ReadIsHeld {B : Type 0} (source : SourceOf B) (old new : B) (held held' : List ℕ) (end : ReadEnd) : Type 0 where
   pub piece : List ℕ
   pub added : AddsRead held held' piece end
-  pub paced : ReadIsPaced (source.waits old) (source.waits new) (source.paced old) (source.paced new) piece end
+  pub paced : ReadIsPaced (source.paced old) (source.paced new) piece end
 
 -- what is held is a part of a record, or the record that was given last
 abbrev pub IsBetween : (before : ℕ) → PaceSeen → (held : List ℕ) → Type 0
@@ -66,23 +61,23 @@ abbrev pub RoundCounts : (before : ℕ) → PaceSeen → (held : List ℕ) → O
 RoundCounts before paced held None = IsBetween before paced held
 RoundCounts before paced held (Some stop) = StopCounts before paced held stop
 
-abbrev pub RoundIsHeldUp : Pace → (waits waits' : ℕ) → (old new : PaceSeen) → Option Stop → Type 0
-RoundIsHeldUp pace waits waits' old new (Some NotYet) = IsHeldUp pace waits waits' old new
-RoundIsHeldUp pace waits waits' old new _ = Unit {0}
+abbrev pub RoundIsHeldUp : Pace → (old new : PaceSeen) → Option Stop → Type 0
+RoundIsHeldUp pace old new (Some NotYet) = IsHeldUp pace old new
+RoundIsHeldUp pace old new _ = Unit {0}
 
-pub record RoundKeepsPace {E : Type 0} (pace : Pace) (waits waits' : ℕ) (old new : PaceSeen) (held held' : List ℕ) (result : Result (Option Stop) E) : Type 0 where
-  pub kept : KeepsPace pace waits waits' old new
+pub record RoundKeepsPace {E : Type 0} (pace : Pace) (old new : PaceSeen) (held held' : List ℕ) (result : Result (Option Stop) E) : Type 0 where
+  pub kept : KeepsPace pace old new
   pub counted : (before : ℕ) → IsBetween before old held → IfOk result (RoundCounts before new held')
-  pub held_up : IfOk result (RoundIsHeldUp pace waits waits' old new)
+  pub held_up : IfOk result (RoundIsHeldUp pace old new)
 
-abbrev pub RoundIsPacedBy : {E : Type 0} → Option Pace → (waits waits' : ℕ) → (old new : PaceSeen) → (held held' : List ℕ) → Result (Option Stop) E → Type 0
-RoundIsPacedBy None waits waits' old new held held' result = new ≡ old
-RoundIsPacedBy (Some pace) waits waits' old new held held' result = RoundKeepsPace pace waits waits' old new held held' result
+abbrev pub RoundIsPacedBy : {E : Type 0} → Option Pace → (old new : PaceSeen) → (held held' : List ℕ) → Result (Option Stop) E → Type 0
+RoundIsPacedBy None old new held held' result = new ≡ old
+RoundIsPacedBy (Some pace) old new held held' result = RoundKeepsPace pace old new held held' result
 
 -- a round of a fetch, or several
 abbrev pub RoundIsPaced : {B E : Type 0} → SourceOf B → (old new : B) → (held held' : List ℕ) → Result (Option Stop) E → Type 0
 RoundIsPaced source old new held held' result =
-    RoundIsPacedBy (source.paced old).pace (source.waits old) (source.waits new) (source.paced old) (source.paced new) held held' result
+    RoundIsPacedBy (source.paced old).pace (source.paced old) (source.paced new) held held' result
 
 abbrev pub as_round : {E : Type 0} → Result Stop E → Result (Option Stop) E
 as_round (Ok stop) = Ok (Some stop)
@@ -95,22 +90,22 @@ FetchCounts before paced held (fetched.Records records) = Gives before (length r
 FetchCounts before paced held fetched.TooLong = Unit {0}
 FetchCounts before paced held _ = Gives before 0 paced held
 
-abbrev pub FetchIsHeldUp : Pace → (waits waits' : ℕ) → (old new : PaceSeen) → Fetched → Type 0
-FetchIsHeldUp pace waits waits' old new fetched.NotYet = IsHeldUp pace waits waits' old new
-FetchIsHeldUp pace waits waits' old new _ = Unit {0}
+abbrev pub FetchIsHeldUp : Pace → (old new : PaceSeen) → Fetched → Type 0
+FetchIsHeldUp pace old new fetched.NotYet = IsHeldUp pace old new
+FetchIsHeldUp pace old new _ = Unit {0}
 
 -- what is in step stays so, and the records that are handed out are just those that the source gave, unless a line is too long;
--- nothing is ready only where the source had nothing ready of its own or the share is used up
-pub record FetchKeepsPace {E : Type 0} (pace : Pace) (waits waits' : ℕ) (old new : PaceSeen) (held held' : List ℕ) (result : Result Fetched E) : Type 0 where
-  pub kept : KeepsPace pace waits waits' old new
+-- nothing is ready only where the source itself had nothing ready or the share is used up
+pub record FetchKeepsPace {E : Type 0} (pace : Pace) (old new : PaceSeen) (held held' : List ℕ) (result : Result Fetched E) : Type 0 where
+  pub kept : KeepsPace pace old new
   pub counted : IsInStep old held → IfOk result (FetchCounts old.given new held')
-  pub held_up : IfOk result (FetchIsHeldUp pace waits waits' old new)
+  pub held_up : IfOk result (FetchIsHeldUp pace old new)
 
-abbrev pub FetchIsPacedBy : {E : Type 0} → Option Pace → (waits waits' : ℕ) → (old new : PaceSeen) → (held held' : List ℕ) → Result Fetched E → Type 0
-FetchIsPacedBy None waits waits' old new held held' result = new ≡ old
-FetchIsPacedBy (Some pace) waits waits' old new held held' result = FetchKeepsPace pace waits waits' old new held held' result
+abbrev pub FetchIsPacedBy : {E : Type 0} → Option Pace → (old new : PaceSeen) → (held held' : List ℕ) → Result Fetched E → Type 0
+FetchIsPacedBy None old new held held' result = new ≡ old
+FetchIsPacedBy (Some pace) old new held held' result = FetchKeepsPace pace old new held held' result
 
 -- a fetch of a source with a pace; without one the gate stays as it is
 abbrev pub FetchIsPaced : {B E : Type 0} → SourceOf B → (old new : B) → (held held' : List ℕ) → Result Fetched E → Type 0
 FetchIsPaced source old new held held' result =
-    FetchIsPacedBy (source.paced old).pace (source.waits old) (source.waits new) (source.paced old) (source.paced new) held held' result
+    FetchIsPacedBy (source.paced old).pace (source.paced old) (source.paced new) held held' result

@@ -25,4 +25,14 @@ pub trait Clock {
         ensures latest { latest self.new ≡ latest self.old }
         ensures readings { readings self.new ≡ readings self.old }
         ensures pauses { Rose (pauses self.old) (pauses self.new) };
+
+    /// Lets about so many milliseconds pass, where it can tell how many; else some time.
+    fn pause_for(&mut self, ms: u64)
+        ensures latest { latest self.new ≡ latest self.old }
+        ensures readings { readings self.new ≡ readings self.old }
+        ensures pauses { Rose (pauses self.old) (pauses self.new) }
+    {
+        let _ = ms;
+        self.pause();
+    }
 }

@@ -30,8 +30,8 @@ pub trait ByteSource {
     /// How often nothing was ready.
     ghost waits: { Self → ℕ };
 
-    /// What is seen of a gate before it: the pace, the moment, the records given since its interval began, and the
-    /// stops, which are among the waits. Without a pace all of it is as in the beginning.
+    /// What is seen of a gate before it: the pace, the moment, the records given since its interval began, and how often
+    /// nothing was ready of the source behind it. Without a pace all of it is as in the beginning.
     ghost paced: { Self → PaceSeen } = { λ _. unpaced };
 
     /// Reads some of the next bytes into the front of the piece.
@@ -44,7 +44,7 @@ pub trait ByteSource {
         ensures faults_stay { faults self.old ≤ faults self.new }
         ensures waits_stay { waits self.old ≤ waits self.new }
         ensures cause { ReadHasCause (faults self.old) (faults self.new) (waits self.old) (waits self.new) result }
-        ensures paced { ReadIsPaced (waits self.old) (waits self.new) (paced self.old) (paced self.new) piece.new result };
+        ensures paced { ReadIsPaced (paced self.old) (paced self.new) piece.new result };
 
     /// Tells the moment in milliseconds. It does nothing to a source without a pace, and nothing to the bytes and the
     /// counts of any.

@@ -1,6 +1,6 @@
 -- A source that was made of records gives these records.
 use Rattle.std.proofs.Common.{◌≡◌, ◌≤◌, ℕ, List, [], ◌∷◌, ◌++◌, length, Bool, arith, refl, ap, sym, ◌∙◌, subst, inl, inr}
-use Rattle.std.specs.Prelude.{All, Option, None}
+use Rattle.std.specs.Prelude.{All, IsSome, Option, None, true, false}
 use Rattle.std.proofs.lemmas.List.{append-nil, length-append}
 use Rattle.std.proofs.lemmas.List.Elements.{All-nil, All-cons, All-head, All-tail}
 use Rattle.pipe_types.specs.Counts.{Rose}
@@ -9,13 +9,14 @@ use Rattle.pipe_types.specs.declared.numbers.StageNo.{StageNo}
 use Rattle.pipe_types.specs.declared.topology.Rate.{Rate}
 use Rattle.pipe_model.specs.History.{History}
 use Rattle.pipe_model.specs.Outside.{fed}
-use Rattle.pipe_edges.specs.Paces.{own_waits, unpaced}
+use Rattle.pipe_edges.specs.Paces.{PaceSeen, unpaced}
 use Rattle.pipe_edges.specs.Texts.{IsLine, ended}
 use Rattle.pipe_edges.proofs.TextLaws.{lines_ended, lines_nil, pieces_front}
 use Rattle.source_lines.specs.Cut.{AreAllLines, AreFirstLines, AreLinesBeforeLong, HasShortLines}
 use Rattle.pipe_laws.specs.Read.{quiets}
 use Rattle.stage_job.specs.Chunks.{RoseBy}
 use Rattle.stage_bodies.specs.Seen.{SourceSeen}
+use Rattle.edge_names.specs.Gates.{HasNoWait}
 use Rattle.pipe_run.specs.Outside.{IsMadeRead}
 use Rattle.pipe_run.specs.Records.{ReadsRecords}
 
@@ -40,11 +41,12 @@ none_risen : (times now : ℕ) → now ≡ 0 → RoseBy times 0 now → times �
 none_risen times now none (inl low) = omega (arith, none, low)
 none_risen times now none (inr full) = absurd (omega (arith, none, full))
 
--- without a gate every wait is its own
-no_waits : (source : SourceSeen) → own_waits source.waits source.paced ≡ 0 → source.paced ≡ unpaced → source.waits ≡ 0
-no_waits source calm plain =
-    let none : own_waits source.waits unpaced ≡ 0 = subst (λ paced. own_waits source.waits paced ≡ 0) plain calm in
-    omega (arith, none)
+-- without a gate no wait was counted
+no_waits : (source : SourceSeen) → HasNoWait source → source.paced ≡ unpaced → source.waits ≡ 0
+no_waits source (inl none) plain = none
+no_waits source (inr (some, own)) plain =
+    let none : IsSome unpaced.pace = subst (λ (p : PaceSeen). IsSome p.pace) plain some in
+    let x : false ≡ true = none in cc
 
 pub reads_records : (whole : Bool) (rate : Option Rate) (before : History) (p : StageNo) (records : List (List ℕ)) (source : SourceSeen) → All IsLine records → IsMadeRead whole before p (ended records) source
     → (rate ≡ None → source.paced ≡ unpaced) → ReadsRecords whole rate before p records

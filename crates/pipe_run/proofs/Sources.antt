@@ -25,9 +25,9 @@ use Rattle.stage_job.specs.Chunks.{RoseBy}
 use Rattle.stage_bodies.specs.Reads.{AreReadFrom}
 use Rattle.stage_bodies.specs.Seen.{SourceSeen, LineSeen}
 use Rattle.body_laws.specs.Keeps.{IsKnownEnd, KeepsSource}
-use Rattle.pipe_edges.specs.Paces.{Pace, PaceSeen, own_waits}
+use Rattle.pipe_edges.specs.Paces.{Pace, PaceSeen}
 use Rattle.rate_laws.specs.Rates.{own_quiets}
-use Rattle.pace_laws.specs.Pacing.{KeepsPaceBy, OwnRose, at_start}
+use Rattle.pace_laws.specs.Pacing.{KeepsPaceBy, at_start}
 use Rattle.edge_names.specs.Seen.{EdgesSeen}
 use Rattle.edge_names.specs.Named.{GivesSource}
 use Rattle.edge_names.specs.Supplies.{Feed, Opened, Made, Fed, IsMade}
@@ -156,15 +156,10 @@ feed_read whole topology before s full lost edges pace (Made bytes) opened now l
 
 -- ---- its pace
 
-no_waits : (edges : EdgesSeen) (feed : Feed) (source : SourceSeen) → GivesFeed edges feed (without_gate source) → source.waits ≡ 0
-no_waits edges (Opened name) source gives = gives.no_wait
-no_waits edges (Made bytes) source gives = gives.no_wait
-
-kept_pace : (pace : Option Pace) (before : History) (s : StageNo) (full : Bool) (opened : SourceSeen) (now : LineSeen) → opened.paced ≡ at_start pace → opened.waits ≡ 0 → KeepsPaceBy pace before s full opened now → KeepsItsPace pace before s now.source
-kept_pace None before s full opened now begins none k = k ∙ begins
-kept_pace (Some pace) before s full opened now begins none k =
-    let own : own_waits opened.waits opened.paced ≡ 0 = omega (arith, none) in
-    (k.within, subst (λ n. OwnRose (own_quiets pace.share pace.interval before s) now.source.waits n (own_waits now.source.waits now.source.paced)) own k.own)
+kept_pace : (pace : Option Pace) (before : History) (s : StageNo) (full : Bool) (opened : SourceSeen) (now : LineSeen) → opened.paced ≡ at_start pace → KeepsPaceBy pace before s full opened now → KeepsItsPace pace before s now.source
+kept_pace None before s full opened now begins k = k ∙ begins
+kept_pace (Some pace) before s full opened now begins k =
+    (k.within, subst (λ n. RoseBy (own_quiets pace.share pace.interval before s) n now.source.paced.own) (ap (λ (p : PaceSeen). p.own) begins) k.own)
 
 pub fed_read : (whole : Bool) (topology : Topology) (before : History) (s : StageNo) (full : Bool) (lost : List (List ℕ)) (edges : EdgesSeen) (pace : Option Pace) (feed : Feed) (opened now : LineSeen) → is_legal topology before ≡ true → has_role topology s is_producer_role ≡ true → same_stage s (stage 0) ≡ false
     → (lost ≡ []) ⊎ (is_out before (post s 0) ≡ true) → GivesFed edges pace feed opened → KeepsSource before s full lost opened now → (IsTrue whole → IsCalm (Some (Fed pace feed)) (Some now.source)) → IsFedRead whole edges before s pace feed now.source
@@ -172,5 +167,5 @@ fed_read whole topology before s full lost edges pace feed opened now legal role
     let same : opened.source.paced.pace ≡ pace = ap (λ (p : PaceSeen). p.pace) gives.gate in
     record {
       read = feed_read whole topology before s full lost edges pace feed opened now legal role own in_fetch gives.source k calm;
-      pace = kept_pace pace before s full opened.source now gives.gate (no_waits edges feed opened.source gives.source) (subst (λ p. KeepsPaceBy p before s full opened.source now) same k.paced);
+      pace = kept_pace pace before s full opened.source now gives.gate (subst (λ p. KeepsPaceBy p before s full opened.source now) same k.paced);
     }

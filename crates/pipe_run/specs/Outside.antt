@@ -18,11 +18,10 @@ use Rattle.stage_bodies.specs.Posts.{place_at}
 use Rattle.body_laws.specs.Counts.{short_writes}
 use Rattle.body_laws.specs.Ready.{There}
 use Rattle.run_pipe.specs.Obeyed.{IsControlRead}
-use Rattle.pipe_edges.specs.Paces.{Pace, own_waits, unpaced}
+use Rattle.pipe_edges.specs.Paces.{Pace, unpaced}
 use Rattle.rate_laws.specs.Rates.{came_by, own_quiets}
-use Rattle.pace_laws.specs.Pacing.{OwnRose}
 use Rattle.edge_names.specs.Seen.{EdgesSeen}
-use Rattle.edge_names.specs.Gates.{AreInner, without_gate}
+use Rattle.edge_names.specs.Gates.{AreInner, HasNoWait, without_gate}
 use Rattle.edge_names.specs.Named.{GivesSource, GivesSink}
 use Rattle.edge_names.specs.Supplies.{Feeds, Feed, Opened, Made, Fed, Written, call_of}
 use Rattle.edge_names.specs.Opened.{AreOpened, HasSource, supplied_in, calls_of, edge_calls}
@@ -74,25 +73,25 @@ pub record IsSinkWritten (topology : Topology) (edges : EdgesSeen) (before : His
   pub short : RoseBy (short_writes topology before s) 0 sink.faults
 
 -- the source that was made of these bytes has them, and the journal's records are its lines. In a whole run it has counted no
--- fault, and no wait but for the stops of its gate
+-- fault, and it was never the source itself that had nothing ready
 pub record IsMadeRead (whole : Bool) (before : History) (p : StageNo) (bytes : List ℕ) (source : SourceSeen) : Type 0 where
   pub tells : IsTrue source.told
   pub same_bytes : source.taken ++ source.left ≡ bytes
   pub reads : ReadsSource before p source
-  pub calm : IsTrue whole → (source.faults ≡ 0) × (own_waits source.waits source.paced ≡ 0)
+  pub calm : IsTrue whole → (source.faults ≡ 0) × HasNoWait source
 
 -- the source of a producer, however it came to it
 abbrev pub IsFeedRead : (whole : Bool) → EdgesSeen → History → (p : StageNo) → Feed → SourceSeen → Type 0
 IsFeedRead whole edges before p (Opened name) source = IsSourceRead edges before p name source
 IsFeedRead whole edges before p (Made bytes) source = IsMadeRead whole before p bytes source
 
--- no interval brought more records than the share, and nothing was ready of its own at least once for each quiet of the journal
+-- no interval brought more records than the share, and the source itself had nothing ready at least once for each quiet of the journal
 -- that came while the share had one left; without a pace it has no gate
 abbrev pub KeepsItsPace : Option Pace → History → (p : StageNo) → SourceSeen → Type 0
 KeepsItsPace None before p source = source.paced ≡ unpaced
 KeepsItsPace (Some pace) before p source =
     ((i : ℕ) → came_by p pace.interval i before ≤ pace.share)
-    × OwnRose (own_quiets pace.share pace.interval before p) source.waits 0 (own_waits source.waits source.paced)
+    × RoseBy (own_quiets pace.share pace.interval before p) 0 source.paced.own
 
 -- the source of a producer that is read at this pace
 pub record IsFedRead (whole : Bool) (edges : EdgesSeen) (before : History) (p : StageNo) (pace : Option Pace) (feed : Feed) (source : SourceSeen) : Type 0 where

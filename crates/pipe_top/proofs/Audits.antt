@@ -16,7 +16,7 @@ use Rattle.pipe_edges.specs.Whole.{WholeIs, ReadsWhole}
 use Rattle.stage_bodies.specs.Seen.{SourceSeen}
 use Rattle.edge_names.specs.Seen.{EdgesSeen}
 use Rattle.edge_names.specs.Named.{GivesSource, Opens, BacksSource}
-use Rattle.journal_audit.specs.declared.verdict.Summary.{Summary}
+use Rattle.run_verdicts.specs.Judged.{Summary}
 use Rattle.run_verdicts.specs.declared.audits.AuditFault.{AuditFault}
 use Rattle.run_verdicts.specs.declared.audits.AuditFault.TheVariants.{Line, Large, Wait, Source}
 use Rattle.run_verdicts.specs.declared.verdict.Refusal.{Refusal}

@@ -26,7 +26,7 @@ use Rattle.pipe_run.specs.Outside.{IsFedRead, IsFeedRead, IsSourceRead, IsSinkWr
 use Rattle.pipe_top.specs.Cases.{feeds_of, Case, NoCommand, NoTopology as BadTopology, TooFew, Checks, Upgrades, Audits, Rejects, Runs}
 use Rattle.pipe_top.specs.Runs.{OutsideSeen, IsUntouched, IsJournalBack, IsAuditedIn, IsNothingBack, IsBrokenOff, IsGivenUp, HasRunOrNot, IsOutsideOf, FailsAt}
 use Rattle.pipe_top.specs.Audits.{IsAuditOf, MayBeBack}
-use Rattle.journal_audit.specs.declared.verdict.Summary.{Summary}
+use Rattle.run_verdicts.specs.Judged.{Summary}
 use Rattle.run_verdicts.specs.declared.audits.AuditFault.{AuditFault}
 use Rattle.pipe_top.specs.Flows.{IsEarly, Outcome, AskedBy, ComesBy}
 use Rattle.run_verdicts.specs.declared.verdict.Refusal.TheVariants.{Usage, Topology as NoTopology, Stock, Edge, Audit, Memory}

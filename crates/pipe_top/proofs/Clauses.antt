@@ -9,7 +9,7 @@ use Rattle.pipe_model.specs.History.{History}
 use Rattle.pipe_edges.specs.declared.edges.EdgeKind.{EdgeKind}
 use Rattle.edge_names.specs.Supplies.{Feeds}
 use Rattle.program_words.specs.Refusals.{memory_line}
-use Rattle.journal_audit.specs.declared.verdict.Summary.{Summary}
+use Rattle.run_verdicts.specs.Judged.{Summary}
 use Rattle.program_words.specs.Words.{Command, Flow, Check, Run, Gen, Upgrade, Audit as AuditOf}
 use Rattle.topology_needs.specs.declared.stock.Boxes.{Boxes}
 use Rattle.topology_needs.specs.declared.stock.Shortage.{Shortage}

@@ -5,9 +5,7 @@ use Rattle.pipe_types.specs.declared.topology.Topology.{Topology}
 use Rattle.stage_bodies.specs.Seen.{SourceSeen}
 use Rattle.edge_names.specs.Seen.{EdgesSeen}
 use Rattle.edge_names.specs.Named.{GivesSource}
-use Rattle.journal_audit.specs.declared.verdict.Summary.{Summary}
-use Rattle.journal_audit.specs.declared.verdict.Verdict.TheVariants.{Legal, Bad}
-use Rattle.journal_audit.specs.Verdicts.{verdict_in, IsLegalText}
+use Rattle.run_verdicts.specs.Judged.{Summary, Legal, Bad, verdict_in, IsLegalText}
 use Rattle.run_verdicts.specs.declared.audits.AuditFault.{AuditFault}
 use Rattle.run_verdicts.specs.declared.audits.AuditFault.TheVariants.{Line, Large, Wait, Source}
 

@@ -17,7 +17,7 @@ use Rattle.edge_names.specs.Supplies.{Feed}
 use Rattle.topology_needs.specs.Needs.{subscriptions_of}
 use Rattle.topology_needs.specs.declared.stock.Boxes.{Boxes}
 use Rattle.topology_needs.specs.declared.stock.Shortage.{Shortage}
-use Rattle.journal_audit.specs.declared.verdict.Summary.{Summary}
+use Rattle.run_verdicts.specs.Judged.{Summary, Legal, Bad, verdict_in, IsLegalText}
 use Rattle.pipe_top.specs.Audits.{IsAuditOf, IsFound, FaultHasCause, MayBeBack}
 use Rattle.pipe_top.specs.Cases.{Feeding, Named, MadeFrom, origin_of, Case, NoCommand, NoTopology as BadTopology, TooFew, Checks, Upgrades, Audits, Rejects, Runs, audit_case, case_of, calls_of, file_name, IsNamedFile}
 use Rattle.run_verdicts.specs.Audits.{legal_text}
@@ -25,8 +25,6 @@ use Rattle.run_verdicts.specs.Verdicts.{whole_text, status_in}
 use Rattle.run_verdicts.specs.declared.audits.AuditFault.{AuditFault}
 use Rattle.run_verdicts.specs.declared.audits.AuditFault.TheVariants.{Line}
 use Rattle.stage_bodies.specs.Seen.{SourceSeen}
-use Rattle.journal_audit.specs.declared.verdict.Verdict.TheVariants.{Legal, Bad}
-use Rattle.journal_audit.specs.Verdicts.{verdict_in, IsLegalText}
 use Rattle.pipe_top.specs.Runs.{OutsideSeen, IsEnded, IsRun, IsOutsideOf, IsAuditedIn, Asks, FailsAt}
 use Rattle.run_verdicts.specs.Texts.{run_text}
 use Rattle.run_verdicts.specs.declared.verdict.Refusal.{Refusal}

@@ -9,12 +9,11 @@ ghost use Rattle.pipe_top.specs.Flows.{IsAuditedOrNot, JudgesText, JudgesSource,
 use crate::file::text_of;
 use crate::run::{Ran, refused};
 use edge_names::{SeenEdges, SeenSource};
-use journal_audit::{Summary, Verdict as Judgement, audit};
 use pipe_edges::{ByteSource, EdgeEnd, Edges, WholeRead, read_all};
 use pipe_journal::Journal;
 use pipe_types::bytes::{Bytes, Text};
 use pipe_types::topology::Topology;
-use run_verdicts::{AuditFault, Refusal, Texts, Verdict, legal_text};
+use run_verdicts::{AuditFault, Judgement, Refusal, Summary, Texts, Verdict, audit, legal_text};
 use std::alloc::{AllocError, Global};
 
 /// As many bytes as a journal may have.

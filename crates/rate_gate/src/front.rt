@@ -1,8 +1,8 @@
 //! What stands between a source and who reads it: a gate, and the bytes that were read ahead.
 
-ghost use Rattle.std.specs.Prelude.{◌≡◌, ◌<◌, ◌≤◌, ◌++◌, ℕ, List, [], false, Some, length, take, max, IsTrue, IfOk};
+ghost use Rattle.std.specs.Prelude.{◌≡◌, ◌<◌, ◌≤◌, ◌++◌, ℕ, [], false, length, IsTrue, IfOk};
 ghost use Rattle.pipe_edges.specs.Reads.{ReadsBytes, ReadIsCounted, ReadHasCause};
-ghost use Rattle.pipe_edges.specs.Paces.{PaceSeen, ReadIsPaced, told_at};
+ghost use Rattle.pipe_edges.specs.Paces.{ReadIsPaced, told_at};
 ghost use Rattle.pipe_edges.specs.declared.source.ReadEnd.TheVariants.{Empty};
 
 use crate::gate::Gate;
@@ -22,10 +22,10 @@ pub struct Front {
 
 impl Front {
     ghost use Rattle.rate_gate.specs.Gate.{pace_of, moment_of, given_of};
-    ghost use Rattle.rate_gate.specs.Front.{front_seen, taken_before, HoldsLast, waits_with, IsGiven, IsEnded, IsStopped};
+    ghost use Rattle.rate_gate.specs.Front.{front_seen, paced_with, taken_before, HoldsLast, waits_with, IsGiven, IsEnded, IsStopped};
 
     pub fn new(alloc: Global, gate: Gate) -> Result<Front, AllocError>
-        ensures { IfOk result (λ f. front_seen f ≡ record { held = []; paced = record { pace = Some (pace_of gate); moment = moment_of gate; given = given_of gate; part = false; stops = 0 } }) }
+        ensures { IfOk result (λ f. front_seen f ≡ record { held = []; pace = pace_of gate; moment = moment_of gate; given = given_of gate; part = false; stops = 0 }) }
     {
         let room = Room::new(alloc)?;
         Ok(Front {
@@ -39,7 +39,8 @@ impl Front {
     // Tells the moment; one below the last is taken as the last.
     pub fn at(&mut self, now: u64)
         ensures held { (front_seen self.new).held ≡ (front_seen self.old).held }
-        ensures paced { (front_seen self.new).paced ≡ told_at now (front_seen self.old).paced }
+        ensures same_stops { (front_seen self.new).stops ≡ (front_seen self.old).stops }
+        ensures paced { (waits : ℕ) → paced_with waits (front_seen self.new) ≡ told_at now (paced_with waits (front_seen self.old)) }
     {
         let moment = self.gate.moment().max(now);
         self.gate.at(moment);
@@ -56,11 +57,10 @@ impl Front {
             → ReadsBytes (taken_before (front_seen self.old).held (B.taken source.old)) ((front_seen self.old).held ++ B.left source.old) piece.new
             (taken_before (front_seen self.new).held (B.taken source.new)) ((front_seen self.new).held ++ B.left source.new) result }
         ensures faults_stay { B.faults source.old ≤ B.faults source.new }
-        ensures waits_stay { waits_with (front_seen self.old).paced.stops (B.waits source.old) ≤ waits_with (front_seen self.new).paced.stops (B.waits source.new) }
+        ensures waits_stay { waits_with (front_seen self.old).stops (B.waits source.old) ≤ waits_with (front_seen self.new).stops (B.waits source.new) }
         ensures cause { ReadHasCause (B.faults source.old) (B.faults source.new)
-            (waits_with (front_seen self.old).paced.stops (B.waits source.old)) (waits_with (front_seen self.new).paced.stops (B.waits source.new)) result }
-        ensures paced { ReadIsPaced (waits_with (front_seen self.old).paced.stops (B.waits source.old)) (waits_with (front_seen self.new).paced.stops (B.waits source.new))
-            (front_seen self.old).paced (front_seen self.new).paced piece.new result }
+            (waits_with (front_seen self.old).stops (B.waits source.old)) (waits_with (front_seen self.new).stops (B.waits source.new)) result }
+        ensures paced { ReadIsPaced (paced_with (B.waits source.old) (front_seen self.old)) (paced_with (B.waits source.new) (front_seen self.new)) piece.new result }
     {
         if self.room.len() == 0 {
             match self.room.fill(source) {

@@ -81,7 +81,7 @@ impl<B: ByteSource> ByteSource for GatedSource<B> {
 
     ghost waits = { λ s. waits_by s.front (B.waits s.inner) };
 
-    ghost paced = { λ s. paced_by s.front (B.paced s.inner) };
+    ghost paced = { λ s. paced_by s.front (B.waits s.inner) (B.paced s.inner) };
 
     fn read(&mut self, piece: &mut [u8]) -> ReadEnd {
         match &mut self.front {

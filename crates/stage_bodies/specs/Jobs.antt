@@ -18,8 +18,8 @@ use Rattle.pipe_model.specs.Work.{is_end_by, is_write_end, own_text, is_failed_b
 use Rattle.pipe_edges.specs.Cut.{CutsAll}
 use Rattle.pipe_edges.specs.Needed.{ReadsAsNeeded}
 use Rattle.pipe_edges.specs.Fetch.{text_of}
-use Rattle.pipe_edges.specs.Paces.{Pace, KeepsPace}
-use Rattle.pipe_edges.specs.Pacing.{IsInStep, Gives, IsHeldUp}
+use Rattle.pipe_edges.specs.Paces.{Pace, IsHeldUp, KeepsPace}
+use Rattle.pipe_edges.specs.Pacing.{IsInStep, Gives}
 use Rattle.pipe_edges.specs.declared.reading.LineEnd.{LineEnd}
 use Rattle.pipe_edges.specs.declared.reading.LineEnd.TheVariants as end
 use Rattle.stage_callback.specs.Callbacks.{is_message_for, is_passed}
@@ -73,14 +73,14 @@ FetchGives before now (came.Records records) = Gives before (length records) now
 FetchGives before now (came.Ended how.TooLong) = Unit {0}
 FetchGives before now _ = Gives before 0 now.source.paced now.waiting
 
--- nothing was ready only where the source had nothing of its own, or the share is used up
+-- nothing was ready only where the source itself had nothing ready, or the share is used up
 abbrev pub FetchIsHeldUp : Pace → (old new : LineSeen) → Came → Type 0
-FetchIsHeldUp pace old new came.NotYet = IsHeldUp pace old.source.waits new.source.waits old.source.paced new.source.paced
+FetchIsHeldUp pace old new came.NotYet = IsHeldUp pace old.source.paced new.source.paced
 FetchIsHeldUp pace old new _ = Unit {0}
 
 -- a fetch with a pace
 pub record FetchKeepsPace (pace : Pace) (result : Came) (old new : LineSeen) : Type 0 where
-  pub kept : KeepsPace pace old.source.waits new.source.waits old.source.paced new.source.paced
+  pub kept : KeepsPace pace old.source.paced new.source.paced
   pub counted : IsInStep old.source.paced old.waiting → FetchGives old.source.paced.given new result
   pub held_up : FetchIsHeldUp pace old new result
 
@@ -214,7 +214,7 @@ IsDone _ _ old new = ⊥
 -- a fetch that was cut off keeps the pace; without one the gate stays as it is
 abbrev pub CutKeepsPace : Option Pace → (old new : LineSeen) → Type 0
 CutKeepsPace None old new = new.source.paced ≡ old.source.paced
-CutKeepsPace (Some pace) old new = KeepsPace pace old.source.waits new.source.waits old.source.paced new.source.paced
+CutKeepsPace (Some pace) old new = KeepsPace pace old.source.paced new.source.paced
 
 -- memory was wanting: no line is gone, and an end stays known
 pub record IsCutFetch (old new : LineSeen) : Type 0 where

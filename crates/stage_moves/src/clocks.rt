@@ -1,6 +1,6 @@
 //! The time of a run.
 
-ghost use Rattle.std.specs.Prelude.{◌≡◌, false};
+ghost use Rattle.std.specs.Prelude.{◌≡◌, ◌≤◌, false, None};
 ghost use Rattle.pipe_types.specs.Counts.{Rose};
 ghost use Rattle.pipe_model.specs.Legal.{happened, is_halt};
 ghost use Rattle.core_state.specs.Stands.{Stands};
@@ -10,7 +10,15 @@ ghost use Rattle.stage_moves.specs.Going.{Waits};
 use core_calls::asks::tick;
 use core_state::Core;
 use pipe_edges::Clock;
+use pipe_types::topology::{Role, Topology};
 use std::alloc::AllocError;
+
+/// How long a pause is at least, in milliseconds, and at most.
+const LEAST_MS: u64 = 1;
+const MOST_MS: u64 = 1_000;
+
+/// How many pauses an interval of a rate has, where it is not shorter or longer than these.
+const PAUSES: u64 = 32;
 
 /// Reads the clock, and appends a tick where the reading is past the last one.
 pub(crate) fn read_clock<C: Clock>(core: &mut Core, clock: &mut C) -> Result<(), AllocError>
@@ -29,6 +37,26 @@ pub(crate) fn read_clock<C: Clock>(core: &mut Core, clock: &mut C) -> Result<(),
     Ok(())
 }
 
+/// How long a pause is, in milliseconds. Where no source says anything each waits in its own read, and a pause is short. A gate whose
+/// share is used up waits in none: with a rate a pause is the 32nd part of an interval, so that the wait for the next one adds few
+/// ticks, and of each batcher's time limit, so that no batch closes late by more.
+fn pause_ms(topology: &Topology) -> u64
+    ensures least { 1 ≤ result }
+    ensures most { result ≤ 1000 }
+    ensures without { topology.now.rate ≡ None → result ≡ 1 }
+{
+    let Some(rate) = &topology.rate else {
+        return LEAST_MS;
+    };
+    let mut least = rate.interval;
+    for spec in topology.stages.as_slice() {
+        if spec.role == Role::Batcher {
+            least = least.min(spec.batch_timeout);
+        }
+    }
+    (least / PAUSES).clamp(LEAST_MS, MOST_MS)
+}
+
 /// Lets time pass, reads the clock, and appends a tick with that reading, or with the last tick where the reading is below.
 pub fn pause<C: Clock>(core: &mut Core, clock: &mut C) -> Result<(), AllocError>
     requires stands { Stands core.old }
@@ -39,7 +67,7 @@ pub fn pause<C: Clock>(core: &mut Core, clock: &mut C) -> Result<(), AllocError>
     ensures paused { IsPaused result core.old.journal.steps core.new.journal.steps (clock_seen C.latest C.readings C.pauses clock.old) (clock_seen C.latest C.readings C.pauses clock.new) }
     ensures slept { Rose (C.pauses clock.old) (C.pauses clock.new) }
 {
-    clock.pause();
+    clock.pause_for(pause_ms(core.topology()));
     let reading = clock.now();
     let now = core.now().max(reading);
     tick(core, now)

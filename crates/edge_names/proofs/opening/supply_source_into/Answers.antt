@@ -2,8 +2,17 @@ use Rattle.std.specs.Prelude.{option_map}
 use Rattle.stage_bodies.specs.Seen.{body_at, source_seen, sink_seen}
 use Rattle.rate_gate.specs.Gate.{pace_of}
 use Rattle.edge_names.specs.Seen.{edges_seen}
-use Rattle.edge_names.proofs.Supplying.{feed_not}
+use Rattle.edge_names.proofs.Supplying.{feed_cut_off, feed_none, feed_not, feed_opened}
 use Rattle.edge_names.proofs.opening.supply_source_into.Goals as goal
+
+pub returns-in-Ok-clause-opens : goal.returns-in-Ok-clause-opens
+returns-in-Ok-clause-opens g c = ?
+
+pub returns-in-Ok-None-clause-opens : goal.returns-in-Ok-None-clause-opens
+returns-in-Ok-None-clause-opens g c = ?
+
+pub returns-in-Err-gated_lines-clause-opens : goal.returns-in-Err-gated_lines-clause-opens
+returns-in-Err-gated_lines-clause-opens g c = ?
 
 pub returns-in-Err-clause-opens : goal.returns-in-Err-clause-opens
 returns-in-Err-clause-opens g c =

@@ -15,4 +15,4 @@ pub returns-then-not-is_empty-clause-paced : goal.returns-then-not-is_empty-clau
 returns-then-not-is_empty-clause-paced g c =
     let source = g.B.ByteSource in
     let cut = c.in_ok-records.ensures.lines in
-    cut_round _ _ (source.waits c.args.source.now) (source.paced c.args.source.now) c.args.held.now c.take_lines.new.self c.in_ok-records.records (search rules) cut.0 cut.1
+    cut_round _ _ (source.paced c.args.source.now) c.args.held.now c.take_lines.new.self c.in_ok-records.records (search rules) cut.0 cut.1

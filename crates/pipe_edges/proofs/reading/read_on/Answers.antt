@@ -12,9 +12,9 @@ loop-stop-preserved g c =
     record {
       handed = handed_more c.loop-stop.invariant.handed handed;
       paced =
-          round_more _ _ (source.waits c.args.source.now) (source.waits c.loop-stop.source) (source.waits c.go_round.new.source)
+          round_more _ _
           (source.paced c.args.source.now) (source.paced c.loop-stop.source) (source.paced c.go_round.new.source) c.args.held.now c.loop-stop.held c.go_round.new.held _
-          refl handed.waits_stay c.loop-stop.invariant.paced (rw c.in_default.is at c.in_ok-stop.ensures.paced);
+          refl c.loop-stop.invariant.paced (rw c.in_default.is at c.in_ok-stop.ensures.paced);
       needed = needed_more _ _ _ _ c.loop-stop.invariant.needed (rw c.in_default.is at c.in_ok-stop.ensures.needed);
       unread = search rules;
     }
@@ -22,9 +22,9 @@ loop-stop-preserved g c =
 pub returns-in-Some-clause-paced : goal.returns-in-Some-clause-paced
 returns-in-Some-clause-paced g c =
     let source = g.B.ByteSource in
-    round_more _ _ (source.waits c.args.source.now) (source.waits c.loop-stop.source) (source.waits c.go_round.new.source)
+    round_more _ _
     (source.paced c.args.source.now) (source.paced c.loop-stop.source) (source.paced c.go_round.new.source) c.args.held.now c.loop-stop.held c.go_round.new.held _
-    refl c.go_round.ensures.handed.waits_stay c.loop-stop.invariant.paced (rw c.in-Some.is at c.in_ok-stop.ensures.paced)
+    refl c.loop-stop.invariant.paced (rw c.in-Some.is at c.in_ok-stop.ensures.paced)
 
 pub returns-in-Some-clause-needed : goal.returns-in-Some-clause-needed
 returns-in-Some-clause-needed g c = needed_more _ _ _ _ c.loop-stop.invariant.needed (rw c.in-Some.is at c.in_ok-stop.ensures.needed)

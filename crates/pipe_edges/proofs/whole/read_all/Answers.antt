@@ -1,6 +1,6 @@
 use Rattle.std.proofs.Common.{◌≡◌}
 use Rattle.pipe_edges.specs.Held.{ReadGrows}
-use Rattle.pipe_edges.specs.declared.source.ReadEnd.TheVariants.{End, Failed, Empty}
+use Rattle.pipe_edges.specs.declared.source.ReadEnd.TheVariants.{End}
 use Rattle.pipe_edges.proofs.HandLaws.{handed_more}
 use Rattle.pipe_edges.proofs.WholeLaws.{whole_of}
 use Rattle.pipe_edges.proofs.whole.read_all.Goals as goal

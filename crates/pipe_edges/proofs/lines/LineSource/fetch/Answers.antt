@@ -12,5 +12,5 @@ pub returns-clause-paced : goal.returns-clause-paced
 returns-clause-paced g c =
     let source = g.B.ByteSource in
     rw c.into_fetched.ensures
-    (fetch_of _ _ _ (source.waits (line_source c.args.self.now)) (source.waits c.read_on.new.source) (source.paced (line_source c.args.self.now)) (source.paced c.read_on.new.source)
+    (fetch_of _ _ _ (source.paced (line_source c.args.self.now)) (source.paced c.read_on.new.source)
     (waiting c.args.self.now) c.read_on.new.held c.in_ok-stop.stop c.in_ok-stop.ensures.paced)
