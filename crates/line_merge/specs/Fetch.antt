@@ -1,11 +1,11 @@
 -- What a fetch of a merge says.
 use Rattle.std.specs.Prelude.{◌≡◌, ℕ, List, [], ◌++◌, length, map, Option, Some, None}
 use Rattle.pipe_edges.specs.declared.source.ByteSource.{Ghosts as SourceOf}
-use Rattle.pipe_edges.specs.declared.lines.LineSource.{LineSource}
+use Rattle.line_merge.specs.declared.stream.Stream.{Stream}
 use Rattle.pipe_edges.specs.declared.reading.Fetched.{Fetched}
 use Rattle.pipe_edges.specs.declared.reading.Fetched.TheVariants as fetched
 use Rattle.line_merge.specs.Streams.{Both, There}
-use Rattle.line_merge.specs.Tries.{HasNone, HasEnded, HasFailed, HasTooLong, IsOpen}
+use Rattle.line_merge.specs.Tries.{HasNone, HasWaited, HasEnded, HasFailed, HasTooLong}
 use Rattle.line_merge.specs.Merged.{IsMergedFrom}
 use Rattle.line_merge.specs.declared.merge.LineMerge.{LineMerge}
 use Rattle.line_merge.specs.declared.item.MergeEnd.{MergeEnd}
@@ -25,10 +25,10 @@ answer_to (TooLong place) = fetched.TooLong
 
 -- the first answer of its kind: exactly one line; or nothing, where some source is open and the waits of each open one rose; or
 -- each has ended; or some source failed now; or some source has a line that is too long
-abbrev pub FetchHasCause : {B : Type 0} → SourceOf B → (old new : ℕ → Option (LineSource B)) → Fetched → Type 0
+abbrev pub FetchHasCause : {B : Type 0} → SourceOf B → (old new : ℕ → Option (Stream B)) → Fetched → Type 0
 FetchHasCause source old new (fetched.Records records) = length records ≡ 1
-FetchHasCause source old new fetched.NotYet = ((k : ℕ) → Both (HasNone source) (old k) (new k)) × ((k : ℕ) × There IsOpen (old k) (new k))
-FetchHasCause source old new fetched.End = (k : ℕ) → Both HasEnded (old k) (new k)
+FetchHasCause source old new fetched.NotYet = ((k : ℕ) → Both (HasNone source) (old k) (new k)) × ((k : ℕ) × There (HasWaited source) (old k) (new k))
+FetchHasCause source old new fetched.End = (k : ℕ) → Both (λ a b. HasEnded b) (old k) (new k)
 FetchHasCause source old new fetched.Fault = (k : ℕ) × There (HasFailed source) (old k) (new k)
 FetchHasCause source old new fetched.TooLong = (k : ℕ) × There HasTooLong (old k) (new k)
 

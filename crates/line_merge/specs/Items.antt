@@ -1,5 +1,5 @@
 -- What a merge gives.
-use Rattle.std.specs.Prelude.{ℕ, List, [], ◌∷◌, ◌==◌, map, Option, Some, None, Result, Ok, Err}
+use Rattle.std.specs.Prelude.{ℕ, ◌+◌, ◌-◌, ◌==◌, List, [], ◌∷◌, length, map, slice_get, Option, Some, None, Result, Ok, Err}
 use Rattle.std.specs.List.{filter}
 use Rattle.pipe_edges.specs.declared.reading.LineEnd.{LineEnd}
 use Rattle.pipe_edges.specs.declared.reading.LineEnd.TheVariants as end
@@ -62,3 +62,13 @@ lines_from place given = map (λ d. d.1) (filter (λ d. d.0 == place) given)
 -- the places of the lines
 abbrev pub places_in : (given : List (ℕ × List ℕ)) → List ℕ
 places_in given = map (λ d. d.0) given
+
+-- ---- the order
+
+abbrev pub behind : Option ℕ → ℕ
+behind None = 0
+behind (Some place) = place + 1
+
+-- the place after the last line's, 0 before the first line
+abbrev pub next_place : (places : List ℕ) → ℕ
+next_place places = behind (slice_get places (length places - 1))

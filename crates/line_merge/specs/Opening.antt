@@ -1,21 +1,26 @@
 -- Sources with their lines before anything was read.
-use Rattle.std.specs.Prelude.{◌≡◌, ◌≢◌, ℕ, List, [], All, slice_get, Option, Some, None, IfSome, IsSomeAnd}
-use Rattle.pipe_edges.specs.LineSource.{waiting, line_end_of}
-use Rattle.pipe_edges.specs.declared.lines.LineSource.{LineSource}
+use Rattle.std.specs.Prelude.{◌≡◌, true, false, ℕ, List, [], All, Option, None, IfSome, IsSomeAnd}
+use Rattle.pipe_edges.specs.LineSource.{line_source, waiting, line_end_of}
+use Rattle.line_merge.specs.Streams.{lines_of, is_open_in}
+use Rattle.line_merge.specs.declared.stream.Stream.{Stream}
+
+-- where its bytes come from
+abbrev pub source_in : {B : Type 0} → Stream B → B
+source_in s = line_source (lines_of s)
 
 -- nothing was read of it
-pub record IsNew {B : Type 0} (stream : LineSource B) : Type 0 where
-  pub nothing_held : waiting stream ≡ []
-  pub no_end : line_end_of stream ≡ None
+pub record IsNew {B : Type 0} (s : Stream B) : Type 0 where
+  pub nothing_held : waiting (lines_of s) ≡ []
+  pub no_end : line_end_of (lines_of s) ≡ None
 
 -- nothing was read of any
-abbrev pub AreNew : {B : Type 0} → List (LineSource B) → Type 0
+abbrev pub AreNew : {B : Type 0} → List (Stream B) → Type 0
 AreNew streams = All IsNew streams
 
 -- some source is open
-abbrev pub SomeIsOpen : {B : Type 0} → List (LineSource B) → Type 0
-SomeIsOpen streams = (k : ℕ) × IsSomeAnd (slice_get streams k) (λ s. line_end_of s ≡ None)
+abbrev pub SomeIsOpen : {B : Type 0} → (streams : ℕ → Option (Stream B)) → Type 0
+SomeIsOpen streams = (k : ℕ) × IsSomeAnd (streams k) (λ s. is_open_in s ≡ true)
 
 -- no source is open
-abbrev pub NoneIsOpen : {B : Type 0} → List (LineSource B) → Type 0
-NoneIsOpen streams = (k : ℕ) → IfSome (slice_get streams k) (λ s. line_end_of s ≢ None)
+abbrev pub NoneIsOpen : {B : Type 0} → (streams : ℕ → Option (Stream B)) → Type 0
+NoneIsOpen streams = (k : ℕ) → IfSome (streams k) (λ s. is_open_in s ≡ false)

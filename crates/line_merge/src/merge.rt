@@ -1,14 +1,15 @@
 //! The merge.
 
 ghost use Rattle.std.specs.Prelude.{◌≡◌, ◌≤◌, ◌<◌, ◌++◌, [], ℕ, List, None, Some, IsNone, IfOk, IfErr, IfSome, Ok, length, slice_get, vec_capacity};
-ghost use Rattle.line_merge.specs.Items.{item_of, end_by, given_by};
-ghost use Rattle.line_merge.specs.Fetch.{answer_to, Remembers};
+ghost use Rattle.line_merge.specs.Items.{item_of, end_by, given_by, next_place};
 ghost use Rattle.pipe_edges.specs.Fetch.{records_in};
 
 use crate::item::{MergeEnd, MergeItem};
 use crate::list::SourceList;
-use crate::streams::{close_all, next_round, open_all};
-use pipe_edges::{ByteSource, Fetched, LineSource};
+use crate::stream::Stream;
+use crate::streams::{close_all, open_all};
+use crate::tries::next_round;
+use pipe_edges::{ByteSource, Fetched};
 use pipe_types::bytes::BytesList;
 use std::alloc::{AllocError, Global};
 
@@ -19,7 +20,7 @@ pub const MAX_STREAMS: usize = 64;
 #[derive(Drop)]
 pub struct LineMerge<B> {
     alloc: Global,
-    streams: Vec<LineSource<B>>,
+    streams: Vec<Stream<B>>,
     order: Vec<u16>,
     end: Option<MergeEnd>,
     room: Vec<B>,
@@ -30,10 +31,10 @@ pub struct LineMerge<B> {
 }
 
 impl<B: ByteSource + Drop> LineMerge<B> {
-    ghost use Rattle.line_merge.specs.Streams.{stream_at, places_of, merge_end_of, next_place};
+    ghost use Rattle.line_merge.specs.Streams.{stream_at, places_of, merge_end_of, sources_of};
     ghost use Rattle.line_merge.specs.Tries.{RoundHasCause};
-    ghost use Rattle.line_merge.specs.Merged.{IsMergedFrom, HasNoPace, sources_of};
-    ghost use Rattle.line_merge.specs.Fetch.{MergesOn, FetchHasCause};
+    ghost use Rattle.line_merge.specs.Merged.{IsMergedFrom, HasNoPace};
+    ghost use Rattle.line_merge.specs.Fetch.{MergesOn, FetchHasCause, answer_to, Remembers};
 
     /// Over these sources. For want of memory they come back as they were.
     pub fn new(

@@ -1,33 +1,28 @@
 //! The sources of a merge with their lines.
 
-ghost use Rattle.std.specs.Prelude.{◌≡◌, ◌≤◌, ◌+◌, ◌++◌, [], ℕ, IsTrue, false, IfOk, IfErr, OnOk, length, map, reverse, slice_get, vec_len, vec_capacity};
-ghost use Rattle.pipe_edges.specs.LineSource.{line_source};
-ghost use Rattle.line_merge.specs.Items.{lines_from, given_by};
-ghost use Rattle.line_merge.specs.Streams.{Both};
-ghost use Rattle.line_merge.specs.Tries.{Gives, RoundHasCause};
-ghost use Rattle.line_merge.specs.Opening.{AreNew, SomeIsOpen, NoneIsOpen};
+ghost use Rattle.std.specs.Prelude.{◌≡◌, ◌≤◌, ◌+◌, ◌++◌, [], IfOk, IfErr, OnOk, length, map, reverse, vec_capacity};
+ghost use Rattle.line_merge.specs.Opening.{AreNew, source_in};
 
-use crate::item::MergeItem;
-use crate::tries::try_range;
-use pipe_edges::{ByteSource, LineSource};
+use crate::stream::Stream;
+use pipe_edges::ByteSource;
 use std::alloc::{AllocError, Global};
 
 // Each of the sources, the last one first, becomes the next one with its lines.
 fn open_each<B: ByteSource>(
     alloc: Global,
     sources: &mut Vec<B>,
-    streams: &mut Vec<LineSource<B>>,
+    streams: &mut Vec<Stream<B>>,
 ) -> Result<(), AllocError>
     requires room { length streams.old.items + length sources.old.items ≤ vec_capacity streams.old }
     requires open { AreNew streams.old.items }
-    ensures same { map line_source streams.new.items ++ reverse sources.new.items ≡ map line_source streams.old.items ++ reverse sources.old.items }
+    ensures same { map source_in streams.new.items ++ reverse sources.new.items ≡ map source_in streams.old.items ++ reverse sources.old.items }
     ensures open { AreNew streams.new.items }
     ensures capacity { vec_capacity sources.new ≡ vec_capacity sources.old }
     ensures count { length streams.new.items + length sources.new.items ≡ length streams.old.items + length sources.old.items }
     ensures all { OnOk result (sources.new.items ≡ []) }
 {
     while let Some(source) = sources.pop() {
-        match LineSource::new(alloc, source) {
+        match Stream::new(alloc, source) {
             Ok(stream) => streams.push_reserved(stream),
             Err((source, e)) => {
                 sources.push_reserved(source);
@@ -39,9 +34,9 @@ fn open_each<B: ByteSource>(
 }
 
 // Each of them, the last one first, becomes the next source again.
-fn close_each<B: ByteSource>(streams: &mut Vec<LineSource<B>>, sources: &mut Vec<B>)
+fn close_each<B: ByteSource>(streams: &mut Vec<Stream<B>>, sources: &mut Vec<B>)
     requires room { length streams.old.items + length sources.old.items ≤ vec_capacity sources.old }
-    ensures same { reverse sources.new.items ≡ map line_source streams.old.items ++ reverse sources.old.items }
+    ensures same { reverse sources.new.items ≡ map source_in streams.old.items ++ reverse sources.old.items }
 {
     while let Some(stream) = streams.pop() {
         sources.push_reserved(stream.into_inner());
@@ -52,8 +47,8 @@ fn close_each<B: ByteSource>(streams: &mut Vec<LineSource<B>>, sources: &mut Vec
 pub(crate) fn open_all<B: ByteSource + Drop>(
     alloc: Global,
     sources: Vec<B>,
-) -> Result<(Vec<LineSource<B>>, Vec<B>), (Vec<B>, AllocError)>
-    ensures sources { IfOk result (λ r. map line_source r.0.items ≡ sources.items) }
+) -> Result<(Vec<Stream<B>>, Vec<B>), (Vec<B>, AllocError)>
+    ensures sources { IfOk result (λ r. map source_in r.0.items ≡ sources.items) }
     ensures open { IfOk result (λ r. AreNew r.0.items) }
     ensures room { IfOk result (λ r. (r.1.items ≡ []) × (length r.0.items ≤ vec_capacity r.1)) }
     ensures err { IfErr result (λ e. e.0.items ≡ sources.items) }
@@ -76,53 +71,16 @@ pub(crate) fn open_all<B: ByteSource + Drop>(
 
 /// The sources in order, in this room.
 pub(crate) fn close_all<B: ByteSource + Drop>(
-    streams: Vec<LineSource<B>>,
+    streams: Vec<Stream<B>>,
     room: Vec<B>,
 ) -> Vec<B>
     requires empty { room.items ≡ [] }
     requires roomy { length streams.items ≤ vec_capacity room }
-    ensures { result.items ≡ map line_source streams.items }
+    ensures { result.items ≡ map source_in streams.items }
 {
     let mut streams = streams;
     let mut sources = room;
     close_each(&mut streams, &mut sources);
     sources.reverse();
     sources
-}
-
-// Whether a source is open.
-fn is_any_open<B: ByteSource>(streams: &[LineSource<B>]) -> bool
-    ensures some { IsTrue result → SomeIsOpen streams.now }
-    ensures none { result ≡ false → NoneIsOpen streams.now }
-{
-    for stream in streams {
-        if stream.end().is_none() {
-            return true;
-        }
-    }
-    false
-}
-
-/// Tries the sources once each, in the round that begins at this place.
-pub(crate) fn next_round<B: ByteSource>(
-    streams: &mut Vec<LineSource<B>>,
-    first: usize,
-) -> Result<MergeItem, AllocError>
-    requires within { first ≤ length streams.old.items }
-    requires few { length streams.old.items ≤ 64 }
-    ensures len { length streams.new.items ≡ length streams.old.items }
-    ensures gives { (k : ℕ) → Both (Gives B.ByteSource (lines_from k (given_by result))) (slice_get streams.old.items k) (slice_get streams.new.items k) }
-    ensures cause { IfOk result (RoundHasCause B.ByteSource first (slice_get streams.old.items) (slice_get streams.new.items)) }
-{
-    if let Some(item) = try_range(streams, first, streams.len())? {
-        return Ok(item);
-    }
-    if let Some(item) = try_range(streams, 0, first)? {
-        return Ok(item);
-    }
-    if is_any_open(streams) {
-        Ok(MergeItem::NotYet)
-    } else {
-        Ok(MergeItem::End)
-    }
 }

@@ -1,57 +1,17 @@
 //! One try of each source of a round.
 
-ghost use Rattle.std.specs.Prelude.{◌≡◌, ◌≤◌, ◌<◌, ◌∷◌, [], ℕ, None, IfOk, length, slice_get, vec_len};
-ghost use Rattle.pipe_edges.specs.LineSource.{line_end_of};
-ghost use Rattle.line_merge.specs.Items.{line_in, lines_from, given_in};
+ghost use Rattle.std.specs.Prelude.{◌≡◌, ◌≤◌, ◌<◌, ℕ, true, false, IfOk, length, slice_get};
+ghost use Rattle.line_merge.specs.Items.{line_in, lines_from, given_in, given_by};
 ghost use Rattle.line_merge.specs.Streams.{Both, There};
-ghost use Rattle.line_merge.specs.Tries.{Gives, TakenHasCause, RangeHasCause};
+ghost use Rattle.line_merge.specs.Tries.{Gives, TakenHasCause, RangeHasCause, RoundHasCause};
+ghost use Rattle.line_merge.specs.Opening.{SomeIsOpen, NoneIsOpen};
 
 use crate::item::{MergeItem, Taken};
-use pipe_edges::{ByteSource, Fetched, LineEnd, LineSource};
-use pipe_types::bytes::{Bytes, BytesList};
+use crate::stream::Stream;
+use pipe_edges::ByteSource;
 use std::alloc::AllocError;
 
-fn only_line(records: BytesList) -> Bytes
-    requires { length records ≡ 1 }
-    ensures { records ≡ result ∷ [] }
-{
-    let mut lines = records.into_vec();
-    match lines.pop() {
-        Some(line) => line,
-        None => unreachable!(),
-    }
-}
-
-// Reads the next line of an open source.
-fn take_line<B: ByteSource>(stream: &mut LineSource<B>) -> Result<Taken, AllocError>
-    requires { line_end_of stream.old ≡ None }
-    ensures gives { Gives B.ByteSource (line_in result) stream.old stream.new }
-    ensures cause { IfOk result (TakenHasCause B.ByteSource stream.old stream.new) }
-{
-    Ok(match stream.fetch(1)? {
-        Fetched::Records(records) => Taken::Line(only_line(records)),
-        Fetched::NotYet => Taken::NotYet,
-        Fetched::End => Taken::Ended(LineEnd::End),
-        Fetched::Fault => Taken::Ended(LineEnd::Fault),
-        Fetched::TooLong => Taken::Ended(LineEnd::TooLong),
-    })
-}
-
-// Reads the next line, if the source is open. A closed one is not read.
-fn try_stream<B: ByteSource>(stream: &mut LineSource<B>) -> Result<Taken, AllocError>
-    ensures gives { Gives B.ByteSource (line_in result) stream.old stream.new }
-    ensures cause { IfOk result (TakenHasCause B.ByteSource stream.old stream.new) }
-{
-    match stream.end() {
-        Some(end) => Ok(Taken::Ended(end)),
-        None => take_line(stream),
-    }
-}
-
-fn try_at<B: ByteSource>(
-    streams: &mut Vec<LineSource<B>>,
-    at: usize,
-) -> Result<Taken, AllocError>
+fn try_at<B: ByteSource>(streams: &mut Vec<Stream<B>>, at: usize) -> Result<Taken, AllocError>
     requires { at < length streams.old.items }
     ensures len { length streams.new.items ≡ length streams.old.items }
     ensures others { (k : ℕ) → ¬ (k ≡ at) → slice_get streams.new.items k ≡ slice_get streams.old.items k }
@@ -59,12 +19,12 @@ fn try_at<B: ByteSource>(
     ensures cause { IfOk result (λ taken. There (λ old new. TakenHasCause B.ByteSource old new taken)
         (slice_get streams.old.items at) (slice_get streams.new.items at)) }
 {
-    try_stream(&mut streams[at])
+    streams[at].try_line()
 }
 
-/// Tries the sources from one place up to another, in order, until one has a line, has failed or has a line that is too long.
-pub(crate) fn try_range<B: ByteSource>(
-    streams: &mut Vec<LineSource<B>>,
+// Tries the sources from one place up to another, in order, until one has a line, has failed or has a line that is too long.
+fn try_range<B: ByteSource>(
+    streams: &mut Vec<Stream<B>>,
     from: usize,
     to: usize,
 ) -> Result<Option<MergeItem>, AllocError>
@@ -81,4 +41,41 @@ pub(crate) fn try_range<B: ByteSource>(
         }
     }
     Ok(None)
+}
+
+fn is_any_open<B: ByteSource>(streams: &[Stream<B>]) -> bool
+    ensures some { result ≡ true → SomeIsOpen (slice_get streams.now) }
+    ensures none { result ≡ false → NoneIsOpen (slice_get streams.now) }
+{
+    for stream in streams {
+        if stream.is_open() {
+            return true;
+        }
+    }
+    false
+}
+
+/// Tries the sources once each, in the round that begins at this place.
+pub(crate) fn next_round<B: ByteSource>(
+    streams: &mut Vec<Stream<B>>,
+    first: usize,
+) -> Result<MergeItem, AllocError>
+    requires within { first ≤ length streams.old.items }
+    requires few { length streams.old.items ≤ 64 }
+    ensures len { length streams.new.items ≡ length streams.old.items }
+    ensures gives { (k : ℕ) → Both (Gives B.ByteSource (lines_from k (given_by result))) (slice_get streams.old.items k) (slice_get streams.new.items k) }
+    ensures cause { IfOk result (RoundHasCause B.ByteSource first (slice_get streams.old.items) (slice_get streams.new.items)) }
+{
+    let count = streams.len();
+    if let Some(item) = try_range(streams, first, count)? {
+        return Ok(item);
+    }
+    if let Some(item) = try_range(streams, 0, first)? {
+        return Ok(item);
+    }
+    if is_any_open(streams.as_slice()) {
+        Ok(MergeItem::NotYet)
+    } else {
+        Ok(MergeItem::End)
+    }
 }
