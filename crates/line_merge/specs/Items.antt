@@ -1,8 +1,11 @@
 -- What a merge gives.
-use Rattle.std.specs.Prelude.{ℕ, ◌+◌, ◌-◌, ◌==◌, List, [], ◌∷◌, length, map, slice_get, Option, Some, None, Result, Ok, Err}
+use Rattle.std.specs.Prelude.{◌≡◌, ℕ, ◌+◌, ◌-◌, ◌==◌, Bool, true, false, List, [], ◌∷◌, length, map, slice_get, Option, Some, None, Result, Ok, Err}
 use Rattle.std.specs.List.{filter}
 use Rattle.pipe_edges.specs.declared.reading.LineEnd.{LineEnd}
 use Rattle.pipe_edges.specs.declared.reading.LineEnd.TheVariants as end
+use Rattle.pipe_edges.specs.Fetch.{answer_of}
+use Rattle.pipe_edges.specs.declared.reading.Fetched.{Fetched}
+use Rattle.pipe_edges.specs.declared.reading.Fetched.TheVariants as fetched
 use Rattle.line_merge.specs.declared.item.MergeItem.{MergeItem}
 use Rattle.line_merge.specs.declared.item.MergeItem.TheVariants.{Line, NotYet, End, Fault, TooLong}
 use Rattle.line_merge.specs.declared.item.MergeEnd.{MergeEnd}
@@ -24,6 +27,14 @@ end_by End = Some merge_end.End
 end_by (Fault place) = Some (merge_end.Fault place)
 end_by (TooLong place) = Some (merge_end.TooLong place)
 
+-- an item as the answer of a fetch
+abbrev pub answer_by : MergeItem → Fetched
+answer_by (Line place line) = fetched.Records (line ∷ [])
+answer_by NotYet = fetched.NotYet
+answer_by End = fetched.End
+answer_by (Fault place) = fetched.Fault
+answer_by (TooLong place) = fetched.TooLong
+
 -- what a merge gives for the try of a place, if it does not go on to the next one
 abbrev pub item_in : (place : ℕ) → Taken → Option MergeItem
 item_in place (taken.Line line) = Some (Line place line)
@@ -31,6 +42,22 @@ item_in place taken.NotYet = None
 item_in place (taken.Ended end.End) = None
 item_in place (taken.Ended end.Fault) = Some (Fault place)
 item_in place (taken.Ended end.TooLong) = Some (TooLong place)
+
+-- the records are one line
+abbrev pub IsSingle : Fetched → Type 0
+IsSingle (fetched.Records records) = length records ≡ 1
+IsSingle _ = Unit {0}
+
+-- the fetch of one line that a try is
+abbrev pub fetched_by : Taken → Fetched
+fetched_by (taken.Line line) = fetched.Records (line ∷ [])
+fetched_by taken.NotYet = fetched.NotYet
+fetched_by (taken.Ended end) = answer_of end
+
+-- the source is open after it
+abbrev pub leaves_open : Taken → Bool
+leaves_open (taken.Ended end.End) = false
+leaves_open _ = true
 
 -- the line of a try
 abbrev pub line_of : Taken → List (List ℕ)

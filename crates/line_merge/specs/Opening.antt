@@ -3,6 +3,8 @@ use Rattle.std.specs.Prelude.{◌≡◌, true, false, ℕ, List, [], All, Option
 use Rattle.pipe_edges.specs.LineSource.{line_source, waiting, line_end_of}
 use Rattle.line_merge.specs.Streams.{lines_of, is_open_in}
 use Rattle.line_merge.specs.declared.stream.Stream.{Stream}
+use Rattle.line_merge.specs.declared.item.MergeItem.{MergeItem}
+use Rattle.line_merge.specs.declared.item.MergeItem.TheVariants as item
 
 -- where its bytes come from
 abbrev pub source_in : {B : Type 0} → Stream B → B
@@ -24,3 +26,9 @@ SomeIsOpen streams = (k : ℕ) × IsSomeAnd (streams k) (λ s. is_open_in s ≡ 
 -- no source is open
 abbrev pub NoneIsOpen : {B : Type 0} → (streams : ℕ → Option (Stream B)) → Type 0
 NoneIsOpen streams = (k : ℕ) → IfSome (streams k) (λ s. is_open_in s ≡ false)
+
+-- what a round without a line comes to: nothing is ready where some source is open, and else it is the end
+abbrev pub IsWithout : {B : Type 0} → (streams : ℕ → Option (Stream B)) → MergeItem → Type 0
+IsWithout streams item.NotYet = SomeIsOpen streams
+IsWithout streams item.End = NoneIsOpen streams
+IsWithout streams _ = ⊥

@@ -9,6 +9,7 @@ mod item;
 mod laws;
 mod list;
 mod merge;
+mod order;
 mod stream;
 mod streams;
 mod tries;

@@ -6,11 +6,11 @@ ghost use Rattle.pipe_edges.specs.Fetch.{records_in};
 
 use crate::item::{MergeEnd, MergeItem};
 use crate::list::SourceList;
+use crate::order::{note, place_after};
 use crate::stream::Stream;
 use crate::streams::{close_all, open_all};
 use crate::tries::next_round;
 use pipe_edges::{ByteSource, Fetched};
-use pipe_types::bytes::BytesList;
 use std::alloc::{AllocError, Global};
 
 /// The most sources of a merge.
@@ -100,17 +100,18 @@ impl<B: ByteSource + Drop> LineMerge<B> {
         if let Some(end) = self.end {
             return Ok(end.item());
         }
-        self.order.reserve(1)?;
-        let first = match self.order.last() {
-            Some(place) => usize::from(*place) + 1,
-            None => 0,
-        };
-        let item = next_round(&mut self.streams, first)?;
-        self.end = item.end();
-        if let MergeItem::Line(place, _) = &item {
-            self.order.push_reserved(*place);
+        if let Err(e) = self.order.reserve(1) {
+            return Err(e);
         }
-        Ok(item)
+        let first = place_after(self.order.as_slice());
+        match next_round(&mut self.streams, first) {
+            Ok(item) => {
+                self.end = item.end();
+                note(&mut self.order, &item);
+                Ok(item)
+            }
+            Err(e) => Err(e),
+        }
     }
 
     /// Polls once, and hands out a line as the one record. An end is answered again by every later call. For want of memory no
@@ -125,16 +126,12 @@ impl<B: ByteSource + Drop> LineMerge<B> {
         ensures unpaced { HasNoPace B.ByteSource self.old → HasNoPace B.ByteSource self.new }
     {
         let _ = max;
-        let mut records = Vec::with_capacity(self.alloc, 1)?;
-        Ok(match self.poll()? {
-            MergeItem::Line(_, line) => {
-                records.push_reserved(line);
-                Fetched::Records(BytesList::from_vec(records))
-            }
-            MergeItem::NotYet => Fetched::NotYet,
-            MergeItem::End => Fetched::End,
-            MergeItem::Fault(_) => Fetched::Fault,
-            MergeItem::TooLong(_) => Fetched::TooLong,
-        })
+        match Vec::with_capacity(self.alloc, 1) {
+            Ok(room) => match self.poll() {
+                Ok(item) => Ok(item.into_fetched(room)),
+                Err(e) => Err(e),
+            },
+            Err(e) => Err(e),
+        }
     }
 }

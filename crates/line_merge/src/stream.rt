@@ -3,7 +3,7 @@
 ghost use Rattle.std.specs.Prelude.{◌≡◌, ◌∷◌, [], true, false, Some, IfOk, IfErr, length};
 ghost use Rattle.pipe_edges.specs.LineSource.{line_source, line_end_of};
 ghost use Rattle.pipe_edges.specs.declared.reading.LineEnd.TheVariants.{End};
-ghost use Rattle.line_merge.specs.Items.{line_in};
+ghost use Rattle.line_merge.specs.Items.{line_in, fetched_by, IsSingle};
 
 use crate::item::Taken;
 use pipe_edges::{ByteSource, Fetched, LineEnd, LineSource};
@@ -26,6 +26,20 @@ fn only_line(records: BytesList) -> Bytes
     match lines.pop() {
         Some(line) => line,
         None => unreachable!(),
+    }
+}
+
+// A fetch of one line.
+fn taken_of(fetched: Fetched) -> Taken
+    requires { IsSingle fetched }
+    ensures { fetched ≡ fetched_by result }
+{
+    match fetched {
+        Fetched::Records(records) => Taken::Line(only_line(records)),
+        Fetched::NotYet => Taken::NotYet,
+        Fetched::End => Taken::Ended(LineEnd::End),
+        Fetched::Fault => Taken::Ended(LineEnd::Fault),
+        Fetched::TooLong => Taken::Ended(LineEnd::TooLong),
     }
 }
 
@@ -68,16 +82,14 @@ impl<B: ByteSource> Stream<B> {
         ensures gives { Gives B.ByteSource (line_in result) self.old self.new }
         ensures cause { IfOk result (TakenHasCause B.ByteSource self.old self.new) }
     {
-        Ok(match self.lines.fetch(1)? {
-            Fetched::Records(records) => Taken::Line(only_line(records)),
-            Fetched::NotYet => Taken::NotYet,
-            Fetched::End => {
-                self.is_open = false;
-                Taken::Ended(LineEnd::End)
+        match self.lines.fetch(1) {
+            Ok(fetched) => {
+                let taken = taken_of(fetched);
+                self.is_open = taken.leaves_open();
+                Ok(taken)
             }
-            Fetched::Fault => Taken::Ended(LineEnd::Fault),
-            Fetched::TooLong => Taken::Ended(LineEnd::TooLong),
-        })
+            Err(e) => Err(e),
+        }
     }
 
     // Reads the next line, if the source is open. A closed one is not read.

@@ -70,10 +70,7 @@ pub(crate) fn open_all<B: ByteSource + Drop>(
 }
 
 /// The sources in order, in this room.
-pub(crate) fn close_all<B: ByteSource + Drop>(
-    streams: Vec<Stream<B>>,
-    room: Vec<B>,
-) -> Vec<B>
+pub(crate) fn close_all<B: ByteSource + Drop>(streams: Vec<Stream<B>>, room: Vec<B>) -> Vec<B>
     requires empty { room.items ≡ [] }
     requires roomy { length streams.items ≤ vec_capacity room }
     ensures { result.items ≡ map source_in streams.items }

@@ -4,7 +4,7 @@ ghost use Rattle.std.specs.Prelude.{◌≡◌, ◌≤◌, ◌<◌, ℕ, true, fa
 ghost use Rattle.line_merge.specs.Items.{line_in, lines_from, given_in, given_by};
 ghost use Rattle.line_merge.specs.Streams.{Both, There};
 ghost use Rattle.line_merge.specs.Tries.{Gives, TakenHasCause, RangeHasCause, RoundHasCause};
-ghost use Rattle.line_merge.specs.Opening.{SomeIsOpen, NoneIsOpen};
+ghost use Rattle.line_merge.specs.Opening.{SomeIsOpen, NoneIsOpen, IsWithout};
 
 use crate::item::{MergeItem, Taken};
 use crate::stream::Stream;
@@ -35,9 +35,13 @@ fn try_range<B: ByteSource>(
     ensures cause { IfOk result (RangeHasCause B.ByteSource from to (slice_get streams.old.items) (slice_get streams.new.items)) }
 {
     for at in from..to {
-        let taken = try_at(streams, at)?;
-        if let Some(item) = taken.item_at(at as u16) {
-            return Ok(Some(item));
+        match try_at(streams, at) {
+            Ok(taken) => {
+                if let Some(item) = taken.item_at(at as u16) {
+                    return Ok(Some(item));
+                }
+            }
+            Err(e) => return Err(e),
         }
     }
     Ok(None)
@@ -55,6 +59,17 @@ fn is_any_open<B: ByteSource>(streams: &[Stream<B>]) -> bool
     false
 }
 
+// What a round comes to in which no source has a line.
+fn without_line<B: ByteSource>(streams: &[Stream<B>]) -> MergeItem
+    ensures { IsWithout (slice_get streams.now) result }
+{
+    if is_any_open(streams) {
+        MergeItem::NotYet
+    } else {
+        MergeItem::End
+    }
+}
+
 /// Tries the sources once each, in the round that begins at this place.
 pub(crate) fn next_round<B: ByteSource>(
     streams: &mut Vec<Stream<B>>,
@@ -67,15 +82,14 @@ pub(crate) fn next_round<B: ByteSource>(
     ensures cause { IfOk result (RoundHasCause B.ByteSource first (slice_get streams.old.items) (slice_get streams.new.items)) }
 {
     let count = streams.len();
-    if let Some(item) = try_range(streams, first, count)? {
-        return Ok(item);
+    match try_range(streams, first, count) {
+        Ok(Some(item)) => return Ok(item),
+        Ok(None) => {}
+        Err(e) => return Err(e),
     }
-    if let Some(item) = try_range(streams, 0, first)? {
-        return Ok(item);
-    }
-    if is_any_open(streams.as_slice()) {
-        Ok(MergeItem::NotYet)
-    } else {
-        Ok(MergeItem::End)
+    match try_range(streams, 0, first) {
+        Ok(Some(item)) => Ok(item),
+        Ok(None) => Ok(without_line(streams.as_slice())),
+        Err(e) => Err(e),
     }
 }

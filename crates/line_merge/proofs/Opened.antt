@@ -1,0 +1,33 @@
+-- Sources before anything was read.
+use Rattle.std.proofs.Common.{◌≡◌, ℕ, zero, suc, List, [], ◌∷◌, ◌++◌, refl, sym, ap, ◌∙◌, arith}
+use Rattle.std.specs.Prelude.{All, Option, Some, None, IsTrue, slice_get, map}
+use Rattle.std.proofs.lemmas.List.{append-nil}
+use Rattle.std.proofs.lemmas.List.Elements.{All-nil, All-head, All-tail}
+use Rattle.pipe_edges.specs.declared.source.ByteSource.{Ghosts as SourceOf}
+use Rattle.pipe_edges.specs.LineSource.{line_source, waiting, line_end_of}
+use Rattle.pipe_edges.specs.Texts.{IsLine}
+use Rattle.pipe_edges.specs.declared.reading.LineEnd.TheVariants as end
+use Rattle.source_lines.specs.Read.{IsReadFrom}
+use Rattle.line_merge.specs.Streams.{Both, lines_of}
+use Rattle.line_merge.specs.Opening.{IsNew, AreNew, source_in}
+use Rattle.line_merge.specs.declared.stream.Stream.{Stream}
+
+-- nothing was read of a new one
+nothing_read : {B : Type 0} (source : SourceOf B) (s : Stream B) → IsNew s → IsReadFrom source (source_in s) (lines_of s) []
+nothing_read source s new = record {
+  same_telling = refl;
+  each_is_a_line = All-nil IsLine;
+  same_bytes = λ t. refl;
+  to_come = λ t no_end. rw new.nothing_held refl;
+  at_end = λ t is. let e : None ≡ Some end.End = sym new.no_end ∙ is in cc;
+  at_long = λ is. let e : None ≡ Some end.TooLong = sym new.no_end ∙ is in cc;
+  at_fault = λ is. let e : None ≡ Some end.Fault = sym new.no_end ∙ is in cc;
+  faults_stay = omega arith;
+  waits_stay = omega arith;
+}
+
+pub nothing_read_of_any : {B : Type 0} (source : SourceOf B) (streams : List (Stream B)) → AreNew streams
+    → (k : ℕ) → Both (λ o s. IsReadFrom source o (lines_of s) []) (slice_get (map source_in streams) k) (slice_get streams k)
+nothing_read_of_any source [] new k = tt
+nothing_read_of_any source (s ∷ streams) new zero = nothing_read source s (All-head IsNew s streams new)
+nothing_read_of_any source (s ∷ streams) new (suc k) = nothing_read_of_any source streams (All-tail IsNew s streams new) k
