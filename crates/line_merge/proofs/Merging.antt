@@ -10,7 +10,8 @@ use Rattle.pipe_edges.specs.Paces.{unpaced}
 use Rattle.pipe_edges.specs.LineSource.{line_source}
 use Rattle.pipe_edges.specs.LineSource.{line_end_of}
 use Rattle.pipe_edges.specs.declared.reading.LineEnd.TheVariants as end
-use Rattle.source_lines.specs.Read.{IsReadFrom}
+use Rattle.source_lines.specs.Seen.{SourceSeen, line_seen}
+use Rattle.source_lines.specs.Read.{AreReadFrom}
 use Rattle.line_merge.specs.Items.{lines_from, places_in, given_of, given_by, end_by, item_of, answer_by, next_place, behind}
 use Rattle.line_merge.specs.Streams.{Both, There, lines_of, stream_at, places_of, merge_end_of}
 use Rattle.line_merge.specs.Tries.{Gives, HasEnded, HasFailed, HasTooLong, IsFound, RoundHasCause}
@@ -29,7 +30,7 @@ pub lines_more : (k : ℕ) (given more : List (ℕ × List ℕ)) → lines_from 
 lines_more k given more = rw filter-append (map-append (λ d. d.1) (filter (λ d. d.0 == k) given) (filter (λ d. d.0 == k) more))
 
 -- these lines follow
-pub merged_on : {B : Type 0} (source : SourceOf B) (opened : List B) (old new : LineMerge B) (given more : List (ℕ × List ℕ))
+pub merged_on : {B : Type 0} (source : SourceOf B) (opened : List SourceSeen) (old new : LineMerge B) (given more : List (ℕ × List ℕ))
     → ((k : ℕ) → Both (Gives source (lines_from k more)) (stream_at old k) (stream_at new k))
     → places_of new ≡ places_of old ++ places_in more
     → IsEndOf (stream_at new) (merge_end_of new)
@@ -37,7 +38,7 @@ pub merged_on : {B : Type 0} (source : SourceOf B) (opened : List B) (old new : 
 merged_on source opened old new given more gives places known m = record {
   each = λ k.
       rw (lines_more k given more)
-      (both_then (λ o s. IsReadFrom source o (lines_of s) (lines_from k given)) (Gives source (lines_from k more)) (λ o s. IsReadFrom source o (lines_of s) (lines_from k given ++ lines_from k more))
+      (both_then (λ o s. AreReadFrom o (line_seen source (lines_of s)) (lines_from k given)) (Gives source (lines_from k more)) (λ o s. AreReadFrom o (line_seen source (lines_of s)) (lines_from k given ++ lines_from k more))
       (slice_get opened k) (stream_at old k) (stream_at new k) (m.each k) (gives k)
       (λ o s t read more. more.reads o (lines_from k given) read));
   order = rw (places, ← m.order) (map-append (λ d. d.0) given more);

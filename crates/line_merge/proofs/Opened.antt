@@ -7,13 +7,14 @@ use Rattle.pipe_edges.specs.declared.source.ByteSource.{Ghosts as SourceOf}
 use Rattle.pipe_edges.specs.LineSource.{line_source, waiting, line_end_of}
 use Rattle.pipe_edges.specs.Texts.{IsLine}
 use Rattle.pipe_edges.specs.declared.reading.LineEnd.TheVariants as end
-use Rattle.source_lines.specs.Read.{IsReadFrom}
+use Rattle.source_lines.specs.Seen.{source_seen, line_seen}
+use Rattle.source_lines.specs.Read.{AreReadFrom}
 use Rattle.line_merge.specs.Streams.{Both, lines_of}
 use Rattle.line_merge.specs.Opening.{IsNew, AreNew, source_in}
 use Rattle.line_merge.specs.declared.stream.Stream.{Stream}
 
 -- nothing was read of a new one
-nothing_read : {B : Type 0} (source : SourceOf B) (s : Stream B) → IsNew s → IsReadFrom source (source_in s) (lines_of s) []
+nothing_read : {B : Type 0} (source : SourceOf B) (s : Stream B) → IsNew s → AreReadFrom (source_seen source (source_in s)) (line_seen source (lines_of s)) []
 nothing_read source s new = record {
   same_telling = refl;
   each_is_a_line = All-nil IsLine;
@@ -27,7 +28,7 @@ nothing_read source s new = record {
 }
 
 pub nothing_read_of_any : {B : Type 0} (source : SourceOf B) (streams : List (Stream B)) → AreNew streams
-    → (k : ℕ) → Both (λ o s. IsReadFrom source o (lines_of s) []) (slice_get (map source_in streams) k) (slice_get streams k)
+    → (k : ℕ) → Both (λ o s. AreReadFrom o (line_seen source (lines_of s)) []) (slice_get (map (source_seen source) (map source_in streams)) k) (slice_get streams k)
 nothing_read_of_any source [] new k = tt
 nothing_read_of_any source (s ∷ streams) new zero = nothing_read source s (All-head IsNew s streams new)
 nothing_read_of_any source (s ∷ streams) new (suc k) = nothing_read_of_any source streams (All-tail IsNew s streams new) k

@@ -1,5 +1,5 @@
 -- One try of a source.
-use Rattle.std.proofs.Common.{◌≡◌, ℕ, Bool, true, false, List, [], ◌∷◌, ◌++◌, length, refl, sym, ap, ◌∙◌, arith}
+use Rattle.std.proofs.Common.{◌≡◌, ℕ, Bool, true, false, List, [], ◌∷◌, ◌++◌, length, refl, sym, ap, subst, ◌∙◌, arith}
 use Rattle.std.specs.Prelude.{Option, Some, None, Result, Ok, Err, IsNone, IfSome, IfOk}
 use Rattle.std.proofs.lemmas.List.{append-nil}
 use Rattle.pipe_types.specs.Counts.{Rose}
@@ -13,7 +13,9 @@ use Rattle.pipe_edges.specs.declared.reading.LineEnd.{LineEnd}
 use Rattle.pipe_edges.specs.declared.reading.LineEnd.TheVariants as end
 use Rattle.pipe_edges.specs.declared.reading.Fetched.{Fetched}
 use Rattle.pipe_edges.specs.declared.reading.Fetched.TheVariants as fetched
-use Rattle.source_lines.proofs.Fetches.{Fetches, read_more}
+use Rattle.source_lines.proofs.Fetches.{Fetches, reads_on}
+use Rattle.source_lines.specs.Seen.{line_seen}
+use Rattle.source_lines.specs.Read.{ReadsOn}
 use Rattle.line_merge.specs.Items.{line_in, line_of, fetched_by, leaves_open, IsSingle}
 use Rattle.line_merge.specs.Streams.{lines_of, is_open_in}
 use Rattle.line_merge.specs.Tries.{Gives, TakenHasCause, HasWaited, HasEnded}
@@ -41,7 +43,7 @@ records_by (Ended end.TooLong) = refl
 pub gives_on : {B E : Type 0} (source : SourceOf B) (old new : Stream B) (result : Result Fetched E) (lines : List (List ℕ))
     → Fetches source (lines_of old) (lines_of new) 1 result → records_in result ≡ lines → Gives source lines old new
 gives_on source old new result lines f is = record {
-  reads = λ opened earlier before. rw ← is (read_more source opened (lines_of old) (lines_of new) earlier 1 result (line_end_of (lines_of old)) refl f before);
+  reads = subst (λ ls. ReadsOn ls (line_seen source (lines_of old)) (line_seen source (lines_of new))) is (reads_on source (lines_of old) (lines_of new) 1 result f);
   unpaced = λ e. stays_unpaced (source.paced (line_source (lines_of old))) (source.paced (line_source (lines_of new))) (waiting (lines_of old)) (waiting (lines_of new)) result e f.paced;
 }
 

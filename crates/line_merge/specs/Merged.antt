@@ -4,7 +4,8 @@ use Rattle.pipe_edges.specs.declared.source.ByteSource.{Ghosts as SourceOf}
 use Rattle.pipe_edges.specs.Paces.{unpaced}
 use Rattle.pipe_edges.specs.LineSource.{line_source, line_end_of}
 use Rattle.pipe_edges.specs.declared.reading.LineEnd.TheVariants as line_end
-use Rattle.source_lines.specs.Read.{IsReadFrom}
+use Rattle.source_lines.specs.Seen.{SourceSeen, line_seen}
+use Rattle.source_lines.specs.Read.{AreReadFrom}
 use Rattle.line_merge.specs.Items.{lines_from, places_in}
 use Rattle.line_merge.specs.Streams.{Both, lines_of, stream_at, places_of, merge_end_of}
 use Rattle.line_merge.specs.declared.stream.Stream.{Stream}
@@ -21,8 +22,8 @@ IsEndOf streams (Some (TooLong place)) = IsSomeAnd (streams place) (λ s. line_e
 
 -- the lines with their places came from what the opened sources had left: of each place they are, in order, what was read of
 -- its source
-pub record IsMergedFrom {B : Type 0} (source : SourceOf B) (opened : List B) (now : LineMerge B) (given : List (ℕ × List ℕ)) : Type 0 where
-  pub each : (k : ℕ) → Both (λ o s. IsReadFrom source o (lines_of s) (lines_from k given)) (slice_get opened k) (stream_at now k)
+pub record IsMergedFrom {B : Type 0} (source : SourceOf B) (opened : List SourceSeen) (now : LineMerge B) (given : List (ℕ × List ℕ)) : Type 0 where
+  pub each : (k : ℕ) → Both (λ o s. AreReadFrom o (line_seen source (lines_of s)) (lines_from k given)) (slice_get opened k) (stream_at now k)
   pub order : places_in given ≡ places_of now
   pub known : IsEndOf (stream_at now) (merge_end_of now)
 

@@ -6,7 +6,8 @@ use Rattle.pipe_edges.specs.Paces.{unpaced}
 use Rattle.pipe_edges.specs.LineSource.{line_source, line_end_of}
 use Rattle.line_merge.specs.declared.stream.Stream.{Stream}
 use Rattle.pipe_edges.specs.declared.reading.LineEnd.TheVariants.{End, Fault, TooLong}
-use Rattle.source_lines.specs.Read.{IsReadFrom}
+use Rattle.source_lines.specs.Seen.{line_seen}
+use Rattle.source_lines.specs.Read.{ReadsOn}
 use Rattle.line_merge.specs.Streams.{Both, There, lines_of, is_open_in}
 use Rattle.line_merge.specs.declared.item.MergeItem.{MergeItem}
 use Rattle.line_merge.specs.declared.item.MergeItem.TheVariants as item
@@ -15,7 +16,7 @@ use Rattle.line_merge.specs.declared.item.Taken.TheVariants as taken
 
 -- these lines of the source follow those that were read before, and no pace comes to it
 pub record Gives {B : Type 0} (source : SourceOf B) (lines : List (List ℕ)) (old new : Stream B) : Type 0 where
-  pub reads : (opened : B) (earlier : List (List ℕ)) → IsReadFrom source opened (lines_of old) earlier → IsReadFrom source opened (lines_of new) (earlier ++ lines)
+  pub reads : ReadsOn lines (line_seen source (lines_of old)) (line_seen source (lines_of new))
   pub unpaced : source.paced (line_source (lines_of old)) ≡ unpaced → source.paced (line_source (lines_of new)) ≡ unpaced
 
 -- it is open, and its waits rose

@@ -1,8 +1,9 @@
 //! The merge.
 
-ghost use Rattle.std.specs.Prelude.{◌≡◌, ◌≤◌, ◌<◌, ◌++◌, [], ℕ, List, None, Some, IsNone, IfOk, IfErr, IfSome, Ok, length, slice_get, vec_capacity};
+ghost use Rattle.std.specs.Prelude.{◌≡◌, ◌≤◌, ◌<◌, ◌++◌, [], ℕ, List, None, Some, IsNone, IfOk, IfErr, IfSome, Ok, length, map, slice_get, vec_capacity};
 ghost use Rattle.line_merge.specs.Items.{item_of, end_by, given_by, next_place};
 ghost use Rattle.pipe_edges.specs.Fetch.{records_in};
+ghost use Rattle.source_lines.specs.Seen.{SourceSeen, source_seen};
 
 use crate::item::{MergeEnd, MergeItem};
 use crate::list::SourceList;
@@ -43,7 +44,7 @@ impl<B: ByteSource + Drop> LineMerge<B> {
     ) -> Result<LineMerge<B>, (SourceList<B>, AllocError)>
         requires some { 2 ≤ length sources }
         requires few { length sources ≤ 64 }
-        ensures merged { IfOk result (λ m. IsMergedFrom B.ByteSource sources m []) }
+        ensures merged { IfOk result (λ m. IsMergedFrom B.ByteSource (map (source_seen B.ByteSource) sources) m []) }
         ensures sources { IfOk result (λ m. sources_of m ≡ sources) }
         ensures open { IfOk result (λ m. merge_end_of m ≡ None) }
         ensures err { IfErr result (λ e. e.0 ≡ sources) }
@@ -88,7 +89,7 @@ impl<B: ByteSource + Drop> LineMerge<B> {
     /// merge, and so does the end of all; each is answered again by every later call. For want of memory no line is gone.
     pub fn poll(&mut self) -> Result<MergeItem, AllocError>
         // The lines of each source are the first of its lines, in order, each whole and once.
-        ensures merged { (opened : List B) (given : List (ℕ × List ℕ)) → IsMergedFrom B.ByteSource opened self.old given
+        ensures merged { (opened : List SourceSeen) (given : List (ℕ × List ℕ)) → IsMergedFrom B.ByteSource opened self.old given
             → IsMergedFrom B.ByteSource opened self.new (given ++ given_by result) }
         ensures cause { IfOk result (λ item. IsNone (merge_end_of self.old)
             → RoundHasCause B.ByteSource (next_place (places_of self.old)) (stream_at self.old) (stream_at self.new) item) }

@@ -2,26 +2,9 @@
 use Rattle.std.specs.Prelude.{ℕ, Bool, List, Option, Some, None, slice_get}
 use Rattle.pipe_types.specs.declared.topology.Kind.{Kind}
 use Rattle.pipe_types.specs.declared.topology.StageSpec.{StageSpec}
-use Rattle.pipe_edges.specs.declared.source.ByteSource.{Ghosts as SourceOf}
-use Rattle.pipe_edges.specs.Paces.{PaceSeen}
-use Rattle.pipe_edges.specs.LineSource.{line_source, waiting, line_end_of}
-use Rattle.pipe_edges.specs.declared.lines.LineSource.{LineSource}
-use Rattle.pipe_edges.specs.declared.reading.LineEnd.{LineEnd}
+pub use Rattle.source_lines.specs.Seen.{SourceSeen, source_seen, LineSeen, line_seen}
 use Rattle.stage_callback.specs.declared.answers.Said.{Said}
 use Rattle.stage_callback.specs.Laws.{Law}
-
--- a source of bytes: whether it tells them, what was read and what is left, its faults and its waits, and its gate
-pub record SourceSeen : Type 0 where
-  pub told : Bool
-  pub taken : List ℕ
-  pub left : List ℕ
-  pub faults : ℕ
-  pub waits : ℕ
-  pub paced : PaceSeen
-
-abbrev pub source_seen : {S : Type 0} → SourceOf S → S → SourceSeen
-source_seen source s =
-    record { told = source.told s; taken = source.taken s; left = source.left s; faults = source.faults s; waits = source.waits s; paced = source.paced s }
 
 -- a sink of bytes: whether it tells them, what it holds, and its faults
 pub record SinkSeen : Type 0 where
@@ -31,16 +14,6 @@ pub record SinkSeen : Type 0 where
 
 abbrev pub sink_seen : {K : Type 0} → (told : K → Bool) → (held : K → List ℕ) → (faults : K → ℕ) → K → SinkSeen
 sink_seen told held faults k = record { told = told k; held = held k; faults = faults k }
-
--- a source whose lines are handed out: the source, the bytes that were read and not handed out, and why no more come
-pub record LineSeen : Type 0 where
-  pub source : SourceSeen
-  pub waiting : List ℕ
-  pub end : Option LineEnd
-
-abbrev pub line_seen : {S : Type 0} → SourceOf S → LineSource S → LineSeen
-line_seen source lines =
-    record { source = source_seen source (line_source lines); waiting = waiting lines; end = line_end_of lines }
 
 -- a callback in its box
 pub record BoxSeen : Type 0 where
