@@ -2,20 +2,15 @@
 use Rattle.std.proofs.Common.{◌≡◌, ℕ, List, [], ◌∷◌, ◌++◌, refl, sym, ap, ◌∙◌}
 use Rattle.std.specs.Prelude.{Option, Some, None, IsTrue, IfSome, slice_get}
 use Rattle.pipe_types.specs.Lines.{lines}
-use Rattle.pipe_edges.specs.declared.source.ByteSource.{Ghosts as SourceOf}
-use Rattle.pipe_edges.specs.LineSource.{line_end_of}
 use Rattle.pipe_edges.specs.declared.reading.LineEnd.{LineEnd}
 use Rattle.pipe_edges.specs.declared.reading.LineEnd.TheVariants as end
 use Rattle.pipe_edges.proofs.TextLaws.{lines_ended}
 use Rattle.source_lines.specs.Cut.{AreFirstLines, AreAllLines}
-use Rattle.source_lines.specs.Seen.{SourceSeen, LineSeen, line_seen}
+use Rattle.source_lines.specs.Seen.{SourceSeen, LineSeen}
 use Rattle.source_lines.specs.Read.{AreReadFrom}
 use Rattle.line_merge.specs.Items.{lines_from}
-use Rattle.line_merge.specs.Streams.{Both, lines_of, stream_at, merge_end_of}
-use Rattle.line_merge.specs.Merged.{IsMergedFrom, IsEndOf}
-use Rattle.line_merge.specs.declared.stream.Stream.{Stream}
-use Rattle.line_merge.specs.declared.merge.LineMerge.{LineMerge}
-use Rattle.line_merge.specs.declared.item.MergeEnd.TheVariants.{End}
+use Rattle.line_merge.specs.Streams.{Both}
+use Rattle.line_merge.specs.Seen.{MergeSeen, AreMergedFrom, IsMergeEnd}
 use Rattle.std.proofs.lemmas.List.{append-nil}
 
 not_end : (known other : Option LineEnd) → known ≡ other → ¬ (other ≡ Some end.End) → ¬ (known ≡ Some end.End)
@@ -41,27 +36,26 @@ first_of (Some end.TooLong) opened now records is r t = record {
   parts = ap lines (r.to_come t (not_end now.end (Some end.TooLong) is (λ e. cc))) ∙ lines_ended records (now.waiting ++ now.source.left) r.each_is_a_line;
 }
 
-first_at : {B : Type 0} (source : SourceOf B) (o : SourceSeen) (records : List (List ℕ)) (x : Option SourceSeen) (y : Option (Stream B)) → x ≡ Some o → IsTrue o.told
-    → Both (λ o s. AreReadFrom o (line_seen source (lines_of s)) records) x y → AreFirstLines o.left records
-first_at source o records (Some x) (Some s) is t r = let e : x ≡ o = cc in first_of (line_end_of (lines_of s)) o (line_seen source (lines_of s)) records refl (rw e at r) t
-first_at source o records (Some x) None is t r = absurd r
-first_at source o records None y is t r = cc
+first_at : (o : SourceSeen) (records : List (List ℕ)) (x : Option SourceSeen) (y : Option LineSeen) → x ≡ Some o → IsTrue o.told
+    → Both (λ o lines. AreReadFrom o lines records) x y → AreFirstLines o.left records
+first_at o records (Some x) (Some now) is t r = let e : x ≡ o = cc in let read : AreReadFrom o now records = rw e at r in first_of now.end o now records refl read t
+first_at o records (Some x) None is t r = absurd r
+first_at o records None y is t r = cc
 
 -- the lines that were given from a place
-pub first_lines : {B : Type 0} (source : SourceOf B) (opened : List SourceSeen) (now : LineMerge B) (given : List (ℕ × List ℕ)) (place : ℕ) (o : SourceSeen)
-    → IsMergedFrom source opened now given → slice_get opened place ≡ Some o → IsTrue o.told → AreFirstLines o.left (lines_from place given)
-first_lines source opened now given place o m there t =
-    first_at source o (lines_from place given) (slice_get opened place) (stream_at now place) there t (m.each place)
+pub first_lines : (opened : List SourceSeen) (now : MergeSeen) (given : List (ℕ × List ℕ)) (place : ℕ) (o : SourceSeen)
+    → AreMergedFrom opened now given → slice_get opened place ≡ Some o → IsTrue o.told → AreFirstLines o.left (lines_from place given)
+first_lines opened now given place o m there t = first_at o (lines_from place given) (slice_get opened place) (slice_get now.streams place) there t (m.each place)
 
 -- of a place, where every source has ended
-all_at : {B : Type 0} (source : SourceOf B) (o : SourceSeen) (records : List (List ℕ)) (x : Option SourceSeen) (y : Option (Stream B)) → x ≡ Some o → IsTrue o.told
-    → Both (λ o s. AreReadFrom o (line_seen source (lines_of s)) records) x y → IfSome y (λ s. line_end_of (lines_of s) ≡ Some end.End) → AreAllLines o.left records
-all_at source o records (Some x) (Some s) is t r ended = let e : x ≡ o = cc in let read : AreReadFrom o (line_seen source (lines_of s)) records = rw e at r in read.at_end t ended
-all_at source o records (Some x) None is t r ended = absurd r
-all_at source o records None y is t r ended = cc
+all_at : (o : SourceSeen) (records : List (List ℕ)) (x : Option SourceSeen) (y : Option LineSeen) → x ≡ Some o → IsTrue o.told
+    → Both (λ o lines. AreReadFrom o lines records) x y → IfSome y (λ lines. lines.end ≡ Some end.End) → AreAllLines o.left records
+all_at o records (Some x) (Some now) is t r ended = let e : x ≡ o = cc in let read : AreReadFrom o now records = rw e at r in read.at_end t ended
+all_at o records (Some x) None is t r ended = absurd r
+all_at o records None y is t r ended = cc
 
-pub all_lines : {B : Type 0} (source : SourceOf B) (opened : List SourceSeen) (now : LineMerge B) (given : List (ℕ × List ℕ)) (place : ℕ) (o : SourceSeen)
-    → IsMergedFrom source opened now given → merge_end_of now ≡ Some End → slice_get opened place ≡ Some o → IsTrue o.told → AreAllLines o.left (lines_from place given)
-all_lines source opened now given place o m is there t =
-    let known : IsEndOf (stream_at now) (Some End) = rw is at m.known in
-    all_at source o (lines_from place given) (slice_get opened place) (stream_at now place) there t (m.each place) (known place)
+pub all_lines : (opened : List SourceSeen) (now : MergeSeen) (given : List (ℕ × List ℕ)) (place : ℕ) (o : SourceSeen)
+    → AreMergedFrom opened now given → now.end ≡ Some end.End → slice_get opened place ≡ Some o → IsTrue o.told → AreAllLines o.left (lines_from place given)
+all_lines opened now given place o m is there t =
+    let known : IsMergeEnd now.streams (Some end.End) = rw is at m.known in
+    all_at o (lines_from place given) (slice_get opened place) (slice_get now.streams place) there t (m.each place) (known place)

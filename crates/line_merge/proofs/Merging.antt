@@ -1,21 +1,23 @@
 -- What was given of the sources of a merge.
-use Rattle.std.proofs.Common.{◌≡◌, ◌≤◌, ◌<◌, ◌+◌, ◌-◌, ℕ, Bool, true, false, List, [], ◌∷◌, ◌++◌, length, refl, sym, ap, ◌∙◌, arith}
-use Rattle.std.specs.Prelude.{Option, Some, None, Result, Ok, Err, IfSome, IsSomeAnd, slice_get, map, ◌==◌}
-use Rattle.std.specs.List.{filter}
+use Rattle.std.proofs.Common.{◌≡◌, ◌≤◌, ◌<◌, ◌+◌, ◌-◌, ℕ, zero, suc, Bool, true, List, [], ◌∷◌, ◌++◌, length, refl, sym, ap, ◌∙◌, arith}
+use Rattle.std.specs.Prelude.{Option, Some, None, IfSome, IsSomeAnd, All, slice_get, option_map, map, ◌==◌}
+use Rattle.std.specs.List.{filter, sum_by}
 use Rattle.std.proofs.lemmas.List.{append-nil, length-append, map-append}
-use Rattle.std.proofs.lemmas.List.Elements.{filter-append}
-use Rattle.std.proofs.lemmas.Option.{slice_get_within}
+use Rattle.std.proofs.lemmas.List.Elements.{filter-append, All-nil}
+use Rattle.std.proofs.lemmas.Bool.Decides.{nat_tests}
+use Rattle.pipe_edges.specs.Texts.{IsLine}
+use Rattle.std.proofs.lemmas.Option.{slice_get_within, slice_get-map}
 use Rattle.pipe_edges.specs.declared.source.ByteSource.{Ghosts as SourceOf}
 use Rattle.pipe_edges.specs.Paces.{unpaced}
 use Rattle.pipe_edges.specs.LineSource.{line_source}
 use Rattle.pipe_edges.specs.LineSource.{line_end_of}
 use Rattle.pipe_edges.specs.declared.reading.LineEnd.TheVariants as end
-use Rattle.source_lines.specs.Seen.{SourceSeen, line_seen}
+use Rattle.source_lines.specs.Seen.{SourceSeen, LineSeen, line_seen}
 use Rattle.source_lines.specs.Read.{AreReadFrom}
 use Rattle.line_merge.specs.Items.{lines_from, places_in, given_of, given_by, end_by, item_of, answer_by, next_place, behind}
-use Rattle.line_merge.specs.Streams.{Both, There, lines_of, stream_at, places_of, merge_end_of}
-use Rattle.line_merge.specs.Tries.{Gives, HasEnded, HasFailed, HasTooLong, IsFound, RoundHasCause}
-use Rattle.line_merge.specs.Merged.{IsMergedFrom, IsEndOf, HasNoPace}
+use Rattle.line_merge.specs.Streams.{Both, There, lines_of, stream_at, merge_end_of}
+use Rattle.line_merge.specs.Tries.{Gives, WasOpen, HasEnded, HasFailed, HasTooLong, RoundHasCause}
+use Rattle.line_merge.specs.Seen.{MergeSeen, AreMergedFrom, IsMergeEnd, AreUnpaced, merge_seen, end_seen}
 use Rattle.line_merge.specs.Fetch.{FetchHasCause, Remembers, answer_to}
 use Rattle.line_merge.specs.declared.item.MergeEnd.{MergeEnd}
 use Rattle.line_merge.specs.declared.item.MergeEnd.TheVariants as merge_end
@@ -24,51 +26,64 @@ use Rattle.line_merge.specs.declared.stream.Stream.{Stream}
 use Rattle.line_merge.specs.declared.merge.LineMerge.{LineMerge}
 use Rattle.line_merge.specs.declared.item.MergeItem.{MergeItem}
 use Rattle.line_merge.specs.declared.item.MergeItem.TheVariants as item
-use Rattle.line_merge.proofs.Pairs.{both_then}
 
 pub lines_more : (k : ℕ) (given more : List (ℕ × List ℕ)) → lines_from k (given ++ more) ≡ lines_from k given ++ lines_from k more
 lines_more k given more = rw filter-append (map-append (λ d. d.1) (filter (λ d. d.0 == k) given) (filter (λ d. d.0 == k) more))
 
+-- a source with its lines, as it is seen
+abbrev seen_of : {B : Type 0} → SourceOf B → Stream B → LineSeen
+seen_of source s = line_seen source (lines_of s)
+
+both_seen : {B : Type 0} (source : SourceOf B) (given more : List (ℕ × List ℕ)) (k : ℕ) (x : Option SourceSeen) (y z : Option (Stream B))
+    → Both (λ o lines. AreReadFrom o lines (lines_from k given)) x (option_map (seen_of source) y) → Both (Gives source (lines_from k more)) y z
+    → Both (λ o lines. AreReadFrom o lines (lines_from k (given ++ more))) x (option_map (seen_of source) z)
+both_seen source given more k (Some o) (Some a) (Some b) read gives = rw (lines_more k given more) (gives.reads o (lines_from k given) read)
+both_seen source given more k None None None read gives = tt
+both_seen source given more k (Some o) (Some a) None read gives = absurd gives
+both_seen source given more k (Some o) None z read gives = absurd read
+both_seen source given more k None (Some a) z read gives = absurd read
+both_seen source given more k None None (Some b) read gives = absurd gives
+
 -- these lines follow
 pub merged_on : {B : Type 0} (source : SourceOf B) (opened : List SourceSeen) (old new : LineMerge B) (given more : List (ℕ × List ℕ))
     → ((k : ℕ) → Both (Gives source (lines_from k more)) (stream_at old k) (stream_at new k))
-    → places_of new ≡ places_of old ++ places_in more
-    → IsEndOf (stream_at new) (merge_end_of new)
-    → IsMergedFrom source opened old given → IsMergedFrom source opened new (given ++ more)
-merged_on source opened old new given more gives places known m = record {
+    → IsMergeEnd (map (seen_of source) new.streams.items) (end_seen (merge_end_of new))
+    → AreMergedFrom opened (merge_seen source old) given → AreMergedFrom opened (merge_seen source new) (given ++ more)
+merged_on source opened old new given more gives known m = record {
   each = λ k.
-      rw (lines_more k given more)
-      (both_then (λ o s. AreReadFrom o (line_seen source (lines_of s)) (lines_from k given)) (Gives source (lines_from k more)) (λ o s. AreReadFrom o (line_seen source (lines_of s)) (lines_from k given ++ lines_from k more))
-      (slice_get opened k) (stream_at old k) (stream_at new k) (m.each k) (gives k)
-      (λ o s t read more. more.reads o (lines_from k given) read));
-  order = rw (places, ← m.order) (map-append (λ d. d.0) given more);
+      rw (slice_get-map (seen_of source) new.streams.items k)
+      (both_seen source given more k (slice_get opened k) (stream_at old k) (stream_at new k)
+      (rw (slice_get-map (seen_of source) old.streams.items k) at (m.each k)) (gives k));
   known = known;
 }
 
 -- ---- the end
 
-ended_if : {B : Type 0} (x y : Option (Stream B)) → Both (λ a b. HasEnded b) x y → IfSome y (λ s. line_end_of (lines_of s) ≡ Some end.End)
-ended_if (Some a) (Some b) ended = ended.at_end
-ended_if None None ended = tt
-ended_if (Some a) None ended = tt
-ended_if None (Some b) ended = absurd ended
+ended_if : {B : Type 0} (source : SourceOf B) (x y : Option (Stream B)) → Both (λ a b. HasEnded b) x y → IfSome (option_map (seen_of source) y) (λ lines. lines.end ≡ Some end.End)
+ended_if source (Some a) (Some b) ended = ended.at_end
+ended_if source None None ended = tt
+ended_if source (Some a) None ended = tt
+ended_if source None (Some b) ended = absurd ended
 
-failed_there : {B : Type 0} (source : SourceOf B) (x y : Option (Stream B)) → There (HasFailed source) x y → IsSomeAnd y (λ s. line_end_of (lines_of s) ≡ Some end.Fault)
+failed_there : {B : Type 0} (source : SourceOf B) (x y : Option (Stream B)) → There (HasFailed source) x y → IsSomeAnd (option_map (seen_of source) y) (λ lines. lines.end ≡ Some end.Fault)
 failed_there source (Some a) (Some b) failed = failed.0
 failed_there source None y failed = absurd failed
 failed_there source (Some a) None failed = absurd failed
 
-long_there : {B : Type 0} (x y : Option (Stream B)) → There HasTooLong x y → IsSomeAnd y (λ s. line_end_of (lines_of s) ≡ Some end.TooLong)
-long_there (Some a) (Some b) long = long
-long_there None y long = absurd long
-long_there (Some a) None long = absurd long
+long_there : {B : Type 0} (source : SourceOf B) (x y : Option (Stream B)) → There HasTooLong x y → IsSomeAnd (option_map (seen_of source) y) (λ lines. lines.end ≡ Some end.TooLong)
+long_there source (Some a) (Some b) long = long
+long_there source None y long = absurd long
+long_there source (Some a) None long = absurd long
 
-pub end_known : {B : Type 0} (source : SourceOf B) (first : ℕ) (old new : ℕ → Option (Stream B)) (found : MergeItem) → RoundHasCause source first old new found → IsEndOf new (end_by found)
-end_known source first old new (item.Line place line) cause = tt
-end_known source first old new item.NotYet cause = tt
-end_known source first old new item.End cause = λ k. ended_if (old k) (new k) (cause k)
-end_known source first old new (item.Fault place) cause = failed_there source (old place) (new place) cause.here
-end_known source first old new (item.TooLong place) cause = long_there (old place) (new place) cause.here
+pub end_known : {B : Type 0} (source : SourceOf B) (first : ℕ) (old : ℕ → Option (Stream B)) (streams : List (Stream B)) (found : MergeItem)
+    → RoundHasCause source first old (slice_get streams) found → IsMergeEnd (map (seen_of source) streams) (end_seen (end_by found))
+end_known source first old streams (item.Line place line) cause = tt
+end_known source first old streams item.NotYet cause = tt
+end_known source first old streams item.End cause = λ k. rw (slice_get-map (seen_of source) streams k) (ended_if source (old k) (slice_get streams k) (cause k))
+end_known source first old streams (item.Fault place) cause =
+    (place, rw (slice_get-map (seen_of source) streams place) (failed_there source (old place) (slice_get streams place) cause.here))
+end_known source first old streams (item.TooLong place) cause =
+    (place, rw (slice_get-map (seen_of source) streams place) (long_there source (old place) (slice_get streams place) cause.here))
 
 -- ---- the order
 
@@ -99,16 +114,47 @@ next_within source first old streams places item.End cause le = rw append-nil le
 next_within source first old streams places (item.Fault place) cause le = rw append-nil le
 next_within source first old streams places (item.TooLong place) cause le = rw append-nil le
 
--- ---- paces
+-- ---- paces and waits
 
-pub no_pace : {B : Type 0} (source : SourceOf B) (old new : LineMerge B) (lines : ℕ → List (List ℕ)) → ((k : ℕ) → Both (Gives source (lines k)) (stream_at old k) (stream_at new k)) → HasNoPace source old → HasNoPace source new
-no_pace source old new lines gives none k = by (stream_at old k) (stream_at new k) (gives k) (none k)
+unpaced_if : {B : Type 0} (source : SourceOf B) (lines : List (List ℕ)) (x y : Option (Stream B)) → Both (Gives source lines) x y
+    → IfSome (option_map (seen_of source) x) (λ seen. seen.source.paced ≡ unpaced) → IfSome (option_map (seen_of source) y) (λ seen. seen.source.paced ≡ unpaced)
+unpaced_if source lines (Some a) (Some b) g e = g.unpaced e
+unpaced_if source lines None None g e = tt
+unpaced_if source lines (Some a) None g e = tt
+unpaced_if source lines None (Some b) g e = absurd g
+
+pub no_pace : {B : Type 0} (source : SourceOf B) (old new : LineMerge B) (lines : ℕ → List (List ℕ)) → ((k : ℕ) → Both (Gives source (lines k)) (stream_at old k) (stream_at new k))
+    → AreUnpaced (merge_seen source old) → AreUnpaced (merge_seen source new)
+no_pace source old new lines gives none k =
+    rw (slice_get-map (seen_of source) new.streams.items k)
+    (unpaced_if source (lines k) (stream_at old k) (stream_at new k) (gives k) (rw (slice_get-map (seen_of source) old.streams.items k) at (none k)))
+
+-- the waits of lists of sources, one by one
+pub sum_stays : {B : Type 0} (source : SourceOf B) (old new : List (Stream B)) (lines : ℕ → List (List ℕ)) → ((k : ℕ) → Both (Gives source (lines k)) (slice_get old k) (slice_get new k))
+    → sum_by (λ (seen : LineSeen). seen.source.waits) (map (seen_of source) old) ≤ sum_by (λ (seen : LineSeen). seen.source.waits) (map (seen_of source) new)
+sum_stays source [] new lines gives = omega arith
+sum_stays source (a ∷ old) [] lines gives = absurd (gives 0)
+sum_stays source (a ∷ old) (b ∷ new) lines gives =
+    let first = (gives 0).waits_stay in
+    let rest = sum_stays source old new (λ k. lines (suc k)) (λ k. gives (suc k)) in
+    omega (arith, first, rest)
+
+-- the lines that were given
+pub lines_in : {B : Type 0} (source : SourceOf B) (old new : ℕ → Option (Stream B)) (found : MergeItem) → ((k : ℕ) → Both (Gives source (lines_from k (given_of found))) (old k) (new k))
+    → (first : ℕ) → RoundHasCause source first old new found → All IsLine (map (λ d. d.1) (given_of found))
+lines_in source old new (item.Line place line) gives first cause =
+    let same : (place == place) ≡ true = grind (arith, nat_tests) in
+    let at : lines_from place ((place, line) ∷ []) ≡ line ∷ [] = rw same refl in
+    by (old place) (new place) cause.here (rw at at (gives place))
   where
-    by : (x y : Option (Stream B)) → Both (Gives source (lines k)) x y → IfSome x (λ s. source.paced (line_source (lines_of s)) ≡ unpaced) → IfSome y (λ s. source.paced (line_source (lines_of s)) ≡ unpaced)
-    by (Some a) (Some b) g e = g.unpaced e
-    by None None g e = tt
-    by (Some a) None g e = tt
-    by None (Some b) g e = absurd g
+    by : (x y : Option (Stream B)) → There WasOpen x y → Both (Gives source (line ∷ [])) x y → All IsLine (line ∷ [])
+    by (Some a) (Some b) there g = g.each_is_a_line
+    by None y there g = absurd there
+    by (Some a) None there g = absurd there
+lines_in source old new item.NotYet gives first cause = All-nil IsLine
+lines_in source old new item.End gives first cause = All-nil IsLine
+lines_in source old new (item.Fault place) gives first cause = All-nil IsLine
+lines_in source old new (item.TooLong place) gives first cause = All-nil IsLine
 
 -- ---- fetches
 

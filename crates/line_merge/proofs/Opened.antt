@@ -28,7 +28,7 @@ nothing_read source s new = record {
 }
 
 pub nothing_read_of_any : {B : Type 0} (source : SourceOf B) (streams : List (Stream B)) → AreNew streams
-    → (k : ℕ) → Both (λ o s. AreReadFrom o (line_seen source (lines_of s)) []) (slice_get (map (source_seen source) (map source_in streams)) k) (slice_get streams k)
+    → (k : ℕ) → Both (λ o lines. AreReadFrom o lines []) (slice_get (map (source_seen source) (map source_in streams)) k) (slice_get (map (λ s. line_seen source (lines_of s)) streams) k)
 nothing_read_of_any source [] new k = tt
 nothing_read_of_any source (s ∷ streams) new zero = nothing_read source s (All-head IsNew s streams new)
 nothing_read_of_any source (s ∷ streams) new (suc k) = nothing_read_of_any source streams (All-tail IsNew s streams new) k

@@ -38,6 +38,8 @@ given_none source streams k = both_same (Gives source []) (streams k) (gives_non
 
 then_gives : {B : Type 0} (source : SourceOf B) (lines : List (List ℕ)) (a b c : Stream B) → Gives source [] a b → Gives source lines b c → Gives source lines a c
 then_gives source lines a b c r s = record {
+  each_is_a_line = s.each_is_a_line;
+  waits_stay = omega (arith, r.waits_stay, s.waits_stay);
   reads = λ opened earlier before. s.reads opened earlier (rw append-nil at (r.reads opened earlier before));
   unpaced = λ e. s.unpaced (r.unpaced e);
 }

@@ -2,6 +2,8 @@
 use Rattle.std.proofs.Common.{◌≡◌, ℕ, Bool, true, false, List, [], ◌∷◌, ◌++◌, length, refl, sym, ap, subst, ◌∙◌, arith}
 use Rattle.std.specs.Prelude.{Option, Some, None, Result, Ok, Err, IsNone, IfSome, IfOk}
 use Rattle.std.proofs.lemmas.List.{append-nil}
+use Rattle.std.proofs.lemmas.List.Elements.{All-nil}
+use Rattle.pipe_edges.specs.Texts.{IsLine}
 use Rattle.pipe_types.specs.Counts.{Rose}
 use Rattle.pipe_edges.specs.declared.source.ByteSource.{Ghosts as SourceOf}
 use Rattle.pipe_edges.specs.LineSource.{line_source, waiting, line_end_of}
@@ -43,13 +45,15 @@ records_by (Ended end.TooLong) = refl
 pub gives_on : {B E : Type 0} (source : SourceOf B) (old new : Stream B) (result : Result Fetched E) (lines : List (List ℕ))
     → Fetches source (lines_of old) (lines_of new) 1 result → records_in result ≡ lines → Gives source lines old new
 gives_on source old new result lines f is = record {
+  each_is_a_line = rw is at f.each_is_a_line;
+  waits_stay = f.handed.waits_stay;
   reads = subst (λ ls. ReadsOn ls (line_seen source (lines_of old)) (line_seen source (lines_of new))) is (reads_on source (lines_of old) (lines_of new) 1 result f);
   unpaced = λ e. stays_unpaced (source.paced (line_source (lines_of old))) (source.paced (line_source (lines_of new))) (waiting (lines_of old)) (waiting (lines_of new)) result e f.paced;
 }
 
 -- a source that was not read
 pub gives_none : {B : Type 0} (source : SourceOf B) (s : Stream B) → Gives source [] s s
-gives_none source s = record { reads = λ opened earlier before. rw append-nil before; unpaced = λ e. e }
+gives_none source s = record { each_is_a_line = All-nil IsLine; waits_stay = omega arith; reads = λ opened earlier before. rw append-nil before; unpaced = λ e. e }
 
 -- one line was asked for
 pub single : {B : Type 0} (E : Type 0) (source : SourceOf B) (old new : LineSource B) (x : Fetched) → Fetches source old new 1 (ok_of {E = E} x) → IsSingle x
@@ -91,3 +95,12 @@ closes E NotYet now remembers is = cc
 closes E (Ended end.End) now remembers is = remembers
 closes E (Ended end.Fault) now remembers is = cc
 closes E (Ended end.TooLong) now remembers is = cc
+
+-- the same of the fetch that it was
+pub cause_by : {B : Type 0} (E : Type 0) (source : SourceOf B) (old new : Stream B) (x : Fetched) (t : Taken) → x ≡ fetched_by t
+    → Fetches source (lines_of old) (lines_of new) 1 (ok_of {E = E} x) → is_open_in old ≡ true → is_open_in new ≡ leaves_open t
+    → TakenHasCause source old new t
+cause_by E source old new x t same f was is = cause_of E source old new t (rw same at f) was is
+
+pub closes_by : (E : Type 0) (x : Fetched) (t : Taken) (now : Option LineEnd) (still : Bool) → x ≡ fetched_by t → Remembers now (ok_of {E = E} x) → still ≡ leaves_open t → still ≡ false → now ≡ Some end.End
+closes_by E x t now still same remembers is closed = closes E t now (rw same at remembers) (sym is ∙ closed)

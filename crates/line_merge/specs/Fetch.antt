@@ -1,22 +1,13 @@
 -- What a fetch of a merge says.
-use Rattle.std.specs.Prelude.{◌≡◌, ℕ, List, [], ◌++◌, length, map, Option, Some, None}
+use Rattle.std.specs.Prelude.{◌≡◌, ℕ, length, Option, Some, None}
 use Rattle.pipe_edges.specs.declared.source.ByteSource.{Ghosts as SourceOf}
 use Rattle.line_merge.specs.declared.stream.Stream.{Stream}
 use Rattle.pipe_edges.specs.declared.reading.Fetched.{Fetched}
 use Rattle.pipe_edges.specs.declared.reading.Fetched.TheVariants as fetched
-use Rattle.source_lines.specs.Seen.{SourceSeen}
 use Rattle.line_merge.specs.Streams.{Both, There}
 use Rattle.line_merge.specs.Tries.{HasNone, HasWaited, HasEnded, HasFailed, HasTooLong}
-use Rattle.line_merge.specs.Merged.{IsMergedFrom}
-use Rattle.line_merge.specs.declared.merge.LineMerge.{LineMerge}
 use Rattle.line_merge.specs.declared.item.MergeEnd.{MergeEnd}
 use Rattle.line_merge.specs.declared.item.MergeEnd.TheVariants.{End, Fault, TooLong}
-
--- these records, each with its place, follow what was given before
-abbrev pub MergesOn : {B : Type 0} → SourceOf B → (records : List (List ℕ)) → (old new : LineMerge B) → Type 0
-MergesOn source records old new =
-    (opened : List SourceSeen) (given : List (ℕ × List ℕ)) → IsMergedFrom source opened old given
-    → (more : List (ℕ × List ℕ)) × (map (λ d. d.1) more ≡ records) × IsMergedFrom source opened new (given ++ more)
 
 -- the answer that names an end
 abbrev pub answer_to : MergeEnd → Fetched

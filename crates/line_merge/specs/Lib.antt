@@ -1,6 +1,6 @@
 pub mod Items
 pub mod Streams
 pub mod Tries
-pub mod Merged
-pub mod Fetch
 pub mod Opening
+pub mod Seen
+pub mod Fetch

@@ -1,8 +1,9 @@
 -- What a round over the sources does to each.
-use Rattle.std.specs.Prelude.{◌≡◌, ◌≤◌, ◌<◌, ◌⊎◌, ℕ, Bool, true, false, if◌then◌else◌, nat_lt, nat_le, ◌&&◌, ◌||◌, List, [], ◌++◌, Option, Some, None}
+use Rattle.std.specs.Prelude.{◌≡◌, ◌≤◌, ◌<◌, ◌⊎◌, ℕ, Bool, true, false, if◌then◌else◌, nat_lt, nat_le, ◌&&◌, ◌||◌, List, All, Option, Some, None}
 use Rattle.pipe_types.specs.Counts.{Rose}
 use Rattle.pipe_edges.specs.declared.source.ByteSource.{Ghosts as SourceOf}
 use Rattle.pipe_edges.specs.Paces.{unpaced}
+use Rattle.pipe_edges.specs.Texts.{IsLine}
 use Rattle.pipe_edges.specs.LineSource.{line_source, line_end_of}
 use Rattle.line_merge.specs.declared.stream.Stream.{Stream}
 use Rattle.pipe_edges.specs.declared.reading.LineEnd.TheVariants.{End, Fault, TooLong}
@@ -14,8 +15,10 @@ use Rattle.line_merge.specs.declared.item.MergeItem.TheVariants as item
 use Rattle.line_merge.specs.declared.item.Taken.{Taken}
 use Rattle.line_merge.specs.declared.item.Taken.TheVariants as taken
 
--- these lines of the source follow those that were read before, and no pace comes to it
+-- these lines of the source follow those that were read before, its waits do not fall, and no pace comes to it
 pub record Gives {B : Type 0} (source : SourceOf B) (lines : List (List ℕ)) (old new : Stream B) : Type 0 where
+  pub each_is_a_line : All IsLine lines
+  pub waits_stay : source.waits (line_source (lines_of old)) ≤ source.waits (line_source (lines_of new))
   pub reads : ReadsOn lines (line_seen source (lines_of old)) (line_seen source (lines_of new))
   pub unpaced : source.paced (line_source (lines_of old)) ≡ unpaced → source.paced (line_source (lines_of new)) ≡ unpaced
 

@@ -1,8 +1,9 @@
 //! The merge.
 
-ghost use Rattle.std.specs.Prelude.{◌≡◌, ◌≤◌, ◌<◌, ◌++◌, [], ℕ, List, None, Some, IsNone, IfOk, IfErr, IfSome, Ok, length, map, slice_get, vec_capacity};
-ghost use Rattle.line_merge.specs.Items.{item_of, end_by, given_by, next_place};
+ghost use Rattle.std.specs.Prelude.{◌≡◌, ◌≤◌, ◌<◌, ◌++◌, [], ℕ, List, None, Some, All, IsNone, IfOk, IfErr, IfSome, Ok, length, map, slice_get, vec_capacity};
+ghost use Rattle.line_merge.specs.Items.{item_of, end_by, given_by, next_place, places_in};
 ghost use Rattle.pipe_edges.specs.Fetch.{records_in};
+ghost use Rattle.pipe_edges.specs.Texts.{IsLine};
 ghost use Rattle.source_lines.specs.Seen.{SourceSeen, source_seen};
 
 use crate::item::{MergeEnd, MergeItem};
@@ -34,8 +35,8 @@ pub struct LineMerge<B> {
 impl<B: ByteSource + Drop> LineMerge<B> {
     ghost use Rattle.line_merge.specs.Streams.{stream_at, places_of, merge_end_of, sources_of};
     ghost use Rattle.line_merge.specs.Tries.{RoundHasCause};
-    ghost use Rattle.line_merge.specs.Merged.{IsMergedFrom, HasNoPace};
-    ghost use Rattle.line_merge.specs.Fetch.{MergesOn, FetchHasCause, answer_to, Remembers};
+    ghost use Rattle.line_merge.specs.Seen.{AreMergedFrom, MergeReadsOn, AreUnpaced, merge_seen, waits_together};
+    ghost use Rattle.line_merge.specs.Fetch.{FetchHasCause, answer_to, Remembers};
 
     /// Over these sources. For want of memory they come back as they were.
     pub fn new(
@@ -44,7 +45,8 @@ impl<B: ByteSource + Drop> LineMerge<B> {
     ) -> Result<LineMerge<B>, (SourceList<B>, AllocError)>
         requires some { 2 ≤ length sources }
         requires few { length sources ≤ 64 }
-        ensures merged { IfOk result (λ m. IsMergedFrom B.ByteSource (map (source_seen B.ByteSource) sources) m []) }
+        ensures merged { IfOk result (λ m. AreMergedFrom (map (source_seen B.ByteSource) sources) (merge_seen B.ByteSource m) []) }
+        ensures order { IfOk result (λ m. places_of m ≡ []) }
         ensures sources { IfOk result (λ m. sources_of m ≡ sources) }
         ensures open { IfOk result (λ m. merge_end_of m ≡ None) }
         ensures err { IfErr result (λ e. e.0 ≡ sources) }
@@ -89,14 +91,17 @@ impl<B: ByteSource + Drop> LineMerge<B> {
     /// merge, and so does the end of all; each is answered again by every later call. For want of memory no line is gone.
     pub fn poll(&mut self) -> Result<MergeItem, AllocError>
         // The lines of each source are the first of its lines, in order, each whole and once.
-        ensures merged { (opened : List SourceSeen) (given : List (ℕ × List ℕ)) → IsMergedFrom B.ByteSource opened self.old given
-            → IsMergedFrom B.ByteSource opened self.new (given ++ given_by result) }
+        ensures merged { (opened : List SourceSeen) (given : List (ℕ × List ℕ)) → AreMergedFrom opened (merge_seen B.ByteSource self.old) given
+            → AreMergedFrom opened (merge_seen B.ByteSource self.new) (given ++ given_by result) }
+        ensures each_is_a_line { All IsLine (map (λ d. d.1) (given_by result)) }
+        ensures order { places_of self.new ≡ places_of self.old ++ places_in (given_by result) }
         ensures cause { IfOk result (λ item. IsNone (merge_end_of self.old)
             → RoundHasCause B.ByteSource (next_place (places_of self.old)) (stream_at self.old) (stream_at self.new) item) }
         ensures remembers { IfOk result (λ item. merge_end_of self.new ≡ end_by item) }
         ensures again { IfSome (merge_end_of self.old) (λ e. (result ≡ Ok (item_of e)) × (self.new ≡ self.old)) }
         // Where the sources have no pace, none comes to them.
-        ensures unpaced { HasNoPace B.ByteSource self.old → HasNoPace B.ByteSource self.new }
+        ensures unpaced { AreUnpaced (merge_seen B.ByteSource self.old) → AreUnpaced (merge_seen B.ByteSource self.new) }
+        ensures waits_stay { waits_together (merge_seen B.ByteSource self.old) ≤ waits_together (merge_seen B.ByteSource self.new) }
     {
         if let Some(end) = self.end {
             return Ok(end.item());
@@ -119,12 +124,14 @@ impl<B: ByteSource + Drop> LineMerge<B> {
     /// line is gone.
     pub fn fetch(&mut self, max: u32) -> Result<Fetched, AllocError>
         requires { 0 < max }
-        ensures merged { MergesOn B.ByteSource (records_in result) self.old self.new }
+        ensures merged { MergeReadsOn (records_in result) (merge_seen B.ByteSource self.old) (merge_seen B.ByteSource self.new) }
+        ensures each_is_a_line { All IsLine (records_in result) }
         ensures cause { IfOk result (λ answer. IsNone (merge_end_of self.old)
             → FetchHasCause B.ByteSource (stream_at self.old) (stream_at self.new) answer) }
         ensures remembers { IfOk result (λ answer. Remembers (merge_end_of self.new) answer) }
         ensures again { IfSome (merge_end_of self.old) (λ e. IfOk result (λ answer. answer ≡ answer_to e) × (self.new ≡ self.old)) }
-        ensures unpaced { HasNoPace B.ByteSource self.old → HasNoPace B.ByteSource self.new }
+        ensures unpaced { AreUnpaced (merge_seen B.ByteSource self.old) → AreUnpaced (merge_seen B.ByteSource self.new) }
+        ensures waits_stay { waits_together (merge_seen B.ByteSource self.old) ≤ waits_together (merge_seen B.ByteSource self.new) }
     {
         let _ = max;
         match Vec::with_capacity(self.alloc, 1) {

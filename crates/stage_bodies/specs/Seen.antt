@@ -1,8 +1,15 @@
 -- What contracts see of sources, sinks, callbacks and the bodies that hold them: plain data.
-use Rattle.std.specs.Prelude.{ℕ, Bool, List, Option, Some, None, slice_get}
+use Rattle.std.specs.Prelude.{ℕ, Bool, List, [], ◌∷◌, map, Option, Some, None, slice_get}
 use Rattle.pipe_types.specs.declared.topology.Kind.{Kind}
 use Rattle.pipe_types.specs.declared.topology.StageSpec.{StageSpec}
+use Rattle.pipe_edges.specs.declared.source.ByteSource.{Ghosts as SourceOf}
+use Rattle.pipe_edges.specs.declared.reading.LineEnd.{LineEnd}
 pub use Rattle.source_lines.specs.Seen.{SourceSeen, source_seen, LineSeen, line_seen}
+pub use Rattle.line_merge.specs.Seen.{MergeSeen, merge_seen, waits_together}
+use Rattle.stage_bodies.specs.declared.feed.Feed.{Feed}
+use Rattle.stage_bodies.specs.declared.feed.Feed.TheVariants as feed
+use Rattle.stage_bodies.specs.declared.feed.FeedSources.{FeedSources}
+use Rattle.stage_bodies.specs.declared.feed.FeedSources.TheVariants as back
 use Rattle.stage_callback.specs.declared.answers.Said.{Said}
 use Rattle.stage_callback.specs.Laws.{Law}
 
@@ -14,6 +21,34 @@ pub record SinkSeen : Type 0 where
 
 abbrev pub sink_seen : {K : Type 0} → (told : K → Bool) → (held : K → List ℕ) → (faults : K → ℕ) → K → SinkSeen
 sink_seen told held faults k = record { told = told k; held = held k; faults = faults k }
+
+-- what a producer reads: the lines of one source, or of the sources of a merge
+pub data FeedSeen : Type 0 where
+  Lines : (lines : LineSeen) → FeedSeen
+  Merged : (merge : MergeSeen) → FeedSeen
+
+abbrev pub feed_seen : {S : Type 0} → SourceOf S → Feed S → FeedSeen
+feed_seen source (feed.Lines lines) = Lines (line_seen source lines)
+feed_seen source (feed.Merge merge) = Merged (merge_seen source merge)
+
+-- its sources, in order
+abbrev pub sources_in : FeedSeen → List SourceSeen
+sources_in (Lines lines) = lines.source ∷ []
+sources_in (Merged merge) = map (λ lines. lines.source) merge.streams
+
+abbrev pub sources_seen : {S : Type 0} → SourceOf S → FeedSources S → List SourceSeen
+sources_seen source (back.One s) = source_seen source s ∷ []
+sources_seen source (back.Many sources) = map (source_seen source) sources
+
+-- why no more lines come
+abbrev pub end_in : FeedSeen → Option LineEnd
+end_in (Lines lines) = lines.end
+end_in (Merged merge) = merge.end
+
+-- how often nothing was ready, all sources together
+abbrev pub waits_in : FeedSeen → ℕ
+waits_in (Lines lines) = lines.source.waits
+waits_in (Merged merge) = waits_together merge
 
 -- a callback in its box
 pub record BoxSeen : Type 0 where
@@ -29,11 +64,11 @@ pub record BoxSeen : Type 0 where
 
 -- a body: the source, the sink and the callback that it holds, if it holds them
 pub record BodySeen : Type 0 where
-  pub source : Option LineSeen
+  pub source : Option FeedSeen
   pub sink : Option SinkSeen
   pub callback : Option BoxSeen
 
-abbrev pub with_source : LineSeen → BodySeen → BodySeen
+abbrev pub with_source : FeedSeen → BodySeen → BodySeen
 with_source source body = record body { source = Some source }
 
 abbrev pub with_sink : SinkSeen → BodySeen → BodySeen
