@@ -28,7 +28,7 @@ use Rattle.stage_callback.specs.declared.answers.Said.{Said}
 use Rattle.stage_job.specs.Chunks.{never_crashes, RoseBy}
 use Rattle.stage_job.specs.Lawful.{AreLawful}
 use Rattle.stage_job.specs.Told.{chunk_by}
-use Rattle.stage_bodies.specs.Seen.{LineSeen, MergeSeen, waits_together, FeedSeen, Lines, Merged, SinkSeen, BoxSeen, BodySeen}
+use Rattle.stage_bodies.specs.Seen.{LineSeen, MergeSeen, waits_together, FeedSeen, Single, Merged, SinkSeen, BoxSeen, BodySeen}
 pub use Rattle.stage_bodies.specs.Reads.{ReadsOn, MergeReadsOn}
 use Rattle.line_merge.specs.Seen.{AreUnpaced}
 use Rattle.stage_bodies.specs.Told.{end_told, text_told}
@@ -115,7 +115,7 @@ pub record FetchesMerge (result : Came) (old new : MergeSeen) : Type 0 where
 
 -- a fetch of a feed
 abbrev pub FetchesFeed : (most : ℕ) → Came → (old new : FeedSeen) → Type 0
-FetchesFeed most result (Lines old) (Lines new) = Fetches most result old new
+FetchesFeed most result (Single old) (Single new) = Fetches most result old new
 FetchesFeed most result (Merged old) (Merged new) = FetchesMerge result old new
 FetchesFeed most result _ _ = ⊥
 
@@ -252,7 +252,7 @@ pub record IsCutMerge (old new : MergeSeen) : Type 0 where
   pub unpaced : AreUnpaced old → AreUnpaced new
 
 abbrev pub IsCutFeed : (old new : FeedSeen) → Type 0
-IsCutFeed (Lines old) (Lines new) = IsCutFetch old new
+IsCutFeed (Single old) (Single new) = IsCutFetch old new
 IsCutFeed (Merged old) (Merged new) = IsCutMerge old new
 IsCutFeed _ _ = ⊥
 

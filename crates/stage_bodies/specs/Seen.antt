@@ -24,16 +24,16 @@ sink_seen told held faults k = record { told = told k; held = held k; faults = f
 
 -- what a producer reads: the lines of one source, or of the sources of a merge
 pub data FeedSeen : Type 0 where
-  Lines : (lines : LineSeen) → FeedSeen
+  Single : (lines : LineSeen) → FeedSeen
   Merged : (merge : MergeSeen) → FeedSeen
 
 abbrev pub feed_seen : {S : Type 0} → SourceOf S → Feed S → FeedSeen
-feed_seen source (feed.Lines lines) = Lines (line_seen source lines)
+feed_seen source (feed.Lines lines) = Single (line_seen source lines)
 feed_seen source (feed.Merge merge) = Merged (merge_seen source merge)
 
 -- its sources, in order
 abbrev pub sources_in : FeedSeen → List SourceSeen
-sources_in (Lines lines) = lines.source ∷ []
+sources_in (Single lines) = lines.source ∷ []
 sources_in (Merged merge) = map (λ lines. lines.source) merge.streams
 
 abbrev pub sources_seen : {S : Type 0} → SourceOf S → FeedSources S → List SourceSeen
@@ -42,12 +42,12 @@ sources_seen source (back.Many sources) = map (source_seen source) sources
 
 -- why no more lines come
 abbrev pub end_in : FeedSeen → Option LineEnd
-end_in (Lines lines) = lines.end
+end_in (Single lines) = lines.end
 end_in (Merged merge) = merge.end
 
 -- how often nothing was ready, all sources together
 abbrev pub waits_in : FeedSeen → ℕ
-waits_in (Lines lines) = lines.source.waits
+waits_in (Single lines) = lines.source.waits
 waits_in (Merged merge) = waits_together merge
 
 -- a callback in its box
