@@ -35,7 +35,7 @@ use Rattle.pipe_model.specs.Legal.{is_legal, allows, owed, passes, may_come, is_
 use Rattle.pipe_laws.proofs.Tests.{both}
 use Rattle.stage_job.specs.Chunks.{never_crashes}
 use Rattle.stage_callback.specs.Callbacks.{is_message_for}
-use Rattle.stage_bodies.specs.Seen.{LineSeen, MergeSeen, FeedSeen, Single, Merged, BoxSeen, BodySeen}
+use Rattle.stage_bodies.specs.Seen.{LineSeen, MergeSeen, FeedSeen, BoxSeen, BodySeen}
 use Rattle.stage_bodies.specs.Jobs.{Both, Fetches, FetchesMerge, FetchesFeed, IsFetched, IsMergeFetched, Replies, EndsIn, IsDone, reset}
 use Rattle.stage_bodies.specs.Posts.{IsWorkOf, IsOutNow, IsJobOf, step_of, is_crash, is_crashed_end}
 use Rattle.stage_bodies.specs.declared.job.Answer.{Answer}
@@ -46,7 +46,7 @@ use Rattle.stage_bodies.specs.declared.job.Outcome.{Outcome as Came}
 use Rattle.stage_bodies.specs.declared.job.Outcome.TheVariants as came
 use Rattle.body_laws.specs.Ready.{There, IsArmed, IsBodyAt}
 use Rattle.body_laws.proofs.Steps.{processors_alone, writers_alone, is_present}
-use Rattle.body_laws.proofs.Jobs.{fit_of, source_there, chunk_armed, batch_armed, chunk_for, child_for, batch_for}
+use Rattle.body_laws.proofs.Jobs.{of_feed, fit_of, source_there, chunk_armed, batch_armed, chunk_for, child_for, batch_for}
 use Rattle.body_laws.proofs.Contents.{Handles, processor_handles, supervisor_handles, messages_fit}
 use Rattle.body_laws.proofs.Laws.{no_control, stage_low}
 
@@ -79,10 +79,7 @@ records_fit records most some few short =
 
 -- what is known of an answer to a fetch
 fetched : (P : Type 0) (most : ℕ) (o : Came) (x y : Option FeedSeen) → ((b c : LineSeen) → Fetches most o b c → P) → ((b c : MergeSeen) → FetchesMerge o b c → P) → IsSome x → Both (FetchesFeed most o) x y → P
-fetched P most o (Some (Single b)) (Some (Single c)) f g h k = f b c k
-fetched P most o (Some (Merged b)) (Some (Merged c)) f g h k = g b c k
-fetched P most o (Some (Single b)) (Some (Merged c)) f g h k = absurd k
-fetched P most o (Some (Merged b)) (Some (Single c)) f g h k = absurd k
+fetched P most o (Some b) (Some c) f g h k = of_feed P most o b c f g k
 fetched P most o (Some b) None f g h k = absurd k
 fetched P most o None y f g h k = let x : false ≡ true = h in cc
 

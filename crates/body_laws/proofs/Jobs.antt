@@ -238,11 +238,15 @@ callback_as topology h h' p a b e l f g i lawful k = record {
 
 -- ---- no other answers
 
+-- what follows from a fetch of either kind of feed
+pub of_feed : (P : Type 0) (most : ℕ) (o : Came) (x y : FeedSeen) → ((b c : LineSeen) → Fetches most o b c → P) → ((b c : MergeSeen) → FetchesMerge o b c → P) → FetchesFeed most o x y → P
+of_feed P most o (Single b) (Single c) f g k = f b c k
+of_feed P most o (Merged b) (Merged c) f g k = g b c k
+of_feed P most o (Single b) (Merged c) f g k = absurd k
+of_feed P most o (Merged b) (Single c) f g k = absurd k
+
 pub no_fetch : (most : ℕ) (o : Came) (x y : Option FeedSeen) → ((b c : LineSeen) → Fetches most o b c → ⊥) → ((b c : MergeSeen) → FetchesMerge o b c → ⊥) → IsSome x → Both (FetchesFeed most o) x y → ⊥
-no_fetch most o (Some (Single b)) (Some (Single c)) f g h k = f b c k
-no_fetch most o (Some (Merged b)) (Some (Merged c)) f g h k = g b c k
-no_fetch most o (Some (Single b)) (Some (Merged c)) f g h k = k
-no_fetch most o (Some (Merged b)) (Some (Single c)) f g h k = k
+no_fetch most o (Some b) (Some c) f g h k = of_feed ⊥ most o b c f g k
 no_fetch most o (Some b) None f g h k = k
 no_fetch most o None y f g h k = let x : false ≡ true = h in cc
 
