@@ -77,7 +77,7 @@ sink_role BatchProcessor at given edge name e = refl
 sink_role Processor at given edge name e = cc
 sink_role Supervisor at given edge name e = cc
 sink_role Batcher at given edge name e = cc
-sink_role Producer at given edge name e = let no : is_written (fed at given) ≡ false = fed_not_written at given in let yes : is_written (fed given) ≡ true = ap is_written e in cc
+sink_role Producer at given edge name e = let no : is_written (fed at given) ≡ false = fed_not_written at given in let yes : is_written (fed at given) ≡ true = ap is_written e in cc
 
 batch_post : (r : Role) (max : ℕ) → is_batch_processor_role r ≡ true → has_slot r max 0 ≡ true
 batch_post BatchProcessor max h = refl
