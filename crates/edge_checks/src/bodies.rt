@@ -217,7 +217,7 @@ pub fn filled(told: &mut Told) -> Result<(), AllocError> {
 fn fill<B: Houses<MemSource, MemSink>>(alloc: Global, body: &mut B) -> Result<(), AllocError> {
     let source = source_of(alloc, "a", "")?;
     if let Ok(lines) = LineSource::new(alloc, source) {
-        body.put_source(lines);
+        body.put_source(Feed::Lines(lines));
     }
     body.put_sink(sink_of(alloc, "x", 9, "")?);
     Ok(())
