@@ -15,7 +15,7 @@ use pipe_types::bytes::Bytes;
 use pipe_types::message::{BatchEnd, Outcome as End};
 use pipe_types::numbers::{Post, StageNo};
 use pipe_types::topology::Kind;
-use stage_bodies::{Houses, Job, Outcome, Work, Works};
+use stage_bodies::{Feed, Houses, Job, Outcome, Work, Works};
 use stage_callback::{Callback, LinesBox, StepsBox, unarmed};
 use std::alloc::{AllocError, Global};
 use told_text::Told;
