@@ -31,7 +31,7 @@ fn one_of<S: ByteSource + Drop>(sources: Option<FeedSources<S>>) -> Option<S>
 }
 
 /// Takes the source out of the body at this place.
-fn source_out<S: ByteSource, K: ByteSink, B: Houses<S, K>>(
+fn source_out<S: ByteSource + Drop, K: ByteSink, B: Houses<S, K>>(
     bodies: &mut Vec<Option<B>>,
     at: usize,
 ) -> Option<S>
