@@ -1,7 +1,9 @@
 -- What was given of the sources of a merge.
-use Rattle.std.proofs.Common.{◌≡◌, ◌≤◌, ◌<◌, ◌+◌, ◌-◌, ℕ, zero, suc, Bool, true, List, [], ◌∷◌, ◌++◌, length, refl, sym, ap, ◌∙◌, arith}
+use Rattle.std.proofs.Common.{◌≡◌, ◌≤◌, ◌<◌, ◌+◌, ◌-◌, ℕ, zero, suc, Bool, true, List, [], ◌∷◌, ◌++◌, length, refl, sym, ap, ◌∙◌, arith, inl, inr}
 use Rattle.std.specs.Prelude.{Option, Some, None, IfSome, IsSomeAnd, All, slice_get, option_map, map, ◌==◌}
 use Rattle.std.specs.List.{filter, sum_by}
+use Rattle.std.proofs.lemmas.List.Sums.{sum_by-cons}
+use Rattle.pipe_types.specs.Counts.{Rose}
 use Rattle.std.proofs.lemmas.List.{append-nil, length-append, map-append}
 use Rattle.std.proofs.lemmas.List.Elements.{filter-append, All-nil}
 use Rattle.std.proofs.lemmas.Bool.Decides.{nat_tests}
@@ -16,9 +18,9 @@ use Rattle.source_lines.specs.Seen.{SourceSeen, LineSeen, line_seen}
 use Rattle.source_lines.specs.Read.{AreReadFrom}
 use Rattle.line_merge.specs.Items.{lines_from, places_in, given_of, given_by, end_by, item_of, answer_by, next_place, behind}
 use Rattle.line_merge.specs.Streams.{Both, There, lines_of, stream_at, merge_end_of}
-use Rattle.line_merge.specs.Tries.{Gives, WasOpen, HasEnded, HasFailed, HasTooLong, RoundHasCause}
+use Rattle.line_merge.specs.Tries.{Gives, WasOpen, HasWaited, HasEnded, HasFailed, HasTooLong, RoundHasCause}
 use Rattle.line_merge.specs.Seen.{MergeSeen, AreMergedFrom, IsMergeEnd, AreUnpaced, merge_seen, end_seen}
-use Rattle.line_merge.specs.Fetch.{FetchHasCause, Remembers, answer_to}
+use Rattle.line_merge.specs.Fetch.{FetchHasCause, FetchRises, RisesIfNotYet, RoseTogether, Remembers, answer_to}
 use Rattle.line_merge.specs.declared.item.MergeEnd.{MergeEnd}
 use Rattle.line_merge.specs.declared.item.MergeEnd.TheVariants as merge_end
 use Rattle.pipe_edges.specs.Fetch.{records_of}
@@ -85,6 +87,9 @@ end_known source first old streams (item.Fault place) cause =
 end_known source first old streams (item.TooLong place) cause =
     (place, rw (slice_get-map (seen_of source) streams place) (long_there source (old place) (slice_get streams place) cause.here))
 
+pub end_none : (streams : List LineSeen) (e : Option MergeEnd) → e ≡ None → IsMergeEnd streams (end_seen e)
+end_none streams e is = rw is tt
+
 -- ---- the order
 
 last_of : (places : List ℕ) (place : ℕ) → slice_get (places ++ place ∷ []) (length (places ++ place ∷ []) - 1) ≡ Some place
@@ -97,7 +102,7 @@ last_of places place =
     at_end (p ∷ ps) = at_end ps
 
 there_within : {B : Type 0} (R : Stream B → Stream B → Type 0) (old : ℕ → Option (Stream B)) (streams : List (Stream B)) (place : ℕ) → There R (old place) (slice_get streams place) → place < length streams
-there_within R old streams place there = by (old place) (slice_get streams place) refl there
+there_within {B = B} R old streams place there = by (old place) (slice_get streams place) refl there
   where
     by : (x y : Option (Stream B)) → slice_get streams place ≡ y → There R x y → place < length streams
     by (Some a) (Some b) is r = slice_get_within streams place b is
@@ -116,6 +121,14 @@ next_within source first old streams places (item.TooLong place) cause le = rw a
 
 -- ---- paces and waits
 
+rise_first : (wa wb so sn a b : ℕ) → a ≡ wa + so → b ≡ wb + sn → Rose wa wb → so ≤ sn → RoseTogether a b
+rise_first wa wb so sn a b is now (inl lt) le = inl (omega (arith, is, now, lt, le))
+rise_first wa wb so sn a b is now (inr full) le = inr (omega (arith, now, full))
+
+rise_later : (wa wb so sn a b : ℕ) → a ≡ wa + so → b ≡ wb + sn → wa ≤ wb → RoseTogether so sn → RoseTogether a b
+rise_later wa wb so sn a b is now le (inl lt) = inl (omega (arith, is, now, lt, le))
+rise_later wa wb so sn a b is now le (inr full) = inr (omega (arith, now, full))
+
 unpaced_if : {B : Type 0} (source : SourceOf B) (lines : List (List ℕ)) (x y : Option (Stream B)) → Both (Gives source lines) x y
     → IfSome (option_map (seen_of source) x) (λ seen. seen.source.paced ≡ unpaced) → IfSome (option_map (seen_of source) y) (λ seen. seen.source.paced ≡ unpaced)
 unpaced_if source lines (Some a) (Some b) g e = g.unpaced e
@@ -129,20 +142,52 @@ no_pace source old new lines gives none k =
     rw (slice_get-map (seen_of source) new.streams.items k)
     (unpaced_if source (lines k) (stream_at old k) (stream_at new k) (gives k) (rw (slice_get-map (seen_of source) old.streams.items k) at (none k)))
 
+-- the waits of all sources
+abbrev waits_of : {B : Type 0} → SourceOf B → List (Stream B) → ℕ
+waits_of source streams = sum_by (λ (seen : LineSeen). seen.source.waits) (map (seen_of source) streams)
+
+waits_more : {B : Type 0} (source : SourceOf B) (s : Stream B) (streams : List (Stream B)) → waits_of source (s ∷ streams) ≡ source.waits (line_source (lines_of s)) + waits_of source streams
+waits_more source s streams = sum_by-cons (λ (seen : LineSeen). seen.source.waits) (seen_of source s) (map (seen_of source) streams)
+
 -- the waits of lists of sources, one by one
 pub sum_stays : {B : Type 0} (source : SourceOf B) (old new : List (Stream B)) (lines : ℕ → List (List ℕ)) → ((k : ℕ) → Both (Gives source (lines k)) (slice_get old k) (slice_get new k))
-    → sum_by (λ (seen : LineSeen). seen.source.waits) (map (seen_of source) old) ≤ sum_by (λ (seen : LineSeen). seen.source.waits) (map (seen_of source) new)
+    → waits_of source old ≤ waits_of source new
 sum_stays source [] new lines gives = omega arith
 sum_stays source (a ∷ old) [] lines gives = absurd (gives 0)
 sum_stays source (a ∷ old) (b ∷ new) lines gives =
     let first = (gives 0).waits_stay in
     let rest = sum_stays source old new (λ k. lines (suc k)) (λ k. gives (suc k)) in
-    omega (arith, first, rest)
+    omega (arith, waits_more source a old, waits_more source b new, first, rest)
+
+-- they rise where one of them has waited
+pub sum_rises : {B : Type 0} (source : SourceOf B) (old new : List (Stream B)) (lines : ℕ → List (List ℕ)) → ((k : ℕ) → Both (Gives source (lines k)) (slice_get old k) (slice_get new k))
+    → (k : ℕ) → There (HasWaited source) (slice_get old k) (slice_get new k) → RoseTogether (waits_of source old) (waits_of source new)
+sum_rises source [] new lines gives k there = absurd there
+sum_rises source (a ∷ old) [] lines gives k there = absurd (gives 0)
+sum_rises source (a ∷ old) (b ∷ new) lines gives zero there =
+    rise_first (source.waits (line_source (lines_of a))) (source.waits (line_source (lines_of b))) (waits_of source old) (waits_of source new) _ _ (waits_more source a old) (waits_more source b new) there.waits
+    (sum_stays source old new (λ k. lines (suc k)) (λ k. gives (suc k)))
+sum_rises source (a ∷ old) (b ∷ new) lines gives (suc k) there =
+    rise_later (source.waits (line_source (lines_of a))) (source.waits (line_source (lines_of b))) (waits_of source old) (waits_of source new) _ _ (waits_more source a old) (waits_more source b new) (gives 0).waits_stay
+    (sum_rises source old new (λ k. lines (suc k)) (λ k. gives (suc k)) k there)
+
+pub rise_of : {B : Type 0} (source : SourceOf B) (first : ℕ) (old new : List (Stream B)) (found : MergeItem) → ((k : ℕ) → Both (Gives source (lines_from k (given_of found))) (slice_get old k) (slice_get new k))
+    → RoundHasCause source first (slice_get old) (slice_get new) found → RisesIfNotYet found (waits_of source old) (waits_of source new)
+rise_of source first old new item.NotYet gives cause = sum_rises source old new (λ k. []) gives cause.1.0 cause.1.1
+rise_of source first old new (item.Line place line) gives cause = tt
+rise_of source first old new item.End gives cause = tt
+rise_of source first old new (item.Fault place) gives cause = tt
+rise_of source first old new (item.TooLong place) gives cause = tt
+
+pub rise_again : (e : MergeEnd) (before now : ℕ) → RisesIfNotYet (item_of e) before now
+rise_again merge_end.End before now = tt
+rise_again (merge_end.Fault place) before now = tt
+rise_again (merge_end.TooLong place) before now = tt
 
 -- the lines that were given
 pub lines_in : {B : Type 0} (source : SourceOf B) (old new : ℕ → Option (Stream B)) (found : MergeItem) → ((k : ℕ) → Both (Gives source (lines_from k (given_of found))) (old k) (new k))
     → (first : ℕ) → RoundHasCause source first old new found → All IsLine (map (λ d. d.1) (given_of found))
-lines_in source old new (item.Line place line) gives first cause =
+lines_in {B = B} source old new (item.Line place line) gives first cause =
     let same : (place == place) ≡ true = grind (arith, nat_tests) in
     let at : lines_from place ((place, line) ∷ []) ≡ line ∷ [] = rw same refl in
     by (old place) (new place) cause.here (rw at at (gives place))
@@ -171,6 +216,13 @@ fetch_cause source first old new item.NotYet cause = cause
 fetch_cause source first old new item.End cause = cause
 fetch_cause source first old new (item.Fault place) cause = (place, cause.here)
 fetch_cause source first old new (item.TooLong place) cause = (place, cause.here)
+
+pub fetch_rises : (found : MergeItem) (before now : ℕ) → RisesIfNotYet found before now → FetchRises (answer_by found) before now
+fetch_rises (item.Line place line) before now rises = tt
+fetch_rises item.NotYet before now rises = rises
+fetch_rises item.End before now rises = tt
+fetch_rises (item.Fault place) before now rises = tt
+fetch_rises (item.TooLong place) before now rises = tt
 
 pub fetch_remembers : (found : MergeItem) (now : Option MergeEnd) → now ≡ end_by found → Remembers now (answer_by found)
 fetch_remembers (item.Line place line) now is = is

@@ -1,5 +1,5 @@
 -- Tries in order.
-use Rattle.std.proofs.Common.{◌≡◌, ◌≢◌, ◌≤◌, ◌<◌, ◌+◌, ℕ, Bool, true, false, List, [], ◌∷◌, ◌++◌, length, refl, sym, ap, ◌∙◌, arith, inl, inr}
+use Rattle.std.proofs.Common.{◌≡◌, ◌≢◌, ◌≤◌, ◌<◌, ◌+◌, ℕ, Bool, true, false, List, [], ◌∷◌, ◌++◌, length, refl, sym, ap, subst, ◌∙◌, arith, inl, inr}
 use Rattle.std.specs.Prelude.{Option, Some, None, slice_get, nat_lt, nat_le, ◌&&◌, ◌==◌, cond, map}
 use Rattle.std.specs.List.{filter}
 use Rattle.std.proofs.lemmas.Bool.Decides.{nat_tests}
@@ -96,9 +96,9 @@ lines_passed at (Line line) is = cc
 lines_passed at NotYet is = refl
 lines_passed at (Ended e) is = refl
 
-either_none : (same : Bool) → cond same {A = List (List ℕ)} [] [] ≡ []
-either_none true = refl
-either_none false = refl
+either_none : (same : Bool) (none : List (List ℕ)) → cond same none none ≡ none
+either_none true none = refl
+either_none false none = refl
 
 -- a place that was passed over
 pub gives_passed : {B : Type 0} (source : SourceOf B) (old mid new : ℕ → Option (Stream B)) (at : ℕ) (t : Taken) → item_in at t ≡ None
@@ -106,7 +106,7 @@ pub gives_passed : {B : Type 0} (source : SourceOf B) (old mid new : ℕ → Opt
     → (k : ℕ) → Both (Gives source []) (old k) (new k)
 gives_passed source old mid new at t none before others here k =
     let now : There (Gives source []) (mid at) (new at) = rw (lines_passed at t none) at here in
-    rw (either_none (at == k)) at (gives_at source old mid new at [] before others now k)
+    rw (either_none (at == k) []) at (gives_at source old mid new at [] before others now k)
 
 -- ---- causes
 
@@ -115,7 +115,7 @@ tried_none source from streams k = rw (is_in_none from k) (both_same (IsTriedIf 
 
 has_none : {B : Type 0} (source : SourceOf B) (at : ℕ) (t : Taken) (a b c : Stream B) → item_in at t ≡ None → b ≡ a → TakenHasCause source b c t → HasNone source a c
 has_none source at (Line line) a b c none same cause = cc
-has_none source at NotYet a b c none same cause = rw same at (inr cause)
+has_none source at NotYet a b c none same cause = let now : HasWaited source b c = cause in inr (rw same at now)
 has_none source at (Ended end.End) a b c none same cause = inl cause
 has_none source at (Ended end.Fault) a b c none same cause = cc
 has_none source at (Ended end.TooLong) a b c none same cause = cc
@@ -138,7 +138,7 @@ tried_more source from at old mid new t le none before others here k = by (at ==
         (there_then (IsTriedIf source false) (λ a b. TakenHasCause source a b t) (HasNone source) (old at) (mid at) (new at) (untried source from at old mid before) here
         (λ a b c same cause. has_none source at t a b c none same cause)) in
         let last : Both (IsTriedIf source (is_in from (at + 1) at)) (old at) (new at) = rw (is_in_last from at le) now in
-        rw e at last
+        subst (λ j. Both (IsTriedIf source (is_in from (at + 1) j)) (old j) (new j)) e last
     by false is =
         let e : k ≢ at = grind (arith, nat_tests) in
         rw (is_in_same from at k e, others k e) (before k)
@@ -167,3 +167,7 @@ found_in_range source from to at old mid new (Ended end.Fault) found le lt is be
 found_in_range source from to at old mid new (Ended end.TooLong) found le lt is before others here =
     let e : found ≡ item.TooLong at = cc in
     rw e ((le, lt), found_at source HasTooLong from at old mid new before others here)
+
+-- the last place was tried
+pub tried_all : {B : Type 0} (source : SourceOf B) (from to at : ℕ) (old new : ℕ → Option (Stream B)) → to ≤ at → at ≤ to → AreTried source (is_in from at) old new → AreTried source (is_in from to) old new
+tried_all source from to at old new le ge tried = let same : at ≡ to = omega (arith, le, ge) in subst (λ n. AreTried source (is_in from n) old new) same tried

@@ -1,12 +1,12 @@
 -- A round of two ranges.
 use Rattle.std.proofs.Common.{◌≡◌, ◌≢◌, ◌≤◌, ◌<◌, ℕ, Bool, true, false, List, [], length, refl, sym, ap, ◌∙◌, arith, inl, inr}
-use Rattle.std.specs.Prelude.{Option, Some, None, slice_get, nat_lt, nat_le, ◌&&◌, ◌||◌, IfSome, IsSomeAnd}
+use Rattle.std.specs.Prelude.{Option, Some, None, Result, Ok, Err, IfOk, slice_get, nat_lt, nat_le, ◌&&◌, ◌||◌, IfSome, IsSomeAnd}
 use Rattle.std.proofs.lemmas.Bool.Decides.{nat_tests}
 use Rattle.std.proofs.lemmas.Option.{slice_get_past}
 use Rattle.pipe_edges.specs.declared.source.ByteSource.{Ghosts as SourceOf}
 use Rattle.line_merge.specs.Items.{given_of}
 use Rattle.line_merge.specs.Streams.{Both, There, is_open_in}
-use Rattle.line_merge.specs.Opening.{SomeIsOpen, NoneIsOpen, IsWithout}
+use Rattle.line_merge.specs.Opening.{SomeIsOpen, NoneIsOpen, IsWithout, RestHasCause}
 use Rattle.line_merge.specs.Tries.{HasNone, HasEnded, HasWaited, IsTriedIf, AreTried, IsFound, Finds, IsFoundIn, RangeHasCause, RoundHasCause, is_in, comes_before, WasOpen, HasFailed, HasTooLong}
 use Rattle.line_merge.specs.declared.stream.Stream.{Stream}
 use Rattle.line_merge.specs.declared.item.MergeItem.{MergeItem}
@@ -53,7 +53,7 @@ found_second source Here first count place old mid new lt none_old none_new alon
       let free : is_in first count place ≡ false = grind (arith, nat_tests) in
       let here_before : Both (IsTriedIf source false) (old place) (mid place) = rw free at (before place) in
       there_then (IsTriedIf source false) Here Here (old place) (mid place) (new place) here_before f.here along;
-  others = λ k other. by (nat_lt k count) refl k other;
+  others = λ k other. by (nat_lt k count) k refl other;
 }
   where
     by : (within : Bool) → (k : ℕ) → nat_lt k count ≡ within → k ≢ place → Both (IsTriedIf source (comes_before first place k)) (old k) (new k)
@@ -141,6 +141,20 @@ without_lines streams item.End is = refl
 without_lines streams (item.Line place line) is = absurd is
 without_lines streams (item.Fault place) is = absurd is
 without_lines streams (item.TooLong place) is = absurd is
+
+-- ---- both ranges
+
+pub round_of : {B : Type 0} (source : SourceOf B) (first count : ℕ) (old mid new : ℕ → Option (Stream B)) (found : MergeItem)
+    → ((k : ℕ) → count ≤ k → old k ≡ None) → ((k : ℕ) → count ≤ k → new k ≡ None)
+    → RangeHasCause source first count old mid None → RestHasCause source first mid new found → RoundHasCause source first old new found
+round_of source first count old mid new found none_old none_new before (inl some) = in_second source first count old mid new found none_old none_new before some
+round_of source first count old mid new found none_old none_new before (inr none) = without source first old new found (all_tried source first count old mid new none_old none_new before none.0) none.1
+
+pub round_in : {B E : Type 0} (source : SourceOf B) (first count : ℕ) (old mid new : ℕ → Option (Stream B)) (result : Result MergeItem E)
+    → ((k : ℕ) → count ≤ k → old k ≡ None) → ((k : ℕ) → count ≤ k → new k ≡ None)
+    → RangeHasCause source first count old mid None → IfOk result (RestHasCause source first mid new) → IfOk result (RoundHasCause source first old new)
+round_in source first count old mid new (Ok found) none_old none_new before rest = round_of source first count old mid new found none_old none_new before rest
+round_in source first count old mid new (Err e) none_old none_new before rest = tt
 
 -- ---- past the end
 

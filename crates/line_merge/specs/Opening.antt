@@ -1,7 +1,10 @@
 -- Sources with their lines before anything was read.
-use Rattle.std.specs.Prelude.{◌≡◌, true, false, ℕ, List, [], All, Option, None, IfSome, IsSomeAnd}
+use Rattle.std.specs.Prelude.{◌≡◌, ◌⊎◌, true, false, ℕ, List, [], All, Option, Some, None, IfSome, IsSomeAnd}
 use Rattle.pipe_edges.specs.LineSource.{line_source, waiting, line_end_of}
 use Rattle.line_merge.specs.Streams.{lines_of, is_open_in}
+use Rattle.pipe_edges.specs.declared.source.ByteSource.{Ghosts as SourceOf}
+use Rattle.line_merge.specs.Items.{given_of}
+use Rattle.line_merge.specs.Tries.{RangeHasCause}
 use Rattle.line_merge.specs.declared.stream.Stream.{Stream}
 use Rattle.line_merge.specs.declared.item.MergeItem.{MergeItem}
 use Rattle.line_merge.specs.declared.item.MergeItem.TheVariants as item
@@ -32,3 +35,8 @@ abbrev pub IsWithout : {B : Type 0} → (streams : ℕ → Option (Stream B)) �
 IsWithout streams item.NotYet = SomeIsOpen streams
 IsWithout streams item.End = NoneIsOpen streams
 IsWithout streams _ = ⊥
+
+-- why the rest of a round came to this: something was found before `first`, or nothing
+abbrev pub RestHasCause : {B : Type 0} → SourceOf B → (first : ℕ) → (old new : ℕ → Option (Stream B)) → MergeItem → Type 0
+RestHasCause source first old new found =
+    RangeHasCause source 0 first old new (Some found) ⊎ (RangeHasCause source 0 first old new None × IsWithout new found × (given_of found ≡ []))

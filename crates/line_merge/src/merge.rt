@@ -36,7 +36,7 @@ impl<B: ByteSource + Drop> LineMerge<B> {
     ghost use Rattle.line_merge.specs.Streams.{stream_at, places_of, merge_end_of, sources_of};
     ghost use Rattle.line_merge.specs.Tries.{RoundHasCause};
     ghost use Rattle.line_merge.specs.Seen.{AreMergedFrom, MergeReadsOn, AreUnpaced, merge_seen, waits_together};
-    ghost use Rattle.line_merge.specs.Fetch.{FetchHasCause, answer_to, Remembers};
+    ghost use Rattle.line_merge.specs.Fetch.{FetchHasCause, FetchRises, RisesIfNotYet, answer_to, Remembers};
 
     /// Over these sources. For want of memory they come back as they were.
     pub fn new(
@@ -101,6 +101,7 @@ impl<B: ByteSource + Drop> LineMerge<B> {
         ensures again { IfSome (merge_end_of self.old) (λ e. (result ≡ Ok (item_of e)) × (self.new ≡ self.old)) }
         // Where the sources have no pace, none comes to them.
         ensures unpaced { AreUnpaced (merge_seen B.ByteSource self.old) → AreUnpaced (merge_seen B.ByteSource self.new) }
+        ensures rises { IfOk result (λ item. RisesIfNotYet item (waits_together (merge_seen B.ByteSource self.old)) (waits_together (merge_seen B.ByteSource self.new))) }
         ensures waits_stay { waits_together (merge_seen B.ByteSource self.old) ≤ waits_together (merge_seen B.ByteSource self.new) }
     {
         if let Some(end) = self.end {
@@ -131,6 +132,7 @@ impl<B: ByteSource + Drop> LineMerge<B> {
         ensures remembers { IfOk result (λ answer. Remembers (merge_end_of self.new) answer) }
         ensures again { IfSome (merge_end_of self.old) (λ e. IfOk result (λ answer. answer ≡ answer_to e) × (self.new ≡ self.old)) }
         ensures unpaced { AreUnpaced (merge_seen B.ByteSource self.old) → AreUnpaced (merge_seen B.ByteSource self.new) }
+        ensures rises { IfOk result (λ answer. FetchRises answer (waits_together (merge_seen B.ByteSource self.old)) (waits_together (merge_seen B.ByteSource self.new))) }
         ensures waits_stay { waits_together (merge_seen B.ByteSource self.old) ≤ waits_together (merge_seen B.ByteSource self.new) }
     {
         let _ = max;

@@ -4,7 +4,7 @@ ghost use Rattle.std.specs.Prelude.{◌≡◌, ◌≤◌, ◌<◌, ℕ, true, fa
 ghost use Rattle.line_merge.specs.Items.{line_in, lines_from, given_in, given_by};
 ghost use Rattle.line_merge.specs.Streams.{Both, There};
 ghost use Rattle.line_merge.specs.Tries.{Gives, TakenHasCause, RangeHasCause, RoundHasCause};
-ghost use Rattle.line_merge.specs.Opening.{SomeIsOpen, NoneIsOpen, IsWithout};
+ghost use Rattle.line_merge.specs.Opening.{SomeIsOpen, NoneIsOpen, IsWithout, RestHasCause};
 
 use crate::item::{MergeItem, Taken};
 use crate::stream::Stream;
@@ -28,6 +28,7 @@ fn try_range<B: ByteSource>(
     from: usize,
     to: usize,
 ) -> Result<Option<MergeItem>, AllocError>
+    requires ordered { from ≤ to }
     requires within { to ≤ length streams.old.items }
     requires few { length streams.old.items ≤ 64 }
     ensures len { length streams.new.items ≡ length streams.old.items }
@@ -70,6 +71,24 @@ fn without_line<B: ByteSource>(streams: &[Stream<B>]) -> MergeItem
     }
 }
 
+// Tries those before this place, after the others.
+fn rest_of_round<B: ByteSource>(
+    streams: &mut Vec<Stream<B>>,
+    first: usize,
+) -> Result<MergeItem, AllocError>
+    requires within { first ≤ length streams.old.items }
+    requires few { length streams.old.items ≤ 64 }
+    ensures len { length streams.new.items ≡ length streams.old.items }
+    ensures gives { (k : ℕ) → Both (Gives B.ByteSource (lines_from k (given_by result))) (slice_get streams.old.items k) (slice_get streams.new.items k) }
+    ensures cause { IfOk result (RestHasCause B.ByteSource first (slice_get streams.old.items) (slice_get streams.new.items)) }
+{
+    match try_range(streams, 0, first) {
+        Ok(Some(item)) => Ok(item),
+        Ok(None) => Ok(without_line(streams.as_slice())),
+        Err(e) => Err(e),
+    }
+}
+
 /// Tries the sources once each, in the round that begins at this place.
 pub(crate) fn next_round<B: ByteSource>(
     streams: &mut Vec<Stream<B>>,
@@ -83,13 +102,8 @@ pub(crate) fn next_round<B: ByteSource>(
 {
     let count = streams.len();
     match try_range(streams, first, count) {
-        Ok(Some(item)) => return Ok(item),
-        Ok(None) => {}
-        Err(e) => return Err(e),
-    }
-    match try_range(streams, 0, first) {
         Ok(Some(item)) => Ok(item),
-        Ok(None) => Ok(without_line(streams.as_slice())),
+        Ok(None) => rest_of_round(streams, first),
         Err(e) => Err(e),
     }
 }
