@@ -16,5 +16,6 @@ pub fn flow_is_sound(source: &str, prefix: &str)
 pub fn file_gives_flow(source: &str, prefix: &str)
     requires given { 1 ≤ length source.now }
     requires short { length source.now ≤ 4096 }
+    requires named { may_be_source (merged_in source.now) ≡ true }
     ensures { topology_of (flow_table source.now prefix.now) ≡ Ok (flow_topology_of source.now prefix.now) }
 {}
