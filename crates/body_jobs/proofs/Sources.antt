@@ -141,7 +141,7 @@ lines_untouched now = record { reads = not_read now; end_stays = known_still now
 
 merge_untouched : (now : MergeSeen) → IsCutMerge now now
 merge_untouched now = record {
-  reads = λ opened given before. ([], (refl, rw append-nil before));
+  reads = λ opened given before. ([], refl, rw append-nil before);
   end_stays = known_still now.end;
   waits_stay = omega arith;
   unpaced = λ none. none;

@@ -17,15 +17,14 @@ use Rattle.pipe_edges.specs.declared.reading.LineEnd.TheVariants as end
 use Rattle.source_lines.specs.Seen.{SourceSeen, LineSeen, line_seen}
 use Rattle.source_lines.specs.Read.{AreReadFrom}
 use Rattle.line_merge.specs.Items.{lines_from, places_in, given_of, given_by, end_by, item_of, answer_by, next_place, behind}
-use Rattle.line_merge.specs.Streams.{Both, There, lines_of, stream_at, merge_end_of}
+use Rattle.line_merge.specs.Streams.{Both, There, lines_of}
 use Rattle.line_merge.specs.Tries.{Gives, WasOpen, HasWaited, HasEnded, HasFailed, HasTooLong, RoundHasCause}
-use Rattle.line_merge.specs.Seen.{MergeSeen, AreMergedFrom, IsMergeEnd, AreUnpaced, merge_seen, end_seen}
+use Rattle.line_merge.specs.Seen.{MergeSeen, AreMergedFrom, IsMergeEnd, AreUnpaced, end_seen}
 use Rattle.line_merge.specs.Fetch.{FetchHasCause, FetchRises, RisesIfNotYet, RoseTogether, Remembers, answer_to}
 use Rattle.line_merge.specs.declared.item.MergeEnd.{MergeEnd}
 use Rattle.line_merge.specs.declared.item.MergeEnd.TheVariants as merge_end
 use Rattle.pipe_edges.specs.Fetch.{records_of}
 use Rattle.line_merge.specs.declared.stream.Stream.{Stream}
-use Rattle.line_merge.specs.declared.merge.LineMerge.{LineMerge}
 use Rattle.line_merge.specs.declared.item.MergeItem.{MergeItem}
 use Rattle.line_merge.specs.declared.item.MergeItem.TheVariants as item
 
@@ -46,16 +45,19 @@ both_seen source given more k (Some o) None z read gives = absurd read
 both_seen source given more k None (Some a) z read gives = absurd read
 both_seen source given more k None None (Some b) read gives = absurd gives
 
+-- a merge of these sources, as it is seen
+abbrev seen_by : {B : Type 0} → SourceOf B → List (Stream B) → Option MergeEnd → MergeSeen
+seen_by source streams end = record { streams = map (seen_of source) streams; end = end_seen end }
+
 -- these lines follow
-pub merged_on : {B : Type 0} (source : SourceOf B) (opened : List SourceSeen) (old new : LineMerge B) (given more : List (ℕ × List ℕ))
-    → ((k : ℕ) → Both (Gives source (lines_from k more)) (stream_at old k) (stream_at new k))
-    → IsMergeEnd (map (seen_of source) new.streams.items) (end_seen (merge_end_of new))
-    → AreMergedFrom opened (merge_seen source old) given → AreMergedFrom opened (merge_seen source new) (given ++ more)
-merged_on source opened old new given more gives known m = record {
+pub merged_on : {B : Type 0} (source : SourceOf B) (opened : List SourceSeen) (old new : List (Stream B)) (old_end new_end : Option MergeEnd) (given more : List (ℕ × List ℕ))
+    → ((k : ℕ) → Both (Gives source (lines_from k more)) (slice_get old k) (slice_get new k))
+    → IsMergeEnd (map (seen_of source) new) (end_seen new_end)
+    → AreMergedFrom opened (seen_by source old old_end) given → AreMergedFrom opened (seen_by source new new_end) (given ++ more)
+merged_on source opened old new old_end new_end given more gives known m = record {
   each = λ k.
-      rw (slice_get-map (seen_of source) new.streams.items k)
-      (both_seen source given more k (slice_get opened k) (stream_at old k) (stream_at new k)
-      (rw (slice_get-map (seen_of source) old.streams.items k) at (m.each k)) (gives k));
+      rw (slice_get-map (seen_of source) new k)
+      (both_seen source given more k (slice_get opened k) (slice_get old k) (slice_get new k) (rw (slice_get-map (seen_of source) old k) at (m.each k)) (gives k));
   known = known;
 }
 
@@ -136,11 +138,10 @@ unpaced_if source lines None None g e = tt
 unpaced_if source lines (Some a) None g e = tt
 unpaced_if source lines None (Some b) g e = absurd g
 
-pub no_pace : {B : Type 0} (source : SourceOf B) (old new : LineMerge B) (lines : ℕ → List (List ℕ)) → ((k : ℕ) → Both (Gives source (lines k)) (stream_at old k) (stream_at new k))
-    → AreUnpaced (merge_seen source old) → AreUnpaced (merge_seen source new)
-no_pace source old new lines gives none k =
-    rw (slice_get-map (seen_of source) new.streams.items k)
-    (unpaced_if source (lines k) (stream_at old k) (stream_at new k) (gives k) (rw (slice_get-map (seen_of source) old.streams.items k) at (none k)))
+pub no_pace : {B : Type 0} (source : SourceOf B) (old new : List (Stream B)) (old_end new_end : Option MergeEnd) (lines : ℕ → List (List ℕ)) → ((k : ℕ) → Both (Gives source (lines k)) (slice_get old k) (slice_get new k))
+    → AreUnpaced (seen_by source old old_end) → AreUnpaced (seen_by source new new_end)
+no_pace source old new old_end new_end lines gives none k =
+    rw (slice_get-map (seen_of source) new k) (unpaced_if source (lines k) (slice_get old k) (slice_get new k) (gives k) (rw (slice_get-map (seen_of source) old k) at (none k)))
 
 -- the waits of all sources
 abbrev waits_of : {B : Type 0} → SourceOf B → List (Stream B) → ℕ

@@ -36,9 +36,18 @@ abbrev pub sources_in : FeedSeen → List SourceSeen
 sources_in (Single lines) = lines.source ∷ []
 sources_in (Merged merge) = map (λ lines. lines.source) merge.streams
 
-abbrev pub sources_seen : {S : Type 0} → SourceOf S → FeedSources S → List SourceSeen
-sources_seen source (back.One s) = source_seen source s ∷ []
-sources_seen source (back.Many sources) = map (source_seen source) sources
+-- what is taken out of it: the one source, or those of a merge
+pub data SourcesSeen : Type 0 where
+  OneSource : (source : SourceSeen) → SourcesSeen
+  ManySources : (sources : List SourceSeen) → SourcesSeen
+
+abbrev pub sources_seen : {S : Type 0} → SourceOf S → FeedSources S → SourcesSeen
+sources_seen source (back.One s) = OneSource (source_seen source s)
+sources_seen source (back.Many sources) = ManySources (map (source_seen source) sources)
+
+abbrev pub sources_out : FeedSeen → SourcesSeen
+sources_out (Single lines) = OneSource lines.source
+sources_out (Merged merge) = ManySources (sources_in (Merged merge))
 
 -- why no more lines come
 abbrev pub end_in : FeedSeen → Option LineEnd

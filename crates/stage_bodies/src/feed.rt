@@ -1,7 +1,7 @@
 //! What a producer reads.
 
 ghost use Rattle.std.specs.Prelude.{◌≡◌};
-ghost use Rattle.stage_bodies.specs.Seen.{feed_seen, sources_in, sources_seen};
+ghost use Rattle.stage_bodies.specs.Seen.{feed_seen, sources_out, sources_seen};
 
 use line_merge::{LineMerge, SourceList};
 use pipe_edges::{ByteSource, LineSource};
@@ -23,7 +23,7 @@ pub enum FeedSources<S> {
 impl<S: ByteSource + Drop> Feed<S> {
     /// The sources, with all that they counted. Bytes that were read and not handed out are let go.
     pub fn into_sources(self) -> FeedSources<S>
-        ensures { sources_seen S.ByteSource result ≡ sources_in (feed_seen S.ByteSource self) }
+        ensures { sources_seen S.ByteSource result ≡ sources_out (feed_seen S.ByteSource self) }
     {
         match self {
             Feed::Lines(lines) => FeedSources::One(lines.into_inner()),

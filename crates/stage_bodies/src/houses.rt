@@ -1,10 +1,10 @@
 //! How a body is filled and emptied.
 
 ghost use Rattle.std.specs.Prelude.{◌≡◌, None, Some, option_map};
-ghost use Rattle.stage_bodies.specs.Seen.{sources_seen, sources_in, sink_seen, feed_seen, with_source, with_sink};
+ghost use Rattle.stage_bodies.specs.Seen.{sources_seen, sources_out, sink_seen, feed_seen, with_source, with_sink};
 
-use crate::works::Works;
 use crate::feed::{Feed, FeedSources};
+use crate::works::Works;
 use pipe_edges::{ByteSink, ByteSource};
 
 /// What houses a source and a sink, beside a callback.
@@ -21,7 +21,7 @@ pub trait Houses<S: ByteSource, K: ByteSink>: Works {
 
     /// Takes the source out, or the sources of a merge. Bytes that were read and not handed out are let go.
     fn take_source(&mut self) -> Option<FeedSources<S>>
-        ensures out { option_map (sources_seen S.ByteSource) result ≡ option_map sources_in (Self.look self.old).source }
+        ensures out { option_map (sources_seen S.ByteSource) result ≡ option_map sources_out (Self.look self.old).source }
         ensures rest { Self.look self.new ≡ record (Self.look self.old) { source = None } };
 
     fn take_sink(&mut self) -> Option<K>
