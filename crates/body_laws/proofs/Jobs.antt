@@ -255,17 +255,17 @@ no_fetch most o None y f g h k = let x : false ≡ true = h in cc
 fetched_body : (topology : Topology) (before : History) (p : Post) (most : ℕ) (o : Came) (a old new : BodySeen) → is_live topology before p.stage ≡ true → most ≡ fetch_out before p.stage → IsSome old.source → IfSome old.source (IsToldFeed before p.stage) → IsDone (work.Fetch most) o old new → KeepsBody topology before p a old
     → KeepsBody topology (step_of p o ∷ before) p a new
 fetched_body topology before p most (came.Records records) a old new live is there told done k = record {
-  source = both_then (λ x y z h f. feed_accepts before (Accept p.stage records ∷ before) p.stage most records x y z (rw (same_stage-self p.stage) refl) refl refl (accept_goes before p.stage records) h.1 h.0 f) a.source old.source new.source (both_with a.source old.source k.source told) done.0;
+  source = both_then (λ x y z h f. feed_accepts before (Accept p.stage records ∷ before) p.stage most records x y z (rw (same_stage-self p.stage) refl) refl refl (accept_goes before p.stage records) h.1 h.0 f) a.source old.source new.source (both_with (KeepsFeed before p.stage true []) (IsToldFeed before p.stage) a.source old.source k.source told) done.0;
   sink = subst (λ x. Both (KeepsSink topology (Accept p.stage records ∷ before) p.stage) a.sink x) (sym done.1) (both_map (λ x y h. sink_as topology before (Accept p.stage records ∷ before) p.stage x y refl refl h) a.sink old.sink k.sink);
   callback = subst (λ x. Both (KeepsCallback topology (Accept p.stage records ∷ before) p) a.callback x) (sym done.2) (both_map (λ x y h. callback_as topology before (Accept p.stage records ∷ before) p x y refl (λ now. is_present topology before p.stage live) refl refl refl (λ law are. (are, tt)) h) a.callback old.callback k.callback);
 }
 fetched_body topology before p most came.NotYet a old new live is there told done k = record {
-  source = both_then (λ x y z h f. feed_rests before (Quiet p.stage ∷ before) p.stage most x y z refl refl (rw (same_stage-self p.stage) refl) (quiet_rests before p.stage) h.1 h.0 f) a.source old.source new.source (both_with a.source old.source k.source told) done.0;
+  source = both_then (λ x y z h f. feed_rests before (Quiet p.stage ∷ before) p.stage most x y z refl refl (rw (same_stage-self p.stage) refl) (quiet_rests before p.stage) h.1 h.0 f) a.source old.source new.source (both_with (KeepsFeed before p.stage true []) (IsToldFeed before p.stage) a.source old.source k.source told) done.0;
   sink = subst (λ x. Both (KeepsSink topology (Quiet p.stage ∷ before) p.stage) a.sink x) (sym done.1) (both_map (λ x y h. sink_as topology before (Quiet p.stage ∷ before) p.stage x y refl refl h) a.sink old.sink k.sink);
   callback = subst (λ x. Both (KeepsCallback topology (Quiet p.stage ∷ before) p) a.callback x) (sym done.2) (both_map (λ x y h. callback_as topology before (Quiet p.stage ∷ before) p x y refl (λ now. is_present topology before p.stage live) refl refl refl (λ law are. (are, tt)) h) a.callback old.callback k.callback);
 }
 fetched_body topology before p most (came.Ended h) a old new live is there told done k = record {
-  source = both_then (λ x y z k f. feed_ends before (SourceEnd p.stage h ∷ before) p.stage most h x y z refl (rw (same_stage-self p.stage) refl) refl (end_goes before p.stage h) k.1 k.0 f) a.source old.source new.source (both_with a.source old.source k.source told) done.0;
+  source = both_then (λ x y z k f. feed_ends before (SourceEnd p.stage h ∷ before) p.stage most h x y z refl (rw (same_stage-self p.stage) refl) refl (end_goes before p.stage h) k.1 k.0 f) a.source old.source new.source (both_with (KeepsFeed before p.stage true []) (IsToldFeed before p.stage) a.source old.source k.source told) done.0;
   sink = subst (λ x. Both (KeepsSink topology (SourceEnd p.stage h ∷ before) p.stage) a.sink x) (sym done.1) (both_map (λ x y k. sink_as topology before (SourceEnd p.stage h ∷ before) p.stage x y refl refl k) a.sink old.sink k.sink);
   callback = subst (λ x. Both (KeepsCallback topology (SourceEnd p.stage h ∷ before) p) a.callback x) (sym done.2) (both_map (λ x y k. callback_as topology before (SourceEnd p.stage h ∷ before) p x y refl (λ now. is_present topology before p.stage live) refl refl refl (λ law are. (are, tt)) k) a.callback old.callback k.callback);
 }

@@ -1,5 +1,5 @@
 -- The late answer of a killed incarnation, and its body.
-use Rattle.std.proofs.Common.{◌≡◌, ℕ, ◌<◌, [], ◌∷◌, Bool, true, false, refl, ap, sym, ◌∙◌, subst, Some, None, Option, arith}
+use Rattle.std.proofs.Common.{◌≡◌, ℕ, ◌<◌, [], ◌∷◌, Bool, true, false, refl, ap, sym, ◌∙◌, subst, Some, None, Option, arith, IfSome}
 use Rattle.std.specs.Prelude.{not, ◌&&◌, ◌||◌, ◌==◌, if◌then◌else◌, IsSome, is_some}
 use Rattle.std.proofs.lemmas.Bool.{eq-eqb, or_right}
 use Rattle.pipe_types.specs.declared.numbers.StageNo.{StageNo}
@@ -42,7 +42,7 @@ use Rattle.body_laws.specs.Ready.{There, IsArmed, IsBodyAt, Ready, IsToldFeed, W
 use Rattle.body_laws.proofs.Posts.{same_post-true, same_post-self, out_has_post, few_slots}
 use Rattle.body_laws.proofs.Rises.{rise_stays}
 use Rattle.body_laws.proofs.Steps.{producers_alone, processors_alone, writers_alone}
-use Rattle.body_laws.proofs.Staying.{both_map, both_then, keeps_answered, ready_answered}
+use Rattle.body_laws.proofs.Staying.{both_map, both_then, both_with, keeps_answered, ready_answered}
 use Rattle.body_laws.proofs.Answering.{feed_accepts, feed_rests, feed_ends, sink_wrote, text_is_taken, box_then, box_reset, resets_on, lawful_write}
 use Rattle.body_laws.proofs.Jobs.{no_fetch, fit_of, fit_at, source_for, for_source, chunk_for, for_chunk, child_for, for_child, batch_for, for_batch, source_there, batch_armed, sinks_as, feed_as, sink_as, some_after, sink_same, there_some, armed_after}
 use Rattle.body_laws.proofs.Laws.{both_whole}
@@ -114,17 +114,17 @@ box_same a = record { kind = refl; spec = refl; law = refl; told = refl; calls =
 fetched_late : (topology : Topology) (before : History) (p : Post) (most i : ℕ) (o : Came) (a old new : BodySeen) → IsWorkOf topology before p (work.Fetch most) → is_legal topology (late_step p i o ∷ before) ≡ true → IsSome old.source → IfSome old.source (IsToldFeed before p.stage) → IsDone (work.Fetch most) o old new → KeepsBody topology before p a old
     → KeepsBody topology (late_step p i o ∷ before) p a new
 fetched_late topology before p most i (came.Records records) a old new is legal there told done k = record {
-  source = both_then (λ x y z h f. feed_accepts before (late_step p i (came.Records records) ∷ before) p.stage most records x y z (rw (same_stage-self p.stage) refl) refl refl (late_goes before p.stage p.slot i records) h.1 h.0 f) a.source old.source new.source (both_with a.source old.source k.source told) done.0;
+  source = both_then (λ x y z h f. feed_accepts before (late_step p i (came.Records records) ∷ before) p.stage most records x y z (rw (same_stage-self p.stage) refl) refl refl (late_goes before p.stage p.slot i records) h.1 h.0 f) a.source old.source new.source (both_with (KeepsFeed before p.stage true []) (IsToldFeed before p.stage) a.source old.source k.source told) done.0;
   sink = subst (λ x. Both (KeepsSink topology (late_step p i (came.Records records) ∷ before) p.stage) a.sink x) (sym done.1) (both_map (λ x y h. sink_as topology before (late_step p i (came.Records records) ∷ before) p.stage x y refl refl h) a.sink old.sink k.sink);
   callback = subst (λ x. Both (KeepsCallback topology (late_step p i (came.Records records) ∷ before) p) a.callback x) (sym done.2) (both_map (λ x y h. callback_late topology before p i (late.Records records) x y y (uncounted topology before p (work.Fetch most) i (late.Records records) y is legal) h (box_same y) (λ own r. none_more topology before p i (late.Records records) x y y (producers_alone topology p.stage is.0) r (none_counted y.resets y.resets refl)) (λ same. tt)) a.callback old.callback k.callback);
 }
 fetched_late topology before p most i came.NotYet a old new is legal there told done k = record {
-  source = both_then (λ x y z h f. feed_rests before (late_step p i came.NotYet ∷ before) p.stage most x y z refl refl (rw (same_stage-self p.stage) refl) (late_rests before p.stage p.slot i) h.1 h.0 f) a.source old.source new.source (both_with a.source old.source k.source told) done.0;
+  source = both_then (λ x y z h f. feed_rests before (late_step p i came.NotYet ∷ before) p.stage most x y z refl refl (rw (same_stage-self p.stage) refl) (late_rests before p.stage p.slot i) h.1 h.0 f) a.source old.source new.source (both_with (KeepsFeed before p.stage true []) (IsToldFeed before p.stage) a.source old.source k.source told) done.0;
   sink = subst (λ x. Both (KeepsSink topology (late_step p i came.NotYet ∷ before) p.stage) a.sink x) (sym done.1) (both_map (λ x y h. sink_as topology before (late_step p i came.NotYet ∷ before) p.stage x y refl refl h) a.sink old.sink k.sink);
   callback = subst (λ x. Both (KeepsCallback topology (late_step p i came.NotYet ∷ before) p) a.callback x) (sym done.2) (both_map (λ x y h. callback_late topology before p i late.Quiet x y y (uncounted topology before p (work.Fetch most) i late.Quiet y is legal) h (box_same y) (λ own r. none_more topology before p i late.Quiet x y y (producers_alone topology p.stage is.0) r (none_counted y.resets y.resets refl)) (λ same. tt)) a.callback old.callback k.callback);
 }
 fetched_late topology before p most i (came.Ended h) a old new is legal there told done k = record {
-  source = both_then (λ x y z k f. feed_ends before (late_step p i (came.Ended h) ∷ before) p.stage most h x y z refl (rw (same_stage-self p.stage) refl) refl (late_end_goes before p.stage p.slot i h) k.1 k.0 f) a.source old.source new.source (both_with a.source old.source k.source told) done.0;
+  source = both_then (λ x y z k f. feed_ends before (late_step p i (came.Ended h) ∷ before) p.stage most h x y z refl (rw (same_stage-self p.stage) refl) refl (late_end_goes before p.stage p.slot i h) k.1 k.0 f) a.source old.source new.source (both_with (KeepsFeed before p.stage true []) (IsToldFeed before p.stage) a.source old.source k.source told) done.0;
   sink = subst (λ x. Both (KeepsSink topology (late_step p i (came.Ended h) ∷ before) p.stage) a.sink x) (sym done.1) (both_map (λ x y k. sink_as topology before (late_step p i (came.Ended h) ∷ before) p.stage x y refl refl k) a.sink old.sink k.sink);
   callback = subst (λ x. Both (KeepsCallback topology (late_step p i (came.Ended h) ∷ before) p) a.callback x) (sym done.2) (both_map (λ x y k. callback_late topology before p i (late.Source h) x y y (uncounted topology before p (work.Fetch most) i (late.Source h) y is legal) k (box_same y) (λ own r. none_more topology before p i (late.Source h) x y y (producers_alone topology p.stage is.0) r (none_counted y.resets y.resets refl)) (λ same. tt)) a.callback old.callback k.callback);
 }

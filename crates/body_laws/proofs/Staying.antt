@@ -3,6 +3,7 @@ use Rattle.std.proofs.Common.{◌≡◌, ℕ, ◌<◌, List, [], ◌∷◌, Bool
 use Rattle.std.specs.Prelude.{IfSome, not, ◌&&◌, ◌||◌, ◌==◌, if◌then◌else◌}
 use Rattle.std.proofs.lemmas.Bool.{eqb-true}
 use Rattle.pipe_types.specs.declared.numbers.Post.{Post}
+use Rattle.pipe_types.specs.declared.numbers.StageNo.{StageNo}
 use Rattle.pipe_types.specs.declared.topology.Role.{Role}
 use Rattle.pipe_types.specs.declared.topology.Role.TheVariants.{Producer, Processor, Supervisor, Batcher, BatchProcessor}
 use Rattle.pipe_types.specs.declared.topology.StageSpec.{StageSpec}
@@ -18,7 +19,7 @@ use Rattle.pipe_laws.proofs.Tests.{clash}
 use Rattle.stage_bodies.specs.Seen.{LineSeen, FeedSeen, Single, Merged, SinkSeen, BoxSeen, BodySeen}
 use Rattle.stage_bodies.specs.Jobs.{Both}
 use Rattle.stage_bodies.specs.Posts.{place_at}
-use Rattle.pace_laws.proofs.Fetching.{stays as pace_on}
+use Rattle.pace_laws.proofs.Fetching.{part as pace_part, stays as pace_on}
 use Rattle.body_laws.specs.Keeps.{has_post, KeepsSource, KeepsFeed, KeepsSink, IsCounted, KeepsCallback, KeepsBody, KeepsPartly, KeepsPost, Keeps}
 use Rattle.body_laws.specs.Ready.{There, IsArmed, IsBodyFor, IsBodyAt, Ready}
 use Rattle.body_laws.proofs.Posts.{few_slots, own_places}
@@ -41,11 +42,11 @@ both_then f None (Some b) z h k = absurd h
 both_then f None None (Some c) h k = absurd k
 
 -- with what is known of the second
-pub both_with : {A : Type 0} {P : A → A → Type 0} {T : A → Type 0} → (x y : Option A) → Both P x y → IfSome y T → Both (λ a b. P a b × T b) x y
-both_with (Some a) (Some b) h t = (h, t)
-both_with None None h t = h
-both_with (Some a) None h t = h
-both_with None (Some b) h t = h
+pub both_with : {A : Type 0} → (P : A → A → Type 0) (T : A → Type 0) (x y : Option A) → Both P x y → IfSome y T → Both (λ a b. P a b × T b) x y
+both_with P T (Some a) (Some b) h t = (h, t)
+both_with P T None None h t = h
+both_with P T (Some a) None h t = h
+both_with P T None (Some b) h t = h
 
 pub there_map : {A : Type 0} {P Q : A → Type 0} → ((a : A) → P a → Q a) → (x : Option A) → There x P → There x Q
 there_map f (Some a) h = f a h
@@ -130,10 +131,19 @@ ready_stays topology before step p body st k = there_map (λ spec h. body_for_st
 pub out_as : (topology : Topology) (before : History) (p : Post) (b c : Bool) (x y : Option BodySeen) → b ≡ c → KeepsPost topology before p c x y → KeepsPost topology before p b x y
 out_as topology before p b c x y e k = rw e k
 
+source_is_part : (before : History) (s : StageNo) (a b : LineSeen) → KeepsSource before s true [] a b → KeepsSource before s false [] a b
+source_is_part before s a b k = record { read = k.read; known = k.known; quiet = k.quiet; paced = pace_part a.source.paced.pace before s a.source b k.paced }
+
+feed_is_part : (before : History) (s : StageNo) (a b : FeedSeen) → KeepsFeed before s true [] a b → KeepsFeed before s false [] a b
+feed_is_part before s (Single a) (Single b) k = source_is_part before s a b k
+feed_is_part before s (Merged a) (Merged b) k = k
+feed_is_part before s (Single a) (Merged b) k = absurd k
+feed_is_part before s (Merged a) (Single b) k = absurd k
+
 -- a body that stands where the journal leaves it stands so in part
 pub whole_is_part : (topology : Topology) (before : History) (p : Post) (a b : BodySeen) → KeepsBody topology before p a b → KeepsPartly topology before p a b
 whole_is_part topology before p a b k = record {
-  source = both_map (λ x y h. ([], h)) a.source b.source k.source;
+  source = both_map (λ x y h. ([], feed_is_part before p.stage x y h)) a.source b.source k.source;
   sink = k.sink;
   callback = both_map (λ x y h. h.kept) a.callback b.callback k.callback;
 }

@@ -35,7 +35,7 @@ settings_give_flow source prefix = rw (require_rule prefix, decimal_digit 0 (ome
 
 -- they fit the format, and no fault names one of them
 settings_fit : (source prefix : List ℕ) → IsFit (flow_settings source prefix)
-settings_fit source prefix = record { producers = search; processors = search; supervisor = search; batchers = search; pipeline = search; limits = search; sizes = search; rate = refl }
+settings_fit source prefix = record { producers = search; processors = search; supervisor = search; batchers = search; pipeline = search; limits = search; sizes = search; rate = search }
 
 no_fault : (source prefix : List ℕ) → faults_in (flow_settings source prefix) ≡ []
 no_fault source prefix = rw (require_rule prefix)

@@ -1,4 +1,5 @@
 -- Laws of gates that are put before sources and taken off again.
+use mir.Val.{bool_byte}
 use Rattle.std.proofs.Common.{◌≡◌, ℕ, ◌+◌, ◌*◌, ◌/◌, ◌-◌, ◌<◌, ◌≤◌, Bool, true, false, cond, nat_le, ◌==◌, ◌&&◌, get_or, take, length, List, [], ◌∷◌, ◌++◌, refl, ap, sym, ◌∙◌, subst, inl, inr, arith}
 use Rattle.std.specs.Prelude.{Option, Some, None, IsTrue, IsSome, IfSome, option_map}
 use Rattle.std.proofs.lemmas.Bool.{leb-true}
@@ -126,6 +127,10 @@ share_low allowed count some low =
 
 pub share_least : (allowed count : ℕ) → 1 ≤ count → count ≤ allowed → 1 ≤ allowed / count
 share_least allowed count some enough = le-div 1 allowed count (omega (arith, some)) (omega (arith, enough))
+
+pub byte_is : (b : Bool) → bool_byte b ≡ cond b 1 0
+byte_is true = refl
+byte_is false = refl
 
 pub cond_low : (b : Bool) → cond b 1 0 ≤ 1
 cond_low true = omega arith

@@ -5,7 +5,7 @@ use Rattle.std.proofs.lemmas.List.{append-nil}
 use Rattle.pipe_edges.specs.Paces.{Pace}
 use Rattle.pipe_edges.specs.declared.edges.EdgeKind.{EdgeKind}
 use Rattle.pipe_edges.specs.declared.edges.EdgeKind.TheVariants.{Source}
-use Rattle.stage_bodies.specs.Seen.{SourceSeen, SinkSeen, LineSeen, BodySeen, with_source}
+use Rattle.stage_bodies.specs.Seen.{SourceSeen, SinkSeen, LineSeen, Single, BodySeen, with_source}
 use Rattle.stage_bodies.specs.Jobs.{Both}
 use Rattle.edge_names.specs.Seen.{EdgesSeen}
 use Rattle.edge_names.specs.Gates.{HasNoWait, IsGated, IsInner}
@@ -16,7 +16,7 @@ use Rattle.edge_names.specs.declared.opening.Unopened.{Unopened}
 use Rattle.edge_names.proofs.Cuts.{opens_not}
 use Rattle.edge_names.proofs.Gating.{fed_gated}
 use Rattle.edge_names.proofs.Openings.{fed_call}
-use Rattle.edge_names.proofs.Returns.{off_as}
+use Rattle.edge_names.proofs.Returns.{calm_written, off_as}
 
 -- ---- supplied
 
@@ -28,25 +28,25 @@ same_body : (edges : EdgesSeen) (body : Option BodySeen) → Both (IsOpened edge
 same_body edges (Some b) = record { source = refl; sink = refl; callback = refl }
 same_body edges None = tt
 
-none_either : (t : Bool) → (if t then None else None) ≡ None {A = Supplied}
-none_either true = refl
-none_either false = refl
+same_either : {A : Type 0} (t : Bool) (x : A) → (if t then x else x) ≡ x
+same_either true x = refl
+same_either false x = refl
 
 -- the body at the place has the lines, and all others are as they were
-fed_body : (edges : EdgesSeen) (pace : Option Pace) (feed : Feed) (lines : LineSeen) (body : Option BodySeen) → GivesFed edges pace feed lines → Both (IsOpened edges (Some (Fed pace feed))) body (option_map (with_source lines) body)
+fed_body : (edges : EdgesSeen) (pace : Option Pace) (feed : Feed) (lines : LineSeen) (body : Option BodySeen) → GivesFed edges pace feed lines → Both (IsOpened edges (Some (Fed pace feed))) body (option_map (with_source (Single lines)) body)
 fed_body edges pace feed lines (Some b) gives = record { source = gives; sink = refl; callback = refl }
 fed_body edges pace feed lines None gives = tt
 
 fed_table : (edges : EdgesSeen) (pace : Option Pace) (feed : Feed) (lines : LineSeen) (at : ℕ) (old new : ℕ → Option BodySeen) → GivesFed edges pace feed lines
-    → ((s : ℕ) → new s ≡ (if at == s then option_map (with_source lines) (old s) else old s)) → AreOpenedAt at (Some (Fed pace feed)) edges old new
+    → ((s : ℕ) → new s ≡ (if at == s then option_map (with_source (Single lines)) (old s) else old s)) → AreOpenedAt at (Some (Fed pace feed)) edges old new
 fed_table edges pace feed lines at old new gives is s = subst (λ b. Both (IsOpened edges (if at == s then Some (Fed pace feed) else None)) (old s) b) (sym (is s)) (by (at == s))
   where
-    by : (t : Bool) → Both (IsOpened edges (if t then Some (Fed pace feed) else None)) (old s) (if t then option_map (with_source lines) (old s) else old s)
+    by : (t : Bool) → Both (IsOpened edges (if t then Some (Fed pace feed) else None)) (old s) (if t then option_map (with_source (Single lines)) (old s) else old s)
     by true = fed_body edges pace feed lines (old s) gives
     by false = same_body edges (old s)
 
 pub feed_opened : {T : Type 0} (x : T) (pace : Option Pace) (feed : Option Feed) (source : SourceSeen) (lines : LineSeen) (at : ℕ) (a b : EdgesSeen) (old new : ℕ → Option BodySeen) → Asks (one (feed_call feed)) a b → IsSupplied a feed (Some source)
-    → IsGated pace source lines → ((s : ℕ) → new s ≡ (if at == s then option_map (with_source lines) (old s) else old s)) → OpensOne (fed pace feed) at (Ok x) a b old new
+    → IsGated pace source lines → ((s : ℕ) → new s ≡ (if at == s then option_map (with_source (Single lines)) (old s) else old s)) → OpensOne (fed pace feed) at (Ok x) a b old new
 feed_opened x pace (Some feed) source lines at a b old new asks gives gated is = record {
   asks = asks;
   bodies = fed_table a pace feed lines at old new (fed_gated a pace feed source lines gated gives) is;
@@ -58,7 +58,7 @@ pub feed_none : {T : Type 0} (x : T) (pace : Option Pace) (feed : Option Feed) (
 feed_none x pace (Some feed) at a b table asks gives = absurd gives
 feed_none x pace None at a b table asks gives = record {
   asks = asks;
-  bodies = λ s. subst (λ (o : Option Supplied). Both (IsOpened a o) (table s) (table s)) (sym (none_either (at == s))) (same_body a (table s));
+  bodies = λ s. subst (λ (o : Option Supplied). Both (IsOpened a o) (table s) (table s)) (sym (same_either (at == s) None)) (same_body a (table s));
 }
 
 pub feed_not : (T : Type 0) (u : Unopened) (pace : Option Pace) (feed : Option Feed) (at : ℕ) (a b : EdgesSeen) (old new : ℕ → Option BodySeen) → IfFailed u (λ name. IsOneFailed (feed_call feed) name a b) → IfCutOff u (IsOneCut (feed_call feed) a b)
@@ -121,7 +121,7 @@ off_written (Ok x) (Some name) body a b back = off_as [] (named_sink (Some (Writ
 off_written (Ok x) None body a b back = off_as [] [] a b back
 
 -- one that was made counted nothing beside its gate
-pub calm_gated : (pace : Option Pace) (feed : Option Feed) (gated inner : SourceSeen) (body : Option BodySeen) → source_in body ≡ Some gated → IsInner gated inner → IsCalmFeed feed inner → IsCalm (fed pace feed) (source_in body)
+calm_gated : (pace : Option Pace) (feed : Option Feed) (gated inner : SourceSeen) (body : Option BodySeen) → source_in body ≡ Some gated → IsInner gated inner → IsCalmFeed feed inner → IsCalm (fed pace feed) (source_in body)
 calm_gated pace (Some (Made bytes)) gated inner body stands is calm =
     subst (λ o. IsCalm (Some (Fed pace (Made bytes))) o) (sym stands) (sym is.same_faults ∙ calm.0, by_gate is.gate)
   where
@@ -130,3 +130,12 @@ calm_gated pace (Some (Made bytes)) gated inner body stands is calm =
     by_gate (inr gate) = inr (gate.0, gate.1 ∙ calm.1)
 calm_gated pace (Some (Opened name)) gated inner body stands is calm = tt
 calm_gated pace None gated inner body stands is calm = tt
+
+pub calm_fed : {T X : Type 0} (r : Result T X) (pace : Option Pace) (feed : Option Feed) (gated inner : SourceSeen) (body : Option BodySeen) → source_in body ≡ Some gated → IsInner gated inner → IsCalmFeed feed inner
+    → OnOk r (IsCalm (fed pace feed) (source_in body))
+calm_fed (Ok x) pace feed gated inner body stands is calm = calm_gated pace feed gated inner body stands is calm
+calm_fed (Err x) pace feed gated inner body stands is calm = tt
+
+pub calm_sunk : {T X : Type 0} (r : Result T X) (edge : Option (List ℕ)) (source : Option SourceSeen) → OnOk r (IsCalm (written edge) source)
+calm_sunk (Ok x) edge source = calm_written edge source
+calm_sunk (Err x) edge source = tt

@@ -1,5 +1,5 @@
 -- A body that leaves for a fetch, whose source is told the moment, stands as before.
-use Rattle.std.proofs.Common.{◌≡◌, ℕ, [], ◌∷◌, ◌==◌, ◌&&◌, Bool, true, false, if◌then◌else◌, refl, ap, sym, ◌∙◌, subst, Some, None, Option}
+use Rattle.std.proofs.Common.{◌≡◌, ℕ, [], ◌∷◌, ◌==◌, ◌&&◌, Bool, true, false, if◌then◌else◌, refl, ap, subst, Some, None, Option}
 use Rattle.std.specs.Prelude.{IfSome, IsSome, option_map}
 use Rattle.std.proofs.lemmas.Bool.{eq-eqb}
 use Rattle.pipe_types.specs.declared.numbers.Post.{Post}

@@ -23,7 +23,7 @@ use Rattle.journal_reading.specs.declared.step.LineRead.TheVariants as read
 use Rattle.journal_reading.specs.Faults.{fault_of}
 use Rattle.journal_reading.specs.Reads.{read_as}
 use Rattle.journal_reading.proofs.Reading.{jobs_legal}
-use Rattle.plain_run.specs.Seen.{RunSeen}
+use Rattle.journal_reading.specs.Seen.{RunSeen}
 use Rattle.journal_audit.specs.declared.verdict.BadCause.{BadCause}
 use Rattle.journal_audit.specs.declared.verdict.BadCause.TheVariants as cause
 use Rattle.journal_audit.specs.declared.verdict.Verdict.{Verdict}

@@ -1,2 +1,3 @@
 pub mod Counting
 pub mod Judging
+pub use Rattle.journal_reading.proofs.Placing

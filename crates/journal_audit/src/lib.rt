@@ -5,6 +5,7 @@
 //! legal after the steps of the lines before. `specs/` defines the verdict by the reading of the text.
 #![tactic(auto)]
 
+pub mod laws;
 mod lines;
 mod summary;
 mod verdict;

@@ -4,9 +4,8 @@ ghost use Rattle.std.specs.Prelude.{◌≡◌, IfOk};
 ghost use Rattle.journal_audit.specs.Lines.{Finds, Judges};
 
 use crate::verdict::{BadCause, cause_of};
-use journal_reading::{LineRead, read_step};
+use journal_reading::{LineRead, PlainRun, read_step};
 use pipe_types::step::Step;
-use plain_run::PlainRun;
 use std::alloc::{AllocError, Global};
 
 /// What a line behind the first is.

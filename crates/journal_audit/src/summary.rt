@@ -5,8 +5,8 @@ ghost use Rattle.journal_texts.specs.Report.{is_successful, is_failed, is_lost};
 ghost use Rattle.journal_audit.specs.Verdicts.{summary_of};
 
 use crate::verdict::Summary;
+use journal_reading::PlainRun;
 use pipe_types::message::{Outcome, Place};
-use plain_run::PlainRun;
 
 /// How many messages succeeded.
 #[tactic(auto, using(crate::proofs::Counting::count_within))]

@@ -14,9 +14,8 @@ ghost use Rattle.journal_audit.specs.Verdicts.{summary_of, verdict_by, verdict_i
 use crate::lines::{LineFound, audit_line};
 use crate::summary::summary;
 use crate::verdict::{BadCause, Verdict};
-use journal_reading::{begin, first_line, is_header};
+use journal_reading::{PlainRun, begin, first_line, is_header};
 use pipe_types::topology::Topology;
-use plain_run::PlainRun;
 use std::alloc::{AllocError, Global};
 
 /// Whether the text is that of a journal that is legal for the topology, with nothing or anything behind its end line, and what

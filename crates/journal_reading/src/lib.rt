@@ -8,6 +8,7 @@
 
 mod copies;
 mod fault;
+mod held;
 mod known;
 pub mod laws;
 mod lines;
@@ -17,5 +18,6 @@ mod steps;
 
 pub use fault::{JournalFault, JournalRefusal};
 pub use lines::{Cut, first_line, is_header};
+pub use plain_run::PlainRun;
 pub use step::{LineRead, read_step};
 pub use steps::{begin, read_steps};

@@ -1,5 +1,5 @@
 -- Laws of a source with a pace while the journal goes on.
-use Rattle.std.proofs.Common.{◌≡◌, ◌≢◌, ℕ, ◌+◌, ◌-◌, ◌/◌, ◌<◌, ◌≤◌, ◌^◌, ◌==◌, max, Bool, true, false, if◌then◌else◌, nat_le, List, [], length, arith, refl, ap, sym, subst, ◌∙◌, inl, inr, ◌⊎◌}
+use Rattle.std.proofs.Common.{◌≡◌, ◌≢◌, ℕ, ◌+◌, ◌/◌, ◌<◌, ◌≤◌, ◌==◌, max, Bool, true, false, if◌then◌else◌, List, [], length, arith, refl, ap, sym, subst, ◌∙◌, inl, inr, ◌⊎◌}
 use Rattle.std.specs.Prelude.{Option, Some, None, IfSome}
 use Rattle.std.proofs.lemmas.Bool.{eq-eqb, eqb-true, ne_eqb, leb-false}
 use Rattle.std.proofs.lemmas.Nat.{le-div}
@@ -19,7 +19,7 @@ use Rattle.stage_bodies.specs.Seen.{SourceSeen, LineSeen}
 use Rattle.stage_bodies.specs.declared.job.Outcome.{Outcome as Came}
 use Rattle.stage_bodies.specs.declared.job.Outcome.TheVariants as came
 use Rattle.rate_laws.specs.Rates.{came_by, fetched_at, is_used_up, own_quiets}
-use Rattle.pace_laws.specs.Pacing.{IsPace, IsTold, KeepsPaceBy, KeepsShare, PaceGoes, PaceRests, PaceSame, PaceStays, at_start}
+use Rattle.pace_laws.specs.Pacing.{IsPace, IsTold, KeepsPaceBy, PaceGoes, PaceRests, PaceSame, PaceStays, at_start}
 use Rattle.pace_laws.proofs.Rises.{rise_none, rise_one, rise_stays}
 
 -- ---- intervals
@@ -34,7 +34,7 @@ same_interval interval m g = by (m / interval == m / interval) (eq-eqb (m / inte
 later_interval : (interval a b : ℕ) → 1 ≤ interval → a ≤ b → a / interval ≤ b / interval
 later_interval interval a b some le = le-div (a / interval) b interval (omega (arith, some)) (omega (arith, some, le))
 
-zero_or_same : (b : Bool) → (if b then 0 else 0) ≡ 0
+zero_or_same : (b : Bool) → ◌≡◌ {A = ℕ} (if b then 0 else 0) 0
 zero_or_same true = refl
 zero_or_same false = refl
 
@@ -184,10 +184,10 @@ pub loses : (p : Option Pace) (before : History) (s : StageNo) (opened : SourceS
     → KeepsPaceBy p before s true opened b → KeepsPaceBy p before s false opened c
 loses None before s opened b c is cut k =
     let none : b.source.paced.pace ≡ None = ap (λ x. x.pace) k ∙ sym is in
-    let same : c.source.paced ≡ b.source.paced = rw none at cut in
+    let same : c.source.paced ≡ b.source.paced = subst (λ o. CutKeepsPace o b c) none cut in
     same ∙ k
 loses (Some pace) before s opened b c is cut k =
-    let kept : PaceKept pace b.source.paced c.source.paced = rw k.same_pace at cut in
+    let kept : PaceKept pace b.source.paced c.source.paced = subst (λ o. CutKeepsPace o b c) k.same_pace cut in
     record {
       same_pace = kept.same_pace ∙ k.same_pace;
       some = k.some;
@@ -212,12 +212,12 @@ pub accepts : (p : Option Pace) (before after : History) (s : StageNo) (most : �
     → IsTold before s b → Fetches most (came.Records records) b c → KeepsPaceBy p before s true opened b → KeepsPaceBy p after s true opened c
 accepts None before after s most records opened b c is goes told fetched k =
     let none : b.source.paced.pace ≡ None = ap (λ x. x.pace) k ∙ sym is in
-    let same : c.source.paced ≡ b.source.paced = rw none at fetched.paced in
+    let same : c.source.paced ≡ b.source.paced = subst (λ o. FetchIsPaced o (came.Records records) b c) none fetched.paced in
     same ∙ k
 accepts (Some pace) before after s most records opened b c is goes told fetched k =
     let f = fetched_at before s in
     let here = f / pace.interval in
-    let paced : FetchKeepsPace pace (came.Records records) b c = rw k.same_pace at fetched.paced in
+    let paced : FetchKeepsPace pace (came.Records records) b c = subst (λ o. FetchIsPaced o (came.Records records) b c) k.same_pace fetched.paced in
     let short = not_long b.end c.end fetched.end_stays fetched.answer.5 in
     let old = k.in_pace refl short in
     let moment = moment_told pace f b.source.paced k.same_pace k.past told in
@@ -251,11 +251,8 @@ accepts (Some pace) before after s most records opened b c is goes told fetched 
     each i here old more share low bound = by (here == i) refl
       where
         by : (t : Bool) → (here == i) ≡ t → (if t then old + more else old) ≤ share
-        by true e = bound (eqb_is here i e)
+        by true e = bound (eqb-true here i e)
         by false e = low
-
-    eqb_is : (x y : ℕ) → (x == y) ≡ true → x ≡ y
-    eqb_is x y e = eqb-true x y e
 
     bound : (i : ℕ) → fetched_at before s / pace.interval ≡ i → c.source.paced.given ≡ came_by s pace.interval (fetched_at before s / pace.interval) before + length records → c.source.paced.given ≤ pace.share
         → came_by s pace.interval i before + length records ≤ pace.share
@@ -269,12 +266,12 @@ pub rests : (p : Option Pace) (before after : History) (s : StageNo) (most : ℕ
     → IsTold before s b → Fetches most came.NotYet b c → KeepsPaceBy p before s true opened b → KeepsPaceBy p after s true opened c
 rests None before after s most opened b c is goes told fetched k =
     let none : b.source.paced.pace ≡ None = ap (λ x. x.pace) k ∙ sym is in
-    let same : c.source.paced ≡ b.source.paced = rw none at fetched.paced in
+    let same : c.source.paced ≡ b.source.paced = subst (λ o. FetchIsPaced o came.NotYet b c) none fetched.paced in
     same ∙ k
 rests (Some pace) before after s most opened b c is goes told fetched k =
     let f = fetched_at before s in
     let here = f / pace.interval in
-    let paced : FetchKeepsPace pace came.NotYet b c = rw k.same_pace at fetched.paced in
+    let paced : FetchKeepsPace pace came.NotYet b c = subst (λ o. FetchIsPaced o came.NotYet b c) k.same_pace fetched.paced in
     let open_still : ¬ (c.end ≡ Some end.TooLong) = λ e. no_end c.end fetched.answer.1 e in
     let short = not_long b.end c.end fetched.end_stays open_still in
     let old = k.in_pace refl short in
@@ -320,12 +317,12 @@ pub ends : (p : Option Pace) (before after : History) (s : StageNo) (most : ℕ)
     → IsTold before s b → Fetches most (came.Ended h) b c → KeepsPaceBy p before s true opened b → KeepsPaceBy p after s true opened c
 ends None before after s most h opened b c is goes told fetched k =
     let none : b.source.paced.pace ≡ None = ap (λ x. x.pace) k ∙ sym is in
-    let same : c.source.paced ≡ b.source.paced = rw none at fetched.paced in
+    let same : c.source.paced ≡ b.source.paced = subst (λ o. FetchIsPaced o (came.Ended h) b c) none fetched.paced in
     same ∙ k
 ends (Some pace) before after s most h opened b c is goes told fetched k =
     let f = fetched_at before s in
     let here = f / pace.interval in
-    let paced : FetchKeepsPace pace (came.Ended h) b c = rw k.same_pace at fetched.paced in
+    let paced : FetchKeepsPace pace (came.Ended h) b c = subst (λ o. FetchIsPaced o (came.Ended h) b c) k.same_pace fetched.paced in
     let moment = moment_told pace f b.source.paced k.same_pace k.past told in
     let moment' : c.source.paced.moment ≡ f = paced.kept.same_moment ∙ moment in
     record {

@@ -94,9 +94,9 @@ KeepsItsPace (Some pace) before p source =
     × RoseBy (own_quiets pace.share pace.interval before p) 0 source.paced.own
 
 -- the source of a producer that is read at this pace
-pub record IsFedRead (whole : Bool) (edges : EdgesSeen) (before : History) (p : StageNo) (pace : Option Pace) (feed : Feed) (source : SourceSeen) : Type 0 where
+pub record IsFedRead (whole : Bool) (edges : EdgesSeen) (before : History) (p : StageNo) (at : Option Pace) (feed : Feed) (source : SourceSeen) : Type 0 where
   pub read : IsFeedRead whole edges before p feed source
-  pub pace : KeepsItsPace pace before p source
+  pub pace : KeepsItsPace at before p source
 
 -- the bodies of the stages hold what they were supplied with, each source read and each sink written as the journal says
 pub record AreUsed (feeds : Feeds) (whole : Bool) (topology : Topology) (edges : EdgesSeen) (before : History) (bodies : ℕ → Option BodySeen) : Type 0 where

@@ -1,12 +1,11 @@
 //! The text of a journal as a case gives it: what is read, and whether it is legal.
 
 use super::case::Case;
-use journal_reading::{JournalFault, JournalRefusal, read_steps};
+use journal_reading::{JournalFault, JournalRefusal, PlainRun, read_steps};
 use pipe_config::read_topology;
 use pipe_journal::Journal;
 use pipe_replay::replay_plain;
 use pipe_types::step::Step;
-use plain_run::PlainRun;
 use std::alloc::{AllocError, Global};
 use std::io;
 

@@ -4,7 +4,7 @@ use Rattle.std.proofs.lemmas.List.{append_assoc, append-nil, take_at, length-app
 use Rattle.pipe_edges.specs.Reads.{ReadsBytes}
 use Rattle.pipe_edges.specs.declared.source.ReadEnd.{ReadEnd}
 use Rattle.pipe_edges.specs.declared.source.ReadEnd.TheVariants.{Got, End, Failed, Empty}
-use Rattle.rate_gate.specs.Front.{FrontSeen, taken_before, IsGiven}
+use Rattle.rate_gate.specs.Front.{FrontSeen, taken_before, IsGiven, IsStopped}
 
 -- ---- what was read and what is held
 
@@ -38,11 +38,14 @@ filled_parts held taken left held' taken' left' none filled =
 behind : (taken front part rest held : List ℕ) → taken ≡ front ++ held → held ≡ part ++ rest → taken ≡ (front ++ part) ++ rest
 behind taken front part rest held e f = e ∙ ap (λ x. front ++ x) f ∙ sym (append_assoc front part rest)
 
+stopped_held : (a b : FrontSeen) → IsStopped a b → b.held ≡ a.held
+stopped_held a b stopped = ap (λ (f : FrontSeen). f.held) stopped.same
+
 pub given_last : (room : ℕ) (a b : FrontSeen) (piece : List ℕ) (end : ReadEnd) (taken : List ℕ) → IsGiven room a b piece end → taken ≡ taken_before a.held taken ++ a.held → taken ≡ taken_before b.held taken ++ b.held
 given_last room a b piece (Got n) taken given last =
     let front = taken_before a.held taken in
     holds_last taken (front ++ take n piece) b.held (behind taken front (take n piece) b.held a.held last given.parts)
-given_last room a b piece Empty taken given last = rw given.same_held last
+given_last room a b piece Empty taken given last = rw (stopped_held a b given) last
 given_last room a b piece End taken given last = absurd given
 given_last room a b piece Failed taken given last = absurd given
 
@@ -54,6 +57,6 @@ given_bytes room a b piece (Got n) taken left taken0 left0 given last same_taken
       front_is taken (front ++ take n piece) b.held (behind taken front (take n piece) b.held a.held last given.parts) ∙ ap (λ x. x ++ take n piece) same_taken,
     )
 given_bytes room a b piece Empty taken left taken0 left0 given last same_taken same_left =
-    (ap (λ x. x ++ left) given.same_held ∙ sym same_left, ap (λ x. taken_before x taken) given.same_held ∙ same_taken)
+    (ap (λ x. x ++ left) (stopped_held a b given) ∙ sym same_left, ap (λ x. taken_before x taken) (stopped_held a b given) ∙ same_taken)
 given_bytes room a b piece End taken left taken0 left0 given last same_taken same_left = absurd given
 given_bytes room a b piece Failed taken left taken0 left0 given last same_taken same_left = absurd given

@@ -1,7 +1,7 @@
 -- Laws of bytes that are handed on in parts.
-use Rattle.std.proofs.Common.{◌≡◌, ◌≢◌, ℕ, ◌+◌, ◌-◌, ◌<◌, ◌≤◌, List, [], ◌∷◌, ◌++◌, length, take, drop, arith, refl, ap, sym, subst, ◌∙◌}
+use Rattle.std.proofs.Common.{◌≡◌, ◌≢◌, ℕ, ◌+◌, ◌-◌, ◌≤◌, List, [], ◌∷◌, ◌++◌, length, take, drop, arith, ap, sym, subst, ◌∙◌}
 use Rattle.std.proofs.lemmas.List.{append_assoc, take-take, take_at, drop-drop, length-take-le, length-drop, length_push}
-use Rattle.std.proofs.lemmas.List.Elements.{All-nil, All-same}
+use Rattle.std.proofs.lemmas.List.Elements.{All-nil}
 use Rattle.memchr.specs.Find.{is_byte, Nowhere, NoneBefore, Passes}
 use Rattle.pipe_edges.specs.Texts.{HasNoLf}
 use Rattle.pipe_edges.specs.Cut.{EndsAt, IsSearched}

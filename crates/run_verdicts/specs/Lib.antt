@@ -1,3 +1,4 @@
 pub mod Audits
 pub mod Verdicts
 pub mod Texts
+pub mod Judged

@@ -22,6 +22,7 @@ pub enum FeedSources<S> {
 
 impl<S: ByteSource + Drop> Feed<S> {
     /// The sources, with all that they counted. Bytes that were read and not handed out are let go.
+    #[tactic(auto, using(crate::proofs::Feeds::many_out))]
     pub fn into_sources(self) -> FeedSources<S>
         ensures { sources_seen S.ByteSource result ≡ sources_out (feed_seen S.ByteSource self) }
     {

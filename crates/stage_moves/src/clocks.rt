@@ -1,20 +1,22 @@
 //! The time of a run.
 
-ghost use Rattle.std.specs.Prelude.{◌≡◌, ◌≤◌, false, None};
+ghost use Rattle.std.specs.Prelude.{◌≡◌, false};
 ghost use Rattle.pipe_types.specs.Counts.{Rose};
 ghost use Rattle.pipe_model.specs.Legal.{happened, is_halt};
 ghost use Rattle.core_state.specs.Stands.{Stands};
 ghost use Rattle.stage_moves.specs.Clocks.{clock_seen, IsRead, IsPaused};
 ghost use Rattle.stage_moves.specs.Going.{Waits};
+ghost use Rattle.stage_moves.specs.Pauses.{least_time, pause_of};
 
 use core_calls::asks::tick;
 use core_state::Core;
 use pipe_edges::Clock;
-use pipe_types::topology::{Role, Topology};
+use pipe_types::topology::{Role, StageSpec, Topology};
 use std::alloc::AllocError;
 
 /// How long a pause is at least, in milliseconds, and at most.
 const LEAST_MS: u64 = 1;
+
 const MOST_MS: u64 = 1_000;
 
 /// How many pauses an interval of a rate has, where it is not shorter or longer than these.
@@ -37,23 +39,29 @@ pub(crate) fn read_clock<C: Clock>(core: &mut Core, clock: &mut C) -> Result<(),
     Ok(())
 }
 
-/// How long a pause is, in milliseconds. Where no source says anything each waits in its own read, and a pause is short. A gate whose
-/// share is used up waits in none: with a rate a pause is the 32nd part of an interval, so that the wait for the next one adds few
-/// ticks, and of each batcher's time limit, so that no batch closes late by more.
-fn pause_ms(topology: &Topology) -> u64
-    ensures least { 1 ≤ result }
-    ensures most { result ≤ 1000 }
-    ensures without { topology.now.rate ≡ None → result ≡ 1 }
+/// The least of this time and the time limits of the batchers.
+fn shortest(time: u64, stages: &[StageSpec]) -> u64
+    ensures { result ≡ least_time time stages.now }
 {
-    let Some(rate) = &topology.rate else {
-        return LEAST_MS;
-    };
-    let mut least = rate.interval;
-    for spec in topology.stages.as_slice() {
+    let mut least = time;
+    for spec in stages {
         if spec.role == Role::Batcher {
             least = least.min(spec.batch_timeout);
         }
     }
+    least
+}
+
+/// How long a pause is, in milliseconds. Where no source says anything each waits in its own read, and a pause is short. A gate whose
+/// share is used up waits in none: with a rate a pause is the 32nd part of an interval, so that the wait for the next one adds few
+/// ticks, and of each batcher's time limit, so that no batch closes late by more.
+fn pause_ms(topology: &Topology) -> u64
+    ensures { result ≡ pause_of topology.now.rate topology.now.stages }
+{
+    let Some(rate) = &topology.rate else {
+        return LEAST_MS;
+    };
+    let least = shortest(rate.interval, topology.stages.as_slice());
     (least / PAUSES).clamp(LEAST_MS, MOST_MS)
 }
 

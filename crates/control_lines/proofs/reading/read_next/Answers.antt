@@ -41,7 +41,7 @@ returns-in_err-outcome-clause-keeps g c opened k =
     let s = g.S.ByteSource in
     unread_on c.from_residual.result core.topology core.journal.steps opened
     (line_seen s c.args.lines.now) (line_seen s c.fetch.new.source)
-    c.from_residual.ensures.0 (sym c.is_ended.ensures ∙ c.if-is_ended.false) c.in_err-outcome.ensures.cut_off.0 k
+    c.from_residual.ensures.0 (sym c.is_ended.ensures ∙ c.if-is_ended.false) c.in_err-outcome.ensures.cut_off.reads k
 
 pub note_reading-requires-clause-may : goal.note_reading-requires-clause-may
 note_reading-requires-clause-may g c =

@@ -80,31 +80,15 @@ returns-in-Ok-open_or_give_back-clause-ran g c =
 
 pub returns-in-Ok-open_or_give_back-clause-rate : goal.returns-in-Ok-open_or_give_back-clause-rate
 returns-in-Ok-open_or_give_back-clause-rate g c =
-    let origin = g.Q.Supply.feeds c.args.supply.now in
-    let feeds = at_paces c.args.topology origin in
     let e = g.E.Edges in
-    let s = g.E.Source.ByteSource in
     let k = g.E.Sink.ByteSink in
-    let seen = edges_seen e.told e.named e.asked e.faults e.sources_back e.sinks_back (source_seen s) (sink_seen k.told k.held k.faults) in
-    let fresh = option_map (line_seen s) c.in-Ok-open_or_give_back.control in
-    let time = clock_seen g.K.Clock.latest g.K.Clock.readings in
-    let own = c.in-Ok.ensures.topology in
-    let same = c.topology.ensures ∙ own in
-    let topology = c.args.topology in
+    let seen = edges_seen e.told e.named e.asked e.faults e.sources_back e.sinks_back (source_seen g.E.Source.ByteSource) (sink_seen k.told k.held k.faults) in
     let run = c.run_opened-run.result.run in
-    let table = body_at g.B.Works.look c.args.bodies.items in
-    let opened = body_at g.B.Works.look c.open_or_give_back.new.bodies.items in
-    let final = body_at g.B.Works.look c.run_opened-run.result.bodies.items in
-    let old = seen c.args.edges.now in
-    let mid = seen c.open_or_give_back.new.edges in
-    let new = seen c.run_opened-run.new.edges in
-    let opens = subst (λ (t : Topology). AreOpened (at_paces t origin) t (length t.stages) old table opened) same c.in-Ok-open_or_give_back.ensures.opened in
-    let asks = subst (λ (t : Topology). Asks (run_calls (at_paces t origin) t) old mid) same c.in-Ok-open_or_give_back.ensures.asks in
-    let lines = subst (λ (t : Topology). HasSource old (control_call t.control) None fresh) same c.in-Ok-open_or_give_back.ensures.control in
-    let legal = subst (λ (t : Topology). is_legal t run.core.journal.steps ≡ true) (c.run_opened-run.ensures.topology ∙ own) c.run_opened-run.ensures.stands.holds.legal in
-    let went = subst (λ (t : Topology). WentOn (at_paces t origin) (is_ok run.end) t run.core.journal.steps opened final fresh mid new (time c.args.clock) (time c.run_opened-run.result.clock)) own c.run_opened-run.ensures.went in
-    let ran = run_of feeds (is_ok run.end) topology run.core.journal.steps table opened final fresh old mid new (time c.args.clock) (time c.run_opened-run.result.clock) c.requires.sound legal c.requires.handed opens lines asks went in
-    rate_kept origin (is_ok run.end) topology old run.core.journal.steps ran.outside.bodies c.requires.sound legal c.requires.fed ran.outside.used
+    let ran = returns-in-Ok-open_or_give_back-clause-ran g c in
+    let legal =
+    subst (λ (t : Topology). is_legal t run.core.journal.steps ≡ true) (c.run_opened-run.ensures.topology ∙ c.in-Ok.ensures.topology) c.run_opened-run.ensures.stands.holds.legal
+    in
+    rate_kept (g.Q.Supply.feeds c.args.supply.now) (is_ok run.end) c.args.topology (seen c.args.edges.now) run.core.journal.steps ran.outside.bodies c.requires.sound legal c.requires.fed ran.outside.used
 
 pub returns-in-Ok-open_or_give_back-clause-ended : goal.returns-in-Ok-open_or_give_back-clause-ended
 returns-in-Ok-open_or_give_back-clause-ended g c =

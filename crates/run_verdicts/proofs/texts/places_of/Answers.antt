@@ -1,5 +1,5 @@
 use Rattle.std.proofs.Common.{◌∙◌}
-use Rattle.plain_run.proofs.Placing.{places_stand}
+use Rattle.journal_audit.proofs.Placing.{places_stand}
 use Rattle.run_verdicts.proofs.texts.places_of.Goals as goal
 
 pub returns : goal.returns

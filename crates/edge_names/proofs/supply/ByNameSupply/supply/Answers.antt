@@ -8,8 +8,8 @@ use Rattle.edge_names.proofs.supply.ByNameSupply.supply.Goals as goal
 pub returns-in_default-copy_text-clause-cut_off : goal.returns-in_default-copy_text-clause-cut_off
 returns-in_default-copy_text-clause-cut_off g c = cut_uncalled _ _
 
-pub returns-clause-cut_off : goal.returns-clause-cut_off
-returns-clause-cut_off g c =
+pub returns-in-Err-OutOfMemory-clause-cut_off : goal.returns-in-Err-OutOfMemory-clause-cut_off
+returns-in-Err-OutOfMemory-clause-cut_off g c =
     let e = g.E.Edges in
     let s = g.E.Source.ByteSource in
     let k = g.E.Sink.ByteSink in

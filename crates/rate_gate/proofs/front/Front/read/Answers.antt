@@ -1,5 +1,4 @@
-use Rattle.std.proofs.Common.{◌≡◌, List, ℕ, [], ◌++◌, length, arith, refl, rules}
-use Rattle.std.specs.Prelude.{IsTrue}
+use Rattle.std.proofs.Common.{◌≡◌, ◌++◌, length, arith, refl}
 use Rattle.rate_gate.specs.Front.{HoldsLast, taken_before, front_seen}
 use Rattle.rate_gate.proofs.FrontLaws.{filled_last, filled_parts, given_bytes, given_last, no_bytes}
 use Rattle.rate_gate.proofs.front.Front.read.Goals.{then-len-eq0+in-Got, else-len-eq0}

@@ -1,0 +1,10 @@
+use Rattle.reading_laws.specs.Fields.{IsHeldEnd}
+use Rattle.journal_reading.proofs.held.hold_end.Goals as goal
+
+pub returns-in-Outcomes : goal.returns-in-Outcomes
+unfolding IsHeldEnd
+returns-in-Outcomes c = rw c.in-Outcomes.is c.hold_outcomes.ensures
+
+pub returns-in-Crashed : goal.returns-in-Crashed
+unfolding IsHeldEnd
+returns-in-Crashed c = rw c.in-Crashed.is tt

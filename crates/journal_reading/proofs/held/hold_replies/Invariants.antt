@@ -1,0 +1,8 @@
+use Rattle.std.proofs.Common.{take}
+use Rattle.line_reading.specs.Spelling.{Each}
+use Rattle.reading_laws.specs.Fields.{IsHeldReply}
+use Rattle.journal_reading.proofs.held.hold_replies.Given as goal
+
+-- the front
+abbrev pub invariant-loop-at : goal.invariant-loop-at
+invariant-loop-at l = Each IsHeldReply (take l.at l.replies)
