@@ -25,25 +25,11 @@ use Rattle.ack_texts.proofs.Settling.{IsSide, settles, settled_in}
 
 pub successful_is_side : IsSide is_acked_successful
 successful_is_side (Some (Acked Successful)) h = cc
-successful_is_side (Some (Acked (Failed why))) h = refl
-successful_is_side None h = refl
-successful_is_side (Some (Waiting t)) h = refl
-successful_is_side (Some (Inbox u)) h = refl
-successful_is_side (Some (Running t)) h = refl
-successful_is_side (Some (Gathered t)) h = refl
-successful_is_side (Some (InBatch b)) h = refl
-successful_is_side (Some (Lost l)) h = refl
+successful_is_side _ h = refl
 
 pub failed_is_side : IsSide is_acked_failed
-failed_is_side (Some (Acked Successful)) h = refl
 failed_is_side (Some (Acked (Failed why))) h = cc
-failed_is_side None h = refl
-failed_is_side (Some (Waiting t)) h = refl
-failed_is_side (Some (Inbox u)) h = refl
-failed_is_side (Some (Running t)) h = refl
-failed_is_side (Some (Gathered t)) h = refl
-failed_is_side (Some (InBatch b)) h = refl
-failed_is_side (Some (Lost l)) h = refl
+failed_is_side _ h = refl
 
 -- the numbers of the producer's verdicts that pass
 abbrev passing : (Verdict → Bool) → StageNo → List Verdict → List ℕ

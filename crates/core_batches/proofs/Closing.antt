@@ -15,7 +15,7 @@ use Rattle.pipe_types.specs.declared.message.Trigger.TheVariants.{Size, Flush, T
 use Rattle.pipe_types.specs.declared.topology.Topology.{Topology}
 use Rattle.pipe_types.specs.declared.topology.StageSpec.{StageSpec}
 use Rattle.pipe_types.specs.declared.topology.Role.{Role}
-use Rattle.pipe_types.specs.declared.topology.Role.TheVariants.{Producer, Processor, Supervisor, Batcher, BatchProcessor}
+use Rattle.pipe_types.specs.declared.topology.Role.TheVariants.{Batcher}
 use Rattle.pipe_types.specs.declared.step.Step.TheVariants.{Close}
 use Rattle.pipe_types.specs.Numbers.{same_stage}
 use Rattle.pipe_types.specs.Stages.{spec_of}
@@ -86,15 +86,12 @@ part_kept topology before s t first trigger n None e waits = refl
 part_kept topology before s t first trigger n (Some spec) e waits = by (is_by_partition spec.dispatch)
   where
     by_role : (r : Role) → spec.role ≡ r → part_by topology (Close s first trigger ∷ before) (record spec { role = r }) n ≡ part_by topology before (record spec { role = r }) n
-    by_role Producer f = refl
-    by_role Processor f = refl
-    by_role Supervisor f = refl
-    by_role BatchProcessor f = refl
     by_role Batcher f =
         let batcher : is_batcher (spec_of topology t) ≡ true = ap is_batcher e ∙ ap (λ r. is_batcher (Some (record spec { role = r }))) f in
         let old = waiting_closed topology before t n batcher waits in
         let other : (n == closed before + 1) ≡ false = ne_eqb n (closed before + 1) (λ k. omega (arith, k, old)) in
         ap (λ b. partition_of (key_in (content before (first_in (closed_numbers (if b then Some (record { numbers = closing before (view_of topology before) s first.0; trigger = trigger }) else closed_as topology before n))))) spec.parts) other
+    by_role _ f = refl
 
     by : (b : Bool) → (if b then part_by topology (Close s first trigger ∷ before) spec n else 0) ≡ (if b then part_by topology before spec n else 0)
     by true = by_role spec.role refl
@@ -108,15 +105,12 @@ part_new topology before s first trigger at key numbers spec t e =
     ap (λ o. part_of topology (Close s first trigger ∷ before) o (closed before + 1)) e ∙ by (is_by_partition spec.dispatch)
   where
     role : (r : Role) → spec.role ≡ r → is_batcher_role r ≡ true → part_by topology (Close s first trigger ∷ before) (record spec { role = r }) (closed before + 1) ≡ partition_of key spec.parts
-    role Producer f h = cc
-    role Processor f h = cc
-    role Supervisor f h = cc
-    role BatchProcessor f h = cc
     role Batcher f h =
         ap (λ b. partition_of (key_in (content before (first_in (closed_numbers (if b then Some (record { numbers = closing before (view_of topology before) s first.0; trigger = trigger }) else closed_as topology before (closed before + 1)))))) spec.parts) (eq-eqb (closed before + 1) (closed before + 1) refl)
         ∙ (ap (λ ns. partition_of (key_in (content before (first_in ns))) spec.parts) t.closes
         ∙ (ap (λ n. partition_of (key_in (content before n)) spec.parts) t.first
         ∙ ap (λ k. partition_of k spec.parts) t.key))
+    role _ f h = cc
 
     batching : has_role topology s is_batcher_role ≡ is_batcher_role spec.role
     batching = rw e refl
@@ -519,10 +513,7 @@ has_parts topology s spec sound e role =
 
     role_is : (r : Role) → is_batcher_role r ≡ true → r ≡ Batcher
     role_is Batcher h = refl
-    role_is Producer h = cc
-    role_is Processor h = cc
-    role_is Supervisor h = cc
-    role_is BatchProcessor h = cc
+    role_is _ h = cc
 
     by : (k : DispatchKind) → ((by_demand spec k || by_broadcast spec k) || (by_partition (length (batch_processors spec.index topology.stages)) spec k && spec.field == 0)) ≡ true → k ≡ Partition → 1 ≤ spec.parts
     by Demand h f = cc

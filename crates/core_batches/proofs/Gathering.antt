@@ -10,7 +10,7 @@ use Rattle.pipe_types.specs.declared.numbers.SubNo.{SubNo}
 use Rattle.pipe_types.specs.declared.numbers.MsgNo.{MsgNo}
 use Rattle.pipe_types.specs.declared.message.Message.{Message}
 use Rattle.pipe_types.specs.declared.message.Place.{Place}
-use Rattle.pipe_types.specs.declared.message.Place.TheVariants.{Waiting, Inbox, Running, Gathered, InBatch, Acked, Lost}
+use Rattle.pipe_types.specs.declared.message.Place.TheVariants.{Inbox, Gathered}
 use Rattle.pipe_types.specs.declared.topology.Topology.{Topology}
 use Rattle.pipe_types.specs.declared.topology.StageSpec.{StageSpec}
 use Rattle.pipe_types.specs.declared.step.Step.TheVariants.{Gather}
@@ -152,18 +152,12 @@ row_room core topology before s m u x t =
 -- Where it stands
 
 left_place : (s : StageNo) (m n : ℕ) (o : Option Place) → (m == n) ≡ false → option_map (gathered_place s m n) o ≡ o
-left_place s m n None e = refl
 left_place s m n (Some (Inbox u)) e = ap (λ b. Some (if same_stage s u.consumer && b then Gathered s else Inbox u)) e ∙ by (same_stage s u.consumer)
   where
     by : (a : Bool) → Some (if a && false then Gathered s else Inbox u) ≡ Some (Inbox u)
     by true = refl
     by false = refl
-left_place s m n (Some (Waiting t)) e = refl
-left_place s m n (Some (Running t)) e = refl
-left_place s m n (Some (Gathered t)) e = refl
-left_place s m n (Some (InBatch b)) e = refl
-left_place s m n (Some (Acked o)) e = refl
-left_place s m n (Some (Lost l)) e = refl
+left_place s m n _ e = refl
 
 placed_after : (topology : Topology) (before : History) (s : StageNo) (m : MsgNo) (u : SubNo) (i : ℕ) (old : Option Place) → place topology before m.0 ≡ Some (Inbox u) → u.consumer ≡ s
     → old ≡ place topology before (suc i) → (if m.0 == suc i then Some (Gathered s) else old) ≡ place topology (Gather s m ∷ before) (suc i)

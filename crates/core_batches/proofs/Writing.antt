@@ -8,7 +8,7 @@ use Rattle.pipe_types.specs.declared.numbers.SubNo.{SubNo}
 use Rattle.pipe_types.specs.declared.topology.Topology.{Topology}
 use Rattle.pipe_types.specs.declared.topology.StageSpec.{StageSpec}
 use Rattle.pipe_types.specs.declared.topology.Role.{Role}
-use Rattle.pipe_types.specs.declared.topology.Role.TheVariants.{Producer, Processor, Supervisor, Batcher, BatchProcessor}
+use Rattle.pipe_types.specs.declared.topology.Role.TheVariants.{Processor, Batcher, BatchProcessor}
 use Rattle.pipe_types.specs.declared.message.Outcome.{Outcome}
 use Rattle.pipe_types.specs.declared.message.BatchEnd.TheVariants.{Outcomes}
 use Rattle.pipe_types.specs.declared.step.Step.TheVariants.{Fetch, Take, Child, Wrote}
@@ -67,11 +67,8 @@ some_weight {A = A} P f (x ∷ xs) h e = by (f x) refl (λ more. some_weight P f
     by (suc n) e0 rest = (x, h.0, omega (arith, e0))
 
 writer_supervises : (role : Role) → is_batch_processor_role role ≡ true → is_supervisor_role role ≡ true → ⊥
-writer_supervises Producer h k = let x : false ≡ true = h in cc
-writer_supervises Processor h k = let x : false ≡ true = h in cc
-writer_supervises Supervisor h k = let x : false ≡ true = h in cc
-writer_supervises Batcher h k = let x : false ≡ true = h in cc
 writer_supervises BatchProcessor h k = let x : false ≡ true = k in cc
+writer_supervises _ h k = let x : false ≡ true = h in cc
 
 -- a batch processor whose job is out took something
 took_some : (topology : Topology) (before : History) (s : StageNo) → is_legal topology before ≡ true → has_role topology s is_batch_processor_role ≡ true → is_out before (post s 0) ≡ true → is_some (last_take before s) ≡ true

@@ -9,7 +9,7 @@ use Rattle.pipe_types.specs.declared.numbers.SubNo.{SubNo}
 use Rattle.pipe_types.specs.declared.topology.Topology.{Topology}
 use Rattle.pipe_types.specs.declared.topology.StageSpec.{StageSpec}
 use Rattle.pipe_types.specs.declared.message.Place.{Place}
-use Rattle.pipe_types.specs.declared.message.Place.TheVariants.{Waiting, Inbox, Running, Gathered, InBatch, Acked, Lost}
+use Rattle.pipe_types.specs.declared.message.Place.TheVariants.{Running}
 use Rattle.pipe_types.specs.declared.message.Reply.{Reply}
 use Rattle.pipe_types.specs.declared.message.Reply.TheVariants.{Pass, Failed as FailedReply, Raised, Crashed}
 use Rattle.pipe_types.specs.declared.step.Step.TheVariants.{ChildEnd}
@@ -157,9 +157,7 @@ slot_left topology before s t slot j reply n again old k was = by (same_stage t 
 
 place_alike : (b : Bool) (s : StageNo) (i : ℕ) (r : Reply) → child_place (crashed_reply r && b) s i r ≡ child_place b s i r
 place_alike b s i (Pass m) = refl
-place_alike b s i (FailedReply why) = refl
-place_alike b s i (Raised why) = refl
-place_alike b s i Crashed = refl
+place_alike b s i _ = refl
 
 pub here : (topology : Topology) (before : History) (s : StageNo) (slot : ℕ) (reply : Reply) (n : ℕ) (again : Bool) → Ends topology before s slot reply n again
     → place topology (ChildEnd s slot reply ∷ before) n ≡ Some (child_place again s (incarnation before s) reply)
@@ -171,18 +169,12 @@ here topology before s slot reply n again k =
 
 -- another message stays where it stands
 left_place : (again : Bool) (s : StageNo) (i n m : ℕ) (reply : Reply) (o : Option Place) → (n == m) ≡ false → option_map (child_ended again (Some n) s i reply m) o ≡ o
-left_place again s i n m reply None e = refl
 left_place again s i n m reply (Some (Running t)) e = ap (λ b. Some (if same_stage s t && b then child_place again s i reply else Running t)) e ∙ by (same_stage s t)
   where
     by : (a : Bool) → Some (if a && false then child_place again s i reply else Running t) ≡ Some (Running t)
     by true = refl
     by false = refl
-left_place again s i n m reply (Some (Waiting t)) e = refl
-left_place again s i n m reply (Some (Inbox u)) e = refl
-left_place again s i n m reply (Some (Gathered t)) e = refl
-left_place again s i n m reply (Some (InBatch b)) e = refl
-left_place again s i n m reply (Some (Acked o)) e = refl
-left_place again s i n m reply (Some (Lost l)) e = refl
+left_place again s i n m reply _ e = refl
 
 elsewhere : (topology : Topology) (before : History) (s : StageNo) (slot : ℕ) (reply : Reply) (n m : ℕ) → in_slot before s slot ≡ Some n → (n == m) ≡ false
     → place topology (ChildEnd s slot reply ∷ before) m ≡ place topology before m

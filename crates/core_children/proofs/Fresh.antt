@@ -12,7 +12,7 @@ use Rattle.pipe_types.specs.declared.numbers.SubNo.{SubNo}
 use Rattle.pipe_types.specs.declared.topology.Topology.{Topology}
 use Rattle.pipe_types.specs.declared.topology.StageSpec.{StageSpec}
 use Rattle.pipe_types.specs.declared.topology.Role.{Role}
-use Rattle.pipe_types.specs.declared.topology.Role.TheVariants.{Producer, Processor, Supervisor, Batcher, BatchProcessor}
+use Rattle.pipe_types.specs.declared.topology.Role.TheVariants.{Supervisor}
 use Rattle.pipe_types.specs.declared.message.Place.{Place}
 use Rattle.pipe_types.specs.declared.message.Place.TheVariants.{Inbox}
 use Rattle.pipe_types.specs.declared.message.Reply.{Reply}
@@ -59,10 +59,7 @@ supervisor_rank topology s role = by (spec_of topology s) refl
   where
     by_role : (r : Role) → is_supervisor_role r ≡ true → rank_of r ≡ 1
     by_role Supervisor h = refl
-    by_role Producer h = cc
-    by_role Processor h = cc
-    by_role Batcher h = cc
-    by_role BatchProcessor h = cc
+    by_role _ h = cc
 
     by : (o : Option StageSpec) → spec_of topology s ≡ o → rank topology s ≡ 1
     by None e = let none : has_role topology s is_supervisor_role ≡ false = rw e refl in clash (has_role topology s is_supervisor_role) role none

@@ -53,10 +53,7 @@ post_of topology before s slot i answer sound legal h =
 
 content_late : (before : History) (s : StageNo) (slot i : ℕ) (answer : LateAnswer) (n : ℕ) → n ≤ accepted before → content (Late s slot i answer ∷ before) n ≡ content before n
 content_late before s slot i (Records records) n low = content_old s records before n low
-content_late before s slot i QuietAnswer n low = refl
-content_late before s slot i (Source how) n low = refl
-content_late before s slot i (WroteAnswer bytes end) n low = refl
-content_late before s slot i Nothing n low = refl
+content_late before s slot i _ n low = refl
 
 pub late_leaves : (topology : Topology) (before : History) (s : StageNo) (slot i : ℕ) (answer : LateAnswer) → IsSound topology → is_legal topology (Late s slot i answer ∷ before) ≡ true
     → Leaves topology before (Late s slot i answer)

@@ -87,11 +87,8 @@ first_stands topology before t b legal waits =
 
 by_role : (topology : Topology) (before : History) (spec : StageSpec) (n : ℕ) (role : Role) → spec.role ≡ role
     → part_by topology before spec n ≡ partition_in before (view_of topology before) (Some spec) n
-by_role topology before spec n Producer e = rw e refl
 by_role topology before spec n Batcher e = rw e (ap (λ ns. partition_of (key_in (content before (first_in ns))) spec.parts) (closed_is topology before n))
-by_role topology before spec n Processor e = rw e refl
-by_role topology before spec n Supervisor e = rw e refl
-by_role topology before spec n BatchProcessor e = rw e refl
+by_role topology before spec n _ e = rw e refl
 
 -- where a stage dispatches by partition, the units that wait have the partitions by which it does
 pub part_is : (topology : Topology) (before : History) (o : Option StageSpec) (n : ℕ) → is_by_partition (kind_in o) ≡ true

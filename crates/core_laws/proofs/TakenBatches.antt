@@ -7,7 +7,7 @@ use Rattle.pipe_types.specs.declared.numbers.SubNo.{SubNo}
 use Rattle.pipe_types.specs.declared.topology.Topology.{Topology}
 use Rattle.pipe_types.specs.declared.topology.StageSpec.{StageSpec}
 use Rattle.pipe_types.specs.declared.topology.Role.{Role}
-use Rattle.pipe_types.specs.declared.topology.Role.TheVariants.{Producer, Processor, Supervisor, Batcher, BatchProcessor}
+use Rattle.pipe_types.specs.declared.topology.Role.TheVariants.{Processor, BatchProcessor}
 use Rattle.pipe_types.specs.declared.step.Step.{Step}
 use Rattle.pipe_types.specs.declared.step.Step.TheVariants.{Fetch, Take, Child, Close}
 use Rattle.pipe_types.specs.Numbers.{post, same_stage, same_sub}
@@ -39,28 +39,19 @@ level_three topology s h = by_spec (spec_of topology s) refl
   where
     by_role : (role : Role) → is_batch_processor_role role ≡ true → rank_of role ≡ 3
     by_role BatchProcessor e = refl
-    by_role Producer e = cc
-    by_role Processor e = cc
-    by_role Supervisor e = cc
-    by_role Batcher e = cc
+    by_role _ e = cc
 
     by_spec : (o : Option StageSpec) → spec_of topology s ≡ o → rank_in o ≡ 3
     by_spec None e = let none : has_role topology s is_batch_processor_role ≡ false = rw e refl in clash (has_role topology s is_batch_processor_role) h none
     by_spec (Some spec) e = let yes : has_role topology s is_batch_processor_role ≡ is_batch_processor_role spec.role = rw e refl in by_role spec.role (sym yes ∙ h)
 
 writes_or_fetches : (role : Role) → is_batch_processor_role role ≡ true → is_producer_role role ≡ true → ⊥
-writes_or_fetches Producer h k = let x : false ≡ true = h in cc
-writes_or_fetches Processor h k = let x : false ≡ true = h in cc
-writes_or_fetches Supervisor h k = let x : false ≡ true = h in cc
-writes_or_fetches Batcher h k = let x : false ≡ true = h in cc
 writes_or_fetches BatchProcessor h k = let x : false ≡ true = k in cc
+writes_or_fetches _ h k = let x : false ≡ true = h in cc
 
 writes_or_starts : (role : Role) → is_batch_processor_role role ≡ true → is_supervisor_role role ≡ true → ⊥
-writes_or_starts Producer h k = let x : false ≡ true = h in cc
-writes_or_starts Processor h k = let x : false ≡ true = h in cc
-writes_or_starts Supervisor h k = let x : false ≡ true = h in cc
-writes_or_starts Batcher h k = let x : false ≡ true = h in cc
 writes_or_starts BatchProcessor h k = let x : false ≡ true = k in cc
+writes_or_starts _ h k = let x : false ≡ true = h in cc
 
 -- What was taken was closed
 

@@ -10,7 +10,7 @@ use Rattle.pipe_types.specs.declared.numbers.SubNo.{SubNo}
 use Rattle.pipe_types.specs.declared.topology.Topology.{Topology}
 use Rattle.pipe_types.specs.declared.topology.StageSpec.{StageSpec}
 use Rattle.pipe_types.specs.declared.topology.Role.{Role}
-use Rattle.pipe_types.specs.declared.topology.Role.TheVariants.{Producer, Processor, Supervisor, Batcher, BatchProcessor}
+use Rattle.pipe_types.specs.declared.topology.Role.TheVariants.{Processor, BatchProcessor}
 use Rattle.pipe_types.specs.declared.message.Why.{Why}
 use Rattle.pipe_types.specs.declared.message.Loss.{Loss}
 use Rattle.pipe_types.specs.declared.step.Step.{Step}
@@ -168,11 +168,8 @@ writes topology p c batcher fed =
     by_spec (spec_of topology c) refl (omega (arith, up, down))
   where
     by_role : (r : Role) → rank_of r ≡ 3 → is_batch_processor_role r ≡ true
-    by_role Producer e = absurd (omega (arith, e))
-    by_role Processor e = absurd (omega (arith, e))
-    by_role Supervisor e = absurd (omega (arith, e))
-    by_role Batcher e = absurd (omega (arith, e))
     by_role BatchProcessor e = refl
+    by_role _ e = absurd (omega (arith, e))
 
     by_spec : (o : Option StageSpec) → spec_of topology c ≡ o → rank topology c ≡ 3 → has_role topology c is_batch_processor_role ≡ true
     by_spec None e h = let none : rank topology c ≡ rank_in None = ap rank_in e in absurd (omega (arith, h, none))
@@ -191,15 +188,11 @@ due_some rows posts inboxes why u b w e = rw e refl
 
 none_due : (p : LegPlace) → ◌≡◌ {A = Option Loss} None (due_in None p)
 none_due InInbox = refl
-none_due AtWork = refl
-none_due (Answered os) = refl
-none_due (LegLost l) = refl
+none_due _ = refl
 
 place_due : (i : ℕ) (s : StageNo) (w : Why) (p : LegPlace) → loss_if (waits_place p || is_at_work p) (loss_in i s (Some w)) ≡ due_in (loss_in i s (Some w)) p
 place_due i s w InInbox = refl
-place_due i s w AtWork = refl
-place_due i s w (Answered os) = refl
-place_due i s w (LegLost l) = refl
+place_due i s w _ = refl
 
 -- what is known of a kill
 pub record Killing (core : Core) (step : Step) (killed : List (Option Why)) : Type 0 where

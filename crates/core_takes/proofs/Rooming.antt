@@ -8,7 +8,7 @@ use Rattle.pipe_types.specs.declared.numbers.StageNo.{StageNo}
 use Rattle.pipe_types.specs.declared.numbers.SubNo.{SubNo}
 use Rattle.pipe_types.specs.declared.topology.Topology.{Topology}
 use Rattle.pipe_types.specs.declared.topology.Role.{Role}
-use Rattle.pipe_types.specs.declared.topology.Role.TheVariants.{Producer, Processor, Supervisor, Batcher, BatchProcessor}
+use Rattle.pipe_types.specs.declared.topology.Role.TheVariants.{Processor, BatchProcessor}
 use Rattle.pipe_types.specs.declared.message.Reply.{Reply}
 use Rattle.pipe_types.specs.declared.message.Outcome.{Outcome}
 use Rattle.pipe_types.specs.declared.step.Step.TheVariants.{Take, Done}
@@ -67,11 +67,8 @@ answer_queues core s chunks waiting x cleared rooms t h = by (s.0 == t.0) refl
 -- A take of messages
 
 processes_or_writes : (role : Role) → is_batch_processor_role role ≡ true → is_processor_role role ≡ true → ⊥
-processes_or_writes Producer h k = let x : false ≡ true = h in cc
-processes_or_writes Processor h k = let x : false ≡ true = h in cc
-processes_or_writes Supervisor h k = let x : false ≡ true = h in cc
-processes_or_writes Batcher h k = let x : false ≡ true = h in cc
 processes_or_writes BatchProcessor h k = let x : false ≡ true = k in cc
+processes_or_writes _ h k = let x : false ≡ true = h in cc
 
 take_elsewhere : (core : Core) (s t : StageNo) (u : SubNo) (k : ℕ) → has_role core.topology s is_processor_role ≡ true → has_role core.topology t is_batch_processor_role ≡ true → puts_out (Take s u k) (post t 0) ≡ false
 take_elsewhere core s t u k processes writes = by (puts_out (Take s u k) (post t 0)) refl

@@ -8,7 +8,7 @@ use Rattle.pipe_types.specs.declared.numbers.SubNo.{SubNo}
 use Rattle.pipe_types.specs.declared.topology.Topology.{Topology}
 use Rattle.pipe_types.specs.declared.topology.StageSpec.{StageSpec}
 use Rattle.pipe_types.specs.declared.topology.Role.{Role}
-use Rattle.pipe_types.specs.declared.topology.Role.TheVariants.{Producer, Processor, Supervisor, Batcher, BatchProcessor}
+use Rattle.pipe_types.specs.declared.topology.Role.TheVariants.{Supervisor}
 use Rattle.pipe_types.specs.declared.message.Place.{Place}
 use Rattle.pipe_types.specs.declared.message.Place.TheVariants.{Inbox, Running}
 use Rattle.pipe_types.specs.declared.message.Reply.{Reply}
@@ -41,10 +41,7 @@ second topology s h = by_spec (spec_of topology s) refl
   where
     by_role : (spec : StageSpec) (role : Role) → spec.role ≡ role → is_supervisor_role role ≡ true → spec_of topology s ≡ Some spec → rank topology s ≡ 1
     by_role spec Supervisor is k e = rw (e, is) refl
-    by_role spec Producer is k e = let x : false ≡ true = k in cc
-    by_role spec Processor is k e = let x : false ≡ true = k in cc
-    by_role spec Batcher is k e = let x : false ≡ true = k in cc
-    by_role spec BatchProcessor is k e = let x : false ≡ true = k in cc
+    by_role spec _ is k e = let x : false ≡ true = k in cc
 
     by_spec : (o : Option StageSpec) → spec_of topology s ≡ o → rank topology s ≡ 1
     by_spec None e = let x : has_role topology s is_supervisor_role ≡ false = rw e refl in clash (has_role topology s is_supervisor_role) h x

@@ -20,9 +20,7 @@ use Rattle.message_ack.specs.Ends.{Ends, IsSettledBy, with_end, end_of, ends_of,
 
 open_end : (p : LegPlace) → is_some (end_of p) ≡ not (is_leg_open p)
 open_end InInbox = refl
-open_end AtWork = refl
-open_end (Answered outcomes) = refl
-open_end (LegLost loss) = refl
+open_end _ = refl
 
 pub settled_ends : (legs : List Leg) → list_all is_some (ends_of legs) ≡ is_settled legs
 settled_ends [] = refl

@@ -7,12 +7,7 @@ use Rattle.pipe_config.proofs.Named.{both}
 
 text_depth : (d : Data) → is_text d ≡ true → depth d ≤ 0
 text_depth (string s) h = omega arith
-text_depth (integer z) h = cc
-text_depth (float x) h = cc
-text_depth (boolean b) h = cc
-text_depth (datetime dt) h = cc
-text_depth (array ds) h = cc
-text_depth (table ms) h = cc
+text_depth _ h = cc
 
 texts_depth : (ds : Items) → are_texts ds ≡ true → items_depth ds ≤ 0
 texts_depth no_items h = omega arith
@@ -21,24 +16,16 @@ texts_depth (item d ds) h = let (here, more) = and_parts (is_text d) (are_texts 
 leaf_depth : (d : Data) → is_leaf d ≡ true → depth d ≤ 1
 leaf_depth (string s) h = omega arith
 leaf_depth (integer z) h = omega arith
-leaf_depth (float x) h = cc
-leaf_depth (boolean b) h = cc
-leaf_depth (datetime dt) h = cc
 leaf_depth (array ds) h = omega (arith, texts_depth ds h)
-leaf_depth (table ms) h = cc
+leaf_depth _ h = cc
 
 leaves_depth : (ms : Members) → are_leaves ms ≡ true → members_depth ms ≤ 1
 leaves_depth no_members h = omega arith
 leaves_depth (member k d ms) h = let (here, more) = and_parts (is_leaf d) (are_leaves ms) h in omega (arith, leaf_depth d here, leaves_depth ms more)
 
 leaf_table_depth : (d : Data) → is_leaf_table d ≡ true → depth d ≤ 2
-leaf_table_depth (string s) h = cc
-leaf_table_depth (integer z) h = cc
-leaf_table_depth (float x) h = cc
-leaf_table_depth (boolean b) h = cc
-leaf_table_depth (datetime dt) h = cc
-leaf_table_depth (array ds) h = cc
 leaf_table_depth (table ms) h = omega (arith, leaves_depth ms h)
+leaf_table_depth _ h = cc
 
 leaf_tables_depth : (ds : Items) → are_leaf_tables ds ≡ true → items_depth ds ≤ 2
 leaf_tables_depth no_items h = omega arith
@@ -63,12 +50,7 @@ shallow ms h = omega (arith, flat_depth ms h)
 
 text_dates : (d : Data) → is_text d ≡ true → has_valid_dates d ≡ true
 text_dates (string s) h = refl
-text_dates (integer z) h = cc
-text_dates (float x) h = cc
-text_dates (boolean b) h = cc
-text_dates (datetime dt) h = cc
-text_dates (array ds) h = cc
-text_dates (table ms) h = cc
+text_dates _ h = cc
 
 texts_dates : (ds : Items) → are_texts ds ≡ true → items_have_valid_dates ds ≡ true
 texts_dates no_items h = refl
@@ -77,24 +59,16 @@ texts_dates (item d ds) h = let (here, more) = and_parts (is_text d) (are_texts 
 leaf_dates : (d : Data) → is_leaf d ≡ true → has_valid_dates d ≡ true
 leaf_dates (string s) h = refl
 leaf_dates (integer z) h = refl
-leaf_dates (float x) h = cc
-leaf_dates (boolean b) h = cc
-leaf_dates (datetime dt) h = cc
 leaf_dates (array ds) h = texts_dates ds h
-leaf_dates (table ms) h = cc
+leaf_dates _ h = cc
 
 leaves_dates : (ms : Members) → are_leaves ms ≡ true → members_have_valid_dates ms ≡ true
 leaves_dates no_members h = refl
 leaves_dates (member k d ms) h = let (here, more) = and_parts (is_leaf d) (are_leaves ms) h in both (leaf_dates d here) (leaves_dates ms more)
 
 leaf_table_dates : (d : Data) → is_leaf_table d ≡ true → has_valid_dates d ≡ true
-leaf_table_dates (string s) h = cc
-leaf_table_dates (integer z) h = cc
-leaf_table_dates (float x) h = cc
-leaf_table_dates (boolean b) h = cc
-leaf_table_dates (datetime dt) h = cc
-leaf_table_dates (array ds) h = cc
 leaf_table_dates (table ms) h = leaves_dates ms h
+leaf_table_dates _ h = cc
 
 leaf_tables_dates : (ds : Items) → are_leaf_tables ds ≡ true → items_have_valid_dates ds ≡ true
 leaf_tables_dates no_items h = refl

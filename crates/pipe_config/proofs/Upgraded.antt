@@ -20,7 +20,7 @@ use Rattle.toml.specs.View.{view, members_view}
 use Rattle.toml.specs.declared.value.Value.{Value}
 use Rattle.toml.proofs.Views.{Entry}
 use Rattle.config_table.specs.declared.fault.ConfigFault.{ConfigFault}
-use Rattle.config_table.specs.declared.fault.ConfigFault.TheVariants.{NotToml, Version, UnknownKey, Missing, WrongType, OutOfRange, DuplicateName, UnknownBatcher, NoStage, TooManyStages, BadDispatch, Unreachable, OutOfMemory}
+use Rattle.config_table.specs.declared.fault.ConfigFault.TheVariants.{Version, UnknownKey, OutOfMemory}
 use Rattle.config_table.specs.declared.format.FileVersion.{FileVersion}
 use Rattle.config_table.specs.declared.format.FileVersion.TheVariants.{One, Two}
 use Rattle.config_table.specs.declared.format.Key.TheVariants as key
@@ -174,10 +174,7 @@ each_lift path t all (r ∷ rest) right unknown h =
 
 right_rows : (s : Section) (t : Members) → list_all (is_right (rows s t)) (rows s t) ≡ true
 right_rows section.Pipeline t = refl
-right_rows section.Producer t = refl
-right_rows section.Processors t = refl
-right_rows section.Supervisor t = refl
-right_rows section.Batcher t = refl
+right_rows _ t = refl
 
 rows_lift : (s : Section) (path : List ℕ) (t : Members) → rows_faults One path (rows s t) t ≡ [] → rows_faults Two path (rows s t) t ≡ []
 rows_lift s path t h =
@@ -292,16 +289,5 @@ upgraded_text bytes text ms accepted good read =
     }
 
 pub refused_as : (expected : Result Topology ConfigFault) (fault : ConfigFault) → (fault ≢ OutOfMemory → expected ≡ Err fault) → IsRefused expected (refusal_of fault)
-refused_as expected NotToml h = (h (λ e. cc), λ e. cc)
-refused_as expected (Version path) h = (h (λ e. cc), λ e. cc)
-refused_as expected (UnknownKey path) h = (h (λ e. cc), λ e. cc)
-refused_as expected (Missing path) h = (h (λ e. cc), λ e. cc)
-refused_as expected (WrongType path) h = (h (λ e. cc), λ e. cc)
-refused_as expected (OutOfRange path) h = (h (λ e. cc), λ e. cc)
-refused_as expected (DuplicateName path) h = (h (λ e. cc), λ e. cc)
-refused_as expected (UnknownBatcher path) h = (h (λ e. cc), λ e. cc)
-refused_as expected NoStage h = (h (λ e. cc), λ e. cc)
-refused_as expected TooManyStages h = (h (λ e. cc), λ e. cc)
-refused_as expected (BadDispatch path) h = (h (λ e. cc), λ e. cc)
-refused_as expected (Unreachable path) h = (h (λ e. cc), λ e. cc)
 refused_as expected OutOfMemory h = tt
+refused_as expected _ h = (h (λ e. cc), λ e. cc)

@@ -11,7 +11,7 @@ use Rattle.pipe_types.specs.declared.topology.StageSpec.{StageSpec}
 use Rattle.pipe_types.specs.declared.message.Outcome.{Outcome}
 use Rattle.pipe_types.specs.declared.message.Outcome.TheVariants.{Successful, Failed}
 use Rattle.pipe_types.specs.declared.message.Place.{Place}
-use Rattle.pipe_types.specs.declared.message.Place.TheVariants.{Waiting, Inbox, Running, Gathered, InBatch, Acked, Lost}
+use Rattle.pipe_types.specs.declared.message.Place.TheVariants.{Acked}
 use Rattle.pipe_types.specs.declared.step.Step.{Step}
 use Rattle.pipe_types.specs.declared.step.Step.TheVariants.{Accept, Late}
 use Rattle.pipe_types.specs.declared.step.LateAnswer.TheVariants.{Records}
@@ -326,13 +326,7 @@ module _ (topology : Topology) (before : History) (step : Step) (n : ℕ) where
 
 acked_place : (p : Option Place) → is_acked p ≡ true → (o : Outcome) × (p ≡ Some (Acked o))
 acked_place (Some (Acked o)) h = (o, refl)
-acked_place None h = cc
-acked_place (Some (Waiting t)) h = cc
-acked_place (Some (Inbox u)) h = cc
-acked_place (Some (Running t)) h = cc
-acked_place (Some (Gathered t)) h = cc
-acked_place (Some (InBatch b)) h = cc
-acked_place (Some (Lost l)) h = cc
+acked_place _ h = cc
 
 -- an acknowledged message is so with the same outcome after a step
 acked_same : (topology : Topology) (before : History) (step : Step) (n : ℕ) → is_acked (place topology before n) ≡ true → place topology (step ∷ before) n ≡ place topology before n
@@ -342,14 +336,7 @@ acked_same topology before step n h =
 
 two_sides : (p : Option Place) → as_number (is_acked_successful p) + as_number (is_acked_failed p) ≡ as_number (is_acked p)
 two_sides (Some (Acked Successful)) = refl
-two_sides (Some (Acked (Failed why))) = refl
-two_sides None = refl
-two_sides (Some (Waiting t)) = refl
-two_sides (Some (Inbox u)) = refl
-two_sides (Some (Running t)) = refl
-two_sides (Some (Gathered t)) = refl
-two_sides (Some (InBatch b)) = refl
-two_sides (Some (Lost l)) = refl
+two_sides _ = refl
 
 in_all : (topology : Topology) (before : History) (n : ℕ) → AscendFrom 0 topology.stages → is_legal topology before ≡ true → weigh (λ a. occurs n (both_sides a)) (acknowledgements topology before) ≡ as_number (is_acked (place topology before n))
 in_all topology [] n ascend h = refl
@@ -390,25 +377,11 @@ on_side topology side test p n none acks adds (step ∷ before) h =
 
 successful_acks : (o : Option Place) → is_acked o ≡ false → is_acked_successful o ≡ false
 successful_acks (Some (Acked Successful)) h = cc
-successful_acks (Some (Acked (Failed why))) h = refl
-successful_acks None h = refl
-successful_acks (Some (Waiting t)) h = refl
-successful_acks (Some (Inbox u)) h = refl
-successful_acks (Some (Running t)) h = refl
-successful_acks (Some (Gathered t)) h = refl
-successful_acks (Some (InBatch b)) h = refl
-successful_acks (Some (Lost l)) h = refl
+successful_acks _ h = refl
 
 failed_acks : (o : Option Place) → is_acked o ≡ false → is_acked_failed o ≡ false
-failed_acks (Some (Acked Successful)) h = refl
 failed_acks (Some (Acked (Failed why))) h = cc
-failed_acks None h = refl
-failed_acks (Some (Waiting t)) h = refl
-failed_acks (Some (Inbox u)) h = refl
-failed_acks (Some (Running t)) h = refl
-failed_acks (Some (Gathered t)) h = refl
-failed_acks (Some (InBatch b)) h = refl
-failed_acks (Some (Lost l)) h = refl
+failed_acks _ h = refl
 
 times_all : (entries : List Acknowledgement) (n : ℕ) → times_in_all entries n ≡ weigh (λ a. occurs n (both_sides a)) entries
 times_all entries n = count_occurs n (flat_map both_sides entries) ∙ occurs_flat n both_sides entries

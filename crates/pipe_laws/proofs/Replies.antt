@@ -54,9 +54,7 @@ same_length (r ∷ replies) (q ∷ others) h k =
 
 pub crash_stays : (failed : Option (List ℕ)) (r : Reply) → is_crashed (with_reason failed r) ≡ is_crashed r
 crash_stays failed (Pass m) = refl
-crash_stays failed (Failed why) = refl
-crash_stays failed (Raised why) = refl
-crash_stays failed Crashed = refl
+crash_stays failed _ = refl
 
 chunk_length : (spec : StageSpec) (count : ℕ) (messages : List Message) → has_crash (chunk_replies spec count messages) ≡ false → length (chunk_replies spec count messages) ≡ length messages
 chunk_length spec count [] h = refl

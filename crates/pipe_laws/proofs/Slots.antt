@@ -8,7 +8,7 @@ use Rattle.pipe_types.specs.declared.topology.Topology.{Topology}
 use Rattle.pipe_types.specs.declared.topology.Role.{Role}
 use Rattle.pipe_types.specs.declared.topology.Role.TheVariants.{Producer, Processor, Supervisor, Batcher, BatchProcessor}
 use Rattle.pipe_types.specs.declared.message.Place.{Place}
-use Rattle.pipe_types.specs.declared.message.Place.TheVariants.{Waiting, Inbox, Running, Gathered, InBatch, Acked, Lost}
+use Rattle.pipe_types.specs.declared.message.Place.TheVariants.{Inbox, Running, Acked}
 use Rattle.pipe_types.specs.declared.message.Reply.{Reply}
 use Rattle.pipe_types.specs.declared.step.Step.{Step}
 use Rattle.pipe_types.specs.declared.step.Step.TheVariants.{Fetch, Take, Done, Wrote, Child, ChildEnd}
@@ -40,10 +40,7 @@ supervisor_writes BatchProcessor h k = let x : false ≡ true = h in cc
 
 pub supervisor_produces : (role : Role) → is_supervisor_role role ≡ true → is_producer_role role ≡ true → ⊥
 supervisor_produces Producer h k = let x : false ≡ true = h in cc
-supervisor_produces Processor h k = let x : false ≡ true = k in cc
-supervisor_produces Supervisor h k = let x : false ≡ true = k in cc
-supervisor_produces Batcher h k = let x : false ≡ true = k in cc
-supervisor_produces BatchProcessor h k = let x : false ≡ true = k in cc
+supervisor_produces _ h k = let x : false ≡ true = k in cc
 
 pub supervisor_takes : (role : Role) → is_supervisor_role role ≡ true → takes_role role ≡ true → ⊥
 supervisor_takes Producer h k = let x : false ≡ true = k in cc
@@ -139,12 +136,7 @@ ran_or_stood topology before step s p q (ends x y final) e = not_final y final e
   where
     not_final : (y : Place) → is_final (Some y) ≡ true → Some y ≡ Some (Running s) → (Some x ≡ Some (Running s)) ⊎ (level topology (Some x) ≡ 4 * rank topology s)
     not_final (Acked o) f e = cc
-    not_final (Lost l) f e = cc
-    not_final (Waiting t) f e = cc
-    not_final (Inbox u) f e = cc
-    not_final (Running t) f e = cc
-    not_final (Gathered t) f e = cc
-    not_final (InBatch b) f e = cc
+    not_final _ f e = cc
 
 -- a slot's message that runs after a step ran before it
 pub ran_before : (topology : Topology) (before : History) (step : Step) (s : StageNo) (slot n : ℕ) → is_legal topology before ≡ true → in_slot before s slot ≡ Some n → place topology (step ∷ before) n ≡ Some (Running s) → place topology before n ≡ Some (Running s)

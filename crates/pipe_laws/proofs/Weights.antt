@@ -8,7 +8,7 @@ use Rattle.pipe_types.specs.declared.topology.Topology.{Topology}
 use Rattle.pipe_types.specs.declared.message.Outcome.{Outcome}
 use Rattle.pipe_types.specs.declared.message.Why.{Why}
 use Rattle.pipe_types.specs.declared.message.Place.{Place}
-use Rattle.pipe_types.specs.declared.message.Place.TheVariants.{Waiting, Inbox, Running, Gathered, InBatch, Acked, Lost}
+use Rattle.pipe_types.specs.declared.message.Place.TheVariants.{Inbox, Acked, Lost}
 use Rattle.pipe_types.specs.declared.message.BatchEnd.TheVariants.{Outcomes}
 use Rattle.pipe_types.specs.declared.step.Step.{Step}
 use Rattle.pipe_types.specs.declared.step.Step.TheVariants.{Dispatch, Take, Close, Wrote, Kill, Halt}
@@ -49,11 +49,7 @@ final_weighs_none : (c : StageNo) (u : SubNo) (p : Place) → is_final (Some p) 
 unfolding message_in_hand
 final_weighs_none c u (Acked o) h = refl
 final_weighs_none c u (Lost l) h = refl
-final_weighs_none c u (Waiting s) h = cc
-final_weighs_none c u (Inbox v) h = cc
-final_weighs_none c u (Running s) h = cc
-final_weighs_none c u (Gathered s) h = cc
-final_weighs_none c u (InBatch b) h = cc
+final_weighs_none c u _ h = cc
 
 message_move : (topology : Topology) (before : History) (step : Step) (u : SubNo) (p q : Option Place) → Move topology before step p q → MessageFits topology u.consumer u p → message_in_hand u.consumer u q ≤ message_in_hand u.consumer u p
 unfolding message_in_hand
@@ -233,9 +229,7 @@ kept_legs set incarnation u legs e =
   where
     same : (p : LegPlace) → is_at_work (leg_lost None (incarnation u.consumer) u p) ≡ is_at_work p
     same InInbox = refl
-    same AtWork = refl
-    same (Answered o) = refl
-    same (LegLost l) = refl
+    same _ = refl
 
 taken_weighs : (s : StageNo) (u : SubNo) (legs : List Leg) → legs_in_hand u (on_legs (leg_taken s) legs) ≤ legs_in_hand u legs
 unfolding legs_in_hand
@@ -275,30 +269,22 @@ lost_weighs set incarnation u legs = either (reason_in set u.consumer) refl
       where
         same_w : (p : LegPlace) → is_in_inbox (leg_lost None (incarnation u.consumer) u p) ≡ is_in_inbox p
         same_w InInbox = refl
-        same_w AtWork = refl
-        same_w (Answered o) = refl
-        same_w (LegLost l) = refl
+        same_w _ = refl
 
         same_k : (p : LegPlace) → is_at_work (leg_lost None (incarnation u.consumer) u p) ≡ is_at_work p
         same_k InInbox = refl
-        same_k AtWork = refl
-        same_k (Answered o) = refl
-        same_k (LegLost l) = refl
+        same_k _ = refl
     either (Some why) e =
         let t = hand_change (λ v. leg_lost (reason_in set v.consumer) (incarnation v.consumer) v) u (λ p. false) (λ p. false) (λ p. rw e (none_w p)) (λ p. rw e (none_k p)) legs in
         rw (t.0 ∙ any_none u legs, t.1 ∙ any_none u legs) (omega arith)
       where
         none_w : (p : LegPlace) → is_in_inbox (leg_lost (Some why) (incarnation u.consumer) u p) ≡ false
         none_w InInbox = refl
-        none_w AtWork = refl
-        none_w (Answered o) = refl
-        none_w (LegLost l) = refl
+        none_w _ = refl
 
         none_k : (p : LegPlace) → is_at_work (leg_lost (Some why) (incarnation u.consumer) u p) ≡ false
         none_k InInbox = refl
-        none_k AtWork = refl
-        none_k (Answered o) = refl
-        none_k (LegLost l) = refl
+        none_k _ = refl
 
 -- a change of a sent batch by its legs
 hand_mapped : (u : SubNo) (change : BatchPlace → BatchPlace) (legs_change : SubNo → LegPlace → LegPlace) → ((legs : List Leg) → change (Sent legs) ≡ Sent (on_legs legs_change legs)) → ((legs : List Leg) → legs_in_hand u (on_legs legs_change legs) ≤ legs_in_hand u legs) → (o : Option Batch) → is_sent_batch o ≡ true → batch_in_hand u (option_map (λ x. change_place x (change x.place)) o) ≤ batch_in_hand u o

@@ -8,7 +8,7 @@ use Rattle.pipe_types.specs.declared.numbers.StageNo.{StageNo}
 use Rattle.pipe_types.specs.declared.numbers.MsgNo.{MsgNo}
 use Rattle.pipe_types.specs.declared.topology.Topology.{Topology}
 use Rattle.pipe_types.specs.declared.message.Place.{Place}
-use Rattle.pipe_types.specs.declared.message.Place.TheVariants.{Waiting, Inbox, Running, Gathered, InBatch, Acked, Lost}
+use Rattle.pipe_types.specs.declared.message.Place.TheVariants.{Waiting, Inbox, Running, Gathered, InBatch}
 use Rattle.pipe_types.specs.declared.message.Trigger.{Trigger}
 use Rattle.pipe_types.specs.declared.step.Step.{Step}
 use Rattle.pipe_types.specs.declared.step.Step.TheVariants.{Close, Dispatch, Take, Wrote, Kill, Halt}
@@ -93,14 +93,11 @@ level_kept topology before step n old =
     omega arith
   where
     level_most : (topology : Topology) (p : Option Place) → level topology p ≤ 100
-    level_most topology None = omega arith
     level_most topology (Some (Inbox u)) = omega (arith, rank_most topology u.consumer)
     level_most topology (Some (Running s)) = omega (arith, rank_most topology s)
     level_most topology (Some (Gathered s)) = omega (arith, rank_most topology s)
     level_most topology (Some (Waiting s)) = omega (arith, rank_most topology s)
-    level_most topology (Some (InBatch b)) = omega arith
-    level_most topology (Some (Acked outcome)) = omega arith
-    level_most topology (Some (Lost loss)) = omega arith
+    level_most topology _ = omega arith
 
 -- the first of the open batch is gathered in the batcher, and joins the batch
 first_member : (ns : List ℕ) (n : ℕ) → 1 ≤ n → n ≡ first_in ns → among ns n ≡ true

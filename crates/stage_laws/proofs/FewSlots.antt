@@ -7,7 +7,7 @@ use Rattle.pipe_types.specs.declared.numbers.StageNo.{StageNo}
 use Rattle.pipe_types.specs.declared.topology.Topology.{Topology}
 use Rattle.pipe_types.specs.declared.topology.StageSpec.{StageSpec}
 use Rattle.pipe_types.specs.declared.topology.Role.{Role}
-use Rattle.pipe_types.specs.declared.topology.Role.TheVariants.{Producer, Processor, Supervisor, Batcher, BatchProcessor}
+use Rattle.pipe_types.specs.declared.topology.Role.TheVariants.{Supervisor}
 use Rattle.pipe_types.specs.declared.message.Place.TheVariants.{Running}
 use Rattle.pipe_types.specs.Stages.{spec_of}
 use Rattle.pipe_types.specs.Sound.{IsSound, has_fields_of, asks_up_to, is_supervisor_in, is_lines, are_rules, is_reason}
@@ -71,10 +71,7 @@ slot_there topology before s n sound h role e = either (list_any (λ slot. is_nu
 
     by_role : (spec : StageSpec) (r : Role) → spec.role ≡ r → is_supervisor_role r ≡ true → spec.role ≡ Supervisor
     by_role spec Supervisor is h = is
-    by_role spec Producer is h = let x : false ≡ true = h in cc
-    by_role spec Processor is h = let x : false ≡ true = h in cc
-    by_role spec Batcher is h = let x : false ≡ true = h in cc
-    by_role spec BatchProcessor is h = let x : false ≡ true = h in cc
+    by_role spec _ is h = let x : false ≡ true = h in cc
 
     few : (o : Option StageSpec) → spec_of topology s ≡ o → max_of (spec_of topology s) ≤ 16
     few None is = let none : has_role topology s is_supervisor_role ≡ false = rw is refl in clash (has_role topology s is_supervisor_role) role none

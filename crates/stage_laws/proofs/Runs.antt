@@ -8,7 +8,7 @@ use Rattle.pipe_types.specs.declared.topology.Topology.{Topology}
 use Rattle.pipe_types.specs.declared.message.Why.{Why}
 use Rattle.pipe_types.specs.declared.message.Place.{Place}
 use Rattle.pipe_types.specs.declared.message.Outcome.TheVariants.{Successful}
-use Rattle.pipe_types.specs.declared.message.Place.TheVariants.{Waiting, Inbox, Running, Gathered, InBatch, Acked, Lost}
+use Rattle.pipe_types.specs.declared.message.Place.TheVariants.{Waiting, Inbox, Running, InBatch, Acked}
 use Rattle.pipe_types.specs.declared.message.Reply.{Reply}
 use Rattle.pipe_types.specs.declared.message.Reply.TheVariants.{Pass, Failed as FailedReply, Raised, Crashed}
 use Rattle.pipe_types.specs.declared.room.Sent.{Sent as SentUnit}
@@ -174,12 +174,7 @@ runs_tests s =
   where
     holds : (p : Place) (t : StageNo) → holder p ≡ Some t → runs_in s (Some p) ≡ true → t ≡ s
     holds (Running w) t e h = let is : w ≡ t = cc in sym is ∙ sym (same_stage-true s w h)
-    holds (Waiting w) t e h = cc
-    holds (Inbox u) t e h = cc
-    holds (Gathered w) t e h = cc
-    holds (InBatch b) t e h = cc
-    holds (Acked o) t e h = cc
-    holds (Lost l) t e h = cc
+    holds _ t e h = cc
 
 killed_running : (topology : Topology) (before : History) (step : Step) (set : KillSet) (s : StageNo) → sent_to topology (step ∷ before) s ≡ sent_to topology before s
     → ((n : ℕ) → runs_in s (place topology (step ∷ before) n) ≡ (runs_in s (place topology before n) && not (is_some (reason_in set s)))) → running topology (step ∷ before) s ≡ unless_killed set s (running topology before s)

@@ -8,7 +8,7 @@ use Rattle.pipe_types.specs.declared.numbers.StageNo.{StageNo}
 use Rattle.pipe_types.specs.declared.numbers.MsgNo.{MsgNo}
 use Rattle.pipe_types.specs.declared.topology.Topology.{Topology}
 use Rattle.pipe_types.specs.declared.topology.Role.{Role}
-use Rattle.pipe_types.specs.declared.topology.Role.TheVariants.{Producer, Processor, Supervisor, Batcher, BatchProcessor}
+use Rattle.pipe_types.specs.declared.topology.Role.TheVariants.{Supervisor}
 use Rattle.pipe_types.specs.declared.message.Loss.TheVariants.{Killed}
 use Rattle.pipe_types.specs.declared.message.Why.TheVariants.{Crash}
 use Rattle.pipe_types.specs.declared.message.Place.{Place}
@@ -55,10 +55,7 @@ pub record Split (topology : Topology) (before : History) (s : StageNo) : Type 0
 
 supervisor_gathers : (role : Role) → is_supervisor_role role ≡ true → is_batcher_role role ≡ true → ⊥
 supervisor_gathers Supervisor h k = let x : false ≡ true = k in cc
-supervisor_gathers Producer h k = let x : false ≡ true = h in cc
-supervisor_gathers Processor h k = let x : false ≡ true = h in cc
-supervisor_gathers Batcher h k = let x : false ≡ true = h in cc
-supervisor_gathers BatchProcessor h k = let x : false ≡ true = h in cc
+supervisor_gathers _ h k = let x : false ≡ true = h in cc
 
 -- a message stands in the supervisor's inbox by its place
 inbox_places : (topology : Topology) (before : History) (s : StageNo) → has_role topology s is_supervisor_role ≡ true → Each (λ d. place topology before d.1 ≡ Some (Inbox d.0)) (inbox topology before s)

@@ -76,10 +76,7 @@ batcher_keeps topology before t sound h = by_spec (spec_of topology t) refl h
     by_role spec Batcher b is f =
         let rest = and_right ((spec.batcher == spec.index && ((by_demand spec spec.dispatch || by_broadcast spec spec.dispatch) || (by_partition (length (batch_processors spec.index topology.stages)) spec spec.dispatch && spec.field == 0))) && (asks_up_to 10000 spec && (is_between 1 10000 spec.batch_size && is_between 1 3600000 spec.batch_timeout))) _ f in
         and_left (is_none spec.size) _ (and_left (no_buffer spec) _ (and_left (no_buffer spec && no_handler spec) _ rest))
-    by_role spec Producer b is f = let x : is_batcher (Some spec) ≡ false = rw is refl in clash (is_batcher (Some spec)) b x
-    by_role spec Processor b is f = let x : is_batcher (Some spec) ≡ false = rw is refl in clash (is_batcher (Some spec)) b x
-    by_role spec Supervisor b is f = let x : is_batcher (Some spec) ≡ false = rw is refl in clash (is_batcher (Some spec)) b x
-    by_role spec BatchProcessor b is f = let x : is_batcher (Some spec) ≡ false = rw is refl in clash (is_batcher (Some spec)) b x
+    by_role spec _ b is f = let x : is_batcher (Some spec) ≡ false = rw is refl in clash (is_batcher (Some spec)) b x
 
     by_spec : (o : Option StageSpec) → spec_of topology t ≡ o → is_batcher o ≡ true → is_empty (lost_over topology before (view_of topology before) t) ≡ true
     by_spec None e b = cc
