@@ -65,6 +65,7 @@ use Rattle.core_batches.proofs.Limits.{flip}
 use Rattle.core_batches.proofs.Opens.{each_same, without}
 use Rattle.core_batches.proofs.Writing.{IsWriting, Written, writing, ends_put, end_none, in_progress_as, open_at, took_before, write_within}
 use Rattle.core_state.proofs.Settling.{ended_is, pairs_apart}
+use Rattle.core_state.proofs.Parts.{Part, ChunksAre, EndsLen, InboxesAre, LegsAre, OpensAre, PlacesAre, PlacesLen, PostsAre, PostsLen, SettledAre, SettledLen, SubsAre, TotalsAre, WaitingAre, Says, unchanged, fields_of}
 
 -- Open batches
 
@@ -229,59 +230,37 @@ pub written_fields : (core : Core) (topology : Topology) (before : History) (s :
     → ((k : ℕ) → slice_get marks.items k ≡ option_map (marked_by settled ms (length before) (suc k)) (slice_get core.settled.items k)) → length marks.items ≡ length core.settled.items
     → IsChanged core.subs subs u (handled_on u.generation 1) → length e.items ≡ length core.ends.items
     → Fields (record core { journal = j; posts = posts; places = places; settled = marks; subs = subs; legs = table; ends = e; totals = record core.totals { quiet = 0 } }) topology (Wrote s bytes (Outcomes os) ∷ before)
-written_fields core topology before s bytes os u b i ms legs settled j posts places marks subs table e sound x g last each kept homed len-posts placed len-places marking len-marks counts len-ends =
-    record {
-      sized =
-          record {
-            few = x.sized.few;
-            stages = x.sized.stages;
-            posts = len-posts ∙ x.sized.posts;
-            came = x.sized.came;
-            waiting = x.sized.waiting;
-            inboxes = x.sized.inboxes;
-            chunks = x.sized.chunks;
-            batchers = x.sized.batchers;
-            children = x.sized.children;
-            places = len-places ∙ x.sized.places;
-            settled = len-marks ∙ x.sized.settled;
-            producers = x.sized.producers;
-            contents = x.sized.contents;
-            batches = x.sized.batches;
-            ends = len-ends ∙ x.sized.ends;
-          };
-      set = record { batchers = x.set.batchers; children = x.set.children; restarts = x.set.restarts };
-      stages = x.stages;
-      posts = λ t slot within low. homed (post_at t.0 slot) ∙ post_home core.posts.items s t slot (post_row before t slot) low (x.posts t slot within low);
-      came = x.came;
-      subs = λ c p fed. handled_row topology before s bytes os u core.subs subs c p g.last (x.subs c p fed) counts;
-      waiting = λ t. x.waiting t ∙ ap (map {B = ℕ × ℕ} (λ n. (part_of topology before (spec_of topology t) n, n))) (sym (waiting_law topology before (Wrote s bytes (Outcomes os)) t sound g.legal));
-      inboxes = λ t. x.inboxes t ∙ sym (inbox_law topology before (Wrote s bytes (Outcomes os)) t sound g.legal);
-      chunks = λ t. x.chunks t ∙ sym (running_law topology before (Wrote s bytes (Outcomes os)) t sound g.legal);
-      opens = λ t.
-          x.opens t
-          ∙ (ap (open_batches before) (sym (gathered_law topology before (Wrote s bytes (Outcomes os)) t g.legal))
-          ∙ sym (opens_still before s bytes os (gathered_in topology (Wrote s bytes (Outcomes os) ∷ before) t)));
-      children = x.children;
-      places = λ k.
-          placed k
-          ∙ (ap (option_map (ended_by settled ms (suc k))) (x.places k)
-          ∙ (alike (suc k) (place topology before (suc k)) ∙ sym (wrote_places topology before s bytes os b ms legs g.legal g.took g.batch_is (open_at legs i u g.leg) (suc k))));
-      settled = λ k below.
-          marking k
-          ∙ (ap (option_map (marked_by settled ms (length before) (suc k))) (x.settled k below)
-          ∙ ap Some (marked_written topology before s bytes os u b i ms legs settled (suc k) (mark topology before (suc k)) g last refl));
-      producers = x.producers;
-      contents = x.contents;
-      batches = x.batches;
-      sent_on = x.sent_on;
-      legs = λ k. legs_written topology before s bytes os u b i ms legs core.legs table settled (suc k) g last (kept (suc k)) (x.legs k);
-      restarts = x.restarts;
-      totals = ap (λ (y : Totals). record y { quiet = 0 }) x.totals;
-    }
+written_fields core topology before s bytes os u b i ms legs settled j posts places marks subs table e sound x g last each kept homed len-posts placed len-places marking len-marks counts len-ends = fields_of says
   where
     alike : (n : ℕ) (o : Option Place) → option_map (ended_by settled ms n) o ≡ option_map (settled_by ms (on_legs (leg_answered s os) legs) n) o
     alike n None = refl
     alike n (Some p) = ap Some (ended_is ms (on_legs (leg_answered s os) legs) settled n p last each)
+
+    says : (it : Part) → Says it (record core { journal = j; posts = posts; places = places; settled = marks; subs = subs; legs = table; ends = e; totals = record core.totals { quiet = 0 } }) topology (Wrote s bytes (Outcomes os) ∷ before)
+    says PostsLen = len-posts ∙ x.sized.posts
+    says PlacesLen = len-places ∙ x.sized.places
+    says SettledLen = len-marks ∙ x.sized.settled
+    says EndsLen = len-ends ∙ x.sized.ends
+    says PostsAre = λ t slot within low. homed (post_at t.0 slot) ∙ post_home core.posts.items s t slot (post_row before t slot) low (x.posts t slot within low)
+    says SubsAre = λ c p fed. handled_row topology before s bytes os u core.subs subs c p g.last (x.subs c p fed) counts
+    says WaitingAre = λ t. x.waiting t ∙ ap (map {B = ℕ × ℕ} (λ n. (part_of topology before (spec_of topology t) n, n))) (sym (waiting_law topology before (Wrote s bytes (Outcomes os)) t sound g.legal))
+    says InboxesAre = λ t. x.inboxes t ∙ sym (inbox_law topology before (Wrote s bytes (Outcomes os)) t sound g.legal)
+    says ChunksAre = λ t. x.chunks t ∙ sym (running_law topology before (Wrote s bytes (Outcomes os)) t sound g.legal)
+    says OpensAre = λ t.
+        x.opens t
+        ∙ (ap (open_batches before) (sym (gathered_law topology before (Wrote s bytes (Outcomes os)) t g.legal))
+        ∙ sym (opens_still before s bytes os (gathered_in topology (Wrote s bytes (Outcomes os) ∷ before) t)))
+    says PlacesAre = λ k.
+        placed k
+        ∙ (ap (option_map (ended_by settled ms (suc k))) (x.places k)
+        ∙ (alike (suc k) (place topology before (suc k)) ∙ sym (wrote_places topology before s bytes os b ms legs g.legal g.took g.batch_is (open_at legs i u g.leg) (suc k))))
+    says SettledAre = λ k below.
+        marking k
+        ∙ (ap (option_map (marked_by settled ms (length before) (suc k))) (x.settled k below)
+        ∙ ap Some (marked_written topology before s bytes os u b i ms legs settled (suc k) (mark topology before (suc k)) g last refl))
+    says LegsAre = λ k. legs_written topology before s bytes os u b i ms legs core.legs table settled (suc k) g last (kept (suc k)) (x.legs k)
+    says TotalsAre = ap (λ (y : Totals). record y { quiet = 0 }) x.totals
+    says it = unchanged x it
 
 -- What the call reads
 

@@ -56,6 +56,7 @@ use Rattle.core_state.proofs.Homes.{post_home}
 use Rattle.core_takes.specs.Replies.{handled_on}
 use Rattle.core_children.specs.Slots.{left_in}
 use Rattle.core_children.proofs.Next.{out_slot}
+use Rattle.core_state.proofs.Parts.{Part, ChildrenAre, ChildrenLen, ChildrenSet, ChunksAre, ChunksLen, InboxesAre, OpensAre, PlacesAre, PlacesLen, PostsAre, PostsLen, SettledAre, SettledLen, SubsAre, TotalsAre, WaitingAre, Says, unchanged, fields_of}
 
 -- ---- what is known
 
@@ -315,56 +316,35 @@ pub ended_fields : (core : Core) (s : StageNo) (slot : ℕ) (reply : Reply) (n :
     → IsSound core.topology → Fields core core.topology core.journal.steps → Ends core.topology core.journal.steps s slot reply n again
     → Ended core s slot reply n again posts subs chunks children places settled
     → Fields (record core { journal = j; posts = posts; subs = subs; chunks = chunks; children = children; places = places; settled = settled; totals = record core.totals { quiet = 0 } }) core.topology (ChildEnd s slot reply ∷ core.journal.steps)
-ended_fields core s slot reply n again j posts subs chunks children places settled sound x k new =
-    let topology = core.topology in
-    let before = core.journal.steps in
-    record {
-      sized =
-          record {
-            few = x.sized.few;
-            stages = x.sized.stages;
-            posts = new.posts-len ∙ x.sized.posts;
-            came = x.sized.came;
-            waiting = x.sized.waiting;
-            inboxes = x.sized.inboxes;
-            chunks = new.left-len ∙ x.sized.chunks;
-            batchers = x.sized.batchers;
-            children = new.slots-len ∙ x.sized.children;
-            places = new.placed-len ∙ x.sized.places;
-            settled = new.marks-len ∙ x.sized.settled;
-            producers = x.sized.producers;
-            contents = x.sized.contents;
-            batches = x.sized.batches;
-            ends = x.sized.ends;
-          };
-      set =
-          record {
-            batchers = x.set.batchers;
-            children = λ t spec held e role at.
-                let was = new.kept t held at in
-                let is = x.set.children t spec was.0 e role was.1 in
-                (was.2 ∙ is.0, was.3 ∙ is.1);
-            restarts = x.set.restarts;
-          };
-      stages = x.stages;
-      posts = λ t i within low. new.posts-is (post_at t.0 i) ∙ post_home core.posts.items s t slot i (post_row before t i) low k.low (x.posts t i within low);
-      came = x.came;
-      subs = λ c p fed. handled_row topology before s slot reply n again core.subs subs c p k (x.subs c p fed) new.counts;
-      waiting = λ t. x.waiting t ∙ ap (map {B = ℕ × ℕ} (λ m. (part_of topology before (spec_of topology t) m, m))) (sym (waiting_law topology before (ChildEnd s slot reply) t sound k.legal));
-      inboxes = λ t. x.inboxes t ∙ sym (inbox_law topology before (ChildEnd s slot reply) t sound k.legal);
-      chunks = λ t. new.left t ∙ (ap (λ (ns : List ℕ). if s.0 == t.0 && not again then filter (λ m. not (n == m)) ns else ns) (x.chunks t) ∙ runs_on topology before s t slot reply n again sound k);
-      opens = λ t. x.opens t ∙ ap (open_batches before) (sym (gathered_law topology before (ChildEnd s slot reply) t k.legal));
-      children = λ t i. new.slots t i ∙ slot_left topology before s t slot i reply n again (child_at core.children.items t i) k (x.children t i);
-      places = λ i. new.placed i ∙ placed_after topology before s slot reply n again i (slice_get core.places.items i) k (x.places i);
-      settled = λ i below. new.marks i ∙ marked_after topology before s slot reply n again i (slice_get core.settled.items i) k (x.settled i below);
-      producers = x.producers;
-      contents = x.contents;
-      batches = x.batches;
-      sent_on = x.sent_on;
-      legs = x.legs;
-      restarts = x.restarts;
-      totals = ap (λ (y : Totals). record y { quiet = 0 }) x.totals;
-    }
+ended_fields core s slot reply n again j posts subs chunks children places settled sound x k new = fields_of says
+  where
+    topology : Topology
+    topology = core.topology
+
+    before : History
+    before = core.journal.steps
+
+    says : (it : Part) → Says it (record core { journal = j; posts = posts; subs = subs; chunks = chunks; children = children; places = places; settled = settled; totals = record core.totals { quiet = 0 } }) core.topology (ChildEnd s slot reply ∷ core.journal.steps)
+    says PostsLen = new.posts-len ∙ x.sized.posts
+    says ChunksLen = new.left-len ∙ x.sized.chunks
+    says ChildrenLen = new.slots-len ∙ x.sized.children
+    says PlacesLen = new.placed-len ∙ x.sized.places
+    says SettledLen = new.marks-len ∙ x.sized.settled
+    says ChildrenSet = λ t spec held e role at.
+        let was = new.kept t held at in
+        let is = x.set.children t spec was.0 e role was.1 in
+        (was.2 ∙ is.0, was.3 ∙ is.1)
+    says PostsAre = λ t i within low. new.posts-is (post_at t.0 i) ∙ post_home core.posts.items s t slot i (post_row before t i) low k.low (x.posts t i within low)
+    says SubsAre = λ c p fed. handled_row topology before s slot reply n again core.subs subs c p k (x.subs c p fed) new.counts
+    says WaitingAre = λ t. x.waiting t ∙ ap (map {B = ℕ × ℕ} (λ m. (part_of topology before (spec_of topology t) m, m))) (sym (waiting_law topology before (ChildEnd s slot reply) t sound k.legal))
+    says InboxesAre = λ t. x.inboxes t ∙ sym (inbox_law topology before (ChildEnd s slot reply) t sound k.legal)
+    says ChunksAre = λ t. new.left t ∙ (ap (λ (ns : List ℕ). if s.0 == t.0 && not again then filter (λ m. not (n == m)) ns else ns) (x.chunks t) ∙ runs_on topology before s t slot reply n again sound k)
+    says OpensAre = λ t. x.opens t ∙ ap (open_batches before) (sym (gathered_law topology before (ChildEnd s slot reply) t k.legal))
+    says ChildrenAre = λ t i. new.slots t i ∙ slot_left topology before s t slot i reply n again (child_at core.children.items t i) k (x.children t i)
+    says PlacesAre = λ i. new.placed i ∙ placed_after topology before s slot reply n again i (slice_get core.places.items i) k (x.places i)
+    says SettledAre = λ i below. new.marks i ∙ marked_after topology before s slot reply n again i (slice_get core.settled.items i) k (x.settled i below)
+    says TotalsAre = ap (λ (y : Totals). record y { quiet = 0 }) x.totals
+    says it = unchanged x it
 
 -- ---- what the code reads
 
