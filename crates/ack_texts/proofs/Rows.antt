@@ -6,7 +6,7 @@ use Rattle.pipe_types.specs.declared.numbers.StageNo.{StageNo}
 use Rattle.pipe_types.specs.declared.numbers.MsgNo.{MsgNo}
 use Rattle.pipe_types.specs.declared.topology.Topology.{Topology}
 use Rattle.pipe_types.specs.declared.message.Place.{Place}
-use Rattle.pipe_types.specs.declared.message.Place.TheVariants.{Waiting, Inbox, Running, Gathered, InBatch, Acked, Lost}
+use Rattle.pipe_types.specs.declared.message.Place.TheVariants.{Waiting, Running, Gathered, Acked}
 use Rattle.pipe_types.specs.declared.message.Outcome.TheVariants.{Successful, Failed}
 use Rattle.pipe_types.specs.declared.state.PlaceRow.{PlaceRow}
 use Rattle.pipe_types.specs.Numbers.{same_stage}
@@ -60,11 +60,9 @@ successful_agree m q p (Acked (Failed why)) numbers verdicts e =
     ap (λ t. cond t (m.0 ∷ numbers) numbers) (and_false (same_stage q p))
     ∙ (e ∙ left_out (λ verdict. is_successful verdict.outcome) p (record { no = m; producer = q; outcome = Failed why }) verdicts (and_false (same_stage q p)))
 successful_agree m q p (Waiting t) numbers verdicts e = ap (λ t. cond t (m.0 ∷ numbers) numbers) (and_false (same_stage q p)) ∙ e
-successful_agree m q p (Inbox u) numbers verdicts e = ap (λ t. cond t (m.0 ∷ numbers) numbers) (and_false (same_stage q p)) ∙ e
 successful_agree m q p (Running t) numbers verdicts e = ap (λ t. cond t (m.0 ∷ numbers) numbers) (and_false (same_stage q p)) ∙ e
 successful_agree m q p (Gathered t) numbers verdicts e = ap (λ t. cond t (m.0 ∷ numbers) numbers) (and_false (same_stage q p)) ∙ e
-successful_agree m q p (InBatch b) numbers verdicts e = ap (λ t. cond t (m.0 ∷ numbers) numbers) (and_false (same_stage q p)) ∙ e
-successful_agree m q p (Lost l) numbers verdicts e = ap (λ t. cond t (m.0 ∷ numbers) numbers) (and_false (same_stage q p)) ∙ e
+successful_agree m q p _ numbers verdicts e = ap (λ t. cond t (m.0 ∷ numbers) numbers) (and_false (same_stage q p)) ∙ e
 
 failed_agree : Agree is_acked_failed (λ verdict. not (is_successful verdict.outcome))
 unfolding Agree
@@ -77,11 +75,9 @@ failed_agree m q p (Acked Successful) numbers verdicts e =
     ap (λ t. cond t (m.0 ∷ numbers) numbers) (and_false (same_stage q p))
     ∙ (e ∙ left_out (λ verdict. not (is_successful verdict.outcome)) p (record { no = m; producer = q; outcome = Successful }) verdicts (and_false (same_stage q p)))
 failed_agree m q p (Waiting t) numbers verdicts e = ap (λ t. cond t (m.0 ∷ numbers) numbers) (and_false (same_stage q p)) ∙ e
-failed_agree m q p (Inbox u) numbers verdicts e = ap (λ t. cond t (m.0 ∷ numbers) numbers) (and_false (same_stage q p)) ∙ e
 failed_agree m q p (Running t) numbers verdicts e = ap (λ t. cond t (m.0 ∷ numbers) numbers) (and_false (same_stage q p)) ∙ e
 failed_agree m q p (Gathered t) numbers verdicts e = ap (λ t. cond t (m.0 ∷ numbers) numbers) (and_false (same_stage q p)) ∙ e
-failed_agree m q p (InBatch b) numbers verdicts e = ap (λ t. cond t (m.0 ∷ numbers) numbers) (and_false (same_stage q p)) ∙ e
-failed_agree m q p (Lost l) numbers verdicts e = ap (λ t. cond t (m.0 ∷ numbers) numbers) (and_false (same_stage q p)) ∙ e
+failed_agree m q p _ numbers verdicts e = ap (λ t. cond t (m.0 ∷ numbers) numbers) (and_false (same_stage q p)) ∙ e
 
 -- All rows
 

@@ -299,10 +299,8 @@ ends_put s outcomes u (leg ∷ legs) zero here once e =
     λ i. first i ∷ rest_kept legs (each_weaker (λ y. (leg_to leg == leg_to y) ≡ false) (λ y. (s.0 == leg_to y) ≡ false) (λ y p. ap (λ k. k == leg_to y) (sym to_leg) ∙ p) legs once.0) i
   where
     kept : (v : SubNo) (p : LegPlace) → (s.0 == v.consumer.0) ≡ false → end_of (leg_answered s outcomes v p) ≡ end_of p
-    kept v InInbox f = refl
     kept v AtWork f = ap (λ c. end_of (if c then Answered outcomes else AtWork)) f
-    kept v (Answered o) f = refl
-    kept v (LegLost l) f = refl
+    kept v _ f = refl
 
     rest_kept : (xs : List Leg) → Each (λ y. (s.0 == leg_to y) ≡ false) xs → ends_of (on_legs (leg_answered s outcomes) xs) ≡ ends_of xs
     rest_kept [] h = refl
@@ -315,10 +313,8 @@ ends_put s outcomes u (leg ∷ legs) (suc i) here once e =
     λ j. head j ∷ tail j
   where
     kept : (v : SubNo) (p : LegPlace) → (s.0 == v.consumer.0) ≡ false → end_of (leg_answered s outcomes v p) ≡ end_of p
-    kept v InInbox f = refl
     kept v AtWork f = ap (λ c. end_of (if c then Answered outcomes else AtWork)) f
-    kept v (Answered o) f = refl
-    kept v (LegLost l) f = refl
+    kept v _ f = refl
 
     far : (xs : List Leg) (j : ℕ) → Each (λ y. (leg_to leg == leg_to y) ≡ false) xs → slice_get xs j ≡ Some (record { sub = u; place = AtWork }) → (leg_to leg == s.0) ≡ false
     far [] j h f = cc

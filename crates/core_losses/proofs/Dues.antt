@@ -19,7 +19,7 @@ use Rattle.pipe_types.specs.Sound.{IsSound}
 use Rattle.pipe_types.specs.Stages.{spec_of, feeds}
 use Rattle.pipe_model.specs.History.{History}
 use Rattle.pipe_model.specs.Lives.{reason_in, kill_set}
-use Rattle.pipe_model.specs.Batches.{Sent, Leg, LegPlace, InInbox, AtWork, Answered, LegLost}
+use Rattle.pipe_model.specs.Batches.{Sent, Leg, LegPlace, InInbox}
 use Rattle.pipe_model.specs.Flow.{among, batch, sent_to, inbox, leg_waits, leg_waits_in, is_batcher, first_in, in_inbox_by, place}
 use Rattle.pipe_model.specs.Legal.{is_legal, allows, has_role, is_batch_processor_role, is_current}
 use Rattle.pipe_model.specs.Standing.{has_entry, at_work, leg_works, leg_works_in, is_at_work, in_inbox}
@@ -57,15 +57,11 @@ waits_place _ = false
 
 skip_wait : (u v : SubNo) (p : LegPlace) (xs : List Leg) → same_sub u v ≡ false → leg_waits u (record { sub = v; place = p } ∷ xs) ≡ leg_waits u xs
 skip_wait u v InInbox xs e = ap (λ b. (b && true) || leg_waits u xs) e
-skip_wait u v AtWork xs e = ap (λ b. (b && false) || leg_waits u xs) e
-skip_wait u v (Answered os) xs e = ap (λ b. (b && false) || leg_waits u xs) e
-skip_wait u v (LegLost l) xs e = ap (λ b. (b && false) || leg_waits u xs) e
+skip_wait u v _ xs e = ap (λ b. (b && false) || leg_waits u xs) e
 
 own_wait : (u v : SubNo) (p : LegPlace) (xs : List Leg) → same_sub u v ≡ true → leg_waits u xs ≡ false → leg_waits u (record { sub = v; place = p } ∷ xs) ≡ waits_place p
 own_wait u v InInbox xs e h = ap (λ b. (b && true) || leg_waits u xs) e
-own_wait u v AtWork xs e h = ap (λ b. (b && false) || leg_waits u xs) e ∙ h
-own_wait u v (Answered os) xs e h = ap (λ b. (b && false) || leg_waits u xs) e ∙ h
-own_wait u v (LegLost l) xs e h = ap (λ b. (b && false) || leg_waits u xs) e ∙ h
+own_wait u v _ xs e h = ap (λ b. (b && false) || leg_waits u xs) e ∙ h
 
 -- subscriptions of other consumers differ
 other_sub : (u v : SubNo) → (u.consumer.0 == v.consumer.0) ≡ false → same_sub u v ≡ false

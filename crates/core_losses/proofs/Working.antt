@@ -151,9 +151,7 @@ crash_owes topology before step c w legal allowed k role e = ap is_crash_in (sym
       where
         calm : (before : History) → passes (owed topology before) Halt (may_come topology before Halt) ≡ true → false ≡ owes_write before c
         calm (Wrote t bytes BatchCrashed ∷ old) h = cc
-        calm (Wrote t bytes (Outcomes outcomes) ∷ old) h = refl
-        calm [] h = refl
-        calm (_ ∷ old) h = refl
+        calm _ h = refl
     by before _ k legal h = cc
 
 -- What a batch processor took is one batch at most
@@ -219,8 +217,6 @@ work_due topology before c b sound h role live some = by before h live (owes_wri
 
         not_owing : (old : History) → is_legal topology old ≡ true → is_current old t 0 ≡ true → allows topology old (Wrote t bytes BatchCrashed) ≡ true → owes_write old c ≡ false
         not_owing (Wrote v more BatchCrashed ∷ rest) h now allowed = let no-way = and_right (not (happened is_halt (Wrote v more BatchCrashed ∷ rest)) || false) _ allowed in cc
-        not_owing (Wrote v more (Outcomes os) ∷ rest) h now allowed = refl
-        not_owing [] h now allowed = refl
-        not_owing (_ ∷ rest) h now allowed = refl
+        not_owing _ h now allowed = refl
     by before h live false e = calm before h live e
     by before h live true e = cc

@@ -141,9 +141,7 @@ ended topology before step s slot n h a now here own current = by_step step (leg
 
         by_reply : (r : Reply) → reply ≡ r → Some (child_place (runs_again (spec_of topology t) (crashes before n)) t (incarnation before t) reply) ≡ Some (Running s) → crashes (ChildEnd t k reply ∷ before) n ≡ crashes before n + 1
         by_reply Crashed f q = (λ i. crashed_as (held i) (f i) n (crashes before n)) ∙ ap (λ b. if b then crashes before n + 1 else crashes before n) (eq-eqb n n refl)
-        by_reply (Pass p) f q = let x = ap (λ r. Some (child_place (runs_again (spec_of topology t) (crashes before n)) t (incarnation before t) r)) (sym f) ∙ q in cc
-        by_reply (Failed why) f q = let x = ap (λ r. Some (child_place (runs_again (spec_of topology t) (crashes before n)) t (incarnation before t) r)) (sym f) ∙ q in cc
-        by_reply (Raised why) f q = let x = ap (λ r. Some (child_place (runs_again (spec_of topology t) (crashes before n)) t (incarnation before t) r)) (sym f) ∙ q in cc
+        by_reply _ f q = let x = ap (λ r. Some (child_place (runs_again (spec_of topology t) (crashes before n)) t (incarnation before t) r)) (sym f) ∙ q in cc
     by_step (Late t k i answer) l e now =
         let there : s ≡ t = same_stage-true s t (and_left (same_stage s t) _ e) in
         let from : is_current before t k ≡ true = subst (λ x. is_current before x k ≡ true) there (subst (λ x. is_current before s x ≡ true) (eqb-true slot k (and_right (same_stage s t) _ e)) current) in

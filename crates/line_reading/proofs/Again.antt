@@ -8,7 +8,7 @@ use Rattle.pipe_types.specs.declared.message.BatchEnd.{BatchEnd}
 use Rattle.pipe_types.specs.declared.message.Trigger.{Trigger}
 use Rattle.pipe_types.specs.declared.message.Trigger.TheVariants.{Size, Flush, Timeout}
 use Rattle.pipe_types.specs.declared.message.Why.{Why}
-use Rattle.pipe_types.specs.declared.message.Why.TheVariants.{Crash, Kill as KillWhy, Stop, Cancelled, Limit as LimitWhy}
+use Rattle.pipe_types.specs.declared.message.Why.TheVariants.{Kill as KillWhy, Cancelled, Limit as LimitWhy}
 use Rattle.pipe_types.specs.declared.step.SourceHow.{SourceHow}
 use Rattle.pipe_types.specs.declared.step.SourceHow.TheVariants.{End, Limit}
 use Rattle.pipe_types.specs.declared.step.DrainCause.{DrainCause}
@@ -78,11 +78,9 @@ trigger_again Timeout = (refl, refl)
 
 why_again : (why : Why) → IsKillWhy why → (why_in (why_word why) ≡ Ok why) × (slice_split (is_at 32) (why_word why) ≡ why_word why ∷ [])
 unfolding IsKillWhy
-why_again Crash h = (refl, refl)
-why_again KillWhy h = (refl, refl)
-why_again Stop h = (refl, refl)
 why_again (Cancelled u) h = absurd h
 why_again LimitWhy h = absurd h
+why_again _ h = (refl, refl)
 
 -- ---- late answers
 

@@ -1,7 +1,7 @@
 -- A flat table is shallow and has no date-times.
 use Rattle.std.proofs.Common.{◌≡◌, ◌≤◌, true, arith, refl}
 use Rattle.std.proofs.lemmas.Bool.{and_parts}
-use Rattle.toml.specs.Data.{Data, Items, no_items, item, Members, no_members, member, string, integer, float, boolean, datetime, array, table, depth, items_depth, members_depth, has_valid_dates, items_have_valid_dates, members_have_valid_dates}
+use Rattle.toml.specs.Data.{Data, Items, no_items, item, Members, no_members, member, string, integer, array, table, depth, items_depth, members_depth, has_valid_dates, items_have_valid_dates, members_have_valid_dates}
 use Rattle.pipe_config.specs.Flat.{is_text, are_texts, is_leaf, are_leaves, is_leaf_table, are_leaf_tables, is_part, is_flat}
 use Rattle.pipe_config.proofs.Named.{both}
 
@@ -34,11 +34,9 @@ leaf_tables_depth (item d ds) h = let (here, more) = and_parts (is_leaf_table d)
 part_depth : (d : Data) → is_part d ≡ true → depth d ≤ 3
 part_depth (string s) h = omega arith
 part_depth (integer z) h = omega arith
-part_depth (float x) h = cc
-part_depth (boolean b) h = cc
-part_depth (datetime dt) h = cc
 part_depth (array ds) h = omega (arith, leaf_tables_depth ds h)
 part_depth (table ms) h = omega (arith, leaves_depth ms h)
+part_depth _ h = cc
 
 flat_depth : (ms : Members) → is_flat ms ≡ true → members_depth ms ≤ 3
 flat_depth no_members h = omega arith
@@ -77,11 +75,9 @@ leaf_tables_dates (item d ds) h = let (here, more) = and_parts (is_leaf_table d)
 part_dates : (d : Data) → is_part d ≡ true → has_valid_dates d ≡ true
 part_dates (string s) h = refl
 part_dates (integer z) h = refl
-part_dates (float x) h = cc
-part_dates (boolean b) h = cc
-part_dates (datetime dt) h = cc
 part_dates (array ds) h = leaf_tables_dates ds h
 part_dates (table ms) h = leaves_dates ms h
+part_dates _ h = cc
 
 -- the printer has no date-time to refuse
 pub flat_dates : (ms : Members) → is_flat ms ≡ true → members_have_valid_dates ms ≡ true

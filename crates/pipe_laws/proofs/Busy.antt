@@ -7,7 +7,7 @@ use Rattle.pipe_types.specs.declared.numbers.StageNo.{StageNo}
 use Rattle.pipe_types.specs.declared.topology.Topology.{Topology}
 use Rattle.pipe_types.specs.declared.topology.StageSpec.{StageSpec}
 use Rattle.pipe_types.specs.declared.topology.Role.{Role}
-use Rattle.pipe_types.specs.declared.topology.Role.TheVariants.{Producer, Processor, Supervisor, Batcher, BatchProcessor}
+use Rattle.pipe_types.specs.declared.topology.Role.TheVariants.{Producer, Supervisor, Batcher}
 use Rattle.pipe_types.specs.declared.message.Place.{Place}
 use Rattle.pipe_types.specs.declared.message.Place.TheVariants.{Inbox}
 use Rattle.pipe_types.specs.declared.message.Why.{Why}
@@ -102,10 +102,8 @@ takes_producer _ h k = let x : false ≡ true = k in cc
 
 pub takes_supervisor : (role : Role) → takes_role role ≡ true → is_supervisor_role role ≡ true → ⊥
 takes_supervisor Producer h k = let x : false ≡ true = h in cc
-takes_supervisor Processor h k = let x : false ≡ true = k in cc
 takes_supervisor Supervisor h k = let x : false ≡ true = h in cc
-takes_supervisor Batcher h k = let x : false ≡ true = k in cc
-takes_supervisor BatchProcessor h k = let x : false ≡ true = k in cc
+takes_supervisor _ h k = let x : false ≡ true = k in cc
 
 pub producer_takes : (role : Role) → is_producer_role role ≡ true → takes_role role ≡ true → ⊥
 producer_takes Producer h k = let x : false ≡ true = k in cc

@@ -159,10 +159,8 @@ held_dispatch topology before s u =
 
 pub batcher_writes : (role : Role) → is_batcher_role role ≡ true → is_batch_processor_role role ≡ true → ⊥
 batcher_writes Producer h k = let x : false ≡ true = h in cc
-batcher_writes Processor h k = let x : false ≡ true = k in cc
-batcher_writes Supervisor h k = let x : false ≡ true = k in cc
-batcher_writes Batcher h k = let x : false ≡ true = k in cc
 batcher_writes BatchProcessor h k = let x : false ≡ true = h in cc
+batcher_writes _ h k = let x : false ≡ true = k in cc
 
 -- an entry of that number on the subscription counts one
 abbrev numbered : SubNo → ℕ → SubNo × ℕ → ℕ

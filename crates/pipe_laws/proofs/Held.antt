@@ -111,7 +111,6 @@ in_batch_stands live b n None = refl
 in_batch_stands live b n (Some x) = by_place_stands live b _ x.place
 
 held_killed : (topology : Topology) (before : History) (set : KillSet) (incarnation : StageNo → ℕ) (after : ℕ → Option Batch) (n : ℕ) (live : StageNo → Bool) → ((s : StageNo) → reason_in set s ≡ None → is_live topology before s ≡ true → live s ≡ true) → (p : Option Place) → stands_live (is_live topology before) p ≡ true → stands_live live (option_map (λ q. by_batch after n (killed set incarnation q)) p) ≡ true
-held_killed topology before set incarnation after n live keeps None h = refl
 held_killed topology before set incarnation after n live keeps (Some (Waiting s)) h = either (reason_in set s) refl
   where
     either : (why : Option Why) → reason_in set s ≡ why → stands_live live (Some (by_batch after n (lost_with (incarnation s) s why (Waiting s)))) ≡ true
@@ -133,8 +132,7 @@ held_killed topology before set incarnation after n live keeps (Some (Gathered s
     either None e = keeps s e h
     either (Some why) e = refl
 held_killed topology before set incarnation after n live keeps (Some (InBatch b)) h = in_batch_stands live b.0 n (after b.0)
-held_killed topology before set incarnation after n live keeps (Some (Acked o)) h = refl
-held_killed topology before set incarnation after n live keeps (Some (Lost l)) h = refl
+held_killed topology before set incarnation after n live keeps _ h = refl
 
 pub role_known : (topology : Topology) (s : StageNo) (test : Role → Bool) → has_role topology s test ≡ true → is_some (spec_of topology s) ≡ true
 role_known topology s test h = by_spec (spec_of topology s) refl

@@ -53,17 +53,13 @@ processor_producer _ h k = let x : false ≡ true = k in cc
 
 pub processor_supervisor : (role : Role) → is_processor_role role ≡ true → is_supervisor_role role ≡ true → ⊥
 processor_supervisor Producer h k = let x : false ≡ true = h in cc
-processor_supervisor Processor h k = let x : false ≡ true = k in cc
 processor_supervisor Supervisor h k = let x : false ≡ true = h in cc
-processor_supervisor Batcher h k = let x : false ≡ true = k in cc
-processor_supervisor BatchProcessor h k = let x : false ≡ true = k in cc
+processor_supervisor _ h k = let x : false ≡ true = k in cc
 
 pub processor_writes : (role : Role) → is_processor_role role ≡ true → is_batch_processor_role role ≡ true → ⊥
 processor_writes Producer h k = let x : false ≡ true = h in cc
-processor_writes Processor h k = let x : false ≡ true = k in cc
-processor_writes Supervisor h k = let x : false ≡ true = k in cc
-processor_writes Batcher h k = let x : false ≡ true = k in cc
 processor_writes BatchProcessor h k = let x : false ≡ true = h in cc
+processor_writes _ h k = let x : false ≡ true = k in cc
 
 -- only batch processors take from batchers
 batcher_feeds : (p c : Role) (b : Bool) → role_feeds p c b ≡ true → (is_batch_processor_role c ≡ true → ⊥) → is_batcher_role p ≡ false

@@ -7,7 +7,7 @@ use Rattle.pipe_types.specs.declared.topology.StageSpec.{StageSpec}
 use Rattle.pipe_types.specs.declared.topology.Role.{Role}
 use Rattle.pipe_types.specs.declared.topology.Role.TheVariants.{Producer, Processor, Supervisor, Batcher, BatchProcessor}
 use Rattle.pipe_types.specs.declared.message.Place.{Place}
-use Rattle.pipe_types.specs.declared.message.Place.TheVariants.{Waiting, Inbox, Running, Gathered, InBatch, Acked, Lost}
+use Rattle.pipe_types.specs.declared.message.Place.TheVariants.{Waiting, Inbox, Running, Gathered, Acked, Lost}
 use Rattle.pipe_types.specs.Stages.{feeds, spec_of, role_feeds, option_feeds}
 use Rattle.pipe_types.specs.declared.step.Step.{Step}
 use Rattle.pipe_model.specs.History.{History}
@@ -75,9 +75,7 @@ level topology (Some (Inbox u)) = 4 * rank topology u.consumer
 level topology (Some (Running s)) = 4 * rank topology s + 1
 level topology (Some (Gathered s)) = 4 * rank topology s + 2
 level topology (Some (Waiting s)) = 4 * rank topology s + 3
-level topology (Some (InBatch b)) = 100
-level topology (Some (Acked outcome)) = 100
-level topology (Some (Lost loss)) = 100
+level topology _ = 100
 
 level_final : (topology : Topology) (p : Place) → is_final (Some p) ≡ true → level topology (Some p) ≡ 100
 level_final topology (Acked outcome) h = refl

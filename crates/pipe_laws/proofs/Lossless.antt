@@ -158,10 +158,8 @@ no_lost_leg [] h = refl
 no_lost_leg (leg ∷ legs) h = by_place leg.sub leg.place (and_left (not (is_leg_lost leg.place)) _ h) (no_lost_leg legs (and_right (not (is_leg_lost leg.place)) _ h))
   where
     by_place : (u : SubNo) (p : LegPlace) → not (is_leg_lost p) ≡ true → lost_leg legs ≡ None → lost_leg (record { sub = u; place = p } ∷ legs) ≡ None
-    by_place u InInbox h rest = rest
-    by_place u AtWork h rest = rest
-    by_place u (Answered o) h rest = rest
     by_place u (LegLost l) h rest = cc
+    by_place u _ h rest = rest
 
 failed_kept : (legs : List Leg) (i : ℕ) → is_lost (Some (settled_as None (failed_leg legs i))) ≡ false
 failed_kept [] i = refl
@@ -174,9 +172,7 @@ failed_kept (leg ∷ legs) i = by_place leg.sub leg.place (failed_kept legs i)
 
     by_place : (u : SubNo) (p : LegPlace) → is_lost (Some (settled_as None (failed_leg legs i))) ≡ false → is_lost (Some (settled_as None (failed_leg (record { sub = u; place = p } ∷ legs) i))) ≡ false
     by_place u (Answered outcomes) h = by_outcome u outcomes (slice_get outcomes i) refl h
-    by_place u InInbox h = h
-    by_place u AtWork h = h
-    by_place u (LegLost loss) h = h
+    by_place u _ h = h
 
 batch_leaves : (b : ℕ) (o : Option Batch) (n : ℕ) → batch_kept o ≡ true → is_lost (Some (place_in_batch b o n)) ≡ false
 batch_leaves b None n h = refl

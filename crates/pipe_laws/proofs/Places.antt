@@ -25,7 +25,7 @@ use Rattle.pipe_types.specs.Numbers.{same_stage, batch_no}
 use Rattle.pipe_types.specs.Stages.{feeds}
 use Rattle.pipe_model.specs.History.{History}
 use Rattle.pipe_model.specs.Content.{has_crash, is_among_next}
-use Rattle.pipe_model.specs.Batches.{Batch, BatchPlace, AtBatcher, Sent, Dropped, Leg, LegPlace, InInbox, AtWork, Answered, LegLost, is_settled, settled_as, lost_leg, failed_leg, place_by_batch}
+use Rattle.pipe_model.specs.Batches.{Batch, BatchPlace, AtBatcher, Sent, Dropped, Leg, LegPlace, Answered, LegLost, is_settled, settled_as, lost_leg, failed_leg, place_by_batch}
 use Rattle.pipe_model.specs.Lives.{KillSet, reason_in, is_live, current_sub, live_subs, live_subs_from, death}
 use Rattle.pipe_model.specs.Flow.{place, view_of, batch, among, sends_by, rooms_by, waiting_by, subs_of, dispatched, waiting_after, taken, done, answered, reply_to, gathered, put_in_batch, by_batch, place_in_batch, killed, lost_with, child_ended, child_place, accepted_to, late_place, is_number}
 use Rattle.pipe_model.specs.Moves.{is_final}
@@ -122,19 +122,15 @@ failed_final (leg ∷ legs) i = by_place leg.sub leg.place (failed_final legs i)
 
     by_place : (u : SubNo) (p : LegPlace) → is_final (Some (settled_as None (failed_leg legs i))) ≡ true → is_final (Some (settled_as None (failed_leg (record { sub = u; place = p } ∷ legs) i))) ≡ true
     by_place u (Answered outcomes) h = by_outcome u outcomes (slice_get outcomes i) refl h
-    by_place u InInbox h = h
-    by_place u AtWork h = h
-    by_place u (LegLost loss) h = h
+    by_place u _ h = h
 
 lost_final : (legs : List Leg) (failed : Option Place) → is_final (Some (settled_as None failed)) ≡ true → is_final (Some (settled_as (lost_leg legs) failed)) ≡ true
 lost_final [] failed h = h
 lost_final (leg ∷ legs) failed h = by_place leg.sub leg.place (lost_final legs failed h)
   where
     by_place : (u : SubNo) (p : LegPlace) → is_final (Some (settled_as (lost_leg legs) failed)) ≡ true → is_final (Some (settled_as (lost_leg (record { sub = u; place = p } ∷ legs)) failed)) ≡ true
-    by_place u (Answered outcomes) h = h
-    by_place u InInbox h = h
-    by_place u AtWork h = h
     by_place u (LegLost loss) h = refl
+    by_place u _ h = h
 
 pub settled_final : (legs : List Leg) (i : ℕ) → is_final (Some (settled_as (lost_leg legs) (failed_leg legs i))) ≡ true
 settled_final legs i = lost_final legs (failed_leg legs i) (failed_final legs i)
@@ -249,14 +245,12 @@ module _ (topology : Topology) (before : History) (step : Step) where
   move_lost_with after n i s (Some why) p h = ends _ _ refl
 
   move_killed : (set : KillSet) (incarnation : StageNo → ℕ) (after : ℕ → Option Batch) (n : ℕ) (old : Option Place) → Move topology before step old (option_map (λ p. by_batch after n (killed set incarnation p)) old)
-  move_killed set incarnation after n None = stays
   move_killed set incarnation after n (Some (Waiting t)) = move_lost_with after n (incarnation t) t (reason_in set t) (Waiting t) stays
   move_killed set incarnation after n (Some (Inbox u)) = move_lost_with after n (incarnation u.consumer) u.consumer (reason_in set u.consumer) (Inbox u) stays
   move_killed set incarnation after n (Some (Running t)) = move_lost_with after n (incarnation t) t (reason_in set t) (Running t) stays
   move_killed set incarnation after n (Some (Gathered t)) = move_lost_with after n (incarnation t) t (reason_in set t) (Gathered t) stays
   move_killed set incarnation after n (Some (InBatch b)) = move_in_batch b (after b.0) n
-  move_killed set incarnation after n (Some (Acked o)) = stays
-  move_killed set incarnation after n (Some (Lost l)) = stays
+  move_killed set incarnation after n _ = stays
 
   move_child_place : (again : Bool) (s : StageNo) (i : ℕ) (reply : Reply) → Move topology before step (Some (Running s)) (Some (child_place again s i reply))
   move_child_place again s i (Pass m) = ends _ _ refl

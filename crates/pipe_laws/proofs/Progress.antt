@@ -58,9 +58,7 @@ settled_taken s (leg ∷ legs) = λ i. open_same leg.sub leg.place i && settled_
         by_stage : (b : Bool) → not (is_leg_open (if b then AtWork else InInbox)) ≡ false
         by_stage true = refl
         by_stage false = refl
-    open_same u AtWork = refl
-    open_same u (Answered o) = refl
-    open_same u (LegLost l) = refl
+    open_same u _ = refl
 
 going_taken : (s : StageNo) (p : BatchPlace) → going p ≡ true → going (batch_on_legs (leg_taken s) p) ≡ true
 going_taken s (AtBatcher t) h = refl

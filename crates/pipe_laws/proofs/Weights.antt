@@ -15,7 +15,7 @@ use Rattle.pipe_types.specs.declared.step.Step.TheVariants.{Dispatch, Take, Clos
 use Rattle.pipe_types.specs.Numbers.{same_stage, same_sub}
 use Rattle.pipe_types.specs.Stages.{spec_of}
 use Rattle.pipe_model.specs.History.{History, closed}
-use Rattle.pipe_model.specs.Batches.{Batch, BatchPlace, AtBatcher, Sent, Dropped, Leg, LegPlace, InInbox, AtWork, Answered, LegLost, on_legs, leg_taken, leg_answered, leg_lost, batch_sent, batch_on_legs}
+use Rattle.pipe_model.specs.Batches.{Batch, BatchPlace, AtBatcher, Sent, Dropped, Leg, LegPlace, InInbox, AtWork, Answered, on_legs, leg_taken, leg_answered, leg_lost, batch_sent, batch_on_legs}
 use Rattle.pipe_model.specs.Lives.{KillSet, reason_in}
 use Rattle.pipe_model.specs.Flow.{place, view_of, batch, among, is_batcher, leg_waits, leg_waits_in, in_inbox_by, runs_in, change_place, new_batch, next_units, closing}
 use Rattle.pipe_model.specs.Moves.{is_final}
@@ -99,9 +99,7 @@ waits_any u (leg ∷ legs) = by_place leg.sub leg.place (waits_any u legs)
   where
     by_place : (v : SubNo) (p : LegPlace) → leg_waits u legs ≡ any_leg is_in_inbox u legs → leg_waits u (record { sub = v; place = p } ∷ legs) ≡ any_leg is_in_inbox u (record { sub = v; place = p } ∷ legs)
     by_place v InInbox e = ap (λ b. (same_sub u v && true) || b) e
-    by_place v AtWork e = ap (λ b. (same_sub u v && false) || b) e
-    by_place v (Answered outcomes) e = ap (λ b. (same_sub u v && false) || b) e
-    by_place v (LegLost loss) e = ap (λ b. (same_sub u v && false) || b) e
+    by_place v _ e = ap (λ b. (same_sub u v && false) || b) e
 
 works_any : (u : SubNo) (legs : List Leg) → leg_works u legs ≡ any_leg is_at_work u legs
 works_any u [] = refl
@@ -155,15 +153,11 @@ taken_legs s u legs here = both_of (hand_change (leg_taken s) u (λ p. false) (�
   where
     waits_none : (p : LegPlace) → is_in_inbox (leg_taken s u p) ≡ false
     waits_none InInbox = rw here refl
-    waits_none AtWork = refl
-    waits_none (Answered o) = refl
-    waits_none (LegLost l) = refl
+    waits_none _ = refl
 
     works_more : (p : LegPlace) → is_at_work (leg_taken s u p) ≡ (is_at_work p || is_in_inbox p)
     works_more InInbox = rw here refl
-    works_more AtWork = refl
-    works_more (Answered o) = refl
-    works_more (LegLost l) = refl
+    works_more _ = refl
 
     both_of : (leg_waits u (on_legs (leg_taken s) legs) ≡ any_leg (λ p. false) u legs) × (leg_works u (on_legs (leg_taken s) legs) ≡ any_leg (λ p. is_at_work p || is_in_inbox p) u legs) → (leg_waits u (on_legs (leg_taken s) legs) ≡ false) × (leg_works u (on_legs (leg_taken s) legs) ≡ (leg_works u legs || leg_waits u legs))
     both_of t = (t.0 ∙ any_none u legs, t.1 ∙ (any_or is_at_work is_in_inbox u legs ∙ (let a = works_any u legs in let b = waits_any u legs in λ i. sym a i || sym b i)))
@@ -173,15 +167,11 @@ taken_legs_other s u legs other = both_of (hand_change (leg_taken s) u is_in_inb
   where
     same_waits : (p : LegPlace) → is_in_inbox (leg_taken s u p) ≡ is_in_inbox p
     same_waits InInbox = rw other refl
-    same_waits AtWork = refl
-    same_waits (Answered o) = refl
-    same_waits (LegLost l) = refl
+    same_waits _ = refl
 
     same_works : (p : LegPlace) → is_at_work (leg_taken s u p) ≡ is_at_work p
     same_works InInbox = rw other refl
-    same_works AtWork = refl
-    same_works (Answered o) = refl
-    same_works (LegLost l) = refl
+    same_works _ = refl
 
     both_of : (leg_waits u (on_legs (leg_taken s) legs) ≡ any_leg is_in_inbox u legs) × (leg_works u (on_legs (leg_taken s) legs) ≡ any_leg is_at_work u legs) → (leg_waits u (on_legs (leg_taken s) legs) ≡ leg_waits u legs) × (leg_works u (on_legs (leg_taken s) legs) ≡ leg_works u legs)
     both_of t = (t.0 ∙ sym (waits_any u legs), t.1 ∙ sym (works_any u legs))
@@ -191,26 +181,20 @@ pub answered_legs : (s : StageNo) (outcomes : List Outcome) (u : SubNo) (legs : 
 answered_legs s outcomes u legs = either (same_stage s u.consumer) refl
   where
     same_waits : (p : LegPlace) → is_in_inbox (leg_answered s outcomes u p) ≡ is_in_inbox p
-    same_waits InInbox = refl
     same_waits AtWork = by_stage (same_stage s u.consumer)
       where
         by_stage : (b : Bool) → is_in_inbox (if b then Answered outcomes else AtWork) ≡ false
         by_stage true = refl
         by_stage false = refl
-    same_waits (Answered o) = refl
-    same_waits (LegLost l) = refl
+    same_waits _ = refl
 
     works_none : same_stage s u.consumer ≡ true → (p : LegPlace) → is_at_work (leg_answered s outcomes u p) ≡ false
-    works_none here InInbox = refl
     works_none here AtWork = rw here refl
-    works_none here (Answered o) = refl
-    works_none here (LegLost l) = refl
+    works_none here _ = refl
 
     same_works : same_stage s u.consumer ≡ false → (p : LegPlace) → is_at_work (leg_answered s outcomes u p) ≡ is_at_work p
-    same_works other InInbox = refl
     same_works other AtWork = rw other refl
-    same_works other (Answered o) = refl
-    same_works other (LegLost l) = refl
+    same_works other _ = refl
 
     either : (b : Bool) → same_stage s u.consumer ≡ b → (leg_waits u (on_legs (leg_answered s outcomes) legs) ≡ leg_waits u legs) × (leg_works u (on_legs (leg_answered s outcomes) legs) ≡ (if b then false else leg_works u legs))
     either true here =

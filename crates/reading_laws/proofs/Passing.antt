@@ -77,9 +77,7 @@ rule_passes count first (FailEvery every) m is = cond_both (count % every == 0) 
 
 next_passes : (first : Message) (reply : Reply) (next : Message → Reply) → PassesAs first reply → ((m : Message) → StillIs first m → PassesAs first (next m)) → PassesAs first (and_then reply next)
 next_passes first (Passed m) next is go = go m is
-next_passes first (Failed why) next is go = tt
-next_passes first (Raised why) next is go = tt
-next_passes first Crashed next is go = tt
+next_passes first _ next is go = tt
 
 rules_pass : (count : ℕ) (first : Message) (rules : List Rule) (m : Message) → StillIs first m → PassesAs first (rules_reply count rules m)
 rules_pass count first [] m is = is
@@ -91,9 +89,7 @@ eval_passes spec count m short = rules_pass (counted count 1) m spec.rules m (re
 
 reason_passes : (failed : Option (List ℕ)) (first : Message) (reply : Reply) → PassesAs first reply → PassesAs first (with_reason failed reply)
 reason_passes failed first (Passed m) is = is
-reason_passes failed first (Failed why) is = tt
-reason_passes failed first (Raised why) is = tt
-reason_passes failed first Crashed is = tt
+reason_passes failed first _ is = tt
 
 -- ---- replies
 
@@ -167,9 +163,7 @@ own_passes batchers m (Passed p) h =
         key = leb-true _ _ (and_right (nat_le (length p.payload) max_bytes) _ three);
       };
     }
-own_passes batchers m (Failed why) h = tt
-own_passes batchers m (Raised why) h = tt
-own_passes batchers m Crashed h = tt
+own_passes batchers m _ h = tt
 
 own_all : (batchers : ℕ) (messages : List Message) (replies : List Reply) → are_own_replies batchers messages replies ≡ true → PassAsThere messages replies
 own_all batchers messages [] h = tt

@@ -46,10 +46,8 @@ rose_from a b c le (inl below) = inl (omega (arith, le, below))
 rose_from a b c le (inr full) = inr full
 
 text_open : (now : Option LineEnd) (records : List (List ℕ)) → ¬ (now ≡ Some end.End) → text_of now records ≡ ended records
-text_open None records no_end = refl
 text_open (Some end.End) records no_end = absurd (no_end refl)
-text_open (Some end.Fault) records no_end = refl
-text_open (Some end.TooLong) records no_end = refl
+text_open _ records no_end = refl
 
 no_rest : (text held left : List ℕ) → held ≡ [] → left ≡ [] → text ++ (held ++ left) ≡ text
 no_rest text held left no_held no_left = rw (no_held, no_left, append-nil) refl

@@ -7,7 +7,7 @@ use Rattle.pipe_types.specs.declared.numbers.StageNo.{StageNo}
 use Rattle.pipe_types.specs.declared.topology.Topology.{Topology}
 use Rattle.pipe_types.specs.declared.topology.StageSpec.{StageSpec}
 use Rattle.pipe_types.specs.declared.topology.Role.{Role}
-use Rattle.pipe_types.specs.declared.topology.Role.TheVariants.{Producer, Processor, Supervisor, Batcher, BatchProcessor}
+use Rattle.pipe_types.specs.declared.topology.Role.TheVariants.{Processor, Supervisor, BatchProcessor}
 use Rattle.pipe_types.specs.declared.message.Place.{Place}
 use Rattle.pipe_types.specs.declared.message.Place.TheVariants.{Inbox, Running, Acked}
 use Rattle.pipe_types.specs.declared.step.Step.{Step}
@@ -61,9 +61,7 @@ role_rank topology s test P f h = by_spec (spec_of topology s) refl
 takes_rank : (role : Role) → takes_role role ≡ true → (rank_of role ≡ 3 → ⊥) → rank_of role ≡ 1
 takes_rank Processor h never = refl
 takes_rank BatchProcessor h never = absurd (never refl)
-takes_rank Producer h never = cc
-takes_rank Supervisor h never = cc
-takes_rank Batcher h never = cc
+takes_rank _ h never = cc
 
 supervisor_rank : (role : Role) → is_supervisor_role role ≡ true → rank_of role ≡ 1
 supervisor_rank Supervisor h = refl

@@ -337,10 +337,8 @@ ended_runs topology before s slot reply n = by_place (place topology before n)
         crash false = refl
 
         by_reply : m ≡ n → (r : Reply) → runs_in s (Some (child_place (runs_again (spec_of topology s) (crashes before n)) s (incarnation before s) r)) ≡ not (not (crashed_reply r && runs_again (spec_of topology s) (crashes before m)) && true)
-        by_reply is (Pass x) = refl
-        by_reply is (FailedReply why) = refl
-        by_reply is (Raised why) = refl
         by_reply is Crashed = crash (runs_again (spec_of topology s) (crashes before n)) ∙ ap (λ k. not (not (runs_again (spec_of topology s) (crashes before k)) && true)) (sym is)
+        by_reply is _ = refl
 
         by_number : (c : Bool) → (m == n) ≡ c → runs_in s (Some (if c then child_place (runs_again (spec_of topology s) (crashes before n)) s (incarnation before s) reply else Running v)) ≡ not (not (crashed_reply reply && runs_again (spec_of topology s) (crashes before m)) && c)
         by_number true f = by_reply (eqb-true m n f) reply

@@ -9,7 +9,7 @@ use Rattle.pipe_types.specs.declared.topology.Topology.{Topology}
 use Rattle.pipe_types.specs.declared.topology.StageSpec.{StageSpec}
 use Rattle.pipe_types.specs.declared.topology.Keep.{Keep}
 use Rattle.pipe_types.specs.declared.topology.Role.{Role}
-use Rattle.pipe_types.specs.declared.topology.Role.TheVariants.{Producer, Processor, Supervisor, Batcher, BatchProcessor}
+use Rattle.pipe_types.specs.declared.topology.Role.TheVariants.{Processor, Batcher, BatchProcessor}
 use Rattle.pipe_types.specs.declared.message.Place.TheVariants.{Running}
 use Rattle.pipe_types.specs.declared.step.Step.{Step}
 use Rattle.pipe_types.specs.declared.step.Step.TheVariants.{Fetch, Dispatch, Take, Done, Wrote, Child, ChildEnd}
@@ -163,10 +163,8 @@ reply_role topology before (Done t replies) s h e =
   where
     processes : (role : Role) → is_processor_role role ≡ true → takes_role role ≡ true
     processes Processor h = refl
-    processes Producer h = let x : false ≡ true = h in cc
-    processes Supervisor h = let x : false ≡ true = h in cc
-    processes Batcher h = let x : false ≡ true = h in cc
     processes BatchProcessor h = refl
+    processes _ h = let x : false ≡ true = h in cc
 
     wider : (topology : Topology) (t : StageNo) (one : Role → Bool) → ((role : Role) → one role ≡ true → takes_role role ≡ true) → has_role topology t one ≡ true → has_role topology t takes_role ≡ true
     wider topology t one f k =
@@ -183,10 +181,8 @@ reply_role topology before (Wrote t bytes end) s h e =
   where
     writes : (role : Role) → is_batch_processor_role role ≡ true → takes_role role ≡ true
     writes Processor h = refl
-    writes Producer h = let x : false ≡ true = h in cc
-    writes Supervisor h = let x : false ≡ true = h in cc
-    writes Batcher h = let x : false ≡ true = h in cc
     writes BatchProcessor h = refl
+    writes _ h = let x : false ≡ true = h in cc
 reply_role topology before _ s h e = let x : false ≡ true = e in cc
 
 replies_answer : (before : History) (s : StageNo) → how_many (is_reply_of s) before ≤ answered before (post s 0)
