@@ -7,7 +7,7 @@ use Rattle.pipe_types.specs.declared.numbers.StageNo.{StageNo}
 use Rattle.pipe_types.specs.declared.topology.Topology.{Topology}
 use Rattle.pipe_types.specs.declared.topology.StageSpec.{StageSpec}
 use Rattle.pipe_types.specs.declared.topology.Role.{Role}
-use Rattle.pipe_types.specs.declared.topology.Role.TheVariants.{Producer, Supervisor, Batcher}
+use Rattle.pipe_types.specs.declared.topology.Role.TheVariants.{Batcher}
 use Rattle.pipe_types.specs.declared.message.Place.{Place}
 use Rattle.pipe_types.specs.declared.message.Place.TheVariants.{Inbox}
 use Rattle.pipe_types.specs.declared.message.Why.{Why}
@@ -30,6 +30,7 @@ use Rattle.pipe_laws.proofs.Allowed.{TakeFacts, legal_before, legal_step, take_f
 use Rattle.pipe_laws.proofs.Kept.{ends_work, works_kept}
 use Rattle.pipe_model.specs.Standing.{in_inbox, works, works_at, leg_works, leg_works_in}
 use Rattle.pipe_model.specs.Counting.{as_number}
+pub use Rattle.pipe_laws.proofs.Roles.{takes_producer, takes_supervisor, producer_takes, producer_supervises}
 
 -- Posts
 
@@ -95,23 +96,6 @@ was_live topology before step s quiet live =
     either (Some why) r e h = let x : (is_none (Some why)) ≡ true = and_right (is_some (spec_of topology s)) _ h in cc
 
 -- Roles
-
-pub takes_producer : (role : Role) → takes_role role ≡ true → is_producer_role role ≡ true → ⊥
-takes_producer Producer h k = let x : false ≡ true = h in cc
-takes_producer _ h k = let x : false ≡ true = k in cc
-
-pub takes_supervisor : (role : Role) → takes_role role ≡ true → is_supervisor_role role ≡ true → ⊥
-takes_supervisor Producer h k = let x : false ≡ true = h in cc
-takes_supervisor Supervisor h k = let x : false ≡ true = h in cc
-takes_supervisor _ h k = let x : false ≡ true = k in cc
-
-pub producer_takes : (role : Role) → is_producer_role role ≡ true → takes_role role ≡ true → ⊥
-producer_takes Producer h k = let x : false ≡ true = k in cc
-producer_takes _ h k = let x : false ≡ true = h in cc
-
-pub producer_supervises : (role : Role) → is_producer_role role ≡ true → is_supervisor_role role ≡ true → ⊥
-producer_supervises Producer h k = let x : false ≡ true = k in cc
-producer_supervises _ h k = let x : false ≡ true = h in cc
 
 -- a stage has one role
 pub two_roles : (topology : Topology) (s : StageNo) (one other : Role → Bool) → ((role : Role) → one role ≡ true → other role ≡ true → ⊥) → has_role topology s one ≡ true → has_role topology s other ≡ true → ⊥

@@ -42,6 +42,7 @@ use Rattle.pipe_laws.proofs.Idle.{Chunk, chunk_facts, fed_by_messages, processor
 use Rattle.pipe_laws.proofs.Slots.{first_stands, first_entry, slot_runs, supervisor_writes}
 use Rattle.pipe_model.specs.Standing.{works, leg_works, leg_works_in, works_at, in_inbox}
 use Rattle.pipe_model.specs.Counting.{as_number}
+pub use Rattle.pipe_laws.proofs.Roles.{batcher_writes}
 
 -- What is in hand of a subscription
 abbrev pub held_of : Topology → History → SubNo → ℕ
@@ -156,11 +157,6 @@ held_dispatch topology before s u =
     )
 
 -- A gathering
-
-pub batcher_writes : (role : Role) → is_batcher_role role ≡ true → is_batch_processor_role role ≡ true → ⊥
-batcher_writes Producer h k = let x : false ≡ true = h in cc
-batcher_writes BatchProcessor h k = let x : false ≡ true = h in cc
-batcher_writes _ h k = let x : false ≡ true = k in cc
 
 -- an entry of that number on the subscription counts one
 abbrev numbered : SubNo → ℕ → SubNo × ℕ → ℕ

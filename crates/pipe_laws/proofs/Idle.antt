@@ -36,6 +36,7 @@ use Rattle.pipe_laws.proofs.Accepted.{placed_content, content_kept}
 use Rattle.pipe_laws.proofs.Replies.{handled_length, messages_length, reply_some, replied_stops}
 use Rattle.pipe_laws.proofs.Chunks.{Covers, covers_take, each_take, none_kept, keeps_none, filters_agree, filter_same, kept_among, owes_crash, owed_dies}
 use Rattle.pipe_model.specs.Standing.{in_inbox}
+pub use Rattle.pipe_laws.proofs.Roles.{processor_producer, processor_supervisor, processor_writes}
 
 -- Roles
 
@@ -46,20 +47,6 @@ other_stage s t e = false_from_ne_true (same_stage t s) (λ h. clash (same_stage
 pub roles_apart : (topology : Topology) (s t : StageNo) (one other : Role → Bool) → ((role : Role) → one role ≡ true → other role ≡ true → ⊥) → has_role topology s one ≡ true → has_role topology t other ≡ true → same_stage s t ≡ false
 roles_apart topology s t one other apart h k =
     false_from_ne_true (same_stage s t) (λ same. two_roles topology s one other apart h (subst (λ x. has_role topology x other ≡ true) (sym (same_stage-true s t same)) k))
-
-pub processor_producer : (role : Role) → is_processor_role role ≡ true → is_producer_role role ≡ true → ⊥
-processor_producer Producer h k = let x : false ≡ true = h in cc
-processor_producer _ h k = let x : false ≡ true = k in cc
-
-pub processor_supervisor : (role : Role) → is_processor_role role ≡ true → is_supervisor_role role ≡ true → ⊥
-processor_supervisor Producer h k = let x : false ≡ true = h in cc
-processor_supervisor Supervisor h k = let x : false ≡ true = h in cc
-processor_supervisor _ h k = let x : false ≡ true = k in cc
-
-pub processor_writes : (role : Role) → is_processor_role role ≡ true → is_batch_processor_role role ≡ true → ⊥
-processor_writes Producer h k = let x : false ≡ true = h in cc
-processor_writes BatchProcessor h k = let x : false ≡ true = h in cc
-processor_writes _ h k = let x : false ≡ true = k in cc
 
 -- only batch processors take from batchers
 batcher_feeds : (p c : Role) (b : Bool) → role_feeds p c b ≡ true → (is_batch_processor_role c ≡ true → ⊥) → is_batcher_role p ≡ false

@@ -13,6 +13,7 @@ pub mod Weights
 pub mod Allowed
 pub mod Held
 pub mod Kept
+pub mod Roles
 pub mod Busy
 pub mod Accepted
 pub mod Replies

@@ -6,7 +6,6 @@ use Rattle.pipe_types.specs.declared.numbers.SubNo.{SubNo}
 use Rattle.pipe_types.specs.declared.numbers.StageNo.{StageNo}
 use Rattle.pipe_types.specs.declared.topology.Topology.{Topology}
 use Rattle.pipe_types.specs.declared.topology.Role.{Role}
-use Rattle.pipe_types.specs.declared.topology.Role.TheVariants.{Producer, Processor, Supervisor, Batcher, BatchProcessor}
 use Rattle.pipe_types.specs.declared.message.Place.{Place}
 use Rattle.pipe_types.specs.declared.message.Place.TheVariants.{Inbox, Running, Acked}
 use Rattle.pipe_types.specs.declared.message.Reply.{Reply}
@@ -30,25 +29,7 @@ use Rattle.pipe_laws.proofs.Kept.{ends_work, runs_kept, runs_here}
 use Rattle.pipe_laws.proofs.Busy.{WasCurrent, was_current, was_live, inbox_here}
 use Rattle.pipe_laws.proofs.Idle.{roles_apart, fed_by_messages, other_stage}
 use Rattle.pipe_model.specs.Standing.{in_inbox}
-
-pub supervisor_writes : (role : Role) → is_supervisor_role role ≡ true → is_batch_processor_role role ≡ true → ⊥
-supervisor_writes Supervisor h k = let x : false ≡ true = k in cc
-supervisor_writes Batcher h k = let x : false ≡ true = k in cc
-supervisor_writes _ h k = let x : false ≡ true = h in cc
-
-pub supervisor_produces : (role : Role) → is_supervisor_role role ≡ true → is_producer_role role ≡ true → ⊥
-supervisor_produces Producer h k = let x : false ≡ true = h in cc
-supervisor_produces _ h k = let x : false ≡ true = k in cc
-
-pub supervisor_takes : (role : Role) → is_supervisor_role role ≡ true → takes_role role ≡ true → ⊥
-supervisor_takes Processor h k = let x : false ≡ true = h in cc
-supervisor_takes BatchProcessor h k = let x : false ≡ true = h in cc
-supervisor_takes _ h k = let x : false ≡ true = k in cc
-
-pub supervisor_processes : (role : Role) → is_supervisor_role role ≡ true → is_processor_role role ≡ true → ⊥
-supervisor_processes Processor h k = let x : false ≡ true = h in cc
-supervisor_processes BatchProcessor h k = let x : false ≡ true = h in cc
-supervisor_processes _ h k = let x : false ≡ true = k in cc
+pub use Rattle.pipe_laws.proofs.Roles.{supervisor_writes, supervisor_produces, supervisor_takes, supervisor_processes}
 
 -- where the first unit of a stage that takes messages stands
 pub first_stands : (topology : Topology) (before : History) (s : StageNo) (one : Role → Bool) (n : ℕ) → ((role : Role) → one role ≡ true → is_batch_processor_role role ≡ true → ⊥) → has_role topology s one ≡ true → 1 ≤ n → n ≡ first_unit (inbox topology before s) → (u : SubNo) × (u.consumer ≡ s) × (place topology before n ≡ Some (Inbox u))
