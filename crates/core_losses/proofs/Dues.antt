@@ -48,6 +48,7 @@ use Rattle.core_deaths.proofs.Deaths.{killed_live}
 use Rattle.core_losses.specs.Losses.{incarnation_at, loss_in}
 use Rattle.core_losses.specs.Legs.{leg_due, leg_loss, loss_if, works_by, due_in, EachDue}
 use Rattle.core_losses.proofs.Working.{crash_owes, work_due}
+use Rattle.queue_laws.proofs.Writes.{of_entry}
 
 -- One leg for a consumer
 
@@ -119,18 +120,6 @@ self_works (x ∷ xs) = (
     or_right false b e = e
 
 -- Entries
-
-pub of_entry : (P : SubNo × ℕ → Type 0) (u : SubNo) (n : ℕ) (xs : List (SubNo × ℕ)) → Each P xs → has_entry u n xs ≡ true → P (u, n)
-of_entry P u n [] each h = cc
-of_entry P u n (d ∷ xs) each h = either (same_sub d.0 u) refl (d.1 == n) refl h (of_entry P u n xs each.1)
-  where
-    either : (a : Bool) → same_sub d.0 u ≡ a → (b : Bool) → (d.1 == n) ≡ b → ((a && b) || has_entry u n xs) ≡ true → (has_entry u n xs ≡ true → P (u, n)) → P (u, n)
-    either true ea true eb k rest =
-        let sub : d.0 ≡ u = same_sub-true d.0 u ea in
-        let no-is : d.1 ≡ n = eqb-true d.1 n eb in
-        subst (λ (x : SubNo × ℕ). P x) (λ i. (sub i, no-is i)) each.0
-    either true ea false eb k rest = rest k
-    either false ea b eb k rest = rest k
 
 entry_among : (u : SubNo) (n : ℕ) (xs : List (SubNo × ℕ)) → has_entry u n xs ≡ true → among (map (λ d. d.1) xs) n ≡ true
 entry_among u n [] h = cc

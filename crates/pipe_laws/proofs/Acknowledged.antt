@@ -190,6 +190,15 @@ same_producer before (Accept s records) n low = rw (not_next (accepted before) (
 same_producer before (Late s slot i (Records records)) n low = rw (not_next (accepted before) (length records) n low) refl
 same_producer before _ n low = refl
 
+and_false : (b : Bool) → as_number (b && false) ≡ 0
+and_false true = refl
+and_false false = refl
+
+-- what is on a side stands somewhere
+some_side : (side : Option Place → Bool) → side None ≡ false → (p : Option Place) → side p ≡ true → is_some p ≡ true
+some_side side none None h = clash (side None) h none
+some_side side none (Some q) h = refl
+
 -- One step
 
 module _ (topology : Topology) (before : History) (step : Step) (n : ℕ) where
@@ -200,33 +209,21 @@ module _ (topology : Topology) (before : History) (step : Step) (n : ℕ) where
   settled_count : (side : Option Place → Bool) (p : StageNo) → side None ≡ false → occurs n (settled_by topology before step p side) ≡ as_number (is_producer (producer_of (step ∷ before) n) p && newly side)
   settled_count side p none = either (is_producer (producer_of (step ∷ before) n) p && newly side) refl
     where
-      placed : (o : Option Place) → side o ≡ true → is_some o ≡ true
-      placed None h = clash (side None) h none
-      placed (Some q) h = refl
-
       either : (b : Bool) → (is_producer (producer_of (step ∷ before) n) p && newly side) ≡ b → occurs n (settled_by topology before step p side) ≡ as_number b
       either false e = occurs_failing (λ m. is_producer (producer_of (step ∷ before) m) p && (not (is_acked (place topology before m)) && side (place topology (step ∷ before) m))) n (numbers_upto (accepted (step ∷ before))) e
       either true e =
           let there : side (place topology (step ∷ before) n) ≡ true = and_right (not (is_acked (place topology before n))) _ (and_right (is_producer (producer_of (step ∷ before) n) p) _ e) in
-          let range = placed_accepted topology (step ∷ before) n (placed (place topology (step ∷ before) n) there) in
+          let range = placed_accepted topology (step ∷ before) n (some_side side none (place topology (step ∷ before) n) there) in
           occurs_passing (λ m. is_producer (producer_of (step ∷ before) m) p && (not (is_acked (place topology before m)) && side (place topology (step ∷ before) m))) (accepted (step ∷ before)) n range.0 range.1 e
 
   -- the producer of what is acknowledged is one stage of the topology
   producer_once : AscendFrom 0 topology.stages → is_legal topology (step ∷ before) ≡ true → (side : Option Place → Bool) → side None ≡ false → weigh (λ spec. as_number (is_producer (producer_of (step ∷ before) n) spec.no && newly side)) topology.stages ≡ as_number (newly side)
   producer_once ascend h side none = either (newly side) refl
     where
-      and_false : (b : Bool) → as_number (b && false) ≡ 0
-      and_false true = refl
-      and_false false = refl
-
-      placed : (o : Option Place) → side o ≡ true → is_some o ≡ true
-      placed None k = clash (side None) k none
-      placed (Some q) k = refl
-
       either : (b : Bool) → newly side ≡ b → weigh (λ spec. as_number (is_producer (producer_of (step ∷ before) n) spec.no && b)) topology.stages ≡ as_number b
       either false e = weigh_none _ (λ spec. and_false (is_producer (producer_of (step ∷ before) n) spec.no)) topology.stages
       either true e =
-          let range = placed_accepted topology (step ∷ before) n (placed (place topology (step ∷ before) n) (and_right (not (is_acked (place topology before n))) _ e)) in
+          let range = placed_accepted topology (step ∷ before) n (some_side side none (place topology (step ∷ before) n) (and_right (not (is_acked (place topology before n))) _ e)) in
           let t = produced topology (step ∷ before) n h range.0 range.1 in
           subst (λ o. weigh (λ spec. as_number (is_producer o spec.no && true)) topology.stages ≡ 1) (sym t.1) (stage_once t.0 true 0 topology.stages ascend t.2)
 
@@ -237,14 +234,6 @@ module _ (topology : Topology) (before : History) (step : Step) (n : ℕ) where
       no_one true true = refl
       no_one true false = refl
       no_one false b = refl
-
-      and_false : (b : Bool) → as_number (b && false) ≡ 0
-      and_false true = refl
-      and_false false = refl
-
-      placed : (o : Option Place) → side o ≡ true → is_some o ≡ true
-      placed None k = clash (side None) k none
-      placed (Some q) k = refl
 
       agree : (q : StageNo) (spec : StageSpec) → (if same_stage spec.no p then as_number (same_stage q spec.no && true) else 0) ≡ as_number (same_stage q spec.no && same_stage q p)
       agree q spec = by_stage (same_stage q spec.no) refl
@@ -266,7 +255,7 @@ module _ (topology : Topology) (before : History) (step : Step) (n : ℕ) where
           weigh_none _ (λ spec. no_one (same_stage spec.no p) (is_producer (producer_of (step ∷ before) n) spec.no)) topology.stages
           ∙ sym (and_false (is_producer (producer_of (step ∷ before) n) p))
       either true e =
-          let range = placed_accepted topology (step ∷ before) n (placed (place topology (step ∷ before) n) (and_right (not (is_acked (place topology before n))) _ e)) in
+          let range = placed_accepted topology (step ∷ before) n (some_side side none (place topology (step ∷ before) n) (and_right (not (is_acked (place topology before n))) _ e)) in
           let t = produced topology (step ∷ before) n h range.0 range.1 in
           subst (λ o. weigh (λ spec. if same_stage spec.no p then as_number (is_producer o spec.no && true) else 0) topology.stages ≡ as_number (is_producer o p && true)) (sym t.1)
           (weigh_same _ (λ spec. as_number (same_stage t.0 spec.no && same_stage t.0 p)) (agree t.0) topology.stages
@@ -362,10 +351,6 @@ on_side topology side test p n none acks adds (step ∷ before) h =
     let old : weigh (λ a. occurs n (side_of side p a)) (acknowledgements topology before) ≡ as_number (is_producer (producer_of before n) p && test (place topology before n)) = on_side topology side test p n none acks adds before (legal_before topology before step h) in
     parts ∙ ((λ i. old i + adds before step h i) ∙ either (is_acked (place topology before n)) refl)
   where
-    and_false : (b : Bool) → as_number (b && false) ≡ 0
-    and_false true = refl
-    and_false false = refl
-
     either : (b : Bool) → is_acked (place topology before n) ≡ b → as_number (is_producer (producer_of before n) p && test (place topology before n)) + as_number (is_producer (producer_of (step ∷ before) n) p && (not b && test (place topology (step ∷ before) n))) ≡ as_number (is_producer (producer_of (step ∷ before) n) p && test (place topology (step ∷ before) n))
     either true e =
         let now : as_number (is_producer (producer_of (step ∷ before) n) p && test (place topology (step ∷ before) n)) ≡ as_number (is_producer (producer_of before n) p && test (place topology before n)) = let a = acked_producer topology before step n e in let b = acked_same topology before step n e in λ i. as_number (is_producer (a i) p && test (b i)) in
