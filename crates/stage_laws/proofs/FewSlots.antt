@@ -39,17 +39,17 @@ slot_case P e (suc (suc (suc (suc (suc (suc (suc (suc (suc (suc (suc (suc (suc (
 slot_case P e (suc (suc (suc (suc (suc (suc (suc (suc (suc (suc (suc (suc (suc (suc (suc zero))))))))))))))) h = e.1.1.1.1.1.1.1.1.1.1.1.1.1.1.1.0
 slot_case P e (suc (suc (suc (suc (suc (suc (suc (suc (suc (suc (suc (suc (suc (suc (suc (suc n)))))))))))))))) h = absurd (omega arith)
 
+pub or_first : (a b : Bool) → (a || b) ≡ false → a ≡ false
+or_first true b h = h
+or_first false b h = refl
+
+pub or_last : (a b : Bool) → (a || b) ≡ false → b ≡ false
+or_last true b h = cc
+or_last false b h = h
+
 pub none_any : {A : Type 0} (test : A → Bool) (xs : List A) → list_any test xs ≡ false → Each (λ x. test x ≡ false) xs
 none_any test [] e = tt
 none_any test (x ∷ xs) e = (or_first (test x) (list_any test xs) e, none_any test xs (or_last (test x) (list_any test xs) e))
-  where
-    or_first : (a b : Bool) → (a || b) ≡ false → a ≡ false
-    or_first true b h = h
-    or_first false b h = refl
-
-    or_last : (a b : Bool) → (a || b) ≡ false → b ≡ false
-    or_last true b h = cc
-    or_last false b h = h
 
 pub record Children (spec : StageSpec) : Type 0 where
   pub some : 1 ≤ spec.max
