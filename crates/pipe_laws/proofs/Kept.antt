@@ -6,7 +6,7 @@ use Rattle.pipe_types.specs.declared.numbers.SubNo.{SubNo}
 use Rattle.pipe_types.specs.declared.numbers.StageNo.{StageNo}
 use Rattle.pipe_types.specs.declared.topology.Topology.{Topology}
 use Rattle.pipe_types.specs.declared.message.Place.{Place}
-use Rattle.pipe_types.specs.declared.message.Place.TheVariants.{Running, Acked}
+use Rattle.pipe_types.specs.declared.message.Place.TheVariants.{Running, Gathered, Acked}
 use Rattle.pipe_types.specs.declared.message.Why.{Why}
 use Rattle.pipe_types.specs.declared.message.BatchEnd.TheVariants.{Outcomes}
 use Rattle.pipe_types.specs.declared.step.Step.{Step}
@@ -18,7 +18,7 @@ use Rattle.pipe_model.specs.History.{History, closed, incarnation}
 use Rattle.pipe_model.specs.Content.{has_crash}
 use Rattle.pipe_model.specs.Batches.{Batch, BatchPlace, AtBatcher, Sent, Dropped, Leg, on_legs, leg_taken, leg_answered, leg_lost, batch_sent, batch_on_legs, batch_killed}
 use Rattle.pipe_model.specs.Lives.{KillSet, reason_in, is_live, is_alive, death, death_after, kill_set}
-use Rattle.pipe_model.specs.Flow.{place, view_of, batch, among, runs_in, is_batcher, by_batch, killed, lost_with, change_place, new_batch, next_units, closing, answered, reply_to, has_batchers_in, chunk_by}
+use Rattle.pipe_model.specs.Flow.{place, view_of, batch, among, runs_in, is_gathered_in, is_batcher, by_batch, killed, lost_with, change_place, new_batch, next_units, closing, answered, reply_to, has_batchers_in, chunk_by}
 use Rattle.pipe_model.specs.Moves.{is_final}
 use Rattle.pipe_laws.proofs.Tests.{clash, same_stage-true, same_stage-self}
 use Rattle.pipe_laws.proofs.Places.{Move, stays, comes, comes_lost, sent_on, runs, waits, is_gathered, joins, ends, move_by, starts}
@@ -37,6 +37,10 @@ ends_work _ t = false
 pub runs_here : (s : StageNo) (p : Option Place) → runs_in s p ≡ true → p ≡ Some (Running s)
 runs_here s (Some (Running t)) h = ap (λ x. Some (Running x)) (sym (same_stage-true s t h))
 runs_here s _ h = cc
+
+pub gathered_here : (s : StageNo) (p : Option Place) → is_gathered_in s p ≡ true → p ≡ Some (Gathered s)
+gathered_here s (Some (Gathered t)) h = ap (λ x. Some (Gathered x)) (sym (same_stage-true s t h))
+gathered_here s _ h = cc
 
 killed_runs : (topology : Topology) (old : Option Why) (set : KillSet) (incarnation : StageNo → ℕ) (after : ℕ → Option Batch) (n : ℕ) (s : StageNo) → is_alive topology (death_after (reason_in set s) false old) s ≡ true → by_batch after n (killed set incarnation (Running s)) ≡ Running s
 killed_runs topology old set incarnation after n s live = either (reason_in set s) refl
