@@ -38,6 +38,13 @@ may_come_after topology steps step = is_legal topology (step ∷ history steps)
 abbrev pub is_refused_after : Topology → List Step → Step → Bool
 is_refused_after topology steps step = is_legal topology (history steps) && not (allows topology (history steps) step)
 
+-- whether each of the steps may come after the first ones, and whether each is refused
+abbrev pub each_may_come_after : Topology → List Step → List Step → Bool
+each_may_come_after topology steps next = list_all (may_come_after topology steps) next
+
+abbrev pub none_may_come_after : Topology → List Step → List Step → Bool
+none_may_come_after topology steps next = list_all (is_refused_after topology steps) next
+
 -- what makes a topology sound
 abbrev pub is_sound : Topology → Bool
 is_sound topology =

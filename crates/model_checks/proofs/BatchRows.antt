@@ -18,7 +18,7 @@ use Rattle.pipe_types.specs.declared.step.DrainCause.TheVariants.{Control}
 use Rattle.pipe_types.specs.Numbers.{stage, message_no}
 use Rattle.pipe_model.specs.History.{history}
 use Rattle.pipe_model.specs.Flow.{place}
-use Rattle.model_checks.proofs.Base.{may_come_after, is_refused_after, producer, processor, with_stages, sub, msg, passes, keyed, feeding, batcher, batch_processor, by_key}
+use Rattle.model_checks.proofs.Base.{may_come_after, is_refused_after, producer, processor, with_stages, sub, msg, passes, keyed, feeding, batcher, batch_processor, by_key, each_may_come_after, none_may_come_after}
 
 -- so many lines `x`, and then one `y`, stand in the inbox of the batcher
 abbrev lines_to_the_batcher : ℕ → List Step
@@ -181,38 +181,26 @@ abbrev taken_batch : List Step
 taken_batch = gathered_two ++ Close (stage 3) (message_no 1) Size ∷ Dispatch (stage 3) ∷ Take (stage 4) (sub 4 3 1) 1 ∷ []
 
 -- the whole text, and the handler's end
-wrote_all : may_come_after of_one taken_batch (Wrote (stage 4) 2 (Outcomes (Successful ∷ []))) ≡ true
-wrote_all = refl
-
--- less of it, and every success failed by the sink
-wrote_less : may_come_after of_one taken_batch (Wrote (stage 4) 1 (Outcomes (Failed (codes "sink") ∷ []))) ≡ true
-wrote_less = refl
-
-wrote_nothing : may_come_after of_one taken_batch (Wrote (stage 4) 0 (Outcomes (Failed (codes "sink") ∷ []))) ≡ true
-wrote_nothing = refl
+wrote_as_handled : each_may_come_after of_one taken_batch (
+    Wrote (stage 4) 2 (Outcomes (Successful ∷ []))
+    -- less of it, and every success failed by the sink
+    ∷ Wrote (stage 4) 1 (Outcomes (Failed (codes "sink") ∷ []))
+    ∷ Wrote (stage 4) 0 (Outcomes (Failed (codes "sink") ∷ []))
+    ∷ []) ≡ true
+wrote_as_handled = refl
 
 -- not more, nor less with a success, nor all with a failure of the sink
-wrote_more : is_refused_after of_one taken_batch (Wrote (stage 4) 3 (Outcomes (Successful ∷ []))) ≡ true
-wrote_more = refl
-
-wrote_less_with_success : is_refused_after of_one taken_batch (Wrote (stage 4) 1 (Outcomes (Successful ∷ []))) ≡ true
-wrote_less_with_success = refl
-
-wrote_all_with_failure : is_refused_after of_one taken_batch (Wrote (stage 4) 2 (Outcomes (Failed (codes "sink") ∷ []))) ≡ true
-wrote_all_with_failure = refl
-
--- one outcome a message, the handler's
-wrote_no_outcome : is_refused_after of_one taken_batch (Wrote (stage 4) 2 (Outcomes [])) ≡ true
-wrote_no_outcome = refl
-
-wrote_two_outcomes : is_refused_after of_one taken_batch (Wrote (stage 4) 2 (Outcomes (Successful ∷ Successful ∷ []))) ≡ true
-wrote_two_outcomes = refl
-
-wrote_another_reason : is_refused_after of_one taken_batch (Wrote (stage 4) 1 (Outcomes (Failed (codes "no") ∷ []))) ≡ true
-wrote_another_reason = refl
-
-wrote_a_crash : is_refused_after of_one taken_batch (Wrote (stage 4) 0 CrashedEnd) ≡ true
-wrote_a_crash = refl
+wrote_otherwise : none_may_come_after of_one taken_batch (
+    Wrote (stage 4) 3 (Outcomes (Successful ∷ []))
+    ∷ Wrote (stage 4) 1 (Outcomes (Successful ∷ []))
+    ∷ Wrote (stage 4) 2 (Outcomes (Failed (codes "sink") ∷ []))
+    -- one outcome a message, the handler's
+    ∷ Wrote (stage 4) 2 (Outcomes [])
+    ∷ Wrote (stage 4) 2 (Outcomes (Successful ∷ Successful ∷ []))
+    ∷ Wrote (stage 4) 1 (Outcomes (Failed (codes "no") ∷ []))
+    ∷ Wrote (stage 4) 0 CrashedEnd
+    ∷ []) ≡ true
+wrote_otherwise = refl
 
 -- a crash of the handler's, with no bytes; it owes the kill
 abbrev crashing : Topology
@@ -324,24 +312,16 @@ own_less_with_success = refl
 own_less : may_come_after (own sink) taken_pair (Wrote (stage 4) 3 (Outcomes (Failed (codes "sink") ∷ Failed (codes "sink") ∷ []))) ≡ true
 own_less = refl
 
-own_less_of_one : is_refused_after (own sink) taken_pair (Wrote (stage 4) 2 (Outcomes (Failed (codes "sink") ∷ Failed (codes "no") ∷ [])))
-    ≡ true
-own_less_of_one = refl
-
-own_less_of_both : is_refused_after (own sink) taken_pair (Wrote (stage 4) 4
-    (Outcomes (Failed (codes "sink") ∷ Failed (codes "sink") ∷ []))) ≡ true
-own_less_of_both = refl
-
--- a failure of the sink beside a success is none of the three ends
-own_half_failed : is_refused_after (own sink) taken_pair (Wrote (stage 4) 2 (Outcomes (Failed (codes "sink") ∷ Successful ∷ []))) ≡ true
-own_half_failed = refl
-
--- one outcome a message
-own_too_few : is_refused_after (own sink) taken_pair (Wrote (stage 4) 2 (Outcomes (Successful ∷ []))) ≡ true
-own_too_few = refl
-
-own_too_many : is_refused_after (own sink) taken_pair (Wrote (stage 4) 4 (Outcomes (replicate 3 Successful))) ≡ true
-own_too_many = refl
+own_otherwise : none_may_come_after (own sink) taken_pair (
+    Wrote (stage 4) 2 (Outcomes (Failed (codes "sink") ∷ Failed (codes "no") ∷ []))
+    ∷ Wrote (stage 4) 4 (Outcomes (Failed (codes "sink") ∷ Failed (codes "sink") ∷ []))
+    -- a failure of the sink beside a success is none of the three ends
+    ∷ Wrote (stage 4) 2 (Outcomes (Failed (codes "sink") ∷ Successful ∷ []))
+    -- one outcome a message
+    ∷ Wrote (stage 4) 2 (Outcomes (Successful ∷ []))
+    ∷ Wrote (stage 4) 4 (Outcomes (replicate 3 Successful))
+    ∷ []) ≡ true
+own_otherwise = refl
 
 -- a crash without bytes
 own_crash : may_come_after (own sink) taken_pair (Wrote (stage 4) 0 CrashedEnd) ≡ true
