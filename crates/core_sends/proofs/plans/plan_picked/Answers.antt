@@ -13,45 +13,41 @@ index-requires c =
 
 pub plan_first-requires-clause-within : goal.plan_first-requires-clause-within
 plan_first-requires-clause-within c =
-    let core = c.args.core.now in
-    let t = core.topology in
-    let h = core.journal.steps in
+    let t = c.args.core.now.topology in
+    let h = c.args.core.now.journal.steps in
     let s = c.args.stage in
     let w = live_within t h s c.requires.holds.sound c.requires.live in
-    let read = waiting_read core t h c.requires.holds.fields s c.index.result.now w.1 c.index.ensures in
+    let read = waiting_read c.args.core.now t h c.requires.holds.fields s c.index.result.now w.1 c.index.ensures in
     let many : c.len-waiting.result ≡ length (waiting t h s) = c.len-waiting.ensures ∙ (c.index.result.now.ok.0 ∙ (ap length read ∙ long_queue (part_of t h (spec_of t s)) (waiting t h s))) in
     omega (arith, many)
 
 pub plan_first-requires-in-look-clause-within : goal.plan_first-requires-in-look-clause-within
 plan_first-requires-in-look-clause-within c =
-    let core = c.args.core.now in
-    let t = core.topology in
-    let h = core.journal.steps in
+    let t = c.args.core.now.topology in
+    let h = c.args.core.now.journal.steps in
     let s = c.args.stage in
     let w = live_within t h s c.requires.holds.sound c.requires.live in
-    let read = waiting_read core t h c.requires.holds.fields s c.index.result.now w.1 c.index.ensures in
+    let read = waiting_read c.args.core.now t h c.requires.holds.fields s c.index.result.now w.1 c.index.ensures in
     let many : c.len-waiting.result ≡ length (waiting t h s) = c.len-waiting.ensures ∙ (c.index.result.now.ok.0 ∙ (ap length read ∙ long_queue (part_of t h (spec_of t s)) (waiting t h s))) in
     omega (arith, many)
 
 pub plan_first-requires-in-look-clause-few : goal.plan_first-requires-in-look-clause-few
 plan_first-requires-in-look-clause-few c =
-    let core = c.args.core.now in
-    let t = core.topology in
-    let h = core.journal.steps in
+    let t = c.args.core.now.topology in
+    let h = c.args.core.now.journal.steps in
     let s = c.args.stage in
     let w = live_within t h s c.requires.holds.sound c.requires.live in
-    let read = waiting_read core t h c.requires.holds.fields s c.index.result.now w.1 c.index.ensures in
+    let read = waiting_read c.args.core.now t h c.requires.holds.fields s c.index.result.now w.1 c.index.ensures in
     let many : c.len-waiting.result ≡ length (waiting t h s) = c.len-waiting.ensures ∙ (c.index.result.now.ok.0 ∙ (ap length read ∙ long_queue (part_of t h (spec_of t s)) (waiting t h s))) in
     omega (arith, many)
 
 pub returns-clause-sent : goal.returns-clause-sent
 returns-clause-sent c =
-    let core = c.args.core.now in
-    let t = core.topology in
-    let h = core.journal.steps in
+    let t = c.args.core.now.topology in
+    let h = c.args.core.now.journal.steps in
     let s = c.args.stage in
     let w = live_within t h s c.requires.holds.sound c.requires.live in
-    let read = waiting_read core t h c.requires.holds.fields s c.index.result.now w.1 c.index.ensures in
+    let read = waiting_read c.args.core.now t h c.requires.holds.fields s c.index.result.now w.1 c.index.ensures in
     let many : c.len-waiting.result ≡ length (waiting t h s) = c.len-waiting.ensures ∙ (c.index.result.now.ok.0 ∙ (ap length read ∙ long_queue (part_of t h (spec_of t s)) (waiting t h s))) in
     c.look.invariant.sent
     ∙ (looked t h s c.look.count c.requires.broadcast (omega (arith, many, c.look.invariant.within))
@@ -59,12 +55,11 @@ returns-clause-sent c =
 
 pub returns-clause-served : goal.returns-clause-served
 returns-clause-served c =
-    let core = c.args.core.now in
-    let t = core.topology in
-    let h = core.journal.steps in
+    let t = c.args.core.now.topology in
+    let h = c.args.core.now.journal.steps in
     let s = c.args.stage in
     let w = live_within t h s c.requires.holds.sound c.requires.live in
-    let read = waiting_read core t h c.requires.holds.fields s c.index.result.now w.1 c.index.ensures in
+    let read = waiting_read c.args.core.now t h c.requires.holds.fields s c.index.result.now w.1 c.index.ensures in
     let many : c.len-waiting.result ≡ length (waiting t h s) = c.len-waiting.ensures ∙ (c.index.result.now.ok.0 ∙ (ap length read ∙ long_queue (part_of t h (spec_of t s)) (waiting t h s))) in
     c.look.invariant.served
     ∙ (looked t h s c.look.count c.requires.broadcast (omega (arith, many, c.look.invariant.within))
