@@ -2,7 +2,7 @@
 use Rattle.std.proofs.Common.{◌≡◌, refl}
 use Rattle.std.specs.Prelude.{ℕ, zero, suc, ◌+◌, true, List, [], ◌∷◌, ◌++◌, map, codes, drop, take, replicate, Option, Some, None}
 use Rattle.pipe_types.specs.declared.topology.Topology.{Topology}
-use Rattle.pipe_types.specs.declared.topology.Rule.TheVariants.{Key, Flush as FlushRule, Crash as CrashRule, FailEvery}
+use Rattle.pipe_types.specs.declared.topology.Rule.TheVariants.{Flush as FlushRule, Crash as CrashRule, FailEvery}
 use Rattle.pipe_types.specs.declared.topology.Kind.TheVariants.{Own}
 use Rattle.pipe_types.specs.declared.message.Reply.{Reply}
 use Rattle.pipe_types.specs.declared.message.Reply.TheVariants.{Pass}
@@ -18,7 +18,7 @@ use Rattle.pipe_types.specs.declared.step.DrainCause.TheVariants.{Control}
 use Rattle.pipe_types.specs.Numbers.{stage, message_no}
 use Rattle.pipe_model.specs.History.{history}
 use Rattle.pipe_model.specs.Flow.{place}
-use Rattle.model_checks.proofs.Base.{may_come_after, is_refused_after, producer, processor, with_stages, sub, msg, passes, keyed, feeding, batcher, batch_processor, by_key, each_may_come_after, none_may_come_after}
+use Rattle.model_checks.proofs.Base.{may_come_after, is_refused_after, producer, processor, with_stages, sub, msg, passes, keyed, feeding, batcher, batch_processor, by_key, each_may_come_after, none_may_come_after, one_batcher, of_one_for, of_one}
 
 -- so many lines `x`, and then one `y`, stand in the inbox of the batcher
 abbrev lines_to_the_batcher : ℕ → List Step
@@ -65,13 +65,6 @@ gather_while_dead = refl
 gather_without_room : is_refused_after by_key (take 2 two_sent ++ drop 3 two_sent) (Gather (stage 3) (message_no 1)) ≡ true
 gather_without_room = refl
 
-abbrev of_one : Topology
-of_one =
-    with_stages
-    (producer 1 (codes "p") 0 ∷ feeding 1 (processor 2 (codes "processors.0") 0 (Key 0 ∷ []))
-    ∷ record (batcher 3 (codes "b") 0) { batch_size = 1 }
-    ∷ batch_processor 4 (codes "b.0") 0 0 ∷ [])
-
 gather_over_what_waits : is_refused_after of_one (two_sent ++ Gather (stage 3) (message_no 1) ∷ Close (stage 3) (message_no 1) Size ∷ [])
     (Gather (stage 3) (message_no 2)) ≡ true
 gather_over_what_waits = refl
@@ -86,10 +79,7 @@ gather_beside_a_full = refl
 
 -- not behind a message in flush mode
 abbrev flushing : Topology
-flushing =
-    with_stages
-    (producer 1 (codes "p") 0 ∷ feeding 1 (processor 2 (codes "processors.0") 0 (FlushRule (codes "x") ∷ [])) ∷ batcher 3 (codes "b") 0
-    ∷ batch_processor 4 (codes "b.0") 0 0 ∷ [])
+flushing = one_batcher (FlushRule (codes "x") ∷ [])
 
 abbrev flush_first : List Step
 flush_first =
@@ -204,11 +194,7 @@ wrote_otherwise = refl
 
 -- a crash of the handler's, with no bytes; it owes the kill
 abbrev crashing : Topology
-crashing =
-    with_stages
-    (producer 1 (codes "p") 0 ∷ feeding 1 (processor 2 (codes "processors.0") 0 (Key 0 ∷ []))
-    ∷ record (batcher 3 (codes "b") 0) { batch_size = 1 }
-    ∷ record (batch_processor 4 (codes "b.0") 0 0) { rules = CrashRule (codes "x") ∷ [] } ∷ [])
+crashing = of_one_for (record (batch_processor 4 (codes "b.0") 0 0) { rules = CrashRule (codes "x") ∷ [] })
 
 crash_without_bytes : may_come_after crashing taken_batch (Wrote (stage 4) 0 CrashedEnd) ≡ true
 crash_without_bytes = refl
@@ -227,11 +213,7 @@ crash_owes_it_now = refl
 
 -- without a sink no bytes, and no failure of a sink
 abbrev no_sink : Topology
-no_sink =
-    with_stages
-    (producer 1 (codes "p") 0 ∷ feeding 1 (processor 2 (codes "processors.0") 0 (Key 0 ∷ []))
-    ∷ record (batcher 3 (codes "b") 0) { batch_size = 1 }
-    ∷ record (batch_processor 4 (codes "b.0") 0 0) { edge = None } ∷ [])
+no_sink = of_one_for (record (batch_processor 4 (codes "b.0") 0 0) { edge = None })
 
 no_sink_no_bytes : may_come_after no_sink taken_batch (Wrote (stage 4) 0 (Outcomes (Successful ∷ []))) ≡ true
 no_sink_no_bytes = refl
@@ -244,11 +226,7 @@ no_sink_to_fail = refl
 
 -- the count goes on from batch to batch
 abbrev every_second : Topology
-every_second =
-    with_stages
-    (producer 1 (codes "p") 0 ∷ feeding 1 (processor 2 (codes "processors.0") 0 (Key 0 ∷ []))
-    ∷ record (batcher 3 (codes "b") 0) { batch_size = 1 }
-    ∷ record (batch_processor 4 (codes "b.0") 0 0) { rules = FailEvery 2 ∷ [] } ∷ [])
+every_second = of_one_for (record (batch_processor 4 (codes "b.0") 0 0) { rules = FailEvery 2 ∷ [] })
 
 abbrev second_batch : List Step
 second_batch =
