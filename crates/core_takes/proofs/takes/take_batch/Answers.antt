@@ -12,9 +12,7 @@ use Rattle.core_takes.proofs.TakenOne.{batch_read, unit_read, begins_with, batch
 use Rattle.core_takes.proofs.takes.take_batch.Goals as goal
 
 pub batch_of-requires-clause-closed : goal.batch_of-requires-clause-closed
-batch_of-requires-clause-closed c =
-    closed_read c.args.core.now c.args.stage c.first_sub-sub.result c.first_no-no.result c.deref.result.now c.deref-2.result.now c.requires.stands.holds c.requires.processor c.requires.legal
-    c.first_sub-sub.ensures c.deref.ensures.value c.first_no-no.ensures c.deref-2.ensures.value
+batch_of-requires-clause-closed c = closed_read c.args.core.now c.args.stage c.first_sub-sub.result c.first_no-no.result c.deref.result.now c.deref-2.result.now c.requires.stands.holds c.requires.processor c.requires.legal c.first_sub-sub.ensures c.deref.ensures.value c.first_no-no.ensures c.deref-2.ensures.value
 
 pub make_batch_ready-requires-clause-within : goal.make_batch_ready-requires-clause-within
 make_batch_ready-requires-clause-within c =
@@ -22,9 +20,7 @@ make_batch_ready-requires-clause-within c =
     take_within c.args.core.now c.args.stage c.first_sub-sub.result 1 c.requires.stands.holds next.allowed
 
 pub make_batch_ready-requires-clause-closed : goal.make_batch_ready-requires-clause-closed
-make_batch_ready-requires-clause-closed c =
-    closed_read c.args.core.now c.args.stage c.first_sub-sub.result c.first_no-no.result c.deref.result.now c.deref-2.result.now c.requires.stands.holds c.requires.processor c.requires.legal
-    c.first_sub-sub.ensures c.deref.ensures.value c.first_no-no.ensures c.deref-2.ensures.value
+make_batch_ready-requires-clause-closed c = closed_read c.args.core.now c.args.stage c.first_sub-sub.result c.first_no-no.result c.deref.result.now c.deref-2.result.now c.requires.stands.holds c.requires.processor c.requires.legal c.first_sub-sub.ensures c.deref.ensures.value c.first_no-no.ensures c.deref-2.ensures.value
 
 pub start_batch-requires-clause-legal : goal.start_batch-requires-clause-legal
 start_batch-requires-clause-legal c =
