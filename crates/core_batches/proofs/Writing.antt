@@ -54,7 +54,8 @@ use Rattle.core_laws.proofs.Past.{known_within, live_known}
 use Rattle.core_laws.proofs.LegsOn.{IsOnSubs, legs_are_on}
 use Rattle.core_state.proofs.Settling.{numbers_once}
 use Rattle.core_batches.specs.Writes.{leg_place}
-use Rattle.core_batches.proofs.Outcomes.{ends_count, messages_count}
+use Rattle.pipe_laws.proofs.Outcomes.{ends_count}
+use Rattle.pipe_laws.proofs.Replies.{messages_length}
 
 -- The batch at work
 
@@ -250,7 +251,7 @@ writing topology before s bytes outcomes u k b sound h calm allowed last first =
     let inside = (holds (ap not (open_at o.legs leg.0 u leg.1))).each in
     let numbers : o.ms ≡ closed_numbers (closed_as topology before b) = sym (closed_is topology before b ∙ ap numbers_in o.is) in
     let given : batch_of topology before s ≡ messages_of before o.ms = ap (λ n. messages_of before (numbers_in (batch topology before n))) first ∙ ap (λ x. messages_of before (numbers_in x)) o.is in
-    let counted = messages_count before o.ms (each_weaker (λ n. place topology before n ≡ Some (InBatch (batch_no b))) (λ n. is_some (content before n) ≡ true) (λ n p. placed_content topology before n (ap is_some p)) o.ms inside) in
+    let counted = messages_length before o.ms (each_weaker (λ n. place topology before n ≡ Some (InBatch (batch_no b))) (λ n. is_some (content before n) ≡ true) (λ n p. placed_content topology before n (ap is_some p)) o.ms inside) in
     let many : length outcomes ≡ length o.ms = ends_count (spec_of topology s) (count topology before s) (batch_of topology before s) bytes outcomes facts.handled ∙ (ap length given ∙ counted) in
     let kk : k ≡ 1 = omega (arith, one.0, one.1) in
     let consumer : u.consumer ≡ s = works_on.there in

@@ -82,7 +82,7 @@ level_final topology (Acked outcome) h = refl
 level_final topology (Lost loss) h = refl
 level_final topology _ h = cc
 
-level_most : (topology : Topology) (p : Option Place) → level topology p ≤ 100
+pub level_most : (topology : Topology) (p : Option Place) → level topology p ≤ 100
 level_most topology (Some (Inbox u)) = omega (arith, rank_most topology u.consumer)
 level_most topology (Some (Running s)) = omega (arith, rank_most topology s)
 level_most topology (Some (Gathered s)) = omega (arith, rank_most topology s)

@@ -27,5 +27,6 @@ pub mod Ends
 pub mod Acknowledged
 pub mod Lossless
 pub mod HandlerReplies
+pub mod Outcomes
 pub mod Contents
 pub mod Claims

@@ -32,7 +32,7 @@ use Rattle.pipe_laws.proofs.Allowed.{legal_before, legal_step, unowed, take_fact
 use Rattle.pipe_laws.proofs.Busy.{two_roles, take_there}
 use Rattle.pipe_laws.proofs.Slots.{supervisor_processes}
 use Rattle.pipe_laws.proofs.Lists as Held
-use Rattle.reading_laws.proofs.Outcomes.{ends_count}
+use Rattle.pipe_laws.proofs.Outcomes.{ends_count}
 use Rattle.reading_laws.specs.Fields.{AreBytes, IsHeldReply, IsHeldOutcome, IsHeldEnd, IsHeldAnswer, IsHeld}
 use Rattle.reading_laws.specs.Named.{job_units, with_producer, named_at}
 use Rattle.reading_laws.proofs.Passing.{AreShort, PassesAs, PassAsThere, replies_pass, some_replies}
