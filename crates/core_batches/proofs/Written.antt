@@ -1,7 +1,8 @@
 -- The fields after a batch was answered.
-use Rattle.std.proofs.Common.{◌≡◌, ◌≢◌, ℕ, zero, suc, set, ◌+◌, ◌-◌, ◌<◌, ◌≤◌, List, [], ◌∷◌, map, length, Bool, true, false, refl, ap, sym, ◌∙◌, Some, None, Option, arith, subst, inl, inr}
+use Rattle.std.proofs.Common.{◌≡◌, ◌≢◌, ℕ, zero, suc, set, ◌+◌, ◌-◌, ◌<◌, ◌≤◌, List, [], ◌∷◌, map, length, Bool, true, false, refl, ap, sym, ◌∙◌, Some, None, Option, arith, subst, inl, inr, get_or}
 use Rattle.std.specs.Prelude.{slice_get, option_map, if◌then◌else◌, ◌==◌, ◌&&◌, ◌||◌, ◌⊎◌, is_some, IfSome, unwrap_or, position}
 use Rattle.std.proofs.lemmas.Bool.{eqb-true, ne_eqb, false_from_ne_true}
+use Rattle.std.proofs.lemmas.Option.{slice_get_read}
 use Rattle.std.specs.declared.alloc.Global.{Global}
 use Rattle.std.specs.declared.vec.Vec.{Vec}
 use Rattle.pipe_types.specs.declared.numbers.StageNo.{StageNo}
@@ -317,21 +318,28 @@ here core s bytes os row taken stands allowed found last =
     least zero ms e some = let none = ap is_empty (e ∙ ap closed_numbers (closed_none core.topology core.journal.steps)) in (let wrong : true ≡ false = sym none ∙ some in cc)
     least (suc b) ms e some = omega arith
 
-pub answering : (core : Core) (s : StageNo) (bytes : ℕ) (end : BatchEnd) (os : List Outcome) (row : StageRow) (taken : SubNo × ℕ) → Stands core → allows core.topology core.journal.steps (Wrote s bytes end) ≡ true → end ≡ Outcomes os
-    → slice_get core.stages.items s.0 ≡ Some row → row.last_take ≡ Some taken → IsHere core s bytes os taken.0 row.taken
-answering core s bytes end os row taken stands allowed is found last =
-    here core s bytes os row taken stands (ap (λ e. allows core.topology core.journal.steps (Wrote s bytes e)) (sym is) ∙ allowed) found last
-
 pub stage_found : (core : Core) (s : StageNo) (bytes : ℕ) (end : BatchEnd) (os : List Outcome) → Stands core → allows core.topology core.journal.steps (Wrote s bytes end) ≡ true → end ≡ Outcomes os → s.0 < length core.stages.items
 stage_found core s bytes end os stands allowed is =
     omega (arith, stands.holds.fields.sized.stages, write_within core.topology core.journal.steps s bytes os stands.holds.sound (ap (λ e. allows core.topology core.journal.steps (Wrote s bytes e)) (sym is) ∙ allowed))
 
+-- the row that the code read
+row_read : (core : Core) (s : StageNo) (bytes : ℕ) (end : BatchEnd) (os : List Outcome) (row : StageRow) → Stands core → allows core.topology core.journal.steps (Wrote s bytes end) ≡ true → end ≡ Outcomes os
+    → row ≡ get_or core.stages.items s.0 row → slice_get core.stages.items s.0 ≡ Some row
+row_read core s bytes end os row stands allowed is read =
+    slice_get_read core.stages.items (length core.stages.items) s.0 row refl (stage_found core s bytes end os stands allowed is) read
+
+pub answering : (core : Core) (s : StageNo) (bytes : ℕ) (end : BatchEnd) (os : List Outcome) (row : StageRow) (taken : SubNo × ℕ) → Stands core → allows core.topology core.journal.steps (Wrote s bytes end) ≡ true → end ≡ Outcomes os
+    → row ≡ get_or core.stages.items s.0 row → row.last_take ≡ Some taken → IsHere core s bytes os taken.0 row.taken
+answering core s bytes end os row taken stands allowed is read last =
+    here core s bytes os row taken stands (ap (λ e. allows core.topology core.journal.steps (Wrote s bytes e)) (sym is) ∙ allowed)
+    (row_read core s bytes end os row stands allowed is read) last
+
 pub take_there : (core : Core) (s : StageNo) (bytes : ℕ) (end : BatchEnd) (os : List Outcome) (row : StageRow) → Stands core → allows core.topology core.journal.steps (Wrote s bytes end) ≡ true → end ≡ Outcomes os
-    → slice_get core.stages.items s.0 ≡ Some row → is_some row.last_take ≡ true
-take_there core s bytes end os row stands allowed is found =
+    → row ≡ get_or core.stages.items s.0 row → is_some row.last_take ≡ true
+take_there core s bytes end os row stands allowed is read =
     let mine = ap (λ e. allows core.topology core.journal.steps (Wrote s bytes e)) (sym is) ∙ allowed in
     let within = write_within core.topology core.journal.steps s bytes os stands.holds.sound mine in
-    let at : Some row ≡ Some (stage_row core.topology core.journal.steps s) = sym found ∙ stands.holds.fields.stages s within in
+    let at : Some row ≡ Some (stage_row core.topology core.journal.steps s) = sym (row_read core s bytes end os row stands allowed is read) ∙ stands.holds.fields.stages s within in
     let same : row ≡ stage_row core.topology core.journal.steps s = cc in
     ap (λ (r : StageRow). is_some r.last_take) same ∙ took_before core.topology core.journal.steps s bytes os stands.holds.legal mine
 
