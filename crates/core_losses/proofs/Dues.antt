@@ -4,7 +4,6 @@ use Rattle.std.specs.Prelude.{slice_get, if◌then◌else◌, ◌&&◌, ◌||◌
 use Rattle.std.specs.declared.alloc.Global.{Global}
 use Rattle.std.specs.declared.collections.VecDeque.{VecDeque}
 use Rattle.std.proofs.lemmas.Bool.{eqb-true, eq-eqb, false_from_ne_true}
-use Rattle.std.proofs.lemmas.List.{length-map}
 use Rattle.pipe_types.specs.declared.numbers.StageNo.{StageNo}
 use Rattle.pipe_types.specs.declared.numbers.SubNo.{SubNo}
 use Rattle.pipe_types.specs.declared.topology.Topology.{Topology}
@@ -15,7 +14,6 @@ use Rattle.pipe_types.specs.declared.message.Why.{Why}
 use Rattle.pipe_types.specs.declared.message.Loss.{Loss}
 use Rattle.pipe_types.specs.declared.step.Step.{Step}
 use Rattle.pipe_types.specs.Numbers.{same_sub}
-use Rattle.pipe_types.specs.Sound.{IsSound}
 use Rattle.pipe_types.specs.Stages.{spec_of, feeds}
 use Rattle.pipe_model.specs.History.{History}
 use Rattle.pipe_model.specs.Lives.{reason_in, kill_set}
@@ -25,16 +23,15 @@ use Rattle.pipe_model.specs.Legal.{is_legal, allows, has_role, is_batch_processo
 use Rattle.pipe_model.specs.Standing.{has_entry, at_work, leg_works, leg_works_in, is_at_work, in_inbox}
 use Rattle.pipe_model.specs.Work.{taken_units}
 use Rattle.pipe_laws.proofs.Tests.{and_right, clash, same_sub-true, same_sub-self}
-use Rattle.pipe_laws.proofs.Lists.{Each, each_always, each_weaker, each_both, each_filter, each_map}
+use Rattle.pipe_laws.proofs.Lists.{Each, each_always, each_weaker, each_both, each_filter}
 use Rattle.pipe_laws.proofs.Entries.{EntryFits, entries_fit}
 use Rattle.pipe_laws.proofs.Levels.{rank, rank_of, rank_in, feeds_down}
 use Rattle.queue_laws.proofs.Roles.{batcher_rank, fed_spec}
-use Rattle.queue_laws.proofs.Apart.{Apart, apart_mapped}
+use Rattle.queue_laws.proofs.Apart.{Apart}
 use Rattle.queue_laws.proofs.OneLeg.{leg_to, legs_once, BatchOnce}
 use Rattle.queue_laws.proofs.Batched.{LegListed, BatchListed, batch_listed}
 use Rattle.queue_laws.proofs.Laws.{batch_stands_law}
 use Rattle.queue_laws.proofs.Sounds.{fits}
-use Rattle.stage_laws.proofs.Bounds.{few_numbers}
 use Rattle.stage_laws.proofs.Numbering.{numbered_topology}
 use Rattle.core_tables.specs.declared.rows.StageRow.{StageRow}
 use Rattle.core_tables.specs.declared.rows.PostRow.{PostRow}
@@ -277,17 +274,3 @@ legs_due core step killed b ms legs x some is =
     (each_both (LegListed core.topology core.journal.steps b) (λ l. (leg_waits l.sub legs ≡ waits_place l.place) × (OnlyWorks legs l × SelfWorks legs l)) legs listed
     (each_both (λ l. leg_waits l.sub legs ≡ waits_place l.place) (λ l. OnlyWorks legs l × SelfWorks legs l) legs (own_waits legs once)
     (each_both (OnlyWorks legs) (SelfWorks legs) legs (only_works legs once) (self_works legs)))))
-
--- a batch has no more legs than there are stages
-pub legs_few : (topology : Topology) (before : History) (b : ℕ) (ms : List ℕ) (legs : List Leg) → IsSound topology → is_legal topology before ≡ true → batch topology before b ≡ Some (record { numbers = ms; place = Sent legs }) → length legs ≤ 64
-legs_few topology before b ms legs sound h is =
-    let once : Apart leg_to legs = subst BatchOnce is (legs_once topology before b (fits topology sound) h) in
-    let listed : Each (LegListed topology before b) legs = subst (BatchListed topology before b) is (batch_listed topology before b h) in
-    let t = numbered_topology topology sound in
-    let within : Each (λ n. (1 ≤ n) × (n ≤ 64)) (map leg_to legs) =
-    each_map (λ n. (1 ≤ n) × (n ≤ 64)) leg_to legs
-    (each_weaker (LegListed topology before b) (λ leg. (1 ≤ leg_to leg) × (leg_to leg ≤ 64))
-    (λ leg l. let fit = of_entry (EntryFits topology before leg.sub.consumer) leg.sub b (sent_to topology before leg.sub.consumer) (entries_fit topology before leg.sub.consumer) l.entry in
-    let w = known_within topology leg.sub.consumer t (fed_spec topology leg.sub.producer leg.sub.consumer fit.feeding).1 in (w.0, omega (arith, w.1, t.few))) legs listed) in
-    let few = few_numbers 64 (map leg_to legs) (apart_mapped (λ n. n) leg_to legs once) within in
-    omega (arith, few, length-map legs leg_to)
