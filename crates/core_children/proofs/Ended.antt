@@ -393,3 +393,12 @@ again_read core s slot reply n again crashed x allowed k crash read = by (slice_
         let is : again ≡ (crashed && mode_runs_again held.mode (crashes core.journal.steps n)) = subst (λ (o : Option ChildRow). IfSome o (λ child. again ≡ (crashed && mode_runs_again held.mode child.crashes))) there f in
         is ∙ (ap (λ b. b && mode_runs_again held.mode (crashes core.journal.steps n)) crash
         ∙ ap (λ b. crashed_reply reply && b) (mode held e (spec_of core.topology s) refl))
+
+-- what the code read of the child that ends
+pub ends_read : (core : Core) (s : StageNo) (slot : ℕ) (reply : Reply) (n : ℕ) (again crashed : Bool) (table : List Slots) → Holds core → allows core.topology core.journal.steps (ChildEnd s slot reply) ≡ true
+    → table ≡ core.children.items → option_map (λ (child : ChildRow). child.no.0) (child_at table s slot) ≡ Some n → crashed ≡ crashed_reply reply
+    → IfSome (slice_get core.children.items s.0) (λ held. IfSome (child_in held.slots slot) (λ child. again ≡ (crashed && mode_runs_again held.mode child.crashes)))
+    → Ends core.topology core.journal.steps s slot reply n again
+ends_read core s slot reply n again crashed table x allowed same read crash said =
+    let known = number_read core s slot reply n table x allowed same read in
+    ends core.topology core.journal.steps s slot reply n again x.sound x.legal allowed known (again_read core s slot reply n again crashed x allowed known crash said)

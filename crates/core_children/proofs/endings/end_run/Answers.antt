@@ -21,105 +21,53 @@ use Rattle.core_state.proofs.Steps.{holds_after}
 use Rattle.core_takes.specs.Replies.{handled_on}
 use Rattle.core_children.specs.Slots.{left_in}
 use Rattle.core_children.proofs.Rooming.{end_due, ended_queues}
-use Rattle.core_children.proofs.Ended.{slot_of, ends, Ended, ended_fields, row_room, number_read, child_there, again_read}
+use Rattle.core_children.proofs.Ended.{slot_of, Ended, ended_fields, row_room, child_there, ends_read}
 use Rattle.core_children.proofs.endings.end_run.Goals as goal
 
 pub index-requires : goal.index-requires
 index-requires c =
-    let core = c.args.core.now in
-    let s = c.args.stage in
-    let slot = c.args.slot in
-    let x = c.requires.holds in
-    let known = (slot_of core.topology core.journal.steps s slot c.args.reply x.sound x.legal c.requires.legal).1 in
-    omega (arith, known.within, x.fields.sized.stages, core.stages.ok.0)
+    let known = (slot_of c.args.core.now.topology c.args.core.now.journal.steps c.args.stage c.args.slot c.args.reply c.requires.holds.sound c.requires.holds.legal c.requires.legal).1 in
+    omega (arith, known.within, c.requires.holds.fields.sized.stages, c.args.core.now.stages.ok.0)
 
 pub index-sub-requires : goal.index-sub-requires
 index-sub-requires c =
-    let core = c.args.core.now in
-    let s = c.args.stage in
-    let slot = c.args.slot in
-    let x = c.requires.holds in
-    let known = (slot_of core.topology core.journal.steps s slot c.args.reply x.sound x.legal c.requires.legal).1 in
-    omega (arith, known.within, known.low, x.fields.sized.came, core.came.ok.0)
+    let known = (slot_of c.args.core.now.topology c.args.core.now.journal.steps c.args.stage c.args.slot c.args.reply c.requires.holds.sound c.requires.holds.legal c.requires.legal).1 in
+    omega (arith, known.within, known.low, c.requires.holds.fields.sized.came, c.args.core.now.came.ok.0)
 
 pub number_in-no-requires-clause-within : goal.number_in-no-requires-clause-within
 number_in-no-requires-clause-within c =
-    let core = c.args.core.now in
-    let s = c.args.stage in
-    let slot = c.args.slot in
-    let x = c.requires.holds in
-    let known = (slot_of core.topology core.journal.steps s slot c.args.reply x.sound x.legal c.requires.legal).1 in
-    omega (arith, known.within, x.fields.sized.children, ap length c.deref.ensures.value)
+    let known = (slot_of c.args.core.now.topology c.args.core.now.journal.steps c.args.stage c.args.slot c.args.reply c.requires.holds.sound c.requires.holds.legal c.requires.legal).1 in
+    omega (arith, known.within, c.requires.holds.fields.sized.children, ap length c.deref.ensures.value)
 
 pub number_in-no-requires-clause-there : goal.number_in-no-requires-clause-there
 number_in-no-requires-clause-there c =
-    let core = c.args.core.now in
-    let s = c.args.stage in
-    let slot = c.args.slot in
-    let x = c.requires.holds in
-    child_there core s slot c.args.reply c.deref.result.now x c.requires.legal c.deref.ensures.value
+    child_there c.args.core.now c.args.stage c.args.slot c.args.reply c.deref.result.now c.requires.holds c.requires.legal c.deref.ensures.value
 
 pub end_in-again-requires-clause-within : goal.end_in-again-requires-clause-within
 end_in-again-requires-clause-within c =
-    let core = c.args.core.now in
-    let s = c.args.stage in
-    let slot = c.args.slot in
-    let x = c.requires.holds in
-    let known = (slot_of core.topology core.journal.steps s slot c.args.reply x.sound x.legal c.requires.legal).1 in
-    omega (arith, known.within, x.fields.sized.children)
+    let known = (slot_of c.args.core.now.topology c.args.core.now.journal.steps c.args.stage c.args.slot c.args.reply c.requires.holds.sound c.requires.holds.legal c.requires.legal).1 in
+    omega (arith, known.within, c.requires.holds.fields.sized.children)
 
 pub leave_chunk-requires : goal.leave_chunk-requires
 leave_chunk-requires c =
-    let core = c.args.core.now in
-    let s = c.args.stage in
-    let slot = c.args.slot in
-    let x = c.requires.holds in
-    let known = (slot_of core.topology core.journal.steps s slot c.args.reply x.sound x.legal c.requires.legal).1 in
-    omega (arith, known.within, x.fields.sized.chunks)
+    let known = (slot_of c.args.core.now.topology c.args.core.now.journal.steps c.args.stage c.args.slot c.args.reply c.requires.holds.sound c.requires.holds.legal c.requires.legal).1 in
+    omega (arith, known.within, c.requires.holds.fields.sized.chunks)
 
 pub put_place-requires-clause-least : goal.put_place-requires-clause-least
 put_place-requires-clause-least c =
-    let core = c.args.core.now in
-    let s = c.args.stage in
-    let slot = c.args.slot in
-    let x = c.requires.holds in
-    let known = number_read core s slot c.args.reply c.number_in-no.result c.deref.result.now x c.requires.legal c.deref.ensures.value c.number_in-no.ensures in
-    let again = again_read core s slot c.args.reply c.number_in-no.result c.end_in-again.result c.has_crashed-crashed.result x c.requires.legal known c.has_crashed-crashed.ensures c.end_in-again.ensures.again in
-    let k = ends core.topology core.journal.steps s slot c.args.reply c.number_in-no.result c.end_in-again.result x.sound x.legal c.requires.legal known again in
-    k.least
+    (ends_read c.args.core.now c.args.stage c.args.slot c.args.reply c.number_in-no.result c.end_in-again.result c.has_crashed-crashed.result c.deref.result.now c.requires.holds c.requires.legal c.deref.ensures.value c.number_in-no.ensures c.has_crashed-crashed.ensures c.end_in-again.ensures.again).least
 
 pub put_place-requires-clause-within : goal.put_place-requires-clause-within
 put_place-requires-clause-within c =
-    let core = c.args.core.now in
-    let s = c.args.stage in
-    let slot = c.args.slot in
-    let x = c.requires.holds in
-    let known = number_read core s slot c.args.reply c.number_in-no.result c.deref.result.now x c.requires.legal c.deref.ensures.value c.number_in-no.ensures in
-    let again = again_read core s slot c.args.reply c.number_in-no.result c.end_in-again.result c.has_crashed-crashed.result x c.requires.legal known c.has_crashed-crashed.ensures c.end_in-again.ensures.again in
-    let k = ends core.topology core.journal.steps s slot c.args.reply c.number_in-no.result c.end_in-again.result x.sound x.legal c.requires.legal known again in
-    omega (arith, k.most, x.fields.sized.places)
+    omega (arith, (ends_read c.args.core.now c.args.stage c.args.slot c.args.reply c.number_in-no.result c.end_in-again.result c.has_crashed-crashed.result c.deref.result.now c.requires.holds c.requires.legal c.deref.ensures.value c.number_in-no.ensures c.has_crashed-crashed.ensures c.end_in-again.ensures.again).most, c.requires.holds.fields.sized.places)
 
 pub put_mark-requires-clause-least : goal.put_mark-requires-clause-least
 put_mark-requires-clause-least c =
-    let core = c.args.core.now in
-    let s = c.args.stage in
-    let slot = c.args.slot in
-    let x = c.requires.holds in
-    let known = number_read core s slot c.args.reply c.number_in-no.result c.deref.result.now x c.requires.legal c.deref.ensures.value c.number_in-no.ensures in
-    let again = again_read core s slot c.args.reply c.number_in-no.result c.end_in-again.result c.has_crashed-crashed.result x c.requires.legal known c.has_crashed-crashed.ensures c.end_in-again.ensures.again in
-    let k = ends core.topology core.journal.steps s slot c.args.reply c.number_in-no.result c.end_in-again.result x.sound x.legal c.requires.legal known again in
-    k.least
+    (ends_read c.args.core.now c.args.stage c.args.slot c.args.reply c.number_in-no.result c.end_in-again.result c.has_crashed-crashed.result c.deref.result.now c.requires.holds c.requires.legal c.deref.ensures.value c.number_in-no.ensures c.has_crashed-crashed.ensures c.end_in-again.ensures.again).least
 
 pub put_mark-requires-clause-within : goal.put_mark-requires-clause-within
 put_mark-requires-clause-within c =
-    let core = c.args.core.now in
-    let s = c.args.stage in
-    let slot = c.args.slot in
-    let x = c.requires.holds in
-    let known = number_read core s slot c.args.reply c.number_in-no.result c.deref.result.now x c.requires.legal c.deref.ensures.value c.number_in-no.ensures in
-    let again = again_read core s slot c.args.reply c.number_in-no.result c.end_in-again.result c.has_crashed-crashed.result x c.requires.legal known c.has_crashed-crashed.ensures c.end_in-again.ensures.again in
-    let k = ends core.topology core.journal.steps s slot c.args.reply c.number_in-no.result c.end_in-again.result x.sound x.legal c.requires.legal known again in
-    omega (arith, k.most, x.fields.sized.settled)
+    omega (arith, (ends_read c.args.core.now c.args.stage c.args.slot c.args.reply c.number_in-no.result c.end_in-again.result c.has_crashed-crashed.result c.deref.result.now c.requires.holds c.requires.legal c.deref.ensures.value c.number_in-no.ensures c.has_crashed-crashed.ensures c.end_in-again.ensures.again).most, c.requires.holds.fields.sized.settled)
 
 pub count_handled-requires : goal.count_handled-requires
 count_handled-requires c =
@@ -127,9 +75,7 @@ count_handled-requires c =
     let s = c.args.stage in
     let slot = c.args.slot in
     let x = c.requires.holds in
-    let known = number_read core s slot c.args.reply c.number_in-no.result c.deref.result.now x c.requires.legal c.deref.ensures.value c.number_in-no.ensures in
-    let again = again_read core s slot c.args.reply c.number_in-no.result c.end_in-again.result c.has_crashed-crashed.result x c.requires.legal known c.has_crashed-crashed.ensures c.end_in-again.ensures.again in
-    let k = ends core.topology core.journal.steps s slot c.args.reply c.number_in-no.result c.end_in-again.result x.sound x.legal c.requires.legal known again in
+    let k = ends_read core s slot c.args.reply c.number_in-no.result c.end_in-again.result c.has_crashed-crashed.result c.deref.result.now x c.requires.legal c.deref.ensures.value c.number_in-no.ensures c.has_crashed-crashed.ensures c.end_in-again.ensures.again in
     let sub : c.index-sub.result.now ≡ came core.topology core.journal.steps s slot =
     (let there : Some c.index-sub.result.now ≡ Some (came core.topology core.journal.steps s slot) = sym (slice_get_read core.came.items (length core.came.items) (post_at s.0 slot) c.index-sub.result.now refl (omega (arith, k.within, k.low, x.fields.sized.came)) c.index-sub.ensures) ∙ x.fields.came s slot k.within k.low in
     cc) in
@@ -139,17 +85,12 @@ count_handled-requires c =
 
 pub come_home-requires : goal.come_home-requires
 come_home-requires c =
-    let core = c.args.core.now in
-    let s = c.args.stage in
-    let slot = c.args.slot in
-    let x = c.requires.holds in
-    let known = (slot_of core.topology core.journal.steps s slot c.args.reply x.sound x.legal c.requires.legal).1 in
-    record { within = omega (arith, known.within, known.low, x.fields.sized.posts) }
+    let known = (slot_of c.args.core.now.topology c.args.core.now.journal.steps c.args.stage c.args.slot c.args.reply c.requires.holds.sound c.requires.holds.legal c.requires.legal).1 in
+    record { within = omega (arith, known.within, known.low, c.requires.holds.fields.sized.posts) }
 
 pub push_spare-requires : goal.push_spare-requires
 push_spare-requires c =
-    let x = c.requires.holds in
-    omega (arith, end_due c.args.core.now c.args.stage c.args.slot c.args.reply x c.requires.legal, x.room.steps)
+    omega (arith, end_due c.args.core.now c.args.stage c.args.slot c.args.reply c.requires.holds c.requires.legal, c.requires.holds.room.steps)
 
 pub returns-clause-holds : goal.returns-clause-holds
 returns-clause-holds c =
@@ -157,9 +98,7 @@ returns-clause-holds c =
     let s = c.args.stage in
     let slot = c.args.slot in
     let x = c.requires.holds in
-    let known = number_read core s slot c.args.reply c.number_in-no.result c.deref.result.now x c.requires.legal c.deref.ensures.value c.number_in-no.ensures in
-    let again = again_read core s slot c.args.reply c.number_in-no.result c.end_in-again.result c.has_crashed-crashed.result x c.requires.legal known c.has_crashed-crashed.ensures c.end_in-again.ensures.again in
-    let k = ends core.topology core.journal.steps s slot c.args.reply c.number_in-no.result c.end_in-again.result x.sound x.legal c.requires.legal known again in
+    let k = ends_read core s slot c.args.reply c.number_in-no.result c.end_in-again.result c.has_crashed-crashed.result c.deref.result.now x c.requires.legal c.deref.ensures.value c.number_in-no.ensures c.has_crashed-crashed.ensures c.end_in-again.ensures.again in
     let sub : c.index-sub.result.now ≡ came core.topology core.journal.steps s slot =
     (let there : Some c.index-sub.result.now ≡ Some (came core.topology core.journal.steps s slot) = sym (slice_get_read core.came.items (length core.came.items) (post_at s.0 slot) c.index-sub.result.now refl (omega (arith, k.within, k.low, x.fields.sized.came)) c.index-sub.ensures) ∙ x.fields.came s slot k.within k.low in
     cc) in
