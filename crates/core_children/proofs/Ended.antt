@@ -1,5 +1,5 @@
 -- The fields after the end of a child's run.
-use Rattle.std.proofs.Common.{◌≡◌, ◌≢◌, ℕ, suc, ◌+◌, ◌<◌, ◌≤◌, List, ◌∷◌, length, map, filter, Bool, true, false, refl, ap, sym, ◌∙◌, Some, None, Option, arith, inl, inr, subst}
+use Rattle.std.proofs.Common.{◌≡◌, ◌≢◌, ℕ, suc, ◌+◌, ◌<◌, ◌≤◌, List, ◌∷◌, length, map, filter, Bool, true, false, refl, ap, sym, ◌∙◌, Some, None, Option, arith, inl, inr, subst, get_or}
 use Rattle.std.specs.Prelude.{slice_get, option_map, if◌then◌else◌, ◌==◌, ◌&&◌, ◌⊎◌, not, is_some, IfSome, IsSome}
 use Rattle.std.specs.declared.alloc.Global.{Global}
 use Rattle.std.specs.declared.vec.Vec.{Vec}
@@ -57,6 +57,7 @@ use Rattle.core_takes.specs.Replies.{handled_on}
 use Rattle.core_children.specs.Slots.{left_in}
 use Rattle.core_children.proofs.Next.{out_slot}
 use Rattle.core_state.proofs.Parts.{Part, ChildrenAre, ChildrenLen, ChildrenSet, ChunksAre, ChunksLen, InboxesAre, OpensAre, PlacesAre, PlacesLen, PostsAre, PostsLen, SettledAre, SettledLen, SubsAre, TotalsAre, WaitingAre, Says, unchanged, fields_of}
+use Rattle.std.proofs.lemmas.Option.{slice_get_read}
 
 -- ---- what is known
 
@@ -402,3 +403,11 @@ pub ends_read : (core : Core) (s : StageNo) (slot : ℕ) (reply : Reply) (n : �
 ends_read core s slot reply n again crashed table x allowed same read crash said =
     let known = number_read core s slot reply n table x allowed same read in
     ends core.topology core.journal.steps s slot reply n again x.sound x.legal allowed known (again_read core s slot reply n again crashed x allowed known crash said)
+
+-- the subscription on which the child came
+pub came_read : (core : Core) (s : StageNo) (slot : ℕ) (reply : Reply) (n : ℕ) (again : Bool) (u : SubNo) → Holds core → Ends core.topology core.journal.steps s slot reply n again
+    → u ≡ get_or core.came.items (post_at s.0 slot) u → u ≡ came core.topology core.journal.steps s slot
+came_read core s slot reply n again u x k read =
+    let there : Some u ≡ Some (came core.topology core.journal.steps s slot) =
+    sym (slice_get_read core.came.items (length core.came.items) (post_at s.0 slot) u refl (omega (arith, k.within, k.low, x.fields.sized.came)) read) ∙ x.fields.came s slot k.within k.low in
+    cc

@@ -91,15 +91,14 @@ pub returns-clause-holds : goal.returns-clause-holds
 returns-clause-holds c =
     let core = c.args.core.now in
     let s = c.args.stage in
-    let rs = c.args.replies in
     let x = c.requires.holds in
-    let known = known_answer core s rs x c.requires.legal c.requires.calm in
+    let known = known_answer core s c.args.replies x c.requires.legal c.requires.calm in
     let b = c.has_batchers-passes_on.result in
     let p = c.is_parted-by_partition.result in
     let read : c.index-chunk.result.now.items ≡ list_at core.chunks.items s = list_read core.chunks.items s c.index-chunk.result.now (omega (arith, known.within, x.fields.sized.chunks)) c.index-chunk.ensures in
     let took : c.last_take-take.result ≡ last_take core.journal.steps s = c.last_take-take.ensures ∙ (ap (λ rows. take_in (slice_get rows s.0)) c.deref-3.ensures.value ∙ ap take_in (x.fields.stages s known.within)) in
     let core-new : Core = record core { journal = c.push_spare.new.self; posts = c.come_home.new.posts; subs = c.count_taken.new.subs; waiting = c.queue_passed.new.waiting; chunks = c.clear_chunk.new.chunks; places = c.answer_all.new.places; settled = c.mark_all.new.settled; contents = c.note_all.new.contents; totals = record core.totals { quiet = 0 } } in
-    let new : Answered core s rs b p c.come_home.new.posts c.count_taken.new.subs c.queue_passed.new.waiting c.clear_chunk.new.chunks c.answer_all.new.places c.mark_all.new.settled c.note_all.new.contents =
+    let new : Answered core s c.args.replies b p c.come_home.new.posts c.count_taken.new.subs c.queue_passed.new.waiting c.clear_chunk.new.chunks c.answer_all.new.places c.mark_all.new.settled c.note_all.new.contents =
     record {
       posts-is = c.come_home.ensures.posts;
       posts-len = c.come_home.ensures.len;
@@ -113,15 +112,15 @@ returns-clause-holds c =
       placed-len = c.answer_all.ensures.len;
       marks = λ i. c.mark_all.ensures.rows i ∙ (ap (λ ns. marked b c.len-entry.result ns c.as_slice-2.result.now (suc i) (slice_get core.settled.items i)) (c.deref-2.ensures.value ∙ read)
           ∙ (ap (λ (ms : List Reply). marked b c.len-entry.result (list_at core.chunks.items s) ms (suc i) (slice_get core.settled.items i)) c.as_slice-2.ensures
-          ∙ ap (λ e. marked b e (list_at core.chunks.items s) rs (suc i) (slice_get core.settled.items i)) c.len-entry.ensures));
+          ∙ ap (λ e. marked b e (list_at core.chunks.items s) c.args.replies (suc i) (slice_get core.settled.items i)) c.len-entry.ensures));
       marks-len = c.mark_all.ensures.len;
       notes = λ i. c.note_all.ensures.rows i ∙ (ap (λ (ms : List Reply). noted c.len-entry.result 0 ms (suc i) (slice_get core.contents.items i)) c.as_slice-3.ensures
-          ∙ ap (λ e. noted e 0 rs (suc i) (slice_get core.contents.items i)) c.len-entry.ensures);
+          ∙ ap (λ e. noted e 0 c.args.replies (suc i) (slice_get core.contents.items i)) c.len-entry.ensures);
       notes-len = c.note_all.ensures.len;
     } in
-    let fields = answered_fields core s rs b p c.push_spare.new.self c.come_home.new.posts c.count_taken.new.subs c.queue_passed.new.waiting c.clear_chunk.new.chunks c.answer_all.new.places c.mark_all.new.settled c.note_all.new.contents
+    let fields = answered_fields core s c.args.replies b p c.push_spare.new.self c.come_home.new.posts c.count_taken.new.subs c.queue_passed.new.waiting c.clear_chunk.new.chunks c.answer_all.new.places c.mark_all.new.settled c.note_all.new.contents
     x known c.requires.calm c.has_batchers-passes_on.ensures (c.is_parted-by_partition.ensures ∙ ap parted known.spec-is) new in
-    let room = room_after core core-new (Done s rs) x c.requires.legal refl (omega (arith, done_due core s rs x c.requires.legal, x.room.steps, c.push_spare.ensures.spare))
+    let room = room_after core core-new (Done s c.args.replies) x c.requires.legal refl (omega (arith, done_due core s c.args.replies x c.requires.legal, x.room.steps, c.push_spare.ensures.spare))
     c.answer_all.ensures.capacity c.mark_all.ensures.capacity refl c.note_all.ensures.capacity
     (answer_queues core s c.clear_chunk.new.chunks.items c.queue_passed.new.waiting.items x c.clear_chunk.ensures.cleared c.queue_passed.ensures.rooms) refl in
-    holds_after core core-new (Done s rs) x refl c.push_spare.ensures.written c.requires.legal fields room
+    holds_after core core-new (Done s c.args.replies) x refl c.push_spare.ensures.written c.requires.legal fields room
