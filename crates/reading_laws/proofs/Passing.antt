@@ -1,10 +1,8 @@
 -- Replies of handlers pass the messages at their places on, with keys and payloads that are not too long.
-use Rattle.std.proofs.Common.{◌≡◌, ℕ, zero, suc, ◌+◌, ◌%◌, ◌≤◌, Bool, true, false, ◌||◌, List, [], ◌∷◌, ◌++◌, length, map, refl, sym, ◌∙◌, subst, Option, Some, None, arith}
+use Rattle.std.proofs.Common.{◌≡◌, ℕ, suc, ◌+◌, ◌%◌, ◌≤◌, Bool, true, false, ◌||◌, List, [], ◌∷◌, ◌++◌, length, map, refl, sym, ◌∙◌, subst, Option, Some, None, arith}
 use Rattle.std.specs.Prelude.{if◌then◌else◌, nat_lt, nat_le, ◌==◌}
 use Rattle.std.proofs.lemmas.Bool.{cond_both, leb-true, ltb-false, eqb-true}
 use Rattle.std.proofs.lemmas.Slice.Eq.{bytes_eq-Decides}
-use Rattle.std.proofs.lemmas.List.{length-take, length-drop}
-use Rattle.std.specs.List.{position_or_len}
 use Rattle.std.specs.Str.{bytes_eq}
 use Rattle.pipe_types.specs.declared.numbers.MsgNo.{MsgNo}
 use Rattle.pipe_types.specs.declared.message.Message.{Message}
@@ -17,21 +15,10 @@ use Rattle.pipe_types.specs.declared.topology.Rule.TheVariants.{Pass, Prefix, Re
 use Rattle.pipe_types.specs.declared.topology.StageSpec.{StageSpec}
 use Rattle.pipe_types.specs.Numbers.{same_stage}
 use Rattle.pipe_types.specs.Lines.{max_bytes}
-use Rattle.pipe_types.specs.Handlers.{is_space, after_fields, field, begins_with, rule_reply, and_then, rules_reply, eval, counted, is_crashed, with_reason, replies_until, chunk_replies, is_own_reply, are_own_replies}
+use Rattle.pipe_types.specs.Handlers.{field, begins_with, rule_reply, and_then, rules_reply, eval, counted, is_crashed, with_reason, replies_until, chunk_replies, is_own_reply, are_own_replies}
 use Rattle.pipe_model.specs.Work.{same_reply, same_replies, are_replies_by, are_handled}
 use Rattle.pipe_laws.proofs.Tests.{and_left, and_right, same_stage-true}
-
--- ---- fields
-
-length-after_fields : (n : ℕ) (payload : List ℕ) → length (after_fields n payload) ≤ length payload
-length-after_fields zero payload = omega arith
-length-after_fields (suc n) payload =
-    omega (arith, length-after_fields n payload, length-drop (position_or_len is_space (after_fields n payload) + 1) (after_fields n payload))
-
-length-field : (n : ℕ) (payload : List ℕ) → length (field n payload) ≤ length payload
-length-field zero payload = omega arith
-length-field (suc n) payload =
-    omega (arith, length-after_fields n payload, length-take (position_or_len is_space (after_fields n payload)) (after_fields n payload))
+use Rattle.pipe_types.proofs.FieldLengths.{length-field}
 
 -- ---- one message
 
