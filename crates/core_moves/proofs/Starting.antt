@@ -1,7 +1,6 @@
 -- Which children may start.
-use Rattle.std.proofs.Common.{◌≡◌, ℕ, List, [], ◌∷◌, refl, ap, sym, Bool, true, false, Option, None, Some, ◌∙◌}
+use Rattle.std.proofs.Common.{◌≡◌, ℕ, refl, ap, sym, Bool, true, false, Option, None, Some, ◌∙◌}
 use Rattle.std.specs.Prelude.{◌&&◌, ◌||◌, ◌==◌, not, if◌then◌else◌, nat_lt, nat_le, is_some}
-use Rattle.std.specs.List.{list_any}
 use Rattle.pipe_types.specs.declared.numbers.StageNo.{StageNo}
 use Rattle.pipe_types.specs.declared.topology.Topology.{Topology}
 use Rattle.pipe_types.specs.declared.topology.StageSpec.{StageSpec}
@@ -9,11 +8,11 @@ use Rattle.pipe_types.specs.declared.step.Step.TheVariants.{Child}
 use Rattle.pipe_types.specs.Numbers.{post, message_no}
 use Rattle.pipe_types.specs.Stages.{spec_of}
 use Rattle.pipe_model.specs.History.{History}
-use Rattle.pipe_model.specs.Posts.{is_out, in_slot, crashes, slots}
+use Rattle.pipe_model.specs.Posts.{is_out, in_slot, crashes}
 use Rattle.pipe_model.specs.Lives.{is_live}
 use Rattle.pipe_model.specs.Flow.{inbox, is_number, place, runs_in}
 use Rattle.pipe_model.specs.Legal.{allows, is_legal, owed, happened, is_halt, is_supervisor_role, first_unit, runs_number, max_of}
-use Rattle.pipe_model.specs.Moves.{next_in_slot, has_child}
+use Rattle.pipe_model.specs.Moves.{next_in_slot}
 use Rattle.core_laws.specs.Columns.{child_row}
 use Rattle.core_laws.specs.Slots.{child_of, child_if}
 use Rattle.core_laws.proofs.Children.{child_is}
@@ -76,24 +75,3 @@ start_now topology before spec slot there legal free goes =
         ap (λ b. b || (nat_le 1 (first_unit (inbox topology before s)) && nat_lt slot spec.max)) (held_is topology before s slot legal)
         ∙ (next_may topology before s slot spec.max (in_slot before s slot) refl runs refl
         ∙ ap (λ m. if runs then is_number (in_slot before s slot) (next_in_slot topology before s slot) else nat_le 1 (next_in_slot topology before s slot) && (nat_lt slot (max_of m) && next_in_slot topology before s slot == first_unit (inbox topology before s))) (sym there))
-
--- only a supervisor starts children
-
-none_passes : (test : ℕ → Bool) → ((k : ℕ) → test k ≡ false) → (ks : List ℕ) → list_any test ks ≡ false
-none_passes test none [] = refl
-none_passes test none (k ∷ ks) = ap (λ b. b || list_any test ks) (none k) ∙ none_passes test none ks
-
-pub no_child : (topology : Topology) (before : History) (spec : StageSpec) → spec_of topology spec.no ≡ Some spec → is_legal topology before ≡ true → owed topology before ≡ None → happened is_halt before ≡ false
-    → is_supervisor_role spec.role ≡ false → has_child topology before spec ≡ false
-no_child topology before spec there legal free goes other =
-    none_passes (λ slot. allows topology before (Child spec.no (message_no (next_in_slot topology before spec.no slot)) slot))
-    (λ slot. sym (start_now topology before spec slot there legal free goes) ∙ not_now slot) slots
-  where
-    by : (a c : Bool) → (a && (false && c)) ≡ false
-    by true c = refl
-    by false c = refl
-
-    not_now : (slot : ℕ) → starts_now topology before spec slot ≡ false
-    not_now slot =
-        let rest : Bool = not (is_out before (post spec.no slot)) && has_message_now topology before spec slot in
-        ap (λ b. is_live topology before spec.no && (b && rest)) other ∙ by (is_live topology before spec.no) rest

@@ -5,7 +5,7 @@ ghost use Rattle.pipe_types.specs.declared.step.Step.TheVariants.{Child};
 ghost use Rattle.pipe_types.specs.Numbers.{message_no};
 ghost use Rattle.pipe_types.specs.Stages.{spec_of};
 ghost use Rattle.pipe_model.specs.Flow.{inbox};
-ghost use Rattle.pipe_model.specs.Legal.{allows, happened, is_halt, is_supervisor_role, first_unit as first_number};
+ghost use Rattle.pipe_model.specs.Legal.{allows, happened, is_halt, first_unit as first_number};
 ghost use Rattle.pipe_model.specs.Moves.{has_child, next_in_slot};
 ghost use Rattle.core_laws.specs.Columns.{child_row};
 ghost use Rattle.core_state.specs.Stands.{Stands, child_of};
@@ -18,27 +18,8 @@ use core_state::Core;
 use pipe_types::numbers::{Post, StageNo};
 use pipe_types::topology::{Role, StageSpec};
 
-/// Whether the stage is a supervisor, and a child may start in one of its slots.
+/// Whether a child may start in one of the supervisor's slots.
 pub(crate) fn has_child(core: &Core, spec: &StageSpec) -> bool
-    requires stands { Stands core.now }
-    requires there { spec_of core.now.topology spec.now.no ≡ Some spec.now }
-    requires going { happened is_halt core.now.journal.steps ≡ false }
-    ensures { result ≡ has_child core.now.topology core.now.journal.steps spec.now }
-{
-    if is_supervisor(spec.role) {
-        return may_start_any(core, spec);
-    }
-    false
-}
-
-fn is_supervisor(role: Role) -> bool
-    ensures { result ≡ is_supervisor_role role }
-{
-    matches!(role, Role::Supervisor)
-}
-
-/// Whether a child may start in one of the stage's slots.
-fn may_start_any(core: &Core, spec: &StageSpec) -> bool
     requires stands { Stands core.now }
     requires there { spec_of core.now.topology spec.now.no ≡ Some spec.now }
     requires going { happened is_halt core.now.journal.steps ≡ false }

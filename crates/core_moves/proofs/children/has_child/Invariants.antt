@@ -5,7 +5,7 @@ use Rattle.pipe_types.specs.Numbers.{message_no}
 use Rattle.pipe_model.specs.Posts.{slots}
 use Rattle.pipe_model.specs.Legal.{allows}
 use Rattle.pipe_model.specs.Moves.{next_in_slot}
-use Rattle.core_moves.proofs.children.may_start_any.Given as goal
+use Rattle.core_moves.proofs.children.has_child.Given as goal
 
 abbrev pub invariant-loop-slot : goal.invariant-loop-slot
 invariant-loop-slot l =
