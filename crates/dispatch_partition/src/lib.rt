@@ -15,6 +15,9 @@ use crate::left::{rooms_by_part, take_one};
 use pipe_types::room::{Room, Sent, SentList};
 use std::alloc::{AllocError, Global};
 
+/// For so many sends room is made at first.
+const FIRST_SENDS: usize = 16;
+
 /// Sends each unit to the subscription of its partition.
 #[derive(Drop)]
 pub struct PartitionDispatch {
@@ -37,7 +40,7 @@ impl PartitionDispatch {
         ensures { IfOk result (λ sent. sent ≡ sends_by_place ByPartition room.now parts.now) }
     {
         let mut left = rooms_by_part(self.alloc, room)?;
-        let mut sent = Vec::new(self.alloc);
+        let mut sent = Vec::with_capacity(self.alloc, FIRST_SENDS)?;
         for (place, part) in parts.iter().enumerate() {
             if let Some(sub) = take_one(&mut left, *part) {
                 let unit = place as u32;
