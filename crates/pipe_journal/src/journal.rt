@@ -116,6 +116,7 @@ impl Journal {
     }
 
     /// The step at that place from 0, the oldest first, with its lists lent.
+    #[inline(always)]
     pub fn view(&self, at: u64) -> StepView<'_>
         requires { at < length self.now.steps }
         ensures { step_at self.now.steps at ≡ Some (step_seen result) }
@@ -125,6 +126,7 @@ impl Journal {
 
     /// The record at place `item` of the Accept or of the late answer at place `at`, both from 0, and none where no such
     /// record is.
+    #[inline]
     pub fn payload_at(&self, at: u64, item: u32) -> Option<&Bytes>
         ensures { option_copied result ≡ payload_at self.now.steps at item }
     {
@@ -136,6 +138,7 @@ impl Journal {
 
     /// The reply at place `item` of the Done at place `at`, both from 0, or of the ChildEnd there with `item` 0, and none
     /// where no such reply is.
+    #[inline]
     pub fn reply_at(&self, at: u64, item: u32) -> Option<&Reply>
         ensures { option_copied result ≡ reply_at self.now.steps at item }
     {

@@ -334,6 +334,7 @@ impl<'a> StepView<'a> {
 }
 
 /// The step of an entry, its list lent by the store.
+#[inline(always)]
 pub(crate) fn view_entry(store: &Store, entry: Entry) -> StepView<'_>
     requires { IsHeld store.now entry }
     ensures { step_seen result ≡ step_of store.now entry }
