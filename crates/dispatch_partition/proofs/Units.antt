@@ -183,7 +183,7 @@ all_left rooms q = by (find (of_part q) rooms)
   where
     by : (o : Option Room) → o ≡ option_map (spent 0) o
     by None = refl
-    by (Some u) = refl
+    by (Some u) = let same : u.left ≡ u.left - 0 = omega arith in ap (λ (m : ℕ). Some (record u { left = m })) same
 
 -- one more unit of a part takes one of what is left of it
 left_more : (rooms : List Room) (parts : List ℕ) (k p : ℕ) → k < length parts → p ≡ get_or parts k 0 → (q : ℕ) → left_after rooms (take (k + 1) parts) q ≡ (if p == q then one_less (left_after rooms (take k parts) q) else left_after rooms (take k parts) q)

@@ -16,9 +16,9 @@ returns-in_default-clause-rest c = λ q.
 pub returns-clause-taken : goal.returns-clause-taken
 returns-clause-taken c =
     let found : position (of_part c.args.part) c.args.left.now.items ≡ Some c.in-Some.at = ap (position (of_part c.args.part)) (sym c.deref.ensures.value) ∙ (sym c.place_of.ensures.first ∙ c.in-Some.is) in
-    c.sub_of.ensures ∙ taken_sub c.args.part c.args.left.now.items c.in-Some.at c.index.result.now found c.index.ensures
+    c.sub_of.ensures ∙ taken_sub c.args.part c.args.left.now.items c.in-Some.at c.index-room.result.now found c.index-room.ensures
 
 pub returns-clause-rest : goal.returns-clause-rest
 returns-clause-rest c = λ q.
     let found : position (of_part c.args.part) c.args.left.now.items ≡ Some c.in-Some.at = ap (position (of_part c.args.part)) (sym c.deref.ensures.value) ∙ (sym c.place_of.ensures.first ∙ c.in-Some.is) in
-    taken_rest c.args.part c.args.left.now.items c.in-Some.at c.index.result.now c.spend.result found c.index.ensures c.spend.ensures q
+    taken_rest c.args.part c.args.left.now.items c.in-Some.at c.index-room.result.now c.spend.result found c.index-room.ensures c.spend.ensures q
