@@ -122,11 +122,12 @@ set_other q (u ∷ rooms) (suc at) v d within was is = ap (λ (o : Option Room).
 
 beyond : (q : ℕ) (rooms : List Room) → length rooms ≤ position_or_len (of_part q) rooms → find (of_part q) rooms ≡ None
 beyond q [] h = refl
-beyond q (u ∷ rooms) h = by (u.part == q) refl h
+beyond q (u ∷ rooms) h = by (u.part == q) refl h (beyond q rooms)
   where
-    by : (b : Bool) → (u.part == q) ≡ b → suc (length rooms) ≤ cond (not b) (1 + position_or_len (of_part q) rooms) 0 → (if b then Some u else find (of_part q) rooms) ≡ None
-    by true e h = absurd (omega arith)
-    by false e h = beyond q rooms (omega arith)
+    by : (b : Bool) → (u.part == q) ≡ b → suc (length rooms) ≤ cond (not b) (1 + position_or_len (of_part q) rooms) 0
+        → (length rooms ≤ position_or_len (of_part q) rooms → find (of_part q) rooms ≡ None) → (if b then Some u else find (of_part q) rooms) ≡ None
+    by true e h rest = absurd (omega arith)
+    by false e h rest = rest (omega arith)
 
 nowhere : (q : ℕ) (rooms : List Room) → position (of_part q) rooms ≡ None → find (of_part q) rooms ≡ None
 nowhere q rooms none = by (nat_lt (position_or_len (of_part q) rooms) (length rooms)) refl none
