@@ -12,14 +12,14 @@ returns-then-not-is_stage_bare c = λ home.
     let core = c.args.core.now in
     let test : StageSpec → Bool = λ spec. is_clear core.topology core.journal.steps spec.no in
     let specs = c.as_slice-spec-items.result.now in
-    let here = ap test (sym c.spec-item.is) ∙ (sym c.is_stage_bare.ensures home ∙ c.if-not-is_stage_bare.true) in
+    let here = ap test (sym c.spec-item.is) ∙ (sym (c.is_stage_bare.ensures home) ∙ c.if-not-is_stage_bare.true) in
     sym (all_not test specs c.loop-spec.spec-index c.spec-item.result c.loop-spec-test.true here) ∙ (c.loop-spec.invariant home ∙ ap (list_all test) c.as_slice-spec-items.ensures)
 
 pub loop-spec-preserved : goal.loop-spec-preserved
 loop-spec-preserved c = λ home.
     let core = c.args.core.now in
     let test : StageSpec → Bool = λ spec. is_clear core.topology core.journal.steps spec.no in
-    let here = ap test (sym c.spec-item.is) ∙ (sym c.is_stage_bare.ensures home ∙ c.if-not-is_stage_bare.false) in
+    let here = ap test (sym c.spec-item.is) ∙ (sym (c.is_stage_bare.ensures home) ∙ c.if-not-is_stage_bare.false) in
     all_next test c.as_slice-spec-items.result.now c.loop-spec.spec-index c.spec-item.result c.loop-spec-test.true here ∙ c.loop-spec.invariant home
 
 pub returns : goal.returns
