@@ -1,6 +1,7 @@
 -- A batch, message by message.
 use Rattle.std.proofs.Common.{◌≡◌, ℕ, suc, ◌+◌, ◌^◌, ◌<◌, ◌≤◌, true, cond, List, [], ◌∷◌, ◌++◌, length, map, drop, get_or, refl, sym, ap, ◌∙◌, subst, Option, Some, None, arith, append_assoc, append-nil, drop-cons, add-one}
 use Rattle.std.specs.Prelude.{unwrap_or, ◌==◌}
+use Rattle.std.proofs.lemmas.Bool.{eqb-true}
 use Rattle.std.proofs.lemmas.List.{drop_all}
 use Rattle.pipe_types.specs.declared.message.Message.{Message}
 use Rattle.pipe_types.specs.declared.message.Reply.{Reply}
@@ -88,7 +89,7 @@ passes spec seen m none = ap (λ (rules : List Rule). rules_reply (counted seen 
 
 pub no_rules : (rules : List Rule) → (length rules == 0) ≡ true → rules ≡ []
 no_rules [] h = refl
-no_rules (rule ∷ rules) h = cc
+no_rules (rule ∷ rules) h = let none : suc (length rules) ≡ 0 = eqb-true (suc (length rules)) 0 h in absurd (omega (arith, none))
 
 -- a message that failed
 pub one_failed : (kind : Kind) (spec : StageSpec) (first : ℕ) (messages : List Message) (seen : ℕ) (m : Message) (rest : List Message) (outcomes : List Outcome) (text : List ℕ) (why : List ℕ)
