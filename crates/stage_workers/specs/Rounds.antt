@@ -2,7 +2,7 @@
 use Rattle.std.specs.Prelude.{Option, Some, None, option_map}
 use Rattle.pipe_types.specs.declared.numbers.Post.{Post}
 use Rattle.stage_workers.specs.declared.shift.Round.{Round}
-use Rattle.stage_workers.specs.declared.shift.Round.TheVariants.{Job, Waits, Again, Ended}
+use Rattle.stage_workers.specs.declared.shift.Round.TheVariants.{Job}
 
 abbrev pub IfJob : {L : Type 0} → Round L → (L → Type 0) → Type 0
 IfJob (Job load) P = P load

@@ -1,9 +1,9 @@
 //! A worker.
 
-ghost use Rattle.std.specs.Prelude.{◌≡◌, ◌-◌, ◌≤◌, false, true, IfSome, nat_le};
+ghost use Rattle.std.specs.Prelude.{◌≡◌, ◌≤◌, false, true, IfSome};
 ghost use Rattle.pipeline_turn.specs.Seats.{IsIdle, IsSameSeat};
 ghost use Rattle.stage_workers.specs.Rounds.{job_post, brought_post};
-ghost use Rattle.stage_workers.specs.Holds.{post_after, Comes, after_round};
+ghost use Rattle.stage_workers.specs.Holds.{post_after, Comes, after_round, is_still_by};
 
 use crate::shift::{Round, Shift};
 use pipe_types::numbers::Post;
@@ -22,8 +22,8 @@ const MOST_MS: u64 = 1_000;
 pub(crate) enum After<L, H> {
     /// The value was away. What the worker brings is not brought yet.
     Missed(Option<H>),
-    /// It does this job.
-    Job(L),
+    /// It does this job. Whether nothing but the time is new to it, as where its source was found empty before.
+    Job(L, bool),
     /// It sleeps until there is other news than this count of it. Whether nothing but the time is new to it.
     Sleeps(u32, bool),
     /// It takes the value again.
@@ -62,7 +62,7 @@ fn go_by<L, H>(round: Round<L>, news: u32, is_still: bool) -> After<L, H>
     ensures { result ≡ after_round round news is_still }
 {
     match round {
-        Round::Job(load) => After::Job(load),
+        Round::Job(load) => After::Job(load, is_still),
         Round::Waits => After::Sleeps(news, is_still),
         Round::Again => After::Again,
         Round::Ended => After::Ends,
@@ -89,19 +89,28 @@ fn hold<H: Shift>(
     };
     let before = value.journal().len();
     let round = value.round(brought);
-    let is_still = is_reading(before, value.journal().len());
-    tell_of(turn, seat, &round, value.is_silent());
+    let is_silent = value.is_silent();
+    let is_still = is_still(
+        &round,
+        value.journal().len().saturating_sub(before),
+        is_silent,
+    );
+    tell_of(turn, seat, &round, is_silent);
     let news = turn.news(seat);
     let job = job_for::<H>(&round);
     turn.give(seat, value, job);
     go_by(round, news, is_still)
 }
 
-/// Whether a hold added no step, or one, as it does where it finds nothing but a later time.
-fn is_reading(before: u64, after: u64) -> bool
-    ensures { result ≡ nat_le (after - before) 1 }
+/// Whether a hold that added so many steps found nothing new but the time: sources were found empty since anything else happened, or
+/// without a job it added no step, or one, as it does where it finds a later time.
+fn is_still<L>(round: &Round<L>, added: u64, is_silent: bool) -> bool
+    ensures { result ≡ is_still_by round.now added is_silent }
 {
-    after.saturating_sub(before) <= 1
+    match round {
+        Round::Job(_) => is_silent,
+        _ => is_silent || added <= 1,
+    }
 }
 
 /// How long a worker sleeps, in milliseconds, that has slept for so long since anything was new: an eighth of that, within bounds. So
@@ -129,8 +138,10 @@ pub fn work<H: Shift, R: Wait>(rt: &R, alloc: Global, turn: &Turn<H>, seat: &mut
                 turn.rest(rt);
                 brought = back;
             }
-            After::Job(load) => {
-                slept = 0;
+            After::Job(load, is_still) => {
+                if !is_still {
+                    slept = 0;
+                }
                 brought = Some(H::run(alloc, load));
             }
             After::Sleeps(news, is_still) => {

@@ -30,6 +30,6 @@ returns-clause-comes g c =
     let t = c.in-Some.ensures in
     let origin : c.give.new.seat.origin ≡ seat.origin = ap (λ z. z.origin) c.give.ensures ∙ (ap (λ z. z.origin) c.tell_of.ensures ∙ ap (λ z. z.origin) t.taken) in
     let seen : c.give.new.seat.seen ≡ g.H.Held.steps c.round-round.new.self = ap (λ z. z.seen) c.give.ensures in
-    comes_by g.H.Shift.is_load_of g.H.Shift.is_home_of seat.origin c.give.new.seat.origin (g.H.Held.steps c.round-round.new.self) c.give.new.seat.seen c.round-round.result c.news-news.result c.is_reading-is_still.result c.go_by.result
+    comes_by g.H.Shift.is_load_of g.H.Shift.is_home_of seat.origin c.give.new.seat.origin (g.H.Held.steps c.round-round.new.self) c.give.new.seat.seen c.round-round.result c.news-news.result c.is_still-is_still.result c.go_by.result
     origin seen c.go_by.ensures
     (c.round-round.ensures.load seat.origin seat.seen t.stems (brings g.H.Shift.home_post (g.H.Shift.is_home_of seat.origin seat.seen) (g.H.Held.steps c.in-Some.value) seat.seen c.args.brought seat.job c.requires.job t.job_undone c.requires.brought))
