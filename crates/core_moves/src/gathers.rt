@@ -45,7 +45,7 @@ fn is_gather_next(core: &Core, spec: &StageSpec) -> bool
 }
 
 /// The first unit of the stage's inbox, and 0 where that is empty.
-pub(crate) fn first_unit(core: &Core, stage: StageNo) -> u32
+pub fn first_unit(core: &Core, stage: StageNo) -> u32
     requires stands { Stands core.now }
     ensures { result ≡ first_number (inbox core.now.topology core.now.journal.steps stage) }
 {

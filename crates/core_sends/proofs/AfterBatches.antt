@@ -34,6 +34,7 @@ use Rattle.core_sends.specs.Batches.{closed_at, subs_at, messages_of, with_legs,
 use Rattle.core_sends.proofs.AfterSending.{counts_are}
 use Rattle.core_sends.proofs.BatchesSent.{AreBegun, legs_now, unsent_queue, places_now, marks_now, row_subs, row_subs_same}
 use Rattle.core_sends.proofs.Sent.{pair}
+use Rattle.core_state.proofs.Parts.{Part, BatchesAre, BatchesLen, ChunksAre, InboxesAre, InboxesLen, LegsAre, OpensAre, PlacesAre, PlacesLen, SentOnAre, SettledAre, SettledLen, SubsAre, TotalsAre, WaitingAre, WaitingLen, Says, unchanged, fields_of}
 
 -- what the passes make of the tables
 pub record BatchPasses (core : Core) (s : StageNo) (units : List Sent) (lone : List ℕ) (tick : ℕ) (old : List (ℕ × ℕ)) (subs : List (Option PairRow))
@@ -64,53 +65,7 @@ pub batch_fields : (core : Core) (topology : Topology) (before : History) (s : S
     → DispatchLaws topology before s → s.0 ≤ length topology.stages → units ≡ deliveries topology before s → lone ≡ alone topology before s → tick ≡ length before → old ≡ waiting_parts topology before s
     → BatchPasses core s units lone tick old subs queues inboxes batches legs places settled q
     → Fields (record core { journal = j; subs = subs; waiting = queues; inboxes = inboxes; places = places; settled = settled; batches = batches; legs = legs; totals = record core.totals { quiet = 0 } }) topology (Dispatch s ∷ before)
-batch_fields core topology before s units lone tick old j subs queues inboxes batches legs places settled q x sound h allowed batched law within is those now was done =
-    record {
-      sized =
-          record {
-            few = x.sized.few;
-            stages = x.sized.stages;
-            posts = x.sized.posts;
-            came = x.sized.came;
-            waiting = ap length done.queue ∙ (length-set core.waiting.items s.0 q ∙ x.sized.waiting);
-            inboxes = done.all_inboxes ∙ x.sized.inboxes;
-            chunks = x.sized.chunks;
-            batchers = x.sized.batchers;
-            children = x.sized.children;
-            places = done.all_places ∙ x.sized.places;
-            settled = done.all_settled ∙ x.sized.settled;
-            producers = x.sized.producers;
-            contents = x.sized.contents;
-            batches = done.all_batches ∙ x.sized.batches;
-            ends = x.sized.ends;
-          };
-      set = record { batchers = x.set.batchers; children = x.set.children; restarts = x.set.restarts };
-      stages = x.stages;
-      posts = x.posts;
-      came = x.came;
-      subs = pairs;
-      waiting = λ t. waits t (same_or_other s.0 t.0);
-      inboxes = λ c. done.came c ∙ (ap (λ b. b ++ delivered_to units c) (x.inboxes c) ∙ (ap (λ us. inbox topology before c ++ delivered_to us c) is ∙ sym (law.inbox c)));
-      chunks = λ t. x.chunks t ∙ sym (law.running t);
-      opens = λ t. x.opens t ∙ ap (open_batches before) (sym (law.gathered t));
-      children = x.children;
-      places = λ i. done.placed i
-          ∙ (ap (λ bs. option_map (all_succeeded (numbers_of core.batches.items) bs (suc i)) (slice_get core.places.items i)) those
-          ∙ (ap (option_map (all_succeeded (numbers_of core.batches.items) (alone topology before s) (suc i))) (x.places i) ∙ places_now core topology before s (suc i) x sound h batched));
-      settled = λ i below. done.marks i
-          ∙ (ap (λ bs. option_map (all_marked (numbers_of core.batches.items) bs tick (suc i)) (slice_get core.settled.items i)) those
-          ∙ (ap (λ k. option_map (all_marked (numbers_of core.batches.items) (alone topology before s) k (suc i)) (slice_get core.settled.items i)) now
-          ∙ (ap (option_map (all_marked (numbers_of core.batches.items) (alone topology before s) (length before) (suc i))) (x.settled i below) ∙ ap Some (marks_now core topology before s (suc i) x sound h batched))));
-      producers = x.producers;
-      contents = x.contents;
-      batches = λ i. done.closed i ∙ x.batches i;
-      sent_on = λ i row at. row_subs core.batches.items batches.items i row (sent_on topology before (suc i)) (subs_of units (suc i)) at (done.noted i) (x.sent_on i)
-          ∙ (ap (λ us. sent_on topology before (suc i) ++ subs_of us (suc i)) is
-          ∙ sym (ap (λ b. if b then sent_on topology before (suc i) ++ subs_of (deliveries topology before s) (suc i) else sent_on topology before (suc i)) batched));
-      legs = λ i. done.begun i ∙ legs_now core topology before s units i x batched is;
-      restarts = x.restarts;
-      totals = ap (λ (y : Totals). record y { quiet = 0 }) x.totals;
-    }
+batch_fields core topology before s units lone tick old j subs queues inboxes batches legs places settled q x sound h allowed batched law within is those now was done = fields_of says
   where
     pairs : (c p : StageNo) → feeds topology p c ≡ true → row_at subs c p ≡ Some (ledger_row topology (Dispatch s ∷ before) c p)
     pairs c p fed =
@@ -130,50 +85,44 @@ batch_fields core topology before s units lone tick old j subs queues inboxes ba
         ∙ (queue-set_other core.waiting.items s.0 q t (λ e. other.1 (sym e))
         ∙ (x.waiting t ∙ ap (map (pair topology before t)) (sym (law.waiting_else t other.0))))
 
+    says : (it : Part) → Says it (record core { journal = j; subs = subs; waiting = queues; inboxes = inboxes; places = places; settled = settled; batches = batches; legs = legs; totals = record core.totals { quiet = 0 } }) topology (Dispatch s ∷ before)
+    says WaitingLen = ap length done.queue ∙ (length-set core.waiting.items s.0 q ∙ x.sized.waiting)
+    says InboxesLen = done.all_inboxes ∙ x.sized.inboxes
+    says PlacesLen = done.all_places ∙ x.sized.places
+    says SettledLen = done.all_settled ∙ x.sized.settled
+    says BatchesLen = done.all_batches ∙ x.sized.batches
+    says SubsAre = pairs
+    says WaitingAre = λ t. waits t (same_or_other s.0 t.0)
+    says InboxesAre = λ c. done.came c ∙ (ap (λ b. b ++ delivered_to units c) (x.inboxes c) ∙ (ap (λ us. inbox topology before c ++ delivered_to us c) is ∙ sym (law.inbox c)))
+    says ChunksAre = λ t. x.chunks t ∙ sym (law.running t)
+    says OpensAre = λ t. x.opens t ∙ ap (open_batches before) (sym (law.gathered t))
+    says PlacesAre = λ i. done.placed i
+        ∙ (ap (λ bs. option_map (all_succeeded (numbers_of core.batches.items) bs (suc i)) (slice_get core.places.items i)) those
+        ∙ (ap (option_map (all_succeeded (numbers_of core.batches.items) (alone topology before s) (suc i))) (x.places i) ∙ places_now core topology before s (suc i) x sound h batched))
+    says SettledAre = λ i below. done.marks i
+        ∙ (ap (λ bs. option_map (all_marked (numbers_of core.batches.items) bs tick (suc i)) (slice_get core.settled.items i)) those
+        ∙ (ap (λ k. option_map (all_marked (numbers_of core.batches.items) (alone topology before s) k (suc i)) (slice_get core.settled.items i)) now
+        ∙ (ap (option_map (all_marked (numbers_of core.batches.items) (alone topology before s) (length before) (suc i))) (x.settled i below) ∙ ap Some (marks_now core topology before s (suc i) x sound h batched))))
+    says BatchesAre = λ i. done.closed i ∙ x.batches i
+    says SentOnAre = λ i row at. row_subs core.batches.items batches.items i row (sent_on topology before (suc i)) (subs_of units (suc i)) at (done.noted i) (x.sent_on i)
+        ∙ (ap (λ us. sent_on topology before (suc i) ++ subs_of us (suc i)) is
+        ∙ sym (ap (λ b. if b then sent_on topology before (suc i) ++ subs_of (deliveries topology before s) (suc i) else sent_on topology before (suc i)) batched))
+    says LegsAre = λ i. done.begun i ∙ legs_now core topology before s units i x batched is
+    says TotalsAre = ap (λ (y : Totals). record y { quiet = 0 }) x.totals
+    says it = unchanged x it
+
 -- where nothing was noted after all
 pub same_batches : (core : Core) (topology : Topology) (before : History) (batches : Vec BatchRow Global) (legs : List (ℕ × Ends)) → Fields core topology before
     → length batches.items ≡ length core.batches.items → ((i : ℕ) → closed_at batches.items i ≡ closed_at core.batches.items i) → ((i : ℕ) → subs_at batches.items i ≡ subs_at core.batches.items i)
     → ((i : ℕ) → sent_in legs (suc i) ≡ sent_in core.legs (suc i)) → Fields (record core { batches = batches; legs = legs }) topology before
-same_batches core topology before batches legs x len closed noted begun =
-    record {
-      sized =
-          record {
-            few = x.sized.few;
-            stages = x.sized.stages;
-            posts = x.sized.posts;
-            came = x.sized.came;
-            waiting = x.sized.waiting;
-            inboxes = x.sized.inboxes;
-            chunks = x.sized.chunks;
-            batchers = x.sized.batchers;
-            children = x.sized.children;
-            places = x.sized.places;
-            settled = x.sized.settled;
-            producers = x.sized.producers;
-            contents = x.sized.contents;
-            batches = len ∙ x.sized.batches;
-            ends = x.sized.ends;
-          };
-      set = record { batchers = x.set.batchers; children = x.set.children; restarts = x.set.restarts };
-      stages = x.stages;
-      posts = x.posts;
-      came = x.came;
-      subs = x.subs;
-      waiting = x.waiting;
-      inboxes = x.inboxes;
-      chunks = x.chunks;
-      opens = x.opens;
-      children = x.children;
-      places = x.places;
-      settled = x.settled;
-      producers = x.producers;
-      contents = x.contents;
-      batches = λ i. closed i ∙ x.batches i;
-      sent_on = λ i row at. row_subs_same core.batches.items batches.items i row (sent_on topology before (suc i)) at (noted i) (x.sent_on i);
-      legs = λ i. begun i ∙ x.legs i;
-      restarts = x.restarts;
-      totals = x.totals;
-    }
+same_batches core topology before batches legs x len closed noted begun = fields_of says
+  where
+    says : (it : Part) → Says it (record core { batches = batches; legs = legs }) topology before
+    says BatchesLen = len ∙ x.sized.batches
+    says BatchesAre = λ i. closed i ∙ x.batches i
+    says SentOnAre = λ i row at. row_subs_same core.batches.items batches.items i row (sent_on topology before (suc i)) at (noted i) (x.sent_on i)
+    says LegsAre = λ i. begun i ∙ x.legs i
+    says it = unchanged x it
 
 pub still_stands_with : (core : Core) (batches : Vec BatchRow Global) (legs : List (ℕ × Ends)) → Stands core
     → length batches.items ≡ length core.batches.items → ((i : ℕ) → closed_at batches.items i ≡ closed_at core.batches.items i) → ((i : ℕ) → subs_at batches.items i ≡ subs_at core.batches.items i)

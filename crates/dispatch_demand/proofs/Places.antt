@@ -20,7 +20,7 @@ use Rattle.pipe_types.specs.Numbers.{sub_before}
 use Rattle.pipe_types.specs.Dispatchers.{is_served_before}
 use Rattle.pipe_types.specs.Rooms.{AreAscending}
 use Rattle.dispatch_demand.specs.Serving.{Has, serving_key, sub_cmp, key_cmp, room_at}
-use Rattle.dispatch_demand.proofs.Order.{sub_cmp_total, serving_cmp_is}
+use Rattle.pipe_types.proofs.Serving.{sub_cmp_total, serving_cmp_is}
 use Rattle.dispatch_demand.proofs.Units.{Serves}
 use Rattle.dispatch_demand.proofs.Alike.{IsSet, same_elements}
 

@@ -9,25 +9,21 @@ use Rattle.core_rows.proofs.rests.is_all_clear.Goals as goal
 
 pub returns-then-not-is_stage_clear : goal.returns-then-not-is_stage_clear
 returns-then-not-is_stage_clear c =
-    let core = c.args.core.now in
-    let test : StageSpec → Bool = λ spec. is_clear core.topology core.journal.steps spec.no in
+    let test : StageSpec → Bool = λ spec. is_clear c.args.core.now.topology c.args.core.now.journal.steps spec.no in
     let specs = c.as_slice-spec-items.result.now in
     let here = ap test (sym c.spec-item.is) ∙ (sym c.is_stage_clear.ensures ∙ c.if-not-is_stage_clear.true) in
     sym (all_not test specs c.loop-spec.spec-index c.spec-item.result c.loop-spec-test.true here) ∙ (c.loop-spec.invariant ∙ ap (list_all test) c.as_slice-spec-items.ensures)
 
 pub loop-spec-preserved : goal.loop-spec-preserved
 loop-spec-preserved c =
-    let core = c.args.core.now in
-    let test : StageSpec → Bool = λ spec. is_clear core.topology core.journal.steps spec.no in
+    let test : StageSpec → Bool = λ spec. is_clear c.args.core.now.topology c.args.core.now.journal.steps spec.no in
     let here = ap test (sym c.spec-item.is) ∙ (sym c.is_stage_clear.ensures ∙ c.if-not-is_stage_clear.false) in
     all_next test c.as_slice-spec-items.result.now c.loop-spec.spec-index c.spec-item.result c.loop-spec-test.true here ∙ c.loop-spec.invariant
 
 pub returns : goal.returns
 returns c =
-    let core = c.args.core.now in
-    let test : StageSpec → Bool = λ spec. is_clear core.topology core.journal.steps spec.no in
-    let specs = c.as_slice-spec-items.result.now in
-    let none : drop c.loop-spec.spec-index specs ≡ [] = drop_all c.loop-spec.spec-index specs (omega arith) in
+    let test : StageSpec → Bool = λ spec. is_clear c.args.core.now.topology c.args.core.now.journal.steps spec.no in
+    let none : drop c.loop-spec.spec-index c.as_slice-spec-items.result.now ≡ [] = drop_all c.loop-spec.spec-index c.as_slice-spec-items.result.now (omega arith) in
     ap (list_all test) (sym none) ∙ (c.loop-spec.invariant ∙ ap (list_all test) c.as_slice-spec-items.ensures)
 
 pub is_stage_clear-requires-clause-there : goal.is_stage_clear-requires-clause-there

@@ -16,10 +16,7 @@ use Rattle.pipe_types.specs.declared.topology.Kind.{Kind}
 use Rattle.pipe_types.specs.declared.topology.Kind.TheVariants.{Steps, Lines, Own}
 use Rattle.pipe_types.specs.declared.topology.StageSpec.{StageSpec}
 use Rattle.pipe_types.specs.Handlers.{answer_of, replies_until, ends_batch, eval, counted, outcome_of, outcome_with, batch_answer, batch_end, batch_text, end_by, reason_of, is_own_end}
-use Rattle.pipe_model.specs.History.{History}
-use Rattle.pipe_model.specs.Content.{content}
-use Rattle.pipe_model.specs.Work.{messages_of, same_outcome, same_outcomes, same_end, is_write_end, failed_by_sink, is_end_by, own_text, before_sink, is_batch_handled}
-use Rattle.pipe_laws.proofs.Lists.{Each}
+use Rattle.pipe_model.specs.Work.{same_outcome, same_outcomes, same_end, is_write_end, failed_by_sink, is_end_by, own_text, before_sink, is_batch_handled}
 use Rattle.pipe_laws.proofs.Tests.{and_left, and_right}
 
 -- Built-in handlers
@@ -113,12 +110,3 @@ ends_count (Some spec) count messages bytes os h = by spec.kind h
         (length os) (length messages) h
         (λ k. eqb-true (length os) (length messages) (and_left (length os == length messages) _ (and_left (is_own_end messages (Outcomes os)) _ k)))
         (λ k. own_outcomes messages os (own_count messages (before_sink (Outcomes os)) (and_left (is_own_end messages (before_sink (Outcomes os))) _ k)))
-
--- messages with a content
-pub messages_count : (before : History) (ns : List ℕ) → Each (λ n. is_some (content before n) ≡ true) ns → length (messages_of before ns) ≡ length ns
-messages_count before [] h = refl
-messages_count before (n ∷ ns) h = by (content before n) h.0 (messages_count before ns h.1)
-  where
-    by : (o : Option Message) → is_some o ≡ true → length (messages_of before ns) ≡ length ns → length (Rattle.std.specs.List.cons_option o (messages_of before ns)) ≡ suc (length ns)
-    by None e rest = cc
-    by (Some m) e rest = ap suc rest
