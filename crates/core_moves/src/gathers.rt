@@ -1,6 +1,6 @@
 //! Whether a batcher may gather what stands first in its inbox.
 
-ghost use Rattle.std.specs.Prelude.{◌≡◌, ◌≤◌, ◌-◌, ◌&&◌, nat_le, Some, slice_get, option_copied};
+ghost use Rattle.std.specs.Prelude.{◌≡◌, ◌≤◌, ◌-◌, ◌&&◌, nat_le, Some, slice_get};
 ghost use Rattle.pipe_types.specs.Stages.{spec_of};
 ghost use Rattle.pipe_model.specs.Content.{key_in, content};
 ghost use Rattle.pipe_model.specs.Lives.{is_live};
@@ -81,7 +81,7 @@ fn fits(held: &Batcher, journal: &Journal, row: Option<ContentRow>) -> bool
     ensures { result ≡ key_fits held.now.batch_size (key_in (passed_by journal.now.steps row)) held.now.batches }
 {
     match message_at(journal, row) {
-        Some(message) => held.fits(message.key.as_slice()),
+        Some(message) => held.fits(message.key),
         None => held.fits(&[]),
     }
 }
