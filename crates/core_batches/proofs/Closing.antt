@@ -22,7 +22,7 @@ use Rattle.pipe_types.specs.Stages.{spec_of}
 use Rattle.pipe_types.specs.Sound.{IsSound, by_demand, by_broadcast, by_partition, batch_processors}
 use Rattle.pipe_types.specs.declared.topology.Dispatch.{Dispatch as DispatchKind}
 use Rattle.pipe_types.specs.declared.topology.Dispatch.TheVariants.{Demand, Broadcast, Partition}
-use Rattle.stage_laws.proofs.Groups.{fields_of}
+use Rattle.stage_laws.proofs.Groups.{fields_of as spec_fields}
 use Rattle.pipe_types.specs.Dispatchers.{partition_of}
 use Rattle.pipe_model.specs.History.{History, now, accepted, closed}
 use Rattle.pipe_model.specs.Batches.{Batch}
@@ -486,7 +486,7 @@ has_parts topology s spec sound e role =
       some = by spec.dispatch
           (and_right (spec.batcher == spec.index) _
           (and_left ((spec.batcher == spec.index) && ((by_demand spec spec.dispatch || by_broadcast spec spec.dispatch) || (by_partition (length (batch_processors spec.index topology.stages)) spec spec.dispatch && spec.field == 0))) _
-          (and_left _ _ (fields_of topology s spec Batcher sound e (role_is spec.role (sym batching ∙ role))))));
+          (and_left _ _ (spec_fields topology s spec Batcher sound e (role_is spec.role (sym batching ∙ role))))));
     }
   where
     batching : has_role topology s is_batcher_role ≡ is_batcher_role spec.role

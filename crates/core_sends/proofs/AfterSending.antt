@@ -71,6 +71,30 @@ are_moved core topology before s units places x is moves =
       placed = λ i. moves i ∙ (ap (option_map (dispatched units [] [] s (suc i))) (x.places i) ∙ ap (λ us. option_map (dispatched us [] [] s (suc i)) (place topology before (suc i))) is);
     }
 
+-- the rows of the pairs count what is sent
+pub pairs_counted : (core : Core) (topology : Topology) (before : History) (s : StageNo) (units : List Sent) (subs : List (Option PairRow)) → Fields core topology before → DispatchLaws topology before s
+    → units ≡ deliveries topology before s → ((c p : StageNo) → row_at subs c p ≡ option_map (sent_more (count_between units c p)) (row_at core.subs c p))
+    → (c p : StageNo) → feeds topology p c ≡ true → row_at subs c p ≡ Some (ledger_row topology (Dispatch s ∷ before) c p)
+pairs_counted core topology before s units subs x law is counted c p fed =
+    let count : count_between units c p ≡ count_on (deliveries topology before s) (current_sub topology before c p) =
+    ap (λ us. count_between us c p) is ∙ counts_are topology before (deliveries topology before s) c p law.well in
+    counted c p ∙ (ap (option_map (sent_more (count_between units c p))) (x.subs c p fed) ∙ ap (λ k. Some (sent_more k (ledger_row topology before c p))) count)
+
+-- the queue of the stage is the one that was left, and the others stay
+pub queues_left : (core : Core) (topology : Topology) (before : History) (s : StageNo) (queues : Vec (VecDeque (ℕ × ℕ) Global) Global) (q : VecDeque (ℕ × ℕ) Global) → Fields core topology before
+    → DispatchLaws topology before s → s.0 ≤ length topology.stages → queues.items ≡ set core.waiting.items s.0 q → q.items ≡ waiting_parts topology (Dispatch s ∷ before) s
+    → (t : StageNo) → queue_at queues.items t ≡ waiting_parts topology (Dispatch s ∷ before) t
+queues_left core topology before s queues q x law within queue kept t = by (same_or_other s.0 t.0)
+  where
+    by : (((s.0 == t.0) ≡ true) × (s.0 ≡ t.0)) ⊎ (((s.0 == t.0) ≡ false) × (s.0 ≢ t.0)) → queue_at queues.items t ≡ waiting_parts topology (Dispatch s ∷ before) t
+    by (inl same) =
+        let one : s ≡ t = ap (λ n. record { 0 = n }) same.1 in
+        ap (λ qs. queue_at qs t) queue
+        ∙ (queue-set_same core.waiting.items s.0 q t (omega (arith, x.sized.waiting, within)) (sym same.1) ∙ (kept ∙ ap (waiting_parts topology (Dispatch s ∷ before)) one))
+    by (inr other) =
+        ap (λ qs. queue_at qs t) queue
+        ∙ (queue-set_other core.waiting.items s.0 q t (λ e. other.1 (sym e)) ∙ (x.waiting t ∙ ap (map (pair topology before t)) (sym (law.waiting_else t other.0))))
+
 pub sent_fields : (core : Core) (topology : Topology) (before : History) (s : StageNo) (spec : StageSpec) (units : List Sent) (old : List (ℕ × ℕ)) (m : ℕ) (j : Recorded)
     (subs : List (Option PairRow)) (queues : Vec (VecDeque (ℕ × ℕ) Global) Global) (inboxes : Vec (VecDeque (SubNo × ℕ) Global) Global) (moved : List Place) (places : Vec Place Global) (settled : Vec ℕ Global) (q : VecDeque (ℕ × ℕ) Global)
     → Fields core topology before → IsSound topology → is_legal topology before ≡ true → allows topology before (Dispatch s) ≡ true → is_batcher (spec_of topology s) ≡ false
@@ -91,30 +115,13 @@ sent_fields core topology before s spec units old m j subs queues inboxes moved 
     lost : numbers_in (over_of spec.size spec.keep (left_in moved s old)) ≡ over topology before s
     lost = over_numbers topology before s spec (left_in moved s old) there left
 
-    pairs : (c p : StageNo) → feeds topology p c ≡ true → row_at subs c p ≡ Some (ledger_row topology (Dispatch s ∷ before) c p)
-    pairs c p fed =
-        let count : count_between units c p ≡ count_on (deliveries topology before s) (current_sub topology before c p) =
-        ap (λ us. count_between us c p) is ∙ counts_are topology before (deliveries topology before s) c p law.well in
-        done.counted c p ∙ (ap (option_map (sent_more (count_between units c p))) (x.subs c p fed) ∙ ap (λ k. Some (sent_more k (ledger_row topology before c p))) count)
-
-    waits : (t : StageNo) → (((s.0 == t.0) ≡ true) × (s.0 ≡ t.0)) ⊎ (((s.0 == t.0) ≡ false) × (s.0 ≢ t.0)) → queue_at queues.items t ≡ waiting_parts topology (Dispatch s ∷ before) t
-    waits t (inl same) =
-        let one : s ≡ t = ap (λ n. record { 0 = n }) same.1 in
-        ap (λ qs. queue_at qs t) done.queue
-        ∙ (queue-set_same core.waiting.items s.0 q t (omega (arith, x.sized.waiting, within)) (sym same.1)
-        ∙ (done.kept ∙ (kept_queue topology before s spec (left_in moved s old) sound h allowed plain there left ∙ ap (waiting_parts topology (Dispatch s ∷ before)) one)))
-    waits t (inr other) =
-        ap (λ qs. queue_at qs t) done.queue
-        ∙ (queue-set_other core.waiting.items s.0 q t (λ e. other.1 (sym e))
-        ∙ (x.waiting t ∙ ap (map (pair topology before t)) (sym (law.waiting_else t other.0))))
-
     says : (it : Part) → Says it (record core { journal = j; subs = subs; waiting = queues; inboxes = inboxes; places = places; settled = settled; totals = record core.totals { quiet = 0 } }) topology (Dispatch s ∷ before)
     says WaitingLen = ap length done.queue ∙ (length-set core.waiting.items s.0 q ∙ x.sized.waiting)
     says InboxesLen = done.all_inboxes ∙ x.sized.inboxes
     says PlacesLen = done.all_places ∙ x.sized.places
     says SettledLen = done.all_settled ∙ x.sized.settled
-    says SubsAre = pairs
-    says WaitingAre = λ t. waits t (same_or_other s.0 t.0)
+    says SubsAre = pairs_counted core topology before s units subs x law is done.counted
+    says WaitingAre = queues_left core topology before s queues q x law within done.queue (done.kept ∙ kept_queue topology before s spec (left_in moved s old) sound h allowed plain there left)
     says InboxesAre = λ c. done.came c ∙ (ap (λ b. b ++ delivered_to units c) (x.inboxes c) ∙ (ap (λ us. inbox topology before c ++ delivered_to us c) is ∙ sym (law.inbox c)))
     says ChunksAre = λ t. x.chunks t ∙ sym (law.running t)
     says OpensAre = λ t. x.opens t ∙ ap (open_batches before) (sym (law.gathered t))

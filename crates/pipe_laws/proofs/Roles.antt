@@ -1,5 +1,5 @@
 -- Roles that exclude one another.
-use Rattle.std.proofs.Common.{◌≡◌, true, false, ⊥}
+use Rattle.std.proofs.Common.{◌≡◌, true, false}
 use Rattle.pipe_types.specs.declared.topology.Role.{Role}
 use Rattle.pipe_types.specs.declared.topology.Role.TheVariants.{Producer, Processor, Supervisor, Batcher, BatchProcessor}
 use Rattle.pipe_model.specs.Legal.{is_producer_role, is_processor_role, is_supervisor_role, is_batcher_role, is_batch_processor_role, takes_role}
