@@ -2,7 +2,8 @@
 use Rattle.std.proofs.Common.{◌≡◌, ℕ, zero, suc, ◌+◌, ◌<◌, ◌≤◌, get_or, Bool, List, [], ◌∷◌, ◌++◌, length, take, take_all, reverse, refl, sym, ap, ◌∙◌, arith, append-nil, append_assoc, length-take-le, Some}
 use Rattle.std.specs.List.{count_by, flat_map}
 use Rattle.std.specs.Prelude.{codes, slice_get, replicate}
-use Rattle.std.proofs.lemmas.List.{replicate_more, length-replicate, flat_map-append}
+use Rattle.std.proofs.lemmas.List.{replicate_more, length-replicate}
+use Rattle.std.proofs.lemmas.List.Concat.{flat_map-append}
 use Rattle.std.proofs.lemmas.Option.{slice_get_read, slice_get_within}
 use Rattle.std.proofs.lemmas.List.Sorted.{sum_by-IsPermutation, IsPermutation-reverse}
 use Rattle.pipe_journal.proofs.Walks.{flat_map_at, one_more}
