@@ -29,8 +29,20 @@ use pipe_types::topology::{Dispatch, StageSpec, Topology};
 use std::collections::VecDeque;
 
 /// Whether the stage is live, and its dispatch sends something, serves a batch that nobody picks, or loses what is over the
-/// size of its buffer.
+/// size of its buffer. Where nothing waits it does none of these.
 pub fn may_dispatch(core: &Core, spec: &StageSpec) -> bool
+    requires stands { Stands core.now }
+    requires there { spec_of core.now.topology spec.now.no ≡ Some spec.now }
+    ensures { result ≡ may_dispatch core.now.topology core.now.journal.steps spec.now.no }
+{
+    if is_waiting_empty(core, spec.no) {
+        return false;
+    }
+    may_dispatch_some(core, spec)
+}
+
+/// The same, whatever waits.
+fn may_dispatch_some(core: &Core, spec: &StageSpec) -> bool
     requires stands { Stands core.now }
     requires there { spec_of core.now.topology spec.now.no ≡ Some spec.now }
     ensures { result ≡ may_dispatch core.now.topology core.now.journal.steps spec.now.no }

@@ -5,7 +5,7 @@ ghost use Rattle.pipe_types.specs.Stages.{spec_of};
 ghost use Rattle.pipe_model.specs.Content.{key_in, content};
 ghost use Rattle.pipe_model.specs.Lives.{is_live};
 ghost use Rattle.pipe_model.specs.Flow.{inbox, open_batch_by, view_of};
-ghost use Rattle.pipe_model.specs.Legal.{may_gather, lets_in, first_unit as first_number};
+ghost use Rattle.pipe_model.specs.Legal.{may_gather, lets_in, is_batcher_role, first_unit as first_number};
 ghost use Rattle.batcher.specs.Batches.{fits as key_fits};
 ghost use Rattle.core_tables.specs.Tables.{items_in};
 ghost use Rattle.core_state.specs.Stands.{Stands};
@@ -28,7 +28,16 @@ pub(crate) fn may_gather_first(core: &Core, spec: &StageSpec) -> bool
     requires there { spec_of core.now.topology spec.now.no ≡ Some spec.now }
     ensures { result ≡ may_gather core.now.topology core.now.journal.steps spec.now.no (first_number (inbox core.now.topology core.now.journal.steps spec.now.no)) }
 {
-    is_gather_next(core, spec)
+    if is_batcher(spec.role) {
+        return is_gather_next(core, spec);
+    }
+    false
+}
+
+fn is_batcher(role: Role) -> bool
+    ensures { result ≡ is_batcher_role role }
+{
+    matches!(role, Role::Batcher)
 }
 
 fn is_gather_next(core: &Core, spec: &StageSpec) -> bool
