@@ -1,5 +1,5 @@
 use Rattle.std.proofs.Common.{◌≡◌, ap, sym, ◌∙◌, None, Some}
-use Rattle.std.specs.Prelude.{position, ◌==◌}
+use Rattle.std.specs.Prelude.{position}
 use Rattle.dispatch_partition.proofs.Units.{of_part, taken_rest, taken_sub, none_rest, none_sub}
 use Rattle.dispatch_partition.proofs.left.take_one.Goals as goal
 
