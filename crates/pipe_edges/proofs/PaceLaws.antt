@@ -186,9 +186,7 @@ fetch_of E F (Some pace) a b h i stop x = record {
   counts (Ended end.TooLong) k = tt
   counts _ k = k
 
-      held_up : (r : Result (Option Stop) F) → IfOk r (RoundIsHeldUp pace b c) → IfOk r (RoundIsHeldUp pace a c)
-      held_up (Ok (Some NotYet)) k = held_up_more pace a b c x.kept k
-      held_up _ k = tt
+  held_up : (stop : Stop) → RoundIsHeldUp pace a b (Some stop) → FetchIsHeldUp pace a b (fetched_of stop)
   held_up NotYet k = k
   held_up (Ended end.End) k = tt
   held_up _ k = tt
