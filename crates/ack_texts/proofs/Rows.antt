@@ -6,7 +6,7 @@ use Rattle.pipe_types.specs.declared.numbers.StageNo.{StageNo}
 use Rattle.pipe_types.specs.declared.numbers.MsgNo.{MsgNo}
 use Rattle.pipe_types.specs.declared.topology.Topology.{Topology}
 use Rattle.pipe_types.specs.declared.message.Place.{Place}
-use Rattle.pipe_types.specs.declared.message.Place.TheVariants.{Waiting, Inbox, Running, Gathered, InBatch, Acked, Lost}
+use Rattle.pipe_types.specs.declared.message.Place.TheVariants.{Waiting, Running, Gathered, Acked}
 use Rattle.pipe_types.specs.declared.message.Outcome.TheVariants.{Successful, Failed}
 use Rattle.pipe_types.specs.declared.state.PlaceRow.{PlaceRow}
 use Rattle.pipe_types.specs.Numbers.{same_stage}
@@ -25,25 +25,11 @@ use Rattle.ack_texts.proofs.Settling.{IsSide, settles, settled_in}
 
 pub successful_is_side : IsSide is_acked_successful
 successful_is_side (Some (Acked Successful)) h = cc
-successful_is_side (Some (Acked (Failed why))) h = refl
-successful_is_side None h = refl
-successful_is_side (Some (Waiting t)) h = refl
-successful_is_side (Some (Inbox u)) h = refl
-successful_is_side (Some (Running t)) h = refl
-successful_is_side (Some (Gathered t)) h = refl
-successful_is_side (Some (InBatch b)) h = refl
-successful_is_side (Some (Lost l)) h = refl
+successful_is_side _ h = refl
 
 pub failed_is_side : IsSide is_acked_failed
-failed_is_side (Some (Acked Successful)) h = refl
 failed_is_side (Some (Acked (Failed why))) h = cc
-failed_is_side None h = refl
-failed_is_side (Some (Waiting t)) h = refl
-failed_is_side (Some (Inbox u)) h = refl
-failed_is_side (Some (Running t)) h = refl
-failed_is_side (Some (Gathered t)) h = refl
-failed_is_side (Some (InBatch b)) h = refl
-failed_is_side (Some (Lost l)) h = refl
+failed_is_side _ h = refl
 
 -- the numbers of the producer's verdicts that pass
 abbrev passing : (Verdict → Bool) → StageNo → List Verdict → List ℕ
@@ -74,11 +60,9 @@ successful_agree m q p (Acked (Failed why)) numbers verdicts e =
     ap (λ t. cond t (m.0 ∷ numbers) numbers) (and_false (same_stage q p))
     ∙ (e ∙ left_out (λ verdict. is_successful verdict.outcome) p (record { no = m; producer = q; outcome = Failed why }) verdicts (and_false (same_stage q p)))
 successful_agree m q p (Waiting t) numbers verdicts e = ap (λ t. cond t (m.0 ∷ numbers) numbers) (and_false (same_stage q p)) ∙ e
-successful_agree m q p (Inbox u) numbers verdicts e = ap (λ t. cond t (m.0 ∷ numbers) numbers) (and_false (same_stage q p)) ∙ e
 successful_agree m q p (Running t) numbers verdicts e = ap (λ t. cond t (m.0 ∷ numbers) numbers) (and_false (same_stage q p)) ∙ e
 successful_agree m q p (Gathered t) numbers verdicts e = ap (λ t. cond t (m.0 ∷ numbers) numbers) (and_false (same_stage q p)) ∙ e
-successful_agree m q p (InBatch b) numbers verdicts e = ap (λ t. cond t (m.0 ∷ numbers) numbers) (and_false (same_stage q p)) ∙ e
-successful_agree m q p (Lost l) numbers verdicts e = ap (λ t. cond t (m.0 ∷ numbers) numbers) (and_false (same_stage q p)) ∙ e
+successful_agree m q p _ numbers verdicts e = ap (λ t. cond t (m.0 ∷ numbers) numbers) (and_false (same_stage q p)) ∙ e
 
 failed_agree : Agree is_acked_failed (λ verdict. not (is_successful verdict.outcome))
 unfolding Agree
@@ -91,11 +75,9 @@ failed_agree m q p (Acked Successful) numbers verdicts e =
     ap (λ t. cond t (m.0 ∷ numbers) numbers) (and_false (same_stage q p))
     ∙ (e ∙ left_out (λ verdict. not (is_successful verdict.outcome)) p (record { no = m; producer = q; outcome = Successful }) verdicts (and_false (same_stage q p)))
 failed_agree m q p (Waiting t) numbers verdicts e = ap (λ t. cond t (m.0 ∷ numbers) numbers) (and_false (same_stage q p)) ∙ e
-failed_agree m q p (Inbox u) numbers verdicts e = ap (λ t. cond t (m.0 ∷ numbers) numbers) (and_false (same_stage q p)) ∙ e
 failed_agree m q p (Running t) numbers verdicts e = ap (λ t. cond t (m.0 ∷ numbers) numbers) (and_false (same_stage q p)) ∙ e
 failed_agree m q p (Gathered t) numbers verdicts e = ap (λ t. cond t (m.0 ∷ numbers) numbers) (and_false (same_stage q p)) ∙ e
-failed_agree m q p (InBatch b) numbers verdicts e = ap (λ t. cond t (m.0 ∷ numbers) numbers) (and_false (same_stage q p)) ∙ e
-failed_agree m q p (Lost l) numbers verdicts e = ap (λ t. cond t (m.0 ∷ numbers) numbers) (and_false (same_stage q p)) ∙ e
+failed_agree m q p _ numbers verdicts e = ap (λ t. cond t (m.0 ∷ numbers) numbers) (and_false (same_stage q p)) ∙ e
 
 -- All rows
 

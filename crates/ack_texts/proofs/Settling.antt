@@ -6,7 +6,7 @@ use Rattle.std.proofs.lemmas.List.Elements.{filter-append, filter_agree}
 use Rattle.pipe_types.specs.declared.numbers.StageNo.{StageNo}
 use Rattle.pipe_types.specs.declared.topology.Topology.{Topology}
 use Rattle.pipe_types.specs.declared.message.Place.{Place}
-use Rattle.pipe_types.specs.declared.message.Place.TheVariants.{Waiting, Inbox, Running, Gathered, InBatch, Acked, Lost}
+use Rattle.pipe_types.specs.declared.message.Place.TheVariants.{Acked}
 use Rattle.pipe_types.specs.declared.step.Step.{Step}
 use Rattle.pipe_types.specs.declared.step.Step.TheVariants.{Accept, Late}
 use Rattle.pipe_types.specs.declared.step.LateAnswer.TheVariants.{Records}
@@ -50,13 +50,7 @@ IsSide side = (p : Option Place) → is_acked p ≡ false → side p ≡ false
 
 not_acked : (p : Option Place) → is_final p ≡ false → is_acked p ≡ false
 not_acked (Some (Acked o)) h = cc
-not_acked (Some (Lost l)) h = refl
-not_acked None h = refl
-not_acked (Some (Waiting s)) h = refl
-not_acked (Some (Inbox u)) h = refl
-not_acked (Some (Running s)) h = refl
-not_acked (Some (Gathered s)) h = refl
-not_acked (Some (InBatch b)) h = refl
+not_acked _ h = refl
 
 and_false : (b : Bool) → (b && false) ≡ false
 and_false true = refl

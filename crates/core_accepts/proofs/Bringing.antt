@@ -8,7 +8,7 @@ use Rattle.pipe_types.specs.declared.numbers.StageNo.{StageNo}
 use Rattle.pipe_types.specs.declared.topology.Topology.{Topology}
 use Rattle.pipe_types.specs.declared.topology.StageSpec.{StageSpec}
 use Rattle.pipe_types.specs.declared.topology.Role.{Role}
-use Rattle.pipe_types.specs.declared.topology.Role.TheVariants.{Producer, Processor, Supervisor, Batcher, BatchProcessor}
+use Rattle.pipe_types.specs.declared.topology.Role.TheVariants.{Producer}
 use Rattle.pipe_types.specs.declared.topology.Dispatch.{Dispatch as DispatchKind}
 use Rattle.pipe_types.specs.declared.topology.Dispatch.TheVariants.{Demand, Broadcast, Partition}
 use Rattle.pipe_types.specs.declared.step.Step.TheVariants.{Accept}
@@ -30,10 +30,7 @@ use Rattle.core_accepts.specs.Records.{HasParts}
 
 producer_only : (role : Role) → is_producer_role role ≡ true → role ≡ Producer
 producer_only Producer h = refl
-producer_only Processor h = cc
-producer_only Supervisor h = cc
-producer_only Batcher h = cc
-producer_only BatchProcessor h = cc
+producer_only _ h = cc
 
 role_is : (topology : Topology) (s : StageNo) (spec : StageSpec) → spec_of topology s ≡ Some spec → has_role topology s is_producer_role ≡ true → spec.role ≡ Producer
 role_is topology s spec found h =

@@ -33,6 +33,7 @@ use Rattle.core_state.specs.declared.state.Core.{Core}
 use Rattle.core_state.specs.Stands.{Fields}
 use Rattle.core_state.proofs.Ending.{post_home}
 use Rattle.core_tables.proofs.NewRows.{behind, placed_new, marked_new, contents_new, contents_count}
+use Rattle.core_state.proofs.Parts.{Part, ChunksAre, ContentsAre, ContentsLen, InboxesAre, OpensAre, PlacesAre, PlacesLen, PostsAre, PostsLen, ProducersAre, ProducersLen, SettledAre, SettledLen, TotalsAre, WaitingAre, WaitingLen, Says, unchanged, fields_of}
 
 -- the records wait behind what waited in their producer
 pub parts_accepted : (topology : Topology) (before : History) (s : StageNo) (spec : StageSpec) (records : List (List ℕ)) → IsSound topology → is_legal topology before ≡ true → AcceptLaws topology before s records
@@ -67,53 +68,7 @@ pub enrolled_fields : (core : Core) (topology : Topology) (before : History) (s 
     → spec_of topology s ≡ Some spec → spec.role ≡ Producer
     → Enrolled core before s spec records (record core { journal = j; posts = posts; waiting = queues; places = places; settled = settled; producers = producers; contents = contents; totals = totals }) q
     → Fields (record core { journal = j; posts = posts; waiting = queues; places = places; settled = settled; producers = producers; contents = contents; totals = totals }) topology (Accept s records ∷ before)
-enrolled_fields core topology before s spec records j queues places settled producers contents posts totals q x sound legal law within found role e =
-    record {
-      sized =
-          record {
-            few = x.sized.few;
-            stages = x.sized.stages;
-            posts = e.post_count ∙ x.sized.posts;
-            came = x.sized.came;
-            waiting = ap length e.queues ∙ (length-set core.waiting.items s.0 q ∙ x.sized.waiting);
-            inboxes = x.sized.inboxes;
-            chunks = x.sized.chunks;
-            batchers = x.sized.batchers;
-            children = x.sized.children;
-            places = more core.places.items (replicate (length records) (Waiting s)) places.items (accepted before) (length records) e.places x.sized.places (length-replicate (length records) (Waiting s));
-            settled = more core.settled.items (replicate (length records) 0) settled.items (accepted before) (length records) e.settled x.sized.settled (length-replicate (length records) 0);
-            producers = more core.producers.items (replicate (length records) s) producers.items (accepted before) (length records) e.producers x.sized.producers (length-replicate (length records) s);
-            contents = more core.contents.items (contents_up (length before) 0 (length records)) contents.items (accepted before) (length records) e.contents x.sized.contents (contents_count (length before) 0 (length records));
-            batches = x.sized.batches;
-            ends = x.sized.ends;
-          };
-      set = record { batchers = x.set.batchers; children = x.set.children; restarts = x.set.restarts };
-      stages = x.stages;
-      posts = λ t slot below low. e.posts (post_at t.0 slot) ∙ post_home core.posts.items s t slot (post_row before t slot) low (x.posts t slot below low);
-      came = x.came;
-      subs = x.subs;
-      waiting = λ t. waits t (same_or_other s.0 t.0);
-      inboxes = λ t. x.inboxes t ∙ sym (law.inbox t);
-      chunks = λ t. x.chunks t ∙ sym (law.running t);
-      opens = λ t. x.opens t ∙ (sym (opens_kept topology s records before t) ∙ sym (ap (open_batches (Accept s records ∷ before)) (law.gathered t)));
-      children = x.children;
-      places = λ i. ap (λ ps. slice_get ps i) e.places ∙ (placed_new core.places.items (length records) (Waiting s) i
-          ∙ (ap (λ n. accepted_to n (length records) (Waiting s) (suc i) (slice_get core.places.items i)) x.sized.places ∙ ap (accepted_to (accepted before) (length records) (Waiting s) (suc i)) (x.places i)));
-      settled = λ i below. ap (λ ms. slice_get ms i) e.settled
-          ∙ marked_new core.settled.items (length records) (mark topology before (suc i)) i (omega (arith, below, x.sized.settled))
-          (λ low. x.settled i (omega (arith, low, x.sized.settled))) (λ far. unsettled topology before (suc i) (omega (arith, far, x.sized.settled)));
-      producers = λ i. ap (λ ps. slice_get ps i) e.producers ∙ (behind core.producers.items (length records) s i
-          ∙ (ap (λ n. if is_among_next n (length records) (suc i) then Some s else slice_get core.producers.items i) x.sized.producers
-          ∙ ap (λ o. if is_among_next (accepted before) (length records) (suc i) then Some s else o) (x.producers i)));
-      contents = λ i. ap (λ cs. slice_get cs i) e.contents ∙ (contents_new core.contents.items (length before) (length records) i
-          ∙ (ap (λ n. at_record (length before) n (length records) (suc i) (slice_get core.contents.items i)) x.sized.contents
-          ∙ ap (at_record (length before) (accepted before) (length records) (suc i)) (x.contents i)));
-      batches = x.batches;
-      sent_on = x.sent_on;
-      legs = x.legs;
-      restarts = x.restarts;
-      totals = e.totals ∙ ap (λ (y : Totals). record y { accepted = y.accepted + length records; bytes = y.bytes + bytes_in records; quiet = 0 }) x.totals;
-    }
+enrolled_fields core topology before s spec records j queues places settled producers contents posts totals q x sound legal law within found role e = fields_of says
   where
     waits : (t : StageNo) → (((s.0 == t.0) ≡ true) × (s.0 ≡ t.0)) ⊎ (((s.0 == t.0) ≡ false) × (s.0 ≢ t.0)) → queue_at queues.items t ≡ waiting_parts topology (Accept s records ∷ before) t
     waits t (inl same) =
@@ -129,3 +84,29 @@ enrolled_fields core topology before s spec records j queues places settled prod
         ∙ (x.waiting t
         ∙ (sym (parts_old topology s records before t sound legal)
         ∙ sym (ap (map (λ n. (part_of topology (Accept s records ∷ before) (spec_of topology t) n, n))) (law.waiting_else t other.0)))))
+
+    says : (it : Part) → Says it (record core { journal = j; posts = posts; waiting = queues; places = places; settled = settled; producers = producers; contents = contents; totals = totals }) topology (Accept s records ∷ before)
+    says PostsLen = e.post_count ∙ x.sized.posts
+    says WaitingLen = ap length e.queues ∙ (length-set core.waiting.items s.0 q ∙ x.sized.waiting)
+    says PlacesLen = more core.places.items (replicate (length records) (Waiting s)) places.items (accepted before) (length records) e.places x.sized.places (length-replicate (length records) (Waiting s))
+    says SettledLen = more core.settled.items (replicate (length records) 0) settled.items (accepted before) (length records) e.settled x.sized.settled (length-replicate (length records) 0)
+    says ProducersLen = more core.producers.items (replicate (length records) s) producers.items (accepted before) (length records) e.producers x.sized.producers (length-replicate (length records) s)
+    says ContentsLen = more core.contents.items (contents_up (length before) 0 (length records)) contents.items (accepted before) (length records) e.contents x.sized.contents (contents_count (length before) 0 (length records))
+    says PostsAre = λ t slot below low. e.posts (post_at t.0 slot) ∙ post_home core.posts.items s t slot (post_row before t slot) low (x.posts t slot below low)
+    says WaitingAre = λ t. waits t (same_or_other s.0 t.0)
+    says InboxesAre = λ t. x.inboxes t ∙ sym (law.inbox t)
+    says ChunksAre = λ t. x.chunks t ∙ sym (law.running t)
+    says OpensAre = λ t. x.opens t ∙ (sym (opens_kept topology s records before t) ∙ sym (ap (open_batches (Accept s records ∷ before)) (law.gathered t)))
+    says PlacesAre = λ i. ap (λ ps. slice_get ps i) e.places ∙ (placed_new core.places.items (length records) (Waiting s) i
+        ∙ (ap (λ n. accepted_to n (length records) (Waiting s) (suc i) (slice_get core.places.items i)) x.sized.places ∙ ap (accepted_to (accepted before) (length records) (Waiting s) (suc i)) (x.places i)))
+    says SettledAre = λ i below. ap (λ ms. slice_get ms i) e.settled
+        ∙ marked_new core.settled.items (length records) (mark topology before (suc i)) i (omega (arith, below, x.sized.settled))
+        (λ low. x.settled i (omega (arith, low, x.sized.settled))) (λ far. unsettled topology before (suc i) (omega (arith, far, x.sized.settled)))
+    says ProducersAre = λ i. ap (λ ps. slice_get ps i) e.producers ∙ (behind core.producers.items (length records) s i
+        ∙ (ap (λ n. if is_among_next n (length records) (suc i) then Some s else slice_get core.producers.items i) x.sized.producers
+        ∙ ap (λ o. if is_among_next (accepted before) (length records) (suc i) then Some s else o) (x.producers i)))
+    says ContentsAre = λ i. ap (λ cs. slice_get cs i) e.contents ∙ (contents_new core.contents.items (length before) (length records) i
+        ∙ (ap (λ n. at_record (length before) n (length records) (suc i) (slice_get core.contents.items i)) x.sized.contents
+        ∙ ap (at_record (length before) (accepted before) (length records) (suc i)) (x.contents i)))
+    says TotalsAre = e.totals ∙ ap (λ (y : Totals). record y { accepted = y.accepted + length records; bytes = y.bytes + bytes_in records; quiet = 0 }) x.totals
+    says it = unchanged x it

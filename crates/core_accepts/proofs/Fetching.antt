@@ -24,6 +24,7 @@ use Rattle.core_laws.proofs.Came.{flip}
 use Rattle.core_state.specs.declared.state.Core.{Core}
 use Rattle.core_state.specs.Stands.{Fields}
 use Rattle.core_state.proofs.Ending.{row_changed, post_same}
+use Rattle.core_state.proofs.Parts.{Part, PostsAre, PostsLen, StagesAre, StagesLen, Says, unchanged, fields_of}
 
 -- one stage's job was put out
 post_out : (posts : List PostRow) (s t : StageNo) (slot from : ℕ) (row : PostRow) → slot < 16 → slice_get posts (post_at t.0 slot) ≡ Some row
@@ -42,46 +43,7 @@ pub fetched_fields : (core : Core) (topology : Topology) (before : History) (s :
     → ((i : ℕ) → slice_get rows.items i ≡ (if s.0 == i then option_map (fetched n) (slice_get core.stages.items i) else slice_get core.stages.items i)) → length rows.items ≡ length core.stages.items
     → ((i : ℕ) → slice_get posts.items i ≡ (if post_at s.0 0 == i then Some (record { out = true; from = from }) else slice_get core.posts.items i)) → length posts.items ≡ length core.posts.items
     → Fields (record core { journal = j; stages = rows; posts = posts }) topology (Fetch s n ∷ before)
-fetched_fields core topology before s n from j rows posts x present noted len put_out len-posts =
-    record {
-      sized =
-          record {
-            few = x.sized.few;
-            stages = len ∙ x.sized.stages;
-            posts = len-posts ∙ x.sized.posts;
-            came = x.sized.came;
-            waiting = x.sized.waiting;
-            inboxes = x.sized.inboxes;
-            chunks = x.sized.chunks;
-            batchers = x.sized.batchers;
-            children = x.sized.children;
-            places = x.sized.places;
-            settled = x.sized.settled;
-            producers = x.sized.producers;
-            contents = x.sized.contents;
-            batches = x.sized.batches;
-            ends = x.sized.ends;
-          };
-      set = record { batchers = x.set.batchers; children = x.set.children; restarts = x.set.restarts };
-      stages = λ t within. noted t.0 ∙ (row_changed (fetched n) core.stages.items s t (stage_row topology before t) (x.stages t within) ∙ ap Some (by (s.0 == t.0) t (flip t.0 s.0)));
-      posts = λ t slot within low. put_out (post_at t.0 slot) ∙ (post_out core.posts.items s t slot from (post_row before t slot) low (x.posts t slot within low) ∙ ap Some (by_post (same_post (post t slot) (post s 0)) t slot refl));
-      came = x.came;
-      subs = x.subs;
-      waiting = x.waiting;
-      inboxes = x.inboxes;
-      chunks = x.chunks;
-      opens = x.opens;
-      children = x.children;
-      places = x.places;
-      settled = x.settled;
-      producers = x.producers;
-      contents = x.contents;
-      batches = x.batches;
-      sent_on = x.sent_on;
-      legs = x.legs;
-      restarts = x.restarts;
-      totals = x.totals;
-    }
+fetched_fields core topology before s n from j rows posts x present noted len put_out len-posts = fields_of says
   where
     by : (b : Bool) (t : StageNo) → (t.0 == s.0) ≡ b → (if b then fetched n (stage_row topology before t) else stage_row topology before t) ≡ stage_row topology (Fetch s n ∷ before) t
     by true t e = ap (λ b. record (stage_row topology before t) { last_fetch = if b then n else last_fetch before t }) (sym e)
@@ -96,6 +58,13 @@ fetched_fields core topology before s n from j rows posts x present noted len pu
     by_post false t slot e =
         ap (λ b. record { out = same_post (post t slot) (post s 0) || is_out before (post t slot); from = if b then from else out_from before (post t slot) }) e
         ∙ sym (ap (λ b. record { out = same_post (post t slot) (post s 0) || is_out before (post t slot); from = if b then incarnation before t else out_from before (post t slot) }) e)
+
+    says : (it : Part) → Says it (record core { journal = j; stages = rows; posts = posts }) topology (Fetch s n ∷ before)
+    says StagesLen = len ∙ x.sized.stages
+    says PostsLen = len-posts ∙ x.sized.posts
+    says StagesAre = λ t within. noted t.0 ∙ (row_changed (fetched n) core.stages.items s t (stage_row topology before t) (x.stages t within) ∙ ap Some (by (s.0 == t.0) t (flip t.0 s.0)))
+    says PostsAre = λ t slot within low. put_out (post_at t.0 slot) ∙ (post_out core.posts.items s t slot from (post_row before t slot) low (x.posts t slot within low) ∙ ap Some (by_post (same_post (post t slot) (post s 0)) t slot refl))
+    says it = unchanged x it
 
 -- Where the producer stands
 pub fetch_within : (topology : Topology) (before : History) (s : StageNo) (n : ℕ) → IsNumberedTopology topology → allows topology before (Fetch s n) ≡ true → s.0 ≤ length topology.stages

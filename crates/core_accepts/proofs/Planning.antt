@@ -8,7 +8,7 @@ use Rattle.pipe_types.specs.declared.numbers.SubNo.{SubNo}
 use Rattle.pipe_types.specs.declared.topology.Topology.{Topology}
 use Rattle.pipe_types.specs.declared.topology.StageSpec.{StageSpec}
 use Rattle.pipe_types.specs.declared.topology.Role.{Role}
-use Rattle.pipe_types.specs.declared.topology.Role.TheVariants.{Producer, Processor, Supervisor, Batcher, BatchProcessor}
+use Rattle.pipe_types.specs.declared.topology.Role.TheVariants.{Producer}
 use Rattle.pipe_types.specs.declared.topology.Keep.{Keep}
 use Rattle.pipe_types.specs.declared.topology.Keep.TheVariants.{Last, First}
 use Rattle.pipe_types.specs.declared.room.Room.{Room}
@@ -77,10 +77,7 @@ no_batcher topology s spec found role = ap is_batcher found ∙ by spec.role rol
   where
     by : (r : Role) → r ≡ Producer → is_batcher (Some (record spec { role = r })) ≡ false
     by Producer h = refl
-    by Processor h = cc
-    by Supervisor h = cc
-    by Batcher h = cc
-    by BatchProcessor h = cc
+    by _ h = cc
 
 -- what a dispatch sends after the accept was planned before it
 pub planned_accepted : (topology : Topology) (before : History) (s : StageNo) (spec : StageSpec) (records : List (List ℕ)) → IsSound topology → is_legal topology before ≡ true → AcceptLaws topology before s records

@@ -1,10 +1,9 @@
 //! What the subscribers of a stage asked for and did not get yet.
 
 ghost use Rattle.std.specs.Prelude.{◌≡◌, ◌≤◌, length, sum_by};
-ghost use Rattle.pipe_types.specs.Stages.{spec_feeds};
 ghost use Rattle.core_accepts.specs.Rooms.{open_between};
 
-use pipe_types::topology::{Role, StageSpec};
+use pipe_types::topology::StageSpec;
 use stage_subs::Subs;
 
 /// The open demand of the live subscriptions on the producer, in units.
@@ -23,23 +22,11 @@ pub(crate) fn room_on(subs: &Subs, producer: &StageSpec, stages: &[StageSpec]) -
 fn open_of(subs: &Subs, producer: &StageSpec, consumer: &StageSpec) -> u32
     ensures { result ≡ open_between subs.now producer.now consumer.now }
 {
-    if !takes_from(producer, consumer) {
+    if !producer.feeds(consumer) {
         return 0;
     }
     match subs.live_of(consumer.no, producer.no) {
         Some(sub) => subs.room_of(sub),
         None => 0,
-    }
-}
-
-/// Whether the consumer takes from the producer.
-fn takes_from(producer: &StageSpec, consumer: &StageSpec) -> bool
-    ensures { result ≡ spec_feeds producer.now consumer.now }
-{
-    match (producer.role, consumer.role) {
-        (Role::Producer, Role::Processor | Role::Supervisor) => true,
-        (Role::Processor, Role::Batcher) => true,
-        (Role::Batcher, Role::BatchProcessor) => producer.batcher == consumer.batcher,
-        _ => false,
     }
 }

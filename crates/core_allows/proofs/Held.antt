@@ -44,6 +44,10 @@ pub and_parts : (a b c : Bool) → ((a && b) && c) ≡ (a && (b && c))
 and_parts false b c = refl
 and_parts true b c = refl
 
+-- what is tested first, by its answer
+pub tested_first : (a b c x r : Bool) → x ≡ (a && b) → x ≡ r → (r && c) ≡ (a && (b && c))
+tested_first a b c x r tested is = ap (λ y. y && c) (sym is ∙ tested) ∙ and_parts a b c
+
 pub but_last : (a b c d : Bool) → (a && (b && (c && d))) ≡ true → (a && (b && c)) ≡ true
 but_last false b c d h = h
 but_last true false c d h = h

@@ -4,7 +4,7 @@ use Rattle.std.specs.Prelude.{◌&&◌, ◌==◌, not}
 use Rattle.pipe_types.specs.declared.numbers.StageNo.{StageNo}
 use Rattle.pipe_types.specs.declared.topology.Topology.{Topology}
 use Rattle.pipe_types.specs.declared.step.LateAnswer.{LateAnswer}
-use Rattle.pipe_types.specs.declared.step.LateAnswer.TheVariants.{Records, Quiet, Source, Wrote, Nothing}
+use Rattle.pipe_types.specs.declared.step.LateAnswer.TheVariants.{Wrote}
 use Rattle.pipe_types.specs.Numbers.{post}
 use Rattle.pipe_model.specs.History.{History, incarnation}
 use Rattle.pipe_model.specs.Posts.{is_out, out_from}
@@ -15,11 +15,8 @@ use Rattle.core_allows.specs.Tested.{late_form, may_be_late}
 use Rattle.core_allows.proofs.Held.{weaker_last}
 
 form_model : (topology : Topology) (before : History) (s : StageNo) (answer : LateAnswer) → late_fits topology before s answer ≡ true → late_form topology before s answer ≡ true
-form_model topology before s (Records records) h = h
-form_model topology before s Quiet h = h
-form_model topology before s (Source how) h = h
 form_model topology before s (Wrote bytes end) h = and_left (late_form topology before s (Wrote bytes end)) _ h
-form_model topology before s Nothing h = h
+form_model topology before s _ h = h
 
 pub late_model : (topology : Topology) (before : History) (s : StageNo) (slot i : ℕ) (answer : LateAnswer) → may_be_late_as topology before s slot i answer ≡ true → may_be_late topology before s slot i answer ≡ true
 late_model topology before s slot i answer h =

@@ -10,9 +10,9 @@ ghost use Rattle.core_laws.specs.Columns.{child_row};
 ghost use Rattle.core_state.specs.Stands.{Stands, child_of};
 ghost use Rattle.core_allows.specs.Rows.{starts_by};
 
-use crate::queues::first_unit;
 use crate::rows::is_supervisor;
 use consumer_sup::Children;
+use core_moves::gathers::first_unit;
 use core_state::Core;
 use pipe_types::numbers::{MsgNo, Post, StageNo};
 

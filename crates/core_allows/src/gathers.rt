@@ -8,9 +8,8 @@ ghost use Rattle.pipe_model.specs.Flow.{inbox, open_batch_by, view_of};
 ghost use Rattle.pipe_model.specs.Legal.{may_come, lets_in, has_room, first_unit as first_number};
 ghost use Rattle.core_state.specs.Stands.{Stands};
 
-use crate::queues::first_unit;
 use crate::rows::is_batcher;
-use core_moves::gathers::lets_in;
+use core_moves::gathers::{first_unit, lets_in};
 use core_rows::rooms::has_room;
 use core_state::Core;
 use pipe_types::numbers::{MsgNo, StageNo};

@@ -4,10 +4,9 @@ ghost use Rattle.std.specs.Prelude.{◌≡◌, ◌||◌, not, length, nat_lt, sl
 ghost use Rattle.pipe_types.specs.declared.step.Step.TheVariants.{Take};
 ghost use Rattle.pipe_types.specs.Stages.{spec_of};
 ghost use Rattle.pipe_model.specs.Flow.{inbox, units_on};
-ghost use Rattle.pipe_model.specs.Legal.{may_come, has_role, takes_role, first_sub, chunk_size, feeds_batchers, has_room, first_unit as first_number};
+ghost use Rattle.pipe_model.specs.Legal.{may_come, has_role, takes_role, first_sub, chunk_size, feeds_batchers, has_room};
 ghost use Rattle.core_tables.specs.Tables.{items_in};
 ghost use Rattle.core_state.specs.Stands.{Stands};
-ghost use Rattle.core_moves.specs.Gathers.{first_by};
 
 use core_rows::rooms::has_room;
 use core_state::Core;
@@ -115,25 +114,4 @@ fn does_pass(core: &Core, spec: &StageSpec) -> bool
     ensures { result ≡ (not (nat_lt 0 spec.now.batchers) || has_room core.now.topology core.now.journal.steps spec.now.no) }
 {
     spec.batchers == 0 || has_room(core, spec)
-}
-
-/// The first unit of the stage's inbox, and 0 where that is empty.
-pub(crate) fn first_unit(core: &Core, stage: StageNo) -> u32
-    requires stands { Stands core.now }
-    ensures { result ≡ first_number (inbox core.now.topology core.now.journal.steps stage) }
-{
-    first_of(&core.inboxes, stage.0 as usize)
-}
-
-/// The first unit of the queue, and 0 where that is empty or not there.
-fn first_of(inboxes: &[VecDeque<(SubNo, u32)>], at: usize) -> u32
-    ensures { result ≡ first_by (items_in (slice_get inboxes.now at)) }
-{
-    match inboxes.get(at) {
-        Some(inbox) => match inbox.front() {
-            Some(unit) => unit.1,
-            None => 0,
-        },
-        None => 0,
-    }
 }

@@ -15,14 +15,14 @@ use Rattle.pipe_types.specs.declared.message.Trigger.TheVariants.{Size, Flush, T
 use Rattle.pipe_types.specs.declared.topology.Topology.{Topology}
 use Rattle.pipe_types.specs.declared.topology.StageSpec.{StageSpec}
 use Rattle.pipe_types.specs.declared.topology.Role.{Role}
-use Rattle.pipe_types.specs.declared.topology.Role.TheVariants.{Producer, Processor, Supervisor, Batcher, BatchProcessor}
+use Rattle.pipe_types.specs.declared.topology.Role.TheVariants.{Batcher}
 use Rattle.pipe_types.specs.declared.step.Step.TheVariants.{Close}
 use Rattle.pipe_types.specs.Numbers.{same_stage}
 use Rattle.pipe_types.specs.Stages.{spec_of}
 use Rattle.pipe_types.specs.Sound.{IsSound, by_demand, by_broadcast, by_partition, batch_processors}
 use Rattle.pipe_types.specs.declared.topology.Dispatch.{Dispatch as DispatchKind}
 use Rattle.pipe_types.specs.declared.topology.Dispatch.TheVariants.{Demand, Broadcast, Partition}
-use Rattle.stage_laws.proofs.Groups.{fields_of}
+use Rattle.stage_laws.proofs.Groups.{fields_of as spec_fields}
 use Rattle.pipe_types.specs.Dispatchers.{partition_of}
 use Rattle.pipe_model.specs.History.{History, now, accepted, closed}
 use Rattle.pipe_model.specs.Batches.{Batch}
@@ -64,6 +64,7 @@ use Rattle.core_batches.specs.Closes.{without_open, HasParts}
 use Rattle.core_batches.proofs.Limits.{flip, limits_after}
 use Rattle.core_batches.proofs.Opens.{each_same}
 use Rattle.core_batches.proofs.Removing.{others, opens_removed, opens_closed, open_at, of_some_key, each_of_all, each_mapped, first_is, key_of_first}
+use Rattle.core_state.proofs.Parts.{Part, BatchersLen, BatchersSet, BatchesAre, BatchesLen, ChunksAre, InboxesAre, LegsAre, OpensAre, PlacesAre, PlacesLen, SentOnAre, TotalsAre, WaitingAre, WaitingLen, Says, unchanged, fields_of}
 
 -- the open batch that is closed: its numbers, its key, and its place among the open batches
 pub record IsClosing (topology : Topology) (before : History) (s : StageNo) (m : MsgNo) (trigger : Trigger) (at : ℕ) (k ms : List ℕ) : Type 0 where
@@ -86,15 +87,12 @@ part_kept topology before s t first trigger n None e waits = refl
 part_kept topology before s t first trigger n (Some spec) e waits = by (is_by_partition spec.dispatch)
   where
     by_role : (r : Role) → spec.role ≡ r → part_by topology (Close s first trigger ∷ before) (record spec { role = r }) n ≡ part_by topology before (record spec { role = r }) n
-    by_role Producer f = refl
-    by_role Processor f = refl
-    by_role Supervisor f = refl
-    by_role BatchProcessor f = refl
     by_role Batcher f =
         let batcher : is_batcher (spec_of topology t) ≡ true = ap is_batcher e ∙ ap (λ r. is_batcher (Some (record spec { role = r }))) f in
         let old = waiting_closed topology before t n batcher waits in
         let other : (n == closed before + 1) ≡ false = ne_eqb n (closed before + 1) (λ k. omega (arith, k, old)) in
         ap (λ b. partition_of (key_in (content before (first_in (closed_numbers (if b then Some (record { numbers = closing before (view_of topology before) s first.0; trigger = trigger }) else closed_as topology before n))))) spec.parts) other
+    by_role _ f = refl
 
     by : (b : Bool) → (if b then part_by topology (Close s first trigger ∷ before) spec n else 0) ≡ (if b then part_by topology before spec n else 0)
     by true = by_role spec.role refl
@@ -108,15 +106,12 @@ part_new topology before s first trigger at key numbers spec t e =
     ap (λ o. part_of topology (Close s first trigger ∷ before) o (closed before + 1)) e ∙ by (is_by_partition spec.dispatch)
   where
     role : (r : Role) → spec.role ≡ r → is_batcher_role r ≡ true → part_by topology (Close s first trigger ∷ before) (record spec { role = r }) (closed before + 1) ≡ partition_of key spec.parts
-    role Producer f h = cc
-    role Processor f h = cc
-    role Supervisor f h = cc
-    role BatchProcessor f h = cc
     role Batcher f h =
         ap (λ b. partition_of (key_in (content before (first_in (closed_numbers (if b then Some (record { numbers = closing before (view_of topology before) s first.0; trigger = trigger }) else closed_as topology before (closed before + 1)))))) spec.parts) (eq-eqb (closed before + 1) (closed before + 1) refl)
         ∙ (ap (λ ns. partition_of (key_in (content before (first_in ns))) spec.parts) t.closes
         ∙ (ap (λ n. partition_of (key_in (content before n)) spec.parts) t.first
         ∙ ap (λ k. partition_of k spec.parts) t.key))
+    role _ f h = cc
 
     batching : has_role topology s is_batcher_role ≡ is_batcher_role spec.role
     batching = rw e refl
@@ -304,55 +299,35 @@ pub closed_fields : (core : Core) (topology : Topology) (before : History) (s : 
     → ((i : ℕ) → slice_get places.items i ≡ option_map (put_in_batch numbers s (closed before + 1) (suc i)) (slice_get core.places.items i)) → length places.items ≡ length core.places.items
     → rows.items ≡ core.batches.items ++ row ∷ [] → closed_seen row ≡ record { numbers = numbers; trigger = trigger } → row.subs.items ≡ []
     → Fields (record core { journal = j; batchers = batchers; waiting = queues; places = places; batches = rows; totals = record core.totals { quiet = 0 } }) topology (Close s first trigger ∷ before)
-closed_fields core topology before s first trigger at key numbers spec part j batchers queues places rows row sound x g known parted removed len-batchers queued len-queues placed len-places pushed seen unsent =
-    let same : numbers ≡ closing before (view_of topology before) s first.0 = g.numbers ∙ sym g.closes in
-    record {
-      sized =
-          record {
-            few = x.sized.few;
-            stages = x.sized.stages;
-            posts = x.sized.posts;
-            came = x.sized.came;
-            waiting = len-queues ∙ x.sized.waiting;
-            inboxes = x.sized.inboxes;
-            chunks = x.sized.chunks;
-            batchers = len-batchers ∙ x.sized.batchers;
-            children = x.sized.children;
-            places = len-places ∙ x.sized.places;
-            settled = x.sized.settled;
-            producers = x.sized.producers;
-            contents = x.sized.contents;
-            batches = (let more = length-append core.batches.items (row ∷ []) in let len = ap length pushed in let old = x.sized.batches in omega (arith, more, len, old));
-            ends = x.sized.ends;
-          };
-      set = record { batchers = λ t sp held e f. limits_after (without_open at) (λ h. refl) (λ h. refl) s t core.batchers.items batchers.items sp held removed (λ h k. x.set.batchers t sp h e k) f; children = x.set.children; restarts = x.set.restarts };
-      stages = x.stages;
-      posts = x.posts;
-      came = x.came;
-      subs = x.subs;
-      waiting = λ t.
-          queued t
-          ∙ (ap (λ (us : List (ℕ × ℕ)). if s.0 == t.0 then us ++ (part, closed before + 1) ∷ [] else us) (x.waiting t)
-          ∙ waiting_new topology before s t first trigger at key numbers spec part sound g known parted);
-      inboxes = λ t. x.inboxes t ∙ sym (inbox_law topology before (Close s first trigger) t sound g.legal);
-      chunks = λ t. x.chunks t ∙ sym (running_law topology before (Close s first trigger) t sound g.legal);
-      opens = λ t. opens_after topology before s t first trigger at key numbers core.batchers.items batchers.items g (omega (arith, x.sized.batchers, g.known)) removed (x.opens t);
-      children = x.children;
-      places = λ i.
-          placed i
-          ∙ (ap (option_map (put_in_batch numbers s (closed before + 1) (suc i))) (x.places i)
-          ∙ ap (λ ms. option_map (put_in_batch ms s (closed before + 1) (suc i)) (place topology before (suc i))) same);
-      settled = x.settled;
-      producers = x.producers;
-      contents = x.contents;
-      batches = λ i.
-          ap (λ rs. option_map closed_seen (slice_get rs i)) pushed
-          ∙ batches_after topology before s first trigger core.batches.items row i x.sized.batches (x.batches i) (seen ∙ ap (λ ns. record { numbers = ns; trigger = trigger }) same);
-      sent_on = λ i r f. sent_after topology before core.batches.items r row i x.sized.batches unsent (x.sent_on i) (ap (λ rs. slice_get rs i) (sym pushed) ∙ f);
-      legs = λ i. legs_after topology before s first trigger core.legs (suc i) (x.legs i);
-      restarts = x.restarts;
-      totals = ap (λ (y : Totals). record y { quiet = 0 }) x.totals;
-    }
+closed_fields core topology before s first trigger at key numbers spec part j batchers queues places rows row sound x g known parted removed len-batchers queued len-queues placed len-places pushed seen unsent = fields_of says
+  where
+    same : numbers ≡ closing before (view_of topology before) s first.0
+    same = g.numbers ∙ sym g.closes
+
+    says : (it : Part) → Says it (record core { journal = j; batchers = batchers; waiting = queues; places = places; batches = rows; totals = record core.totals { quiet = 0 } }) topology (Close s first trigger ∷ before)
+    says WaitingLen = len-queues ∙ x.sized.waiting
+    says BatchersLen = len-batchers ∙ x.sized.batchers
+    says PlacesLen = len-places ∙ x.sized.places
+    says BatchesLen = (let more = length-append core.batches.items (row ∷ []) in let len = ap length pushed in let old = x.sized.batches in omega (arith, more, len, old))
+    says BatchersSet = λ t sp held e f. limits_after (without_open at) (λ h. refl) (λ h. refl) s t core.batchers.items batchers.items sp held removed (λ h k. x.set.batchers t sp h e k) f
+    says WaitingAre = λ t.
+        queued t
+        ∙ (ap (λ (us : List (ℕ × ℕ)). if s.0 == t.0 then us ++ (part, closed before + 1) ∷ [] else us) (x.waiting t)
+        ∙ waiting_new topology before s t first trigger at key numbers spec part sound g known parted)
+    says InboxesAre = λ t. x.inboxes t ∙ sym (inbox_law topology before (Close s first trigger) t sound g.legal)
+    says ChunksAre = λ t. x.chunks t ∙ sym (running_law topology before (Close s first trigger) t sound g.legal)
+    says OpensAre = λ t. opens_after topology before s t first trigger at key numbers core.batchers.items batchers.items g (omega (arith, x.sized.batchers, g.known)) removed (x.opens t)
+    says PlacesAre = λ i.
+        placed i
+        ∙ (ap (option_map (put_in_batch numbers s (closed before + 1) (suc i))) (x.places i)
+        ∙ ap (λ ms. option_map (put_in_batch ms s (closed before + 1) (suc i)) (place topology before (suc i))) same)
+    says BatchesAre = λ i.
+        ap (λ rs. option_map closed_seen (slice_get rs i)) pushed
+        ∙ batches_after topology before s first trigger core.batches.items row i x.sized.batches (x.batches i) (seen ∙ ap (λ ns. record { numbers = ns; trigger = trigger }) same)
+    says SentOnAre = λ i r f. sent_after topology before core.batches.items r row i x.sized.batches unsent (x.sent_on i) (ap (λ rs. slice_get rs i) (sym pushed) ∙ f)
+    says LegsAre = λ i. legs_after topology before s first trigger core.legs (suc i) (x.legs i)
+    says TotalsAre = ap (λ (y : Totals). record y { quiet = 0 }) x.totals
+    says it = unchanged x it
 
 -- What the call reads
 
@@ -511,7 +486,7 @@ has_parts topology s spec sound e role =
       some = by spec.dispatch
           (and_right (spec.batcher == spec.index) _
           (and_left ((spec.batcher == spec.index) && ((by_demand spec spec.dispatch || by_broadcast spec spec.dispatch) || (by_partition (length (batch_processors spec.index topology.stages)) spec spec.dispatch && spec.field == 0))) _
-          (and_left _ _ (fields_of topology s spec Batcher sound e (role_is spec.role (sym batching ∙ role))))));
+          (and_left _ _ (spec_fields topology s spec Batcher sound e (role_is spec.role (sym batching ∙ role))))));
     }
   where
     batching : has_role topology s is_batcher_role ≡ is_batcher_role spec.role
@@ -519,10 +494,7 @@ has_parts topology s spec sound e role =
 
     role_is : (r : Role) → is_batcher_role r ≡ true → r ≡ Batcher
     role_is Batcher h = refl
-    role_is Producer h = cc
-    role_is Processor h = cc
-    role_is Supervisor h = cc
-    role_is BatchProcessor h = cc
+    role_is _ h = cc
 
     by : (k : DispatchKind) → ((by_demand spec k || by_broadcast spec k) || (by_partition (length (batch_processors spec.index topology.stages)) spec k && spec.field == 0)) ≡ true → k ≡ Partition → 1 ≤ spec.parts
     by Demand h f = cc
@@ -564,46 +536,15 @@ roomy_stands core j rows queues stands same kept queued len spare rooms =
         }
 
     fields : (topology : Topology) (before : History) → Fields core topology before → Fields (record core { journal = j; batches = rows; waiting = queues }) topology before
-    fields topology before x =
-        record {
-          sized =
-              record {
-                few = x.sized.few;
-                stages = x.sized.stages;
-                posts = x.sized.posts;
-                came = x.sized.came;
-                waiting = len ∙ x.sized.waiting;
-                inboxes = x.sized.inboxes;
-                chunks = x.sized.chunks;
-                batchers = x.sized.batchers;
-                children = x.sized.children;
-                places = x.sized.places;
-                settled = x.sized.settled;
-                producers = x.sized.producers;
-                contents = x.sized.contents;
-                batches = ap length kept ∙ x.sized.batches;
-                ends = x.sized.ends;
-              };
-          set = record { batchers = x.set.batchers; children = x.set.children; restarts = x.set.restarts };
-          stages = x.stages;
-          posts = x.posts;
-          came = x.came;
-          subs = x.subs;
-          waiting = λ t. queued t ∙ x.waiting t;
-          inboxes = x.inboxes;
-          chunks = x.chunks;
-          opens = x.opens;
-          children = x.children;
-          places = x.places;
-          settled = x.settled;
-          producers = x.producers;
-          contents = x.contents;
-          batches = λ i. ap (λ rs. option_map closed_seen (slice_get rs i)) kept ∙ x.batches i;
-          sent_on = λ i row f. x.sent_on i row (ap (λ rs. slice_get rs i) (sym kept) ∙ f);
-          legs = x.legs;
-          restarts = x.restarts;
-          totals = x.totals;
-        }
+    fields topology before x = fields_of says
+      where
+        says : (it : Part) → Says it (record core { journal = j; batches = rows; waiting = queues }) topology before
+        says WaitingLen = len ∙ x.sized.waiting
+        says BatchesLen = ap length kept ∙ x.sized.batches
+        says WaitingAre = λ t. queued t ∙ x.waiting t
+        says BatchesAre = λ i. ap (λ rs. option_map closed_seen (slice_get rs i)) kept ∙ x.batches i
+        says SentOnAre = λ i row f. x.sent_on i row (ap (λ rs. slice_get rs i) (sym kept) ∙ f)
+        says it = unchanged x it
 
 -- What the passes say, put together
 

@@ -10,7 +10,7 @@ use Rattle.pipe_types.specs.declared.numbers.SubNo.{SubNo}
 use Rattle.pipe_types.specs.declared.numbers.MsgNo.{MsgNo}
 use Rattle.pipe_types.specs.declared.message.Message.{Message}
 use Rattle.pipe_types.specs.declared.message.Place.{Place}
-use Rattle.pipe_types.specs.declared.message.Place.TheVariants.{Waiting, Inbox, Running, Gathered, InBatch, Acked, Lost}
+use Rattle.pipe_types.specs.declared.message.Place.TheVariants.{Inbox, Gathered}
 use Rattle.pipe_types.specs.declared.topology.Topology.{Topology}
 use Rattle.pipe_types.specs.declared.topology.StageSpec.{StageSpec}
 use Rattle.pipe_types.specs.declared.step.Step.TheVariants.{Gather}
@@ -58,6 +58,7 @@ use Rattle.stage_laws.proofs.Numbering.{numbered_topology}
 use Rattle.core_batches.specs.Rows.{with_message, handled_on}
 use Rattle.core_batches.proofs.Limits.{flip, limits_after}
 use Rattle.core_batches.proofs.Opens.{IsNoneOf, opens_gathered, opens_kept, fits_open}
+use Rattle.core_state.proofs.Parts.{Part, BatchersLen, BatchersSet, ChunksAre, InboxesAre, InboxesLen, OpensAre, PlacesAre, PlacesLen, SubsAre, TotalsAre, WaitingAre, Says, unchanged, fields_of}
 
 -- the first unit of the batcher's inbox, which it may gather
 pub record IsGathering (topology : Topology) (before : History) (s : StageNo) (m : MsgNo) (u : SubNo) : Type 0 where
@@ -152,18 +153,12 @@ row_room core topology before s m u x t =
 -- Where it stands
 
 left_place : (s : StageNo) (m n : ℕ) (o : Option Place) → (m == n) ≡ false → option_map (gathered_place s m n) o ≡ o
-left_place s m n None e = refl
 left_place s m n (Some (Inbox u)) e = ap (λ b. Some (if same_stage s u.consumer && b then Gathered s else Inbox u)) e ∙ by (same_stage s u.consumer)
   where
     by : (a : Bool) → Some (if a && false then Gathered s else Inbox u) ≡ Some (Inbox u)
     by true = refl
     by false = refl
-left_place s m n (Some (Waiting t)) e = refl
-left_place s m n (Some (Running t)) e = refl
-left_place s m n (Some (Gathered t)) e = refl
-left_place s m n (Some (InBatch b)) e = refl
-left_place s m n (Some (Acked o)) e = refl
-left_place s m n (Some (Lost l)) e = refl
+left_place s m n _ e = refl
 
 placed_after : (topology : Topology) (before : History) (s : StageNo) (m : MsgNo) (u : SubNo) (i : ℕ) (old : Option Place) → place topology before m.0 ≡ Some (Inbox u) → u.consumer ≡ s
     → old ≡ place topology before (suc i) → (if m.0 == suc i then Some (Gathered s) else old) ≡ place topology (Gather s m ∷ before) (suc i)
@@ -267,55 +262,25 @@ pub gathered_fields : (core : Core) (topology : Topology) (before : History) (s 
     → ((i : ℕ) → slice_get places.items i ≡ (if m.0 == suc i then Some (Gathered s) else slice_get core.places.items i)) → length places.items ≡ length core.places.items
     → IsChanged core.subs subs u (handled_on u.generation 1)
     → Fields (record core { journal = j; batchers = batchers; inboxes = inboxes; places = places; subs = subs; totals = record core.totals { quiet = 0 } }) topology (Gather s m ∷ before)
-gathered_fields core topology before s m u message j batchers inboxes places subs sound x g key flush joined len-batchers dropped len-inboxes placed len-places counts =
-    record {
-      sized =
-          record {
-            few = x.sized.few;
-            stages = x.sized.stages;
-            posts = x.sized.posts;
-            came = x.sized.came;
-            waiting = x.sized.waiting;
-            inboxes = len-inboxes ∙ x.sized.inboxes;
-            chunks = x.sized.chunks;
-            batchers = len-batchers ∙ x.sized.batchers;
-            children = x.sized.children;
-            places = len-places ∙ x.sized.places;
-            settled = x.sized.settled;
-            producers = x.sized.producers;
-            contents = x.sized.contents;
-            batches = x.sized.batches;
-            ends = x.sized.ends;
-          };
-      set =
-          record {
-            batchers = λ t spec held known at. limits_after (with_message message m.0 core.totals.now) (λ h. refl) (λ h. refl) s t core.batchers.items batchers.items spec held joined (λ h e. x.set.batchers t spec h known e) at;
-            children = x.set.children;
-            restarts = x.set.restarts;
-          };
-      stages = x.stages;
-      posts = x.posts;
-      came = x.came;
-      subs = λ c p fed. handled_row topology before s m u core.subs subs c p g.stands (x.subs c p fed) counts;
-      waiting = λ t. x.waiting t ∙ ap (map {B = ℕ × ℕ} (λ n. (part_of topology before (spec_of topology t) n, n))) (sym (waiting_law topology before (Gather s m) t sound g.legal));
-      inboxes = λ t.
-          dropped t
-          ∙ (ap (λ (us : List (SubNo × ℕ)). if s.0 == t.0 then drop 1 us else us) (x.inboxes t)
-          ∙ (ap (λ b. if b then drop 1 (inbox topology before t) else inbox topology before t) (flip s.0 t.0)
-          ∙ sym (inbox_law topology before (Gather s m) t sound g.legal)));
-      chunks = λ t. x.chunks t ∙ sym (running_law topology before (Gather s m) t sound g.legal);
-      opens = λ t. opens_after topology before s t m u message core.totals.now core.batchers.items batchers.items g (omega (arith, x.sized.batchers, g.known)) key flush (ap (λ (y : Totals). y.now) x.totals) joined (x.opens t);
-      children = x.children;
-      places = λ i. placed i ∙ placed_after topology before s m u i (slice_get core.places.items i) g.stands g.here (x.places i);
-      settled = x.settled;
-      producers = x.producers;
-      contents = x.contents;
-      batches = x.batches;
-      sent_on = x.sent_on;
-      legs = x.legs;
-      restarts = x.restarts;
-      totals = ap (λ (y : Totals). record y { quiet = 0 }) x.totals;
-    }
+gathered_fields core topology before s m u message j batchers inboxes places subs sound x g key flush joined len-batchers dropped len-inboxes placed len-places counts = fields_of says
+  where
+    says : (it : Part) → Says it (record core { journal = j; batchers = batchers; inboxes = inboxes; places = places; subs = subs; totals = record core.totals { quiet = 0 } }) topology (Gather s m ∷ before)
+    says InboxesLen = len-inboxes ∙ x.sized.inboxes
+    says BatchersLen = len-batchers ∙ x.sized.batchers
+    says PlacesLen = len-places ∙ x.sized.places
+    says BatchersSet = λ t spec held known at. limits_after (with_message message m.0 core.totals.now) (λ h. refl) (λ h. refl) s t core.batchers.items batchers.items spec held joined (λ h e. x.set.batchers t spec h known e) at
+    says SubsAre = λ c p fed. handled_row topology before s m u core.subs subs c p g.stands (x.subs c p fed) counts
+    says WaitingAre = λ t. x.waiting t ∙ ap (map {B = ℕ × ℕ} (λ n. (part_of topology before (spec_of topology t) n, n))) (sym (waiting_law topology before (Gather s m) t sound g.legal))
+    says InboxesAre = λ t.
+        dropped t
+        ∙ (ap (λ (us : List (SubNo × ℕ)). if s.0 == t.0 then drop 1 us else us) (x.inboxes t)
+        ∙ (ap (λ b. if b then drop 1 (inbox topology before t) else inbox topology before t) (flip s.0 t.0)
+        ∙ sym (inbox_law topology before (Gather s m) t sound g.legal)))
+    says ChunksAre = λ t. x.chunks t ∙ sym (running_law topology before (Gather s m) t sound g.legal)
+    says OpensAre = λ t. opens_after topology before s t m u message core.totals.now core.batchers.items batchers.items g (omega (arith, x.sized.batchers, g.known)) key flush (ap (λ (y : Totals). y.now) x.totals) joined (x.opens t)
+    says PlacesAre = λ i. placed i ∙ placed_after topology before s m u i (slice_get core.places.items i) g.stands g.here (x.places i)
+    says TotalsAre = ap (λ (y : Totals). record y { quiet = 0 }) x.totals
+    says it = unchanged x it
 
 -- Where the journal alone made room and the batchers say what they said, the core stands
 pub refused_stands : (core : Core) (j : Recorded) (batchers : Vec Batches Global) → Stands core → j.steps ≡ core.journal.steps
@@ -337,46 +302,13 @@ refused_stands core j batchers stands same kept len spare =
     room topology before x = record { steps = omega (arith, x.steps, spare); rows = x.rows; queues = x.queues; ends = x.ends }
 
     fields : (topology : Topology) (before : History) → Fields core topology before → Fields (record core { journal = j; batchers = batchers }) topology before
-    fields topology before x =
-        record {
-          sized =
-              record {
-                few = x.sized.few;
-                stages = x.sized.stages;
-                posts = x.sized.posts;
-                came = x.sized.came;
-                waiting = x.sized.waiting;
-                inboxes = x.sized.inboxes;
-                chunks = x.sized.chunks;
-                batchers = len ∙ x.sized.batchers;
-                children = x.sized.children;
-                places = x.sized.places;
-                settled = x.sized.settled;
-                producers = x.sized.producers;
-                contents = x.sized.contents;
-                batches = x.sized.batches;
-                ends = x.sized.ends;
-              };
-          set = record { batchers = λ t spec held known at. x.set.batchers t spec held known (sym (kept t.0) ∙ at); children = x.set.children; restarts = x.set.restarts };
-          stages = x.stages;
-          posts = x.posts;
-          came = x.came;
-          subs = x.subs;
-          waiting = x.waiting;
-          inboxes = x.inboxes;
-          chunks = x.chunks;
-          opens = λ t. ap opens_in (kept t.0) ∙ x.opens t;
-          children = x.children;
-          places = x.places;
-          settled = x.settled;
-          producers = x.producers;
-          contents = x.contents;
-          batches = x.batches;
-          sent_on = x.sent_on;
-          legs = x.legs;
-          restarts = x.restarts;
-          totals = x.totals;
-        }
+    fields topology before x = fields_of says
+      where
+        says : (it : Part) → Says it (record core { journal = j; batchers = batchers }) topology before
+        says BatchersLen = len ∙ x.sized.batchers
+        says BatchersSet = λ t spec held known at. x.set.batchers t spec held known (sym (kept t.0) ∙ at)
+        says OpensAre = λ t. ap opens_in (kept t.0) ∙ x.opens t
+        says it = unchanged x it
 
 -- What the call reads
 

@@ -4,7 +4,7 @@ use Rattle.std.specs.Prelude.{slice_get, option_map, if◌then◌else◌, ◌==�
 use Rattle.std.proofs.lemmas.Bool.{eq-eqb}
 use Rattle.pipe_types.specs.declared.numbers.StageNo.{StageNo}
 use Rattle.pipe_types.specs.declared.message.Place.{Place}
-use Rattle.pipe_types.specs.declared.message.Place.TheVariants.{Waiting, Inbox, Running, Gathered, InBatch, Acked, Lost}
+use Rattle.pipe_types.specs.declared.message.Place.TheVariants.{Gathered, InBatch}
 use Rattle.pipe_types.specs.Numbers.{same_stage, batch_no}
 use Rattle.pipe_model.specs.Flow.{put_in_batch, among}
 use Rattle.core_tables.proofs.Running.{listed_step}
@@ -17,21 +17,11 @@ join_here s b n ns (Gathered t) = by (same_stage s t) refl
     by : (c : Bool) → same_stage s t ≡ c → put_in_batch ns s b n (if c then InBatch (batch_no b) else Gathered t) ≡ (if c && ((n == n) || among ns n) then InBatch (batch_no b) else Gathered t)
     by true e = ap (λ c. if c || among ns n then InBatch (batch_no b) else Gathered t) (sym (eq-eqb n n refl))
     by false e = ap (λ c. if c && among ns n then InBatch (batch_no b) else Gathered t) e
-join_here s b n ns (Waiting t) = refl
-join_here s b n ns (Inbox u) = refl
-join_here s b n ns (Running t) = refl
-join_here s b n ns (InBatch d) = refl
-join_here s b n ns (Acked o) = refl
-join_here s b n ns (Lost l) = refl
+join_here s b n ns _ = refl
 
 join_there : (s : StageNo) (b m n : ℕ) (ns : List ℕ) (p : Place) → (m == n) ≡ false → put_in_batch ns s b n p ≡ put_in_batch (m ∷ ns) s b n p
 join_there s b m n ns (Gathered t) e = ap (λ c. if same_stage s t && (c || among ns n) then InBatch (batch_no b) else Gathered t) (sym e)
-join_there s b m n ns (Waiting t) e = refl
-join_there s b m n ns (Inbox u) e = refl
-join_there s b m n ns (Running t) e = refl
-join_there s b m n ns (InBatch d) e = refl
-join_there s b m n ns (Acked o) e = refl
-join_there s b m n ns (Lost l) e = refl
+join_there s b m n ns _ e = refl
 
 -- one turn: the message of the turn joins, and what the later turns do is as before
 pub joined_step : (places : List Place) (ns : List ℕ) (k e : ℕ) (s : StageNo) (b : ℕ) (p q : Place) → k < length ns

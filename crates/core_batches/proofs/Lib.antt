@@ -4,7 +4,6 @@ mod Gathering
 mod Joining
 pub mod Removing
 pub mod Closing
-mod Outcomes
 pub mod Writing
 mod Written
 pub mod Rooming

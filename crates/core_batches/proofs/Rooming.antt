@@ -7,7 +7,7 @@ use Rattle.std.specs.declared.collections.VecDeque.{VecDeque}
 use Rattle.pipe_types.specs.declared.numbers.StageNo.{StageNo}
 use Rattle.pipe_types.specs.declared.numbers.SubNo.{SubNo}
 use Rattle.pipe_types.specs.declared.topology.Role.{Role}
-use Rattle.pipe_types.specs.declared.topology.Role.TheVariants.{Producer, Processor, Supervisor, Batcher, BatchProcessor}
+use Rattle.pipe_types.specs.declared.topology.Role.TheVariants.{Processor}
 use Rattle.pipe_types.specs.declared.message.Outcome.{Outcome}
 use Rattle.pipe_types.specs.declared.message.BatchEnd.{BatchEnd}
 use Rattle.pipe_types.specs.declared.message.BatchEnd.TheVariants.{Outcomes}
@@ -37,11 +37,8 @@ use Rattle.core_batches.proofs.Writing.{IsWriting}
 -- A close
 
 processes_or_batches : (role : Role) → is_processor_role role ≡ true → is_batcher_role role ≡ true → ⊥
-processes_or_batches Producer h k = let x : false ≡ true = h in cc
 processes_or_batches Processor h k = let x : false ≡ true = k in cc
-processes_or_batches Supervisor h k = let x : false ≡ true = h in cc
-processes_or_batches Batcher h k = let x : false ≡ true = h in cc
-processes_or_batches BatchProcessor h k = let x : false ≡ true = h in cc
+processes_or_batches _ h k = let x : false ≡ true = h in cc
 
 -- a batcher's queue is beside the room in queues
 pub close_queues : (core : Core) (s : StageNo) (waiting : List (VecDeque (ℕ × ℕ) Global)) → Holds core → has_role core.topology s is_batcher_role ≡ true

@@ -6,14 +6,13 @@ use Rattle.std.proofs.lemmas.List.{length-map}
 use Rattle.pipe_types.specs.declared.numbers.StageNo.{StageNo}
 use Rattle.pipe_types.specs.declared.numbers.SubNo.{SubNo}
 use Rattle.pipe_types.specs.declared.topology.Topology.{Topology}
-use Rattle.pipe_types.specs.declared.topology.StageSpec.{StageSpec}
 use Rattle.pipe_types.specs.declared.topology.Role.{Role}
-use Rattle.pipe_types.specs.declared.topology.Role.TheVariants.{Producer, Processor, Supervisor, Batcher, BatchProcessor}
+use Rattle.pipe_types.specs.declared.topology.Role.TheVariants.{Processor, Batcher, BatchProcessor}
 use Rattle.pipe_types.specs.declared.message.Outcome.{Outcome}
 use Rattle.pipe_types.specs.declared.message.BatchEnd.TheVariants.{Outcomes}
 use Rattle.pipe_types.specs.declared.step.Step.TheVariants.{Fetch, Take, Child, Wrote}
 use Rattle.pipe_types.specs.Numbers.{same_stage, same_sub, post, batch_no}
-use Rattle.pipe_types.specs.Stages.{spec_of, feeds, option_feeds}
+use Rattle.pipe_types.specs.Stages.{spec_of, feeds}
 use Rattle.pipe_types.specs.Sound.{IsSound}
 use Rattle.pipe_model.specs.History.{History}
 use Rattle.pipe_model.specs.Posts.{is_out, last_take, answers}
@@ -29,32 +28,31 @@ use Rattle.pipe_model.specs.Legal.{is_legal, allows, owed, has_role, is_producer
 use Rattle.pipe_model.specs.Standing.{works, leg_works, leg_works_in, works_at, is_at_work}
 use Rattle.pipe_model.specs.Taken.{closed_as}
 use Rattle.pipe_laws.proofs.Tests.{clash, and_left, and_right, same_stage-true, same_stage-self, same_sub-true, same_sub-self}
-use Rattle.pipe_laws.proofs.Lists.{Each, each_weaker, each_both, each_map, weigh}
+use Rattle.pipe_laws.proofs.Lists.{Each, each_weaker, each_both, weigh}
 use Rattle.pipe_laws.proofs.Allowed.{legal_before, legal_step, WroteFacts, wrote_facts, fetch_role, child_facts}
 use Rattle.pipe_laws.proofs.Accepted.{placed_content}
 use Rattle.pipe_laws.proofs.Entries.{EntryFits, entries_fit}
 use Rattle.pipe_laws.proofs.Levels.{rank, feeds_down}
 use Rattle.pipe_laws.proofs.Busy.{Busy, busy, work_weight, two_roles}
-use Rattle.queue_laws.proofs.Apart.{Apart, apart_mapped}
+use Rattle.queue_laws.proofs.Apart.{Apart}
 use Rattle.queue_laws.proofs.AtWork.{last_one, calm_batch}
 use Rattle.queue_laws.proofs.BatchWork.{WorksTaken, batch_work, writer_rank, writes_produces}
-use Rattle.queue_laws.proofs.Batched.{BatchHolds, batch_holds, BatchListed, LegListed, batch_listed}
+use Rattle.queue_laws.proofs.Batched.{BatchHolds, batch_holds}
 use Rattle.queue_laws.proofs.Counts.{TookBy, took}
 use Rattle.queue_laws.proofs.Distinct.{itself}
 use Rattle.queue_laws.proofs.OneLeg.{leg_to, BatchOnce, legs_once}
 use Rattle.queue_laws.proofs.Roles.{rank_batcher}
 use Rattle.queue_laws.proofs.Sounds.{fits}
-use Rattle.queue_laws.proofs.Writes.{of_entry}
-use Rattle.stage_laws.proofs.Bounds.{few_numbers}
 use Rattle.stage_laws.proofs.Numbering.{numbered_topology}
 use Rattle.core_laws.specs.Columns.{closed_numbers, sent_on, ends_in_progress}
 use Rattle.core_laws.proofs.Lawful.{legal_after}
 use Rattle.core_laws.proofs.Parts.{closed_is}
 use Rattle.core_laws.proofs.Past.{known_within, live_known}
-use Rattle.core_laws.proofs.LegsOn.{IsOnSubs, legs_are_on}
+use Rattle.core_laws.proofs.LegsOn.{IsOnSubs, legs_are_on, legs_few}
 use Rattle.core_state.proofs.Settling.{numbers_once}
 use Rattle.core_batches.specs.Writes.{leg_place}
-use Rattle.core_batches.proofs.Outcomes.{ends_count, messages_count}
+use Rattle.pipe_laws.proofs.Outcomes.{ends_count}
+use Rattle.pipe_laws.proofs.Replies.{messages_length}
 
 -- The batch at work
 
@@ -67,11 +65,8 @@ some_weight {A = A} P f (x ∷ xs) h e = by (f x) refl (λ more. some_weight P f
     by (suc n) e0 rest = (x, h.0, omega (arith, e0))
 
 writer_supervises : (role : Role) → is_batch_processor_role role ≡ true → is_supervisor_role role ≡ true → ⊥
-writer_supervises Producer h k = let x : false ≡ true = h in cc
-writer_supervises Processor h k = let x : false ≡ true = h in cc
-writer_supervises Supervisor h k = let x : false ≡ true = h in cc
-writer_supervises Batcher h k = let x : false ≡ true = h in cc
 writer_supervises BatchProcessor h k = let x : false ≡ true = k in cc
+writer_supervises _ h k = let x : false ≡ true = h in cc
 
 -- a batch processor whose job is out took something
 took_some : (topology : Topology) (before : History) (s : StageNo) → is_legal topology before ≡ true → has_role topology s is_batch_processor_role ≡ true → is_out before (post s 0) ≡ true → is_some (last_take before s) ≡ true
@@ -194,25 +189,6 @@ single (x ∷ []) n few h = by (x == n) refl h
     by false e h = let wrong : false ≡ true = h in cc
 single (x ∷ y ∷ xs) n few h = absurd (omega arith)
 
-fed_known : (x y : Option StageSpec) → option_feeds x y ≡ true → is_some y ≡ true
-fed_known (Some x) (Some y) h = refl
-fed_known None (Some y) h = refl
-fed_known None None h = cc
-fed_known (Some x) None h = cc
-
--- a batch has no more legs than there are stages
-legs_few : (topology : Topology) (before : History) (b : ℕ) (ms : List ℕ) (legs : List Leg) → IsSound topology → is_legal topology before ≡ true → batch topology before b ≡ Some (record { numbers = ms; place = Sent legs }) → Apart leg_to legs → length legs ≤ 64
-legs_few topology before b ms legs sound h is once =
-    let listed : Each (LegListed topology before b) legs = subst (BatchListed topology before b) is (batch_listed topology before b h) in
-    let t = numbered_topology topology sound in
-    let within : Each (λ n. (1 ≤ n) × (n ≤ 64)) (map leg_to legs) =
-    each_map (λ n. (1 ≤ n) × (n ≤ 64)) leg_to legs
-    (each_weaker (LegListed topology before b) (λ leg. (1 ≤ leg_to leg) × (leg_to leg ≤ 64))
-    (λ leg l. let fit = of_entry (EntryFits topology before leg.sub.consumer) leg.sub b (sent_to topology before leg.sub.consumer) (entries_fit topology before leg.sub.consumer) l.entry in
-    let w = known_within topology leg.sub.consumer t (fed_known (spec_of topology leg.sub.producer) (spec_of topology leg.sub.consumer) fit.feeding) in (w.0, omega (arith, w.1, t.few))) legs listed) in
-    let few = few_numbers 64 (map leg_to legs) (apart_mapped (λ n. n) leg_to legs once) within in
-    omega (arith, few, length-map legs leg_to)
-
 pub open_at : (legs : List Leg) (i : ℕ) (u : SubNo) → slice_get legs i ≡ Some (record { sub = u; place = AtWork }) → is_settled legs ≡ false
 open_at [] i u e = cc
 open_at (leg ∷ legs) zero u e = let is : leg ≡ record { sub = u; place = AtWork } = cc in ap (λ (x : Leg). not (is_leg_open x.place) && is_settled legs) is
@@ -253,7 +229,7 @@ writing topology before s bytes outcomes u k b sound h calm allowed last first =
     let inside = (holds (ap not (open_at o.legs leg.0 u leg.1))).each in
     let numbers : o.ms ≡ closed_numbers (closed_as topology before b) = sym (closed_is topology before b ∙ ap numbers_in o.is) in
     let given : batch_of topology before s ≡ messages_of before o.ms = ap (λ n. messages_of before (numbers_in (batch topology before n))) first ∙ ap (λ x. messages_of before (numbers_in x)) o.is in
-    let counted = messages_count before o.ms (each_weaker (λ n. place topology before n ≡ Some (InBatch (batch_no b))) (λ n. is_some (content before n) ≡ true) (λ n p. placed_content topology before n (ap is_some p)) o.ms inside) in
+    let counted = messages_length before o.ms (each_weaker (λ n. place topology before n ≡ Some (InBatch (batch_no b))) (λ n. is_some (content before n) ≡ true) (λ n p. placed_content topology before n (ap is_some p)) o.ms inside) in
     let many : length outcomes ≡ length o.ms = ends_count (spec_of topology s) (count topology before s) (batch_of topology before s) bytes outcomes facts.handled ∙ (ap length given ∙ counted) in
     let kk : k ≡ 1 = omega (arith, one.0, one.1) in
     let consumer : u.consumer ≡ s = works_on.there in
@@ -272,7 +248,7 @@ writing topology before s bytes outcomes u k b sound h calm allowed last first =
         leg = ap (slice_get o.legs) at ∙ leg.1;
         at = refl;
         once = once;
-        few = (let few = legs_few topology before b o.ms o.legs sound h o.is once in omega (arith, few, length-map o.legs (λ (x : Leg). x.sub), ap length on));
+        few = (let few = legs_few topology before b o.ms o.legs sound h o.is in omega (arith, few, length-map o.legs (λ (x : Leg). x.sub), ap length on));
         on = on;
         many = many;
         numbers = numbers;
@@ -302,10 +278,8 @@ ends_put s outcomes u (leg ∷ legs) zero here once e =
     λ i. first i ∷ rest_kept legs (each_weaker (λ y. (leg_to leg == leg_to y) ≡ false) (λ y. (s.0 == leg_to y) ≡ false) (λ y p. ap (λ k. k == leg_to y) (sym to_leg) ∙ p) legs once.0) i
   where
     kept : (v : SubNo) (p : LegPlace) → (s.0 == v.consumer.0) ≡ false → end_of (leg_answered s outcomes v p) ≡ end_of p
-    kept v InInbox f = refl
     kept v AtWork f = ap (λ c. end_of (if c then Answered outcomes else AtWork)) f
-    kept v (Answered o) f = refl
-    kept v (LegLost l) f = refl
+    kept v _ f = refl
 
     rest_kept : (xs : List Leg) → Each (λ y. (s.0 == leg_to y) ≡ false) xs → ends_of (on_legs (leg_answered s outcomes) xs) ≡ ends_of xs
     rest_kept [] h = refl
@@ -318,10 +292,8 @@ ends_put s outcomes u (leg ∷ legs) (suc i) here once e =
     λ j. head j ∷ tail j
   where
     kept : (v : SubNo) (p : LegPlace) → (s.0 == v.consumer.0) ≡ false → end_of (leg_answered s outcomes v p) ≡ end_of p
-    kept v InInbox f = refl
     kept v AtWork f = ap (λ c. end_of (if c then Answered outcomes else AtWork)) f
-    kept v (Answered o) f = refl
-    kept v (LegLost l) f = refl
+    kept v _ f = refl
 
     far : (xs : List Leg) (j : ℕ) → Each (λ y. (leg_to leg == leg_to y) ≡ false) xs → slice_get xs j ≡ Some (record { sub = u; place = AtWork }) → (leg_to leg == s.0) ≡ false
     far [] j h f = cc

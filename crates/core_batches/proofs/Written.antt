@@ -1,7 +1,8 @@
 -- The fields after a batch was answered.
-use Rattle.std.proofs.Common.{◌≡◌, ◌≢◌, ℕ, zero, suc, set, ◌+◌, ◌-◌, ◌<◌, ◌≤◌, List, [], ◌∷◌, map, length, Bool, true, false, refl, ap, sym, ◌∙◌, Some, None, Option, arith, subst, inl, inr}
+use Rattle.std.proofs.Common.{◌≡◌, ◌≢◌, ℕ, zero, suc, set, ◌+◌, ◌-◌, ◌<◌, ◌≤◌, List, [], ◌∷◌, map, length, Bool, true, false, refl, ap, sym, ◌∙◌, Some, None, Option, arith, subst, inl, inr, get_or}
 use Rattle.std.specs.Prelude.{slice_get, option_map, if◌then◌else◌, ◌==◌, ◌&&◌, ◌||◌, ◌⊎◌, is_some, IfSome, unwrap_or, position}
 use Rattle.std.proofs.lemmas.Bool.{eqb-true, ne_eqb, false_from_ne_true}
+use Rattle.std.proofs.lemmas.Option.{slice_get_read}
 use Rattle.std.specs.declared.alloc.Global.{Global}
 use Rattle.std.specs.declared.vec.Vec.{Vec}
 use Rattle.pipe_types.specs.declared.numbers.StageNo.{StageNo}
@@ -65,6 +66,7 @@ use Rattle.core_batches.proofs.Limits.{flip}
 use Rattle.core_batches.proofs.Opens.{each_same, without}
 use Rattle.core_batches.proofs.Writing.{IsWriting, Written, writing, ends_put, end_none, in_progress_as, open_at, took_before, write_within}
 use Rattle.core_state.proofs.Settling.{ended_is, pairs_apart}
+use Rattle.core_state.proofs.Parts.{Part, ChunksAre, EndsLen, InboxesAre, LegsAre, OpensAre, PlacesAre, PlacesLen, PostsAre, PostsLen, SettledAre, SettledLen, SubsAre, TotalsAre, WaitingAre, Says, unchanged, fields_of}
 
 -- Open batches
 
@@ -229,59 +231,37 @@ pub written_fields : (core : Core) (topology : Topology) (before : History) (s :
     → ((k : ℕ) → slice_get marks.items k ≡ option_map (marked_by settled ms (length before) (suc k)) (slice_get core.settled.items k)) → length marks.items ≡ length core.settled.items
     → IsChanged core.subs subs u (handled_on u.generation 1) → length e.items ≡ length core.ends.items
     → Fields (record core { journal = j; posts = posts; places = places; settled = marks; subs = subs; legs = table; ends = e; totals = record core.totals { quiet = 0 } }) topology (Wrote s bytes (Outcomes os) ∷ before)
-written_fields core topology before s bytes os u b i ms legs settled j posts places marks subs table e sound x g last each kept homed len-posts placed len-places marking len-marks counts len-ends =
-    record {
-      sized =
-          record {
-            few = x.sized.few;
-            stages = x.sized.stages;
-            posts = len-posts ∙ x.sized.posts;
-            came = x.sized.came;
-            waiting = x.sized.waiting;
-            inboxes = x.sized.inboxes;
-            chunks = x.sized.chunks;
-            batchers = x.sized.batchers;
-            children = x.sized.children;
-            places = len-places ∙ x.sized.places;
-            settled = len-marks ∙ x.sized.settled;
-            producers = x.sized.producers;
-            contents = x.sized.contents;
-            batches = x.sized.batches;
-            ends = len-ends ∙ x.sized.ends;
-          };
-      set = record { batchers = x.set.batchers; children = x.set.children; restarts = x.set.restarts };
-      stages = x.stages;
-      posts = λ t slot within low. homed (post_at t.0 slot) ∙ post_home core.posts.items s t slot (post_row before t slot) low (x.posts t slot within low);
-      came = x.came;
-      subs = λ c p fed. handled_row topology before s bytes os u core.subs subs c p g.last (x.subs c p fed) counts;
-      waiting = λ t. x.waiting t ∙ ap (map {B = ℕ × ℕ} (λ n. (part_of topology before (spec_of topology t) n, n))) (sym (waiting_law topology before (Wrote s bytes (Outcomes os)) t sound g.legal));
-      inboxes = λ t. x.inboxes t ∙ sym (inbox_law topology before (Wrote s bytes (Outcomes os)) t sound g.legal);
-      chunks = λ t. x.chunks t ∙ sym (running_law topology before (Wrote s bytes (Outcomes os)) t sound g.legal);
-      opens = λ t.
-          x.opens t
-          ∙ (ap (open_batches before) (sym (gathered_law topology before (Wrote s bytes (Outcomes os)) t g.legal))
-          ∙ sym (opens_still before s bytes os (gathered_in topology (Wrote s bytes (Outcomes os) ∷ before) t)));
-      children = x.children;
-      places = λ k.
-          placed k
-          ∙ (ap (option_map (ended_by settled ms (suc k))) (x.places k)
-          ∙ (alike (suc k) (place topology before (suc k)) ∙ sym (wrote_places topology before s bytes os b ms legs g.legal g.took g.batch_is (open_at legs i u g.leg) (suc k))));
-      settled = λ k below.
-          marking k
-          ∙ (ap (option_map (marked_by settled ms (length before) (suc k))) (x.settled k below)
-          ∙ ap Some (marked_written topology before s bytes os u b i ms legs settled (suc k) (mark topology before (suc k)) g last refl));
-      producers = x.producers;
-      contents = x.contents;
-      batches = x.batches;
-      sent_on = x.sent_on;
-      legs = λ k. legs_written topology before s bytes os u b i ms legs core.legs table settled (suc k) g last (kept (suc k)) (x.legs k);
-      restarts = x.restarts;
-      totals = ap (λ (y : Totals). record y { quiet = 0 }) x.totals;
-    }
+written_fields core topology before s bytes os u b i ms legs settled j posts places marks subs table e sound x g last each kept homed len-posts placed len-places marking len-marks counts len-ends = fields_of says
   where
     alike : (n : ℕ) (o : Option Place) → option_map (ended_by settled ms n) o ≡ option_map (settled_by ms (on_legs (leg_answered s os) legs) n) o
     alike n None = refl
     alike n (Some p) = ap Some (ended_is ms (on_legs (leg_answered s os) legs) settled n p last each)
+
+    says : (it : Part) → Says it (record core { journal = j; posts = posts; places = places; settled = marks; subs = subs; legs = table; ends = e; totals = record core.totals { quiet = 0 } }) topology (Wrote s bytes (Outcomes os) ∷ before)
+    says PostsLen = len-posts ∙ x.sized.posts
+    says PlacesLen = len-places ∙ x.sized.places
+    says SettledLen = len-marks ∙ x.sized.settled
+    says EndsLen = len-ends ∙ x.sized.ends
+    says PostsAre = λ t slot within low. homed (post_at t.0 slot) ∙ post_home core.posts.items s t slot (post_row before t slot) low (x.posts t slot within low)
+    says SubsAre = λ c p fed. handled_row topology before s bytes os u core.subs subs c p g.last (x.subs c p fed) counts
+    says WaitingAre = λ t. x.waiting t ∙ ap (map {B = ℕ × ℕ} (λ n. (part_of topology before (spec_of topology t) n, n))) (sym (waiting_law topology before (Wrote s bytes (Outcomes os)) t sound g.legal))
+    says InboxesAre = λ t. x.inboxes t ∙ sym (inbox_law topology before (Wrote s bytes (Outcomes os)) t sound g.legal)
+    says ChunksAre = λ t. x.chunks t ∙ sym (running_law topology before (Wrote s bytes (Outcomes os)) t sound g.legal)
+    says OpensAre = λ t.
+        x.opens t
+        ∙ (ap (open_batches before) (sym (gathered_law topology before (Wrote s bytes (Outcomes os)) t g.legal))
+        ∙ sym (opens_still before s bytes os (gathered_in topology (Wrote s bytes (Outcomes os) ∷ before) t)))
+    says PlacesAre = λ k.
+        placed k
+        ∙ (ap (option_map (ended_by settled ms (suc k))) (x.places k)
+        ∙ (alike (suc k) (place topology before (suc k)) ∙ sym (wrote_places topology before s bytes os b ms legs g.legal g.took g.batch_is (open_at legs i u g.leg) (suc k))))
+    says SettledAre = λ k below.
+        marking k
+        ∙ (ap (option_map (marked_by settled ms (length before) (suc k))) (x.settled k below)
+        ∙ ap Some (marked_written topology before s bytes os u b i ms legs settled (suc k) (mark topology before (suc k)) g last refl))
+    says LegsAre = λ k. legs_written topology before s bytes os u b i ms legs core.legs table settled (suc k) g last (kept (suc k)) (x.legs k)
+    says TotalsAre = ap (λ (y : Totals). record y { quiet = 0 }) x.totals
+    says it = unchanged x it
 
 -- What the call reads
 
@@ -338,21 +318,28 @@ here core s bytes os row taken stands allowed found last =
     least zero ms e some = let none = ap is_empty (e ∙ ap closed_numbers (closed_none core.topology core.journal.steps)) in (let wrong : true ≡ false = sym none ∙ some in cc)
     least (suc b) ms e some = omega arith
 
-pub answering : (core : Core) (s : StageNo) (bytes : ℕ) (end : BatchEnd) (os : List Outcome) (row : StageRow) (taken : SubNo × ℕ) → Stands core → allows core.topology core.journal.steps (Wrote s bytes end) ≡ true → end ≡ Outcomes os
-    → slice_get core.stages.items s.0 ≡ Some row → row.last_take ≡ Some taken → IsHere core s bytes os taken.0 row.taken
-answering core s bytes end os row taken stands allowed is found last =
-    here core s bytes os row taken stands (ap (λ e. allows core.topology core.journal.steps (Wrote s bytes e)) (sym is) ∙ allowed) found last
-
 pub stage_found : (core : Core) (s : StageNo) (bytes : ℕ) (end : BatchEnd) (os : List Outcome) → Stands core → allows core.topology core.journal.steps (Wrote s bytes end) ≡ true → end ≡ Outcomes os → s.0 < length core.stages.items
 stage_found core s bytes end os stands allowed is =
     omega (arith, stands.holds.fields.sized.stages, write_within core.topology core.journal.steps s bytes os stands.holds.sound (ap (λ e. allows core.topology core.journal.steps (Wrote s bytes e)) (sym is) ∙ allowed))
 
+-- the row that the code read
+row_read : (core : Core) (s : StageNo) (bytes : ℕ) (end : BatchEnd) (os : List Outcome) (row : StageRow) → Stands core → allows core.topology core.journal.steps (Wrote s bytes end) ≡ true → end ≡ Outcomes os
+    → row ≡ get_or core.stages.items s.0 row → slice_get core.stages.items s.0 ≡ Some row
+row_read core s bytes end os row stands allowed is read =
+    slice_get_read core.stages.items (length core.stages.items) s.0 row refl (stage_found core s bytes end os stands allowed is) read
+
+pub answering : (core : Core) (s : StageNo) (bytes : ℕ) (end : BatchEnd) (os : List Outcome) (row : StageRow) (taken : SubNo × ℕ) → Stands core → allows core.topology core.journal.steps (Wrote s bytes end) ≡ true → end ≡ Outcomes os
+    → row ≡ get_or core.stages.items s.0 row → row.last_take ≡ Some taken → IsHere core s bytes os taken.0 row.taken
+answering core s bytes end os row taken stands allowed is read last =
+    here core s bytes os row taken stands (ap (λ e. allows core.topology core.journal.steps (Wrote s bytes e)) (sym is) ∙ allowed)
+    (row_read core s bytes end os row stands allowed is read) last
+
 pub take_there : (core : Core) (s : StageNo) (bytes : ℕ) (end : BatchEnd) (os : List Outcome) (row : StageRow) → Stands core → allows core.topology core.journal.steps (Wrote s bytes end) ≡ true → end ≡ Outcomes os
-    → slice_get core.stages.items s.0 ≡ Some row → is_some row.last_take ≡ true
-take_there core s bytes end os row stands allowed is found =
+    → row ≡ get_or core.stages.items s.0 row → is_some row.last_take ≡ true
+take_there core s bytes end os row stands allowed is read =
     let mine = ap (λ e. allows core.topology core.journal.steps (Wrote s bytes e)) (sym is) ∙ allowed in
     let within = write_within core.topology core.journal.steps s bytes os stands.holds.sound mine in
-    let at : Some row ≡ Some (stage_row core.topology core.journal.steps s) = sym found ∙ stands.holds.fields.stages s within in
+    let at : Some row ≡ Some (stage_row core.topology core.journal.steps s) = sym (row_read core s bytes end os row stands allowed is read) ∙ stands.holds.fields.stages s within in
     let same : row ≡ stage_row core.topology core.journal.steps s = cc in
     ap (λ (r : StageRow). is_some r.last_take) same ∙ took_before core.topology core.journal.steps s bytes os stands.holds.legal mine
 

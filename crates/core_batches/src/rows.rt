@@ -1,9 +1,10 @@
 //! What a call of a batcher makes of one row.
 
-ghost use Rattle.std.specs.Prelude.{◌≡◌, ℕ, ◌+◌, ◌-◌, ◌<◌, ◌≤◌, suc, length, drop, slice_get, vec_capacity, option_map, option_copied, if◌then◌else◌, ◌==◌, Some, IsTrue, IfSome, OnOk, OnErr};
+ghost use Rattle.std.specs.Prelude.{◌≡◌, ℕ, ◌+◌, ◌-◌, ◌<◌, ◌≤◌, suc, length, drop, slice_get, vec_capacity, option_map, if◌then◌else◌, ◌==◌, Some, IsTrue, IfSome, OnOk, OnErr};
 ghost use Rattle.pipe_types.specs.declared.numbers.StageNo.{StageNo as Stage};
 ghost use Rattle.pipe_types.specs.declared.message.Place.TheVariants.{Gathered};
 ghost use Rattle.pipe_model.specs.Content.{key_in};
+ghost use Rattle.pipe_journal.specs.Items.{message_seen, reply_seen};
 ghost use Rattle.pipe_journal.specs.Readers.{reply_at};
 ghost use Rattle.batcher.specs.Batches.{fits};
 ghost use Rattle.stage_subs.specs.Subs.{row_of, IsChanged};
@@ -13,8 +14,8 @@ ghost use Rattle.core_batches.specs.Rows.{with_message, handled_on};
 
 use batcher::Batcher;
 use core_tables::rows::ContentRow;
-use pipe_journal::Journal;
-use pipe_types::message::{Message, Place, Reply};
+use pipe_journal::{Journal, MessageView, ReplyView};
+use pipe_types::message::Place;
 use pipe_types::numbers::{MsgNo, StageNo, SubNo};
 use stage_subs::Subs;
 use std::alloc::AllocError;
@@ -60,11 +61,11 @@ pub(crate) fn count_handled(subs: &mut Subs, sub: SubNo, units: u32)
 }
 
 /// The message that the reply passes on.
-fn message_of(reply: Option<&Reply>) -> Option<&Message>
-    ensures { option_copied result ≡ passed_in (option_copied reply.entry) }
+fn message_of(reply: Option<ReplyView<'_>>) -> Option<MessageView<'_>>
+    ensures { option_map message_seen result ≡ passed_in (option_map reply_seen reply.entry) }
 {
     match reply {
-        Some(Reply::Pass(message)) => Some(message),
+        Some(ReplyView::Pass(message)) => Some(message),
         _ => None,
     }
 }
@@ -87,7 +88,7 @@ pub(crate) fn join_open(
 {
     let held = &mut batchers[stage.0 as usize];
     match message_of(journal.reply_at(row.entry, row.item)) {
-        Some(message) => held.gather(message.key.as_slice(), no, message.flush, now),
+        Some(message) => held.gather(message.key, no, message.flush, now),
         None => held.gather(&[], no, false, now),
     }
 }

@@ -101,11 +101,8 @@ member_same None s = refl
 member_same (Some b) s = refl
 
 named_as : (xs : List StageSpec) (r : Role) (s : StageSpec) → is_named_as (map bare xs) r (bare s) ≡ is_named_as xs r s
-named_as xs Producer s = refl
-named_as xs Processor s = refl
-named_as xs Supervisor s = refl
-named_as xs Batcher s = refl
 named_as xs BatchProcessor s = ap (λ o. is_member_of o (bare s)) (batcher_same xs s.batcher) ∙ member_same (batcher_at xs s.batcher) s
+named_as xs _ s = refl
 
 named_same : (xs : List StageSpec) → list_all (is_named (map bare xs)) (map bare xs) ≡ list_all (is_named xs) xs
 named_same xs = all_same (is_named (map bare xs)) (is_named xs) (λ s. named_as xs s.role s) xs

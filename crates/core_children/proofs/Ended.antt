@@ -1,5 +1,5 @@
 -- The fields after the end of a child's run.
-use Rattle.std.proofs.Common.{◌≡◌, ◌≢◌, ℕ, suc, ◌+◌, ◌<◌, ◌≤◌, List, ◌∷◌, length, map, filter, Bool, true, false, refl, ap, sym, ◌∙◌, Some, None, Option, arith, inl, inr, subst}
+use Rattle.std.proofs.Common.{◌≡◌, ◌≢◌, ℕ, suc, ◌+◌, ◌<◌, ◌≤◌, List, ◌∷◌, length, map, filter, Bool, true, false, refl, ap, sym, ◌∙◌, Some, None, Option, arith, inl, inr, subst, get_or}
 use Rattle.std.specs.Prelude.{slice_get, option_map, if◌then◌else◌, ◌==◌, ◌&&◌, ◌⊎◌, not, is_some, IfSome, IsSome}
 use Rattle.std.specs.declared.alloc.Global.{Global}
 use Rattle.std.specs.declared.vec.Vec.{Vec}
@@ -9,7 +9,7 @@ use Rattle.pipe_types.specs.declared.numbers.SubNo.{SubNo}
 use Rattle.pipe_types.specs.declared.topology.Topology.{Topology}
 use Rattle.pipe_types.specs.declared.topology.StageSpec.{StageSpec}
 use Rattle.pipe_types.specs.declared.message.Place.{Place}
-use Rattle.pipe_types.specs.declared.message.Place.TheVariants.{Waiting, Inbox, Running, Gathered, InBatch, Acked, Lost}
+use Rattle.pipe_types.specs.declared.message.Place.TheVariants.{Running}
 use Rattle.pipe_types.specs.declared.message.Reply.{Reply}
 use Rattle.pipe_types.specs.declared.message.Reply.TheVariants.{Pass, Failed as FailedReply, Raised, Crashed}
 use Rattle.pipe_types.specs.declared.step.Step.TheVariants.{ChildEnd}
@@ -56,6 +56,8 @@ use Rattle.core_state.proofs.Homes.{post_home}
 use Rattle.core_takes.specs.Replies.{handled_on}
 use Rattle.core_children.specs.Slots.{left_in}
 use Rattle.core_children.proofs.Next.{out_slot}
+use Rattle.core_state.proofs.Parts.{Part, ChildrenAre, ChildrenLen, ChildrenSet, ChunksAre, ChunksLen, InboxesAre, OpensAre, PlacesAre, PlacesLen, PostsAre, PostsLen, SettledAre, SettledLen, SubsAre, TotalsAre, WaitingAre, Says, unchanged, fields_of}
+use Rattle.std.proofs.lemmas.Option.{slice_get_read}
 
 -- ---- what is known
 
@@ -157,9 +159,7 @@ slot_left topology before s t slot j reply n again old k was = by (same_stage t 
 
 place_alike : (b : Bool) (s : StageNo) (i : ℕ) (r : Reply) → child_place (crashed_reply r && b) s i r ≡ child_place b s i r
 place_alike b s i (Pass m) = refl
-place_alike b s i (FailedReply why) = refl
-place_alike b s i (Raised why) = refl
-place_alike b s i Crashed = refl
+place_alike b s i _ = refl
 
 pub here : (topology : Topology) (before : History) (s : StageNo) (slot : ℕ) (reply : Reply) (n : ℕ) (again : Bool) → Ends topology before s slot reply n again
     → place topology (ChildEnd s slot reply ∷ before) n ≡ Some (child_place again s (incarnation before s) reply)
@@ -171,18 +171,12 @@ here topology before s slot reply n again k =
 
 -- another message stays where it stands
 left_place : (again : Bool) (s : StageNo) (i n m : ℕ) (reply : Reply) (o : Option Place) → (n == m) ≡ false → option_map (child_ended again (Some n) s i reply m) o ≡ o
-left_place again s i n m reply None e = refl
 left_place again s i n m reply (Some (Running t)) e = ap (λ b. Some (if same_stage s t && b then child_place again s i reply else Running t)) e ∙ by (same_stage s t)
   where
     by : (a : Bool) → Some (if a && false then child_place again s i reply else Running t) ≡ Some (Running t)
     by true = refl
     by false = refl
-left_place again s i n m reply (Some (Waiting t)) e = refl
-left_place again s i n m reply (Some (Inbox u)) e = refl
-left_place again s i n m reply (Some (Gathered t)) e = refl
-left_place again s i n m reply (Some (InBatch b)) e = refl
-left_place again s i n m reply (Some (Acked o)) e = refl
-left_place again s i n m reply (Some (Lost l)) e = refl
+left_place again s i n m reply _ e = refl
 
 elsewhere : (topology : Topology) (before : History) (s : StageNo) (slot : ℕ) (reply : Reply) (n m : ℕ) → in_slot before s slot ≡ Some n → (n == m) ≡ false
     → place topology (ChildEnd s slot reply ∷ before) m ≡ place topology before m
@@ -323,56 +317,35 @@ pub ended_fields : (core : Core) (s : StageNo) (slot : ℕ) (reply : Reply) (n :
     → IsSound core.topology → Fields core core.topology core.journal.steps → Ends core.topology core.journal.steps s slot reply n again
     → Ended core s slot reply n again posts subs chunks children places settled
     → Fields (record core { journal = j; posts = posts; subs = subs; chunks = chunks; children = children; places = places; settled = settled; totals = record core.totals { quiet = 0 } }) core.topology (ChildEnd s slot reply ∷ core.journal.steps)
-ended_fields core s slot reply n again j posts subs chunks children places settled sound x k new =
-    let topology = core.topology in
-    let before = core.journal.steps in
-    record {
-      sized =
-          record {
-            few = x.sized.few;
-            stages = x.sized.stages;
-            posts = new.posts-len ∙ x.sized.posts;
-            came = x.sized.came;
-            waiting = x.sized.waiting;
-            inboxes = x.sized.inboxes;
-            chunks = new.left-len ∙ x.sized.chunks;
-            batchers = x.sized.batchers;
-            children = new.slots-len ∙ x.sized.children;
-            places = new.placed-len ∙ x.sized.places;
-            settled = new.marks-len ∙ x.sized.settled;
-            producers = x.sized.producers;
-            contents = x.sized.contents;
-            batches = x.sized.batches;
-            ends = x.sized.ends;
-          };
-      set =
-          record {
-            batchers = x.set.batchers;
-            children = λ t spec held e role at.
-                let was = new.kept t held at in
-                let is = x.set.children t spec was.0 e role was.1 in
-                (was.2 ∙ is.0, was.3 ∙ is.1);
-            restarts = x.set.restarts;
-          };
-      stages = x.stages;
-      posts = λ t i within low. new.posts-is (post_at t.0 i) ∙ post_home core.posts.items s t slot i (post_row before t i) low k.low (x.posts t i within low);
-      came = x.came;
-      subs = λ c p fed. handled_row topology before s slot reply n again core.subs subs c p k (x.subs c p fed) new.counts;
-      waiting = λ t. x.waiting t ∙ ap (map {B = ℕ × ℕ} (λ m. (part_of topology before (spec_of topology t) m, m))) (sym (waiting_law topology before (ChildEnd s slot reply) t sound k.legal));
-      inboxes = λ t. x.inboxes t ∙ sym (inbox_law topology before (ChildEnd s slot reply) t sound k.legal);
-      chunks = λ t. new.left t ∙ (ap (λ (ns : List ℕ). if s.0 == t.0 && not again then filter (λ m. not (n == m)) ns else ns) (x.chunks t) ∙ runs_on topology before s t slot reply n again sound k);
-      opens = λ t. x.opens t ∙ ap (open_batches before) (sym (gathered_law topology before (ChildEnd s slot reply) t k.legal));
-      children = λ t i. new.slots t i ∙ slot_left topology before s t slot i reply n again (child_at core.children.items t i) k (x.children t i);
-      places = λ i. new.placed i ∙ placed_after topology before s slot reply n again i (slice_get core.places.items i) k (x.places i);
-      settled = λ i below. new.marks i ∙ marked_after topology before s slot reply n again i (slice_get core.settled.items i) k (x.settled i below);
-      producers = x.producers;
-      contents = x.contents;
-      batches = x.batches;
-      sent_on = x.sent_on;
-      legs = x.legs;
-      restarts = x.restarts;
-      totals = ap (λ (y : Totals). record y { quiet = 0 }) x.totals;
-    }
+ended_fields core s slot reply n again j posts subs chunks children places settled sound x k new = fields_of says
+  where
+    topology : Topology
+    topology = core.topology
+
+    before : History
+    before = core.journal.steps
+
+    says : (it : Part) → Says it (record core { journal = j; posts = posts; subs = subs; chunks = chunks; children = children; places = places; settled = settled; totals = record core.totals { quiet = 0 } }) core.topology (ChildEnd s slot reply ∷ core.journal.steps)
+    says PostsLen = new.posts-len ∙ x.sized.posts
+    says ChunksLen = new.left-len ∙ x.sized.chunks
+    says ChildrenLen = new.slots-len ∙ x.sized.children
+    says PlacesLen = new.placed-len ∙ x.sized.places
+    says SettledLen = new.marks-len ∙ x.sized.settled
+    says ChildrenSet = λ t spec held e role at.
+        let was = new.kept t held at in
+        let is = x.set.children t spec was.0 e role was.1 in
+        (was.2 ∙ is.0, was.3 ∙ is.1)
+    says PostsAre = λ t i within low. new.posts-is (post_at t.0 i) ∙ post_home core.posts.items s t slot i (post_row before t i) low k.low (x.posts t i within low)
+    says SubsAre = λ c p fed. handled_row topology before s slot reply n again core.subs subs c p k (x.subs c p fed) new.counts
+    says WaitingAre = λ t. x.waiting t ∙ ap (map {B = ℕ × ℕ} (λ m. (part_of topology before (spec_of topology t) m, m))) (sym (waiting_law topology before (ChildEnd s slot reply) t sound k.legal))
+    says InboxesAre = λ t. x.inboxes t ∙ sym (inbox_law topology before (ChildEnd s slot reply) t sound k.legal)
+    says ChunksAre = λ t. new.left t ∙ (ap (λ (ns : List ℕ). if s.0 == t.0 && not again then filter (λ m. not (n == m)) ns else ns) (x.chunks t) ∙ runs_on topology before s t slot reply n again sound k)
+    says OpensAre = λ t. x.opens t ∙ ap (open_batches before) (sym (gathered_law topology before (ChildEnd s slot reply) t k.legal))
+    says ChildrenAre = λ t i. new.slots t i ∙ slot_left topology before s t slot i reply n again (child_at core.children.items t i) k (x.children t i)
+    says PlacesAre = λ i. new.placed i ∙ placed_after topology before s slot reply n again i (slice_get core.places.items i) k (x.places i)
+    says SettledAre = λ i below. new.marks i ∙ marked_after topology before s slot reply n again i (slice_get core.settled.items i) k (x.settled i below)
+    says TotalsAre = ap (λ (y : Totals). record y { quiet = 0 }) x.totals
+    says it = unchanged x it
 
 -- ---- what the code reads
 
@@ -421,3 +394,20 @@ again_read core s slot reply n again crashed x allowed k crash read = by (slice_
         let is : again ≡ (crashed && mode_runs_again held.mode (crashes core.journal.steps n)) = subst (λ (o : Option ChildRow). IfSome o (λ child. again ≡ (crashed && mode_runs_again held.mode child.crashes))) there f in
         is ∙ (ap (λ b. b && mode_runs_again held.mode (crashes core.journal.steps n)) crash
         ∙ ap (λ b. crashed_reply reply && b) (mode held e (spec_of core.topology s) refl))
+
+-- what the code read of the child that ends
+pub ends_read : (core : Core) (s : StageNo) (slot : ℕ) (reply : Reply) (n : ℕ) (again crashed : Bool) (table : List Slots) → Holds core → allows core.topology core.journal.steps (ChildEnd s slot reply) ≡ true
+    → table ≡ core.children.items → option_map (λ (child : ChildRow). child.no.0) (child_at table s slot) ≡ Some n → crashed ≡ crashed_reply reply
+    → IfSome (slice_get core.children.items s.0) (λ held. IfSome (child_in held.slots slot) (λ child. again ≡ (crashed && mode_runs_again held.mode child.crashes)))
+    → Ends core.topology core.journal.steps s slot reply n again
+ends_read core s slot reply n again crashed table x allowed same read crash said =
+    let known = number_read core s slot reply n table x allowed same read in
+    ends core.topology core.journal.steps s slot reply n again x.sound x.legal allowed known (again_read core s slot reply n again crashed x allowed known crash said)
+
+-- the subscription on which the child came
+pub came_read : (core : Core) (s : StageNo) (slot : ℕ) (reply : Reply) (n : ℕ) (again : Bool) (u : SubNo) → Holds core → Ends core.topology core.journal.steps s slot reply n again
+    → u ≡ get_or core.came.items (post_at s.0 slot) u → u ≡ came core.topology core.journal.steps s slot
+came_read core s slot reply n again u x k read =
+    let there : Some u ≡ Some (came core.topology core.journal.steps s slot) =
+    sym (slice_get_read core.came.items (length core.came.items) (post_at s.0 slot) u refl (omega (arith, k.within, k.low, x.fields.sized.came)) read) ∙ x.fields.came s slot k.within k.low in
+    cc

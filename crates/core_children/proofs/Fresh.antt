@@ -10,20 +10,16 @@ use Rattle.pipe_types.specs.declared.numbers.StageNo.{StageNo}
 use Rattle.pipe_types.specs.declared.numbers.MsgNo.{MsgNo}
 use Rattle.pipe_types.specs.declared.numbers.SubNo.{SubNo}
 use Rattle.pipe_types.specs.declared.topology.Topology.{Topology}
-use Rattle.pipe_types.specs.declared.topology.StageSpec.{StageSpec}
-use Rattle.pipe_types.specs.declared.topology.Role.{Role}
-use Rattle.pipe_types.specs.declared.topology.Role.TheVariants.{Producer, Processor, Supervisor, Batcher, BatchProcessor}
 use Rattle.pipe_types.specs.declared.message.Place.{Place}
 use Rattle.pipe_types.specs.declared.message.Place.TheVariants.{Inbox}
 use Rattle.pipe_types.specs.declared.message.Reply.{Reply}
 use Rattle.pipe_types.specs.declared.message.Reply.TheVariants.{Pass, Failed as FailedReply, Raised, Crashed}
 use Rattle.pipe_types.specs.declared.step.Step.TheVariants.{Child, ChildEnd}
 use Rattle.pipe_types.specs.Numbers.{same_stage, post}
-use Rattle.pipe_types.specs.Stages.{spec_of}
 use Rattle.pipe_types.specs.Sound.{IsSound}
-use Rattle.pipe_laws.proofs.Tests.{clash, both, same_stage-self, same_sub-self}
+use Rattle.pipe_laws.proofs.Tests.{both, same_stage-self, same_sub-self}
 use Rattle.pipe_laws.proofs.Slots.{supervisor_writes, first_stands, slot_reached}
-use Rattle.pipe_laws.proofs.Levels.{rank, rank_in, rank_of, level, level_grows}
+use Rattle.pipe_laws.proofs.Levels.{rank, level, level_grows}
 use Rattle.pipe_laws.proofs.Places.{move_by}
 use Rattle.pipe_laws.proofs.Accepted.{placed_accepted}
 use Rattle.pipe_laws.proofs.Allowed.{legal_before, legal_step, ChildFacts, child_facts, child_end_facts}
@@ -35,6 +31,7 @@ use Rattle.pipe_model.specs.Legal.{is_legal, allows, has_role, is_supervisor_rol
 use Rattle.queue_laws.specs.Queues.{without_number}
 use Rattle.queue_laws.proofs.Sounds.{fits}
 use Rattle.queue_laws.proofs.Laws.{waiting_law, inbox_law, gathered_law}
+use Rattle.stage_laws.proofs.Plain.{supervised_rank}
 use Rattle.stage_laws.proofs.Supervised.{runs_started, runs_started_else, child_takes, among_fails}
 use Rattle.consumer_sup.specs.Children.{Slots}
 use Rattle.core_tables.specs.declared.rows.PostRow.{PostRow}
@@ -54,22 +51,6 @@ use Rattle.core_children.proofs.Starting.{Started}
 
 -- ---- a message in the supervisor's inbox has no crash
 
-supervisor_rank : (topology : Topology) (s : StageNo) → has_role topology s is_supervisor_role ≡ true → rank topology s ≡ 1
-supervisor_rank topology s role = by (spec_of topology s) refl
-  where
-    by_role : (r : Role) → is_supervisor_role r ≡ true → rank_of r ≡ 1
-    by_role Supervisor h = refl
-    by_role Producer h = cc
-    by_role Processor h = cc
-    by_role Batcher h = cc
-    by_role BatchProcessor h = cc
-
-    by : (o : Option StageSpec) → spec_of topology s ≡ o → rank topology s ≡ 1
-    by None e = let none : has_role topology s is_supervisor_role ≡ false = rw e refl in clash (has_role topology s is_supervisor_role) role none
-    by (Some spec) e =
-        let is : has_role topology s is_supervisor_role ≡ is_supervisor_role spec.role = rw e refl in
-        ap rank_in e ∙ by_role spec.role (sym is ∙ role)
-
 -- a message whose child crashed has begun to run, or is past that
 crashed_reached : (topology : Topology) (before : History) (n : ℕ) → is_legal topology before ≡ true → 1 ≤ crashes before n → 5 ≤ level topology (place topology before n)
 crashed_reached topology [] n h some = absurd (omega arith)
@@ -87,7 +68,7 @@ crashed_reached topology (ChildEnd t k reply ∷ before) n h some =
         either : (b : Bool) → (m == n) ≡ b → 1 ≤ (if b then crashes before n + 1 else crashes before n) → 5 ≤ level topology (place topology before n)
         either true same more =
             let reached = slot_reached topology before t k n (legal_before topology before (ChildEnd t k reply) h) (own ∙ ap Some (eqb-true m n same)) in
-            let one = supervisor_rank topology t (child_end_facts topology before t k reply (legal_step topology before (ChildEnd t k reply) h)).role in
+            let one = supervised_rank topology t (child_end_facts topology before t k reply (legal_step topology before (ChildEnd t k reply) h)).role in
             omega (arith, reached, one)
         either false other more = rest more
 crashed_reached topology (step ∷ before) n h some =
@@ -101,7 +82,7 @@ no_crash topology before s n u legal role to stood = by (cases_lt 0 (crashes bef
     by (inl some) =
         let reached = crashed_reached topology before n legal (omega arith) in
         let at : level topology (place topology before n) ≡ 4 * rank topology s = ap (level topology) stood ∙ ap (λ v. 4 * rank topology v) to in
-        let one = supervisor_rank topology s role in
+        let one = supervised_rank topology s role in
         absurd (omega (arith, reached, at, one))
 
 -- ---- a free slot

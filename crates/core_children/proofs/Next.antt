@@ -48,6 +48,7 @@ use Rattle.core_state.proofs.Reading.{some_at}
 use Rattle.core_children.specs.Slots.{slots_in, slots_at}
 use Rattle.core_children.specs.Starts.{may_start_child, again_in}
 use Rattle.core_children.proofs.Fresh.{idle_slot}
+use Rattle.core_tables.specs.declared.rows.PostRow.{PostRow}
 
 -- ---- a post that is out
 
@@ -322,3 +323,18 @@ first_child core s x start none =
     none_runs : (topology : Topology) (before : History) (s : StageNo) (o : Option ℕ) → runs_number topology before s o ≡ false → child_of topology before s o ≡ None
     none_runs topology before s None e = refl
     none_runs topology before s (Some n) e = ap (λ b. child_if b n (crashes before n)) e
+
+-- the same of the tables that the code read
+
+rows_read : (core : Core) (s : StageNo) (kids : List Slots) (posts : List PostRow) (k : ℕ) → kids ≡ core.children.items → posts ≡ core.posts.items → again_in core.children.items core.posts.items s k ≡ again_in kids posts s k
+rows_read core s kids posts k same_kids same_posts = sym (ap (λ ks. again_in ks posts s k) same_kids ∙ ap (λ ps. again_in core.children.items ps s k) same_posts)
+
+pub found_read : (core : Core) (s : StageNo) (kids : List Slots) (posts : List PostRow) (msg : MsgNo) (slot : ℕ) → Stands core → may_start_child core.topology core.journal.steps s ≡ true
+    → kids ≡ core.children.items → posts ≡ core.posts.items → slot < 16 → again_in kids posts s slot ≡ Some msg → Found core s msg slot
+found_read core s kids posts msg slot x legal same_kids same_posts low e =
+    found core s msg slot x (startable core.topology core.journal.steps s x.holds.sound x.holds.legal legal) low (rows_read core s kids posts slot same_kids same_posts ∙ e)
+
+pub first_read : (core : Core) (s : StageNo) (kids : List Slots) (posts : List PostRow) → Stands core → may_start_child core.topology core.journal.steps s ≡ true
+    → kids ≡ core.children.items → posts ≡ core.posts.items → ((k : ℕ) → k < 16 → again_in kids posts s k ≡ None) → First core s
+first_read core s kids posts x legal same_kids same_posts none =
+    first_child core s x (startable core.topology core.journal.steps s x.holds.sound x.holds.legal legal) (λ k low. rows_read core s kids posts k same_kids same_posts ∙ none k low)

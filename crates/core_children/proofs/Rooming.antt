@@ -6,7 +6,7 @@ use Rattle.std.specs.declared.vec.Vec.{Vec}
 use Rattle.std.proofs.lemmas.Bool.{eq-eqb}
 use Rattle.pipe_types.specs.declared.numbers.StageNo.{StageNo}
 use Rattle.pipe_types.specs.declared.topology.Role.{Role}
-use Rattle.pipe_types.specs.declared.topology.Role.TheVariants.{Producer, Processor, Supervisor, Batcher, BatchProcessor}
+use Rattle.pipe_types.specs.declared.topology.Role.TheVariants.{Processor}
 use Rattle.pipe_types.specs.declared.message.Reply.{Reply}
 use Rattle.pipe_types.specs.declared.step.Step.TheVariants.{ChildEnd}
 use Rattle.pipe_types.specs.Numbers.{post, same_stage}
@@ -33,11 +33,8 @@ end_due core s slot reply x allowed =
     answer_due core.topology core.journal.steps (ChildEnd s slot reply) s slot x.sound x.legal (λ p. refl) (both (same_stage s s) (slot == slot) (same_stage-self s) (eq-eqb slot slot refl)) out (λ t h. h)
 
 processes_or_starts : (role : Role) → is_processor_role role ≡ true → is_supervisor_role role ≡ true → ⊥
-processes_or_starts Producer h k = let x : false ≡ true = h in cc
 processes_or_starts Processor h k = let x : false ≡ true = k in cc
-processes_or_starts Supervisor h k = let x : false ≡ true = h in cc
-processes_or_starts Batcher h k = let x : false ≡ true = h in cc
-processes_or_starts BatchProcessor h k = let x : false ≡ true = h in cc
+processes_or_starts _ h k = let x : false ≡ true = h in cc
 
 -- a supervisor feeds no batchers
 feeds_elsewhere : (core : Core) (s t : StageNo) → Holds core → has_role core.topology s is_supervisor_role ≡ true → has_batchers_in (spec_of core.topology t) ≡ true → (s.0 == t.0) ≡ false

@@ -47,6 +47,7 @@ use Rattle.core_state.specs.declared.state.Core.{Core}
 use Rattle.core_state.specs.Stands.{Fields, Holds, child_at}
 use Rattle.core_state.proofs.Homes.{post_same}
 use Rattle.core_takes.specs.Takes.{out_of}
+use Rattle.core_state.proofs.Parts.{Part, CameAre, CameLen, ChildrenAre, ChildrenLen, ChildrenSet, ChunksAre, ChunksLen, InboxesAre, InboxesLen, OpensAre, PlacesAre, PlacesLen, PostsAre, PostsLen, TotalsAre, WaitingAre, Says, unchanged, fields_of}
 
 -- what the passes of a child's start leave
 pub record Started (core : Core) (topology : Topology) (before : History) (s : StageNo) (m : MsgNo) (slot : ℕ)
@@ -74,48 +75,7 @@ pub started_fields : (core : Core) (topology : Topology) (before : History) (s :
     (posts : Vec PostRow Global) (came_on : Vec SubNo Global) (inboxes : Vec (VecDeque (SubNo × ℕ) Global) Global) (chunks : Vec (Vec ℕ Global) Global) (children : Vec Slots Global) (places : Vec Place Global)
     → Fields core topology before → Started core topology before s m slot posts came_on inboxes chunks children places
     → Fields (record core { journal = j; posts = posts; came = came_on; inboxes = inboxes; chunks = chunks; children = children; places = places; totals = record core.totals { quiet = 0 } }) topology (Child s m slot ∷ before)
-started_fields core topology before s m slot j posts came_on inboxes chunks children places x new =
-    record {
-      sized =
-          record {
-            few = x.sized.few;
-            stages = x.sized.stages;
-            posts = new.posts-len ∙ x.sized.posts;
-            came = new.came-len ∙ x.sized.came;
-            waiting = x.sized.waiting;
-            inboxes = new.boxes-len ∙ x.sized.inboxes;
-            chunks = new.runs-len ∙ x.sized.chunks;
-            batchers = x.sized.batchers;
-            children = new.slots-len ∙ x.sized.children;
-            places = new.placed-len ∙ x.sized.places;
-            settled = x.sized.settled;
-            producers = x.sized.producers;
-            contents = x.sized.contents;
-            batches = x.sized.batches;
-            ends = x.sized.ends;
-          };
-      set = record { batchers = x.set.batchers; children = new.slots-set; restarts = x.set.restarts };
-      stages = x.stages;
-      posts = λ t k within low. new.posts-is (post_at t.0 k)
-          ∙ (ap (λ b. if b then out_of (slice_get core.stages.items s.0) else slice_get core.posts.items (post_at t.0 k)) (post_same s.0 t.0 slot k low new.low)
-          ∙ out (same_post (post t k) (post s slot)) t k refl (x.posts t k within low));
-      came = new.came-is;
-      subs = x.subs;
-      waiting = λ t. x.waiting t ∙ ap (map (λ n. (part_of topology before (spec_of topology t) n, n))) (sym (new.waits t));
-      inboxes = new.boxes;
-      chunks = new.runs;
-      opens = λ t. x.opens t ∙ ap (open_batches before) (sym (new.gathers t));
-      children = new.slots;
-      places = new.placed;
-      settled = x.settled;
-      producers = x.producers;
-      contents = x.contents;
-      batches = x.batches;
-      sent_on = x.sent_on;
-      legs = x.legs;
-      restarts = x.restarts;
-      totals = ap (λ (y : Totals). record y { quiet = 0 }) x.totals;
-    }
+started_fields core topology before s m slot j posts came_on inboxes chunks children places x new = fields_of says
   where
     out : (b : Bool) (t : StageNo) (k : ℕ) → same_post (post t k) (post s slot) ≡ b → slice_get core.posts.items (post_at t.0 k) ≡ Some (post_row before t k)
         → (if b then out_of (slice_get core.stages.items s.0) else slice_get core.posts.items (post_at t.0 k)) ≡ Some (post_row (Child s m slot ∷ before) t k)
@@ -125,6 +85,27 @@ started_fields core topology before s m slot j posts came_on inboxes chunks chil
         ∙ (ap (λ v. Some (record { out = true; from = incarnation before v })) (sym same)
         ∙ ap (λ b. Some (record { out = b || is_out before (post t k); from = if b then incarnation before t else out_from before (post t k) })) (sym e))
     out false t k e at = at ∙ ap (λ b. Some (record { out = b || is_out before (post t k); from = if b then incarnation before t else out_from before (post t k) })) (sym e)
+
+    says : (it : Part) → Says it (record core { journal = j; posts = posts; came = came_on; inboxes = inboxes; chunks = chunks; children = children; places = places; totals = record core.totals { quiet = 0 } }) topology (Child s m slot ∷ before)
+    says PostsLen = new.posts-len ∙ x.sized.posts
+    says CameLen = new.came-len ∙ x.sized.came
+    says InboxesLen = new.boxes-len ∙ x.sized.inboxes
+    says ChunksLen = new.runs-len ∙ x.sized.chunks
+    says ChildrenLen = new.slots-len ∙ x.sized.children
+    says PlacesLen = new.placed-len ∙ x.sized.places
+    says ChildrenSet = new.slots-set
+    says PostsAre = λ t k within low. new.posts-is (post_at t.0 k)
+        ∙ (ap (λ b. if b then out_of (slice_get core.stages.items s.0) else slice_get core.posts.items (post_at t.0 k)) (post_same s.0 t.0 slot k low new.low)
+        ∙ out (same_post (post t k) (post s slot)) t k refl (x.posts t k within low))
+    says CameAre = new.came-is
+    says WaitingAre = λ t. x.waiting t ∙ ap (map (λ n. (part_of topology before (spec_of topology t) n, n))) (sym (new.waits t))
+    says InboxesAre = new.boxes
+    says ChunksAre = new.runs
+    says OpensAre = λ t. x.opens t ∙ ap (open_batches before) (sym (new.gathers t))
+    says ChildrenAre = new.slots
+    says PlacesAre = new.placed
+    says TotalsAre = ap (λ (y : Totals). record y { quiet = 0 }) x.totals
+    says it = unchanged x it
 
 -- ---- the inbox
 

@@ -7,7 +7,7 @@ use Rattle.pipe_types.specs.declared.numbers.StageNo.{StageNo}
 use Rattle.pipe_types.specs.declared.topology.Topology.{Topology}
 use Rattle.pipe_types.specs.declared.step.SourceHow.{SourceHow}
 use Rattle.pipe_types.specs.declared.step.LateAnswer.{LateAnswer}
-use Rattle.pipe_types.specs.declared.step.LateAnswer.TheVariants.{Records, Quiet as QuietAnswer, Source, Wrote as WroteAnswer, Nothing}
+use Rattle.pipe_types.specs.declared.step.LateAnswer.TheVariants.{Records, Source}
 use Rattle.pipe_types.specs.declared.step.Step.TheVariants.{Late}
 use Rattle.pipe_types.specs.Sound.{IsSound}
 use Rattle.pipe_model.specs.History.{History, accepted}
@@ -53,10 +53,7 @@ post_of topology before s slot i answer sound legal h =
 
 content_late : (before : History) (s : StageNo) (slot i : ℕ) (answer : LateAnswer) (n : ℕ) → n ≤ accepted before → content (Late s slot i answer ∷ before) n ≡ content before n
 content_late before s slot i (Records records) n low = content_old s records before n low
-content_late before s slot i QuietAnswer n low = refl
-content_late before s slot i (Source how) n low = refl
-content_late before s slot i (WroteAnswer bytes end) n low = refl
-content_late before s slot i Nothing n low = refl
+content_late before s slot i _ n low = refl
 
 pub late_leaves : (topology : Topology) (before : History) (s : StageNo) (slot i : ℕ) (answer : LateAnswer) → IsSound topology → is_legal topology (Late s slot i answer ∷ before) ≡ true
     → Leaves topology before (Late s slot i answer)
@@ -91,17 +88,13 @@ late_posts core topology before s slot i answer posts x low homed t k within bel
 plain_stays : (topology : Topology) (before : History) (s : StageNo) (slot i : ℕ) (answer : LateAnswer) → is_plain answer ≡ true → Stays topology before (Late s slot i answer)
 plain_stays topology before s slot i (Records records) h = cc
 plain_stays topology before s slot i (Source how) h = cc
-plain_stays topology before s slot i QuietAnswer h = record { places = λ n. refl; producers = λ n. refl; contents = λ n. refl; count = refl; totals = refl }
-plain_stays topology before s slot i (WroteAnswer bytes end) h = record { places = λ n. refl; producers = λ n. refl; contents = λ n. refl; count = refl; totals = refl }
-plain_stays topology before s slot i Nothing h = record { places = λ n. refl; producers = λ n. refl; contents = λ n. refl; count = refl; totals = refl }
+plain_stays topology before s slot i _ h = record { places = λ n. refl; producers = λ n. refl; contents = λ n. refl; count = refl; totals = refl }
 
 plain_row : (topology : Topology) (before : History) (s : StageNo) (slot i : ℕ) (answer : LateAnswer) (t : StageNo) → is_plain answer ≡ true
     → stage_row topology (Late s slot i answer ∷ before) t ≡ stage_row topology before t
 plain_row topology before s slot i (Records records) t h = cc
 plain_row topology before s slot i (Source how) t h = cc
-plain_row topology before s slot i QuietAnswer t h = refl
-plain_row topology before s slot i (WroteAnswer bytes end) t h = refl
-plain_row topology before s slot i Nothing t h = refl
+plain_row topology before s slot i _ t h = refl
 
 pub plain_fields : (core : Core) (topology : Topology) (before : History) (s : StageNo) (slot i : ℕ) (answer : LateAnswer) (j : Recorded) (posts : Vec PostRow Global)
     → Fields core topology before → IsSound topology → is_legal topology before ≡ true → IsLate topology before s slot i answer → is_plain answer ≡ true

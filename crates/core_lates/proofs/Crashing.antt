@@ -8,7 +8,7 @@ use Rattle.pipe_types.specs.declared.topology.Topology.{Topology}
 use Rattle.pipe_types.specs.declared.message.Reply.{Reply}
 use Rattle.pipe_types.specs.declared.message.BatchEnd.TheVariants.{Crashed as BatchCrashed}
 use Rattle.pipe_types.specs.declared.message.Place.{Place}
-use Rattle.pipe_types.specs.declared.message.Place.TheVariants.{Waiting, Inbox, Running, Gathered, InBatch, Acked, Lost}
+use Rattle.pipe_types.specs.declared.message.Place.TheVariants.{InBatch}
 use Rattle.pipe_types.specs.declared.step.Step.TheVariants.{Done, Wrote}
 use Rattle.pipe_types.specs.Numbers.{same_stage}
 use Rattle.pipe_types.specs.Sound.{IsSound}
@@ -125,18 +125,12 @@ write_leaves topology before s sound after =
 
 -- a message of a batch stands in it while the batch is in progress
 batch_stays : (topology : Topology) (before : History) (n : ℕ) (o : Option Place) → place topology before n ≡ o → option_map (by_batch (batch topology before) n) o ≡ o
-batch_stays topology before n None e = refl
-batch_stays topology before n (Some (Waiting t)) e = refl
-batch_stays topology before n (Some (Inbox u)) e = refl
-batch_stays topology before n (Some (Running t)) e = refl
-batch_stays topology before n (Some (Gathered t)) e = refl
-batch_stays topology before n (Some (Acked o)) e = refl
-batch_stays topology before n (Some (Lost l)) e = refl
 batch_stays topology before n (Some (InBatch d)) e = stays_in (batch topology before d.0) (in_batch_going topology before n d e)
   where
     stays_in : (o : Option Batch) → in_progress o ≡ true → Some (place_in_batch d.0 o n) ≡ Some (InBatch d)
     stays_in None k = cc
     stays_in (Some x) k = ap Some (going_in d.0 x.place (unwrap_or (position (λ m. m == n) x.numbers) 0) k)
+batch_stays topology before n _ e = refl
 
 write_stays : (topology : Topology) (before : History) (s : StageNo) → Stays topology before (Wrote s 0 BatchCrashed)
 write_stays topology before s =

@@ -35,6 +35,7 @@ use Rattle.core_laws.proofs.Alike.{SameContent, SamePart, part_same, mapped_same
 use Rattle.core_laws.proofs.Marks.{mark_is, open_unsettled}
 use Rattle.core_state.specs.declared.state.Core.{Core}
 use Rattle.core_state.specs.Stands.{Fields, totals_of}
+use Rattle.core_state.proofs.Parts.{Part, BatchesAre, BatchesLen, CameAre, ChildrenAre, ChunksAre, ContentsAre, ContentsLen, InboxesAre, LegsAre, OpensAre, PlacesAre, PlacesLen, PostsAre, PostsLen, ProducersAre, ProducersLen, RestartsAre, SentOnAre, SettledAre, SettledLen, StagesAre, StagesLen, SubsAre, TotalsAre, WaitingAre, Says, unchanged, fields_of}
 
 -- what such a step leaves
 pub record Leaves (topology : Topology) (before : History) (step : Step) : Type 0 where
@@ -123,46 +124,35 @@ pub left_fields : (core : Core) (topology : Topology) (before : History) (step :
     → Fields core topology before → IsSound topology → is_legal topology before ≡ true → Leaves topology before step
     → Changed core topology (step ∷ before) rows posts places settled producers contents totals
     → Fields (record core { journal = j; stages = rows; posts = posts; places = places; settled = settled; producers = producers; contents = contents; totals = totals }) topology (step ∷ before)
-left_fields core topology before step j rows posts places settled producers contents totals x sound legal left new =
-    record {
-      sized =
-          record {
-            few = x.sized.few;
-            stages = new.rows-len ∙ x.sized.stages;
-            posts = new.posts-len ∙ x.sized.posts;
-            came = x.sized.came;
-            waiting = x.sized.waiting;
-            inboxes = x.sized.inboxes;
-            chunks = x.sized.chunks;
-            batchers = x.sized.batchers;
-            children = x.sized.children;
-            places = new.places-len;
-            settled = new.marks-len;
-            producers = new.producers-len;
-            contents = new.contents-len;
-            batches = x.sized.batches ∙ sym left.count;
-            ends = x.sized.ends;
-          };
-      set = record { batchers = x.set.batchers; children = x.set.children; restarts = x.set.restarts };
-      stages = new.rows-are;
-      posts = new.posts-are;
-      came = λ t slot within low. x.came t slot within low ∙ ap Some (sym (left.came-is t slot));
-      subs = λ c p fed. x.subs c p fed ∙ ap Some (sym (left.pairs c p));
-      waiting = λ t. x.waiting t ∙ (sym (parts_left topology before step t sound legal left) ∙ sym (ap (map (λ n. (part_of topology (step ∷ before) (spec_of topology t) n, n))) (left.waits t)));
-      inboxes = λ t. x.inboxes t ∙ sym (left.sent t);
-      chunks = λ t. x.chunks t ∙ sym (left.runs t);
-      opens = λ t. x.opens t ∙ (sym (opens_left topology before step t left) ∙ sym (ap (open_batches (step ∷ before)) (left.gathers-are t)));
-      children = λ t slot. x.children t slot ∙ sym (left.children t slot);
-      places = new.places-are;
-      settled = new.marks-are;
-      producers = new.producers-are;
-      contents = new.contents-are;
-      batches = λ i. x.batches i ∙ sym (left.closes (suc i));
-      sent_on = λ i row at. x.sent_on i row at ∙ sym (left.subs (suc i));
-      legs = λ i. x.legs i ∙ ap ends_in_progress (sym (left.batches (suc i)));
-      restarts = λ l limit at. subst (λ (times : List ℕ). Remembers limit times) (sym (left.restarts l)) (x.restarts l limit at);
-      totals = new.totals-are;
-    }
+left_fields core topology before step j rows posts places settled producers contents totals x sound legal left new = fields_of says
+  where
+    says : (it : Part) → Says it (record core { journal = j; stages = rows; posts = posts; places = places; settled = settled; producers = producers; contents = contents; totals = totals }) topology (step ∷ before)
+    says StagesLen = new.rows-len ∙ x.sized.stages
+    says PostsLen = new.posts-len ∙ x.sized.posts
+    says PlacesLen = new.places-len
+    says SettledLen = new.marks-len
+    says ProducersLen = new.producers-len
+    says ContentsLen = new.contents-len
+    says BatchesLen = x.sized.batches ∙ sym left.count
+    says StagesAre = new.rows-are
+    says PostsAre = new.posts-are
+    says CameAre = λ t slot within low. x.came t slot within low ∙ ap Some (sym (left.came-is t slot))
+    says SubsAre = λ c p fed. x.subs c p fed ∙ ap Some (sym (left.pairs c p))
+    says WaitingAre = λ t. x.waiting t ∙ (sym (parts_left topology before step t sound legal left) ∙ sym (ap (map (λ n. (part_of topology (step ∷ before) (spec_of topology t) n, n))) (left.waits t)))
+    says InboxesAre = λ t. x.inboxes t ∙ sym (left.sent t)
+    says ChunksAre = λ t. x.chunks t ∙ sym (left.runs t)
+    says OpensAre = λ t. x.opens t ∙ (sym (opens_left topology before step t left) ∙ sym (ap (open_batches (step ∷ before)) (left.gathers-are t)))
+    says ChildrenAre = λ t slot. x.children t slot ∙ sym (left.children t slot)
+    says PlacesAre = new.places-are
+    says SettledAre = new.marks-are
+    says ProducersAre = new.producers-are
+    says ContentsAre = new.contents-are
+    says BatchesAre = λ i. x.batches i ∙ sym (left.closes (suc i))
+    says SentOnAre = λ i row at. x.sent_on i row at ∙ sym (left.subs (suc i))
+    says LegsAre = λ i. x.legs i ∙ ap ends_in_progress (sym (left.batches (suc i)))
+    says RestartsAre = λ l limit at. subst (λ (times : List ℕ). Remembers limit times) (sym (left.restarts l)) (x.restarts l limit at)
+    says TotalsAre = new.totals-are
+    says it = unchanged x it
 
 -- Where each message stays where it stood
 

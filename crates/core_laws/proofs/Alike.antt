@@ -4,7 +4,7 @@ use Rattle.std.specs.Prelude.{if◌then◌else◌, not, filter, bytes_eq}
 use Rattle.pipe_types.specs.declared.topology.Topology.{Topology}
 use Rattle.pipe_types.specs.declared.topology.StageSpec.{StageSpec}
 use Rattle.pipe_types.specs.declared.topology.Role.{Role}
-use Rattle.pipe_types.specs.declared.topology.Role.TheVariants.{Producer, Processor, Supervisor, Batcher, BatchProcessor}
+use Rattle.pipe_types.specs.declared.topology.Role.TheVariants.{Producer, Batcher}
 use Rattle.pipe_types.specs.Handlers.{field}
 use Rattle.pipe_types.specs.Dispatchers.{partition_of}
 use Rattle.pipe_model.specs.History.{History}
@@ -83,9 +83,7 @@ by_role : (topology : Topology) (old new : History) (spec : StageSpec) (n : ℕ)
 by_role topology old new spec n Producer e h = rw e (ap (λ o. partition_of (field spec.field (payload_in o)) spec.parts) h.content)
 by_role topology old new spec n Batcher e h =
     rw e (ap (λ ns. partition_of (key_in (content new (first_in ns))) spec.parts) h.numbers ∙ ap (λ o. partition_of (key_in o) spec.parts) h.first)
-by_role topology old new spec n Processor e h = rw e (ap batcher_in h.content)
-by_role topology old new spec n Supervisor e h = rw e (ap batcher_in h.content)
-by_role topology old new spec n BatchProcessor e h = rw e (ap batcher_in h.content)
+by_role topology old new spec n _ e h = rw e (ap batcher_in h.content)
 
 pub part_same : (topology : Topology) (old new : History) (o : Option StageSpec) (n : ℕ) → SamePart topology old new n → part_of topology new o n ≡ part_of topology old o n
 part_same topology old new None n h = refl

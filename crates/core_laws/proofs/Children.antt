@@ -120,14 +120,12 @@ crashed_other (Some m) Crashed n old other = ap (λ b. if b then old + 1 else ol
 left_is : (spec : Option StageSpec) (t : StageNo) (i n old : ℕ) (reply : Reply)
     → child_left spec reply (Some (record { no = message_no n; crashes = old }))
     ≡ child_if (runs_in t (Some (child_place (runs_again spec old) t i reply))) n (crashed_as (Some n) reply n old)
-left_is spec t i n old (Pass m) = refl
-left_is spec t i n old (FailedReply why) = refl
-left_is spec t i n old (Raised why) = refl
 left_is spec t i n old Crashed = either (runs_again spec old)
   where
     either : (b : Bool) → (if b then Some (record { no = message_no n; crashes = old + 1 }) else None) ≡ child_if (runs_in t (Some (if b then Running t else Lost (Killed t i Crash)))) n (if n == n then old + 1 else old)
     either true = ap (child_if true n) (sym (ap (λ b. if b then old + 1 else old) (eq-eqb n n refl))) ∙ ap (λ b. child_if b n (if n == n then old + 1 else old)) (sym (same_stage-self t))
     either false = refl
+left_is spec t i n old _ = refl
 
 ended_here : (topology : Topology) (before : History) (t : StageNo) (k : ℕ) (reply : Reply) → is_legal topology (ChildEnd t k reply ∷ before) ≡ true
     → child_row topology before t k ≡ child_in_slot topology before t k

@@ -13,7 +13,7 @@ use Rattle.pipe_types.specs.declared.room.Room.{Room}
 use Rattle.pipe_types.specs.declared.room.Sent.{Sent}
 use Rattle.pipe_types.specs.declared.step.Step.{Step}
 use Rattle.pipe_types.specs.declared.step.Step.TheVariants.{Dispatch, Take, Accept, Done, Wrote}
-use Rattle.pipe_types.specs.declared.message.BatchEnd.TheVariants.{Outcomes, Crashed as BatchCrashed}
+use Rattle.pipe_types.specs.declared.message.BatchEnd.TheVariants.{Crashed as BatchCrashed}
 use Rattle.pipe_types.specs.Numbers.{same_stage, same_sub, sub_before}
 use Rattle.pipe_types.specs.Stages.{spec_of, feeds}
 use Rattle.pipe_types.specs.Sound.{IsSound}
@@ -90,7 +90,6 @@ pub dispatch_may : (topology : Topology) (before : History) (s : StageNo) → al
 dispatch_may topology before s h = by before (and_right (not (happened is_halt before) || false) _ h)
   where
     by : (before : History) → passes (owed topology before) (Dispatch s) (may_dispatch topology before s) ≡ true → may_dispatch topology before s ≡ true
-    by [] h = h
     by (Accept t records ∷ before) h = either (may_dispatch topology (Accept t records ∷ before) t) refl h
       where
         either : (b : Bool) → may_dispatch topology (Accept t records ∷ before) t ≡ b → passes (if b then Some (is_dispatch_of t) else None) (Dispatch s) (may_dispatch topology (Accept t records ∷ before) s) ≡ true → may_dispatch topology (Accept t records ∷ before) s ≡ true
@@ -102,8 +101,7 @@ dispatch_may topology before s h = by before (and_right (not (happened is_halt b
         either true k = cc
         either false k = k
     by (Wrote t bytes BatchCrashed ∷ before) h = cc
-    by (Wrote t bytes (Outcomes outcomes) ∷ before) h = h
-    by (_ ∷ before) h = h
+    by _ h = h
 
 places_below : (k n : ℕ) → Each (λ (u : ℕ × ℕ). u.0 < k + n) (enumerate_from k (replicate {A = ℕ} n 0))
 places_below k zero = tt

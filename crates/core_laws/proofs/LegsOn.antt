@@ -1,8 +1,8 @@
 -- The subscriptions on which the legs of a batch are.
-use Rattle.std.proofs.Common.{◌≡◌, ℕ, set, ◌+◌, ◌≤◌, List, [], ◌∷◌, ◌++◌, map, Bool, true, false, refl, ap, sym, ◌∙◌, subst, Some, None, Option, arith, ◌<◌}
+use Rattle.std.proofs.Common.{◌≡◌, ℕ, set, ◌+◌, ◌≤◌, List, [], ◌∷◌, ◌++◌, map, Bool, true, false, refl, ap, sym, ◌∙◌, subst, Some, None, Option, arith, ◌<◌, length}
 use Rattle.std.specs.Prelude.{option_map, ◌&&◌, if◌then◌else◌, ◌==◌, is_some}
 use Rattle.std.proofs.lemmas.Bool.{eqb-true, false_from_ne_true, ne_eqb}
-use Rattle.std.proofs.lemmas.List.{append-nil}
+use Rattle.std.proofs.lemmas.List.{append-nil, length-map}
 use Rattle.pipe_types.specs.declared.numbers.StageNo.{StageNo}
 use Rattle.pipe_types.specs.declared.numbers.SubNo.{SubNo}
 use Rattle.pipe_types.specs.declared.topology.Topology.{Topology}
@@ -14,18 +14,27 @@ use Rattle.pipe_types.specs.Numbers.{same_stage}
 use Rattle.pipe_types.specs.Stages.{spec_of}
 use Rattle.pipe_model.specs.History.{History, closed, incarnation}
 use Rattle.pipe_model.specs.Lives.{KillSet, reason_in, kill_set}
-use Rattle.pipe_model.specs.Flow.{place, batch, view_of, is_batcher, among, closing, subs_of, deliveries, alone, next_units, change_place, new_batch, batch_waits_in, waits_in, waiting}
+use Rattle.pipe_model.specs.Flow.{place, batch, view_of, is_batcher, among, closing, subs_of, deliveries, alone, next_units, change_place, new_batch, batch_waits_in, waits_in, waiting, sent_to}
 use Rattle.pipe_model.specs.Batches.{Batch, BatchPlace, AtBatcher, Sent, Dropped, Leg, LegPlace, on_legs, leg_taken, leg_answered, leg_lost, batch_on_legs, batch_sent, batch_killed, new_legs, dropped_in}
 use Rattle.pipe_model.specs.Legal.{is_legal}
 use Rattle.pipe_laws.proofs.Tests.{clash, same_stage-true}
-use Rattle.pipe_laws.proofs.Lists.{Each, each_weaker}
+use Rattle.pipe_laws.proofs.Lists.{Each, each_weaker, each_map}
 use Rattle.pipe_laws.proofs.Allowed.{legal_before}
-use Rattle.pipe_laws.proofs.Entries.{is_waiting, waiting_each}
+use Rattle.pipe_laws.proofs.Entries.{is_waiting, waiting_each, EntryFits, entries_fit}
 use Rattle.pipe_laws.proofs.Places.{IsOn, sends_on}
-use Rattle.queue_laws.proofs.Batched.{BatchListed, PlaceListed, batch_listed}
+use Rattle.queue_laws.proofs.Batched.{BatchListed, PlaceListed, batch_listed, LegListed}
 use Rattle.queue_laws.proofs.Singles.{none_of}
 use Rattle.core_laws.specs.Columns.{sent_on}
 use Rattle.pipe_laws.proofs.Settled.{batch_closed}
+use Rattle.pipe_types.specs.Sound.{IsSound}
+use Rattle.queue_laws.proofs.Roles.{fed_spec}
+use Rattle.queue_laws.proofs.Apart.{Apart, apart_mapped}
+use Rattle.queue_laws.proofs.OneLeg.{leg_to, legs_once, BatchOnce}
+use Rattle.queue_laws.proofs.Sounds.{fits}
+use Rattle.queue_laws.proofs.Writes.{of_entry}
+use Rattle.stage_laws.proofs.Bounds.{few_numbers}
+use Rattle.stage_laws.proofs.Numbering.{numbered_topology}
+use Rattle.core_laws.proofs.Past.{known_within}
 
 -- a batch that waits in a batcher was closed before
 pub waiting_closed : (topology : Topology) (before : History) (t : StageNo) (n : ℕ) → is_batcher (spec_of topology t) ≡ true → is_waiting topology before t n ≡ true → n ≤ closed before
@@ -189,3 +198,17 @@ legs_are_on topology (Halt ∷ before) b h =
     mapped_on (sent_on topology before b) (batch_killed (kill_set topology before Halt) (incarnation before)) (killed_on (sent_on topology before b) (kill_set topology before Halt) (incarnation before)) (batch topology before b)
     (legs_are_on topology before b (legal_before topology before Halt h))
 legs_are_on topology (step ∷ before) b h = legs_are_on topology before b (legal_before topology before step h)
+
+-- a batch has no more legs than there are stages
+pub legs_few : (topology : Topology) (before : History) (b : ℕ) (ms : List ℕ) (legs : List Leg) → IsSound topology → is_legal topology before ≡ true → batch topology before b ≡ Some (record { numbers = ms; place = Sent legs }) → length legs ≤ 64
+legs_few topology before b ms legs sound h is =
+    let once : Apart leg_to legs = subst BatchOnce is (legs_once topology before b (fits topology sound) h) in
+    let listed : Each (LegListed topology before b) legs = subst (BatchListed topology before b) is (batch_listed topology before b h) in
+    let t = numbered_topology topology sound in
+    let within : Each (λ n. (1 ≤ n) × (n ≤ 64)) (map leg_to legs) =
+    each_map (λ n. (1 ≤ n) × (n ≤ 64)) leg_to legs
+    (each_weaker (LegListed topology before b) (λ leg. (1 ≤ leg_to leg) × (leg_to leg ≤ 64))
+    (λ leg l. let fit = of_entry (EntryFits topology before leg.sub.consumer) leg.sub b (sent_to topology before leg.sub.consumer) (entries_fit topology before leg.sub.consumer) l.entry in
+    let w = known_within topology leg.sub.consumer t (fed_spec topology leg.sub.producer leg.sub.consumer fit.feeding).1 in (w.0, omega (arith, w.1, t.few))) legs listed) in
+    let few = few_numbers 64 (map leg_to legs) (apart_mapped (λ n. n) leg_to legs once) within in
+    omega (arith, few, length-map legs leg_to)

@@ -4,7 +4,7 @@ use Rattle.std.specs.Prelude.{if◌then◌else◌, ◌&&◌, ◌==◌, ◌+◌, 
 use Rattle.pipe_types.specs.declared.numbers.StageNo.{StageNo}
 use Rattle.pipe_types.specs.declared.topology.Topology.{Topology}
 use Rattle.pipe_types.specs.declared.message.Place.{Place}
-use Rattle.pipe_types.specs.declared.message.Place.TheVariants.{Waiting, Inbox, Running, Gathered, InBatch, Acked, Lost}
+use Rattle.pipe_types.specs.declared.message.Place.TheVariants.{Waiting, Inbox, Running, Gathered, InBatch}
 use Rattle.pipe_types.specs.declared.step.Step.{Step}
 use Rattle.pipe_types.specs.declared.step.Step.TheVariants.{Accept, Dispatch, Take, Done, Gather, Close, Wrote, Child, ChildEnd, Kill, Late, Halt}
 use Rattle.pipe_types.specs.Numbers.{same_stage, batch_no}
@@ -43,34 +43,16 @@ either_open true p q x y = x
 either_open false p q x y = y
 
 taken_kept : (chunk : List ℕ) (s : StageNo) (n : ℕ) (o : Option Place) → is_final (option_map (taken chunk s n) o) ≡ is_final o
-taken_kept chunk s n None = refl
 taken_kept chunk s n (Some (Inbox u)) = either_open (same_stage s u.consumer && among chunk n) (Running s) (Inbox u) refl refl
-taken_kept chunk s n (Some (Waiting t)) = refl
-taken_kept chunk s n (Some (Running t)) = refl
-taken_kept chunk s n (Some (Gathered t)) = refl
-taken_kept chunk s n (Some (InBatch b)) = refl
-taken_kept chunk s n (Some (Acked o)) = refl
-taken_kept chunk s n (Some (Lost l)) = refl
+taken_kept chunk s n _ = refl
 
 gathered_kept : (s : StageNo) (m n : ℕ) (o : Option Place) → is_final (option_map (gathered s m n) o) ≡ is_final o
-gathered_kept s m n None = refl
 gathered_kept s m n (Some (Inbox u)) = either_open (same_stage s u.consumer && m == n) (Gathered s) (Inbox u) refl refl
-gathered_kept s m n (Some (Waiting t)) = refl
-gathered_kept s m n (Some (Running t)) = refl
-gathered_kept s m n (Some (Gathered t)) = refl
-gathered_kept s m n (Some (InBatch b)) = refl
-gathered_kept s m n (Some (Acked o)) = refl
-gathered_kept s m n (Some (Lost l)) = refl
+gathered_kept s m n _ = refl
 
 closed_kept : (numbers : List ℕ) (s : StageNo) (b n : ℕ) (o : Option Place) → is_final (option_map (put_in_batch numbers s b n) o) ≡ is_final o
-closed_kept numbers s b n None = refl
 closed_kept numbers s b n (Some (Gathered t)) = either_open (same_stage s t && among numbers n) (InBatch (batch_no b)) (Gathered t) refl refl
-closed_kept numbers s b n (Some (Waiting t)) = refl
-closed_kept numbers s b n (Some (Inbox u)) = refl
-closed_kept numbers s b n (Some (Running t)) = refl
-closed_kept numbers s b n (Some (InBatch k)) = refl
-closed_kept numbers s b n (Some (Acked o)) = refl
-closed_kept numbers s b n (Some (Lost l)) = refl
+closed_kept numbers s b n _ = refl
 
 accepted_kept : (from count : ℕ) (s : StageNo) (n : ℕ) (o : Option Place) → is_final (accepted_to from count (Waiting s) n o) ≡ is_final o
 accepted_kept from count s n (Some p) = refl

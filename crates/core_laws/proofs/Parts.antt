@@ -19,7 +19,7 @@ use Rattle.pipe_types.specs.declared.step.Step.TheVariants.{Dispatch, Take, Clos
 use Rattle.pipe_types.specs.Dispatchers.{ByDemand, served_as, mark_of, goes, ahead, on_each, sends_from, sends_by_place, partition_of}
 use Rattle.pipe_types.specs.Numbers.{batch_no}
 use Rattle.pipe_types.specs.Rooms.{PartsDiffer}
-use Rattle.pipe_types.specs.Sound.{IsSound, is_ordered, may_begin, may_go_on, may_follow, is_next, batchers}
+use Rattle.pipe_types.specs.Sound.{IsSound, is_next}
 use Rattle.pipe_types.specs.Stages.{spec_of, feeds, option_feeds, role_feeds}
 use Rattle.pipe_model.specs.Batches.{Batch, BatchPlace, batch_sent, leg_taken, leg_answered, batch_on_legs, batch_killed}
 use Rattle.pipe_model.specs.Content.{content, key_in}
@@ -34,7 +34,7 @@ use Rattle.pipe_laws.proofs.Sounds.{sound_ascends}
 use Rattle.pipe_laws.proofs.Tests.{and_left, and_right}
 use Rattle.queue_laws.proofs.Drained.{waits_going}
 use Rattle.queue_laws.proofs.Laws.{holds_law}
-use Rattle.queue_laws.proofs.Sounds.{found_self}
+use Rattle.queue_laws.proofs.Sounds.{found_self, ToAllBehind, ordered_by}
 use Rattle.core_laws.specs.Columns.{closed_numbers, part_of, part_by, is_by_partition, is_broadcast}
 use Rattle.core_laws.proofs.Lawful.{each_all}
 
@@ -87,11 +87,8 @@ first_stands topology before t b legal waits =
 
 by_role : (topology : Topology) (before : History) (spec : StageSpec) (n : ℕ) (role : Role) → spec.role ≡ role
     → part_by topology before spec n ≡ partition_in before (view_of topology before) (Some spec) n
-by_role topology before spec n Producer e = rw e refl
 by_role topology before spec n Batcher e = rw e (ap (λ ns. partition_of (key_in (content before (first_in ns))) spec.parts) (closed_is topology before n))
-by_role topology before spec n Processor e = rw e refl
-by_role topology before spec n Supervisor e = rw e refl
-by_role topology before spec n BatchProcessor e = rw e refl
+by_role topology before spec n _ e = rw e refl
 
 -- where a stage dispatches by partition, the units that wait have the partitions by which it does
 pub part_is : (topology : Topology) (before : History) (o : Option StageSpec) (n : ℕ) → is_by_partition (kind_in o) ≡ true
@@ -195,39 +192,7 @@ next_later a b h = by_roles a.role b.role refl refl h
     by_roles Batcher Batcher ea eb h = step Batcher ea eb refl h
     by_roles Batcher BatchProcessor ea eb h = ranks Batcher BatchProcessor ea eb (omega arith)
     by_roles BatchProcessor BatchProcessor ea eb h = writers ea eb _ _ refl refl h
-    by_roles Producer Batcher ea eb h = cc
-    by_roles Producer BatchProcessor ea eb h = cc
-    by_roles Processor Producer ea eb h = cc
-    by_roles Processor Supervisor ea eb h = cc
-    by_roles Processor BatchProcessor ea eb h = cc
-    by_roles Supervisor Producer ea eb h = cc
-    by_roles Supervisor Processor ea eb h = cc
-    by_roles Supervisor Supervisor ea eb h = cc
-    by_roles Supervisor Batcher ea eb h = cc
-    by_roles Supervisor BatchProcessor ea eb h = cc
-    by_roles Batcher Producer ea eb h = cc
-    by_roles Batcher Processor ea eb h = cc
-    by_roles Batcher Supervisor ea eb h = cc
-    by_roles BatchProcessor Producer ea eb h = cc
-    by_roles BatchProcessor Processor ea eb h = cc
-    by_roles BatchProcessor Supervisor ea eb h = cc
-    by_roles BatchProcessor Batcher ea eb h = cc
-
-abbrev AllLater : List StageSpec → Type 0
-AllLater [] = Unit {0}
-AllLater (a ∷ specs) = Each (Later a) specs × AllLater specs
-
-go_on_later : (n : ℕ) (a : StageSpec) (specs : List StageSpec) → may_go_on n a specs ≡ true → AllLater (a ∷ specs)
-go_on_later n a [] h = (tt, tt)
-go_on_later n a (b ∷ specs) h =
-    let follows : may_follow a b ≡ true = and_left (may_follow a b) _ h in
-    let next : Later a b = next_later a b (and_right (b.no.0 == a.no.0 + 1) _ follows) in
-    let rest : AllLater (b ∷ specs) = go_on_later n b specs (and_right (may_follow a b) _ h) in
-    ((next, each_weaker (Later b) (Later a) (λ c q. later_again a b c next q) specs rest.0), rest)
-
-ordered_later : (specs : List StageSpec) → is_ordered specs ≡ true → AllLater specs
-ordered_later [] h = tt
-ordered_later (a ∷ specs) h = go_on_later (length (batchers (a ∷ specs))) a specs (and_right (may_begin a) _ h)
+    by_roles _ _ ea eb h = cc
 
 -- The consumers of a stage
 
@@ -240,19 +205,7 @@ group_fed Producer Processor pb cb h = refl
 group_fed Producer Supervisor pb cb h = refl
 group_fed Processor Batcher pb cb h = refl
 group_fed Batcher BatchProcessor pb cb h = sym (eqb-true pb cb h)
-group_fed Producer Producer pb cb h = cc
-group_fed Producer Batcher pb cb h = cc
-group_fed Producer BatchProcessor pb cb h = cc
-group_fed Processor Producer pb cb h = cc
-group_fed Processor Processor pb cb h = cc
-group_fed Processor Supervisor pb cb h = cc
-group_fed Processor BatchProcessor pb cb h = cc
-group_fed Supervisor c pb cb h = cc
-group_fed Batcher Producer pb cb h = cc
-group_fed Batcher Processor pb cb h = cc
-group_fed Batcher Supervisor pb cb h = cc
-group_fed Batcher Batcher pb cb h = cc
-group_fed BatchProcessor c pb cb h = cc
+group_fed _ _ pb cb h = cc
 
 fed_alike : (o : Option StageSpec) (a c : StageSpec) → option_feeds o (Some a) ≡ true → option_feeds o (Some c) ≡ true → group_of a.role a.batcher ≡ group_of c.role c.batcher
 fed_alike None a c h k = cc
@@ -301,7 +254,7 @@ others_above topology before t a (c ∷ specs) fa ea later known =
 
 -- the live subscriptions on a stage, by a function that makes rooms of them
 differ_from : (topology : Topology) (before : History) (t : StageNo) (f : SubNo → Room) → ((u : SubNo) → (f u).part ≡ index_at topology u) → (specs : List StageSpec)
-    → AllLater specs → Each (λ c. spec_of topology c.no ≡ Some c) specs → PartsDiffer (map f (live_subs_from topology before t specs))
+    → ToAllBehind Later specs → Each (λ c. spec_of topology c.no ≡ Some c) specs → PartsDiffer (map f (live_subs_from topology before t specs))
 differ_from topology before t f is [] later known = λ i j d lt below. absurd (omega arith)
 differ_from topology before t f is (c ∷ specs) later known =
     either (feeds topology t c.no && is_live topology before c.no) refl (differ_from topology before t f is specs later.1 known.1)
@@ -328,5 +281,5 @@ rooms_differ topology before s sound = either (is_live topology before s)
     either : (b : Bool) → PartsDiffer (map (λ u. record { sub = u; part = index_in (spec_of topology u.consumer); left = asked before u - sent topology before u }) (if b then live_subs_from topology before s topology.stages else []))
     either true =
         differ_from topology before s (λ u. record { sub = u; part = index_in (spec_of topology u.consumer); left = asked before u - sent topology before u }) (λ u. refl) topology.stages
-        (ordered_later topology.stages sound.ordered) (found_self 0 topology.stages (sound_ascends topology sound))
+        (ordered_by Later next_later later_again topology.stages sound.ordered) (found_self 0 topology.stages (sound_ascends topology sound))
     either false = λ i j d lt below. absurd (omega arith)

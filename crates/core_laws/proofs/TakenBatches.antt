@@ -1,13 +1,12 @@
 -- The batch that a batch processor took last, while other steps come.
-use Rattle.std.proofs.Common.{◌≡◌, ℕ, zero, suc, ◌+◌, ◌≤◌, List, [], ◌∷◌, length, Bool, true, false, refl, ap, sym, ◌∙◌, Some, None, Option, arith, take}
+use Rattle.std.proofs.Common.{◌≡◌, ℕ, zero, suc, ◌+◌, ◌≤◌, List, [], ◌∷◌, length, Bool, true, false, refl, ap, ◌∙◌, Some, arith, take}
 use Rattle.std.specs.Prelude.{if◌then◌else◌, ◌==◌, ◌&&◌, ◌||◌, not, filter}
 use Rattle.std.proofs.lemmas.Bool.{ne_eqb}
 use Rattle.pipe_types.specs.declared.numbers.StageNo.{StageNo}
 use Rattle.pipe_types.specs.declared.numbers.SubNo.{SubNo}
 use Rattle.pipe_types.specs.declared.topology.Topology.{Topology}
-use Rattle.pipe_types.specs.declared.topology.StageSpec.{StageSpec}
 use Rattle.pipe_types.specs.declared.topology.Role.{Role}
-use Rattle.pipe_types.specs.declared.topology.Role.TheVariants.{Producer, Processor, Supervisor, Batcher, BatchProcessor}
+use Rattle.pipe_types.specs.declared.topology.Role.TheVariants.{Processor, BatchProcessor}
 use Rattle.pipe_types.specs.declared.step.Step.{Step}
 use Rattle.pipe_types.specs.declared.step.Step.TheVariants.{Fetch, Take, Child, Close}
 use Rattle.pipe_types.specs.Numbers.{post, same_stage, same_sub}
@@ -19,48 +18,28 @@ use Rattle.pipe_model.specs.Posts.{is_out, puts_out, answers}
 use Rattle.pipe_model.specs.Standing.{in_inbox}
 use Rattle.pipe_model.specs.Taken.{closed_as}
 use Rattle.pipe_model.specs.Work.{taken_units}
-use Rattle.pipe_laws.proofs.Tests.{and_left, and_right, clash, same_stage-true}
+use Rattle.pipe_laws.proofs.Tests.{and_left, and_right, same_stage-true}
 use Rattle.pipe_laws.proofs.Lists.{Each, each_weaker, each_map}
 use Rattle.pipe_laws.proofs.Allowed.{legal_before, child_facts, fetch_role}
 use Rattle.pipe_laws.proofs.Busy.{two_roles}
 use Rattle.pipe_laws.proofs.Entries.{EntryFits, entries_fit, sent_exists}
-use Rattle.pipe_laws.proofs.Levels.{rank, rank_in, rank_of, feeds_down}
+use Rattle.pipe_laws.proofs.Levels.{rank, feeds_down}
 use Rattle.pipe_laws.proofs.Settled.{batch_closed}
 use Rattle.queue_laws.proofs.Apart.{each_kept}
 use Rattle.queue_laws.proofs.Roles.{rank_batcher}
+use Rattle.queue_laws.proofs.BatchWork.{writer_rank}
 use Rattle.core_laws.specs.Columns.{closed_numbers}
 use Rattle.core_laws.specs.Due.{taken_size, puts_job}
 
 -- Roles
 
--- batch processors stand at level 4
-level_three : (topology : Topology) (s : StageNo) → has_role topology s is_batch_processor_role ≡ true → rank topology s ≡ 3
-level_three topology s h = by_spec (spec_of topology s) refl
-  where
-    by_role : (role : Role) → is_batch_processor_role role ≡ true → rank_of role ≡ 3
-    by_role BatchProcessor e = refl
-    by_role Producer e = cc
-    by_role Processor e = cc
-    by_role Supervisor e = cc
-    by_role Batcher e = cc
-
-    by_spec : (o : Option StageSpec) → spec_of topology s ≡ o → rank_in o ≡ 3
-    by_spec None e = let none : has_role topology s is_batch_processor_role ≡ false = rw e refl in clash (has_role topology s is_batch_processor_role) h none
-    by_spec (Some spec) e = let yes : has_role topology s is_batch_processor_role ≡ is_batch_processor_role spec.role = rw e refl in by_role spec.role (sym yes ∙ h)
-
 writes_or_fetches : (role : Role) → is_batch_processor_role role ≡ true → is_producer_role role ≡ true → ⊥
-writes_or_fetches Producer h k = let x : false ≡ true = h in cc
-writes_or_fetches Processor h k = let x : false ≡ true = h in cc
-writes_or_fetches Supervisor h k = let x : false ≡ true = h in cc
-writes_or_fetches Batcher h k = let x : false ≡ true = h in cc
 writes_or_fetches BatchProcessor h k = let x : false ≡ true = k in cc
+writes_or_fetches _ h k = let x : false ≡ true = h in cc
 
 writes_or_starts : (role : Role) → is_batch_processor_role role ≡ true → is_supervisor_role role ≡ true → ⊥
-writes_or_starts Producer h k = let x : false ≡ true = h in cc
-writes_or_starts Processor h k = let x : false ≡ true = h in cc
-writes_or_starts Supervisor h k = let x : false ≡ true = h in cc
-writes_or_starts Batcher h k = let x : false ≡ true = h in cc
 writes_or_starts BatchProcessor h k = let x : false ≡ true = k in cc
+writes_or_starts _ h k = let x : false ≡ true = h in cc
 
 -- What was taken was closed
 
@@ -74,7 +53,7 @@ units_closed topology before s u role =
     low : (d : SubNo × ℕ) → EntryFits topology before s d → d.1 ≤ closed before
     low d fit =
         let down = feeds_down topology d.0.producer s fit.feeding in
-        let two : rank topology d.0.producer ≡ 2 = omega (arith, down, level_three topology s role) in
+        let two : rank topology d.0.producer ≡ 2 = omega (arith, down, writer_rank topology s role) in
         batch_closed topology before d.1 (sent_exists (batch topology before d.1) (fit.batched (rank_batcher (spec_of topology d.0.producer) two)))
 
 first_low : (n k : ℕ) (xs : List ℕ) → Each (λ x. x ≤ n) xs → first_in (take k xs) ≤ n

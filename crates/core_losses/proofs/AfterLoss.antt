@@ -99,11 +99,7 @@ module _ (core : Core) (step : Step) (killed : List (Option Why)) (x : Killing c
 final_stays : (why : StageNo → Option Why) (inc : StageNo → ℕ) (p : Place) → is_final (Some p) ≡ true → (place_lost why inc p ≡ p) × (place_loss why inc p ≡ None)
 final_stays why inc (Acked o) h = (refl, refl)
 final_stays why inc (Lost l) h = (refl, refl)
-final_stays why inc (Waiting s) h = cc
-final_stays why inc (Inbox u) h = cc
-final_stays why inc (Running s) h = cc
-final_stays why inc (Gathered s) h = cc
-final_stays why inc (InBatch b) h = cc
+final_stays why inc _ h = cc
 
 in_batch_stays : (why : StageNo → Option Why) (inc : StageNo → ℕ) (b : ℕ) (o : Option Batch) (n : ℕ) → (place_lost why inc (place_in_batch b o n) ≡ place_in_batch b o n) × (place_loss why inc (place_in_batch b o n) ≡ None)
 in_batch_stays why inc b None n = (refl, refl)

@@ -59,24 +59,12 @@ upto_end at why incarnation batch within b = by (batch b) refl
 
 -- places and marks by batches that are the same
 same_by : (f g : ℕ → Option Batch) (n : ℕ) (o : Option Place) → ((b : ℕ) → f b ≡ g b) → option_map (by_batch f n) o ≡ option_map (by_batch g n) o
-same_by f g n None h = refl
-same_by f g n (Some (Waiting t)) h = refl
-same_by f g n (Some (Inbox u)) h = refl
-same_by f g n (Some (Running t)) h = refl
-same_by f g n (Some (Gathered t)) h = refl
 same_by f g n (Some (InBatch b)) h = ap (λ o. Some (place_in_batch b.0 o n)) (h b.0)
-same_by f g n (Some (Acked x)) h = refl
-same_by f g n (Some (Lost l)) h = refl
+same_by f g n _ h = refl
 
 same_left : (f g : ℕ → Option Batch) (o : Option Place) → ((b : ℕ) → f b ≡ g b) → left_batch f o ≡ left_batch g o
-same_left f g None h = refl
-same_left f g (Some (Waiting t)) h = refl
-same_left f g (Some (Inbox u)) h = refl
-same_left f g (Some (Running t)) h = refl
-same_left f g (Some (Gathered t)) h = refl
 same_left f g (Some (InBatch b)) h = ap (λ o. not (in_progress o)) (h b.0)
-same_left f g (Some (Acked x)) h = refl
-same_left f g (Some (Lost l)) h = refl
+same_left f g _ h = refl
 
 -- a message in a batch in progress stays there
 stays_in : (b : BatchNo) (o : Option Batch) (n : ℕ) → in_progress o ≡ true → place_in_batch b.0 o n ≡ InBatch b
@@ -94,24 +82,12 @@ module _ (due : SubNo → ℕ → Option Loss) (why : StageNo → Option Why) (i
   places_start i = by (slice_get places i) refl ∙ sym (same_by (upto 0 why inc seen.batch) seen.batch (suc i) (slice_get places i) (upto_start why inc seen.batch none_first))
     where
       by : (o : Option Place) → slice_get places i ≡ o → o ≡ option_map (by_batch seen.batch (suc i)) o
-      by None e = refl
-      by (Some (Waiting t)) e = refl
-      by (Some (Inbox u)) e = refl
-      by (Some (Running t)) e = refl
-      by (Some (Gathered t)) e = refl
       by (Some (InBatch b)) e = ap Some (sym (stays_in b (seen.batch b.0) (suc i) (seen.inside i b e).0))
-      by (Some (Acked x)) e = refl
-      by (Some (Lost l)) e = refl
+      by _ e = refl
 
   unleft : (i : ℕ) (o : Option Place) → slice_get places i ≡ o → left_batch seen.batch o ≡ false
-  unleft i None e = refl
-  unleft i (Some (Waiting t)) e = refl
-  unleft i (Some (Inbox u)) e = refl
-  unleft i (Some (Running t)) e = refl
-  unleft i (Some (Gathered t)) e = refl
   unleft i (Some (InBatch b)) e = ap not (seen.inside i b e).0
-  unleft i (Some (Acked x)) e = refl
-  unleft i (Some (Lost l)) e = refl
+  unleft i _ e = refl
 
   pub marks_start : (marks : List ℕ) (mark i : ℕ) → slice_get marks i ≡ option_map {T = ℕ} {U = ℕ} (λ old. if left_batch (upto 0 why inc seen.batch) (slice_get places i) then mark else old) (slice_get marks i)
   marks_start marks mark i = by (slice_get marks i)

@@ -4,37 +4,34 @@ use Rattle.std.specs.Prelude.{slice_get, if◌then◌else◌, ◌&&◌, ◌||◌
 use Rattle.std.specs.declared.alloc.Global.{Global}
 use Rattle.std.specs.declared.collections.VecDeque.{VecDeque}
 use Rattle.std.proofs.lemmas.Bool.{eqb-true, eq-eqb, false_from_ne_true}
-use Rattle.std.proofs.lemmas.List.{length-map}
 use Rattle.pipe_types.specs.declared.numbers.StageNo.{StageNo}
 use Rattle.pipe_types.specs.declared.numbers.SubNo.{SubNo}
 use Rattle.pipe_types.specs.declared.topology.Topology.{Topology}
 use Rattle.pipe_types.specs.declared.topology.StageSpec.{StageSpec}
 use Rattle.pipe_types.specs.declared.topology.Role.{Role}
-use Rattle.pipe_types.specs.declared.topology.Role.TheVariants.{Producer, Processor, Supervisor, Batcher, BatchProcessor}
+use Rattle.pipe_types.specs.declared.topology.Role.TheVariants.{Processor, BatchProcessor}
 use Rattle.pipe_types.specs.declared.message.Why.{Why}
 use Rattle.pipe_types.specs.declared.message.Loss.{Loss}
 use Rattle.pipe_types.specs.declared.step.Step.{Step}
 use Rattle.pipe_types.specs.Numbers.{same_sub}
-use Rattle.pipe_types.specs.Sound.{IsSound}
 use Rattle.pipe_types.specs.Stages.{spec_of, feeds}
 use Rattle.pipe_model.specs.History.{History}
 use Rattle.pipe_model.specs.Lives.{reason_in, kill_set}
-use Rattle.pipe_model.specs.Batches.{Sent, Leg, LegPlace, InInbox, AtWork, Answered, LegLost}
+use Rattle.pipe_model.specs.Batches.{Sent, Leg, LegPlace, InInbox}
 use Rattle.pipe_model.specs.Flow.{among, batch, sent_to, inbox, leg_waits, leg_waits_in, is_batcher, first_in, in_inbox_by, place}
 use Rattle.pipe_model.specs.Legal.{is_legal, allows, has_role, is_batch_processor_role, is_current}
 use Rattle.pipe_model.specs.Standing.{has_entry, at_work, leg_works, leg_works_in, is_at_work, in_inbox}
 use Rattle.pipe_model.specs.Work.{taken_units}
 use Rattle.pipe_laws.proofs.Tests.{and_right, clash, same_sub-true, same_sub-self}
-use Rattle.pipe_laws.proofs.Lists.{Each, each_always, each_weaker, each_both, each_filter, each_map}
+use Rattle.pipe_laws.proofs.Lists.{Each, each_always, each_weaker, each_both, each_filter}
 use Rattle.pipe_laws.proofs.Entries.{EntryFits, entries_fit}
 use Rattle.pipe_laws.proofs.Levels.{rank, rank_of, rank_in, feeds_down}
 use Rattle.queue_laws.proofs.Roles.{batcher_rank, fed_spec}
-use Rattle.queue_laws.proofs.Apart.{Apart, apart_mapped}
+use Rattle.queue_laws.proofs.Apart.{Apart}
 use Rattle.queue_laws.proofs.OneLeg.{leg_to, legs_once, BatchOnce}
 use Rattle.queue_laws.proofs.Batched.{LegListed, BatchListed, batch_listed}
 use Rattle.queue_laws.proofs.Laws.{batch_stands_law}
 use Rattle.queue_laws.proofs.Sounds.{fits}
-use Rattle.stage_laws.proofs.Bounds.{few_numbers}
 use Rattle.stage_laws.proofs.Numbering.{numbered_topology}
 use Rattle.core_tables.specs.declared.rows.StageRow.{StageRow}
 use Rattle.core_tables.specs.declared.rows.PostRow.{PostRow}
@@ -48,6 +45,7 @@ use Rattle.core_deaths.proofs.Deaths.{killed_live}
 use Rattle.core_losses.specs.Losses.{incarnation_at, loss_in}
 use Rattle.core_losses.specs.Legs.{leg_due, leg_loss, loss_if, works_by, due_in, EachDue}
 use Rattle.core_losses.proofs.Working.{crash_owes, work_due}
+use Rattle.queue_laws.proofs.Writes.{of_entry}
 
 -- One leg for a consumer
 
@@ -57,15 +55,11 @@ waits_place _ = false
 
 skip_wait : (u v : SubNo) (p : LegPlace) (xs : List Leg) → same_sub u v ≡ false → leg_waits u (record { sub = v; place = p } ∷ xs) ≡ leg_waits u xs
 skip_wait u v InInbox xs e = ap (λ b. (b && true) || leg_waits u xs) e
-skip_wait u v AtWork xs e = ap (λ b. (b && false) || leg_waits u xs) e
-skip_wait u v (Answered os) xs e = ap (λ b. (b && false) || leg_waits u xs) e
-skip_wait u v (LegLost l) xs e = ap (λ b. (b && false) || leg_waits u xs) e
+skip_wait u v _ xs e = ap (λ b. (b && false) || leg_waits u xs) e
 
 own_wait : (u v : SubNo) (p : LegPlace) (xs : List Leg) → same_sub u v ≡ true → leg_waits u xs ≡ false → leg_waits u (record { sub = v; place = p } ∷ xs) ≡ waits_place p
 own_wait u v InInbox xs e h = ap (λ b. (b && true) || leg_waits u xs) e
-own_wait u v AtWork xs e h = ap (λ b. (b && false) || leg_waits u xs) e ∙ h
-own_wait u v (Answered os) xs e h = ap (λ b. (b && false) || leg_waits u xs) e ∙ h
-own_wait u v (LegLost l) xs e h = ap (λ b. (b && false) || leg_waits u xs) e ∙ h
+own_wait u v _ xs e h = ap (λ b. (b && false) || leg_waits u xs) e ∙ h
 
 -- subscriptions of other consumers differ
 other_sub : (u v : SubNo) → (u.consumer.0 == v.consumer.0) ≡ false → same_sub u v ≡ false
@@ -124,18 +118,6 @@ self_works (x ∷ xs) = (
 
 -- Entries
 
-pub of_entry : (P : SubNo × ℕ → Type 0) (u : SubNo) (n : ℕ) (xs : List (SubNo × ℕ)) → Each P xs → has_entry u n xs ≡ true → P (u, n)
-of_entry P u n [] each h = cc
-of_entry P u n (d ∷ xs) each h = either (same_sub d.0 u) refl (d.1 == n) refl h (of_entry P u n xs each.1)
-  where
-    either : (a : Bool) → same_sub d.0 u ≡ a → (b : Bool) → (d.1 == n) ≡ b → ((a && b) || has_entry u n xs) ≡ true → (has_entry u n xs ≡ true → P (u, n)) → P (u, n)
-    either true ea true eb k rest =
-        let sub : d.0 ≡ u = same_sub-true d.0 u ea in
-        let no-is : d.1 ≡ n = eqb-true d.1 n eb in
-        subst (λ (x : SubNo × ℕ). P x) (λ i. (sub i, no-is i)) each.0
-    either true ea false eb k rest = rest k
-    either false ea b eb k rest = rest k
-
 entry_among : (u : SubNo) (n : ℕ) (xs : List (SubNo × ℕ)) → has_entry u n xs ≡ true → among (map (λ d. d.1) xs) n ≡ true
 entry_among u n [] h = cc
 entry_among u n (d ∷ xs) h = either (same_sub d.0 u) (d.1 == n) h (entry_among u n xs)
@@ -168,11 +150,8 @@ writes topology p c batcher fed =
     by_spec (spec_of topology c) refl (omega (arith, up, down))
   where
     by_role : (r : Role) → rank_of r ≡ 3 → is_batch_processor_role r ≡ true
-    by_role Producer e = absurd (omega (arith, e))
-    by_role Processor e = absurd (omega (arith, e))
-    by_role Supervisor e = absurd (omega (arith, e))
-    by_role Batcher e = absurd (omega (arith, e))
     by_role BatchProcessor e = refl
+    by_role _ e = absurd (omega (arith, e))
 
     by_spec : (o : Option StageSpec) → spec_of topology c ≡ o → rank topology c ≡ 3 → has_role topology c is_batch_processor_role ≡ true
     by_spec None e h = let none : rank topology c ≡ rank_in None = ap rank_in e in absurd (omega (arith, h, none))
@@ -191,15 +170,11 @@ due_some rows posts inboxes why u b w e = rw e refl
 
 none_due : (p : LegPlace) → ◌≡◌ {A = Option Loss} None (due_in None p)
 none_due InInbox = refl
-none_due AtWork = refl
-none_due (Answered os) = refl
-none_due (LegLost l) = refl
+none_due _ = refl
 
 place_due : (i : ℕ) (s : StageNo) (w : Why) (p : LegPlace) → loss_if (waits_place p || is_at_work p) (loss_in i s (Some w)) ≡ due_in (loss_in i s (Some w)) p
 place_due i s w InInbox = refl
-place_due i s w AtWork = refl
-place_due i s w (Answered os) = refl
-place_due i s w (LegLost l) = refl
+place_due i s w _ = refl
 
 -- what is known of a kill
 pub record Killing (core : Core) (step : Step) (killed : List (Option Why)) : Type 0 where
@@ -299,17 +274,3 @@ legs_due core step killed b ms legs x some is =
     (each_both (LegListed core.topology core.journal.steps b) (λ l. (leg_waits l.sub legs ≡ waits_place l.place) × (OnlyWorks legs l × SelfWorks legs l)) legs listed
     (each_both (λ l. leg_waits l.sub legs ≡ waits_place l.place) (λ l. OnlyWorks legs l × SelfWorks legs l) legs (own_waits legs once)
     (each_both (OnlyWorks legs) (SelfWorks legs) legs (only_works legs once) (self_works legs)))))
-
--- a batch has no more legs than there are stages
-pub legs_few : (topology : Topology) (before : History) (b : ℕ) (ms : List ℕ) (legs : List Leg) → IsSound topology → is_legal topology before ≡ true → batch topology before b ≡ Some (record { numbers = ms; place = Sent legs }) → length legs ≤ 64
-legs_few topology before b ms legs sound h is =
-    let once : Apart leg_to legs = subst BatchOnce is (legs_once topology before b (fits topology sound) h) in
-    let listed : Each (LegListed topology before b) legs = subst (BatchListed topology before b) is (batch_listed topology before b h) in
-    let t = numbered_topology topology sound in
-    let within : Each (λ n. (1 ≤ n) × (n ≤ 64)) (map leg_to legs) =
-    each_map (λ n. (1 ≤ n) × (n ≤ 64)) leg_to legs
-    (each_weaker (LegListed topology before b) (λ leg. (1 ≤ leg_to leg) × (leg_to leg ≤ 64))
-    (λ leg l. let fit = of_entry (EntryFits topology before leg.sub.consumer) leg.sub b (sent_to topology before leg.sub.consumer) (entries_fit topology before leg.sub.consumer) l.entry in
-    let w = known_within topology leg.sub.consumer t (fed_spec topology leg.sub.producer leg.sub.consumer fit.feeding).1 in (w.0, omega (arith, w.1, t.few))) legs listed) in
-    let few = few_numbers 64 (map leg_to legs) (apart_mapped (λ n. n) leg_to legs once) within in
-    omega (arith, few, length-map legs leg_to)

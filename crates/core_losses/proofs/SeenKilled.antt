@@ -51,7 +51,8 @@ use Rattle.core_deaths.specs.Reasons.{reason_at}
 use Rattle.core_losses.specs.Losses.{incarnation_at, loss_in}
 use Rattle.core_losses.specs.Legs.{leg_due, leg_loss, AreDue}
 use Rattle.core_losses.specs.Batches.{or_loss, first_loss, drop_in, drop_due, drop_of, SeenRow, AreSeen}
-use Rattle.core_losses.proofs.Dues.{Killing, legs_due, legs_few, by_both}
+use Rattle.core_laws.proofs.LegsOn.{legs_few}
+use Rattle.core_losses.proofs.Dues.{Killing, legs_due, by_both}
 
 -- A dropped batch was sent on no subscription
 

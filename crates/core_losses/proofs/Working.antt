@@ -7,7 +7,7 @@ use Rattle.pipe_types.specs.declared.numbers.SubNo.{SubNo}
 use Rattle.pipe_types.specs.declared.topology.Topology.{Topology}
 use Rattle.pipe_types.specs.declared.topology.StageSpec.{StageSpec}
 use Rattle.pipe_types.specs.declared.topology.Role.{Role}
-use Rattle.pipe_types.specs.declared.topology.Role.TheVariants.{Producer, Processor, Supervisor, Batcher, BatchProcessor}
+use Rattle.pipe_types.specs.declared.topology.Role.TheVariants.{Producer}
 use Rattle.pipe_types.specs.declared.message.Why.{Why}
 use Rattle.pipe_types.specs.declared.message.Why.TheVariants.{Crash, Kill as KillWhy, Stop, Cancelled, Limit}
 use Rattle.pipe_types.specs.declared.message.BatchEnd.TheVariants.{Outcomes, Crashed as BatchCrashed}
@@ -88,10 +88,7 @@ roles_differ topology s one other = by_spec (spec_of topology s) refl
   where
     by_role : (r : Role) → is_processor_role r ≡ true → is_batch_processor_role r ≡ true → ⊥
     by_role Producer a b = cc
-    by_role Processor a b = cc
-    by_role Supervisor a b = cc
-    by_role Batcher a b = cc
-    by_role BatchProcessor a b = cc
+    by_role _ a b = cc
 
     by_spec : (o : Option StageSpec) → spec_of topology s ≡ o → ⊥
     by_spec None e = let none : has_role topology s is_processor_role ≡ false = rw e refl in clash (has_role topology s is_processor_role) one none
@@ -131,10 +128,7 @@ crash_owes topology before step c w legal allowed k role e = ap is_crash_in (sym
         either : (b : Bool) → is_crash_in (if b then Some Crash else None) ≡ b
         either true = refl
         either false = refl
-    wrote t s KillWhy h = cc
-    wrote t s Stop h = cc
-    wrote t s (Cancelled u) h = cc
-    wrote t s Limit h = cc
+    wrote t s _ h = cc
 
     by : (before : History) (step : Step) → is_killing step ≡ true → is_legal topology before ≡ true → passes (owed topology before) step (may_come topology before step) ≡ true
         → is_crash_in (reason_in (kill_set topology before step) c) ≡ owes_write before c
@@ -157,9 +151,7 @@ crash_owes topology before step c w legal allowed k role e = ap is_crash_in (sym
       where
         calm : (before : History) → passes (owed topology before) Halt (may_come topology before Halt) ≡ true → false ≡ owes_write before c
         calm (Wrote t bytes BatchCrashed ∷ old) h = cc
-        calm (Wrote t bytes (Outcomes outcomes) ∷ old) h = refl
-        calm [] h = refl
-        calm (_ ∷ old) h = refl
+        calm _ h = refl
     by before _ k legal h = cc
 
 -- What a batch processor took is one batch at most
@@ -225,8 +217,6 @@ work_due topology before c b sound h role live some = by before h live (owes_wri
 
         not_owing : (old : History) → is_legal topology old ≡ true → is_current old t 0 ≡ true → allows topology old (Wrote t bytes BatchCrashed) ≡ true → owes_write old c ≡ false
         not_owing (Wrote v more BatchCrashed ∷ rest) h now allowed = let no-way = and_right (not (happened is_halt (Wrote v more BatchCrashed ∷ rest)) || false) _ allowed in cc
-        not_owing (Wrote v more (Outcomes os) ∷ rest) h now allowed = refl
-        not_owing [] h now allowed = refl
-        not_owing (_ ∷ rest) h now allowed = refl
+        not_owing _ h now allowed = refl
     by before h live false e = calm before h live e
     by before h live true e = cc

@@ -15,6 +15,7 @@ use Rattle.pipe_journal.specs.Recorded.{Recorded}
 use Rattle.core_tables.specs.declared.rows.Totals.{Totals}
 use Rattle.core_state.specs.declared.state.Core.{Core}
 use Rattle.core_state.specs.Stands.{Fields}
+use Rattle.core_state.proofs.Parts.{Part, TotalsAre, Says, unchanged, fields_of}
 
 -- a control line that begins the drain is one of those that may be read
 pub lines_few : (topology : Topology) (before : History) (cause : DrainCause) → allows topology before (Drain cause) ≡ true → cause ≡ Control → controls before < 10000
@@ -27,43 +28,8 @@ lines_few topology before cause h is =
 pub began_fields : (core : Core) (topology : Topology) (before : History) (cause : DrainCause) (j : Recorded)
     → Fields core topology before
     → Fields (record core { journal = j; totals = record core.totals { controls = controls_after (Drain cause) core.totals.controls; quiet = 0; draining = true } }) topology (Drain cause ∷ before)
-began_fields core topology before cause j x =
-    record {
-      sized =
-          record {
-            few = x.sized.few;
-            stages = x.sized.stages;
-            posts = x.sized.posts;
-            came = x.sized.came;
-            waiting = x.sized.waiting;
-            inboxes = x.sized.inboxes;
-            chunks = x.sized.chunks;
-            batchers = x.sized.batchers;
-            children = x.sized.children;
-            places = x.sized.places;
-            settled = x.sized.settled;
-            producers = x.sized.producers;
-            contents = x.sized.contents;
-            batches = x.sized.batches;
-            ends = x.sized.ends;
-          };
-      set = record { batchers = x.set.batchers; children = x.set.children; restarts = x.set.restarts };
-      stages = x.stages;
-      posts = x.posts;
-      came = x.came;
-      subs = x.subs;
-      waiting = x.waiting;
-      inboxes = x.inboxes;
-      chunks = x.chunks;
-      opens = x.opens;
-      children = x.children;
-      places = x.places;
-      settled = x.settled;
-      producers = x.producers;
-      contents = x.contents;
-      batches = x.batches;
-      sent_on = x.sent_on;
-      legs = x.legs;
-      restarts = x.restarts;
-      totals = ap (λ (y : Totals). record y { controls = controls_after (Drain cause) y.controls; quiet = 0; draining = true }) x.totals;
-    }
+began_fields core topology before cause j x = fields_of says
+  where
+    says : (it : Part) → Says it (record core { journal = j; totals = record core.totals { controls = controls_after (Drain cause) core.totals.controls; quiet = 0; draining = true } }) topology (Drain cause ∷ before)
+    says TotalsAre = ap (λ (y : Totals). record y { controls = controls_after (Drain cause) y.controls; quiet = 0; draining = true }) x.totals
+    says it = unchanged x it

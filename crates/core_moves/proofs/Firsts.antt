@@ -31,6 +31,7 @@ use Rattle.core_batches.proofs.Closing.{IsHeld, held_by, trigger_is}
 use Rattle.core_tables.specs.declared.rows.Totals.{Totals}
 use Rattle.core_state.specs.declared.state.Core.{Core}
 use Rattle.core_state.specs.Stands.{Stands}
+use Rattle.core_rows.proofs.Fetched.{role_is}
 use Rattle.core_rows.proofs.Known.{row_within}
 
 -- the close of a batch that begins with the message, where a trigger holds
@@ -258,6 +259,15 @@ gathered_role topology before s legal some = by (gathers before s) some (gathers
     by : (ns : List ℕ) → is_empty (filter (λ n. is_gathered_in s (place topology before n)) ns) ≡ false → Each (λ n. has_role topology s is_batcher_role ≡ true) ns → has_role topology s is_batcher_role ≡ true
     by [] h each = cc
     by (n ∷ ns) h each = each.0
+
+-- only a batcher has
+pub none_elsewhere : (topology : Topology) (before : History) (spec : StageSpec) → spec_of topology spec.no ≡ Some spec → is_legal topology before ≡ true → is_batcher_role spec.role ≡ false
+    → is_empty (gathered_in topology before spec.no) ≡ true
+none_elsewhere topology before spec there legal other = by (is_empty (gathered_in topology before spec.no)) refl
+  where
+    by : (b : Bool) → is_empty (gathered_in topology before spec.no) ≡ b → is_empty (gathered_in topology before spec.no) ≡ true
+    by true e = e
+    by false e = clash (has_role topology spec.no is_batcher_role) (gathered_role topology before spec.no legal e) (role_is topology spec is_batcher_role there ∙ other)
 
 pub held_here : (core : Core) (spec : StageSpec) (held : Batches) → Stands core → spec_of core.topology spec.no ≡ Some spec → held ≡ get_or core.batchers.items spec.no.0 held → IsHeld core spec.no held
 held_here core spec held x there read =

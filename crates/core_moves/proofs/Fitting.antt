@@ -1,5 +1,5 @@
 -- What a batcher may gather.
-use Rattle.std.proofs.Common.{◌≡◌, ℕ, List, length, refl, ap, sym, Bool, true, Some, ◌∙◌, arith, get_or}
+use Rattle.std.proofs.Common.{◌≡◌, ℕ, List, length, refl, ap, sym, Bool, true, false, Some, ◌∙◌, arith, get_or}
 use Rattle.std.specs.Prelude.{◌&&◌, ◌==◌, not, nat_lt, nat_le, slice_get}
 use Rattle.std.proofs.lemmas.Bool.Decides.{nat_tests}
 use Rattle.std.proofs.lemmas.Option.{slice_get_read}
@@ -54,3 +54,15 @@ gather_now topology before spec there =
 
     by : (l r o q h s : Bool) → h ≡ r → s ≡ true → (l && (r && (o && q))) ≡ (l && (h && (o && (s && q))))
     by l r o q h s i k = ap (λ x. l && (x && (o && (true && q)))) (sym i) ∙ ap (λ x. l && (h && (o && (x && q)))) (sym k)
+
+-- a stage that is no batcher gathers nothing
+pub gather_elsewhere : (topology : Topology) (before : History) (spec : StageSpec) → spec_of topology spec.no ≡ Some spec → is_batcher_role spec.role ≡ false
+    → false ≡ may_gather topology before spec.no (first_unit (inbox topology before spec.no))
+gather_elsewhere topology before spec there other =
+    let n : ℕ = first_unit (inbox topology before spec.no) in
+    let rest : Bool = nat_le 1 n && (has_room topology before spec.no && lets_in topology before spec.no (open_batch_by before (view_of topology before) spec.no (key_in (content before n)))) in
+    by (is_live topology before spec.no) (is_batcher_role spec.role) rest other ∙ gather_now topology before spec there
+  where
+    by : (l r q : Bool) → r ≡ false → false ≡ (l && (r && q))
+    by true r q h = ap (λ b. b && q) (sym h)
+    by false r q h = refl

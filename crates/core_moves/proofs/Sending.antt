@@ -322,3 +322,27 @@ dispatch_is topology before spec sound there live =
 pub dispatch_dead : (topology : Topology) (before : History) (s : StageNo) → is_live topology before s ≡ false → false ≡ may_dispatch topology before s
 dispatch_dead topology before s dead =
     ap (λ b. b && (not (is_empty (deliveries topology before s)) || (not (is_empty (alone topology before s)) || not (is_empty (lost_over topology before (view_of topology before) s))))) (sym dead)
+
+-- where nothing waits nothing is sent, served or lost
+
+none_over : (size : Option ℕ) (ns : List ℕ) → is_empty ns ≡ true → false ≡ (is_over size (length ns) || false)
+none_over None [] h = refl
+none_over (Some size) [] h = grind (arith, nat_tests)
+none_over size (n ∷ ns) h = cc
+
+pub dispatch_empty : (topology : Topology) (before : History) (spec : StageSpec) → IsSound topology → spec_of topology spec.no ≡ Some spec → is_empty (waiting topology before spec.no) ≡ true
+    → false ≡ may_dispatch topology before spec.no
+dispatch_empty topology before spec sound there none = by (is_live topology before spec.no) refl
+  where
+    kind : Serving
+    kind = served_as spec.dispatch (picks_by topology before (view_of topology before))
+
+    rooms : List Room
+    rooms = rooms_by topology before (view_of topology before) spec.no
+
+    by : (b : Bool) → is_live topology before spec.no ≡ b → false ≡ may_dispatch topology before spec.no
+    by true live =
+        none_over spec.size (waiting topology before spec.no) none
+        ∙ (ap (λ b. is_over spec.size (length (waiting topology before spec.no)) || b) (none_wait topology before spec.no kind rooms none)
+        ∙ dispatch_is topology before spec sound there live)
+    by false dead = dispatch_dead topology before spec.no dead

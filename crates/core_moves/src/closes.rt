@@ -1,17 +1,18 @@
 //! The first open batch that may close.
 
-ghost use Rattle.std.specs.Prelude.{◌≡◌, Some, option_map};
+ghost use Rattle.std.specs.Prelude.{◌≡◌, true, Some, option_map};
 ghost use Rattle.pipe_types.specs.Stages.{spec_of};
+ghost use Rattle.pipe_model.specs.Legal.{is_batcher_role};
 ghost use Rattle.pipe_model.specs.Moves.{closable, first_closable};
 ghost use Rattle.pipe_model.specs.Standing.{gathered_in};
 ghost use Rattle.core_state.specs.Stands.{Stands};
 ghost use Rattle.core_moves.specs.Closes.{closing_move};
 
-use core_rows::rests::{is_dry, is_gathered_empty};
+use core_rows::rests::is_dry;
 use core_state::Core;
 use pipe_types::message::Trigger;
 use pipe_types::numbers::{MsgNo, StageNo};
-use pipe_types::topology::StageSpec;
+use pipe_types::topology::{Role, StageSpec};
 
 /// An open batch that may close: its batcher, its first message, and the trigger that holds.
 #[derive(Clone, Copy, PartialEq, Eq)]
@@ -34,15 +35,31 @@ pub fn first_closing(core: &Core) -> Option<Closing>
     None
 }
 
-/// The first open batch of the stage that may close.
+/// The first open batch of the stage that may close, where the stage is a batcher.
 fn closing_in(core: &Core, spec: &StageSpec) -> Option<Closing>
     requires stands { Stands core.now }
     requires there { spec_of core.now.topology spec.now.no ≡ Some spec.now }
     ensures { option_map closing_move result ≡ first_closable core.now.topology core.now.journal.steps spec.now.no (gathered_in core.now.topology core.now.journal.steps spec.now.no) }
 {
-    if is_gathered_empty(core, spec.no) {
-        return None;
+    if is_batcher(spec.role) {
+        return closing_of(core, spec);
     }
+    None
+}
+
+fn is_batcher(role: Role) -> bool
+    ensures { result ≡ is_batcher_role role }
+{
+    matches!(role, Role::Batcher)
+}
+
+/// The first open batch of the batcher that may close.
+fn closing_of(core: &Core, spec: &StageSpec) -> Option<Closing>
+    requires stands { Stands core.now }
+    requires there { spec_of core.now.topology spec.now.no ≡ Some spec.now }
+    requires batcher { is_batcher_role spec.now.role ≡ true }
+    ensures { option_map closing_move result ≡ first_closable core.now.topology core.now.journal.steps spec.now.no (gathered_in core.now.topology core.now.journal.steps spec.now.no) }
+{
     let dry = is_dry(core, spec.no);
     match core.batchers[spec.no.0 as usize].closable(core.totals.now, dry) {
         Some(found) => Some(Closing {

@@ -1,6 +1,6 @@
 //! Whether a dispatch of a stage sends, serves or loses anything.
 
-ghost use Rattle.std.specs.Prelude.{◌≡◌, ◌&&◌, ◌||◌, ◌==◌, not, Some, true, length, map, slice_get, is_some, option_copied, ◌≤◌};
+ghost use Rattle.std.specs.Prelude.{◌≡◌, ◌&&◌, ◌||◌, ◌==◌, not, Some, true, length, map, slice_get, is_some, option_map, ◌≤◌};
 ghost use Rattle.std.specs.List.{list_any, list_all};
 ghost use Rattle.pipe_types.specs.declared.topology.Dispatch.TheVariants.{Broadcast, Partition};
 ghost use Rattle.pipe_types.specs.Dispatchers.{ByDemand, ByBroadcast, ByPartition, served_as};
@@ -9,6 +9,7 @@ ghost use Rattle.pipe_model.specs.Lives.{is_live};
 ghost use Rattle.pipe_model.specs.Content.{key_in};
 ghost use Rattle.pipe_model.specs.Flow.{is_empty, batch, batch_waits_in, waiting, rooms_by, picks_by, view_of};
 ghost use Rattle.pipe_model.specs.Legal.{may_dispatch};
+ghost use Rattle.pipe_journal.specs.Items.{message_seen};
 ghost use Rattle.core_tables.specs.Tables.{items_in};
 ghost use Rattle.core_laws.specs.Columns.{waiting_parts};
 ghost use Rattle.core_state.specs.Stands.{Stands};
@@ -21,15 +22,27 @@ use core_rows::rooms::waiting_len;
 use core_sends::picks::{does_pick, first_message};
 use core_sends::rooms::room;
 use core_state::Core;
-use pipe_types::message::Message;
+use pipe_journal::MessageView;
 use pipe_types::numbers::StageNo;
 use pipe_types::room::Room;
 use pipe_types::topology::{Dispatch, StageSpec, Topology};
 use std::collections::VecDeque;
 
 /// Whether the stage is live, and its dispatch sends something, serves a batch that nobody picks, or loses what is over the
-/// size of its buffer.
+/// size of its buffer. Where nothing waits it does none of these.
 pub fn may_dispatch(core: &Core, spec: &StageSpec) -> bool
+    requires stands { Stands core.now }
+    requires there { spec_of core.now.topology spec.now.no ≡ Some spec.now }
+    ensures { result ≡ may_dispatch core.now.topology core.now.journal.steps spec.now.no }
+{
+    if is_waiting_empty(core, spec.no) {
+        return false;
+    }
+    may_dispatch_some(core, spec)
+}
+
+/// The same, whatever waits.
+fn may_dispatch_some(core: &Core, spec: &StageSpec) -> bool
     requires stands { Stands core.now }
     requires there { spec_of core.now.topology spec.now.no ≡ Some spec.now }
     ensures { result ≡ may_dispatch core.now.topology core.now.journal.steps spec.now.no }
@@ -137,12 +150,12 @@ fn first_of(queues: &[VecDeque<(u32, u32)>], at: usize) -> Option<u32>
 }
 
 /// Whether the stage has live subscribers, and each that picks batches of the message's key has open demand.
-fn lets_in_all(core: &Core, spec: &StageSpec, message: Option<&Message>) -> bool
+fn lets_in_all(core: &Core, spec: &StageSpec, message: Option<MessageView<'_>>) -> bool
     requires stands { Stands core.now }
     requires there { spec_of core.now.topology spec.now.no ≡ Some spec.now }
     requires live { is_live core.now.topology core.now.journal.steps spec.now.no ≡ true }
     ensures { result ≡ (list_any (λ c. is_some (room_between core.now.topology core.now.journal.steps spec.now.no c.no)) core.now.topology.stages
-        && list_all (λ c. not (is_held_in (picks_key core.now.topology (key_in (option_copied message.entry))) (room_between core.now.topology core.now.journal.steps spec.now.no c.no))) core.now.topology.stages) }
+        && list_all (λ c. not (is_held_in (picks_key core.now.topology (key_in (option_map message_seen message.entry))) (room_between core.now.topology core.now.journal.steps spec.now.no c.no))) core.now.topology.stages) }
 {
     has_subscriber(core, spec) && is_none_held(core, spec, message)
 }
@@ -189,11 +202,11 @@ fn has_subscriber(core: &Core, producer: &StageSpec) -> bool
     false
 }
 
-fn is_none_held(core: &Core, producer: &StageSpec, message: Option<&Message>) -> bool
+fn is_none_held(core: &Core, producer: &StageSpec, message: Option<MessageView<'_>>) -> bool
     requires stands { Stands core.now }
     requires from { spec_of core.now.topology producer.now.no ≡ Some producer.now }
     requires live { is_live core.now.topology core.now.journal.steps producer.now.no ≡ true }
-    ensures { result ≡ list_all (λ c. not (is_held_in (picks_key core.now.topology (key_in (option_copied message.entry))) (room_between core.now.topology core.now.journal.steps producer.now.no c.no))) core.now.topology.stages }
+    ensures { result ≡ list_all (λ c. not (is_held_in (picks_key core.now.topology (key_in (option_map message_seen message.entry))) (room_between core.now.topology core.now.journal.steps producer.now.no c.no))) core.now.topology.stages }
 {
     for spec in core.topology.stages.as_slice() {
         if is_held(&core.topology, room(core, producer, spec), message) {
@@ -257,8 +270,8 @@ fn is_open(room: Option<Room>) -> bool
 }
 
 /// Whether there is a room that picks batches of the message's key, and nothing was asked for there that is not sent.
-fn is_held(topology: &Topology, room: Option<Room>, message: Option<&Message>) -> bool
-    ensures { result ≡ is_held_in (picks_key topology.now (key_in (option_copied message.entry))) room }
+fn is_held(topology: &Topology, room: Option<Room>, message: Option<MessageView<'_>>) -> bool
+    ensures { result ≡ is_held_in (picks_key topology.now (key_in (option_map message_seen message.entry))) room }
 {
     match room {
         Some(room) => does_pick(topology, room.sub, message) && room.left == 0,

@@ -1,11 +1,11 @@
 //! Whether a batcher may gather what stands first in its inbox.
 
-ghost use Rattle.std.specs.Prelude.{◌≡◌, ◌≤◌, ◌-◌, ◌&&◌, nat_le, Some, slice_get, option_copied};
+ghost use Rattle.std.specs.Prelude.{◌≡◌, ◌≤◌, ◌-◌, ◌&&◌, nat_le, Some, slice_get};
 ghost use Rattle.pipe_types.specs.Stages.{spec_of};
 ghost use Rattle.pipe_model.specs.Content.{key_in, content};
 ghost use Rattle.pipe_model.specs.Lives.{is_live};
 ghost use Rattle.pipe_model.specs.Flow.{inbox, open_batch_by, view_of};
-ghost use Rattle.pipe_model.specs.Legal.{may_gather, lets_in, first_unit as first_number};
+ghost use Rattle.pipe_model.specs.Legal.{may_gather, lets_in, is_batcher_role, first_unit as first_number};
 ghost use Rattle.batcher.specs.Batches.{fits as key_fits};
 ghost use Rattle.core_tables.specs.Tables.{items_in};
 ghost use Rattle.core_state.specs.Stands.{Stands};
@@ -28,7 +28,16 @@ pub(crate) fn may_gather_first(core: &Core, spec: &StageSpec) -> bool
     requires there { spec_of core.now.topology spec.now.no ≡ Some spec.now }
     ensures { result ≡ may_gather core.now.topology core.now.journal.steps spec.now.no (first_number (inbox core.now.topology core.now.journal.steps spec.now.no)) }
 {
-    is_gather_next(core, spec)
+    if is_batcher(spec.role) {
+        return is_gather_next(core, spec);
+    }
+    false
+}
+
+fn is_batcher(role: Role) -> bool
+    ensures { result ≡ is_batcher_role role }
+{
+    matches!(role, Role::Batcher)
 }
 
 fn is_gather_next(core: &Core, spec: &StageSpec) -> bool
@@ -45,7 +54,7 @@ fn is_gather_next(core: &Core, spec: &StageSpec) -> bool
 }
 
 /// The first unit of the stage's inbox, and 0 where that is empty.
-pub(crate) fn first_unit(core: &Core, stage: StageNo) -> u32
+pub fn first_unit(core: &Core, stage: StageNo) -> u32
     requires stands { Stands core.now }
     ensures { result ≡ first_number (inbox core.now.topology core.now.journal.steps stage) }
 {
@@ -81,7 +90,7 @@ fn fits(held: &Batcher, journal: &Journal, row: Option<ContentRow>) -> bool
     ensures { result ≡ key_fits held.now.batch_size (key_in (passed_by journal.now.steps row)) held.now.batches }
 {
     match message_at(journal, row) {
-        Some(message) => held.fits(message.key.as_slice()),
+        Some(message) => held.fits(message.key),
         None => held.fits(&[]),
     }
 }

@@ -36,6 +36,7 @@ use Rattle.core_state.proofs.Ending.{row_changed}
 use Rattle.stage_laws.proofs.Numbering.{numbered_topology}
 use Rattle.core_restarts.specs.Renewals.{restarted, live_upto, begins, renewed, IsClosed, AreRenewed}
 use Rattle.core_restarts.proofs.Unbegun.{unasked, unsent, unhandled, generation_room}
+use Rattle.core_state.proofs.Parts.{Part, RestartsAre, RestartsSet, StagesAre, StagesLen, SubsAre, TotalsAre, Says, unchanged, fields_of}
 
 -- Which stages live then
 
@@ -240,48 +241,18 @@ pub restarted_fields : (core : Core) (topology : Topology) (before : History) (s
     → ((l : ℕ) → option_map limit_seen (slice_get limits.items l) ≡ option_map limit_seen (slice_get core.restarts.items l))
     → ((l : ℕ) (limit : RestartLimit) → slice_get limits.items l ≡ Some limit → Remembers limit (if limit_of topology s == l then core.totals.now ∷ restart_times topology before l else restart_times topology before l))
     → Fields (record core { journal = j; stages = rows; subs = subs; restarts = limits; totals = record core.totals { quiet = 0 } }) topology (Restart s ∷ before)
-restarted_fields core topology before s j rows subs limits x changed len pairs same known =
-    record {
-      sized =
-          record {
-            few = x.sized.few;
-            stages = len ∙ x.sized.stages;
-            posts = x.sized.posts;
-            came = x.sized.came;
-            waiting = x.sized.waiting;
-            inboxes = x.sized.inboxes;
-            chunks = x.sized.chunks;
-            batchers = x.sized.batchers;
-            children = x.sized.children;
-            places = x.sized.places;
-            settled = x.sized.settled;
-            producers = x.sized.producers;
-            contents = x.sized.contents;
-            batches = x.sized.batches;
-            ends = x.sized.ends;
-          };
-      set = record { batchers = x.set.batchers; children = x.set.children; restarts = λ l. same l ∙ x.set.restarts l };
-      stages = λ t within. changed t.0 ∙ (row_changed restarted core.stages.items s t (stage_row topology before t) (x.stages t within) ∙ ap Some (by (s.0 == t.0) t (flip t.0 s.0)));
-      posts = x.posts;
-      came = x.came;
-      subs = pairs;
-      waiting = x.waiting;
-      inboxes = x.inboxes;
-      chunks = x.chunks;
-      opens = x.opens;
-      children = x.children;
-      places = x.places;
-      settled = x.settled;
-      producers = x.producers;
-      contents = x.contents;
-      batches = x.batches;
-      sent_on = x.sent_on;
-      legs = x.legs;
-      restarts = λ l limit at. subst (λ (n : ℕ). Remembers limit (if limit_of topology s == l then n ∷ restart_times topology before l else restart_times topology before l))
-          (ap (λ (y : Totals). y.now) x.totals) (known l limit at);
-      totals = ap (λ (y : Totals). record y { quiet = 0 }) x.totals;
-    }
+restarted_fields core topology before s j rows subs limits x changed len pairs same known = fields_of says
   where
     by : (b : Bool) (t : StageNo) → (t.0 == s.0) ≡ b → (if b then restarted (stage_row topology before t) else stage_row topology before t) ≡ stage_row topology (Restart s ∷ before) t
     by true t e = ap (λ b. record (stage_row topology before t) { dead = death_after None b (death topology before t); incarnation = if b then incarnation before t + 1 else incarnation before t }) (sym e)
     by false t e = ap (λ b. record (stage_row topology before t) { dead = death_after None b (death topology before t); incarnation = if b then incarnation before t + 1 else incarnation before t }) (sym e)
+
+    says : (it : Part) → Says it (record core { journal = j; stages = rows; subs = subs; restarts = limits; totals = record core.totals { quiet = 0 } }) topology (Restart s ∷ before)
+    says StagesLen = len ∙ x.sized.stages
+    says RestartsSet = λ l. same l ∙ x.set.restarts l
+    says StagesAre = λ t within. changed t.0 ∙ (row_changed restarted core.stages.items s t (stage_row topology before t) (x.stages t within) ∙ ap Some (by (s.0 == t.0) t (flip t.0 s.0)))
+    says SubsAre = pairs
+    says RestartsAre = λ l limit at. subst (λ (n : ℕ). Remembers limit (if limit_of topology s == l then n ∷ restart_times topology before l else restart_times topology before l))
+        (ap (λ (y : Totals). y.now) x.totals) (known l limit at)
+    says TotalsAre = ap (λ (y : Totals). record y { quiet = 0 }) x.totals
+    says it = unchanged x it

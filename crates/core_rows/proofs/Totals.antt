@@ -1,5 +1,5 @@
 -- What is counted over all stages is counted of the journal.
-use Rattle.std.proofs.Common.{◌≡◌, true, false, ap, sym, ◌∙◌}
+use Rattle.std.proofs.Common.{◌≡◌, Bool, true, false, refl, ap, sym, ◌∙◌}
 use Rattle.std.specs.Prelude.{◌&&◌, not}
 use Rattle.pipe_types.specs.declared.numbers.StageNo.{StageNo}
 use Rattle.pipe_types.specs.declared.topology.Topology.{Topology}
@@ -21,12 +21,24 @@ draining_is core x = ap (λ (y : Totals). y.draining) x.fields.totals
 pub halted_is : (core : Core) → Holds core → core.totals.halted ≡ happened is_halt core.journal.steps
 halted_is core x = ap (λ (y : Totals). y.halted) x.fields.totals
 
--- where it drains and no job is out, it is drained once nothing is left
-pub drained_by : (topology : Topology) (before : History) → IsSound topology → is_legal topology before ≡ true → happened is_drain before ≡ true → jobs_out topology before ≡ false
-    → all_clear topology before ≡ is_drained topology before
-drained_by topology before sound legal draining home =
-    sym (drained_law topology before sound legal
-    ∙ (ap (λ d. d && (not (jobs_out topology before) && all_clear topology before)) draining ∙ ap (λ j. not j && all_clear topology before) home))
+-- where it drains, it is drained once nothing is left and no job is out; what is left matters only then
+pub drained_if : (topology : Topology) (before : History) → IsSound topology → is_legal topology before ≡ true → happened is_drain before ≡ true
+    → (bare : Bool) → (jobs_out topology before ≡ false → bare ≡ all_clear topology before) → (bare && not (jobs_out topology before)) ≡ is_drained topology before
+drained_if topology before sound legal draining bare is =
+    by (jobs_out topology before) refl
+    ∙ sym (drained_law topology before sound legal ∙ ap (λ d. d && (not (jobs_out topology before) && all_clear topology before)) draining)
+  where
+    never : (b : Bool) → (b && false) ≡ false
+    never true = refl
+    never false = refl
+
+    always : (b : Bool) → (b && true) ≡ b
+    always true = refl
+    always false = refl
+
+    by : (j : Bool) → jobs_out topology before ≡ j → (bare && not j) ≡ (not j && all_clear topology before)
+    by true out = never bare
+    by false home = always bare ∙ is home
 
 -- where it drains and no fetch is out, a batcher is dry once nothing is left above it
 pub dry_by : (topology : Topology) (before : History) (b : StageNo) → IsSound topology → is_legal topology before ≡ true → has_role topology b is_batcher_role ≡ true

@@ -7,7 +7,6 @@ ghost use Rattle.pipe_model.specs.Moves.{all_subs, subs_into};
 ghost use Rattle.core_state.specs.Stands.{Stands};
 ghost use Rattle.core_rows.specs.Rows.{is_due, due_between, sub_if_due};
 
-use crate::rows::takes_from;
 use core_state::Core;
 use pipe_types::numbers::SubNo;
 use pipe_types::topology::StageSpec;
@@ -50,7 +49,7 @@ fn due_on_pair(core: &Core, consumer: &StageSpec, producer: &StageSpec) -> Optio
     requires from { spec_of core.now.topology producer.now.no ≡ Some producer.now }
     ensures { result ≡ due_between core.now.topology core.now.journal.steps consumer.now.no producer.now.no }
 {
-    if !takes_from(producer, consumer) {
+    if !producer.feeds(consumer) {
         return None;
     }
     match core.subs.live_of(consumer.no, producer.no) {

@@ -25,10 +25,11 @@ pub fn is_drained(core: &Core) -> bool
     if !core.totals.draining {
         return false;
     }
-    if is_any_out(core) {
+    // A drain has many steps while something is left, and then the jobs need no look.
+    if !is_all_bare(core) {
         return false;
     }
-    is_all_clear(core)
+    !is_any_out(core)
 }
 
 /// Whether the pipeline drains and nothing more comes to the batcher.
@@ -49,14 +50,13 @@ pub fn is_dry(core: &Core, batcher: StageNo) -> bool
     is_inbox_empty(core, batcher)
 }
 
-/// Whether nothing is left in any stage. No job is out.
-fn is_all_clear(core: &Core) -> bool
+/// Whether nothing is left in any stage but what is at work.
+fn is_all_bare(core: &Core) -> bool
     requires stands { Stands core.now }
-    requires home { jobs_out core.now.topology core.now.journal.steps ≡ false }
-    ensures { result ≡ all_clear core.now.topology core.now.journal.steps }
+    ensures { jobs_out core.now.topology core.now.journal.steps ≡ false → result ≡ all_clear core.now.topology core.now.journal.steps }
 {
     for spec in core.topology.stages.as_slice() {
-        if !is_stage_clear(core, spec.no) {
+        if !is_stage_bare(core, spec.no) {
             return false;
         }
     }
@@ -76,12 +76,11 @@ fn is_done_above_all(core: &Core) -> bool
     true
 }
 
-/// Whether nothing is left in the stage. No job is out.
-fn is_stage_clear(core: &Core, stage: StageNo) -> bool
+/// Whether nothing is left in the stage but what is at work.
+fn is_stage_bare(core: &Core, stage: StageNo) -> bool
     requires stands { Stands core.now }
-    requires home { jobs_out core.now.topology core.now.journal.steps ≡ false }
     requires there { is_some (spec_of core.now.topology stage) ≡ true }
-    ensures { result ≡ is_clear core.now.topology core.now.journal.steps stage }
+    ensures { jobs_out core.now.topology core.now.journal.steps ≡ false → result ≡ is_clear core.now.topology core.now.journal.steps stage }
 {
     is_idle(core, stage) && is_gathered_empty(core, stage)
 }

@@ -8,7 +8,6 @@ ghost use Rattle.core_tables.specs.Tables.{items_in};
 ghost use Rattle.core_state.specs.Stands.{Stands};
 ghost use Rattle.core_rows.specs.Rows.{open_on};
 
-use crate::rows::takes_from;
 use core_state::Core;
 use pipe_types::numbers::StageNo;
 use pipe_types::topology::StageSpec;
@@ -73,7 +72,7 @@ pub(crate) fn open_between(core: &Core, producer: &StageSpec, consumer: &StageSp
     requires to { spec_of core.now.topology consumer.now.no ≡ Some consumer.now }
     ensures { result ≡ open_on core.now.topology core.now.journal.steps producer.now.no consumer.now.no }
 {
-    if !takes_from(producer, consumer) {
+    if !producer.feeds(consumer) {
         return 0;
     }
     match core.subs.live_of(consumer.no, producer.no) {

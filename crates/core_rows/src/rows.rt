@@ -1,7 +1,7 @@
 //! The rows of the stages, and what is read off them.
 
 ghost use Rattle.std.specs.Prelude.{◌≡◌, ◌≤◌, ◌&&◌, ◌||◌, not, Some, length};
-ghost use Rattle.pipe_types.specs.Stages.{spec_of, spec_feeds};
+ghost use Rattle.pipe_types.specs.Stages.{spec_of};
 ghost use Rattle.pipe_model.specs.Legal.{needs_restart, no_post_out, may_restart, has_ended, rests, is_producer_role};
 ghost use Rattle.core_laws.specs.Columns.{stage_row};
 ghost use Rattle.core_state.specs.Stands.{Stands};
@@ -69,16 +69,4 @@ fn is_to_restart(row: StageRow, role: Role, totals: Totals) -> bool
     row.dead.is_some()
         && !totals.halted
         && !(role == Role::Producer && (row.ended || totals.draining))
-}
-
-/// Whether the consumer takes from the producer.
-pub(crate) fn takes_from(producer: &StageSpec, consumer: &StageSpec) -> bool
-    ensures { result ≡ spec_feeds producer.now consumer.now }
-{
-    match (producer.role, consumer.role) {
-        (Role::Producer, Role::Processor | Role::Supervisor) => true,
-        (Role::Processor, Role::Batcher) => true,
-        (Role::Batcher, Role::BatchProcessor) => producer.batcher == consumer.batcher,
-        _ => false,
-    }
 }

@@ -1,5 +1,5 @@
 -- The fields after a dispatch of a batcher.
-use Rattle.std.proofs.Common.{◌≡◌, ◌≢◌, ℕ, suc, ◌≤◌, List, ◌∷◌, ◌++◌, length, set, map, true, false, ap, sym, ◌∙◌, Some, Option, arith, inl, inr}
+use Rattle.std.proofs.Common.{◌≡◌, ◌≢◌, ℕ, suc, ◌≤◌, List, ◌∷◌, ◌++◌, length, set, map, true, ap, sym, ◌∙◌, Some, Option}
 use Rattle.std.specs.Prelude.{option_map, if◌then◌else◌, ◌==◌, ◌⊎◌, filter, slice_get, not, ◌&&◌}
 use Rattle.std.specs.declared.alloc.Global.{Global}
 use Rattle.std.specs.declared.vec.Vec.{Vec}
@@ -11,29 +11,27 @@ use Rattle.pipe_types.specs.declared.topology.Topology.{Topology}
 use Rattle.pipe_types.specs.declared.room.Sent.{Sent}
 use Rattle.pipe_types.specs.declared.step.Step.TheVariants.{Dispatch}
 use Rattle.pipe_types.specs.Sound.{IsSound}
-use Rattle.pipe_types.specs.Stages.{spec_of, feeds}
+use Rattle.pipe_types.specs.Stages.{spec_of}
 use Rattle.pipe_model.specs.History.{History}
-use Rattle.pipe_model.specs.Lives.{current_sub}
 use Rattle.pipe_model.specs.Legal.{is_legal, allows}
-use Rattle.pipe_model.specs.Flow.{inbox, deliveries, delivered_to, count_on, is_batcher, subs_of, alone, among}
+use Rattle.pipe_model.specs.Flow.{inbox, deliveries, delivered_to, is_batcher, subs_of, alone, among}
 use Rattle.pipe_types.specs.declared.message.Place.{Place}
 use Rattle.pipe_journal.specs.Recorded.{Recorded}
 use Rattle.stage_subs.specs.Pairs.{PairRow}
 use Rattle.stage_subs.specs.Subs.{row_at, sent_more}
-use Rattle.stage_subs.specs.Ledger.{ledger_row}
 use Rattle.message_ack.specs.Ends.{Ends, sent_in}
 use Rattle.core_tables.specs.Tables.{queue_at, count_between}
 use Rattle.core_tables.specs.declared.rows.Totals.{Totals}
 use Rattle.core_tables.specs.declared.rows.BatchRow.{BatchRow}
-use Rattle.core_tables.proofs.Tables.{same_or_other, queue-set_same, queue-set_other}
 use Rattle.core_laws.specs.Columns.{waiting_parts, open_batches, sent_on}
 use Rattle.core_laws.specs.Laws.{DispatchLaws}
 use Rattle.core_state.specs.declared.state.Core.{Core}
 use Rattle.core_state.specs.Stands.{Fields, Stands}
 use Rattle.core_sends.specs.Batches.{closed_at, subs_at, messages_of, with_legs, not_sent, numbers_of, all_succeeded, all_marked}
-use Rattle.core_sends.proofs.AfterSending.{counts_are}
+use Rattle.core_sends.proofs.AfterSending.{pairs_counted, queues_left}
 use Rattle.core_sends.proofs.BatchesSent.{AreBegun, legs_now, unsent_queue, places_now, marks_now, row_subs, row_subs_same}
 use Rattle.core_sends.proofs.Sent.{pair}
+use Rattle.core_state.proofs.Parts.{Part, BatchesAre, BatchesLen, ChunksAre, InboxesAre, InboxesLen, LegsAre, OpensAre, PlacesAre, PlacesLen, SentOnAre, SettledAre, SettledLen, SubsAre, TotalsAre, WaitingAre, WaitingLen, Says, unchanged, fields_of}
 
 -- what the passes make of the tables
 pub record BatchPasses (core : Core) (s : StageNo) (units : List Sent) (lone : List ℕ) (tick : ℕ) (old : List (ℕ × ℕ)) (subs : List (Option PairRow))
@@ -64,116 +62,49 @@ pub batch_fields : (core : Core) (topology : Topology) (before : History) (s : S
     → DispatchLaws topology before s → s.0 ≤ length topology.stages → units ≡ deliveries topology before s → lone ≡ alone topology before s → tick ≡ length before → old ≡ waiting_parts topology before s
     → BatchPasses core s units lone tick old subs queues inboxes batches legs places settled q
     → Fields (record core { journal = j; subs = subs; waiting = queues; inboxes = inboxes; places = places; settled = settled; batches = batches; legs = legs; totals = record core.totals { quiet = 0 } }) topology (Dispatch s ∷ before)
-batch_fields core topology before s units lone tick old j subs queues inboxes batches legs places settled q x sound h allowed batched law within is those now was done =
-    record {
-      sized =
-          record {
-            few = x.sized.few;
-            stages = x.sized.stages;
-            posts = x.sized.posts;
-            came = x.sized.came;
-            waiting = ap length done.queue ∙ (length-set core.waiting.items s.0 q ∙ x.sized.waiting);
-            inboxes = done.all_inboxes ∙ x.sized.inboxes;
-            chunks = x.sized.chunks;
-            batchers = x.sized.batchers;
-            children = x.sized.children;
-            places = done.all_places ∙ x.sized.places;
-            settled = done.all_settled ∙ x.sized.settled;
-            producers = x.sized.producers;
-            contents = x.sized.contents;
-            batches = done.all_batches ∙ x.sized.batches;
-            ends = x.sized.ends;
-          };
-      set = record { batchers = x.set.batchers; children = x.set.children; restarts = x.set.restarts };
-      stages = x.stages;
-      posts = x.posts;
-      came = x.came;
-      subs = pairs;
-      waiting = λ t. waits t (same_or_other s.0 t.0);
-      inboxes = λ c. done.came c ∙ (ap (λ b. b ++ delivered_to units c) (x.inboxes c) ∙ (ap (λ us. inbox topology before c ++ delivered_to us c) is ∙ sym (law.inbox c)));
-      chunks = λ t. x.chunks t ∙ sym (law.running t);
-      opens = λ t. x.opens t ∙ ap (open_batches before) (sym (law.gathered t));
-      children = x.children;
-      places = λ i. done.placed i
-          ∙ (ap (λ bs. option_map (all_succeeded (numbers_of core.batches.items) bs (suc i)) (slice_get core.places.items i)) those
-          ∙ (ap (option_map (all_succeeded (numbers_of core.batches.items) (alone topology before s) (suc i))) (x.places i) ∙ places_now core topology before s (suc i) x sound h batched));
-      settled = λ i below. done.marks i
-          ∙ (ap (λ bs. option_map (all_marked (numbers_of core.batches.items) bs tick (suc i)) (slice_get core.settled.items i)) those
-          ∙ (ap (λ k. option_map (all_marked (numbers_of core.batches.items) (alone topology before s) k (suc i)) (slice_get core.settled.items i)) now
-          ∙ (ap (option_map (all_marked (numbers_of core.batches.items) (alone topology before s) (length before) (suc i))) (x.settled i below) ∙ ap Some (marks_now core topology before s (suc i) x sound h batched))));
-      producers = x.producers;
-      contents = x.contents;
-      batches = λ i. done.closed i ∙ x.batches i;
-      sent_on = λ i row at. row_subs core.batches.items batches.items i row (sent_on topology before (suc i)) (subs_of units (suc i)) at (done.noted i) (x.sent_on i)
-          ∙ (ap (λ us. sent_on topology before (suc i) ++ subs_of us (suc i)) is
-          ∙ sym (ap (λ b. if b then sent_on topology before (suc i) ++ subs_of (deliveries topology before s) (suc i) else sent_on topology before (suc i)) batched));
-      legs = λ i. done.begun i ∙ legs_now core topology before s units i x batched is;
-      restarts = x.restarts;
-      totals = ap (λ (y : Totals). record y { quiet = 0 }) x.totals;
-    }
+batch_fields core topology before s units lone tick old j subs queues inboxes batches legs places settled q x sound h allowed batched law within is those now was done = fields_of says
   where
-    pairs : (c p : StageNo) → feeds topology p c ≡ true → row_at subs c p ≡ Some (ledger_row topology (Dispatch s ∷ before) c p)
-    pairs c p fed =
-        let count : count_between units c p ≡ count_on (deliveries topology before s) (current_sub topology before c p) =
-        ap (λ us. count_between us c p) is ∙ counts_are topology before (deliveries topology before s) c p law.well in
-        done.counted c p ∙ (ap (option_map (sent_more (count_between units c p))) (x.subs c p fed) ∙ ap (λ k. Some (sent_more k (ledger_row topology before c p))) count)
-
-    waits : (t : StageNo) → (((s.0 == t.0) ≡ true) × (s.0 ≡ t.0)) ⊎ (((s.0 == t.0) ≡ false) × (s.0 ≢ t.0)) → queue_at queues.items t ≡ waiting_parts topology (Dispatch s ∷ before) t
-    waits t (inl same) =
-        let one : s ≡ t = ap (λ n. record { 0 = n }) same.1 in
-        ap (λ qs. queue_at qs t) done.queue
-        ∙ (queue-set_same core.waiting.items s.0 q t (omega (arith, x.sized.waiting, within)) (sym same.1)
-        ∙ (done.kept ∙ (ap (λ bs. filter (λ (unit : ℕ × ℕ). not_sent legs unit.1 && not (among bs unit.1)) old) those ∙ (ap (filter (λ (unit : ℕ × ℕ). not_sent legs unit.1 && not (among (alone topology before s) unit.1))) was
-        ∙ (unsent_queue core topology before s legs x sound h allowed batched (are_begun core topology before s units legs is done.begun) ∙ ap (waiting_parts topology (Dispatch s ∷ before)) one)))))
-    waits t (inr other) =
-        ap (λ qs. queue_at qs t) done.queue
-        ∙ (queue-set_other core.waiting.items s.0 q t (λ e. other.1 (sym e))
-        ∙ (x.waiting t ∙ ap (map (pair topology before t)) (sym (law.waiting_else t other.0))))
+    says : (it : Part) → Says it (record core { journal = j; subs = subs; waiting = queues; inboxes = inboxes; places = places; settled = settled; batches = batches; legs = legs; totals = record core.totals { quiet = 0 } }) topology (Dispatch s ∷ before)
+    says WaitingLen = ap length done.queue ∙ (length-set core.waiting.items s.0 q ∙ x.sized.waiting)
+    says InboxesLen = done.all_inboxes ∙ x.sized.inboxes
+    says PlacesLen = done.all_places ∙ x.sized.places
+    says SettledLen = done.all_settled ∙ x.sized.settled
+    says BatchesLen = done.all_batches ∙ x.sized.batches
+    says SubsAre = pairs_counted core topology before s units subs x law is done.counted
+    says WaitingAre = queues_left core topology before s queues q x law within done.queue
+        (done.kept ∙ (ap (λ bs. filter (λ (unit : ℕ × ℕ). not_sent legs unit.1 && not (among bs unit.1)) old) those
+        ∙ (ap (filter (λ (unit : ℕ × ℕ). not_sent legs unit.1 && not (among (alone topology before s) unit.1))) was
+        ∙ unsent_queue core topology before s legs x sound h allowed batched (are_begun core topology before s units legs is done.begun))))
+    says InboxesAre = λ c. done.came c ∙ (ap (λ b. b ++ delivered_to units c) (x.inboxes c) ∙ (ap (λ us. inbox topology before c ++ delivered_to us c) is ∙ sym (law.inbox c)))
+    says ChunksAre = λ t. x.chunks t ∙ sym (law.running t)
+    says OpensAre = λ t. x.opens t ∙ ap (open_batches before) (sym (law.gathered t))
+    says PlacesAre = λ i. done.placed i
+        ∙ (ap (λ bs. option_map (all_succeeded (numbers_of core.batches.items) bs (suc i)) (slice_get core.places.items i)) those
+        ∙ (ap (option_map (all_succeeded (numbers_of core.batches.items) (alone topology before s) (suc i))) (x.places i) ∙ places_now core topology before s (suc i) x sound h batched))
+    says SettledAre = λ i below. done.marks i
+        ∙ (ap (λ bs. option_map (all_marked (numbers_of core.batches.items) bs tick (suc i)) (slice_get core.settled.items i)) those
+        ∙ (ap (λ k. option_map (all_marked (numbers_of core.batches.items) (alone topology before s) k (suc i)) (slice_get core.settled.items i)) now
+        ∙ (ap (option_map (all_marked (numbers_of core.batches.items) (alone topology before s) (length before) (suc i))) (x.settled i below) ∙ ap Some (marks_now core topology before s (suc i) x sound h batched))))
+    says BatchesAre = λ i. done.closed i ∙ x.batches i
+    says SentOnAre = λ i row at. row_subs core.batches.items batches.items i row (sent_on topology before (suc i)) (subs_of units (suc i)) at (done.noted i) (x.sent_on i)
+        ∙ (ap (λ us. sent_on topology before (suc i) ++ subs_of us (suc i)) is
+        ∙ sym (ap (λ b. if b then sent_on topology before (suc i) ++ subs_of (deliveries topology before s) (suc i) else sent_on topology before (suc i)) batched))
+    says LegsAre = λ i. done.begun i ∙ legs_now core topology before s units i x batched is
+    says TotalsAre = ap (λ (y : Totals). record y { quiet = 0 }) x.totals
+    says it = unchanged x it
 
 -- where nothing was noted after all
 pub same_batches : (core : Core) (topology : Topology) (before : History) (batches : Vec BatchRow Global) (legs : List (ℕ × Ends)) → Fields core topology before
     → length batches.items ≡ length core.batches.items → ((i : ℕ) → closed_at batches.items i ≡ closed_at core.batches.items i) → ((i : ℕ) → subs_at batches.items i ≡ subs_at core.batches.items i)
     → ((i : ℕ) → sent_in legs (suc i) ≡ sent_in core.legs (suc i)) → Fields (record core { batches = batches; legs = legs }) topology before
-same_batches core topology before batches legs x len closed noted begun =
-    record {
-      sized =
-          record {
-            few = x.sized.few;
-            stages = x.sized.stages;
-            posts = x.sized.posts;
-            came = x.sized.came;
-            waiting = x.sized.waiting;
-            inboxes = x.sized.inboxes;
-            chunks = x.sized.chunks;
-            batchers = x.sized.batchers;
-            children = x.sized.children;
-            places = x.sized.places;
-            settled = x.sized.settled;
-            producers = x.sized.producers;
-            contents = x.sized.contents;
-            batches = len ∙ x.sized.batches;
-            ends = x.sized.ends;
-          };
-      set = record { batchers = x.set.batchers; children = x.set.children; restarts = x.set.restarts };
-      stages = x.stages;
-      posts = x.posts;
-      came = x.came;
-      subs = x.subs;
-      waiting = x.waiting;
-      inboxes = x.inboxes;
-      chunks = x.chunks;
-      opens = x.opens;
-      children = x.children;
-      places = x.places;
-      settled = x.settled;
-      producers = x.producers;
-      contents = x.contents;
-      batches = λ i. closed i ∙ x.batches i;
-      sent_on = λ i row at. row_subs_same core.batches.items batches.items i row (sent_on topology before (suc i)) at (noted i) (x.sent_on i);
-      legs = λ i. begun i ∙ x.legs i;
-      restarts = x.restarts;
-      totals = x.totals;
-    }
+same_batches core topology before batches legs x len closed noted begun = fields_of says
+  where
+    says : (it : Part) → Says it (record core { batches = batches; legs = legs }) topology before
+    says BatchesLen = len ∙ x.sized.batches
+    says BatchesAre = λ i. closed i ∙ x.batches i
+    says SentOnAre = λ i row at. row_subs_same core.batches.items batches.items i row (sent_on topology before (suc i)) at (noted i) (x.sent_on i)
+    says LegsAre = λ i. begun i ∙ x.legs i
+    says it = unchanged x it
 
 pub still_stands_with : (core : Core) (batches : Vec BatchRow Global) (legs : List (ℕ × Ends)) → Stands core
     → length batches.items ≡ length core.batches.items → ((i : ℕ) → closed_at batches.items i ≡ closed_at core.batches.items i) → ((i : ℕ) → subs_at batches.items i ≡ subs_at core.batches.items i)

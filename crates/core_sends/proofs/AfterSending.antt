@@ -37,6 +37,7 @@ use Rattle.core_sends.proofs.Plain.{same_batch}
 use Rattle.core_sends.proofs.Reached.{over_waits}
 use Rattle.core_sends.proofs.Sent.{AreMoved, left_is, over_numbers, kept_queue, pair, over}
 use Rattle.core_sends.proofs.Settled.{lost_after_all, marked_after}
+use Rattle.core_state.proofs.Parts.{Part, ChunksAre, InboxesAre, InboxesLen, LegsAre, OpensAre, PlacesAre, PlacesLen, SentOnAre, SettledAre, SettledLen, SubsAre, TotalsAre, WaitingAre, WaitingLen, Says, unchanged, fields_of}
 
 -- what is sent on a pair is sent on its present subscription
 pub counts_are : (topology : Topology) (before : History) (units : List Sent) (c p : StageNo) → All (IsSentWell topology before) units
@@ -70,60 +71,37 @@ are_moved core topology before s units places x is moves =
       placed = λ i. moves i ∙ (ap (option_map (dispatched units [] [] s (suc i))) (x.places i) ∙ ap (λ us. option_map (dispatched us [] [] s (suc i)) (place topology before (suc i))) is);
     }
 
+-- the rows of the pairs count what is sent
+pub pairs_counted : (core : Core) (topology : Topology) (before : History) (s : StageNo) (units : List Sent) (subs : List (Option PairRow)) → Fields core topology before → DispatchLaws topology before s
+    → units ≡ deliveries topology before s → ((c p : StageNo) → row_at subs c p ≡ option_map (sent_more (count_between units c p)) (row_at core.subs c p))
+    → (c p : StageNo) → feeds topology p c ≡ true → row_at subs c p ≡ Some (ledger_row topology (Dispatch s ∷ before) c p)
+pairs_counted core topology before s units subs x law is counted c p fed =
+    let count : count_between units c p ≡ count_on (deliveries topology before s) (current_sub topology before c p) =
+    ap (λ us. count_between us c p) is ∙ counts_are topology before (deliveries topology before s) c p law.well in
+    counted c p ∙ (ap (option_map (sent_more (count_between units c p))) (x.subs c p fed) ∙ ap (λ k. Some (sent_more k (ledger_row topology before c p))) count)
+
+-- the queue of the stage is the one that was left, and the others stay
+pub queues_left : (core : Core) (topology : Topology) (before : History) (s : StageNo) (queues : Vec (VecDeque (ℕ × ℕ) Global) Global) (q : VecDeque (ℕ × ℕ) Global) → Fields core topology before
+    → DispatchLaws topology before s → s.0 ≤ length topology.stages → queues.items ≡ set core.waiting.items s.0 q → q.items ≡ waiting_parts topology (Dispatch s ∷ before) s
+    → (t : StageNo) → queue_at queues.items t ≡ waiting_parts topology (Dispatch s ∷ before) t
+queues_left core topology before s queues q x law within queue kept t = by (same_or_other s.0 t.0)
+  where
+    by : (((s.0 == t.0) ≡ true) × (s.0 ≡ t.0)) ⊎ (((s.0 == t.0) ≡ false) × (s.0 ≢ t.0)) → queue_at queues.items t ≡ waiting_parts topology (Dispatch s ∷ before) t
+    by (inl same) =
+        let one : s ≡ t = ap (λ n. record { 0 = n }) same.1 in
+        ap (λ qs. queue_at qs t) queue
+        ∙ (queue-set_same core.waiting.items s.0 q t (omega (arith, x.sized.waiting, within)) (sym same.1) ∙ (kept ∙ ap (waiting_parts topology (Dispatch s ∷ before)) one))
+    by (inr other) =
+        ap (λ qs. queue_at qs t) queue
+        ∙ (queue-set_other core.waiting.items s.0 q t (λ e. other.1 (sym e)) ∙ (x.waiting t ∙ ap (map (pair topology before t)) (sym (law.waiting_else t other.0))))
+
 pub sent_fields : (core : Core) (topology : Topology) (before : History) (s : StageNo) (spec : StageSpec) (units : List Sent) (old : List (ℕ × ℕ)) (m : ℕ) (j : Recorded)
     (subs : List (Option PairRow)) (queues : Vec (VecDeque (ℕ × ℕ) Global) Global) (inboxes : Vec (VecDeque (SubNo × ℕ) Global) Global) (moved : List Place) (places : Vec Place Global) (settled : Vec ℕ Global) (q : VecDeque (ℕ × ℕ) Global)
     → Fields core topology before → IsSound topology → is_legal topology before ≡ true → allows topology before (Dispatch s) ≡ true → is_batcher (spec_of topology s) ≡ false
     → DispatchLaws topology before s → spec_of topology s ≡ Some spec → s.0 ≤ length topology.stages → units ≡ deliveries topology before s → old ≡ waiting_parts topology before s → m ≡ length before
     → Passes core s spec units old m subs queues inboxes moved places settled q
     → Fields (record core { journal = j; subs = subs; waiting = queues; inboxes = inboxes; places = places; settled = settled; totals = record core.totals { quiet = 0 } }) topology (Dispatch s ∷ before)
-sent_fields core topology before s spec units old m j subs queues inboxes moved places settled q x sound h allowed plain law there within is was now done =
-    record {
-      sized =
-          record {
-            few = x.sized.few;
-            stages = x.sized.stages;
-            posts = x.sized.posts;
-            came = x.sized.came;
-            waiting = ap length done.queue ∙ (length-set core.waiting.items s.0 q ∙ x.sized.waiting);
-            inboxes = done.all_inboxes ∙ x.sized.inboxes;
-            chunks = x.sized.chunks;
-            batchers = x.sized.batchers;
-            children = x.sized.children;
-            places = done.all_places ∙ x.sized.places;
-            settled = done.all_settled ∙ x.sized.settled;
-            producers = x.sized.producers;
-            contents = x.sized.contents;
-            batches = x.sized.batches;
-            ends = x.sized.ends;
-          };
-      set = record { batchers = x.set.batchers; children = x.set.children; restarts = x.set.restarts };
-      stages = x.stages;
-      posts = x.posts;
-      came = x.came;
-      subs = pairs;
-      waiting = λ t. waits t (same_or_other s.0 t.0);
-      inboxes = λ c. done.came c ∙ (ap (λ b. b ++ delivered_to units c) (x.inboxes c) ∙ (ap (λ us. inbox topology before c ++ delivered_to us c) is ∙ sym (law.inbox c)));
-      chunks = λ t. x.chunks t ∙ sym (law.running t);
-      opens = λ t. x.opens t ∙ ap (open_batches before) (sym (law.gathered t));
-      children = x.children;
-      places = λ i. done.placed i
-          ∙ (ap (λ ns. option_map (lost_over_size ns s (suc i)) (slice_get moved i)) lost
-          ∙ (ap (option_map (lost_over_size (over topology before s) s (suc i))) (here.placed i)
-          ∙ (lost_after_all (deliveries topology before s) (over topology before s) s (suc i) (place topology before (suc i))
-          ∙ ap (λ lone. option_map (dispatched (deliveries topology before s) (over topology before s) lone s (suc i)) (place topology before (suc i))) (sym none))));
-      settled = λ i below. done.marks i
-          ∙ (ap (λ ns. option_map (marked ns m (suc i)) (slice_get core.settled.items i)) lost
-          ∙ (ap (option_map (marked (over topology before s) m (suc i))) (x.settled i below)
-          ∙ (ap (λ k. Some (marked (over topology before s) k (suc i) (mark topology before (suc i)))) now
-          ∙ ap Some (marked_after topology before s (over topology before s) (suc i) refl none (over_waits topology before s (suc i) sound h plain)))));
-      producers = x.producers;
-      contents = x.contents;
-      batches = x.batches;
-      sent_on = λ i row at. x.sent_on i row at ∙ sym (ap (λ b. if b then sent_on topology before (suc i) ++ subs_of (deliveries topology before s) (suc i) else sent_on topology before (suc i)) plain);
-      legs = λ i. x.legs i ∙ ap ends_in_progress (sym (same_batch topology before s (suc i) h plain));
-      restarts = x.restarts;
-      totals = ap (λ (y : Totals). record y { quiet = 0 }) x.totals;
-    }
+sent_fields core topology before s spec units old m j subs queues inboxes moved places settled q x sound h allowed plain law there within is was now done = fields_of says
   where
     none : alone topology before s ≡ []
     none = none_alone topology before s plain
@@ -137,19 +115,27 @@ sent_fields core topology before s spec units old m j subs queues inboxes moved 
     lost : numbers_in (over_of spec.size spec.keep (left_in moved s old)) ≡ over topology before s
     lost = over_numbers topology before s spec (left_in moved s old) there left
 
-    pairs : (c p : StageNo) → feeds topology p c ≡ true → row_at subs c p ≡ Some (ledger_row topology (Dispatch s ∷ before) c p)
-    pairs c p fed =
-        let count : count_between units c p ≡ count_on (deliveries topology before s) (current_sub topology before c p) =
-        ap (λ us. count_between us c p) is ∙ counts_are topology before (deliveries topology before s) c p law.well in
-        done.counted c p ∙ (ap (option_map (sent_more (count_between units c p))) (x.subs c p fed) ∙ ap (λ k. Some (sent_more k (ledger_row topology before c p))) count)
-
-    waits : (t : StageNo) → (((s.0 == t.0) ≡ true) × (s.0 ≡ t.0)) ⊎ (((s.0 == t.0) ≡ false) × (s.0 ≢ t.0)) → queue_at queues.items t ≡ waiting_parts topology (Dispatch s ∷ before) t
-    waits t (inl same) =
-        let one : s ≡ t = ap (λ n. record { 0 = n }) same.1 in
-        ap (λ qs. queue_at qs t) done.queue
-        ∙ (queue-set_same core.waiting.items s.0 q t (omega (arith, x.sized.waiting, within)) (sym same.1)
-        ∙ (done.kept ∙ (kept_queue topology before s spec (left_in moved s old) sound h allowed plain there left ∙ ap (waiting_parts topology (Dispatch s ∷ before)) one)))
-    waits t (inr other) =
-        ap (λ qs. queue_at qs t) done.queue
-        ∙ (queue-set_other core.waiting.items s.0 q t (λ e. other.1 (sym e))
-        ∙ (x.waiting t ∙ ap (map (pair topology before t)) (sym (law.waiting_else t other.0))))
+    says : (it : Part) → Says it (record core { journal = j; subs = subs; waiting = queues; inboxes = inboxes; places = places; settled = settled; totals = record core.totals { quiet = 0 } }) topology (Dispatch s ∷ before)
+    says WaitingLen = ap length done.queue ∙ (length-set core.waiting.items s.0 q ∙ x.sized.waiting)
+    says InboxesLen = done.all_inboxes ∙ x.sized.inboxes
+    says PlacesLen = done.all_places ∙ x.sized.places
+    says SettledLen = done.all_settled ∙ x.sized.settled
+    says SubsAre = pairs_counted core topology before s units subs x law is done.counted
+    says WaitingAre = queues_left core topology before s queues q x law within done.queue (done.kept ∙ kept_queue topology before s spec (left_in moved s old) sound h allowed plain there left)
+    says InboxesAre = λ c. done.came c ∙ (ap (λ b. b ++ delivered_to units c) (x.inboxes c) ∙ (ap (λ us. inbox topology before c ++ delivered_to us c) is ∙ sym (law.inbox c)))
+    says ChunksAre = λ t. x.chunks t ∙ sym (law.running t)
+    says OpensAre = λ t. x.opens t ∙ ap (open_batches before) (sym (law.gathered t))
+    says PlacesAre = λ i. done.placed i
+        ∙ (ap (λ ns. option_map (lost_over_size ns s (suc i)) (slice_get moved i)) lost
+        ∙ (ap (option_map (lost_over_size (over topology before s) s (suc i))) (here.placed i)
+        ∙ (lost_after_all (deliveries topology before s) (over topology before s) s (suc i) (place topology before (suc i))
+        ∙ ap (λ lone. option_map (dispatched (deliveries topology before s) (over topology before s) lone s (suc i)) (place topology before (suc i))) (sym none))))
+    says SettledAre = λ i below. done.marks i
+        ∙ (ap (λ ns. option_map (marked ns m (suc i)) (slice_get core.settled.items i)) lost
+        ∙ (ap (option_map (marked (over topology before s) m (suc i))) (x.settled i below)
+        ∙ (ap (λ k. Some (marked (over topology before s) k (suc i) (mark topology before (suc i)))) now
+        ∙ ap Some (marked_after topology before s (over topology before s) (suc i) refl none (over_waits topology before s (suc i) sound h plain)))))
+    says SentOnAre = λ i row at. x.sent_on i row at ∙ sym (ap (λ b. if b then sent_on topology before (suc i) ++ subs_of (deliveries topology before s) (suc i) else sent_on topology before (suc i)) plain)
+    says LegsAre = λ i. x.legs i ∙ ap ends_in_progress (sym (same_batch topology before s (suc i) h plain))
+    says TotalsAre = ap (λ (y : Totals). record y { quiet = 0 }) x.totals
+    says it = unchanged x it

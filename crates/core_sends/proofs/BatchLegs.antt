@@ -9,15 +9,15 @@ use Rattle.pipe_types.specs.declared.topology.Topology.{Topology}
 use Rattle.pipe_types.specs.declared.step.Step.TheVariants.{Dispatch}
 use Rattle.pipe_types.specs.Numbers.{same_stage}
 use Rattle.pipe_types.specs.Stages.{spec_of}
-use Rattle.pipe_laws.proofs.Lists.{Each, each_weaker, each_always, each_map, each_filter}
+use Rattle.pipe_laws.proofs.Lists.{Each, each_weaker, each_always, each_map}
 use Rattle.pipe_laws.proofs.Places.{sends_each}
 use Rattle.pipe_model.specs.Batches.{Batch, BatchPlace, AtBatcher, Sent, Dropped, new_legs, batch_sent}
-use Rattle.pipe_model.specs.Content.{arrivals}
 use Rattle.pipe_model.specs.History.{History}
 use Rattle.pipe_model.specs.Flow.{place, batch, view_of, waiting, deliveries, rooms_by, serving_by, mark_in, alone, among, is_batcher, is_empty, subs_of, batch_waits_in, waits_in, at_batcher, change_place, numbers_in}
 use Rattle.message_ack.specs.Ends.{ends_of}
 use Rattle.message_ack.specs.declared.legs.LegEnd.{LegEnd}
 use Rattle.core_laws.specs.Columns.{ends_in_progress, ends_on}
+use Rattle.core_sends.proofs.Sent.{each_test}
 
 -- the legs of a batch that was just sent are all open
 new_ends : (subs : List SubNo) → ends_of (new_legs subs) ≡ replicate (length subs) None
@@ -57,17 +57,8 @@ sent_waits topology before s b batched some =
     (sends_each (λ u. Unit {0}) (λ n. batch_waits_in s (batch topology before n) ≡ true) (serving_by topology before (view_of topology before) s) (rooms_by topology before (view_of topology before) s) []
     (map {B = ℕ × ℕ} (λ n. (n, mark_in before (view_of topology before) (spec_of topology s) n)) (waiting topology before s))
     (each_always (λ r. Unit {0}) (λ r. tt) (rooms_by topology before (view_of topology before) s))
-    (each_map (λ (u : ℕ × ℕ). batch_waits_in s (batch topology before u.0) ≡ true) (λ n. (n, mark_in before (view_of topology before) (spec_of topology s) n)) (waiting topology before s) tests)))
+    (each_map (λ (u : ℕ × ℕ). batch_waits_in s (batch topology before u.0) ≡ true) (λ n. (n, mark_in before (view_of topology before) (spec_of topology s) n)) (waiting topology before s) (each_test topology before s true batched))))
     some
-  where
-    tests : Each (λ n. batch_waits_in s (batch topology before n) ≡ true) (waiting topology before s)
-    tests =
-        each_weaker (λ n. Unit {0} × ((if is_batcher (spec_of topology s) then batch_waits_in s (batch topology before n) else waits_in s (place topology before n)) ≡ true))
-        (λ n. batch_waits_in s (batch topology before n) ≡ true)
-        (λ n p. ap (λ c. if c then batch_waits_in s (batch topology before n) else waits_in s (place topology before n)) (sym batched) ∙ p.1)
-        (waiting topology before s)
-        (each_filter (λ n. Unit {0}) (λ n. if is_batcher (spec_of topology s) then batch_waits_in s (batch topology before n) else waits_in s (place topology before n)) (arrivals before s)
-        (each_always (λ n. Unit {0}) (λ n. tt) (arrivals before s)))
 
 -- the legs of a batch after the dispatch of a batcher: new ones where it is sent, and else as before
 pub legs_after : (topology : Topology) (before : History) (s : StageNo) (b : ℕ) → is_batcher (spec_of topology s) ≡ true

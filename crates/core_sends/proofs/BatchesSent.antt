@@ -9,11 +9,10 @@ use Rattle.pipe_types.specs.declared.room.Sent.{Sent as SentUnit}
 use Rattle.pipe_types.specs.declared.step.Step.TheVariants.{Dispatch}
 use Rattle.pipe_types.specs.Sound.{IsSound}
 use Rattle.pipe_types.specs.Stages.{spec_of}
-use Rattle.pipe_laws.proofs.Lists.{Each, each_weaker, each_always, each_both, each_map, each_filter}
+use Rattle.pipe_laws.proofs.Lists.{Each, each_weaker, each_both, each_map, each_filter}
 use Rattle.pipe_laws.proofs.Settled.{batch_closed}
 use Rattle.pipe_laws.proofs.Tests.{same_stage-self}
 use Rattle.pipe_model.specs.Batches.{Batch, BatchPlace, AtBatcher, Sent, Dropped}
-use Rattle.pipe_model.specs.Content.{arrivals}
 use Rattle.pipe_model.specs.History.{History, accepted, closed}
 use Rattle.pipe_model.specs.Legal.{is_legal, allows}
 use Rattle.pipe_model.specs.Flow.{place, batch, waiting, deliveries, is_batcher, is_empty, subs_of, batch_waits_in, waits_in, at_batcher, numbers_in, alone, among, served_by, serving_by, rooms_by, mark_in, view_of}
@@ -43,7 +42,7 @@ use Rattle.core_sends.proofs.BatchLegs.{sent_waits, legs_after}
 use Rattle.core_sends.proofs.Begun.{some_sub}
 use Rattle.core_sends.proofs.LeftOver.{filter_map, drop_map}
 use Rattle.core_sends.proofs.Reached.{unreached, each_drop}
-use Rattle.core_sends.proofs.Sent.{pair, each_all, over}
+use Rattle.core_sends.proofs.Sent.{pair, each_all, over, each_test}
 
 -- a batch that waits in a batcher has no legs
 waits_unsent : (s : StageNo) (o : Option Batch) → batch_waits_in s o ≡ true → ends_in_progress o ≡ None
@@ -190,13 +189,7 @@ still_unsent core topology before s legs x are n least waits =
 
 -- what waits in a batcher are batches that wait there
 pub each_batch_waits : (topology : Topology) (before : History) (s : StageNo) → is_batcher (spec_of topology s) ≡ true → Each (λ n. batch_waits_in s (batch topology before n) ≡ true) (waiting topology before s)
-each_batch_waits topology before s batched =
-    each_weaker (λ n. Unit {0} × ((if is_batcher (spec_of topology s) then batch_waits_in s (batch topology before n) else waits_in s (place topology before n)) ≡ true))
-    (λ n. batch_waits_in s (batch topology before n) ≡ true)
-    (λ n p. ap (λ c. if c then batch_waits_in s (batch topology before n) else waits_in s (place topology before n)) (sym batched) ∙ p.1)
-    (waiting topology before s)
-    (each_filter (λ n. Unit {0}) (λ n. if is_batcher (spec_of topology s) then batch_waits_in s (batch topology before n) else waits_in s (place topology before n)) (arrivals before s)
-    (each_always (λ n. Unit {0}) (λ n. tt) (arrivals before s)))
+each_batch_waits topology before s batched = each_test topology before s true batched
 
 pub each_unsent : (core : Core) (topology : Topology) (before : History) (s : StageNo) (legs : List (ℕ × Ends)) → Fields core topology before → IsSound topology → is_legal topology before ≡ true
     → is_batcher (spec_of topology s) ≡ true → AreBegun core topology before s legs → Each (λ n. not_sent legs n ≡ is_empty (subs_of (deliveries topology before s) n)) (waiting topology before s)

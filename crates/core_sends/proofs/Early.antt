@@ -5,7 +5,7 @@ use Rattle.std.proofs.lemmas.Bool.{false_from_ne_true}
 use Rattle.pipe_types.specs.declared.numbers.StageNo.{StageNo}
 use Rattle.pipe_types.specs.declared.topology.Topology.{Topology}
 use Rattle.pipe_types.specs.declared.message.Place.{Place}
-use Rattle.pipe_types.specs.declared.message.Place.TheVariants.{Waiting, Inbox, Running, Gathered, InBatch, Acked, Lost}
+use Rattle.pipe_types.specs.declared.message.Place.TheVariants.{Waiting, Acked}
 use Rattle.pipe_types.specs.declared.message.Why.{Why}
 use Rattle.pipe_types.specs.declared.step.Step.{Step}
 use Rattle.pipe_types.specs.declared.step.Step.TheVariants.{Accept, Dispatch, Done, Late}
@@ -71,12 +71,7 @@ early_move topology before step n p q was now fit h (ends x y final) old = λ s 
   where
     by_final : (y : Place) → is_final (Some y) ≡ true → (s : StageNo) → Some y ≡ Some (Waiting s) → is_batcher (spec_of topology s) ≡ false
     by_final (Acked o) f s e = cc
-    by_final (Lost l) f s e = cc
-    by_final (Waiting t) f s e = cc
-    by_final (Inbox u) f s e = cc
-    by_final (Running t) f s e = cc
-    by_final (Gathered t) f s e = cc
-    by_final (InBatch b) f s e = cc
+    by_final _ f s e = cc
 
 -- a message waits in a stage of messages
 pub waits_early : (topology : Topology) (before : History) (n : ℕ) → Fits topology → is_legal topology before ≡ true → Early topology (place topology before n)
@@ -89,15 +84,9 @@ pub no_message_waits : (topology : Topology) (before : History) (s : StageNo) (n
 no_message_waits topology before s n fit h batched = by (place topology before n) refl
   where
     by : (o : Option Place) → place topology before n ≡ o → waits_in s o ≡ false
-    by None e = refl
     by (Some (Waiting t)) e =
         false_from_ne_true (waits_in s (Some (Waiting t))) (λ here. clash (is_batcher (spec_of topology s)) batched (ap (λ x. is_batcher (spec_of topology x)) (same_stage-true s t here) ∙ waits_early topology before n fit h t e))
-    by (Some (Inbox u)) e = refl
-    by (Some (Running t)) e = refl
-    by (Some (Gathered t)) e = refl
-    by (Some (InBatch b)) e = refl
-    by (Some (Acked o)) e = refl
-    by (Some (Lost l)) e = refl
+    by _ e = refl
 
 -- so a batcher's dispatch settles the messages of the batches that it serves alone, and moves no other
 pub lone_place : (topology : Topology) (before : History) (s : StageNo) (n : ℕ) → Fits topology → is_legal topology before ≡ true → is_batcher (spec_of topology s) ≡ true

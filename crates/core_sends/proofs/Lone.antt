@@ -108,14 +108,8 @@ lone_in bs p = p
 
 -- it moves no message but those of the batches alone
 pub still : (units : List SentUnit) (over lone : List ℕ) (s : StageNo) (n : ℕ) (o : Option Place) → waits_in s o ≡ false → option_map (dispatched units over lone s n) o ≡ option_map (lone_in lone) o
-still units over lone s n None h = refl
 still units over lone s n (Some (Waiting t)) h = ap (λ b. Some (if b then waiting_after (subs_of units n) (among over n) s else Waiting t)) h
-still units over lone s n (Some (Inbox u)) h = refl
-still units over lone s n (Some (Running t)) h = refl
-still units over lone s n (Some (Gathered t)) h = refl
-still units over lone s n (Some (InBatch b)) h = refl
-still units over lone s n (Some (Acked o)) h = refl
-still units over lone s n (Some (Lost l)) h = refl
+still units over lone s n _ h = refl
 
 -- the passes over the batches alone are just that
 pub lone_places : (topology : Topology) (before : History) (s : StageNo) (bs : List ℕ) (n : ℕ) → is_legal topology before ≡ true → Each (IsAlone topology before s) bs

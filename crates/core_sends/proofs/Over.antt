@@ -6,7 +6,7 @@ use Rattle.std.proofs.lemmas.List.{at_drop_more, get_or-take, length-take-le}
 use Rattle.pipe_types.specs.declared.numbers.StageNo.{StageNo}
 use Rattle.pipe_types.specs.declared.message.Loss.TheVariants.{Overflow}
 use Rattle.pipe_types.specs.declared.message.Place.{Place}
-use Rattle.pipe_types.specs.declared.message.Place.TheVariants.{Waiting, Inbox, Running, Gathered, InBatch, Acked, Lost}
+use Rattle.pipe_types.specs.declared.message.Place.TheVariants.{Waiting, Lost}
 use Rattle.pipe_types.specs.Numbers.{same_stage}
 use Rattle.pipe_model.specs.Flow.{among}
 use Rattle.core_tables.proofs.Running.{pass_step}
@@ -42,21 +42,11 @@ lost_here s n ns (Waiting t) = by (same_stage s t) refl
     by : (b : Bool) → same_stage s t ≡ b → lost_over_size ns s n (if b then Lost (Overflow s) else Waiting t) ≡ (if b && ((n == n) || among ns n) then Lost (Overflow s) else Waiting t)
     by true e = rw same_self refl
     by false e = rw e refl
-lost_here s n ns (Inbox u) = refl
-lost_here s n ns (Running t) = refl
-lost_here s n ns (Gathered t) = refl
-lost_here s n ns (InBatch b) = refl
-lost_here s n ns (Acked o) = refl
-lost_here s n ns (Lost l) = refl
+lost_here s n ns _ = refl
 
 lost_there : (s : StageNo) (m n : ℕ) (ns : List ℕ) (p : Place) → (m == n) ≡ false → lost_over_size ns s n p ≡ lost_over_size (m ∷ ns) s n p
 lost_there s m n ns (Waiting t) e = rw e refl
-lost_there s m n ns (Inbox u) e = refl
-lost_there s m n ns (Running t) e = refl
-lost_there s m n ns (Gathered t) e = refl
-lost_there s m n ns (InBatch b) e = refl
-lost_there s m n ns (Acked o) e = refl
-lost_there s m n ns (Lost l) e = refl
+lost_there s m n ns _ e = refl
 
 pub lost_step : (s : StageNo) (places : List Place) (queue : List (ℕ × ℕ)) (k to : ℕ) (u : ℕ × ℕ) (p q : Place) → k < to → to ≤ length queue
     → u ≡ get_or queue k u → 1 ≤ u.1 → u.1 - 1 < length places → slice_get places (u.1 - 1) ≡ Some p → q ≡ lost_in s p
@@ -71,12 +61,7 @@ lost_nothing s n (Waiting t) = by (same_stage s t)
     by : (b : Bool) → (if b && false then Lost (Overflow s) else Waiting t) ≡ Waiting t
     by true = refl
     by false = refl
-lost_nothing s n (Inbox u) = refl
-lost_nothing s n (Running t) = refl
-lost_nothing s n (Gathered t) = refl
-lost_nothing s n (InBatch b) = refl
-lost_nothing s n (Acked o) = refl
-lost_nothing s n (Lost l) = refl
+lost_nothing s n _ = refl
 
 pub lost_none : (s : StageNo) (n : ℕ) (o : Option Place) → option_map (lost_over_size [] s n) o ≡ o
 lost_none s n None = refl

@@ -26,7 +26,7 @@ use Rattle.core_laws.specs.Columns.{waiting_parts, part_of, is_broadcast}
 use Rattle.core_laws.proofs.Past.{known_within, live_known}
 use Rattle.core_laws.proofs.Parts.{sends_by_parts}
 use Rattle.core_state.specs.declared.state.Core.{Core}
-use Rattle.core_state.specs.Stands.{Fields}
+use Rattle.core_state.specs.Stands.{Fields, Holds}
 use Rattle.core_sends.specs.Rooms.{planned}
 
 pub live_within : (topology : Topology) (before : History) (s : StageNo) → IsSound topology → is_live topology before s ≡ true → (1 ≤ s.0) × (s.0 ≤ length topology.stages)
@@ -50,6 +50,14 @@ numbers_in_queue part (n ∷ ns) = ap (λ ms. n ∷ ms) (numbers_in_queue part n
 pub long_queue : (part : ℕ → ℕ) (ns : List ℕ) → length (map {B = ℕ × ℕ} (λ n. (part n, n)) ns) ≡ length ns
 long_queue part [] = refl
 long_queue part (n ∷ ns) = ap (λ k. suc k) (long_queue part ns)
+
+-- how many wait in the queue of a live stage, which the code read and counted
+pub many_read : (core : Core) (s : StageNo) (q : VecDeque (ℕ × ℕ) Global) (count : ℕ) → Holds core → is_live core.topology core.journal.steps s ≡ true
+    → q ≡ get_or core.waiting.items s.0 q → count ≡ length q.items → count ≡ length (waiting core.topology core.journal.steps s)
+many_read core s q count x live read is =
+    let within = (live_within core.topology core.journal.steps s x.sound live).1 in
+    is ∙ (ap length (waiting_read core core.topology core.journal.steps x.fields s q within read)
+    ∙ long_queue (part_of core.topology core.journal.steps (spec_of core.topology s)) (waiting core.topology core.journal.steps s))
 
 pub served_plain : (kind : Kind) (p q : ℕ → SubNo → Bool) → is_broadcast kind ≡ false → served_as kind p ≡ served_as kind q
 served_plain Demand p q h = refl

@@ -29,8 +29,10 @@ use Rattle.core_state.specs.declared.state.Core.{Core}
 use Rattle.core_state.specs.Stands.{Fields, Holds}
 use Rattle.core_sends.specs.Rooms.{planned}
 use Rattle.core_sends.proofs.AfterSending.{counts_are}
-use Rattle.core_sends.proofs.Queued.{live_within}
+use Rattle.core_sends.proofs.Queued.{live_within, waiting_read, long_queue, numbers_in_queue}
 use Rattle.core_sends.proofs.Sent.{deliveries_named}
+use Rattle.core_laws.specs.Columns.{part_of, waiting_parts}
+use Rattle.core_sends.specs.Losing.{numbers_in}
 
 -- what is known at a dispatch that is legal
 pub record Dispatching (core : Core) (s : StageNo) : Type 0 where
@@ -41,6 +43,29 @@ pub dispatching : (core : Core) (s : StageNo) → Holds core → allows core.top
 dispatching core s x allowed =
     let law = lawful.dispatch core.topology core.journal.steps s x.sound x.legal allowed in
     record { law = law; within = (live_within core.topology core.journal.steps s x.sound law.live).1 }
+
+-- the queue that the code read, and how many wait in it
+pub queue_read : (core : Core) (s : StageNo) (queue : VecDeque (ℕ × ℕ) Global) → Holds core → allows core.topology core.journal.steps (Dispatch s) ≡ true
+    → queue ≡ get_or core.waiting.items s.0 queue → queue.items ≡ waiting_parts core.topology core.journal.steps s
+queue_read core s queue x allowed read = waiting_read core core.topology core.journal.steps x.fields s queue (dispatching core s x allowed).within read
+
+pub many_wait : (core : Core) (s : StageNo) (queue : VecDeque (ℕ × ℕ) Global) → Holds core → allows core.topology core.journal.steps (Dispatch s) ≡ true
+    → queue ≡ get_or core.waiting.items s.0 queue → length queue.items ≡ length (waiting core.topology core.journal.steps s)
+many_wait core s queue x allowed read =
+    ap length (queue_read core s queue x allowed read) ∙ long_queue (part_of core.topology core.journal.steps (spec_of core.topology s)) (waiting core.topology core.journal.steps s)
+
+-- what the plan names in that queue is what is sent
+pub units_named : (core : Core) (s : StageNo) (queue : VecDeque (ℕ × ℕ) Global) (plan units : List Sent) → Holds core → allows core.topology core.journal.steps (Dispatch s) ≡ true
+    → queue ≡ get_or core.waiting.items s.0 queue → plan ≡ planned core.topology core.journal.steps s [] → units ≡ map (named (numbers_in queue.items)) plan → units ≡ deliveries core.topology core.journal.steps s
+units_named core s queue plan units x allowed read planned_so named_so =
+    let t = core.topology in
+    let before = core.journal.steps in
+    let numbers : numbers_in queue.items ≡ waiting t before s = ap numbers_in (queue_read core s queue x allowed read) ∙ numbers_in_queue (part_of t before (spec_of t s)) (waiting t before s) in
+    named_so ∙ (ap (map (named (numbers_in queue.items))) planned_so ∙ (ap (λ ws. map (named ws) (planned t before s [])) numbers ∙ sym (deliveries_named t before s)))
+
+pub sent_well : (core : Core) (s : StageNo) (units : List Sent) → Holds core → allows core.topology core.journal.steps (Dispatch s) ≡ true
+    → units ≡ deliveries core.topology core.journal.steps s → All (IsSentWell core.topology core.journal.steps) units
+sent_well core s units x allowed is = subst (All (IsSentWell core.topology core.journal.steps)) (sym is) (dispatching core s x allowed).law.well
 
 -- a live stage is one of the topology
 pub no_stage : (topology : Topology) (before : History) (s : StageNo) → is_live topology before s ≡ true → spec_of topology s ≡ None → ⊥
@@ -76,13 +101,18 @@ units_asked core topology before s units x law is well k e below =
     omega (arith, room, count, law.asked_for u)
 
 -- names do not change where a unit goes
-pub room_named : {A : Type 0} (n m : ℕ) (qs : List (VecDeque A Global)) (ws : List ℕ) (ds : List Sent) → n ≡ m → All (HasRoom n qs) ds → All (HasRoom m qs) (map (named ws) ds)
+room_named : {A : Type 0} (n m : ℕ) (qs : List (VecDeque A Global)) (ws : List ℕ) (ds : List Sent) → n ≡ m → All (HasRoom n qs) ds → All (HasRoom m qs) (map (named ws) ds)
 room_named n m qs ws ds same room k e below =
     let within : k < length ds = omega (arith, length-map ds (named ws), below) in
     let is : get_or (map (named ws) ds) k e ≡ named ws (get_or ds k e) = get_or-map (named ws) ds k e e within in
     let spare = (room k e within).spare in
     let sub : (get_or (map (named ws) ds) k e).sub ≡ (get_or ds k e).sub = ap (λ (d : Sent). d.sub) is in
     record { spare = subst (λ (u : SubNo). m ≤ spare_at qs u.consumer) (sym sub) (omega (arith, same, spare)) }
+
+pub room_sent : {A : Type 0} (qs : List (VecDeque A Global)) (ws : List ℕ) (ds units : List Sent) → units ≡ map (named ws) ds → All (HasRoom (length ds) qs) ds → All (HasRoom (length units) qs) units
+room_sent qs ws ds units is room =
+    let count : length ds ≡ length units = sym (ap length is ∙ length-map ds (named ws)) in
+    subst (All (HasRoom (length units) qs)) (sym is) (room_named (length ds) (length units) qs ws ds count room)
 
 -- what is planned goes to stages of the topology
 pub planned_within : (topology : Topology) (before : History) (s : StageNo) (rows : ℕ) → IsSound topology → DispatchLaws topology before s

@@ -73,25 +73,27 @@ planned_below topology before s =
 
 -- What waits
 
+-- what waits in a stage passes the test of a batcher, or of a stage of messages
+pub each_test : (topology : Topology) (before : History) (s : StageNo) (b : Bool) → is_batcher (spec_of topology s) ≡ b
+    → Each (λ n. (if b then batch_waits_in s (batch topology before n) else waits_in s (place topology before n)) ≡ true) (waiting topology before s)
+each_test topology before s b is =
+    each_weaker (λ n. Unit {0} × ((if is_batcher (spec_of topology s) then batch_waits_in s (batch topology before n) else waits_in s (place topology before n)) ≡ true))
+    (λ n. (if b then batch_waits_in s (batch topology before n) else waits_in s (place topology before n)) ≡ true)
+    (λ n p. ap (λ c. if c then batch_waits_in s (batch topology before n) else waits_in s (place topology before n)) (sym is) ∙ p.1)
+    (waiting topology before s)
+    (each_filter (λ n. Unit {0}) (λ n. if is_batcher (spec_of topology s) then batch_waits_in s (batch topology before n) else waits_in s (place topology before n)) (arrivals before s)
+    (each_always (λ n. Unit {0}) (λ n. tt) (arrivals before s)))
+
 -- what is known of each unit that waits in a stage of messages
 abbrev pub Waits : Topology → History → StageNo → ℕ → Type 0
 Waits topology before s n = ((1 ≤ n) × (n ≤ accepted before)) × (waits_in s (place topology before n) ≡ true)
 
 pub each_waits : (topology : Topology) (before : History) (s : StageNo) → IsSound topology → is_legal topology before ≡ true → is_batcher (spec_of topology s) ≡ false → Each (Waits topology before s) (waiting topology before s)
-each_waits topology before s sound h plain = both (waiting topology before s) (waiting_within topology before s (fits topology sound) h) tests
+each_waits topology before s sound h plain = both (waiting topology before s) (waiting_within topology before s (fits topology sound) h) (each_test topology before s false plain)
   where
     both : (ns : List ℕ) → Each (λ n. (1 ≤ n) × (n ≤ accepted before)) ns → Each (λ n. waits_in s (place topology before n) ≡ true) ns → Each (Waits topology before s) ns
     both [] a b = tt
     both (n ∷ ns) a b = ((a.0, b.0), both ns a.1 b.1)
-
-    tests : Each (λ n. waits_in s (place topology before n) ≡ true) (waiting topology before s)
-    tests =
-        each_weaker (λ n. Unit {0} × ((if is_batcher (spec_of topology s) then batch_waits_in s (batch topology before n) else waits_in s (place topology before n)) ≡ true))
-        (λ n. waits_in s (place topology before n) ≡ true)
-        (λ n p. ap (λ b. if b then batch_waits_in s (batch topology before n) else waits_in s (place topology before n)) (sym plain) ∙ p.1)
-        (waiting topology before s)
-        (each_filter (λ n. Unit {0}) (λ n. if is_batcher (spec_of topology s) then batch_waits_in s (batch topology before n) else waits_in s (place topology before n)) (arrivals before s)
-        (each_always (λ n. Unit {0}) (λ n. tt) (arrivals before s)))
 
 -- the places after the units were moved
 pub record AreMoved (topology : Topology) (before : History) (s : StageNo) (places : List Place) : Type 0 where

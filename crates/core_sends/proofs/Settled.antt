@@ -6,7 +6,7 @@ use Rattle.pipe_types.specs.declared.numbers.SubNo.{SubNo}
 use Rattle.pipe_types.specs.declared.topology.Topology.{Topology}
 use Rattle.pipe_types.specs.declared.message.Loss.TheVariants.{Overflow}
 use Rattle.pipe_types.specs.declared.message.Place.{Place}
-use Rattle.pipe_types.specs.declared.message.Place.TheVariants.{Waiting, Inbox, Running, Gathered, InBatch, Acked, Lost}
+use Rattle.pipe_types.specs.declared.message.Place.TheVariants.{Waiting, Acked, Lost}
 use Rattle.pipe_types.specs.declared.room.Sent.{Sent}
 use Rattle.pipe_types.specs.declared.step.Step.TheVariants.{Dispatch}
 use Rattle.pipe_types.specs.Numbers.{same_stage}
@@ -29,12 +29,7 @@ lost_after units over s n (Waiting t) = by (same_stage s t) refl
     by : (b : Bool) → same_stage s t ≡ b → lost_over_size over s n (if b then waiting_after (subs_of units n) false s else Waiting t) ≡ (if b then waiting_after (subs_of units n) (among over n) s else Waiting t)
     by true e = moved (subs_of units n) (among over n) refl
     by false e = ap (λ c. if c && among over n then Lost (Overflow s) else Waiting t) e
-lost_after units over s n (Inbox u) = refl
-lost_after units over s n (Running t) = refl
-lost_after units over s n (Gathered t) = refl
-lost_after units over s n (InBatch b) = refl
-lost_after units over s n (Acked o) = refl
-lost_after units over s n (Lost l) = refl
+lost_after units over s n _ = refl
 
 pub lost_after_all : (units : List Sent) (over : List ℕ) (s : StageNo) (n : ℕ) (o : Option Place)
     → option_map (lost_over_size over s n) (option_map (dispatched units [] [] s n) o) ≡ option_map (dispatched units over [] s n) o
@@ -43,7 +38,6 @@ lost_after_all units over s n (Some p) = ap Some (lost_after units over s n p)
 
 -- a message that is not over the size is not settled
 still_open : (units : List Sent) (over : List ℕ) (s : StageNo) (n : ℕ) (o : Option Place) → is_final o ≡ false → among over n ≡ false → is_final (option_map (dispatched units over [] s n) o) ≡ false
-still_open units over s n None h e = refl
 still_open units over s n (Some (Waiting t)) h e = by (same_stage s t)
   where
     moved : (subs : List SubNo) → is_final (Some (waiting_after subs (among over n) s)) ≡ false
@@ -53,39 +47,25 @@ still_open units over s n (Some (Waiting t)) h e = by (same_stage s t)
     by : (b : Bool) → is_final (Some (if b then waiting_after (subs_of units n) (among over n) s else Waiting t)) ≡ false
     by true = moved (subs_of units n)
     by false = refl
-still_open units over s n (Some (Inbox u)) h e = refl
-still_open units over s n (Some (Running t)) h e = refl
-still_open units over s n (Some (Gathered t)) h e = refl
-still_open units over s n (Some (InBatch b)) h e = refl
 still_open units over s n (Some (Acked o)) h e = h
 still_open units over s n (Some (Lost l)) h e = h
+still_open units over s n _ h e = refl
 
 -- one that waits, is not sent and is over the size is lost
 now_lost : (units : List Sent) (over : List ℕ) (s : StageNo) (n : ℕ) (o : Option Place) → waits_in s o ≡ true → is_empty (subs_of units n) ≡ true → among over n ≡ true
     → is_final (option_map (dispatched units over [] s n) o) ≡ true
-now_lost units over s n None w h e = cc
 now_lost units over s n (Some (Waiting t)) w h e =
     ap (λ b. is_final (Some (if b then waiting_after (subs_of units n) (among over n) s else Waiting t))) w ∙ moved (subs_of units n) h
   where
     moved : (subs : List SubNo) → is_empty subs ≡ true → is_final (Some (waiting_after subs (among over n) s)) ≡ true
     moved (u ∷ subs) k = cc
     moved [] k = ap (λ b. is_final (Some (if b then Lost (Overflow s) else Waiting s))) e
-now_lost units over s n (Some (Inbox u)) w h e = cc
-now_lost units over s n (Some (Running t)) w h e = cc
-now_lost units over s n (Some (Gathered t)) w h e = cc
-now_lost units over s n (Some (InBatch b)) w h e = cc
-now_lost units over s n (Some (Acked o)) w h e = cc
-now_lost units over s n (Some (Lost l)) w h e = cc
+now_lost units over s n _ w h e = cc
 
 waits_open : (s : StageNo) (o : Option Place) → waits_in s o ≡ true → is_final o ≡ false
 waits_open s None w = refl
 waits_open s (Some (Waiting t)) w = refl
-waits_open s (Some (Inbox u)) w = cc
-waits_open s (Some (Running t)) w = cc
-waits_open s (Some (Gathered t)) w = cc
-waits_open s (Some (InBatch b)) w = cc
-waits_open s (Some (Acked o)) w = cc
-waits_open s (Some (Lost l)) w = cc
+waits_open s _ w = cc
 
 -- the mark of a message after a dispatch that loses these
 pub marked_after : (topology : Topology) (before : History) (s : StageNo) (over : List ℕ) (n : ℕ) → over ≡ lost_over topology before (view_of topology before) s → alone topology before s ≡ []

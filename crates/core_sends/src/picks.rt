@@ -1,11 +1,12 @@
 //! Which subscription picks which of the batches that wait.
 
-ghost use Rattle.std.specs.Prelude.{◌≡◌, ◌≤◌, ◌++◌, length, map, take, true, Some, IfOk, OnOk, option_copied};
+ghost use Rattle.std.specs.Prelude.{◌≡◌, ◌≤◌, ◌++◌, length, map, take, true, Some, IfOk, OnOk, option_map};
 ghost use Rattle.pipe_types.specs.Handlers.{begins_with};
 ghost use Rattle.pipe_types.specs.Stages.{spec_of};
 ghost use Rattle.pipe_model.specs.Content.{key_in};
 ghost use Rattle.pipe_model.specs.Flow.{batch, batch_waits_in, first_in, is_batcher, key_by, picks_by, view_of, waiting};
 ghost use Rattle.pipe_model.specs.Lives.{is_live};
+ghost use Rattle.pipe_journal.specs.Items.{message_seen};
 ghost use Rattle.core_state.specs.Stands.{Holds};
 ghost use Rattle.core_sends.specs.Batches.{numbers_of};
 ghost use Rattle.core_sends.specs.Picks.{picks_key, picks_row, picks_list};
@@ -13,7 +14,7 @@ ghost use Rattle.core_sends.specs.Picks.{picks_key, picks_row, picks_list};
 use core_state::Core;
 use core_state::contents::{content_at, message_at};
 use core_tables::rows::BatchRow;
-use pipe_types::message::Message;
+use pipe_journal::MessageView;
 use pipe_types::numbers::{StageNo, SubNo};
 use pipe_types::room::Room;
 use pipe_types::topology::Topology;
@@ -43,11 +44,11 @@ pub(crate) fn picks_of(
 }
 
 /// The first message of the batch that waits in the stage, where the journal passed it on with a key.
-pub fn first_message(core: &Core, stage: StageNo, no: u32) -> Option<&Message>
+pub fn first_message(core: &Core, stage: StageNo, no: u32) -> Option<MessageView<'_>>
     requires holds { Holds core.now }
     requires least { 1 ≤ no }
     requires waits { batch_waits_in stage (batch core.now.topology core.now.journal.steps no) ≡ true }
-    ensures { key_in (option_copied result) ≡ key_by core.now.journal.steps (view_of core.now.topology core.now.journal.steps) no }
+    ensures { key_in (option_map message_seen result) ≡ key_by core.now.journal.steps (view_of core.now.topology core.now.journal.steps) no }
 {
     let first = first_of(&core.batches, no);
     message_at(&core.journal, content_at(&core.contents, first))
@@ -65,15 +66,15 @@ fn first_of(batches: &[BatchRow], no: u32) -> u32
 }
 
 /// Whether the subscription picks batches of the message's key, which is empty where there is no message.
-pub fn does_pick(topology: &Topology, sub: SubNo, message: Option<&Message>) -> bool
-    ensures { result ≡ picks_key topology.now (key_in (option_copied message.entry)) sub }
+pub fn does_pick(topology: &Topology, sub: SubNo, message: Option<MessageView<'_>>) -> bool
+    ensures { result ≡ picks_key topology.now (key_in (option_map message_seen message.entry)) sub }
 {
     let Some(spec) = topology.stages.find(sub.consumer) else {
         return true;
     };
     let text = spec.select.as_slice();
     match message {
-        Some(message) => begins(message.key.as_slice(), text),
+        Some(message) => begins(message.key, text),
         None => begins(&[], text),
     }
 }
@@ -90,9 +91,9 @@ fn push_picks(
     picks: &mut Vec<bool>,
     topology: &Topology,
     rooms: &[Room],
-    message: Option<&Message>,
+    message: Option<MessageView<'_>>,
 ) -> Result<(), AllocError>
-    ensures { OnOk result (picks.new.items ≡ picks.old.items ++ picks_row (picks_key topology.now (key_in (option_copied message.entry))) rooms.now) }
+    ensures { OnOk result (picks.new.items ≡ picks.old.items ++ picks_row (picks_key topology.now (key_in (option_map message_seen message.entry))) rooms.now) }
 {
     for room in rooms {
         picks.push(does_pick(topology, room.sub, message))?;

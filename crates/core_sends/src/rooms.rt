@@ -1,7 +1,7 @@
 //! The live subscriptions on a stage, each with its open demand.
 
 ghost use Rattle.std.specs.Prelude.{◌≡◌, Some, true, IfOk, OnOk};
-ghost use Rattle.pipe_types.specs.Stages.{spec_of, spec_feeds};
+ghost use Rattle.pipe_types.specs.Stages.{spec_of};
 ghost use Rattle.pipe_model.specs.Lives.{is_live};
 ghost use Rattle.pipe_model.specs.Flow.{rooms_by, view_of};
 ghost use Rattle.core_state.specs.Stands.{Holds};
@@ -10,7 +10,7 @@ ghost use Rattle.core_sends.specs.Rooms.{room_between, and_room};
 use core_state::Core;
 use pipe_types::numbers::StageNo;
 use pipe_types::room::Room;
-use pipe_types::topology::{Role, StageSpec};
+use pipe_types::topology::StageSpec;
 use std::alloc::AllocError;
 
 /// The rooms of the stage, in order of their subscriptions.
@@ -37,7 +37,7 @@ pub fn room(core: &Core, producer: &StageSpec, consumer: &StageSpec) -> Option<R
     requires live { is_live core.now.topology core.now.journal.steps producer.now.no ≡ true }
     ensures { result ≡ room_between core.now.topology core.now.journal.steps producer.now.no consumer.now.no }
 {
-    if !takes_from(producer, consumer) {
+    if !producer.feeds(consumer) {
         return None;
     }
     let sub = core.subs.live_of(consumer.no, producer.no)?;
@@ -47,18 +47,6 @@ pub fn room(core: &Core, producer: &StageSpec, consumer: &StageSpec) -> Option<R
         part: u32::from(consumer.index),
         left,
     })
-}
-
-/// Whether the consumer takes from the producer.
-fn takes_from(producer: &StageSpec, consumer: &StageSpec) -> bool
-    ensures { result ≡ spec_feeds producer.now consumer.now }
-{
-    match (producer.role, consumer.role) {
-        (Role::Producer, Role::Processor | Role::Supervisor) => true,
-        (Role::Processor, Role::Batcher) => true,
-        (Role::Batcher, Role::BatchProcessor) => producer.batcher == consumer.batcher,
-        _ => false,
-    }
 }
 
 /// Puts the room behind the others, where there is one.

@@ -16,6 +16,7 @@ use Rattle.core_tables.proofs.Tables.{same_or_other, get-set_same, get-set_other
 use Rattle.core_state.specs.declared.state.Core.{Core}
 use Rattle.core_state.specs.Room.{Roomy}
 use Rattle.core_state.specs.Stands.{Fields, Stands}
+use Rattle.core_state.proofs.Parts.{Part, ContentsAre, ContentsLen, PlacesAre, PlacesLen, ProducersAre, ProducersLen, SettledAre, SettledLen, WaitingAre, WaitingLen, Says, unchanged, fields_of}
 
 -- tables with the same rows, and no less room
 pub record SameRows (core : Core) (p : Vec Place Global) (m : Vec ℕ Global) (r : Vec StageNo Global) (c : Vec ContentRow Global) (w : Vec (VecDeque (ℕ × ℕ) Global) Global) : Type 0 where
@@ -33,46 +34,20 @@ pub record SameRows (core : Core) (p : Vec Place Global) (m : Vec ℕ Global) (r
 
 same_fields : (core : Core) (topology : Topology) (before : History) (p : Vec Place Global) (m : Vec ℕ Global) (r : Vec StageNo Global) (c : Vec ContentRow Global) (w : Vec (VecDeque (ℕ × ℕ) Global) Global) (j : Recorded)
     → Fields core topology before → SameRows core p m r c w → Fields (record core { journal = j; places = p; settled = m; producers = r; contents = c; waiting = w }) topology before
-same_fields core topology before p m r c w j x same =
-    record {
-      sized =
-          record {
-            few = x.sized.few;
-            stages = x.sized.stages;
-            posts = x.sized.posts;
-            came = x.sized.came;
-            waiting = same.queue_count ∙ x.sized.waiting;
-            inboxes = x.sized.inboxes;
-            chunks = x.sized.chunks;
-            batchers = x.sized.batchers;
-            children = x.sized.children;
-            places = ap length same.places ∙ x.sized.places;
-            settled = ap length same.settled ∙ x.sized.settled;
-            producers = ap length same.producers ∙ x.sized.producers;
-            contents = ap length same.contents ∙ x.sized.contents;
-            batches = x.sized.batches;
-            ends = x.sized.ends;
-          };
-      set = record { batchers = x.set.batchers; children = x.set.children; restarts = x.set.restarts };
-      stages = x.stages;
-      posts = x.posts;
-      came = x.came;
-      subs = x.subs;
-      waiting = λ s. same.queues s ∙ x.waiting s;
-      inboxes = x.inboxes;
-      chunks = x.chunks;
-      opens = x.opens;
-      children = x.children;
-      places = λ i. ap (λ xs. slice_get xs i) same.places ∙ x.places i;
-      settled = λ i below. ap (λ xs. slice_get xs i) same.settled ∙ x.settled i below;
-      producers = λ i. ap (λ xs. slice_get xs i) same.producers ∙ x.producers i;
-      contents = λ i. ap (λ xs. slice_get xs i) same.contents ∙ x.contents i;
-      batches = x.batches;
-      sent_on = x.sent_on;
-      legs = x.legs;
-      restarts = x.restarts;
-      totals = x.totals;
-    }
+same_fields core topology before p m r c w j x same = fields_of says
+  where
+    says : (it : Part) → Says it (record core { journal = j; places = p; settled = m; producers = r; contents = c; waiting = w }) topology before
+    says WaitingLen = same.queue_count ∙ x.sized.waiting
+    says PlacesLen = ap length same.places ∙ x.sized.places
+    says SettledLen = ap length same.settled ∙ x.sized.settled
+    says ProducersLen = ap length same.producers ∙ x.sized.producers
+    says ContentsLen = ap length same.contents ∙ x.sized.contents
+    says WaitingAre = λ s. same.queues s ∙ x.waiting s
+    says PlacesAre = λ i. ap (λ xs. slice_get xs i) same.places ∙ x.places i
+    says SettledAre = λ i below. ap (λ xs. slice_get xs i) same.settled ∙ x.settled i below
+    says ProducersAre = λ i. ap (λ xs. slice_get xs i) same.producers ∙ x.producers i
+    says ContentsAre = λ i. ap (λ xs. slice_get xs i) same.contents ∙ x.contents i
+    says it = unchanged x it
 
 same_room : (core : Core) (topology : Topology) (before : History) (p : Vec Place Global) (m : Vec ℕ Global) (r : Vec StageNo Global) (c : Vec ContentRow Global) (w : Vec (VecDeque (ℕ × ℕ) Global) Global) (j : Recorded)
     → Roomy core topology before → SameRows core p m r c w → core.journal.spare ≤ j.spare → Roomy (record core { journal = j; places = p; settled = m; producers = r; contents = c; waiting = w }) topology before

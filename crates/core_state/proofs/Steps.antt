@@ -8,8 +8,9 @@ use Rattle.pipe_model.specs.History.{History}
 use Rattle.pipe_model.specs.Legal.{allows, is_legal, owed}
 use Rattle.core_state.specs.declared.state.Core.{Core}
 use Rattle.core_state.specs.Room.{Roomy}
-use Rattle.core_state.specs.Stands.{Fields, Holds, Stands, AreSized}
+use Rattle.core_state.specs.Stands.{Fields, Holds, Stands}
 use Rattle.core_state.proofs.Rooms.{still_roomy}
+use Rattle.core_state.proofs.Parts.{Part, FewStages, Says, unchanged, fields_of}
 use Rattle.pipe_journal.specs.Recorded.{Recorded}
 
 and_both : (a b : Bool) → a ≡ true → b ≡ true → (a && b) ≡ true
@@ -35,49 +36,11 @@ unowed_after new topology step before same written none = ap (λ t. owed t new.j
 
 -- Where the journal alone made room, the fields are as they were
 pub same_fields : (core : Core) (j : Recorded) (topology : Topology) (before : History) → Fields core topology before → Fields (record core { journal = j }) topology before
-same_fields core j topology before x =
-    record {
-      sized = same_sizes core j topology before x.sized;
-      set = record { batchers = x.set.batchers; children = x.set.children; restarts = x.set.restarts };
-      stages = x.stages;
-      posts = x.posts;
-      came = x.came;
-      subs = x.subs;
-      waiting = x.waiting;
-      inboxes = x.inboxes;
-      chunks = x.chunks;
-      opens = x.opens;
-      children = x.children;
-      places = x.places;
-      settled = x.settled;
-      producers = x.producers;
-      contents = x.contents;
-      batches = x.batches;
-      sent_on = x.sent_on;
-      legs = x.legs;
-      restarts = x.restarts;
-      totals = x.totals;
-    }
+same_fields core j topology before x = fields_of says
   where
-    same_sizes : (core : Core) (j : Recorded) (topology : Topology) (before : History) → AreSized topology before core → AreSized topology before (record core { journal = j })
-    same_sizes core j topology before z =
-        record {
-          few = z.few;
-          stages = z.stages;
-          posts = z.posts;
-          came = z.came;
-          waiting = z.waiting;
-          inboxes = z.inboxes;
-          chunks = z.chunks;
-          batchers = z.batchers;
-          children = z.children;
-          places = z.places;
-          settled = z.settled;
-          producers = z.producers;
-          contents = z.contents;
-          batches = z.batches;
-          ends = z.ends;
-        }
+    says : (it : Part) → Says it (record core { journal = j }) topology before
+    says FewStages = x.sized.few
+    says it = unchanged x it
 
 pub still_stands : (core : Core) (j : Recorded) → Stands core → j.steps ≡ core.journal.steps → core.journal.spare ≤ j.spare → Stands (record core { journal = j })
 still_stands core j x same spare =

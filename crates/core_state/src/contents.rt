@@ -1,11 +1,11 @@
 //! The messages that the journal passes on.
 
-ghost use Rattle.std.specs.Prelude.{◌≡◌, ◌≤◌, ◌-◌, slice_get, option_copied};
+ghost use Rattle.std.specs.Prelude.{◌≡◌, ◌≤◌, ◌-◌, slice_get, option_map};
+ghost use Rattle.pipe_journal.specs.Items.{message_seen};
 ghost use Rattle.core_laws.specs.Contents.{passed_by};
 
 use core_tables::rows::ContentRow;
-use pipe_journal::Journal;
-use pipe_types::message::{Message, Reply};
+use pipe_journal::{Journal, MessageView, ReplyView};
 
 /// The row of the message with that number.
 pub fn content_at(contents: &[ContentRow], no: u32) -> Option<ContentRow>
@@ -16,12 +16,12 @@ pub fn content_at(contents: &[ContentRow], no: u32) -> Option<ContentRow>
 }
 
 /// The message that the reply at that place of the journal passes on.
-pub fn message_at(journal: &Journal, row: Option<ContentRow>) -> Option<&Message>
-    ensures { option_copied result ≡ passed_by journal.now.steps row }
+pub fn message_at(journal: &Journal, row: Option<ContentRow>) -> Option<MessageView<'_>>
+    ensures { option_map message_seen result ≡ passed_by journal.now.steps row }
 {
     let row = row?;
     match journal.reply_at(row.entry, row.item) {
-        Some(Reply::Pass(message)) => Some(message),
+        Some(ReplyView::Pass(message)) => Some(message),
         _ => None,
     }
 }

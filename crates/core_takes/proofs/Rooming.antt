@@ -8,7 +8,7 @@ use Rattle.pipe_types.specs.declared.numbers.StageNo.{StageNo}
 use Rattle.pipe_types.specs.declared.numbers.SubNo.{SubNo}
 use Rattle.pipe_types.specs.declared.topology.Topology.{Topology}
 use Rattle.pipe_types.specs.declared.topology.Role.{Role}
-use Rattle.pipe_types.specs.declared.topology.Role.TheVariants.{Producer, Processor, Supervisor, Batcher, BatchProcessor}
+use Rattle.pipe_types.specs.declared.topology.Role.TheVariants.{Processor, BatchProcessor}
 use Rattle.pipe_types.specs.declared.message.Reply.{Reply}
 use Rattle.pipe_types.specs.declared.message.Outcome.{Outcome}
 use Rattle.pipe_types.specs.declared.step.Step.TheVariants.{Take, Done}
@@ -32,6 +32,7 @@ use Rattle.core_state.specs.Room.{Roomy}
 use Rattle.core_state.specs.Stands.{Fields, Holds, Stands}
 use Rattle.core_state.proofs.Rooms.{room_due, rows_kept, same_rows, ends_kept}
 use Rattle.core_takes.proofs.TakenBatch.{first_taken}
+use Rattle.core_state.proofs.Parts.{Part, ChunksAre, ChunksLen, EndsLen, WaitingAre, WaitingLen, Says, unchanged, fields_of}
 
 pub if_other : {A : Type 0} (b : Bool) (x y : A) → b ≡ false → (if b then x else y) ≡ y
 if_other true x y e = cc
@@ -67,11 +68,8 @@ answer_queues core s chunks waiting x cleared rooms t h = by (s.0 == t.0) refl
 -- A take of messages
 
 processes_or_writes : (role : Role) → is_batch_processor_role role ≡ true → is_processor_role role ≡ true → ⊥
-processes_or_writes Producer h k = let x : false ≡ true = h in cc
-processes_or_writes Processor h k = let x : false ≡ true = h in cc
-processes_or_writes Supervisor h k = let x : false ≡ true = h in cc
-processes_or_writes Batcher h k = let x : false ≡ true = h in cc
 processes_or_writes BatchProcessor h k = let x : false ≡ true = k in cc
+processes_or_writes _ h k = let x : false ≡ true = h in cc
 
 take_elsewhere : (core : Core) (s t : StageNo) (u : SubNo) (k : ℕ) → has_role core.topology s is_processor_role ≡ true → has_role core.topology t is_batch_processor_role ≡ true → puts_out (Take s u k) (post t 0) ≡ false
 take_elsewhere core s t u k processes writes = by (puts_out (Take s u k) (post t 0)) refl
@@ -152,46 +150,15 @@ pub record MoreRoom (core : Core) (c : Vec (Vec ℕ Global) Global) (w : Vec (Ve
 
 more_fields : (core : Core) (c : Vec (Vec ℕ Global) Global) (w : Vec (VecDeque (ℕ × ℕ) Global) Global) (e : Vec (Vec Outcome Global) Global) (topology : Topology) (before : History)
     → Fields core topology before → MoreRoom core c w e → Fields (record core { chunks = c; waiting = w; ends = e }) topology before
-more_fields core c w e topology before x more =
-    record {
-      sized =
-          record {
-            few = x.sized.few;
-            stages = x.sized.stages;
-            posts = x.sized.posts;
-            came = x.sized.came;
-            waiting = more.queues_len ∙ x.sized.waiting;
-            inboxes = x.sized.inboxes;
-            chunks = more.chunks_len ∙ x.sized.chunks;
-            batchers = x.sized.batchers;
-            children = x.sized.children;
-            places = x.sized.places;
-            settled = x.sized.settled;
-            producers = x.sized.producers;
-            contents = x.sized.contents;
-            batches = x.sized.batches;
-            ends = more.ends_len ∙ x.sized.ends;
-          };
-      set = record { batchers = x.set.batchers; children = x.set.children; restarts = x.set.restarts };
-      stages = x.stages;
-      posts = x.posts;
-      came = x.came;
-      subs = x.subs;
-      waiting = λ t. more.queues t ∙ x.waiting t;
-      inboxes = x.inboxes;
-      chunks = λ t. more.chunks t ∙ x.chunks t;
-      opens = x.opens;
-      children = x.children;
-      places = x.places;
-      settled = x.settled;
-      producers = x.producers;
-      contents = x.contents;
-      batches = x.batches;
-      sent_on = x.sent_on;
-      legs = x.legs;
-      restarts = x.restarts;
-      totals = x.totals;
-    }
+more_fields core c w e topology before x more = fields_of says
+  where
+    says : (it : Part) → Says it (record core { chunks = c; waiting = w; ends = e }) topology before
+    says WaitingLen = more.queues_len ∙ x.sized.waiting
+    says ChunksLen = more.chunks_len ∙ x.sized.chunks
+    says EndsLen = more.ends_len ∙ x.sized.ends
+    says WaitingAre = λ t. more.queues t ∙ x.waiting t
+    says ChunksAre = λ t. more.chunks t ∙ x.chunks t
+    says it = unchanged x it
 
 pub more_stands : (core : Core) (c : Vec (Vec ℕ Global) Global) (w : Vec (VecDeque (ℕ × ℕ) Global) Global) (e : Vec (Vec Outcome Global) Global)
     → Stands core → MoreRoom core c w e → Stands (record core { chunks = c; waiting = w; ends = e })

@@ -122,7 +122,7 @@ fn key_of_first(alloc: Global, messages: &[Message]) -> Result<Bytes, AllocError
     ensures { IfOk result (λ key. key ≡ first_key messages.now) }
 {
     match messages.first() {
-        Some(message) => copy_bytes(alloc, &message.key),
+        Some(message) => copy_bytes(alloc, message.key.as_slice()),
         None => Ok(Bytes::from_vec(Vec::new(alloc))),
     }
 }

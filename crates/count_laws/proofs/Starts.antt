@@ -8,7 +8,7 @@ use Rattle.pipe_types.specs.declared.numbers.SubNo.{SubNo}
 use Rattle.pipe_types.specs.declared.topology.Topology.{Topology}
 use Rattle.pipe_types.specs.declared.topology.StageSpec.{StageSpec}
 use Rattle.pipe_types.specs.declared.topology.Role.{Role}
-use Rattle.pipe_types.specs.declared.topology.Role.TheVariants.{Producer, Processor, Supervisor, Batcher, BatchProcessor}
+use Rattle.pipe_types.specs.declared.topology.Role.TheVariants.{Supervisor}
 use Rattle.pipe_types.specs.declared.message.Place.{Place}
 use Rattle.pipe_types.specs.declared.message.Place.TheVariants.{Inbox, Running}
 use Rattle.pipe_types.specs.declared.message.Reply.{Reply}
@@ -41,10 +41,7 @@ second topology s h = by_spec (spec_of topology s) refl
   where
     by_role : (spec : StageSpec) (role : Role) → spec.role ≡ role → is_supervisor_role role ≡ true → spec_of topology s ≡ Some spec → rank topology s ≡ 1
     by_role spec Supervisor is k e = rw (e, is) refl
-    by_role spec Producer is k e = let x : false ≡ true = k in cc
-    by_role spec Processor is k e = let x : false ≡ true = k in cc
-    by_role spec Batcher is k e = let x : false ≡ true = k in cc
-    by_role spec BatchProcessor is k e = let x : false ≡ true = k in cc
+    by_role spec _ is k e = let x : false ≡ true = k in cc
 
     by_spec : (o : Option StageSpec) → spec_of topology s ≡ o → rank topology s ≡ 1
     by_spec None e = let x : has_role topology s is_supervisor_role ≡ false = rw e refl in clash (has_role topology s is_supervisor_role) h x
@@ -144,9 +141,7 @@ ended topology before step s slot n h a now here own current = by_step step (leg
 
         by_reply : (r : Reply) → reply ≡ r → Some (child_place (runs_again (spec_of topology t) (crashes before n)) t (incarnation before t) reply) ≡ Some (Running s) → crashes (ChildEnd t k reply ∷ before) n ≡ crashes before n + 1
         by_reply Crashed f q = (λ i. crashed_as (held i) (f i) n (crashes before n)) ∙ ap (λ b. if b then crashes before n + 1 else crashes before n) (eq-eqb n n refl)
-        by_reply (Pass p) f q = let x = ap (λ r. Some (child_place (runs_again (spec_of topology t) (crashes before n)) t (incarnation before t) r)) (sym f) ∙ q in cc
-        by_reply (Failed why) f q = let x = ap (λ r. Some (child_place (runs_again (spec_of topology t) (crashes before n)) t (incarnation before t) r)) (sym f) ∙ q in cc
-        by_reply (Raised why) f q = let x = ap (λ r. Some (child_place (runs_again (spec_of topology t) (crashes before n)) t (incarnation before t) r)) (sym f) ∙ q in cc
+        by_reply _ f q = let x = ap (λ r. Some (child_place (runs_again (spec_of topology t) (crashes before n)) t (incarnation before t) r)) (sym f) ∙ q in cc
     by_step (Late t k i answer) l e now =
         let there : s ≡ t = same_stage-true s t (and_left (same_stage s t) _ e) in
         let from : is_current before t k ≡ true = subst (λ x. is_current before x k ≡ true) there (subst (λ x. is_current before s x ≡ true) (eqb-true slot k (and_right (same_stage s t) _ e)) current) in

@@ -81,7 +81,8 @@ serves_fit picks rooms n some fit =
 
 -- No unit behind one that is not served
 
-fits_less : (picks : ℕ → SubNo → Bool) (rooms : List Room) (x : ℕ) (xs : List ℕ) → fit_all picks rooms (x ∷ xs) ≡ true → fit_all picks rooms xs ≡ true
+-- once units do not fit, more of them do not fit either
+pub fits_less : (picks : ℕ → SubNo → Bool) (rooms : List Room) (x : ℕ) (xs : List ℕ) → fit_all picks rooms (x ∷ xs) ≡ true → fit_all picks rooms xs ≡ true
 fits_less picks [] x xs h = refl
 fits_less picks (v ∷ rooms) x xs h =
     both (nat_le (count_by (λ n. picks n v.sub) (x ∷ xs)) v.left) (fit_all picks rooms (x ∷ xs)) (nat_le (count_by (λ n. picks n v.sub) xs) v.left) (fit_all picks rooms xs) h

@@ -1,5 +1,4 @@
 pub mod Order
-pub mod Alike
 pub mod Places
 pub mod Bare
 pub mod Singles

@@ -14,7 +14,8 @@ use Rattle.pipe_types.specs.Dispatchers.{ahead, is_served_before, on_each}
 use Rattle.pipe_types.specs.Rooms.{AreAscending}
 use Rattle.pipe_types.proofs.Sends.{sends_of, sends_of_unit, sends_of_more, sends_of_stop, length-turned_places}
 use Rattle.dispatch_demand.specs.Run.{run}
-use Rattle.dispatch_demand.proofs.Order.{served_in_turn, is_served_before_ranks}
+use Rattle.pipe_types.proofs.Serving.{is_served_before_ranks}
+use Rattle.dispatch_demand.proofs.Order.{served_in_turn}
 use Rattle.dispatch_demand.proofs.Singles.{sum_of_front, filter_single, filter_empty}
 
 -- these rooms, in the order in which they are served

@@ -1,5 +1,5 @@
 -- The order in which rooms are served, by keys.
-use Rattle.std.specs.Prelude.{◌≡◌, ℕ, List, [], ◌∷◌, ◌⊎◌}
+use Rattle.std.specs.Prelude.{ℕ}
 use Rattle.std.specs.declared.cmp.Ordering.{Ordering}
 use Rattle.std.specs.declared.cmp.Reverse.{Reverse}
 use Rattle.std.specs.Ordering.{nat_cmp, ordering_then}
@@ -20,8 +20,3 @@ key_cmp x y = ordering_then (nat_cmp y.0.0 x.0.0) (sub_cmp x.1 y.1)
 -- the room that stands there; its part does not count
 abbrev pub room_at : Reverse ℕ × SubNo → Room
 room_at key = record { sub = key.1; part = 0; left = key.0.0 }
-
--- the list has the element
-abbrev pub Has : {A : Type 0} → A → List A → Type 0
-Has x [] = ⊥
-Has x (y ∷ ys) = (y ≡ x) ⊎ Has x ys

@@ -1,38 +1,34 @@
 //! The demand dispatcher: the subscriptions are served in order of their open demand, the greatest first and ties by
 //! the smaller subscription, and each in turn takes as many of the waiting units as it asked for.
 //!
-//! It promises exactly the sends of the demand rule, by unit and then by subscription, or want of memory. The order of
-//! serving is kept from call to call, and only the rooms that changed move in it.
+//! It promises exactly the sends of the demand rule, by unit and then by subscription, or want of memory.
 #![tactic(auto)]
 
-ghost use Rattle.std.specs.Prelude.{◌≡◌, ◌++◌, ◌+◌, ◌<◌, ◌^◌, OnOk, IfOk, replicate, map, true};
-ghost use Rattle.std.specs.List.Sorted.{IsPermutation};
-ghost use Rattle.std.specs.BTreeSet.{IsOrdered};
+ghost use Rattle.std.specs.Prelude.{◌≡◌, ◌++◌, ◌+◌, ◌<◌, ◌^◌, OnOk, IfOk, replicate, map};
+ghost use Rattle.std.specs.List.Sorted.{IsPermutation, IsSorted};
 ghost use Rattle.pipe_types.specs.Dispatchers.{ByDemand, sends_by_place};
 ghost use Rattle.pipe_types.specs.Rooms.{AreAscending};
 ghost use Rattle.dispatch_demand.specs.Run.{run};
-ghost use Rattle.dispatch_demand.specs.Serving.{Has, serving_key, key_cmp, room_at};
+ghost use Rattle.dispatch_demand.specs.Serving.{serving_key, key_cmp, room_at};
 
 use pipe_types::numbers::SubNo;
 use pipe_types::room::{Room, Sent, SentList};
 use std::alloc::{AllocError, Global};
 use std::cmp::Reverse;
-use std::collections::BTreeSet;
+
+/// For so many sends room is made at first.
+const FIRST_SENDS: usize = 16;
 
 /// Sends each unit to one subscription, the greatest open demand first.
 #[derive(Drop)]
 pub struct DemandDispatch {
     alloc: Global,
-    order: BTreeSet<(Reverse<u32>, SubNo)>,
 }
 
 impl DemandDispatch {
     /// A dispatcher that takes its memory here. It takes none yet.
     pub fn new(alloc: Global) -> Self {
-        DemandDispatch {
-            alloc,
-            order: BTreeSet::new(alloc),
-        }
+        DemandDispatch { alloc }
     }
 
     /// What is sent of so many waiting units in these rooms, by unit. The rooms stand in order of their subscriptions.
@@ -41,9 +37,9 @@ impl DemandDispatch {
         // exactly what the demand rule sends of the waiting units
         ensures { IfOk result (λ sent. sent ≡ sends_by_place ByDemand room.now (replicate waiting 0)) }
     {
-        follow(&mut self.order, room)?;
-        let order = rooms_of(self.alloc, &self.order)?;
-        let mut sent = Vec::new(self.alloc);
+        let keys = keys_in_order(self.alloc, room)?;
+        let order = rooms_of(self.alloc, &keys)?;
+        let mut sent = Vec::with_capacity(self.alloc, FIRST_SENDS)?;
         let mut next = 0;
         for served in &order {
             let count = served.left.min(waiting - next);
@@ -54,53 +50,33 @@ impl DemandDispatch {
     }
 }
 
-/// Moves the rooms that changed: where they stood they leave the order, and where they stand now they join it.
-fn follow(order: &mut BTreeSet<(Reverse<u32>, SubNo)>, room: &[Room]) -> Result<(), AllocError>
-    requires { AreAscending room.now }
-    ensures same { OnOk result (IsPermutation (map serving_key room.now) order.new.keys) }
-    ensures ordered { IsOrdered key_cmp order.new }
+/// Where the rooms stand in the order in which they are served.
+fn keys_in_order(alloc: Global, room: &[Room]) -> Result<Vec<(Reverse<u32>, SubNo)>, AllocError>
+    ensures same { IfOk result (λ keys. IsPermutation (map serving_key room.now) keys.items) }
+    ensures ordered { IfOk result (λ keys. IsSorted key_cmp keys.items) }
 {
-    order.retain(|key| is_room(room, *key));
-    for u in room {
-        order.insert(key_of(u))?;
-    }
-    Ok(())
+    let mut keys = keys_of(alloc, room)?;
+    keys.sort_unstable();
+    Ok(keys)
 }
 
-/// Where a room stands in the order.
-fn key_of(room: &Room) -> (Reverse<u32>, SubNo)
-    ensures { result ≡ serving_key room.now }
+fn keys_of(alloc: Global, room: &[Room]) -> Result<Vec<(Reverse<u32>, SubNo)>, AllocError>
+    ensures { IfOk result (λ keys. keys.items ≡ map serving_key room.now) }
 {
-    (Reverse(room.left), room.sub)
+    room.iter().map(|u| (Reverse(u.left), u.sub)).collect(alloc)
 }
 
-/// Whether a room stands there; the rooms are searched by their subscriptions.
-fn is_room(room: &[Room], key: (Reverse<u32>, SubNo)) -> bool
-    ensures { result ≡ true → Has key (map serving_key room.now) }
+/// The rooms that stand there. Their parts do not count.
+fn rooms_of(alloc: Global, keys: &Vec<(Reverse<u32>, SubNo)>) -> Result<Vec<Room>, AllocError>
+    ensures { IfOk result (λ rooms. rooms.items ≡ map room_at keys.now.items) }
 {
-    let Ok(at) = room.binary_search_by_key(&key.1, |u| u.sub) else {
-        return false;
-    };
-    let found = key_of(&room[at]);
-    found == key
-}
-
-/// The rooms that stand in the order, in it. Their parts do not count.
-fn rooms_of(alloc: Global, order: &BTreeSet<(Reverse<u32>, SubNo)>) -> Result<Vec<Room>, AllocError>
-    ensures { IfOk result (λ rooms. rooms.items ≡ map room_at order.now.keys) }
-{
-    order.iter().map(|key| room_of(*key)).collect(alloc)
-}
-
-/// The room that stands there. Its part does not count.
-fn room_of(key: (Reverse<u32>, SubNo)) -> Room
-    ensures { result ≡ room_at key }
-{
-    Room {
-        sub: key.1,
-        part: 0,
-        left: key.0.0,
-    }
+    keys.iter()
+        .map(|key| Room {
+            sub: key.1,
+            part: 0,
+            left: key.0.0,
+        })
+        .collect(alloc)
 }
 
 /// Sends so many units from `first` on. After an `Err` some of them may stand in the list.

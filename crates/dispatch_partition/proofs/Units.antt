@@ -1,10 +1,12 @@
 -- What the partition rule sends of one unit.
-use Rattle.std.proofs.Common.{◌≡◌, ◌≢◌, ℕ, ◌+◌, ◌-◌, ◌<◌, ◌≤◌, ⊎_elim, List, [], ◌∷◌, ◌++◌, length, get_or, take, suc, zero, refl, ap, sym, ◌∙◌, arith, map, add-one}
-use Rattle.std.specs.Prelude.{Bool, true, false, filter, find, count_by, nat_lt, ◌==◌, ◌&&◌, if◌then◌else◌, Option, None, Some}
+use Rattle.std.proofs.Common.{◌≡◌, ◌≢◌, ℕ, ◌+◌, ◌-◌, ◌<◌, ◌≤◌, ⊎_elim, List, [], ◌∷◌, ◌++◌, length, get_or, take, suc, zero, refl, ap, sym, ◌∙◌, arith, map, set, subst}
+use Rattle.std.specs.Prelude.{Bool, true, false, not, cond, filter, find, count_by, nat_lt, ◌==◌, ◌&&◌, if◌then◌else◌, Option, None, Some, position}
+use Rattle.std.specs.List.{position_or_len}
 use Rattle.std.specs.Option.{option_map, option_to_list}
 use Rattle.std.proofs.lemmas.Bool.{cases_lt}
 use Rattle.std.proofs.lemmas.Bool.Decides.{nat_tests}
 use Rattle.std.proofs.lemmas.List.{take_more, length-take-le}
+use Rattle.std.proofs.lemmas.List.Quantifiers.{position-Some}
 use Rattle.std.proofs.lemmas.List.Sums.{count_by_more_yes, count_by_more_no}
 use Rattle.pipe_types.specs.declared.numbers.SubNo.{SubNo}
 use Rattle.pipe_types.specs.declared.room.Room.{Room}
@@ -91,32 +93,98 @@ chosen_room before p (u ∷ rooms) differ = either (u.part == p) refl (chosen_ro
         let stays : chosen before p u ≡ false = other_part p u.part (nat_lt (before u.part) u.left) other in
         rw stays rest
 
--- the room of a part among one more of the rooms
-found_more : (rooms : List Room) (i : ℕ) (d : Room) → PartsDiffer rooms → i < length rooms → (q : ℕ) → find (λ u. u.part == q) (take (i + 1) rooms) ≡ (if (get_or rooms i d).part == q then Some (get_or rooms i d) else find (λ u. u.part == q) (take i rooms))
-found_more rooms i d differ within q = rw add-one (among rooms i differ within)
+-- The rooms with what is left, as a list
+
+abbrev pub of_part : ℕ → Room → Bool
+of_part q u = u.part == q
+
+-- the first room of the part
+found_at : (q : ℕ) (rooms : List Room) (at : ℕ) (d : Room) → at < length rooms → of_part q (get_or rooms at d) ≡ true → ((k : ℕ) → k < at → of_part q (get_or rooms k d) ≡ false) → find (of_part q) rooms ≡ Some (get_or rooms at d)
+found_at q [] at d within here before = absurd (omega arith)
+found_at q (u ∷ rooms) zero d within here before = ap (λ (b : Bool). if b then Some u else find (of_part q) rooms) here
+found_at q (u ∷ rooms) (suc at) d within here before =
+    ap (λ (b : Bool). if b then Some u else find (of_part q) rooms) (before 0 (omega arith))
+    ∙ found_at q rooms at d (omega arith) here (λ k low. before (suc k) (omega arith))
+
+-- another room in its place
+set_at : (q : ℕ) (rooms : List Room) (at : ℕ) (v d : Room) → at < length rooms → of_part q v ≡ true → ((k : ℕ) → k < at → of_part q (get_or rooms k d) ≡ false) → find (of_part q) (set rooms at v) ≡ Some v
+set_at q [] at v d within here before = absurd (omega arith)
+set_at q (u ∷ rooms) zero v d within here before = ap (λ (b : Bool). if b then Some v else find (of_part q) rooms) here
+set_at q (u ∷ rooms) (suc at) v d within here before =
+    ap (λ (b : Bool). if b then Some u else find (of_part q) (set rooms at v)) (before 0 (omega arith))
+    ∙ set_at q rooms at v d (omega arith) here (λ k low. before (suc k) (omega arith))
+
+-- another room in the place of one of another part
+set_other : (q : ℕ) (rooms : List Room) (at : ℕ) (v d : Room) → at < length rooms → of_part q (get_or rooms at d) ≡ false → of_part q v ≡ false → find (of_part q) (set rooms at v) ≡ find (of_part q) rooms
+set_other q [] at v d within was is = absurd (omega arith)
+set_other q (u ∷ rooms) zero v d within was is = ap (λ (b : Bool). if b then Some v else find (of_part q) rooms) is ∙ sym (ap (λ (b : Bool). if b then Some u else find (of_part q) rooms) was)
+set_other q (u ∷ rooms) (suc at) v d within was is = ap (λ (o : Option Room). if u.part == q then Some u else o) (set_other q rooms at v d (omega arith) was is)
+
+beyond : (q : ℕ) (rooms : List Room) → length rooms ≤ position_or_len (of_part q) rooms → find (of_part q) rooms ≡ None
+beyond q [] h = refl
+beyond q (u ∷ rooms) h = by (u.part == q) refl h (beyond q rooms)
   where
-    either_first : (a b : Bool) (x y rest : Option Room) → (a ≡ true → b ≡ false) → (if a then x else (if b then y else rest)) ≡ (if b then y else (if a then x else rest))
-    either_first true true x y rest h = cc (h refl)
-    either_first true false x y rest h = refl
-    either_first false true x y rest h = refl
-    either_first false false x y rest h = refl
+    by : (b : Bool) → (u.part == q) ≡ b → suc (length rooms) ≤ cond (not b) (1 + position_or_len (of_part q) rooms) 0
+        → (length rooms ≤ position_or_len (of_part q) rooms → find (of_part q) rooms ≡ None) → (if b then Some u else find (of_part q) rooms) ≡ None
+    by true e h rest = absurd (omega arith)
+    by false e h rest = rest (omega arith)
 
-    apart : (a b : ℕ) → a ≢ b → (a == q) ≡ true → (b == q) ≡ false
-    apart a b ne h = grind (arith, nat_tests)
+nowhere : (q : ℕ) (rooms : List Room) → position (of_part q) rooms ≡ None → find (of_part q) rooms ≡ None
+nowhere q rooms none = by (nat_lt (position_or_len (of_part q) rooms) (length rooms)) refl none
+  where
+    by : (b : Bool) → nat_lt (position_or_len (of_part q) rooms) (length rooms) ≡ b → cond b (Some (position_or_len (of_part q) rooms)) None ≡ None → find (of_part q) rooms ≡ None
+    by true e h = cc
+    by false e h = let past : length rooms ≤ position_or_len (of_part q) rooms = grind (arith, nat_tests) in beyond q rooms past
 
-    among : (rooms : List Room) (i : ℕ) → PartsDiffer rooms → i < length rooms → find (λ u. u.part == q) (take (suc i) rooms) ≡ (if (get_or rooms i d).part == q then Some (get_or rooms i d) else find (λ u. u.part == q) (take i rooms))
-    among [] i differ within = absurd (omega arith)
-    among (u ∷ rooms) zero differ within = refl
-    among (u ∷ rooms) (suc i) differ within =
-        ap (λ (o : Option Room). if u.part == q then Some u else o) (among rooms i (parts_differ_tail u rooms differ) (omega arith))
-        ∙ either_first (u.part == q) ((get_or rooms i d).part == q) (Some u) (Some (get_or rooms i d)) (find (λ v. v.part == q) (take i rooms))
-        (apart u.part (get_or rooms i d).part (differ 0 (suc i) d (omega arith) (omega arith)))
+-- one unit less in the first room of the part
+pub taken_rest : (part : ℕ) (rooms : List Room) (at : ℕ) (room v : Room) → position (of_part part) rooms ≡ Some at → room ≡ get_or rooms at room → v ≡ record room { left = room.left - 1 }
+    → (q : ℕ) → find (of_part q) (set rooms at v) ≡ (if part == q then one_less (find (of_part q) rooms) else find (of_part q) rooms)
+taken_rest part rooms at room v found read is q = either (part == q) refl
+  where
+    here : (at < length rooms) × (of_part part (get_or rooms at room) ≡ true) × ((k : ℕ) → k < at → of_part part (get_or rooms k room) ≡ false)
+    here = position-Some (of_part part) rooms at room found
 
-pub found_step : (rooms : List Room) (i : ℕ) (d : Room) → PartsDiffer rooms → i < length rooms → (q : ℕ) (old new : Option Room) → old ≡ find (λ u. u.part == q) (take i rooms) → new ≡ (if (get_or rooms i d).part == q then Some (get_or rooms i d) else old) → new ≡ find (λ u. u.part == q) (take (i + 1) rooms)
-found_step rooms i d differ within q old new before now =
-    now
-    ∙ ap (λ (o : Option Room). if (get_or rooms i d).part == q then Some (get_or rooms i d) else o) before
-    ∙ sym (found_more rooms i d differ within q)
+    spent_room : v ≡ record (get_or rooms at room) { left = (get_or rooms at room).left - 1 }
+    spent_room = is ∙ ap (λ (u : Room). record u { left = u.left - 1 }) read
+
+    part_is : v.part ≡ part
+    part_is = ap (λ (u : Room). u.part) spent_room ∙ same_part (get_or rooms at room).part part here.1
+
+    at_part : find (of_part part) (set rooms at v) ≡ one_less (find (of_part part) rooms)
+    at_part =
+        set_at part rooms at v room here.0 (ap (of_part part) spent_room ∙ here.1) here.2
+        ∙ (ap (λ (u : Room). Some u) spent_room ∙ sym (ap one_less (found_at part rooms at room here.0 here.1 here.2)))
+
+    either : (b : Bool) → (part == q) ≡ b → find (of_part q) (set rooms at v) ≡ (if b then one_less (find (of_part q) rooms) else find (of_part q) rooms)
+    either true e = subst (λ (n : ℕ). find (of_part n) (set rooms at v) ≡ one_less (find (of_part n) rooms)) (same_part part q e) at_part
+    either false e =
+        set_other q rooms at v room here.0
+        (ap (λ (n : ℕ). n == q) (same_part (get_or rooms at room).part part here.1) ∙ e)
+        (ap (λ (n : ℕ). n == q) part_is ∙ e)
+
+pub taken_sub : (part : ℕ) (rooms : List Room) (at : ℕ) (room : Room) → position (of_part part) rooms ≡ Some at → room ≡ get_or rooms at room → next_sub (Some room) ≡ next_sub (find (of_part part) rooms)
+taken_sub part rooms at room found read =
+    let here = position-Some (of_part part) rooms at room found in
+    ap (λ (u : Room). next_sub (Some u)) read ∙ sym (ap next_sub (found_at part rooms at room here.0 here.1 here.2))
+
+-- no room of the part
+pub none_rest : (part : ℕ) (rooms : List Room) → position (of_part part) rooms ≡ None → (q : ℕ) → find (of_part q) rooms ≡ (if part == q then one_less (find (of_part q) rooms) else find (of_part q) rooms)
+none_rest part rooms none q = either (part == q) refl
+  where
+    either : (b : Bool) → (part == q) ≡ b → find (of_part q) rooms ≡ (if b then one_less (find (of_part q) rooms) else find (of_part q) rooms)
+    either true e = subst (λ (n : ℕ). find (of_part n) rooms ≡ one_less (find (of_part n) rooms)) (same_part part q e) (nowhere part rooms none ∙ sym (ap one_less (nowhere part rooms none)))
+    either false e = refl
+
+pub none_sub : (part : ℕ) (rooms : List Room) → position (of_part part) rooms ≡ None → None ≡ next_sub (find (of_part part) rooms)
+none_sub part rooms none = sym (ap next_sub (nowhere part rooms none))
+
+-- before the first unit all is left
+pub all_left : (rooms : List Room) (q : ℕ) → find (of_part q) rooms ≡ left_after rooms [] q
+all_left rooms q = by (find (of_part q) rooms)
+  where
+    by : (o : Option Room) → o ≡ option_map (spent 0) o
+    by None = refl
+    by (Some u) = let same : u.left ≡ u.left - 0 = omega arith in ap (λ (m : ℕ). Some (record u { left = m })) same
 
 -- one more unit of a part takes one of what is left of it
 left_more : (rooms : List Room) (parts : List ℕ) (k p : ℕ) → k < length parts → p ≡ get_or parts k 0 → (q : ℕ) → left_after rooms (take (k + 1) parts) q ≡ (if p == q then one_less (left_after rooms (take k parts) q) else left_after rooms (take k parts) q)

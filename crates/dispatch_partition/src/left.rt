@@ -1,36 +1,45 @@
-//! The open demand that is left of each partition.
+//! The open demand that is left in each room.
 
-ghost use Rattle.std.specs.Prelude.{◌≡◌, ◌==◌, ℕ, IfOk, nat_eq, if◌then◌else◌, find};
-ghost use Rattle.std.specs.HashMap.{get};
-ghost use Rattle.pipe_types.specs.Rooms.{PartsDiffer};
+ghost use Rattle.std.specs.Prelude.{◌≡◌, ◌==◌, ◌-◌, ◌<◌, ℕ, length, IfSome, Some, if◌then◌else◌, find, position};
 ghost use Rattle.dispatch_partition.specs.Left.{next_sub, one_less};
 
 use pipe_types::numbers::SubNo;
 use pipe_types::room::Room;
-use std::alloc::{AllocError, Global};
-use std::collections::HashMap;
-
-/// The room of each part.
-pub(crate) fn rooms_by_part(alloc: Global, room: &[Room]) -> Result<HashMap<u32, Room>, AllocError>
-    requires { PartsDiffer room.now }
-    ensures { IfOk result (λ left. (q : ℕ) → get nat_eq left q ≡ find (λ u. u.part == q) room.now) }
-{
-    let mut left = HashMap::new(alloc);
-    for each in room {
-        left.insert(each.part, *each)?;
-    }
-    Ok(left)
-}
 
 /// Takes one unit of a part's open demand, and says on which subscription; none where no demand is left.
-pub(crate) fn take_one(left: &mut HashMap<u32, Room>, part: u32) -> Option<SubNo>
-    ensures taken { result ≡ next_sub (get nat_eq left.old part) }
-    ensures rest { (q : ℕ) → get nat_eq left.new q ≡ (if part == q then one_less (get nat_eq left.old q) else get nat_eq left.old q) }
+pub(crate) fn take_one(left: &mut Vec<Room>, part: u32) -> Option<SubNo>
+    ensures taken { result ≡ next_sub (find (λ u. u.part == part) left.old.items) }
+    ensures rest { (q : ℕ) → find (λ u. u.part == q) left.new.items ≡ (if part == q then one_less (find (λ u. u.part == q) left.old.items) else find (λ u. u.part == q) left.old.items) }
 {
-    let room = left.get_mut(&part)?;
-    if room.left == 0 {
+    let Some(at) = place_of(left, part) else {
         return None;
+    };
+    let room = left[at];
+    left[at] = spend(room);
+    sub_of(room)
+}
+
+/// Where the first room of the part stands.
+fn place_of(left: &[Room], part: u32) -> Option<usize>
+    ensures first { result ≡ position (λ u. u.part == part) left.now }
+    ensures within { IfSome result (λ at. at < length left.now) }
+{
+    left.iter().position(|u| u.part == part)
+}
+
+/// The room with one unit less of open demand, as long as there is one.
+fn spend(room: Room) -> Room
+    ensures { result ≡ record room { left = room.left - 1 } }
+{
+    Room {
+        left: room.left.saturating_sub(1),
+        ..room
     }
-    room.left -= 1;
-    Some(room.sub)
+}
+
+/// The subscription of a room with open demand.
+fn sub_of(room: Room) -> Option<SubNo>
+    ensures { result ≡ next_sub (Some room) }
+{
+    if room.left == 0 { None } else { Some(room.sub) }
 }

@@ -11,9 +11,12 @@ ghost use Rattle.std.specs.Prelude.{◌≡◌, ◌<◌, ◌≤◌, ◌^◌, IfOk
 ghost use Rattle.pipe_types.specs.Dispatchers.{ByPartition, sends_by_place, partition_of as partition_of_bytes};
 ghost use Rattle.pipe_types.specs.Rooms.{AreAscending, PartsDiffer};
 
-use crate::left::{rooms_by_part, take_one};
+use crate::left::take_one;
 use pipe_types::room::{Room, Sent, SentList};
 use std::alloc::{AllocError, Global};
+
+/// For so many sends room is made at first.
+const FIRST_SENDS: usize = 16;
 
 /// Sends each unit to the subscription of its partition.
 #[derive(Drop)]
@@ -28,7 +31,7 @@ impl PartitionDispatch {
     }
 
     /// What is sent of waiting units with these partitions in these rooms, by unit. The rooms stand in order of their
-    /// subscriptions, no two with the same part. In time for the rooms and for the waiting units.
+    /// subscriptions, no two with the same part.
     pub fn deliver(&mut self, parts: &[u32], room: &[Room]) -> Result<SentList, AllocError>
         requires ascending { AreAscending room.now }
         requires parts_differ { PartsDiffer room.now }
@@ -36,8 +39,8 @@ impl PartitionDispatch {
         // exactly what the partition rule sends of the waiting units
         ensures { IfOk result (λ sent. sent ≡ sends_by_place ByPartition room.now parts.now) }
     {
-        let mut left = rooms_by_part(self.alloc, room)?;
-        let mut sent = Vec::new(self.alloc);
+        let mut left = Vec::from_slice(self.alloc, room)?;
+        let mut sent = Vec::with_capacity(self.alloc, FIRST_SENDS)?;
         for (place, part) in parts.iter().enumerate() {
             if let Some(sub) = take_one(&mut left, *part) {
                 let unit = place as u32;

@@ -2,8 +2,7 @@
 
 use super::words::{long, number};
 use journal_texts::lines::{journal_text, step_line};
-use pipe_journal::Journal;
-use pipe_types::message::Reply;
+use pipe_journal::{Journal, ReplyView};
 use std::io;
 
 pub fn tell_length(rt: &HostRuntime, journal: &Journal) -> io::Result<()> {
@@ -28,7 +27,7 @@ pub fn tell_text(rt: &HostRuntime, journal: &Journal) -> io::Result<()> {
 
 pub fn tell_record(rt: &HostRuntime, journal: &Journal, rest: &str) -> io::Result<()> {
     match journal.payload_at(long(rest, 0), number(rest, 1)) {
-        Some(record) => println!(rt; "record {rest}: |{}|", shown(record.as_slice())),
+        Some(record) => println!(rt; "record {rest}: |{}|", shown(record)),
         None => println!(rt; "record {rest}: none"),
     }
 }
@@ -41,12 +40,12 @@ pub fn tell_reply(rt: &HostRuntime, journal: &Journal, rest: &str) -> io::Result
 }
 
 /// The payload of a message that passes, or the kind of another reply.
-fn in_short(reply: Option<&Reply>) -> &str {
+fn in_short(reply: Option<ReplyView<'_>>) -> &str {
     match reply {
-        Some(Reply::Pass(message)) => shown(message.payload.as_slice()),
-        Some(Reply::Failed(_)) => "failed",
-        Some(Reply::Raised(_)) => "raised",
-        Some(Reply::Crashed) => "crashed",
+        Some(ReplyView::Pass(message)) => shown(message.payload),
+        Some(ReplyView::Failed(_)) => "failed",
+        Some(ReplyView::Raised(_)) => "raised",
+        Some(ReplyView::Crashed) => "crashed",
         None => "none",
     }
 }

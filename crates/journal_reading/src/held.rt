@@ -1,13 +1,15 @@
 //! What the types of a journal's steps keep: numbers of their width, bytes that are bytes, and reasons that are reasons. Each
 //! function does nothing, and its clauses say what the type of its argument keeps.
 
+ghost use Rattle.pipe_journal.specs.Items.{reply_seen, records_seen, replies_seen};
 ghost use Rattle.pipe_journal.specs.Views.{end_seen, answer_seen, step_seen};
 ghost use Rattle.line_reading.specs.Spelling.{Each, IsShort, IsNumber, IsLong, IsWhy, IsStage};
 ghost use Rattle.reading_laws.specs.Fields.{AreBytes, IsHeldReply, IsHeldOutcome, IsHeldEnd, IsHeldAnswer, IsHeld, AreHeld, IsCountable};
 
-use pipe_journal::{AnswerView, EndView, Journal, StepView};
-use pipe_types::bytes::Bytes;
-use pipe_types::message::{Message, Outcome, Reply};
+use pipe_journal::{
+    AnswerView, EndView, Journal, MessageView, Records, Replies, ReplyView, StepView,
+};
+use pipe_types::message::Outcome;
 use pipe_types::numbers::{MsgNo, StageNo, SubNo};
 use pipe_types::reason::Reason;
 
@@ -57,22 +59,22 @@ fn hold_number(no: MsgNo)
     let _number = no.0;
 }
 
-fn hold_records(records: &[Bytes])
-    ensures { Each AreBytes records.now }
+fn hold_records(records: Records<'_>)
+    ensures { Each AreBytes (records_seen records.entry) }
 {
     for at in 0..records.len() {
-        hold_bytes(records[at].as_slice());
+        hold_bytes(records.item(at));
     }
 }
 
-fn hold_message(message: &Message)
-    ensures batcher { IsShort message.now.batcher }
-    ensures key { AreBytes message.now.key }
-    ensures payload { AreBytes message.now.payload }
+fn hold_message(message: MessageView<'_>)
+    ensures batcher { IsShort message.entry.batcher }
+    ensures key { AreBytes message.entry.key.now }
+    ensures payload { AreBytes message.entry.payload.now }
 {
     let _batcher = message.batcher;
-    hold_bytes(message.key.as_slice());
-    hold_bytes(message.payload.as_slice());
+    hold_bytes(message.key);
+    hold_bytes(message.payload);
 }
 
 fn hold_reason(why: &Reason)
@@ -81,22 +83,22 @@ fn hold_reason(why: &Reason)
     hold_bytes(why.as_bytes());
 }
 
-fn hold_reply(reply: &Reply)
-    ensures { IsHeldReply reply.now }
+fn hold_reply(reply: ReplyView<'_>)
+    ensures { IsHeldReply (reply_seen reply.entry) }
 {
     match reply {
-        Reply::Pass(message) => hold_message(message),
-        Reply::Failed(why) => hold_reason(why),
-        Reply::Raised(why) => hold_reason(why),
-        Reply::Crashed => {}
+        ReplyView::Pass(message) => hold_message(message),
+        ReplyView::Failed(why) => hold_reason(why),
+        ReplyView::Raised(why) => hold_reason(why),
+        ReplyView::Crashed => {}
     }
 }
 
-fn hold_replies(replies: &[Reply])
-    ensures { Each IsHeldReply replies.now }
+fn hold_replies(replies: Replies<'_>)
+    ensures { Each IsHeldReply (replies_seen replies.entry) }
 {
     for at in 0..replies.len() {
-        hold_reply(&replies[at]);
+        hold_reply(replies.item(at));
     }
 }
 
@@ -122,6 +124,7 @@ fn hold_end(end: EndView<'_>)
 {
     match end {
         EndView::Outcomes(outcomes) => hold_outcomes(outcomes),
+        EndView::Successes(_) => {}
         EndView::Crashed => {}
     }
 }
@@ -131,7 +134,7 @@ fn hold_answer(answer: AnswerView<'_>)
     ensures { IsHeldAnswer (answer_seen answer.entry) }
 {
     match answer {
-        AnswerView::Records(records) => hold_records(records),
+        AnswerView::Records(records) => hold_records(Records::Listed(records)),
         AnswerView::Wrote(bytes, end) => {
             hold_long(bytes);
             hold_end(end);

@@ -1,16 +1,18 @@
 //! Bytes in hexadecimal digits, and lists joined by commas.
 
-ghost use Rattle.std.specs.Prelude.{◌≡◌, ◌++◌, ◌<◌, ◌+◌, Bool, true, false, OnOk, decimal, codes};
+ghost use Rattle.std.specs.Prelude.{◌≡◌, ◌++◌, ◌<◌, ◌+◌, Bool, true, false, OnOk, decimal, codes, replicate};
+ghost use Rattle.pipe_types.specs.declared.message.Reply.{Reply};
+ghost use Rattle.pipe_types.specs.declared.message.Outcome.TheVariants.{Successful};
+ghost use Rattle.pipe_journal.specs.Items.{message_seen, reply_seen, records_seen, replies_seen};
 ghost use Rattle.std.specs.List.{flat_map};
 ghost use Rattle.std.specs.Fmt.{digit_glyph};
 ghost use Rattle.pipe_journal.specs.Views.{end_seen};
-ghost use Rattle.journal_texts.specs.Words.{byte_text, bytes_text, next_text, more_text, list_text, number_word, words};
+ghost use Rattle.journal_texts.specs.Words.{byte_text, bytes_text, next_text, more_text, list_text, separator, number_word, words};
 ghost use Rattle.journal_texts.specs.Steps.{flag_text, reply_text, outcome_text, ends_text};
 
 use crate::words::{put, put_number};
-use pipe_journal::EndView;
-use pipe_types::bytes::Bytes;
-use pipe_types::message::{Message, Outcome, Reply};
+use pipe_journal::{EndView, MessageView, Records, Replies, ReplyView};
+use pipe_types::message::Outcome;
 use std::alloc::AllocError;
 
 fn hex_digit(n: u8) -> u8
@@ -87,26 +89,26 @@ fn flag(is_set: bool) -> &'static [u8]
 }
 
 #[tactic(auto, using(std::proofs::lemmas::List::append_assoc))]
-fn put_pass(out: &mut Vec<u8>, message: &Message) -> Result<(), AllocError>
-    ensures { OnOk result (out.new.items ≡ out.old.items ++ reply_text (Reply.Pass message.now)) }
+fn put_pass(out: &mut Vec<u8>, message: MessageView<'_>) -> Result<(), AllocError>
+    ensures { OnOk result (out.new.items ≡ out.old.items ++ reply_text (Reply.Pass (message_seen message.entry))) }
 {
     put(out, b"p:")?;
     put_number(out, message.batcher as u64)?;
     put(out, b":")?;
     put(out, flag(message.flush))?;
-    put_tagged(out, b":", message.key.as_slice())?;
-    put_tagged(out, b":", message.payload.as_slice())
+    put_tagged(out, b":", message.key)?;
+    put_tagged(out, b":", message.payload)
 }
 
 /// Writes one reply.
-pub(crate) fn put_reply(out: &mut Vec<u8>, reply: &Reply) -> Result<(), AllocError>
-    ensures { OnOk result (out.new.items ≡ out.old.items ++ reply_text reply.now) }
+pub(crate) fn put_reply(out: &mut Vec<u8>, reply: ReplyView<'_>) -> Result<(), AllocError>
+    ensures { OnOk result (out.new.items ≡ out.old.items ++ reply_text (reply_seen reply.entry)) }
 {
     match reply {
-        Reply::Pass(message) => put_pass(out, message),
-        Reply::Failed(why) => put_tagged(out, b"f:", why.as_bytes()),
-        Reply::Raised(why) => put_tagged(out, b"r:", why.as_bytes()),
-        Reply::Crashed => put(out, b"c"),
+        ReplyView::Pass(message) => put_pass(out, message),
+        ReplyView::Failed(why) => put_tagged(out, b"f:", why.as_bytes()),
+        ReplyView::Raised(why) => put_tagged(out, b"r:", why.as_bytes()),
+        ReplyView::Crashed => put(out, b"c"),
     }
 }
 
@@ -119,66 +121,68 @@ fn put_outcome(out: &mut Vec<u8>, outcome: &Outcome) -> Result<(), AllocError>
     }
 }
 
-#[tactic(auto, using(std::proofs::lemmas::List::append_assoc))]
-fn put_next_record(out: &mut Vec<u8>, bytes: &Bytes) -> Result<(), AllocError>
-    ensures { OnOk result (out.new.items ≡ out.old.items ++ next_text bytes_text bytes.now) }
+/// Writes what stands in front of the item at that place: a comma, but nothing in front of the first.
+fn put_separator(out: &mut Vec<u8>, at: usize) -> Result<(), AllocError>
+    ensures { OnOk result (out.new.items ≡ out.old.items ++ separator at) }
 {
-    put(out, b",")?;
-    put_bytes(out, bytes.as_slice())
+    if at == 0 { Ok(()) } else { put(out, b",") }
 }
 
-fn put_more_records(out: &mut Vec<u8>, records: &[Bytes]) -> Result<(), AllocError>
-    ensures { OnOk result (out.new.items ≡ out.old.items ++ more_text bytes_text records.now) }
+/// Writes the record at that place of a list.
+#[tactic(auto, using(std::proofs::lemmas::List::append_assoc))]
+fn put_record(out: &mut Vec<u8>, at: usize, bytes: &[u8]) -> Result<(), AllocError>
+    ensures { OnOk result (out.new.items ≡ out.old.items ++ (separator at ++ bytes_text bytes.now)) }
 {
-    for bytes in records {
-        put_next_record(out, bytes)?;
-    }
-    Ok(())
+    put_separator(out, at)?;
+    put_bytes(out, bytes)
 }
 
 /// Writes the records, joined by commas.
-#[tactic(auto, using(std::proofs::lemmas::List::append_assoc))]
-pub(crate) fn put_records(out: &mut Vec<u8>, records: &[Bytes]) -> Result<(), AllocError>
-    ensures { OnOk result (out.new.items ≡ out.old.items ++ list_text bytes_text records.now) }
+pub(crate) fn put_records(out: &mut Vec<u8>, records: Records<'_>) -> Result<(), AllocError>
+    ensures { OnOk result (out.new.items ≡ out.old.items ++ list_text bytes_text (records_seen records.entry)) }
 {
-    match records.split_first() {
-        Some((first, others)) => {
-            put_bytes(out, first.as_slice())?;
-            put_more_records(out, others)
-        }
-        None => Ok(()),
-    }
-}
-
-#[tactic(auto, using(std::proofs::lemmas::List::append_assoc))]
-fn put_next_reply(out: &mut Vec<u8>, reply: &Reply) -> Result<(), AllocError>
-    ensures { OnOk result (out.new.items ≡ out.old.items ++ next_text reply_text reply.now) }
-{
-    put(out, b",")?;
-    put_reply(out, reply)
-}
-
-fn put_more_replies(out: &mut Vec<u8>, replies: &[Reply]) -> Result<(), AllocError>
-    ensures { OnOk result (out.new.items ≡ out.old.items ++ more_text reply_text replies.now) }
-{
-    for reply in replies {
-        put_next_reply(out, reply)?;
+    for at in 0..records.len() {
+        put_record(out, at, records.item(at))?;
     }
     Ok(())
 }
 
-/// Writes the replies, joined by commas.
+/// Writes the reply at that place of a list.
 #[tactic(auto, using(std::proofs::lemmas::List::append_assoc))]
-pub(crate) fn put_replies(out: &mut Vec<u8>, replies: &[Reply]) -> Result<(), AllocError>
-    ensures { OnOk result (out.new.items ≡ out.old.items ++ list_text reply_text replies.now) }
+fn put_one_reply(out: &mut Vec<u8>, at: usize, reply: ReplyView<'_>) -> Result<(), AllocError>
+    ensures { OnOk result (out.new.items ≡ out.old.items ++ (separator at ++ reply_text (reply_seen reply.entry))) }
 {
-    match replies.split_first() {
-        Some((first, others)) => {
-            put_reply(out, first)?;
-            put_more_replies(out, others)
-        }
-        None => Ok(()),
+    put_separator(out, at)?;
+    put_reply(out, reply)
+}
+
+/// Writes the replies, joined by commas.
+pub(crate) fn put_replies(out: &mut Vec<u8>, replies: Replies<'_>) -> Result<(), AllocError>
+    ensures { OnOk result (out.new.items ≡ out.old.items ++ list_text reply_text (replies_seen replies.entry)) }
+{
+    for at in 0..replies.len() {
+        put_one_reply(out, at, replies.item(at))?;
     }
+    Ok(())
+}
+
+/// Writes the success at that place of a list.
+#[tactic(auto, using(std::proofs::lemmas::List::append_assoc))]
+fn put_success(out: &mut Vec<u8>, at: u32) -> Result<(), AllocError>
+    ensures { OnOk result (out.new.items ≡ out.old.items ++ (separator at ++ outcome_text Successful)) }
+{
+    put_separator(out, at as usize)?;
+    put(out, b"s")
+}
+
+/// Writes so many successes, joined by commas.
+fn put_successes(out: &mut Vec<u8>, count: u32) -> Result<(), AllocError>
+    ensures { OnOk result (out.new.items ≡ out.old.items ++ list_text outcome_text (replicate count Successful)) }
+{
+    for at in 0..count {
+        put_success(out, at)?;
+    }
+    Ok(())
 }
 
 #[tactic(auto, using(std::proofs::lemmas::List::append_assoc))]
@@ -218,6 +222,7 @@ pub(crate) fn put_ends(out: &mut Vec<u8>, end: EndView<'_>) -> Result<(), AllocE
 {
     match end {
         EndView::Outcomes(outcomes) => put_outcomes(out, outcomes),
+        EndView::Successes(count) => put_successes(out, count),
         EndView::Crashed => put(out, b"c"),
     }
 }

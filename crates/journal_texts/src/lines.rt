@@ -2,15 +2,16 @@
 
 ghost use Rattle.std.specs.Prelude.{◌≡◌, ◌++◌, [], ◌∷◌, OnOk, IfOk, codes, reverse};
 ghost use Rattle.std.specs.List.{flat_map};
+ghost use Rattle.pipe_journal.specs.Items.{reply_seen, records_seen, replies_seen};
 ghost use Rattle.pipe_journal.specs.Views.{end_seen, answer_seen, step_seen};
 ghost use Rattle.journal_texts.specs.Words.{words};
 ghost use Rattle.journal_texts.specs.Steps.{trigger_word as word_of_trigger, why_word as word_of_why, ends_text, answer_text, step_text, step_line as line_of_step, journal_text as text_of_journal};
 
 use crate::items::{put_ends, put_records, put_replies, put_reply, put_words};
 use crate::words::{cause_word, how_word, put};
-use pipe_journal::{AnswerView, EndView, Journal, StepView};
+use pipe_journal::{AnswerView, EndView, Journal, Records, Replies, ReplyView, StepView};
 use pipe_types::bytes::Bytes;
-use pipe_types::message::{Reply, Trigger, Why};
+use pipe_types::message::{Trigger, Why};
 use pipe_types::numbers::{MsgNo, StageNo, SubNo};
 use pipe_types::step::{DrainCause, Step};
 use std::alloc::{AllocError, Global};
@@ -75,7 +76,7 @@ fn put_answer(out: &mut Vec<u8>, answer: AnswerView<'_>) -> Result<(), AllocErro
     match answer {
         AnswerView::Records(records) => {
             put(out, b"records ")?;
-            put_records(out, records)
+            put_records(out, Records::Listed(records))
         }
         AnswerView::Quiet => put(out, b"quiet"),
         AnswerView::Source(how) => {
@@ -88,16 +89,16 @@ fn put_answer(out: &mut Vec<u8>, answer: AnswerView<'_>) -> Result<(), AllocErro
 }
 
 #[tactic(auto, using(std::proofs::lemmas::List::append_assoc))]
-fn put_accept(out: &mut Vec<u8>, stage: StageNo, records: &[Bytes]) -> Result<(), AllocError>
-    ensures { OnOk result (out.new.items ≡ out.old.items ++ step_text (Step.Accept stage records.now)) }
+fn put_accept(out: &mut Vec<u8>, stage: StageNo, records: Records<'_>) -> Result<(), AllocError>
+    ensures { OnOk result (out.new.items ≡ out.old.items ++ step_text (Step.Accept stage (records_seen records.entry))) }
 {
     put_head(out, b"accept", &[stage.0 as u64])?;
     put_records(out, records)
 }
 
 #[tactic(auto, using(std::proofs::lemmas::List::append_assoc))]
-fn put_done(out: &mut Vec<u8>, stage: StageNo, replies: &[Reply]) -> Result<(), AllocError>
-    ensures { OnOk result (out.new.items ≡ out.old.items ++ step_text (Step.Done stage replies.now)) }
+fn put_done(out: &mut Vec<u8>, stage: StageNo, replies: Replies<'_>) -> Result<(), AllocError>
+    ensures { OnOk result (out.new.items ≡ out.old.items ++ step_text (Step.Done stage (replies_seen replies.entry))) }
 {
     put_head(out, b"done", &[stage.0 as u64])?;
     put_replies(out, replies)
@@ -108,9 +109,9 @@ fn put_child_end(
     out: &mut Vec<u8>,
     stage: StageNo,
     slot: u16,
-    reply: &Reply,
+    reply: ReplyView<'_>,
 ) -> Result<(), AllocError>
-    ensures { OnOk result (out.new.items ≡ out.old.items ++ step_text (Step.ChildEnd stage slot reply.now)) }
+    ensures { OnOk result (out.new.items ≡ out.old.items ++ step_text (Step.ChildEnd stage slot (reply_seen reply.entry))) }
 {
     put_head(out, b"childend", &[stage.0 as u64, slot as u64])?;
     put_reply(out, reply)

@@ -8,11 +8,11 @@ use Rattle.pipe_types.specs.declared.message.BatchEnd.{BatchEnd}
 use Rattle.pipe_types.specs.declared.message.Trigger.{Trigger}
 use Rattle.pipe_types.specs.declared.message.Trigger.TheVariants.{Size, Flush, Timeout}
 use Rattle.pipe_types.specs.declared.message.Why.{Why}
-use Rattle.pipe_types.specs.declared.message.Why.TheVariants.{Crash, Kill as KillWhy, Stop, Cancelled, Limit as LimitWhy}
+use Rattle.pipe_types.specs.declared.message.Why.TheVariants.{Kill as KillWhy, Cancelled, Limit as LimitWhy}
 use Rattle.pipe_types.specs.declared.step.SourceHow.{SourceHow}
-use Rattle.pipe_types.specs.declared.step.SourceHow.TheVariants.{End, Fault as FaultHow, TooLong, Limit}
+use Rattle.pipe_types.specs.declared.step.SourceHow.TheVariants.{End, Limit}
 use Rattle.pipe_types.specs.declared.step.DrainCause.{DrainCause}
-use Rattle.pipe_types.specs.declared.step.DrainCause.TheVariants.{Sources, Control, Limit as LimitCause, Idle}
+use Rattle.pipe_types.specs.declared.step.DrainCause.TheVariants.{Sources}
 use Rattle.pipe_types.specs.declared.step.LateAnswer.{LateAnswer}
 use Rattle.pipe_types.specs.declared.step.LateAnswer.TheVariants.{Records, Quiet as LateQuiet, Source, Wrote as LateWrote, Nothing}
 use Rattle.pipe_types.specs.declared.step.Step.{Step}
@@ -65,15 +65,11 @@ by_words_and jobs w ns tail tails read step h k t row e =
 
 how_again : (how : SourceHow) → (how_in (how_word how) ≡ Ok how) × (slice_split (is_at 32) (how_word how) ≡ how_word how ∷ [])
 how_again End = (refl, refl)
-how_again FaultHow = (refl, refl)
-how_again TooLong = (refl, refl)
-how_again Limit = (refl, refl)
+how_again _ = (refl, refl)
 
 cause_again : (cause : DrainCause) → (cause_in (cause_word cause) ≡ Ok cause) × (slice_split (is_at 32) (cause_word cause) ≡ cause_word cause ∷ [])
 cause_again Sources = (refl, refl)
-cause_again Control = (refl, refl)
-cause_again LimitCause = (refl, refl)
-cause_again Idle = (refl, refl)
+cause_again _ = (refl, refl)
 
 trigger_again : (trigger : Trigger) → (trigger_in (trigger_word trigger) ≡ Ok trigger) × (slice_split (is_at 32) (trigger_word trigger) ≡ trigger_word trigger ∷ [])
 trigger_again Size = (refl, refl)
@@ -82,11 +78,9 @@ trigger_again Timeout = (refl, refl)
 
 why_again : (why : Why) → IsKillWhy why → (why_in (why_word why) ≡ Ok why) × (slice_split (is_at 32) (why_word why) ≡ why_word why ∷ [])
 unfolding IsKillWhy
-why_again Crash h = (refl, refl)
-why_again KillWhy h = (refl, refl)
-why_again Stop h = (refl, refl)
 why_again (Cancelled u) h = absurd h
 why_again LimitWhy h = absurd h
+why_again _ h = (refl, refl)
 
 -- ---- late answers
 

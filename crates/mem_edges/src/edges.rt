@@ -8,37 +8,11 @@ use crate::named::{Named, free_place, put};
 use crate::{MemSink, MemSource};
 use pipe_edges::EdgeKind;
 use pipe_types::bytes::{Bytes, Text};
+use pipe_types::list::ListOf;
 use std::alloc::{AllocError, Global};
-use std::marker::Model;
 
 /// The numbers of the calls that fail, from 1.
-#[derive(Clone, Drop)]
-pub struct CallList {
-    calls: Vec<u64>,
-}
-
-impl Model for CallList {
-    ghost use Rattle.std.specs.Prelude.{List, ℕ};
-
-    ghost Value = { List ℕ };
-
-    ghost view = { λ l. l.calls.items };
-}
-
-impl CallList {
-    /// These numbers, with no memory of its own.
-    pub fn from_vec(calls: Vec<u64>) -> Self
-        ensures { result ≡ calls.items }
-    {
-        CallList { calls }
-    }
-
-    pub fn as_slice(&self) -> &[u64]
-        ensures { result.now ≡ self.now }
-    {
-        self.calls.as_slice()
-    }
-}
+pub type CallList = ListOf<u64>;
 
 // One call that opened or read.
 #[derive(Drop)]

@@ -6,8 +6,8 @@ ghost use Rattle.mem_edges.specs.Scripts.{write_count, TakesBy, room_after, faul
 
 use pipe_edges::{ByteSink, WriteEnd};
 use pipe_types::bytes::Bytes;
+use pipe_types::list::ListOf;
 use std::alloc::{AllocError, Global};
-use std::marker::Model;
 
 /// What a sink does at one write: it takes so many bytes, 0 counting as 1, or fails.
 #[derive(Clone, Copy, PartialEq, Eq)]
@@ -17,34 +17,7 @@ pub enum SinkAct {
 }
 
 /// What a sink does, one act for each write.
-#[derive(Clone, Drop)]
-pub struct SinkScript {
-    acts: Vec<SinkAct>,
-}
-
-impl Model for SinkScript {
-    ghost use Rattle.std.specs.Prelude.{List};
-    ghost use Rattle.mem_edges.specs.declared.sink.SinkAct.{SinkAct};
-
-    ghost Value = { List SinkAct };
-
-    ghost view = { λ s. s.acts.items };
-}
-
-impl SinkScript {
-    /// These acts, in their order, with no memory of its own.
-    pub fn from_vec(acts: Vec<SinkAct>) -> Self
-        ensures { result ≡ acts.items }
-    {
-        SinkScript { acts }
-    }
-
-    pub fn as_slice(&self) -> &[SinkAct]
-        ensures { result.now ≡ self.now }
-    {
-        self.acts.as_slice()
-    }
-}
+pub type SinkScript = ListOf<SinkAct>;
 
 /// Bytes that are taken by a script, and after it all that are offered, as far as there is room. Where nothing
 /// fits a write fails.

@@ -6,8 +6,8 @@ ghost use Rattle.mem_edges.specs.Scripts.{read_answer, IsGift, faults_after_read
 
 use pipe_edges::{ByteSource, ReadEnd};
 use pipe_types::bytes::Bytes;
+use pipe_types::list::ListOf;
 use std::alloc::{AllocError, Global};
-use std::marker::Model;
 
 /// What a source does at one read: it gives so many bytes, 0 counting as 1, has nothing ready, or fails.
 #[derive(Clone, Copy, PartialEq, Eq)]
@@ -18,34 +18,7 @@ pub enum SourceAct {
 }
 
 /// What a source does, one act for each read.
-#[derive(Clone, Drop)]
-pub struct SourceScript {
-    acts: Vec<SourceAct>,
-}
-
-impl Model for SourceScript {
-    ghost use Rattle.std.specs.Prelude.{List};
-    ghost use Rattle.mem_edges.specs.declared.source.SourceAct.{SourceAct};
-
-    ghost Value = { List SourceAct };
-
-    ghost view = { λ s. s.acts.items };
-}
-
-impl SourceScript {
-    /// These acts, in their order, with no memory of its own.
-    pub fn from_vec(acts: Vec<SourceAct>) -> Self
-        ensures { result ≡ acts.items }
-    {
-        SourceScript { acts }
-    }
-
-    pub fn as_slice(&self) -> &[SourceAct]
-        ensures { result.now ≡ self.now }
-    {
-        self.acts.as_slice()
-    }
-}
+pub type SourceScript = ListOf<SourceAct>;
 
 /// Bytes that are given by a script, and after it as many at each read as fit.
 #[derive(Drop)]

@@ -11,7 +11,7 @@ use Rattle.pipe_types.specs.declared.message.Loss.{Loss}
 use Rattle.pipe_types.specs.declared.message.Place.{Place}
 use Rattle.pipe_types.specs.declared.message.Place.TheVariants.{Acked, Lost}
 use Rattle.pipe_types.specs.Handlers.{is_successful}
-use Rattle.pipe_model.specs.Batches.{Leg, LegPlace, InInbox, AtWork, Answered, LegLost, is_leg_open, is_settled, lost_leg, failed_leg, settled_as}
+use Rattle.pipe_model.specs.Batches.{Leg, LegPlace, InInbox, Answered, LegLost, is_leg_open, is_settled, lost_leg, failed_leg, settled_as}
 use Rattle.message_ack.specs.declared.legs.LegEnd.{LegEnd}
 use Rattle.message_ack.specs.declared.legs.LegEnd.TheVariants.{Answered as AnsweredEnd, Lost as LostEnd}
 use Rattle.message_ack.specs.declared.legs.Settled.{Settled}
@@ -20,9 +20,7 @@ use Rattle.message_ack.specs.Ends.{Ends, IsSettledBy, with_end, end_of, ends_of,
 
 open_end : (p : LegPlace) → is_some (end_of p) ≡ not (is_leg_open p)
 open_end InInbox = refl
-open_end AtWork = refl
-open_end (Answered outcomes) = refl
-open_end (LegLost loss) = refl
+open_end _ = refl
 
 pub settled_ends : (legs : List Leg) → list_all is_some (ends_of legs) ≡ is_settled legs
 settled_ends [] = refl
@@ -34,10 +32,8 @@ lost_ends (leg ∷ legs) = by leg.place (lost_ends legs)
   where
     by : (p : LegPlace) → option_map (λ l. Lost l) (loss_of_ends (ends_of legs)) ≡ lost_leg legs
         → option_map (λ l. Lost l) (loss_of_ends (end_of p ∷ ends_of legs)) ≡ lost_leg (record { sub = leg.sub; place = p } ∷ legs)
-    by InInbox rest = rest
-    by AtWork rest = rest
-    by (Answered outcomes) rest = rest
     by (LegLost loss) rest = refl
+    by _ rest = rest
 
 pub failed_ends : (legs : List Leg) (i : ℕ) → settled_as None (failed_leg legs i) ≡ Acked (outcome_of_ends (ends_of legs) i)
 failed_ends [] i = refl
@@ -51,10 +47,8 @@ failed_ends (leg ∷ legs) i = by leg.place (failed_ends legs i)
 
     by : (p : LegPlace) → settled_as None (failed_leg legs i) ≡ Acked (outcome_of_ends (ends_of legs) i)
         → settled_as None (failed_leg (record { sub = leg.sub; place = p } ∷ legs) i) ≡ Acked (outcome_of_ends (end_of p ∷ ends_of legs) i)
-    by InInbox rest = rest
-    by AtWork rest = rest
     by (Answered outcomes) rest = by_outcome (slice_get outcomes i) outcomes refl rest
-    by (LegLost loss) rest = rest
+    by _ rest = rest
 
 -- one leg more
 pub outcome_more : (ends : List (Option LegEnd)) (end : Option LegEnd) (i : ℕ)

@@ -6,7 +6,7 @@ use Rattle.pipe_types.specs.declared.topology.Topology.{Topology}
 use Rattle.pipe_types.specs.declared.topology.StageSpec.{StageSpec}
 use Rattle.pipe_types.specs.declared.topology.RestartLimit.{RestartLimit}
 use Rattle.pipe_types.specs.declared.topology.Rule.{Rule}
-use Rattle.pipe_types.specs.declared.topology.Rule.TheVariants.{Key, Crash as CrashRule}
+use Rattle.pipe_types.specs.declared.topology.Rule.TheVariants.{Key, Route, Crash as CrashRule}
 use Rattle.pipe_types.specs.declared.topology.Role.{Role}
 use Rattle.pipe_types.specs.declared.topology.Role.TheVariants.{Producer, Processor, Supervisor, Batcher, BatchProcessor}
 use Rattle.pipe_types.specs.declared.topology.Dispatch.TheVariants.{Demand, Partition}
@@ -37,6 +37,13 @@ may_come_after topology steps step = is_legal topology (step ∷ history steps)
 -- the steps are legal one after another, and then this one may not come
 abbrev pub is_refused_after : Topology → List Step → Step → Bool
 is_refused_after topology steps step = is_legal topology (history steps) && not (allows topology (history steps) step)
+
+-- whether each of the steps may come after the first ones, and whether each is refused
+abbrev pub each_may_come_after : Topology → List Step → List Step → Bool
+each_may_come_after topology steps next = list_all (may_come_after topology steps) next
+
+abbrev pub none_may_come_after : Topology → List Step → List Step → Bool
+none_may_come_after topology steps next = list_all (is_refused_after topology steps) next
 
 -- what makes a topology sound
 abbrev pub is_sound : Topology → Bool
@@ -167,12 +174,34 @@ two_processors =
 abbrev pub two_producers : Topology
 two_producers = with_stages (producer 1 (codes "p") 0 ∷ producer 2 (codes "q") 1 ∷ processor 3 (codes "processors.0") 0 [] ∷ [])
 
+-- a producer, a processor with these rules, a batcher, and its batch processor
+abbrev pub one_batcher : List Rule → Topology
+one_batcher rules =
+    with_stages
+    (producer 1 (codes "p") 0 ∷ feeding 1 (processor 2 (codes "processors.0") 0 rules) ∷ batcher 3 (codes "b") 0
+    ∷ batch_processor 4 (codes "b.0") 0 0 ∷ [])
+
 -- a producer, a processor that makes the payload the key, a batcher, and its batch processor
 abbrev pub by_key : Topology
-by_key =
+by_key = one_batcher (Key 0 ∷ [])
+
+-- batches of one message, for this batch processor
+abbrev pub of_one_for : StageSpec → Topology
+of_one_for last =
     with_stages
     (producer 1 (codes "p") 0 ∷ feeding 1 (processor 2 (codes "processors.0") 0 (Key 0 ∷ []))
-    ∷ batcher 3 (codes "b") 0 ∷ batch_processor 4 (codes "b.0") 0 0 ∷ [])
+    ∷ record (batcher 3 (codes "b") 0) { batch_size = 1 }
+    ∷ last ∷ [])
+
+abbrev pub of_one : Topology
+of_one = of_one_for (batch_processor 4 (codes "b.0") 0 0)
+
+-- a processor sends each message to the batcher that its field names
+abbrev pub two_batchers : (field : ℕ) → Topology
+two_batchers field =
+    with_stages
+    (producer 1 (codes "p") 0 ∷ feeding 2 (processor 2 (codes "processors.0") 0 (Route field 1 (codes "cold") ∷ [])) ∷ batcher 3 (codes "hot") 0
+    ∷ batcher 4 (codes "cold") 1 ∷ batch_processor 5 (codes "hot.0") 0 0 ∷ batch_processor 6 (codes "cold.0") 1 0 ∷ [])
 
 -- a producer and a supervisor whose children crash at a payload that begins with `!`
 abbrev pub supervised : Topology

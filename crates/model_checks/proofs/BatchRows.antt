@@ -2,7 +2,7 @@
 use Rattle.std.proofs.Common.{◌≡◌, refl}
 use Rattle.std.specs.Prelude.{ℕ, zero, suc, ◌+◌, true, List, [], ◌∷◌, ◌++◌, map, codes, drop, take, replicate, Option, Some, None}
 use Rattle.pipe_types.specs.declared.topology.Topology.{Topology}
-use Rattle.pipe_types.specs.declared.topology.Rule.TheVariants.{Key, Flush as FlushRule, Crash as CrashRule, FailEvery}
+use Rattle.pipe_types.specs.declared.topology.Rule.TheVariants.{Flush as FlushRule, Crash as CrashRule, FailEvery}
 use Rattle.pipe_types.specs.declared.topology.Kind.TheVariants.{Own}
 use Rattle.pipe_types.specs.declared.message.Reply.{Reply}
 use Rattle.pipe_types.specs.declared.message.Reply.TheVariants.{Pass}
@@ -18,7 +18,7 @@ use Rattle.pipe_types.specs.declared.step.DrainCause.TheVariants.{Control}
 use Rattle.pipe_types.specs.Numbers.{stage, message_no}
 use Rattle.pipe_model.specs.History.{history}
 use Rattle.pipe_model.specs.Flow.{place}
-use Rattle.model_checks.proofs.Base.{may_come_after, is_refused_after, producer, processor, with_stages, sub, msg, passes, keyed, feeding, batcher, batch_processor, by_key}
+use Rattle.model_checks.proofs.Base.{may_come_after, is_refused_after, producer, processor, with_stages, sub, msg, passes, keyed, feeding, batcher, batch_processor, by_key, each_may_come_after, none_may_come_after, one_batcher, of_one_for, of_one}
 
 -- so many lines `x`, and then one `y`, stand in the inbox of the batcher
 abbrev lines_to_the_batcher : ℕ → List Step
@@ -65,13 +65,6 @@ gather_while_dead = refl
 gather_without_room : is_refused_after by_key (take 2 two_sent ++ drop 3 two_sent) (Gather (stage 3) (message_no 1)) ≡ true
 gather_without_room = refl
 
-abbrev of_one : Topology
-of_one =
-    with_stages
-    (producer 1 (codes "p") 0 ∷ feeding 1 (processor 2 (codes "processors.0") 0 (Key 0 ∷ []))
-    ∷ record (batcher 3 (codes "b") 0) { batch_size = 1 }
-    ∷ batch_processor 4 (codes "b.0") 0 0 ∷ [])
-
 gather_over_what_waits : is_refused_after of_one (two_sent ++ Gather (stage 3) (message_no 1) ∷ Close (stage 3) (message_no 1) Size ∷ [])
     (Gather (stage 3) (message_no 2)) ≡ true
 gather_over_what_waits = refl
@@ -86,10 +79,7 @@ gather_beside_a_full = refl
 
 -- not behind a message in flush mode
 abbrev flushing : Topology
-flushing =
-    with_stages
-    (producer 1 (codes "p") 0 ∷ feeding 1 (processor 2 (codes "processors.0") 0 (FlushRule (codes "x") ∷ [])) ∷ batcher 3 (codes "b") 0
-    ∷ batch_processor 4 (codes "b.0") 0 0 ∷ [])
+flushing = one_batcher (FlushRule (codes "x") ∷ [])
 
 abbrev flush_first : List Step
 flush_first =
@@ -181,46 +171,30 @@ abbrev taken_batch : List Step
 taken_batch = gathered_two ++ Close (stage 3) (message_no 1) Size ∷ Dispatch (stage 3) ∷ Take (stage 4) (sub 4 3 1) 1 ∷ []
 
 -- the whole text, and the handler's end
-wrote_all : may_come_after of_one taken_batch (Wrote (stage 4) 2 (Outcomes (Successful ∷ []))) ≡ true
-wrote_all = refl
-
--- less of it, and every success failed by the sink
-wrote_less : may_come_after of_one taken_batch (Wrote (stage 4) 1 (Outcomes (Failed (codes "sink") ∷ []))) ≡ true
-wrote_less = refl
-
-wrote_nothing : may_come_after of_one taken_batch (Wrote (stage 4) 0 (Outcomes (Failed (codes "sink") ∷ []))) ≡ true
-wrote_nothing = refl
+wrote_as_handled : each_may_come_after of_one taken_batch (
+    Wrote (stage 4) 2 (Outcomes (Successful ∷ []))
+    -- less of it, and every success failed by the sink
+    ∷ Wrote (stage 4) 1 (Outcomes (Failed (codes "sink") ∷ []))
+    ∷ Wrote (stage 4) 0 (Outcomes (Failed (codes "sink") ∷ []))
+    ∷ []) ≡ true
+wrote_as_handled = refl
 
 -- not more, nor less with a success, nor all with a failure of the sink
-wrote_more : is_refused_after of_one taken_batch (Wrote (stage 4) 3 (Outcomes (Successful ∷ []))) ≡ true
-wrote_more = refl
-
-wrote_less_with_success : is_refused_after of_one taken_batch (Wrote (stage 4) 1 (Outcomes (Successful ∷ []))) ≡ true
-wrote_less_with_success = refl
-
-wrote_all_with_failure : is_refused_after of_one taken_batch (Wrote (stage 4) 2 (Outcomes (Failed (codes "sink") ∷ []))) ≡ true
-wrote_all_with_failure = refl
-
--- one outcome a message, the handler's
-wrote_no_outcome : is_refused_after of_one taken_batch (Wrote (stage 4) 2 (Outcomes [])) ≡ true
-wrote_no_outcome = refl
-
-wrote_two_outcomes : is_refused_after of_one taken_batch (Wrote (stage 4) 2 (Outcomes (Successful ∷ Successful ∷ []))) ≡ true
-wrote_two_outcomes = refl
-
-wrote_another_reason : is_refused_after of_one taken_batch (Wrote (stage 4) 1 (Outcomes (Failed (codes "no") ∷ []))) ≡ true
-wrote_another_reason = refl
-
-wrote_a_crash : is_refused_after of_one taken_batch (Wrote (stage 4) 0 CrashedEnd) ≡ true
-wrote_a_crash = refl
+wrote_otherwise : none_may_come_after of_one taken_batch (
+    Wrote (stage 4) 3 (Outcomes (Successful ∷ []))
+    ∷ Wrote (stage 4) 1 (Outcomes (Successful ∷ []))
+    ∷ Wrote (stage 4) 2 (Outcomes (Failed (codes "sink") ∷ []))
+    -- one outcome a message, the handler's
+    ∷ Wrote (stage 4) 2 (Outcomes [])
+    ∷ Wrote (stage 4) 2 (Outcomes (Successful ∷ Successful ∷ []))
+    ∷ Wrote (stage 4) 1 (Outcomes (Failed (codes "no") ∷ []))
+    ∷ Wrote (stage 4) 0 CrashedEnd
+    ∷ []) ≡ true
+wrote_otherwise = refl
 
 -- a crash of the handler's, with no bytes; it owes the kill
 abbrev crashing : Topology
-crashing =
-    with_stages
-    (producer 1 (codes "p") 0 ∷ feeding 1 (processor 2 (codes "processors.0") 0 (Key 0 ∷ []))
-    ∷ record (batcher 3 (codes "b") 0) { batch_size = 1 }
-    ∷ record (batch_processor 4 (codes "b.0") 0 0) { rules = CrashRule (codes "x") ∷ [] } ∷ [])
+crashing = of_one_for (record (batch_processor 4 (codes "b.0") 0 0) { rules = CrashRule (codes "x") ∷ [] })
 
 crash_without_bytes : may_come_after crashing taken_batch (Wrote (stage 4) 0 CrashedEnd) ≡ true
 crash_without_bytes = refl
@@ -239,11 +213,7 @@ crash_owes_it_now = refl
 
 -- without a sink no bytes, and no failure of a sink
 abbrev no_sink : Topology
-no_sink =
-    with_stages
-    (producer 1 (codes "p") 0 ∷ feeding 1 (processor 2 (codes "processors.0") 0 (Key 0 ∷ []))
-    ∷ record (batcher 3 (codes "b") 0) { batch_size = 1 }
-    ∷ record (batch_processor 4 (codes "b.0") 0 0) { edge = None } ∷ [])
+no_sink = of_one_for (record (batch_processor 4 (codes "b.0") 0 0) { edge = None })
 
 no_sink_no_bytes : may_come_after no_sink taken_batch (Wrote (stage 4) 0 (Outcomes (Successful ∷ []))) ≡ true
 no_sink_no_bytes = refl
@@ -256,11 +226,7 @@ no_sink_to_fail = refl
 
 -- the count goes on from batch to batch
 abbrev every_second : Topology
-every_second =
-    with_stages
-    (producer 1 (codes "p") 0 ∷ feeding 1 (processor 2 (codes "processors.0") 0 (Key 0 ∷ []))
-    ∷ record (batcher 3 (codes "b") 0) { batch_size = 1 }
-    ∷ record (batch_processor 4 (codes "b.0") 0 0) { rules = FailEvery 2 ∷ [] } ∷ [])
+every_second = of_one_for (record (batch_processor 4 (codes "b.0") 0 0) { rules = FailEvery 2 ∷ [] })
 
 abbrev second_batch : List Step
 second_batch =
@@ -324,24 +290,16 @@ own_less_with_success = refl
 own_less : may_come_after (own sink) taken_pair (Wrote (stage 4) 3 (Outcomes (Failed (codes "sink") ∷ Failed (codes "sink") ∷ []))) ≡ true
 own_less = refl
 
-own_less_of_one : is_refused_after (own sink) taken_pair (Wrote (stage 4) 2 (Outcomes (Failed (codes "sink") ∷ Failed (codes "no") ∷ [])))
-    ≡ true
-own_less_of_one = refl
-
-own_less_of_both : is_refused_after (own sink) taken_pair (Wrote (stage 4) 4
-    (Outcomes (Failed (codes "sink") ∷ Failed (codes "sink") ∷ []))) ≡ true
-own_less_of_both = refl
-
--- a failure of the sink beside a success is none of the three ends
-own_half_failed : is_refused_after (own sink) taken_pair (Wrote (stage 4) 2 (Outcomes (Failed (codes "sink") ∷ Successful ∷ []))) ≡ true
-own_half_failed = refl
-
--- one outcome a message
-own_too_few : is_refused_after (own sink) taken_pair (Wrote (stage 4) 2 (Outcomes (Successful ∷ []))) ≡ true
-own_too_few = refl
-
-own_too_many : is_refused_after (own sink) taken_pair (Wrote (stage 4) 4 (Outcomes (replicate 3 Successful))) ≡ true
-own_too_many = refl
+own_otherwise : none_may_come_after (own sink) taken_pair (
+    Wrote (stage 4) 2 (Outcomes (Failed (codes "sink") ∷ Failed (codes "no") ∷ []))
+    ∷ Wrote (stage 4) 4 (Outcomes (Failed (codes "sink") ∷ Failed (codes "sink") ∷ []))
+    -- a failure of the sink beside a success is none of the three ends
+    ∷ Wrote (stage 4) 2 (Outcomes (Failed (codes "sink") ∷ Successful ∷ []))
+    -- one outcome a message
+    ∷ Wrote (stage 4) 2 (Outcomes (Successful ∷ []))
+    ∷ Wrote (stage 4) 4 (Outcomes (replicate 3 Successful))
+    ∷ []) ≡ true
+own_otherwise = refl
 
 -- a crash without bytes
 own_crash : may_come_after (own sink) taken_pair (Wrote (stage 4) 0 CrashedEnd) ≡ true

@@ -8,7 +8,7 @@ use Rattle.pipe_types.specs.declared.message.Why.TheVariants.{Kill as ByKill}
 use Rattle.pipe_types.specs.declared.step.Step.{Step}
 use Rattle.pipe_types.specs.declared.step.Step.TheVariants.{Ask, Fetch, Accept, Dispatch, Take, Child, ChildEnd, Kill, Tick}
 use Rattle.pipe_types.specs.Numbers.{stage, message_no}
-use Rattle.model_checks.proofs.Base.{may_come_after, is_refused_after, producer, with_stages, one_each, sub, msg, supervisor, supervised}
+use Rattle.model_checks.proofs.Base.{may_come_after, is_refused_after, producer, with_stages, one_each, sub, msg, supervisor, supervised, none_may_come_after}
 
 -- three messages for two slots
 abbrev sent_two : List Step
@@ -98,14 +98,12 @@ child_again_while_dead = refl
 end_by_pass : may_come_after supervised first_runs (ChildEnd (stage 2) 0 (Pass (msg 1 (codes "a")))) ≡ true
 end_by_pass = refl
 
-end_by_failure : is_refused_after supervised first_runs (ChildEnd (stage 2) 0 (FailedReply (codes "no"))) ≡ true
-end_by_failure = refl
-
-end_by_crash : is_refused_after supervised first_runs (ChildEnd (stage 2) 0 Crashed) ≡ true
-end_by_crash = refl
-
-end_of_the_other_message : is_refused_after supervised first_runs (ChildEnd (stage 2) 0 (Pass (msg 2 (codes "!")))) ≡ true
-end_of_the_other_message = refl
+end_otherwise : none_may_come_after supervised first_runs (
+    ChildEnd (stage 2) 0 (FailedReply (codes "no"))
+    ∷ ChildEnd (stage 2) 0 Crashed
+    ∷ ChildEnd (stage 2) 0 (Pass (msg 2 (codes "!")))
+    ∷ []) ≡ true
+end_otherwise = refl
 
 abbrev both_run : List Step
 both_run = first_runs ++ Child (stage 2) (message_no 2) 1 ∷ []

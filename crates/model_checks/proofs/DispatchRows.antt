@@ -10,7 +10,7 @@ use Rattle.pipe_types.specs.declared.message.Why.TheVariants.{Crash as ByCrash, 
 use Rattle.pipe_types.specs.declared.step.Step.{Step}
 use Rattle.pipe_types.specs.declared.step.Step.TheVariants.{Ask, Fetch, Accept, Dispatch, Take, Done, Gather, Close, Kill, Tick}
 use Rattle.pipe_types.specs.Numbers.{stage, message_no}
-use Rattle.model_checks.proofs.Base.{may_come_after, is_refused_after, producer, processor, with_stages, one_each, sub, passes, feeding, batcher, batch_processor, one_ruled, two_producers}
+use Rattle.model_checks.proofs.Base.{may_come_after, is_refused_after, producer, processor, with_stages, one_each, sub, passes, feeding, batcher, batch_processor, one_ruled, two_producers, none_may_come_after}
 
 abbrev accepted_one : List Step
 accepted_one = Ask (sub 2 1 1) 10 ∷ Fetch (stage 1) 10 ∷ Accept (stage 1) (codes "x" ∷ []) ∷ []
@@ -117,11 +117,9 @@ crashing = one_ruled (CrashRule [] ∷ [])
 owed_kill : may_come_after crashing crashed_chunk (Kill (stage 2) ByCrash) ≡ true
 owed_kill = refl
 
-owed_for_the_crash : is_refused_after crashing crashed_chunk (Kill (stage 2) ByKill) ≡ true
-owed_for_the_crash = refl
-
-owed_to_the_crashed : is_refused_after crashing crashed_chunk (Kill (stage 1) ByCrash) ≡ true
-owed_to_the_crashed = refl
-
-owed_before_a_tick : is_refused_after crashing crashed_chunk (Tick 0) ≡ true
-owed_before_a_tick = refl
+owed_first : none_may_come_after crashing crashed_chunk (
+    Kill (stage 2) ByKill
+    ∷ Kill (stage 1) ByCrash
+    ∷ Tick 0
+    ∷ []) ≡ true
+owed_first = refl

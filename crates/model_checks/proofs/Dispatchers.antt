@@ -3,7 +3,6 @@ use Rattle.std.proofs.Common.{◌≡◌, refl}
 use Rattle.std.specs.Prelude.{ℕ, Bool, ◌==◌, ◌&&◌, ◌||◌, true, List, [], ◌∷◌, ◌++◌, map, codes, replicate, Some}
 use Rattle.pipe_types.specs.declared.numbers.SubNo.{SubNo}
 use Rattle.pipe_types.specs.declared.topology.Topology.{Topology}
-use Rattle.pipe_types.specs.declared.topology.Rule.TheVariants.{Route}
 use Rattle.pipe_types.specs.declared.topology.Dispatch.TheVariants.{Partition}
 use Rattle.pipe_types.specs.declared.message.Reply.TheVariants.{Pass}
 use Rattle.pipe_types.specs.declared.message.Place.TheVariants.{Waiting, Inbox}
@@ -15,7 +14,7 @@ use Rattle.pipe_types.specs.Numbers.{stage}
 use Rattle.pipe_types.specs.Dispatchers.{ByDemand, ByBroadcast, ByPartition, picks_all, sends_by_place, serves_by_place, partition_of}
 use Rattle.pipe_model.specs.History.{history}
 use Rattle.pipe_model.specs.Flow.{place}
-use Rattle.model_checks.proofs.Base.{is_run, producer, processor, with_stages, sub, msg, feeding, batcher, batch_processor}
+use Rattle.model_checks.proofs.Base.{is_run, producer, processor, with_stages, sub, msg, batcher, two_batchers}
 
 -- the room of consumer c, at that place of its group, with this open demand
 abbrev room_of : (c part left : ℕ) → Room
@@ -164,12 +163,6 @@ fields_places : map (place by_field (history fields_journal)) (1 ∷ 2 ∷ 3 ∷
 fields_places = refl
 
 -- a processor sends each message to the batcher that the message names
-abbrev two_batchers : Topology
-two_batchers =
-    with_stages
-    (producer 1 (codes "p") 0 ∷ feeding 2 (processor 2 (codes "processors.0") 0 (Route 1 1 (codes "cold") ∷ [])) ∷ batcher 3 (codes "hot") 0
-    ∷ batcher 4 (codes "cold") 1 ∷ batch_processor 5 (codes "hot.0") 0 0 ∷ batch_processor 6 (codes "cold.0") 1 0 ∷ [])
-
 abbrev routed : List Step
 routed =
     Ask (sub 2 1 1) 10 ∷ Ask (sub 3 2 1) 3 ∷ Ask (sub 4 2 1) 3 ∷ Fetch (stage 1) 10
@@ -179,9 +172,9 @@ routed =
     ∷ Pass (msg 3 (codes "coldest 3")) ∷ [])
     ∷ Dispatch (stage 2) ∷ []
 
-routed_legal : is_run two_batchers routed ≡ true
+routed_legal : is_run (two_batchers 1) routed ≡ true
 routed_legal = refl
 
-routed_places : map (place two_batchers (history routed)) (1 ∷ 2 ∷ 3 ∷ []) ≡ Some (Inbox (sub 3 2 1)) ∷ Some (Inbox (sub 4 2 1))
+routed_places : map (place (two_batchers 1) (history routed)) (1 ∷ 2 ∷ 3 ∷ []) ≡ Some (Inbox (sub 3 2 1)) ∷ Some (Inbox (sub 4 2 1))
     ∷ Some (Inbox (sub 3 2 1)) ∷ []
 routed_places = refl

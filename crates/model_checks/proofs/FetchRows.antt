@@ -9,7 +9,7 @@ use Rattle.pipe_types.specs.declared.step.Step.TheVariants.{Ask, Fetch, Accept, 
 use Rattle.pipe_types.specs.declared.step.SourceHow.TheVariants.{End, Fault, TooLong, Limit as LimitHow}
 use Rattle.pipe_types.specs.declared.step.DrainCause.TheVariants.{Sources, Control}
 use Rattle.pipe_types.specs.Numbers.{stage}
-use Rattle.model_checks.proofs.Base.{may_come_after, is_refused_after, producer, processor, with_stages, one_each, sub, two_processors, two_producers, by_key}
+use Rattle.model_checks.proofs.Base.{may_come_after, is_refused_after, producer, processor, with_stages, one_each, sub, two_processors, two_producers, by_key, each_may_come_after}
 
 abbrev asked_ten : List Step
 asked_ten = Ask (sub 2 1 1) 10 ∷ []
@@ -183,14 +183,12 @@ quiet_after_the_drain = refl
 
 -- The end of a source
 
-end_answer : may_come_after one_each fetched (SourceEnd (stage 1) End) ≡ true
-end_answer = refl
-
-end_by_fault : may_come_after one_each fetched (SourceEnd (stage 1) Fault) ≡ true
-end_by_fault = refl
-
-end_by_a_long_line : may_come_after one_each fetched (SourceEnd (stage 1) TooLong) ≡ true
-end_by_a_long_line = refl
+ends_of_a_source : each_may_come_after one_each fetched (
+    SourceEnd (stage 1) End
+    ∷ SourceEnd (stage 1) Fault
+    ∷ SourceEnd (stage 1) TooLong
+    ∷ []) ≡ true
+ends_of_a_source = refl
 
 -- the limit ends the control source alone
 end_by_the_limit : is_refused_after one_each fetched (SourceEnd (stage 1) LimitHow) ≡ true

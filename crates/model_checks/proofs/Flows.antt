@@ -24,7 +24,7 @@ use Rattle.pipe_model.specs.Ledger.{handled, due}
 use Rattle.pipe_model.specs.Legal.{bound}
 use Rattle.pipe_model.specs.Acknowledgements.{acknowledgements}
 use Rattle.pipe_model.specs.Outside.{fed}
-use Rattle.model_checks.proofs.Base.{is_run, producer, processor, with_stages, one_each, sub, msg, passes, keyed, feeding, batcher, batch_processor, two_producers, by_key, limited}
+use Rattle.model_checks.proofs.Base.{is_run, producer, processor, with_stages, one_each, sub, msg, passes, keyed, feeding, batcher, batch_processor, two_producers, by_key, limited, two_batchers}
 
 -- Two producers in one batch
 
@@ -85,12 +85,6 @@ passed_on_due = refl
 
 -- Routes
 
-abbrev two_batchers : Topology
-two_batchers =
-    with_stages
-    (producer 1 (codes "p") 0 ∷ feeding 2 (processor 2 (codes "processors.0") 0 (Route 1 1 (codes "cold") ∷ [])) ∷ batcher 3 (codes "hot") 0
-    ∷ batcher 4 (codes "cold") 1 ∷ batch_processor 5 (codes "hot.0") 0 0 ∷ batch_processor 6 (codes "cold.0") 1 0 ∷ [])
-
 -- the second batcher is killed before anything is sent to it: its message waits, and holds back no other
 abbrev held_back : List Step
 held_back =
@@ -100,24 +94,24 @@ held_back =
     (Pass (record (msg 1 (codes "cold")) { batcher = 1 }) ∷ Pass (msg 2 (codes "hot")) ∷ [])
     ∷ Dispatch (stage 2) ∷ []
 
-held_back_legal : is_run two_batchers held_back ≡ true
+held_back_legal : is_run (two_batchers 1) held_back ≡ true
 held_back_legal = refl
 
-held_back_places : map (place two_batchers (history held_back)) (1 ∷ 2 ∷ []) ≡ Some (Waiting (stage 2)) ∷ Some (Inbox (sub 3 2 1)) ∷ []
+held_back_places : map (place (two_batchers 1) (history held_back)) (1 ∷ 2 ∷ []) ≡ Some (Waiting (stage 2)) ∷ Some (Inbox (sub 3 2 1)) ∷ []
 held_back_places = refl
 
 -- after the restart it goes on the new subscription
 abbrev sent_anew : List Step
 sent_anew = held_back ++ Restart (stage 4) ∷ Ask (sub 4 2 2) 3 ∷ Dispatch (stage 2) ∷ []
 
-sent_anew_legal : is_run two_batchers sent_anew ≡ true
+sent_anew_legal : is_run (two_batchers 1) sent_anew ≡ true
 sent_anew_legal = refl
 
-sent_anew_place : place two_batchers (history sent_anew) 1 ≡ Some (Inbox (sub 4 2 2))
+sent_anew_place : place (two_batchers 1) (history sent_anew) 1 ≡ Some (Inbox (sub 4 2 2))
 sent_anew_place = refl
 
 -- a kill of the processor loses what waits in it
-lost_while_waiting : map (place two_batchers (history (held_back ++ Kill (stage 2) ByKill ∷ []))) (1 ∷ 2 ∷ [])
+lost_while_waiting : map (place (two_batchers 1) (history (held_back ++ Kill (stage 2) ByKill ∷ []))) (1 ∷ 2 ∷ [])
     ≡ Some (Lost (Killed (stage 2) 1 ByKill)) ∷ Some (Inbox (sub 3 2 1)) ∷ []
 lost_while_waiting = refl
 

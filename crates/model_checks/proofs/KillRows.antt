@@ -19,7 +19,7 @@ use Rattle.pipe_types.specs.Numbers.{stage, message_no}
 use Rattle.pipe_model.specs.History.{history}
 use Rattle.pipe_model.specs.Flow.{place}
 use Rattle.pipe_model.specs.Moves.{Halted, JobsOut, move}
-use Rattle.model_checks.proofs.Base.{may_come_after, is_refused_after, producer, processor, with_stages, one_each, sub, keyed, feeding, batcher, batch_processor, strict, by_key, supervised, limited}
+use Rattle.model_checks.proofs.Base.{may_come_after, is_refused_after, producer, processor, with_stages, one_each, sub, keyed, feeding, batcher, batch_processor, strict, by_key, supervised, limited, each_may_come_after, none_may_come_after}
 
 abbrev fetched : List Step
 fetched = Ask (sub 2 1 1) 10 ∷ Fetch (stage 1) 10 ∷ []
@@ -58,14 +58,12 @@ kill_a_restarted_one : may_come_after one_each (Kill (stage 2) ByKill ∷ Restar
 kill_a_restarted_one = refl
 
 -- for a crash only where it is owed, and for no other reason
-crash_unowed : is_refused_after one_each [] (Kill (stage 2) ByCrash) ≡ true
-crash_unowed = refl
-
-kill_by_the_limit : is_refused_after one_each [] (Kill (stage 2) ByLimit) ≡ true
-kill_by_the_limit = refl
-
-kill_by_a_cascade : is_refused_after one_each [] (Kill (stage 2) (Cancelled (sub 2 1 1))) ≡ true
-kill_by_a_cascade = refl
+kills_of_nobody : none_may_come_after one_each [] (
+    Kill (stage 2) ByCrash
+    ∷ Kill (stage 2) ByLimit
+    ∷ Kill (stage 2) (Cancelled (sub 2 1 1))
+    ∷ []) ≡ true
+kills_of_nobody = refl
 
 -- not once the control source has ended
 kill_after_the_lines : is_refused_after one_each (SourceEnd (stage 0) End ∷ []) (Kill (stage 2) ByKill) ≡ true
@@ -87,27 +85,21 @@ late_too_many_records : is_refused_after one_each late_fetch (Late (stage 1) 0 1
 late_too_many_records = refl
 
 -- quiet, or an end of the source that is not the limit
-late_quiet : may_come_after one_each late_fetch (Late (stage 1) 0 1 LateQuiet) ≡ true
-late_quiet = refl
+late_answers_of_a_fetch : each_may_come_after one_each late_fetch (
+    Late (stage 1) 0 1 LateQuiet
+    ∷ Late (stage 1) 0 1 (Source End)
+    ∷ Late (stage 1) 0 1 (Source Fault)
+    ∷ Late (stage 1) 0 1 (Source TooLong)
+    ∷ []) ≡ true
+late_answers_of_a_fetch = refl
 
-late_end : may_come_after one_each late_fetch (Late (stage 1) 0 1 (Source End)) ≡ true
-late_end = refl
-
-late_fault : may_come_after one_each late_fetch (Late (stage 1) 0 1 (Source Fault)) ≡ true
-late_fault = refl
-
-late_long_line : may_come_after one_each late_fetch (Late (stage 1) 0 1 (Source TooLong)) ≡ true
-late_long_line = refl
-
-late_limit : is_refused_after one_each late_fetch (Late (stage 1) 0 1 (Source LimitHow)) ≡ true
-late_limit = refl
-
--- no other answer to a fetch
-late_nothing_of_a_fetch : is_refused_after one_each late_fetch (Late (stage 1) 0 1 Nothing) ≡ true
-late_nothing_of_a_fetch = refl
-
-late_write_of_a_fetch : is_refused_after one_each late_fetch (Late (stage 1) 0 1 (LateWrote 0 CrashedEnd)) ≡ true
-late_write_of_a_fetch = refl
+late_but_of_no_fetch : none_may_come_after one_each late_fetch (
+    Late (stage 1) 0 1 (Source LimitHow)
+    -- no other answer to a fetch
+    ∷ Late (stage 1) 0 1 Nothing
+    ∷ Late (stage 1) 0 1 (LateWrote 0 CrashedEnd)
+    ∷ []) ≡ true
+late_but_of_no_fetch = refl
 
 -- not of a live incarnation
 late_while_live : is_refused_after one_each fetched (Late (stage 1) 0 1 LateQuiet) ≡ true
@@ -120,15 +112,13 @@ late_at_home = refl
 late_twice : is_refused_after one_each (late_fetch ++ Late (stage 1) 0 1 LateQuiet ∷ []) (Late (stage 1) 0 1 LateQuiet) ≡ true
 late_twice = refl
 
-late_in_another_slot : is_refused_after one_each late_fetch (Late (stage 1) 1 1 LateQuiet) ≡ true
-late_in_another_slot = refl
-
--- not of another incarnation
-late_of_the_next : is_refused_after one_each late_fetch (Late (stage 1) 0 2 LateQuiet) ≡ true
-late_of_the_next = refl
-
-late_of_none : is_refused_after one_each late_fetch (Late (stage 1) 0 0 LateQuiet) ≡ true
-late_of_none = refl
+late_of_another_job : none_may_come_after one_each late_fetch (
+    Late (stage 1) 1 1 LateQuiet
+    -- not of another incarnation
+    ∷ Late (stage 1) 0 2 LateQuiet
+    ∷ Late (stage 1) 0 0 LateQuiet
+    ∷ []) ≡ true
+late_of_another_job = refl
 
 -- the second incarnation's
 late_of_the_second : may_come_after one_each (Kill (stage 1) ByKill ∷ Restart (stage 1) ∷ Ask (sub 2 1 2) 10 ∷ Fetch (stage 1) 10
@@ -139,19 +129,13 @@ late_of_the_second = refl
 late_chunk : may_come_after one_each (taken_one ++ Kill (stage 2) ByKill ∷ []) (Late (stage 2) 0 1 Nothing) ≡ true
 late_chunk = refl
 
-late_quiet_of_a_chunk : is_refused_after one_each (taken_one ++ Kill (stage 2) ByKill ∷ []) (Late (stage 2) 0 1 LateQuiet) ≡ true
-late_quiet_of_a_chunk = refl
-
-late_end_of_a_chunk : is_refused_after one_each (taken_one ++ Kill (stage 2) ByKill ∷ []) (Late (stage 2) 0 1 (Source End)) ≡ true
-late_end_of_a_chunk = refl
-
-late_records_of_a_chunk : is_refused_after one_each (taken_one ++ Kill (stage 2) ByKill ∷ [])
-    (Late (stage 2) 0 1 (Records (codes "x" ∷ []))) ≡ true
-late_records_of_a_chunk = refl
-
-late_write_of_a_chunk : is_refused_after one_each (taken_one ++ Kill (stage 2) ByKill ∷ [])
-    (Late (stage 2) 0 1 (LateWrote 0 (Outcomes (Successful ∷ [])))) ≡ true
-late_write_of_a_chunk = refl
+late_but_of_no_chunk : none_may_come_after one_each (taken_one ++ Kill (stage 2) ByKill ∷ []) (
+    Late (stage 2) 0 1 LateQuiet
+    ∷ Late (stage 2) 0 1 (Source End)
+    ∷ Late (stage 2) 0 1 (Records (codes "x" ∷ []))
+    ∷ Late (stage 2) 0 1 (LateWrote 0 (Outcomes (Successful ∷ [])))
+    ∷ []) ≡ true
+late_but_of_no_chunk = refl
 
 -- nothing for a child, by its slot
 abbrev late_child : List Step
@@ -181,17 +165,13 @@ late_write = refl
 late_short_write : may_come_after by_key late_batch (Late (stage 4) 0 1 (LateWrote 1 (Outcomes (Failed (codes "sink") ∷ [])))) ≡ true
 late_short_write = refl
 
-late_write_of_too_much : is_refused_after by_key late_batch (Late (stage 4) 0 1 (LateWrote 3 (Outcomes (Successful ∷ [])))) ≡ true
-late_write_of_too_much = refl
-
-late_short_write_of_a_success : is_refused_after by_key late_batch (Late (stage 4) 0 1 (LateWrote 1 (Outcomes (Successful ∷ [])))) ≡ true
-late_short_write_of_a_success = refl
-
-late_crash : is_refused_after by_key late_batch (Late (stage 4) 0 1 (LateWrote 0 CrashedEnd)) ≡ true
-late_crash = refl
-
-late_nothing_of_a_batch : is_refused_after by_key late_batch (Late (stage 4) 0 1 Nothing) ≡ true
-late_nothing_of_a_batch = refl
+late_but_no_write : none_may_come_after by_key late_batch (
+    Late (stage 4) 0 1 (LateWrote 3 (Outcomes (Successful ∷ [])))
+    ∷ Late (stage 4) 0 1 (LateWrote 1 (Outcomes (Successful ∷ [])))
+    ∷ Late (stage 4) 0 1 (LateWrote 0 CrashedEnd)
+    ∷ Late (stage 4) 0 1 Nothing
+    ∷ []) ≡ true
+late_but_no_write = refl
 
 -- a crash of a killed handler writes nothing and owes no kill
 abbrev crashing : Topology
@@ -298,17 +278,13 @@ lost_by_the_halt : place none_allowed (history (halted ++ Late (stage 1) 0 1 (Re
     ≡ Some (Lost (Killed (stage 1) 1 ByLimit))
 lost_by_the_halt = refl
 
-tick_after_a_halt : is_refused_after none_allowed halted (Tick 5) ≡ true
-tick_after_a_halt = refl
-
-refuse_after_a_halt : is_refused_after none_allowed halted (Refuse 2) ≡ true
-refuse_after_a_halt = refl
-
-drain_after_a_halt : is_refused_after none_allowed halted (Drain Control) ≡ true
-drain_after_a_halt = refl
-
-end_after_a_halt : is_refused_after none_allowed halted (SourceEnd (stage 0) End) ≡ true
-end_after_a_halt = refl
+nothing_after_a_halt : none_may_come_after none_allowed halted (
+    Tick 5
+    ∷ Refuse 2
+    ∷ Drain Control
+    ∷ SourceEnd (stage 0) End
+    ∷ []) ≡ true
+nothing_after_a_halt = refl
 
 -- with a job out the pipeline waits for it
 waits_after_a_halt : move none_allowed (history halted) ≡ JobsOut

@@ -13,7 +13,7 @@ use Rattle.pipe_types.specs.declared.step.DrainCause.TheVariants.{Sources, Contr
 use Rattle.pipe_types.specs.Numbers.{stage, message_no}
 use Rattle.pipe_model.specs.History.{history}
 use Rattle.pipe_model.specs.Moves.{Drained, StepMove, Job, JobsOut, Pause, move}
-use Rattle.model_checks.proofs.Base.{producer, processor, with_stages, one_each, sub, keyed, feeding, batcher, batch_processor, two_producers, by_key, limited}
+use Rattle.model_checks.proofs.Base.{producer, processor, with_stages, one_each, sub, keyed, feeding, batcher, batch_processor, two_producers, by_key, limited, of_one}
 
 abbrev fetched : List Step
 fetched = Ask (sub 2 1 1) 10 ∷ Fetch (stage 1) 10 ∷ []
@@ -69,13 +69,6 @@ then_the_dispatch : move pushing (history (Fetch (stage 1) 1000 ∷ Accept (stag
 then_the_dispatch = refl
 
 -- a dispatch before a close, a close before a gather, and a gather before a job
-abbrev of_one : Topology
-of_one =
-    with_stages
-    (producer 1 (codes "p") 0 ∷ feeding 1 (processor 2 (codes "processors.0") 0 (Key 0 ∷ []))
-    ∷ record (batcher 3 (codes "b") 0) { batch_size = 1 }
-    ∷ batch_processor 4 (codes "b.0") 0 0 ∷ [])
-
 abbrev two_sent : List Step
 two_sent =
     Ask (sub 2 1 1) 10 ∷ Ask (sub 3 2 1) 3 ∷ Ask (sub 4 3 1) 1 ∷ Fetch (stage 1) 10 ∷ Accept (stage 1) (codes "x" ∷ codes "y" ∷ [])

@@ -14,7 +14,7 @@ use Rattle.pipe_types.specs.declared.step.Step.TheVariants.{Ask, Fetch, Accept, 
 use Rattle.pipe_types.specs.Numbers.{stage, message_no}
 use Rattle.pipe_model.specs.History.{history}
 use Rattle.pipe_model.specs.Flow.{place}
-use Rattle.model_checks.proofs.Base.{may_come_after, is_refused_after, producer, processor, with_stages, one_each, sub, msg, passes, keyed, feeding, batcher, batch_processor, one_ruled, two_producers, by_key, supervised}
+use Rattle.model_checks.proofs.Base.{may_come_after, is_refused_after, producer, processor, with_stages, one_each, sub, msg, passes, keyed, feeding, batcher, batch_processor, one_ruled, two_producers, by_key, supervised, none_may_come_after}
 
 -- one line stands in the inbox of the processor
 abbrev sent_one : List Step
@@ -150,36 +150,20 @@ take_a_batch = refl
 done_pass : may_come_after one_each taken_one (Done (stage 2) (passes 1 (codes "x" ∷ []))) ≡ true
 done_pass = refl
 
-done_none : is_refused_after one_each taken_one (Done (stage 2) []) ≡ true
-done_none = refl
-
-done_two : is_refused_after one_each taken_one (Done (stage 2) (passes 1 (codes "x" ∷ codes "x" ∷ []))) ≡ true
-done_two = refl
-
--- no other reply, payload, key, batcher, flush mode, number or producer
-done_failed : is_refused_after one_each taken_one (Done (stage 2) (FailedReply (codes "no") ∷ [])) ≡ true
-done_failed = refl
-
-done_crashed : is_refused_after one_each taken_one (Done (stage 2) (Crashed ∷ [])) ≡ true
-done_crashed = refl
-
-done_payload : is_refused_after one_each taken_one (Done (stage 2) (passes 1 (codes "y" ∷ []))) ≡ true
-done_payload = refl
-
-done_key : is_refused_after one_each taken_one (Done (stage 2) (Pass (keyed 1 (codes "x")) ∷ [])) ≡ true
-done_key = refl
-
-done_batcher : is_refused_after one_each taken_one (Done (stage 2) (Pass (record (msg 1 (codes "x")) { batcher = 1 }) ∷ [])) ≡ true
-done_batcher = refl
-
-done_flush : is_refused_after one_each taken_one (Done (stage 2) (Pass (record (msg 1 (codes "x")) { flush = true }) ∷ [])) ≡ true
-done_flush = refl
-
-done_number : is_refused_after one_each taken_one (Done (stage 2) (passes 2 (codes "x" ∷ []))) ≡ true
-done_number = refl
-
-done_producer : is_refused_after one_each taken_one (Done (stage 2) (Pass (record (msg 1 (codes "x")) { producer = stage 2 }) ∷ [])) ≡ true
-done_producer = refl
+done_otherwise : none_may_come_after one_each taken_one (
+    Done (stage 2) []
+    ∷ Done (stage 2) (passes 1 (codes "x" ∷ codes "x" ∷ []))
+    -- no other reply, payload, key, batcher, flush mode, number or producer
+    ∷ Done (stage 2) (FailedReply (codes "no") ∷ [])
+    ∷ Done (stage 2) (Crashed ∷ [])
+    ∷ Done (stage 2) (passes 1 (codes "y" ∷ []))
+    ∷ Done (stage 2) (Pass (keyed 1 (codes "x")) ∷ [])
+    ∷ Done (stage 2) (Pass (record (msg 1 (codes "x")) { batcher = 1 }) ∷ [])
+    ∷ Done (stage 2) (Pass (record (msg 1 (codes "x")) { flush = true }) ∷ [])
+    ∷ Done (stage 2) (passes 2 (codes "x" ∷ []))
+    ∷ Done (stage 2) (Pass (record (msg 1 (codes "x")) { producer = stage 2 }) ∷ [])
+    ∷ []) ≡ true
+done_otherwise = refl
 
 -- a failure and a raise carry the stage's own reason, and are not each other
 abbrev renamed : StageSpec → StageSpec
@@ -209,15 +193,12 @@ crashing = one_ruled (CrashRule (codes "!") ∷ [])
 done_to_the_crash : may_come_after crashing taken_three (Done (stage 2) (Pass (msg 1 (codes "a")) ∷ Crashed ∷ [])) ≡ true
 done_to_the_crash = refl
 
-done_past_the_crash : is_refused_after crashing taken_three (Done (stage 2)
-    (Pass (msg 1 (codes "a")) ∷ Crashed ∷ Pass (msg 3 (codes "b")) ∷ [])) ≡ true
-done_past_the_crash = refl
-
-done_before_the_crash : is_refused_after crashing taken_three (Done (stage 2) (Pass (msg 1 (codes "a")) ∷ [])) ≡ true
-done_before_the_crash = refl
-
-done_at_once_crashed : is_refused_after crashing taken_three (Done (stage 2) (Crashed ∷ [])) ≡ true
-done_at_once_crashed = refl
+done_not_at_the_crash : none_may_come_after crashing taken_three (
+    Done (stage 2) (Pass (msg 1 (codes "a")) ∷ Crashed ∷ Pass (msg 3 (codes "b")) ∷ [])
+    ∷ Done (stage 2) (Pass (msg 1 (codes "a")) ∷ [])
+    ∷ Done (stage 2) (Crashed ∷ [])
+    ∷ []) ≡ true
+done_not_at_the_crash = refl
 
 -- only while the take is out
 done_untaken : is_refused_after one_each sent_one (Done (stage 2) (passes 1 (codes "x" ∷ []))) ≡ true
@@ -248,14 +229,12 @@ own = with_stages (producer 1 (codes "p") 0 ∷ record (processor 2 (codes "proc
 own_pass : may_come_after own taken_one (Done (stage 2) (Pass (record (keyed 1 (codes "other")) { flush = true }) ∷ [])) ≡ true
 own_pass = refl
 
-own_number : is_refused_after own taken_one (Done (stage 2) (passes 2 (codes "x" ∷ []))) ≡ true
-own_number = refl
-
-own_producer : is_refused_after own taken_one (Done (stage 2) (Pass (record (msg 1 (codes "x")) { producer = stage 2 }) ∷ [])) ≡ true
-own_producer = refl
-
-own_batcher_too_great : is_refused_after own taken_one (Done (stage 2) (Pass (record (msg 1 (codes "x")) { batcher = 1 }) ∷ [])) ≡ true
-own_batcher_too_great = refl
+own_not_its_message : none_may_come_after own taken_one (
+    Done (stage 2) (passes 2 (codes "x" ∷ []))
+    ∷ Done (stage 2) (Pass (record (msg 1 (codes "x")) { producer = stage 2 }) ∷ [])
+    ∷ Done (stage 2) (Pass (record (msg 1 (codes "x")) { batcher = 1 }) ∷ [])
+    ∷ []) ≡ true
+own_not_its_message = refl
 
 own_failed : may_come_after own taken_one (Done (stage 2) (FailedReply (codes "no") ∷ [])) ≡ true
 own_failed = refl
@@ -286,14 +265,12 @@ own_crash_at_once = refl
 own_crash_at_last : may_come_after own taken_three (Done (stage 2) (passes 1 (codes "a" ∷ codes "b" ∷ []) ++ Crashed ∷ [])) ≡ true
 own_crash_at_last = refl
 
-own_past_the_crash : is_refused_after own taken_three (Done (stage 2) (Crashed ∷ passes 2 (codes "b" ∷ codes "c" ∷ []))) ≡ true
-own_past_the_crash = refl
-
-own_two_crashes : is_refused_after own taken_three (Done (stage 2) (Crashed ∷ Crashed ∷ [])) ≡ true
-own_two_crashes = refl
-
-own_crash_behind_all : is_refused_after own taken_three (Done (stage 2) (passes 1 (replicate 3 (codes "a")) ++ Crashed ∷ [])) ≡ true
-own_crash_behind_all = refl
+own_crash_not_at_last : none_may_come_after own taken_three (
+    Done (stage 2) (Crashed ∷ passes 2 (codes "b" ∷ codes "c" ∷ []))
+    ∷ Done (stage 2) (Crashed ∷ Crashed ∷ [])
+    ∷ Done (stage 2) (passes 1 (replicate 3 (codes "a")) ++ Crashed ∷ [])
+    ∷ []) ≡ true
+own_crash_not_at_last = refl
 
 -- with two batchers a message may name the second
 abbrev own_feeding : Topology

@@ -2,7 +2,7 @@
 use Rattle.std.proofs.Common.{◌≡◌, refl}
 use Rattle.std.specs.Prelude.{true, List, [], ◌∷◌, ◌++◌, map, codes, replicate}
 use Rattle.pipe_types.specs.declared.topology.Topology.{Topology}
-use Rattle.pipe_types.specs.declared.topology.Rule.TheVariants.{Route, Key, Flush as FlushRule}
+use Rattle.pipe_types.specs.declared.topology.Rule.TheVariants.{Key, Flush as FlushRule}
 use Rattle.pipe_types.specs.declared.message.Reply.TheVariants.{Pass}
 use Rattle.pipe_types.specs.declared.message.Outcome.TheVariants.{Successful}
 use Rattle.pipe_types.specs.declared.message.BatchEnd.TheVariants.{Outcomes}
@@ -14,7 +14,7 @@ use Rattle.pipe_types.specs.declared.step.DrainCause.TheVariants.{Control}
 use Rattle.pipe_types.specs.Numbers.{stage, message_no}
 use Rattle.pipe_model.specs.History.{history}
 use Rattle.pipe_model.specs.Moves.{StepMove, Job, move}
-use Rattle.model_checks.proofs.Base.{may_come_after, is_refused_after, producer, processor, with_stages, sub, msg, keyed, feeding, batcher, batch_processor, by_key}
+use Rattle.model_checks.proofs.Base.{may_come_after, is_refused_after, producer, processor, with_stages, sub, msg, keyed, feeding, batcher, batch_processor, by_key, two_batchers, one_batcher}
 
 -- Timeout
 
@@ -41,10 +41,7 @@ moves_in_time = refl
 
 -- a message in flush mode closes its batch, though the batch is short
 abbrev flushing : Topology
-flushing =
-    with_stages
-    (producer 1 (codes "p") 0 ∷ feeding 1 (processor 2 (codes "processors.0") 0 (FlushRule (codes "!") ∷ [])) ∷ batcher 3 (codes "b") 0
-    ∷ batch_processor 4 (codes "b.0") 0 0 ∷ [])
+flushing = one_batcher (FlushRule (codes "!") ∷ [])
 
 abbrev flush_mode : List Step
 flush_mode =
@@ -128,12 +125,6 @@ closes_after_a_loss : may_come_after pushing (one_left_behind ++ Kill (stage 1) 
 closes_after_a_loss = refl
 
 -- what stands in another batcher does not count
-abbrev two_batchers : Topology
-two_batchers =
-    with_stages
-    (producer 1 (codes "p") 0 ∷ feeding 2 (processor 2 (codes "processors.0") 0 (Route 0 1 (codes "cold") ∷ [])) ∷ batcher 3 (codes "hot") 0
-    ∷ batcher 4 (codes "cold") 1 ∷ batch_processor 5 (codes "hot.0") 0 0 ∷ batch_processor 6 (codes "cold.0") 1 0 ∷ [])
-
 abbrev one_in_each : List Step
 one_in_each =
     Ask (sub 2 1 1) 10 ∷ Ask (sub 3 2 1) 3 ∷ Ask (sub 4 2 1) 3 ∷ Ask (sub 5 3 1) 1 ∷ Fetch (stage 1) 10
@@ -142,7 +133,7 @@ one_in_each =
     ∷ Dispatch (stage 2)
     ∷ Gather (stage 3) (message_no 1) ∷ Drain Control ∷ []
 
-closes_beside_another : may_come_after two_batchers one_in_each (Close (stage 3) (message_no 1) Flush) ≡ true
+closes_beside_another : may_come_after (two_batchers 0) one_in_each (Close (stage 3) (message_no 1) Flush) ≡ true
 closes_beside_another = refl
 
 -- then both keys' batches close, in the order of their first messages

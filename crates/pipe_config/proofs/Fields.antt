@@ -152,10 +152,8 @@ none_of r k (x ∷ xs) other h = let e : is_batch_processor x.role ≡ false = a
 
 dispatches_well : (all : List StageSpec) (second l i : ℕ) (b : BatcherSettings) (d : Option Dispatch) → b.dispatch ≡ d → length (batch_processors i all) ≡ b.concurrency → nat_le 1 b.concurrency ≡ true
     → ((by_demand (batcher_stage second l i b) (unwrap_or b.dispatch Demand) || by_broadcast (batcher_stage second l i b) (unwrap_or b.dispatch Demand)) || (by_partition (length (batch_processors i all)) (batcher_stage second l i b) (unwrap_or b.dispatch Demand) && (0 == 0))) ≡ true
-dispatches_well all second l i b None e count some = rw e refl
-dispatches_well all second l i b (Some Demand) e count some = rw e refl
-dispatches_well all second l i b (Some Broadcast) e count some = rw e refl
 dispatches_well all second l i b (Some Partition) e count some = rw (e, count, some, eq-eqb b.concurrency b.concurrency refl) refl
+dispatches_well all second l i b _ e count some = rw e refl
 
 one_batcher : (all : List StageSpec) (second l i : ℕ) (b : BatcherSettings) → length (batch_processors i all) ≡ b.concurrency → batcher_fits b ≡ true → has_fields all (batcher_stage second l i b) ≡ true
 one_batcher all second l i b count h =
@@ -185,10 +183,8 @@ either_true false h = h
 
 -- the batcher broadcasts where its settings say so
 casts : (second l k : ℕ) (b : BatcherSettings) (d : Option Dispatch) → b.dispatch ≡ d → is_broadcast d ≡ true → is_broadcaster (Some (batcher_stage second l k b)) ≡ true
-casts second l k b None e h = cc
-casts second l k b (Some Demand) e h = cc
 casts second l k b (Some Broadcast) e h = rw e refl
-casts second l k b (Some Partition) e h = cc
+casts second l k b _ e h = cc
 
 -- what its batch processors select
 selects_well : (all : List StageSpec) (second l k : ℕ) (b : BatcherSettings) (texts : Option (List (List ℕ))) (i : ℕ) → b.select ≡ texts → batcher_at all k ≡ Some (batcher_stage second l k b)

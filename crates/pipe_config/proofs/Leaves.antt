@@ -11,7 +11,7 @@ use Rattle.std.specs.List.Sorted.{IsStrictlySortedBy}
 use Rattle.std.specs.Map.{keys_of}
 use Rattle.std.specs.Ordering.{match_ordering}
 use Rattle.std.specs.String.{string_cmp}
-use Rattle.toml.specs.Data.{Data, string, integer, float, boolean, datetime, array, table, Items, no_items, item, Members, no_members, member, get_member, as_integer, as_str, as_array, as_table}
+use Rattle.toml.specs.Data.{Data, string, integer, array, table, Items, no_items, item, Members, no_members, member, get_member, as_integer, as_str, as_array, as_table}
 use Rattle.toml.specs.View.{members_view}
 use Rattle.toml.proofs.Views.{Entry}
 use Rattle.config_table.specs.declared.fault.ConfigFault.{ConfigFault}
@@ -70,31 +70,16 @@ select_there path n casts None rest h = cc
 select_there path n casts (Some ds) rest h = refl
 
 number_leaf : (d : Data) → is_some (as_integer d) ≡ true → is_leaf d ≡ true
-number_leaf (string text) h = cc
 number_leaf (integer z) h = refl
-number_leaf (float x) h = cc
-number_leaf (boolean b) h = cc
-number_leaf (datetime dt) h = cc
-number_leaf (array ds) h = cc
-number_leaf (table ms) h = cc
+number_leaf _ h = cc
 
 is_a_text : (d : Data) → is_some (as_str d) ≡ true → is_text d ≡ true
 is_a_text (string text) h = refl
-is_a_text (integer z) h = cc
-is_a_text (float x) h = cc
-is_a_text (boolean b) h = cc
-is_a_text (datetime dt) h = cc
-is_a_text (array ds) h = cc
-is_a_text (table ms) h = cc
+is_a_text _ h = cc
 
 text_leaf : (d : Data) → is_some (as_str d) ≡ true → is_leaf d ≡ true
 text_leaf (string text) h = refl
-text_leaf (integer z) h = cc
-text_leaf (float x) h = cc
-text_leaf (boolean b) h = cc
-text_leaf (datetime dt) h = cc
-text_leaf (array ds) h = cc
-text_leaf (table ms) h = cc
+text_leaf _ h = cc
 
 texts_from : (path : List ℕ) (sh : Shape) (i : ℕ) (ds : Items) → item_faults path sh i ds ≡ [] → are_texts ds ≡ true
 texts_from path sh i no_items h = refl
@@ -107,13 +92,8 @@ texts_from path sh i (item d ds) h =
     there (Some text) h = refl
 
 array_leaf : (path : List ℕ) (sh : Shape) (d : Data) → is_some (as_array d) ≡ true → items_faults path sh (as_array d) ≡ [] → is_leaf d ≡ true
-array_leaf path sh (string text) is h = cc
-array_leaf path sh (integer z) is h = cc
-array_leaf path sh (float x) is h = cc
-array_leaf path sh (boolean b) is h = cc
-array_leaf path sh (datetime dt) is h = cc
 array_leaf path sh (array ds) is h = texts_from path sh 0 ds h
-array_leaf path sh (table ms) is h = cc
+array_leaf path sh _ is h = cc
 
 value_leaf : (path : List ℕ) (form : Form) (d : Data) → value_faults path form d ≡ [] → is_leaf d ≡ true
 value_leaf path (Whole range) d h = number_leaf d (number_there path range (as_integer d) [] h)
@@ -191,22 +171,12 @@ table_leaves v s path t once h =
 -- ---- what stands at the top
 
 table_part : (v : FileVersion) (s : Section) (path : List ℕ) (d : Data) → part_is_distinct d ≡ true → table_faults v s path (as_table d) ≡ [] → is_part d ≡ true
-table_part v s path (string text) once h = cc
-table_part v s path (integer z) once h = cc
-table_part v s path (float x) once h = cc
-table_part v s path (boolean b) once h = cc
-table_part v s path (datetime dt) once h = cc
-table_part v s path (array ds) once h = cc
 table_part v s path (table ms) once h = table_leaves v s path ms once h
+table_part v s path _ once h = cc
 
 leaf_table : (v : FileVersion) (s : Section) (path : List ℕ) (d : Data) → table_is_distinct d ≡ true → table_faults v s path (as_table d) ≡ [] → is_leaf_table d ≡ true
-leaf_table v s path (string text) once h = cc
-leaf_table v s path (integer z) once h = cc
-leaf_table v s path (float x) once h = cc
-leaf_table v s path (boolean b) once h = cc
-leaf_table v s path (datetime dt) once h = cc
-leaf_table v s path (array ds) once h = cc
 leaf_table v s path (table ms) once h = table_leaves v s path ms once h
+leaf_table v s path _ once h = cc
 
 leaf_tables : (v : FileVersion) (s : Section) (path : List ℕ) (i : ℕ) (ds : Items) → tables_are_distinct ds ≡ true → each_faults v s path i ds ≡ [] → are_leaf_tables ds ≡ true
 leaf_tables v s path i no_items once h = refl
@@ -216,13 +186,8 @@ leaf_tables v s path i (item d ds) once h =
     both (leaf_table v s (at_place path i) d first here) (leaf_tables v s path (i + 1) ds others more)
 
 array_part : (v : FileVersion) (s : Section) (path : List ℕ) (d : Data) → part_is_distinct d ≡ true → array_faults v s path (as_array d) ≡ [] → is_part d ≡ true
-array_part v s path (string text) once h = cc
-array_part v s path (integer z) once h = cc
-array_part v s path (float x) once h = cc
-array_part v s path (boolean b) once h = cc
-array_part v s path (datetime dt) once h = cc
 array_part v s path (array ds) once h = leaf_tables v s path 0 ds once h
-array_part v s path (table ms) once h = cc
+array_part v s path _ once h = cc
 
 -- by either branch
 branch : {A : Type 0} (b : Bool) {x y : List ConfigFault} → (x ≡ [] → A) → (y ≡ [] → A) → cond b x y ≡ [] → A
@@ -243,13 +208,8 @@ top_part v n k d once number =
     by false e h = cc
 
 number_part : (v : FileVersion) (d : Data) → version_in (as_integer d) ≡ Some v → is_part d ≡ true
-number_part v (string text) h = cc
 number_part v (integer z) h = refl
-number_part v (float x) h = cc
-number_part v (boolean b) h = cc
-number_part v (datetime dt) h = cc
-number_part v (array ds) h = cc
-number_part v (table ms) h = cc
+number_part v _ h = cc
 
 version_part : (v : FileVersion) (t : Members) → version_of t ≡ Some v → (d : Data) → get_member (codes "version") t ≡ Some d → is_part d ≡ true
 version_part v t h d found = number_part v d (sym (ap (λ (o : Option Data). version_in (option_and_then as_integer o)) found) ∙ h)

@@ -108,11 +108,9 @@ second_role role.Supervisor = true
 second_role _ = false
 
 next_second : (r : Role) (s a : StageSpec) → second_role r ≡ true → s.index ≡ 0 → is_next role.Producer r a s ≡ true
-next_second role.Producer s a h e = cc
 next_second role.Processor s a h e = eq-eqb s.index 0 e
 next_second role.Supervisor s a h e = eq-eqb s.index 0 e
-next_second role.Batcher s a h e = cc
-next_second role.BatchProcessor s a h e = cc
+next_second _ s a h e = cc
 
 -- the producers after the i-th, and a stage of level two
 go_producers : (n : ℕ) (field : Option ℕ) (parts l t i : ℕ) (p : ProducerSettings) (ps : List ProducerSettings) (s : StageSpec) (rest : List StageSpec)

@@ -69,15 +69,10 @@ below n k h = grind (arith, nat_tests)
 
 -- a rule with its numbers in range, that is no route to a missing batcher
 rule_fits : (n : ℕ) (r : Rule) → is_formed r ≡ true → is_astray n (Some r) ≡ false → is_rule n r ≡ true
-rule_fits n rule.Pass f a = refl
-rule_fits n (rule.Prefix text) f a = refl
-rule_fits n (rule.Require text) f a = refl
 rule_fits n (rule.Route field k value) f a = both f (below n k a)
 rule_fits n (rule.Key field) f a = f
-rule_fits n (rule.Flush text) f a = refl
-rule_fits n (rule.Raise text) f a = refl
-rule_fits n (rule.Crash text) f a = refl
 rule_fits n (rule.FailEvery count) f a = f
+rule_fits n _ f a = refl
 
 one_rule : (n : ℕ) (o : Option Rule) (rest : List Rule) → formed o ≡ true → is_astray n o ≡ false → list_all (is_rule n) rest ≡ true → list_all (is_rule n) (cons_option o rest) ≡ true
 one_rule n None rest f a h = h

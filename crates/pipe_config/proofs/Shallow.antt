@@ -1,18 +1,13 @@
 -- A flat table is shallow and has no date-times.
 use Rattle.std.proofs.Common.{◌≡◌, ◌≤◌, true, arith, refl}
 use Rattle.std.proofs.lemmas.Bool.{and_parts}
-use Rattle.toml.specs.Data.{Data, Items, no_items, item, Members, no_members, member, string, integer, float, boolean, datetime, array, table, depth, items_depth, members_depth, has_valid_dates, items_have_valid_dates, members_have_valid_dates}
+use Rattle.toml.specs.Data.{Data, Items, no_items, item, Members, no_members, member, string, integer, array, table, depth, items_depth, members_depth, has_valid_dates, items_have_valid_dates, members_have_valid_dates}
 use Rattle.pipe_config.specs.Flat.{is_text, are_texts, is_leaf, are_leaves, is_leaf_table, are_leaf_tables, is_part, is_flat}
 use Rattle.pipe_config.proofs.Named.{both}
 
 text_depth : (d : Data) → is_text d ≡ true → depth d ≤ 0
 text_depth (string s) h = omega arith
-text_depth (integer z) h = cc
-text_depth (float x) h = cc
-text_depth (boolean b) h = cc
-text_depth (datetime dt) h = cc
-text_depth (array ds) h = cc
-text_depth (table ms) h = cc
+text_depth _ h = cc
 
 texts_depth : (ds : Items) → are_texts ds ≡ true → items_depth ds ≤ 0
 texts_depth no_items h = omega arith
@@ -21,24 +16,16 @@ texts_depth (item d ds) h = let (here, more) = and_parts (is_text d) (are_texts 
 leaf_depth : (d : Data) → is_leaf d ≡ true → depth d ≤ 1
 leaf_depth (string s) h = omega arith
 leaf_depth (integer z) h = omega arith
-leaf_depth (float x) h = cc
-leaf_depth (boolean b) h = cc
-leaf_depth (datetime dt) h = cc
 leaf_depth (array ds) h = omega (arith, texts_depth ds h)
-leaf_depth (table ms) h = cc
+leaf_depth _ h = cc
 
 leaves_depth : (ms : Members) → are_leaves ms ≡ true → members_depth ms ≤ 1
 leaves_depth no_members h = omega arith
 leaves_depth (member k d ms) h = let (here, more) = and_parts (is_leaf d) (are_leaves ms) h in omega (arith, leaf_depth d here, leaves_depth ms more)
 
 leaf_table_depth : (d : Data) → is_leaf_table d ≡ true → depth d ≤ 2
-leaf_table_depth (string s) h = cc
-leaf_table_depth (integer z) h = cc
-leaf_table_depth (float x) h = cc
-leaf_table_depth (boolean b) h = cc
-leaf_table_depth (datetime dt) h = cc
-leaf_table_depth (array ds) h = cc
 leaf_table_depth (table ms) h = omega (arith, leaves_depth ms h)
+leaf_table_depth _ h = cc
 
 leaf_tables_depth : (ds : Items) → are_leaf_tables ds ≡ true → items_depth ds ≤ 2
 leaf_tables_depth no_items h = omega arith
@@ -47,11 +34,9 @@ leaf_tables_depth (item d ds) h = let (here, more) = and_parts (is_leaf_table d)
 part_depth : (d : Data) → is_part d ≡ true → depth d ≤ 3
 part_depth (string s) h = omega arith
 part_depth (integer z) h = omega arith
-part_depth (float x) h = cc
-part_depth (boolean b) h = cc
-part_depth (datetime dt) h = cc
 part_depth (array ds) h = omega (arith, leaf_tables_depth ds h)
 part_depth (table ms) h = omega (arith, leaves_depth ms h)
+part_depth _ h = cc
 
 flat_depth : (ms : Members) → is_flat ms ≡ true → members_depth ms ≤ 3
 flat_depth no_members h = omega arith
@@ -63,12 +48,7 @@ shallow ms h = omega (arith, flat_depth ms h)
 
 text_dates : (d : Data) → is_text d ≡ true → has_valid_dates d ≡ true
 text_dates (string s) h = refl
-text_dates (integer z) h = cc
-text_dates (float x) h = cc
-text_dates (boolean b) h = cc
-text_dates (datetime dt) h = cc
-text_dates (array ds) h = cc
-text_dates (table ms) h = cc
+text_dates _ h = cc
 
 texts_dates : (ds : Items) → are_texts ds ≡ true → items_have_valid_dates ds ≡ true
 texts_dates no_items h = refl
@@ -77,24 +57,16 @@ texts_dates (item d ds) h = let (here, more) = and_parts (is_text d) (are_texts 
 leaf_dates : (d : Data) → is_leaf d ≡ true → has_valid_dates d ≡ true
 leaf_dates (string s) h = refl
 leaf_dates (integer z) h = refl
-leaf_dates (float x) h = cc
-leaf_dates (boolean b) h = cc
-leaf_dates (datetime dt) h = cc
 leaf_dates (array ds) h = texts_dates ds h
-leaf_dates (table ms) h = cc
+leaf_dates _ h = cc
 
 leaves_dates : (ms : Members) → are_leaves ms ≡ true → members_have_valid_dates ms ≡ true
 leaves_dates no_members h = refl
 leaves_dates (member k d ms) h = let (here, more) = and_parts (is_leaf d) (are_leaves ms) h in both (leaf_dates d here) (leaves_dates ms more)
 
 leaf_table_dates : (d : Data) → is_leaf_table d ≡ true → has_valid_dates d ≡ true
-leaf_table_dates (string s) h = cc
-leaf_table_dates (integer z) h = cc
-leaf_table_dates (float x) h = cc
-leaf_table_dates (boolean b) h = cc
-leaf_table_dates (datetime dt) h = cc
-leaf_table_dates (array ds) h = cc
 leaf_table_dates (table ms) h = leaves_dates ms h
+leaf_table_dates _ h = cc
 
 leaf_tables_dates : (ds : Items) → are_leaf_tables ds ≡ true → items_have_valid_dates ds ≡ true
 leaf_tables_dates no_items h = refl
@@ -103,11 +75,9 @@ leaf_tables_dates (item d ds) h = let (here, more) = and_parts (is_leaf_table d)
 part_dates : (d : Data) → is_part d ≡ true → has_valid_dates d ≡ true
 part_dates (string s) h = refl
 part_dates (integer z) h = refl
-part_dates (float x) h = cc
-part_dates (boolean b) h = cc
-part_dates (datetime dt) h = cc
 part_dates (array ds) h = leaf_tables_dates ds h
 part_dates (table ms) h = leaves_dates ms h
+part_dates _ h = cc
 
 -- the printer has no date-time to refuse
 pub flat_dates : (ms : Members) → is_flat ms ≡ true → members_have_valid_dates ms ≡ true

@@ -20,7 +20,7 @@ use Rattle.toml.specs.View.{view, members_view}
 use Rattle.toml.specs.declared.value.Value.{Value}
 use Rattle.toml.proofs.Views.{Entry}
 use Rattle.config_table.specs.declared.fault.ConfigFault.{ConfigFault}
-use Rattle.config_table.specs.declared.fault.ConfigFault.TheVariants.{NotToml, Version, UnknownKey, Missing, WrongType, OutOfRange, DuplicateName, UnknownBatcher, NoStage, TooManyStages, BadDispatch, Unreachable, OutOfMemory}
+use Rattle.config_table.specs.declared.fault.ConfigFault.TheVariants.{Version, UnknownKey, OutOfMemory}
 use Rattle.config_table.specs.declared.format.FileVersion.{FileVersion}
 use Rattle.config_table.specs.declared.format.FileVersion.TheVariants.{One, Two}
 use Rattle.config_table.specs.declared.format.Key.TheVariants as key
@@ -183,10 +183,7 @@ right_rows : (s : Section) (path : List ℕ) (t : Members) → unknown_keys One 
 right_rows (section.Pipeline n) path t h =
     right_pipeline n (is_some (value_at key.AllowedMessages t)) (is_some (value_at key.Interval t)) (ap is_some (absent path (rows (section.Pipeline n) t) (key_name key.AllowedMessages) t refl h))
     (ap is_some (absent path (rows (section.Pipeline n) t) (key_name key.Interval) t refl h))
-right_rows section.Producer path t h = refl
-right_rows section.Processors path t h = refl
-right_rows section.Supervisor path t h = refl
-right_rows section.Batcher path t h = refl
+right_rows _ path t h = refl
 
 rows_lift : (s : Section) (path : List ℕ) (t : Members) → rows_faults One path (rows s t) t ≡ [] → rows_faults Two path (rows s t) t ≡ []
 rows_lift s path t h =
@@ -304,16 +301,5 @@ upgraded_text bytes text ms accepted good read =
     }
 
 pub refused_as : (expected : Result Topology ConfigFault) (fault : ConfigFault) → (fault ≢ OutOfMemory → expected ≡ Err fault) → IsRefused expected (refusal_of fault)
-refused_as expected NotToml h = (h (λ e. cc), λ e. cc)
-refused_as expected (Version path) h = (h (λ e. cc), λ e. cc)
-refused_as expected (UnknownKey path) h = (h (λ e. cc), λ e. cc)
-refused_as expected (Missing path) h = (h (λ e. cc), λ e. cc)
-refused_as expected (WrongType path) h = (h (λ e. cc), λ e. cc)
-refused_as expected (OutOfRange path) h = (h (λ e. cc), λ e. cc)
-refused_as expected (DuplicateName path) h = (h (λ e. cc), λ e. cc)
-refused_as expected (UnknownBatcher path) h = (h (λ e. cc), λ e. cc)
-refused_as expected NoStage h = (h (λ e. cc), λ e. cc)
-refused_as expected TooManyStages h = (h (λ e. cc), λ e. cc)
-refused_as expected (BadDispatch path) h = (h (λ e. cc), λ e. cc)
-refused_as expected (Unreachable path) h = (h (λ e. cc), λ e. cc)
 refused_as expected OutOfMemory h = tt
+refused_as expected _ h = (h (λ e. cc), λ e. cc)

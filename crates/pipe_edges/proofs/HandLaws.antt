@@ -10,7 +10,7 @@ use Rattle.pipe_edges.specs.Fetch.{records_of}
 use Rattle.pipe_edges.specs.Stop.{fetched_of, stop_text, StopHasCause}
 use Rattle.pipe_edges.specs.declared.reading.LineEnd.TheVariants as end
 use Rattle.pipe_edges.specs.declared.reading.Stop.{Stop}
-use Rattle.pipe_edges.specs.declared.reading.Stop.TheVariants.{Lines, Last, NotYet, Ended}
+use Rattle.pipe_edges.specs.declared.reading.Stop.TheVariants.{Lines, Last, Ended}
 use Rattle.pipe_edges.proofs.TextLaws.{lines_ended, lines_last, lines_nil}
 
 -- nothing happened
@@ -56,7 +56,5 @@ in_order_of source a b h i max (Last rs) p cause t =
     let e : h ++ source.left a ≡ joined rs ++ (i ++ source.left b) = to_come p t in
     let f : h ++ source.left a ≡ cause.line = rw (cause.alone, cause.none_held, cause.none_left t, append-nil, append-nil) at e in
     rw (f, cause.alone, cause.none_held, cause.none_left t, lines_last cause.line cause.is_line cause.some, lines_nil) refl
-in_order_of source a b h i max NotYet p cause t = ap lines (to_come p t)
 in_order_of source a b h i max (Ended end.End) p cause t = ap lines (to_come p t)
-in_order_of source a b h i max (Ended end.Fault) p cause t = ap lines (to_come p t)
-in_order_of source a b h i max (Ended end.TooLong) p cause t = ap lines (to_come p t)
+in_order_of source a b h i max _ p cause t = ap lines (to_come p t)

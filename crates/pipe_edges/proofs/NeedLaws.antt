@@ -2,7 +2,7 @@
 use Rattle.std.proofs.Common.{◌≡◌, true, false, ℕ, ◌+◌, ◌≤◌, List, [], ◌++◌, length, arith, refl, ap, sym, ◌∙◌, inl, inr}
 use Rattle.std.proofs.lemmas.List.{append_assoc, append-nil, length-append}
 use Rattle.pipe_edges.specs.Texts.{IsLine}
-use Rattle.std.specs.Prelude.{Option, Some, None, Result, Ok, Err, IsErr}
+use Rattle.std.specs.Prelude.{Option, Some, Result, Ok, Err, IsErr}
 use Rattle.pipe_edges.specs.Fetch.{text_of}
 use Rattle.pipe_edges.specs.declared.reading.LineEnd.{LineEnd}
 use Rattle.pipe_edges.specs.declared.reading.LineEnd.TheVariants as end
@@ -53,7 +53,5 @@ no_text (Err e) failed = refl
 
 -- no records have no text, whatever the end
 pub needed_err : (held held' : List ℕ) (known : Option LineEnd) → ReadsAsNeeded held held' (text_of known []) → ReadsAsNeeded held held' []
-needed_err held held' None needed = needed
 needed_err held held' (Some end.End) needed = needed
-needed_err held held' (Some end.Fault) needed = needed
-needed_err held held' (Some end.TooLong) needed = needed
+needed_err held held' _ needed = needed

@@ -11,7 +11,7 @@ use Rattle.pipe_edges.specs.Stop.{fetched_of}
 use Rattle.pipe_edges.specs.declared.source.ReadEnd.TheVariants.{Got, Failed, Empty}
 use Rattle.pipe_edges.specs.declared.reading.LineEnd.TheVariants as end
 use Rattle.pipe_edges.specs.declared.reading.Stop.{Stop}
-use Rattle.pipe_edges.specs.declared.reading.Stop.TheVariants.{Lines, Last, NotYet, Ended}
+use Rattle.pipe_edges.specs.declared.reading.Stop.TheVariants.{Lines, NotYet, Ended}
 
 -- ---- counts that do not fall
 
@@ -57,12 +57,8 @@ round_more E {F = F} (Some pace) a b c h i j r is x y =
       held_up = held_up r y'.held_up;
     } where
       held_up : (r : Result (Option Stop) F) → IfOk r (RoundIsHeldUp pace b c) → IfOk r (RoundIsHeldUp pace a c)
-      held_up (Ok None) k = tt
-      held_up (Ok (Some (Lines rs))) k = tt
-      held_up (Ok (Some (Last rs))) k = tt
       held_up (Ok (Some NotYet)) k = held_up_more pace a b c x.kept k
-      held_up (Ok (Some (Ended e))) k = tt
-      held_up (Err e) k = tt
+      held_up _ k = tt
 
 -- ---- lines cut off
 
@@ -187,17 +183,10 @@ fetch_of E F (Some pace) a b h i stop x = record {
   held_up = held_up stop x.held_up;
 } where
   counts : (stop : Stop) → RoundCounts a.given b i (Some stop) → FetchCounts a.given b i (fetched_of stop)
-  counts (Lines rs) k = k
-  counts (Last rs) k = k
-  counts NotYet k = k
-  counts (Ended end.End) k = k
-  counts (Ended end.Fault) k = k
   counts (Ended end.TooLong) k = tt
+  counts _ k = k
 
   held_up : (stop : Stop) → RoundIsHeldUp pace a b (Some stop) → FetchIsHeldUp pace a b (fetched_of stop)
-  held_up (Lines rs) k = tt
-  held_up (Last rs) k = tt
   held_up NotYet k = k
   held_up (Ended end.End) k = tt
-  held_up (Ended end.Fault) k = tt
-  held_up (Ended end.TooLong) k = tt
+  held_up _ k = tt

@@ -25,11 +25,11 @@ pieces_some (b ∷ bs) =
       | false ↦ (b ∷ (pieces_some bs).0, (pieces_some bs).1, rw (pieces_some bs).2 refl)
     ]
 
-pieces_lf : (w : List ℕ) → pieces (10 ∷ w) ≡ [] ∷ pieces w
+pub pieces_lf : (w : List ℕ) → pieces (10 ∷ w) ≡ [] ∷ pieces w
 unfolding pieces
 pieces_lf w = refl
 
-pieces_nil : pieces [] ≡ [] ∷ []
+pub pieces_nil : pieces [] ≡ [] ∷ []
 unfolding pieces
 pieces_nil = refl
 

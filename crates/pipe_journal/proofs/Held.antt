@@ -6,35 +6,32 @@ use Rattle.std.proofs.lemmas.List.{map_push, reverse-append, reverse-reverse, le
 use Rattle.std.proofs.lemmas.Option.{slice_get-map}
 use Rattle.std.specs.Option.{option_map}
 use Rattle.pipe_types.specs.declared.step.Step.{Step}
-use Rattle.pipe_types.specs.declared.step.LateAnswer.{LateAnswer}
-use Rattle.pipe_types.specs.declared.message.BatchEnd.{BatchEnd}
 use Rattle.pipe_types.specs.declared.message.Reply.{Reply}
 use Rattle.pipe_journal.specs.declared.store.Store.{Store}
 use Rattle.pipe_journal.specs.declared.entry.Entry.{Entry}
 use Rattle.pipe_model.specs.History.{History}
 use Rattle.pipe_journal.specs.Readers.{step_at}
+use Rattle.pipe_journal.proofs.Extending.{as_long, same_item, same_piece}
 use Rattle.pipe_journal.specs.Entries.{step_of, steps_of, IsHeld, AreHeld, KeepsValues, Keeps}
 
-still_there : {X : Type 0} (old new : Slab X) (key : ℕ) → KeepsValues old new → ContainsKey old key → ContainsKey new key
+pub still_there : {X : Type 0} (old new : Slab X) (key : ℕ) → KeepsValues old new → ContainsKey old key → ContainsKey new key
 still_there {X} old new key keeps is = subst (λ (slot : Option X). IsSome slot) (sym (keeps key is)) is
 
 module _ (old new : Store) (keeps : Keeps old new) where
   -- an entry whose list is held has the same list
 
   same_step : (entry : Entry) → IsHeld old entry → step_of new entry ≡ step_of old entry
-  same_step (Entry.Accept s key) is = ap (λ slot. Step.Accept s (unwrap_or slot [])) (keeps.records key is)
-  same_step (Entry.Done s key) is = ap (λ slot. Step.Done s (unwrap_or slot [])) (keeps.replies key is)
-  same_step (Entry.Wrote s bytes key) is = ap (λ slot. Step.Wrote s bytes (BatchEnd.Outcomes (unwrap_or slot []))) (keeps.outcomes key is)
-  same_step (Entry.ChildEnd s slot key) is = ap (λ found. Step.ChildEnd s slot (unwrap_or found Reply.Crashed)) (keeps.children key is)
-  same_step (Entry.Late s slot incarnation key) is = ap (λ found. Step.Late s slot incarnation (unwrap_or found LateAnswer.Nothing)) (keeps.lates key is)
+  same_step (Entry.Accept s first count) is = ap (Step.Accept s) (same_piece first count _ _ keeps.records is)
+  same_step (Entry.Done s first count) is = ap (Step.Done s) (same_piece first count _ _ keeps.replies is)
+  same_step (Entry.ChildEnd s slot at) is = ap (λ (found : Option Reply). Step.ChildEnd s slot (unwrap_or found Reply.Crashed)) (same_item at _ _ keeps.replies is)
+  same_step (Entry.Whole key) is = ap (λ (found : Option Step). unwrap_or found Step.Halt) (keeps.whole key is)
   same_step _ is = refl
 
   held_step : (entry : Entry) → IsHeld old entry → IsHeld new entry
-  held_step (Entry.Accept s key) is = still_there old.records new.records key keeps.records is
-  held_step (Entry.Done s key) is = still_there old.replies new.replies key keeps.replies is
-  held_step (Entry.Wrote s bytes key) is = still_there old.outcomes new.outcomes key keeps.outcomes is
-  held_step (Entry.ChildEnd s slot key) is = still_there old.children new.children key keeps.children is
-  held_step (Entry.Late s slot incarnation key) is = still_there old.lates new.lates key keeps.lates is
+  held_step (Entry.Accept s first count) is = let grown = as_long _ _ keeps.records in omega arith
+  held_step (Entry.Done s first count) is = let grown = as_long _ _ keeps.replies in omega arith
+  held_step (Entry.ChildEnd s slot at) is = let grown = as_long _ _ keeps.replies in omega arith
+  held_step (Entry.Whole key) is = still_there old.whole new.whole key keeps.whole is
   held_step _ is = tt
 
   same_steps : (entries : List Entry) → AreHeld old entries → map (step_of new) entries ≡ map (step_of old) entries

@@ -1,2 +1,6 @@
+pub mod Cutting
+pub mod Extending
 pub mod Held
+pub mod Keeping
+pub mod Keeps
 pub mod Walks

@@ -1,5 +1,10 @@
 pub mod Recorded
+pub mod Cuts
 pub mod Entries
+pub mod Grown
+pub mod Items
+pub mod Packed
+pub mod Seen
 pub mod Views
 pub mod Readers
 pub mod Watched

@@ -1,57 +1,59 @@
 //! Copies of records, replies and outcomes.
 
 ghost use Rattle.std.specs.Prelude.{◌≡◌, IfOk};
+ghost use Rattle.pipe_journal.specs.Items.{message_seen, reply_seen, records_seen, replies_seen};
 
+use crate::items::{MessageView, Records, Replies, ReplyView};
 use pipe_types::bytes::{Bytes, BytesList};
 use pipe_types::message::{Message, Outcome, OutcomeList, Reply, ReplyList};
 use std::alloc::{AllocError, Global};
 
-fn copy_bytes(alloc: Global, bytes: &Bytes) -> Result<Bytes, AllocError>
+fn copy_bytes(alloc: Global, bytes: &[u8]) -> Result<Bytes, AllocError>
     ensures { IfOk result (λ copied. copied ≡ bytes.now) }
 {
-    Ok(Bytes::from_vec(Vec::from_slice(alloc, bytes.as_slice())?))
+    Ok(Bytes::from_vec(Vec::from_slice(alloc, bytes)?))
 }
 
-pub(crate) fn copy_records(alloc: Global, records: &[Bytes]) -> Result<BytesList, AllocError>
-    ensures { IfOk result (λ copied. copied ≡ records.now) }
+pub(crate) fn copy_records(alloc: Global, records: Records<'_>) -> Result<BytesList, AllocError>
+    ensures { IfOk result (λ copied. copied ≡ records_seen records.entry) }
 {
     let mut copied = Vec::with_capacity(alloc, records.len())?;
-    for record in records {
-        copied.push(copy_bytes(alloc, record)?)?;
+    for at in 0..records.len() {
+        copied.push(copy_bytes(alloc, records.item(at))?)?;
     }
     Ok(BytesList::from_vec(copied))
 }
 
-fn copy_message(alloc: Global, message: &Message) -> Result<Message, AllocError>
-    ensures { IfOk result (λ copied. copied ≡ message.now) }
+fn copy_message(alloc: Global, message: MessageView<'_>) -> Result<Message, AllocError>
+    ensures { IfOk result (λ copied. copied ≡ message_seen message.entry) }
 {
     Ok(Message {
         no: message.no,
         producer: message.producer,
-        payload: copy_bytes(alloc, &message.payload)?,
+        payload: copy_bytes(alloc, message.payload)?,
         batcher: message.batcher,
-        key: copy_bytes(alloc, &message.key)?,
+        key: copy_bytes(alloc, message.key)?,
         flush: message.flush,
     })
 }
 
-pub(crate) fn copy_reply(alloc: Global, reply: &Reply) -> Result<Reply, AllocError>
-    ensures { IfOk result (λ copied. copied ≡ reply.now) }
+pub(crate) fn copy_reply(alloc: Global, reply: ReplyView<'_>) -> Result<Reply, AllocError>
+    ensures { IfOk result (λ copied. copied ≡ reply_seen reply.entry) }
 {
     Ok(match reply {
-        Reply::Pass(message) => Reply::Pass(copy_message(alloc, message)?),
-        Reply::Failed(why) => Reply::Failed(*why),
-        Reply::Raised(why) => Reply::Raised(*why),
-        Reply::Crashed => Reply::Crashed,
+        ReplyView::Pass(message) => Reply::Pass(copy_message(alloc, message)?),
+        ReplyView::Failed(why) => Reply::Failed(*why),
+        ReplyView::Raised(why) => Reply::Raised(*why),
+        ReplyView::Crashed => Reply::Crashed,
     })
 }
 
-pub(crate) fn copy_replies(alloc: Global, replies: &[Reply]) -> Result<ReplyList, AllocError>
-    ensures { IfOk result (λ copied. copied ≡ replies.now) }
+pub(crate) fn copy_replies(alloc: Global, replies: Replies<'_>) -> Result<ReplyList, AllocError>
+    ensures { IfOk result (λ copied. copied ≡ replies_seen replies.entry) }
 {
     let mut copied = Vec::with_capacity(alloc, replies.len())?;
-    for reply in replies {
-        copied.push(copy_reply(alloc, reply)?)?;
+    for at in 0..replies.len() {
+        copied.push(copy_reply(alloc, replies.item(at))?)?;
     }
     Ok(ReplyList::from_vec(copied))
 }

@@ -1,14 +1,15 @@
 //! The list of steps.
 
-ghost use Rattle.std.specs.Prelude.{◌≡◌, ◌+◌, ◌<◌, ◌≤◌, ◌==◌, [], ◌∷◌, length, Some, option_copied, IsOk, IfOk, OnOk, OnErr, IfErr};
+ghost use Rattle.std.specs.Prelude.{◌≡◌, ◌+◌, ◌<◌, ◌≤◌, ◌==◌, [], ◌∷◌, length, Some, option_copied, option_map, IsOk, IfOk, OnOk, OnErr, IfErr};
+ghost use Rattle.pipe_journal.specs.Items.{reply_seen};
 ghost use Rattle.pipe_journal.specs.Readers.{step_at, payload_at, reply_at};
 ghost use Rattle.pipe_journal.specs.Views.{step_seen};
 
 use crate::entry::{Entry, pack};
+use crate::items::ReplyView;
+use crate::kept::Kept;
 use crate::store::Store;
 use crate::view::{StepView, view_entry};
-use pipe_types::bytes::Bytes;
-use pipe_types::message::Reply;
 use pipe_types::step::Step;
 use slab::Slab;
 use std::alloc::{AllocError, Global};
@@ -18,7 +19,7 @@ use std::marker::Model;
 #[derive(Drop)]
 pub struct Journal {
     entries: Vec<Entry>,
-    // The lists of the entries.
+    // What does not fit into the entries.
     store: Store,
     alloc: Global,
 }
@@ -46,11 +47,8 @@ impl Journal {
         Journal {
             entries: Vec::new(alloc),
             store: Store {
-                records: Slab::new(alloc),
-                replies: Slab::new(alloc),
-                children: Slab::new(alloc),
-                outcomes: Slab::new(alloc),
-                lates: Slab::new(alloc),
+                kept: Kept::new(alloc),
+                whole: Slab::new(alloc),
             },
             alloc,
         }
@@ -125,7 +123,7 @@ impl Journal {
 
     /// The record at place `item` of the Accept or of the late answer at place `at`, both from 0, and none where no such
     /// record is.
-    pub fn payload_at(&self, at: u64, item: u32) -> Option<&Bytes>
+    pub fn payload_at(&self, at: u64, item: u32) -> Option<&[u8]>
         ensures { option_copied result ≡ payload_at self.now.steps at item }
     {
         if self.len() <= at {
@@ -136,8 +134,8 @@ impl Journal {
 
     /// The reply at place `item` of the Done at place `at`, both from 0, or of the ChildEnd there with `item` 0, and none
     /// where no such reply is.
-    pub fn reply_at(&self, at: u64, item: u32) -> Option<&Reply>
-        ensures { option_copied result ≡ reply_at self.now.steps at item }
+    pub fn reply_at(&self, at: u64, item: u32) -> Option<ReplyView<'_>>
+        ensures { option_map reply_seen result ≡ reply_at self.now.steps at item }
     {
         if self.len() <= at {
             return None;

@@ -4,19 +4,25 @@
 //! the number of further steps that take no memory. So a push adds one step in front of the history, and where it
 //! fails the step comes back and the history is as it was.
 //!
-//! An entry is a fixed record of a step's kind and numbers. Its records, replies, outcomes or late answer are moved into
-//! a slab of their kind beside the entries and stay there, so that each byte of a run stands once: an entry has the key
-//! that the slab picked. A reader lends them, as a `StepView` or as one record or reply by the place of its step and its
-//! place there, and takes no memory. Only `get` copies.
+//! An entry has a step's kind and numbers, in 16 bytes. Records stand packed beside the entries, each its bytes and four more, and
+//! replies in 16 bytes each: one that passes its message's record on unchanged has no bytes of its own, so that each byte of a
+//! run stands once. A late answer, outcomes that are not all successes, and whatever there is no memory to pack are kept as they
+//! came. A reader lends all of it, as a `StepView` or as one record or reply by the place of its step and its place there, and
+//! takes no memory. Only `get` copies.
 #![tactic(auto)]
 
 mod copies;
 mod entry;
+pub mod items;
 pub mod journal;
+mod kept;
+mod shelf;
 mod store;
 pub mod view;
 mod watch;
 
+pub use items::{MessageView, Records, Replies, ReplyView};
 pub use journal::Journal;
+pub use kept::Kept;
 pub use view::{AnswerView, EndView, StepView};
 pub use watch::{NoWatch, Watch, WatchEnd};

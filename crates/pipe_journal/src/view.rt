@@ -1,24 +1,28 @@
 //! A step as its journal lends it.
 
-ghost use Rattle.std.specs.Prelude.{◌≡◌, IfOk};
+ghost use Rattle.std.specs.Prelude.{◌≡◌, IfOk, replicate};
+ghost use Rattle.pipe_types.specs.declared.message.Outcome.TheVariants.{Successful};
 ghost use Rattle.pipe_journal.specs.Entries.{IsHeld, step_of};
+ghost use Rattle.pipe_journal.specs.Items.{records_seen, replies_seen};
 ghost use Rattle.pipe_journal.specs.Views.{end_seen, answer_seen, step_seen};
 ghost use Rattle.pipe_journal.specs.Readers.{records_of, replies_of};
 
 use crate::copies::{copy_outcomes, copy_records, copy_replies, copy_reply};
 use crate::entry::Entry;
+use crate::items::{Records, Replies, ReplyView};
 use crate::store::Store;
 use pipe_types::bytes::Bytes;
-use pipe_types::message::{BatchEnd, Outcome, Reply, Trigger, Why};
+use pipe_types::message::{BatchEnd, Outcome, OutcomeList, Trigger, Why};
 use pipe_types::numbers::{MsgNo, StageNo, SubNo};
 use pipe_types::step::{DrainCause, LateAnswer, SourceHow, Step};
 use std::alloc::{AllocError, Global};
-use std::slice;
 
 /// How a batch ended, its outcomes lent.
 #[derive(Clone, Copy)]
 pub enum EndView<'a> {
     Outcomes(&'a [Outcome]),
+    /// So many messages, all of them successful.
+    Successes(u32),
     Crashed,
 }
 
@@ -45,7 +49,7 @@ pub enum StepView<'a> {
     },
     Accept {
         stage: StageNo,
-        records: &'a [Bytes],
+        records: Records<'a>,
     },
     Quiet {
         stage: StageNo,
@@ -64,7 +68,7 @@ pub enum StepView<'a> {
     },
     Done {
         stage: StageNo,
-        replies: &'a [Reply],
+        replies: Replies<'a>,
     },
     Gather {
         stage: StageNo,
@@ -88,7 +92,7 @@ pub enum StepView<'a> {
     ChildEnd {
         stage: StageNo,
         slot: u16,
-        reply: &'a Reply,
+        reply: ReplyView<'a>,
     },
     Kill {
         stage: StageNo,
@@ -115,6 +119,14 @@ pub enum StepView<'a> {
     },
 }
 
+/// So many successes.
+fn successes(alloc: Global, count: u32) -> Result<OutcomeList, AllocError>
+    ensures { IfOk result (λ outcomes. outcomes ≡ replicate count Successful) }
+{
+    let outcomes = vec![in alloc; Outcome::Successful; count as usize]?;
+    Ok(OutcomeList::from_vec(outcomes))
+}
+
 impl<'a> EndView<'a> {
     /// A view of this end of a batch.
     pub fn of(end: &'a BatchEnd) -> Self
@@ -132,6 +144,7 @@ impl<'a> EndView<'a> {
     {
         Ok(match self {
             EndView::Outcomes(outcomes) => BatchEnd::Outcomes(copy_outcomes(alloc, outcomes)?),
+            EndView::Successes(count) => BatchEnd::Outcomes(successes(alloc, count)?),
             EndView::Crashed => BatchEnd::Crashed,
         })
     }
@@ -156,7 +169,9 @@ impl<'a> AnswerView<'a> {
         ensures { IfOk result (λ answer. answer ≡ answer_seen self.entry) }
     {
         Ok(match self {
-            AnswerView::Records(records) => LateAnswer::Records(copy_records(alloc, records)?),
+            AnswerView::Records(records) => {
+                LateAnswer::Records(copy_records(alloc, Records::Listed(records))?)
+            }
             AnswerView::Quiet => LateAnswer::Quiet,
             AnswerView::Source(how) => LateAnswer::Source(how),
             AnswerView::Wrote(bytes, end) => LateAnswer::Wrote(bytes, end.to_end(alloc)?),
@@ -178,7 +193,7 @@ impl<'a> StepView<'a> {
             },
             Step::Accept { stage, records } => StepView::Accept {
                 stage: *stage,
-                records: records.as_slice(),
+                records: Records::Listed(records.as_slice()),
             },
             Step::Quiet { stage } => StepView::Quiet { stage: *stage },
             Step::SourceEnd { stage, how } => StepView::SourceEnd {
@@ -193,7 +208,7 @@ impl<'a> StepView<'a> {
             },
             Step::Done { stage, replies } => StepView::Done {
                 stage: *stage,
-                replies: replies.as_slice(),
+                replies: Replies::Listed(replies.as_slice()),
             },
             Step::Gather { stage, no } => StepView::Gather {
                 stage: *stage,
@@ -221,7 +236,7 @@ impl<'a> StepView<'a> {
             Step::ChildEnd { stage, slot, reply } => StepView::ChildEnd {
                 stage: *stage,
                 slot: *slot,
-                reply,
+                reply: ReplyView::of(reply),
             },
             Step::Kill { stage, why } => StepView::Kill {
                 stage: *stage,
@@ -308,32 +323,32 @@ impl<'a> StepView<'a> {
     }
 
     /// The records that the step brings in, and none where it is no Accept and no late answer with records.
-    pub fn records(self) -> &'a [Bytes]
-        ensures { result.now ≡ records_of (step_seen self.entry) }
+    pub fn records(self) -> Records<'a>
+        ensures { records_seen result ≡ records_of (step_seen self.entry) }
     {
         match self {
             StepView::Accept { records, .. } => records,
             StepView::Late {
                 answer: AnswerView::Records(records),
                 ..
-            } => records,
-            _ => &[],
+            } => Records::Listed(records),
+            _ => Records::Listed(&[]),
         }
     }
 
     /// The replies of a Done, the one reply of a ChildEnd, and none of another step.
-    pub fn replies(self) -> &'a [Reply]
-        ensures { result.now ≡ replies_of (step_seen self.entry) }
+    pub fn replies(self) -> Replies<'a>
+        ensures { replies_seen result ≡ replies_of (step_seen self.entry) }
     {
         match self {
             StepView::Done { replies, .. } => replies,
-            StepView::ChildEnd { reply, .. } => slice::from_ref(reply),
-            _ => &[],
+            StepView::ChildEnd { reply, .. } => Replies::One(reply),
+            _ => Replies::Listed(&[]),
         }
     }
 }
 
-/// The step of an entry, its list lent by the store.
+/// The step of an entry, what it names lent by the store.
 pub(crate) fn view_entry(store: &Store, entry: Entry) -> StepView<'_>
     requires { IsHeld store.now entry }
     ensures { step_seen result ≡ step_of store.now entry }
@@ -341,17 +356,25 @@ pub(crate) fn view_entry(store: &Store, entry: Entry) -> StepView<'_>
     match entry {
         Entry::Ask { sub, n } => StepView::Ask { sub, n },
         Entry::Fetch { stage, n } => StepView::Fetch { stage, n },
-        Entry::Accept { stage, records } => StepView::Accept {
+        Entry::Accept {
             stage,
-            records: store.records(records),
+            first,
+            count,
+        } => StepView::Accept {
+            stage,
+            records: Records::Packed(&store.kept, first, count),
         },
         Entry::Quiet { stage } => StepView::Quiet { stage },
         Entry::SourceEnd { stage, how } => StepView::SourceEnd { stage, how },
         Entry::Dispatch { stage } => StepView::Dispatch { stage },
         Entry::Take { stage, sub, k } => StepView::Take { stage, sub, k },
-        Entry::Done { stage, replies } => StepView::Done {
+        Entry::Done {
             stage,
-            replies: store.replies(replies),
+            first,
+            count,
+        } => StepView::Done {
+            stage,
+            replies: Replies::Packed(&store.kept, first, count),
         },
         Entry::Gather { stage, no } => StepView::Gather { stage, no },
         Entry::Close {
@@ -363,14 +386,14 @@ pub(crate) fn view_entry(store: &Store, entry: Entry) -> StepView<'_>
             first,
             trigger,
         },
-        Entry::Wrote {
+        Entry::WroteAll {
             stage,
+            count,
             bytes,
-            outcomes,
         } => StepView::Wrote {
             stage,
             bytes,
-            end: EndView::Outcomes(store.outcomes(outcomes)),
+            end: EndView::Successes(count),
         },
         Entry::WroteNone { stage, bytes } => StepView::Wrote {
             stage,
@@ -384,21 +407,11 @@ pub(crate) fn view_entry(store: &Store, entry: Entry) -> StepView<'_>
             reply: store.reply(reply),
         },
         Entry::Kill { stage, why } => StepView::Kill { stage, why },
-        Entry::Late {
-            stage,
-            slot,
-            incarnation,
-            answer,
-        } => StepView::Late {
-            stage,
-            slot,
-            incarnation,
-            answer: AnswerView::of(store.late(answer)),
-        },
         Entry::Restart { stage } => StepView::Restart { stage },
         Entry::Tick { now } => StepView::Tick { now },
         Entry::Drain { cause } => StepView::Drain { cause },
         Entry::Halt => StepView::Halt,
         Entry::Refuse { line } => StepView::Refuse { line },
+        Entry::Whole(key) => StepView::of(store.step(key)),
     }
 }

@@ -11,7 +11,7 @@ use Rattle.pipe_types.specs.declared.topology.StageSpec.{StageSpec}
 use Rattle.pipe_types.specs.declared.message.Outcome.{Outcome}
 use Rattle.pipe_types.specs.declared.message.Outcome.TheVariants.{Successful, Failed}
 use Rattle.pipe_types.specs.declared.message.Place.{Place}
-use Rattle.pipe_types.specs.declared.message.Place.TheVariants.{Waiting, Inbox, Running, Gathered, InBatch, Acked, Lost}
+use Rattle.pipe_types.specs.declared.message.Place.TheVariants.{Acked}
 use Rattle.pipe_types.specs.declared.step.Step.{Step}
 use Rattle.pipe_types.specs.declared.step.Step.TheVariants.{Accept, Late}
 use Rattle.pipe_types.specs.declared.step.LateAnswer.TheVariants.{Records}
@@ -190,6 +190,15 @@ same_producer before (Accept s records) n low = rw (not_next (accepted before) (
 same_producer before (Late s slot i (Records records)) n low = rw (not_next (accepted before) (length records) n low) refl
 same_producer before _ n low = refl
 
+and_false : (b : Bool) → as_number (b && false) ≡ 0
+and_false true = refl
+and_false false = refl
+
+-- what is on a side stands somewhere
+some_side : (side : Option Place → Bool) → side None ≡ false → (p : Option Place) → side p ≡ true → is_some p ≡ true
+some_side side none None h = clash (side None) h none
+some_side side none (Some q) h = refl
+
 -- One step
 
 module _ (topology : Topology) (before : History) (step : Step) (n : ℕ) where
@@ -200,33 +209,21 @@ module _ (topology : Topology) (before : History) (step : Step) (n : ℕ) where
   settled_count : (side : Option Place → Bool) (p : StageNo) → side None ≡ false → occurs n (settled_by topology before step p side) ≡ as_number (is_producer (producer_of (step ∷ before) n) p && newly side)
   settled_count side p none = either (is_producer (producer_of (step ∷ before) n) p && newly side) refl
     where
-      placed : (o : Option Place) → side o ≡ true → is_some o ≡ true
-      placed None h = clash (side None) h none
-      placed (Some q) h = refl
-
       either : (b : Bool) → (is_producer (producer_of (step ∷ before) n) p && newly side) ≡ b → occurs n (settled_by topology before step p side) ≡ as_number b
       either false e = occurs_failing (λ m. is_producer (producer_of (step ∷ before) m) p && (not (is_acked (place topology before m)) && side (place topology (step ∷ before) m))) n (numbers_upto (accepted (step ∷ before))) e
       either true e =
           let there : side (place topology (step ∷ before) n) ≡ true = and_right (not (is_acked (place topology before n))) _ (and_right (is_producer (producer_of (step ∷ before) n) p) _ e) in
-          let range = placed_accepted topology (step ∷ before) n (placed (place topology (step ∷ before) n) there) in
+          let range = placed_accepted topology (step ∷ before) n (some_side side none (place topology (step ∷ before) n) there) in
           occurs_passing (λ m. is_producer (producer_of (step ∷ before) m) p && (not (is_acked (place topology before m)) && side (place topology (step ∷ before) m))) (accepted (step ∷ before)) n range.0 range.1 e
 
   -- the producer of what is acknowledged is one stage of the topology
   producer_once : AscendFrom 0 topology.stages → is_legal topology (step ∷ before) ≡ true → (side : Option Place → Bool) → side None ≡ false → weigh (λ spec. as_number (is_producer (producer_of (step ∷ before) n) spec.no && newly side)) topology.stages ≡ as_number (newly side)
   producer_once ascend h side none = either (newly side) refl
     where
-      and_false : (b : Bool) → as_number (b && false) ≡ 0
-      and_false true = refl
-      and_false false = refl
-
-      placed : (o : Option Place) → side o ≡ true → is_some o ≡ true
-      placed None k = clash (side None) k none
-      placed (Some q) k = refl
-
       either : (b : Bool) → newly side ≡ b → weigh (λ spec. as_number (is_producer (producer_of (step ∷ before) n) spec.no && b)) topology.stages ≡ as_number b
       either false e = weigh_none _ (λ spec. and_false (is_producer (producer_of (step ∷ before) n) spec.no)) topology.stages
       either true e =
-          let range = placed_accepted topology (step ∷ before) n (placed (place topology (step ∷ before) n) (and_right (not (is_acked (place topology before n))) _ e)) in
+          let range = placed_accepted topology (step ∷ before) n (some_side side none (place topology (step ∷ before) n) (and_right (not (is_acked (place topology before n))) _ e)) in
           let t = produced topology (step ∷ before) n h range.0 range.1 in
           subst (λ o. weigh (λ spec. as_number (is_producer o spec.no && true)) topology.stages ≡ 1) (sym t.1) (stage_once t.0 true 0 topology.stages ascend t.2)
 
@@ -237,14 +234,6 @@ module _ (topology : Topology) (before : History) (step : Step) (n : ℕ) where
       no_one true true = refl
       no_one true false = refl
       no_one false b = refl
-
-      and_false : (b : Bool) → as_number (b && false) ≡ 0
-      and_false true = refl
-      and_false false = refl
-
-      placed : (o : Option Place) → side o ≡ true → is_some o ≡ true
-      placed None k = clash (side None) k none
-      placed (Some q) k = refl
 
       agree : (q : StageNo) (spec : StageSpec) → (if same_stage spec.no p then as_number (same_stage q spec.no && true) else 0) ≡ as_number (same_stage q spec.no && same_stage q p)
       agree q spec = by_stage (same_stage q spec.no) refl
@@ -266,7 +255,7 @@ module _ (topology : Topology) (before : History) (step : Step) (n : ℕ) where
           weigh_none _ (λ spec. no_one (same_stage spec.no p) (is_producer (producer_of (step ∷ before) n) spec.no)) topology.stages
           ∙ sym (and_false (is_producer (producer_of (step ∷ before) n) p))
       either true e =
-          let range = placed_accepted topology (step ∷ before) n (placed (place topology (step ∷ before) n) (and_right (not (is_acked (place topology before n))) _ e)) in
+          let range = placed_accepted topology (step ∷ before) n (some_side side none (place topology (step ∷ before) n) (and_right (not (is_acked (place topology before n))) _ e)) in
           let t = produced topology (step ∷ before) n h range.0 range.1 in
           subst (λ o. weigh (λ spec. if same_stage spec.no p then as_number (is_producer o spec.no && true) else 0) topology.stages ≡ as_number (is_producer o p && true)) (sym t.1)
           (weigh_same _ (λ spec. as_number (same_stage t.0 spec.no && same_stage t.0 p)) (agree t.0) topology.stages
@@ -326,13 +315,7 @@ module _ (topology : Topology) (before : History) (step : Step) (n : ℕ) where
 
 acked_place : (p : Option Place) → is_acked p ≡ true → (o : Outcome) × (p ≡ Some (Acked o))
 acked_place (Some (Acked o)) h = (o, refl)
-acked_place None h = cc
-acked_place (Some (Waiting t)) h = cc
-acked_place (Some (Inbox u)) h = cc
-acked_place (Some (Running t)) h = cc
-acked_place (Some (Gathered t)) h = cc
-acked_place (Some (InBatch b)) h = cc
-acked_place (Some (Lost l)) h = cc
+acked_place _ h = cc
 
 -- an acknowledged message is so with the same outcome after a step
 acked_same : (topology : Topology) (before : History) (step : Step) (n : ℕ) → is_acked (place topology before n) ≡ true → place topology (step ∷ before) n ≡ place topology before n
@@ -342,14 +325,7 @@ acked_same topology before step n h =
 
 two_sides : (p : Option Place) → as_number (is_acked_successful p) + as_number (is_acked_failed p) ≡ as_number (is_acked p)
 two_sides (Some (Acked Successful)) = refl
-two_sides (Some (Acked (Failed why))) = refl
-two_sides None = refl
-two_sides (Some (Waiting t)) = refl
-two_sides (Some (Inbox u)) = refl
-two_sides (Some (Running t)) = refl
-two_sides (Some (Gathered t)) = refl
-two_sides (Some (InBatch b)) = refl
-two_sides (Some (Lost l)) = refl
+two_sides _ = refl
 
 in_all : (topology : Topology) (before : History) (n : ℕ) → AscendFrom 0 topology.stages → is_legal topology before ≡ true → weigh (λ a. occurs n (both_sides a)) (acknowledgements topology before) ≡ as_number (is_acked (place topology before n))
 in_all topology [] n ascend h = refl
@@ -375,10 +351,6 @@ on_side topology side test p n none acks adds (step ∷ before) h =
     let old : weigh (λ a. occurs n (side_of side p a)) (acknowledgements topology before) ≡ as_number (is_producer (producer_of before n) p && test (place topology before n)) = on_side topology side test p n none acks adds before (legal_before topology before step h) in
     parts ∙ ((λ i. old i + adds before step h i) ∙ either (is_acked (place topology before n)) refl)
   where
-    and_false : (b : Bool) → as_number (b && false) ≡ 0
-    and_false true = refl
-    and_false false = refl
-
     either : (b : Bool) → is_acked (place topology before n) ≡ b → as_number (is_producer (producer_of before n) p && test (place topology before n)) + as_number (is_producer (producer_of (step ∷ before) n) p && (not b && test (place topology (step ∷ before) n))) ≡ as_number (is_producer (producer_of (step ∷ before) n) p && test (place topology (step ∷ before) n))
     either true e =
         let now : as_number (is_producer (producer_of (step ∷ before) n) p && test (place topology (step ∷ before) n)) ≡ as_number (is_producer (producer_of before n) p && test (place topology before n)) = let a = acked_producer topology before step n e in let b = acked_same topology before step n e in λ i. as_number (is_producer (a i) p && test (b i)) in
@@ -390,25 +362,11 @@ on_side topology side test p n none acks adds (step ∷ before) h =
 
 successful_acks : (o : Option Place) → is_acked o ≡ false → is_acked_successful o ≡ false
 successful_acks (Some (Acked Successful)) h = cc
-successful_acks (Some (Acked (Failed why))) h = refl
-successful_acks None h = refl
-successful_acks (Some (Waiting t)) h = refl
-successful_acks (Some (Inbox u)) h = refl
-successful_acks (Some (Running t)) h = refl
-successful_acks (Some (Gathered t)) h = refl
-successful_acks (Some (InBatch b)) h = refl
-successful_acks (Some (Lost l)) h = refl
+successful_acks _ h = refl
 
 failed_acks : (o : Option Place) → is_acked o ≡ false → is_acked_failed o ≡ false
-failed_acks (Some (Acked Successful)) h = refl
 failed_acks (Some (Acked (Failed why))) h = cc
-failed_acks None h = refl
-failed_acks (Some (Waiting t)) h = refl
-failed_acks (Some (Inbox u)) h = refl
-failed_acks (Some (Running t)) h = refl
-failed_acks (Some (Gathered t)) h = refl
-failed_acks (Some (InBatch b)) h = refl
-failed_acks (Some (Lost l)) h = refl
+failed_acks _ h = refl
 
 times_all : (entries : List Acknowledgement) (n : ℕ) → times_in_all entries n ≡ weigh (λ a. occurs n (both_sides a)) entries
 times_all entries n = count_occurs n (flat_map both_sides entries) ∙ occurs_flat n both_sides entries

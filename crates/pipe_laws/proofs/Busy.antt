@@ -7,12 +7,12 @@ use Rattle.pipe_types.specs.declared.numbers.StageNo.{StageNo}
 use Rattle.pipe_types.specs.declared.topology.Topology.{Topology}
 use Rattle.pipe_types.specs.declared.topology.StageSpec.{StageSpec}
 use Rattle.pipe_types.specs.declared.topology.Role.{Role}
-use Rattle.pipe_types.specs.declared.topology.Role.TheVariants.{Producer, Processor, Supervisor, Batcher, BatchProcessor}
+use Rattle.pipe_types.specs.declared.topology.Role.TheVariants.{Batcher}
 use Rattle.pipe_types.specs.declared.message.Place.{Place}
-use Rattle.pipe_types.specs.declared.message.Place.TheVariants.{Waiting, Inbox, Running, Gathered, InBatch, Acked, Lost}
+use Rattle.pipe_types.specs.declared.message.Place.TheVariants.{Inbox}
 use Rattle.pipe_types.specs.declared.message.Why.{Why}
 use Rattle.pipe_types.specs.declared.step.Step.{Step}
-use Rattle.pipe_types.specs.declared.step.Step.TheVariants.{Ask, Fetch, Accept, Quiet, SourceEnd, Dispatch, Take, Done, Gather, Close, Wrote, Child, ChildEnd, Kill, Late, Restart, Tick, Drain, Halt, Refuse}
+use Rattle.pipe_types.specs.declared.step.Step.TheVariants.{Fetch, Dispatch, Take, Done, Wrote, Child, ChildEnd, Restart}
 use Rattle.pipe_types.specs.Numbers.{same_stage, same_sub, post}
 use Rattle.pipe_types.specs.Stages.{spec_of}
 use Rattle.pipe_model.specs.History.{History, incarnation, incarnation_after}
@@ -30,6 +30,7 @@ use Rattle.pipe_laws.proofs.Allowed.{TakeFacts, legal_before, legal_step, take_f
 use Rattle.pipe_laws.proofs.Kept.{ends_work, works_kept}
 use Rattle.pipe_model.specs.Standing.{in_inbox, works, works_at, leg_works, leg_works_in}
 use Rattle.pipe_model.specs.Counting.{as_number}
+pub use Rattle.pipe_laws.proofs.Roles.{takes_producer, takes_supervisor, producer_takes, producer_supervises}
 
 -- Posts
 
@@ -55,25 +56,7 @@ same_incarnation _ s n h = refl
 
 more_incarnation : (step : Step) (s : StageNo) (n : ℕ) → restarts step s ≡ true → incarnation_after step s n ≡ n + 1
 more_incarnation (Restart t) s n h = rw h refl
-more_incarnation (Ask u m) s n h = cc
-more_incarnation (Fetch t m) s n h = cc
-more_incarnation (Accept t r) s n h = cc
-more_incarnation (Quiet t) s n h = cc
-more_incarnation (SourceEnd t how) s n h = cc
-more_incarnation (Dispatch t) s n h = cc
-more_incarnation (Take t u k) s n h = cc
-more_incarnation (Done t r) s n h = cc
-more_incarnation (Gather t m) s n h = cc
-more_incarnation (Close t f tr) s n h = cc
-more_incarnation (Wrote t b e) s n h = cc
-more_incarnation (Child t m sl) s n h = cc
-more_incarnation (ChildEnd t sl r) s n h = cc
-more_incarnation (Kill t w) s n h = cc
-more_incarnation (Late t sl i a) s n h = cc
-more_incarnation (Tick t) s n h = cc
-more_incarnation (Drain c) s n h = cc
-more_incarnation Halt s n h = cc
-more_incarnation (Refuse l) s n h = cc
+more_incarnation _ s n h = cc
 
 -- a post that is out from the present incarnation was so before a step that does not put it out, and the step neither
 -- answers it nor restarts the stage
@@ -113,34 +96,6 @@ was_live topology before step s quiet live =
     either (Some why) r e h = let x : (is_none (Some why)) ≡ true = and_right (is_some (spec_of topology s)) _ h in cc
 
 -- Roles
-
-pub takes_producer : (role : Role) → takes_role role ≡ true → is_producer_role role ≡ true → ⊥
-takes_producer Producer h k = let x : false ≡ true = h in cc
-takes_producer Processor h k = let x : false ≡ true = k in cc
-takes_producer Supervisor h k = let x : false ≡ true = k in cc
-takes_producer Batcher h k = let x : false ≡ true = k in cc
-takes_producer BatchProcessor h k = let x : false ≡ true = k in cc
-
-pub takes_supervisor : (role : Role) → takes_role role ≡ true → is_supervisor_role role ≡ true → ⊥
-takes_supervisor Producer h k = let x : false ≡ true = h in cc
-takes_supervisor Processor h k = let x : false ≡ true = k in cc
-takes_supervisor Supervisor h k = let x : false ≡ true = h in cc
-takes_supervisor Batcher h k = let x : false ≡ true = k in cc
-takes_supervisor BatchProcessor h k = let x : false ≡ true = k in cc
-
-pub producer_takes : (role : Role) → is_producer_role role ≡ true → takes_role role ≡ true → ⊥
-producer_takes Producer h k = let x : false ≡ true = k in cc
-producer_takes Processor h k = let x : false ≡ true = h in cc
-producer_takes Supervisor h k = let x : false ≡ true = h in cc
-producer_takes Batcher h k = let x : false ≡ true = h in cc
-producer_takes BatchProcessor h k = let x : false ≡ true = h in cc
-
-pub producer_supervises : (role : Role) → is_producer_role role ≡ true → is_supervisor_role role ≡ true → ⊥
-producer_supervises Producer h k = let x : false ≡ true = k in cc
-producer_supervises Processor h k = let x : false ≡ true = h in cc
-producer_supervises Supervisor h k = let x : false ≡ true = h in cc
-producer_supervises Batcher h k = let x : false ≡ true = h in cc
-producer_supervises BatchProcessor h k = let x : false ≡ true = h in cc
 
 -- a stage has one role
 pub two_roles : (topology : Topology) (s : StageNo) (one other : Role → Bool) → ((role : Role) → one role ≡ true → other role ≡ true → ⊥) → has_role topology s one ≡ true → has_role topology s other ≡ true → ⊥
@@ -229,13 +184,7 @@ busy_step topology before step s u k h role live was busy =
 
 pub inbox_here : (u : SubNo) (p : Option Place) → in_inbox_by u p ≡ true → p ≡ Some (Inbox u)
 inbox_here u (Some (Inbox v)) h = ap (λ x. Some (Inbox x)) (sym (same_sub-true u v h))
-inbox_here u None h = cc
-inbox_here u (Some (Waiting t)) h = cc
-inbox_here u (Some (Running t)) h = cc
-inbox_here u (Some (Gathered t)) h = cc
-inbox_here u (Some (InBatch b)) h = cc
-inbox_here u (Some (Acked o)) h = cc
-inbox_here u (Some (Lost l)) h = cc
+inbox_here u _ h = cc
 
 -- a unit of the take stood in the inbox, and is at work afterwards
 take_works : (topology : Topology) (before : History) (s : StageNo) (u : SubNo) (k n : ℕ) → u.consumer ≡ s → among (next_units topology (view_of topology before) s u k) n ≡ true → stands topology before u n ≡ true → works topology (Take s u k ∷ before) u n ≡ true

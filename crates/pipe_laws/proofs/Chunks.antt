@@ -7,9 +7,9 @@ use Rattle.pipe_types.specs.declared.numbers.StageNo.{StageNo}
 use Rattle.pipe_types.specs.declared.topology.Topology.{Topology}
 use Rattle.pipe_types.specs.declared.topology.StageSpec.{StageSpec}
 use Rattle.pipe_types.specs.declared.message.Why.{Why}
-use Rattle.pipe_types.specs.declared.message.Why.TheVariants.{Crash, Kill as KillWhy, Stop, Cancelled, Limit}
+use Rattle.pipe_types.specs.declared.message.Why.TheVariants.{Crash}
 use Rattle.pipe_types.specs.declared.step.Step.{Step}
-use Rattle.pipe_types.specs.declared.step.Step.TheVariants.{Ask, Fetch, Accept, Quiet, SourceEnd, Dispatch, Take, Done, Gather, Close, Wrote, Child, ChildEnd, Kill, Late, Restart, Tick, Drain, Halt, Refuse}
+use Rattle.pipe_types.specs.declared.step.Step.TheVariants.{Done, Kill}
 use Rattle.pipe_types.specs.Numbers.{same_stage}
 use Rattle.pipe_model.specs.History.{History}
 use Rattle.pipe_model.specs.Lives.{KillSet, is_live, death, reason_in, cascade, cascade_at, generation, kill_set}
@@ -142,29 +142,7 @@ kill_kills topology before s why =
 
 crash_dies : (topology : Topology) (before : History) (step : Step) (t : StageNo) → is_crash_of t step ≡ true → is_live topology (step ∷ before) t ≡ false
 crash_dies topology before (Kill v Crash) t h = subst (λ x. is_live topology (Kill v Crash ∷ before) x ≡ false) (sym (same_stage-true t v h)) (kill_kills topology before v Crash)
-crash_dies topology before (Kill v KillWhy) t h = cc
-crash_dies topology before (Kill v Stop) t h = cc
-crash_dies topology before (Kill v (Cancelled u)) t h = cc
-crash_dies topology before (Kill v Limit) t h = cc
-crash_dies topology before (Ask u m) t h = cc
-crash_dies topology before (Fetch v m) t h = cc
-crash_dies topology before (Accept v r) t h = cc
-crash_dies topology before (Quiet v) t h = cc
-crash_dies topology before (SourceEnd v how) t h = cc
-crash_dies topology before (Dispatch v) t h = cc
-crash_dies topology before (Take v u k) t h = cc
-crash_dies topology before (Done v r) t h = cc
-crash_dies topology before (Gather v m) t h = cc
-crash_dies topology before (Close v f tr) t h = cc
-crash_dies topology before (Wrote v b e) t h = cc
-crash_dies topology before (Child v m sl) t h = cc
-crash_dies topology before (ChildEnd v sl r) t h = cc
-crash_dies topology before (Late v sl i a) t h = cc
-crash_dies topology before (Restart v) t h = cc
-crash_dies topology before (Tick v) t h = cc
-crash_dies topology before (Drain c) t h = cc
-crash_dies topology before Halt t h = cc
-crash_dies topology before (Refuse l) t h = cc
+crash_dies topology before _ t h = cc
 
 -- after a crash the stage lives no further step
 pub owed_dies : (topology : Topology) (before : History) (step : Step) (s : StageNo) → owes_crash before s ≡ true → allows topology before step ≡ true → is_live topology (step ∷ before) s ≡ false
@@ -176,23 +154,4 @@ owed_dies topology (Done t replies ∷ before) step s owes h =
     owed_test : (b : Bool) → b ≡ true → passes (if b then Some (is_crash_of t) else None) step (may_come topology (Done t replies ∷ before) step) ≡ true → is_crash_of t step ≡ true
     owed_test true e k = k
     owed_test false e k = cc
-owed_dies topology [] step s owes h = cc
-owed_dies topology (Ask u m ∷ before) step s owes h = cc
-owed_dies topology (Fetch v m ∷ before) step s owes h = cc
-owed_dies topology (Accept v r ∷ before) step s owes h = cc
-owed_dies topology (Quiet v ∷ before) step s owes h = cc
-owed_dies topology (SourceEnd v how ∷ before) step s owes h = cc
-owed_dies topology (Dispatch v ∷ before) step s owes h = cc
-owed_dies topology (Take v u k ∷ before) step s owes h = cc
-owed_dies topology (Gather v m ∷ before) step s owes h = cc
-owed_dies topology (Close v f tr ∷ before) step s owes h = cc
-owed_dies topology (Wrote v b e ∷ before) step s owes h = cc
-owed_dies topology (Child v m sl ∷ before) step s owes h = cc
-owed_dies topology (ChildEnd v sl r ∷ before) step s owes h = cc
-owed_dies topology (Kill v w ∷ before) step s owes h = cc
-owed_dies topology (Late v sl i a ∷ before) step s owes h = cc
-owed_dies topology (Restart v ∷ before) step s owes h = cc
-owed_dies topology (Tick v ∷ before) step s owes h = cc
-owed_dies topology (Drain c ∷ before) step s owes h = cc
-owed_dies topology (Halt ∷ before) step s owes h = cc
-owed_dies topology (Refuse l ∷ before) step s owes h = cc
+owed_dies topology _ step s owes h = cc

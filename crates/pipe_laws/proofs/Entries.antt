@@ -6,7 +6,7 @@ use Rattle.pipe_types.specs.declared.numbers.SubNo.{SubNo}
 use Rattle.pipe_types.specs.declared.numbers.StageNo.{StageNo}
 use Rattle.pipe_types.specs.declared.topology.Topology.{Topology}
 use Rattle.pipe_types.specs.declared.message.Place.{Place}
-use Rattle.pipe_types.specs.declared.message.Place.TheVariants.{Waiting, Inbox, Running, Gathered, InBatch, Acked, Lost}
+use Rattle.pipe_types.specs.declared.message.Place.TheVariants.{Waiting, Inbox}
 use Rattle.pipe_types.specs.declared.message.BatchEnd.TheVariants.{Outcomes}
 use Rattle.pipe_types.specs.declared.room.Sent.{Sent as SentUnit}
 use Rattle.pipe_types.specs.declared.step.Step.{Step}
@@ -75,12 +75,7 @@ fits_move topology before step c u p q (ends x y final) fits =
   where
     not_final : (y : Place) (w : SubNo) → is_final (Some y) ≡ true → Some y ≡ Some (Inbox w) → w ≡ u
     not_final (Inbox v) w final e = cc
-    not_final (Waiting s) w final e = cc
-    not_final (Running s) w final e = cc
-    not_final (Gathered s) w final e = cc
-    not_final (InBatch b) w final e = cc
-    not_final (Acked o) w final e = cc
-    not_final (Lost l) w final e = cc
+    not_final _ w final e = cc
 
 -- Batches
 
@@ -163,13 +158,7 @@ delivered_each P Q c f (d ∷ units) h = either (same_stage c d.sub.consumer) re
 
 pub waits_here : (s : StageNo) (p : Option Place) → waits_in s p ≡ true → p ≡ Some (Waiting s)
 waits_here s (Some (Waiting t)) h = ap (λ x. Some (Waiting x)) (sym (same_stage-true s t h))
-waits_here s None h = cc
-waits_here s (Some (Inbox u)) h = cc
-waits_here s (Some (Running t)) h = cc
-waits_here s (Some (Gathered t)) h = cc
-waits_here s (Some (InBatch b)) h = cc
-waits_here s (Some (Acked o)) h = cc
-waits_here s (Some (Lost l)) h = cc
+waits_here s _ h = cc
 
 -- the unit waits in the stage, as a message or a batch
 abbrev pub is_waiting : Topology → History → StageNo → ℕ → Bool

@@ -10,7 +10,7 @@ use Rattle.pipe_types.specs.declared.topology.StageSpec.{StageSpec}
 use Rattle.pipe_types.specs.declared.topology.Role.{Role}
 use Rattle.pipe_types.specs.declared.topology.Role.TheVariants.{Producer, Processor, Supervisor, Batcher, BatchProcessor}
 use Rattle.pipe_types.specs.declared.message.Place.{Place}
-use Rattle.pipe_types.specs.declared.message.Place.TheVariants.{Waiting, Inbox, Running, Gathered, InBatch, Acked, Lost}
+use Rattle.pipe_types.specs.declared.message.Place.TheVariants.{Inbox, Running, Gathered, Acked, Lost}
 use Rattle.pipe_types.specs.declared.message.Outcome.{Outcome}
 use Rattle.pipe_types.specs.declared.message.BatchEnd.TheVariants.{Outcomes}
 use Rattle.pipe_types.specs.declared.message.Reply.{Reply}
@@ -42,6 +42,7 @@ use Rattle.pipe_laws.proofs.Idle.{Chunk, chunk_facts, fed_by_messages, processor
 use Rattle.pipe_laws.proofs.Slots.{first_stands, first_entry, slot_runs, supervisor_writes}
 use Rattle.pipe_model.specs.Standing.{works, leg_works, leg_works_in, works_at, in_inbox}
 use Rattle.pipe_model.specs.Counting.{as_number}
+pub use Rattle.pipe_laws.proofs.Roles.{batcher_writes}
 
 -- What is in hand of a subscription
 abbrev pub held_of : Topology → History → SubNo → ℕ
@@ -63,8 +64,6 @@ held_drop topology before step u stop each =
 
 -- a message is not in an inbox and at work at once
 one_place : (u : SubNo) (c : StageNo) (p : Option Place) → as_number (in_inbox_by u p) + as_number (runs_in c p) ≤ 1
-one_place u c None = omega arith
-one_place u c (Some (Waiting t)) = omega arith
 one_place u c (Some (Inbox v)) = by_bool (same_sub u v)
   where
     by_bool : (b : Bool) → as_number b + 0 ≤ 1
@@ -75,10 +74,7 @@ one_place u c (Some (Running t)) = by_bool (same_stage c t)
     by_bool : (b : Bool) → 0 + as_number b ≤ 1
     by_bool true = omega arith
     by_bool false = omega arith
-one_place u c (Some (Gathered t)) = omega arith
-one_place u c (Some (InBatch b)) = omega arith
-one_place u c (Some (Acked o)) = omega arith
-one_place u c (Some (Lost l)) = omega arith
+one_place u c _ = omega arith
 
 -- in hand of a subscription that carries messages
 message_hand : (topology : Topology) (before : History) (u : SubNo) (n : ℕ) → is_batcher (spec_of topology u.producer) ≡ false → in_hand topology before u n ≡ as_number (in_inbox_by u (place topology before n)) + as_number (runs_in u.consumer (place topology before n))
@@ -162,13 +158,6 @@ held_dispatch topology before s u =
 
 -- A gathering
 
-pub batcher_writes : (role : Role) → is_batcher_role role ≡ true → is_batch_processor_role role ≡ true → ⊥
-batcher_writes Producer h k = let x : false ≡ true = h in cc
-batcher_writes Processor h k = let x : false ≡ true = k in cc
-batcher_writes Supervisor h k = let x : false ≡ true = k in cc
-batcher_writes Batcher h k = let x : false ≡ true = k in cc
-batcher_writes BatchProcessor h k = let x : false ≡ true = h in cc
-
 -- an entry of that number on the subscription counts one
 abbrev numbered : SubNo → ℕ → SubNo × ℕ → ℕ
 numbered u n d = if same_sub d.0 u then as_number (n == d.1) else 0
@@ -236,13 +225,8 @@ running_leaves topology before step u s p q (joins t b from) e = refl
 running_leaves topology before step u s p q (ends x y final) e = not_final y final
   where
     not_final : (y : Place) → is_final (Some y) ≡ true → in_inbox_by u (Some y) ≡ false
-    not_final (Acked o) f = refl
-    not_final (Lost l) f = refl
-    not_final (Waiting t) f = refl
     not_final (Inbox v) f = cc
-    not_final (Running t) f = refl
-    not_final (Gathered t) f = refl
-    not_final (InBatch b) f = refl
+    not_final _ f = refl
 
 -- a message that ran and runs no more leaves the hand
 message_stops : (topology : Topology) (before : History) (step : Step) (u : SubNo) (n : ℕ) → is_batcher (spec_of topology u.producer) ≡ false → runs_in u.consumer (place topology (step ∷ before) n) ≡ false → in_hand topology (step ∷ before) u n ≤ in_hand topology before u n → in_hand topology (step ∷ before) u n + as_number (works topology before u n) ≤ in_hand topology before u n
@@ -409,12 +393,7 @@ child_final false s i Crashed h = refl
 final_hand : (u : SubNo) (c : StageNo) (p : Option Place) → is_final p ≡ true → as_number (in_inbox_by u p) + as_number (runs_in c p) ≡ 0
 final_hand u c (Some (Acked o)) h = refl
 final_hand u c (Some (Lost l)) h = refl
-final_hand u c None h = cc
-final_hand u c (Some (Waiting t)) h = cc
-final_hand u c (Some (Inbox v)) h = cc
-final_hand u c (Some (Running t)) h = cc
-final_hand u c (Some (Gathered t)) h = cc
-final_hand u c (Some (InBatch b)) h = cc
+final_hand u c _ h = cc
 
 -- an entry by which the message came
 came_entry : (P : SubNo × ℕ → Type 0) (units : List (SubNo × ℕ)) (n : ℕ) (u : SubNo) → Each P units → came_on units (Some n) u ≡ true → (d : SubNo × ℕ) × P d × (d.0 ≡ u) × (1 ≤ weigh (numbered u n) units)

@@ -26,23 +26,17 @@ use Rattle.pipe_laws.proofs.Allowed.{legal_before, legal_step, accept_live, late
 
 -- the place is in a live stage, in a batch or final
 abbrev pub stands_live : (StageNo → Bool) → Option Place → Bool
-stands_live live None = true
 stands_live live (Some (Waiting s)) = live s
 stands_live live (Some (Inbox u)) = live u.consumer
 stands_live live (Some (Running s)) = live s
 stands_live live (Some (Gathered s)) = live s
-stands_live live (Some (InBatch b)) = true
-stands_live live (Some (Acked outcome)) = true
-stands_live live (Some (Lost loss)) = true
+stands_live live _ = true
 
 final_stands : (live : StageNo → Bool) (p : Place) → is_final (Some p) ≡ true → stands_live live (Some p) ≡ true
 final_stands live (Acked o) h = refl
 final_stands live (Lost l) h = refl
 final_stands live (InBatch b) h = refl
-final_stands live (Waiting s) h = cc
-final_stands live (Inbox u) h = cc
-final_stands live (Running s) h = cc
-final_stands live (Gathered s) h = cc
+final_stands live _ h = cc
 
 held_move : (topology : Topology) (before : History) (step : Step) (p q : Option Place) → Move topology before step p q → ((s : StageNo) → p ≡ None → q ≡ Some (Waiting s) → ⊥) → stands_live (is_live topology before) p ≡ true → stands_live (is_live topology before) q ≡ true
 held_move topology before step p q stays none held = held
@@ -95,14 +89,11 @@ killed_dead topology (Some v) w old s e = and_false (is_some (spec_of topology s
 killed_dead topology None w old s e = cc
 
 held_more : (one other : StageNo → Bool) → ((s : StageNo) → one s ≡ true → other s ≡ true) → (p : Option Place) → stands_live one p ≡ true → stands_live other p ≡ true
-held_more one other f None h = refl
 held_more one other f (Some (Waiting s)) h = f s h
 held_more one other f (Some (Inbox u)) h = f u.consumer h
 held_more one other f (Some (Running s)) h = f s h
 held_more one other f (Some (Gathered s)) h = f s h
-held_more one other f (Some (InBatch b)) h = refl
-held_more one other f (Some (Acked o)) h = refl
-held_more one other f (Some (Lost l)) h = refl
+held_more one other f _ h = refl
 
 -- Kills
 
@@ -120,7 +111,6 @@ in_batch_stands live b n None = refl
 in_batch_stands live b n (Some x) = by_place_stands live b _ x.place
 
 held_killed : (topology : Topology) (before : History) (set : KillSet) (incarnation : StageNo → ℕ) (after : ℕ → Option Batch) (n : ℕ) (live : StageNo → Bool) → ((s : StageNo) → reason_in set s ≡ None → is_live topology before s ≡ true → live s ≡ true) → (p : Option Place) → stands_live (is_live topology before) p ≡ true → stands_live live (option_map (λ q. by_batch after n (killed set incarnation q)) p) ≡ true
-held_killed topology before set incarnation after n live keeps None h = refl
 held_killed topology before set incarnation after n live keeps (Some (Waiting s)) h = either (reason_in set s) refl
   where
     either : (why : Option Why) → reason_in set s ≡ why → stands_live live (Some (by_batch after n (lost_with (incarnation s) s why (Waiting s)))) ≡ true
@@ -142,8 +132,7 @@ held_killed topology before set incarnation after n live keeps (Some (Gathered s
     either None e = keeps s e h
     either (Some why) e = refl
 held_killed topology before set incarnation after n live keeps (Some (InBatch b)) h = in_batch_stands live b.0 n (after b.0)
-held_killed topology before set incarnation after n live keeps (Some (Acked o)) h = refl
-held_killed topology before set incarnation after n live keeps (Some (Lost l)) h = refl
+held_killed topology before set incarnation after n live keeps _ h = refl
 
 pub role_known : (topology : Topology) (s : StageNo) (test : Role → Bool) → has_role topology s test ≡ true → is_some (spec_of topology s) ≡ true
 role_known topology s test h = by_spec (spec_of topology s) refl

@@ -9,7 +9,7 @@ use Rattle.pipe_types.specs.declared.topology.StageSpec.{StageSpec}
 use Rattle.pipe_types.specs.declared.topology.Role.{Role}
 use Rattle.pipe_types.specs.declared.topology.Role.TheVariants.{Producer, Processor, Supervisor, Batcher, BatchProcessor}
 use Rattle.pipe_types.specs.declared.message.Place.{Place}
-use Rattle.pipe_types.specs.declared.message.Place.TheVariants.{Waiting, Inbox, Running, Gathered, InBatch, Acked, Lost}
+use Rattle.pipe_types.specs.declared.message.Place.TheVariants.{Waiting, Inbox, Running}
 use Rattle.pipe_types.specs.declared.message.Reply.{Reply}
 use Rattle.pipe_types.specs.declared.step.SourceHow.{SourceHow}
 use Rattle.pipe_types.specs.declared.step.LateAnswer.{LateAnswer}
@@ -36,6 +36,7 @@ use Rattle.pipe_laws.proofs.Accepted.{placed_content, content_kept}
 use Rattle.pipe_laws.proofs.Replies.{handled_length, messages_length, reply_some, replied_stops}
 use Rattle.pipe_laws.proofs.Chunks.{Covers, covers_take, each_take, none_kept, keeps_none, filters_agree, filter_same, kept_among, owes_crash, owed_dies}
 use Rattle.pipe_model.specs.Standing.{in_inbox}
+pub use Rattle.pipe_laws.proofs.Roles.{processor_producer, processor_supervisor, processor_writes}
 
 -- Roles
 
@@ -46,27 +47,6 @@ other_stage s t e = false_from_ne_true (same_stage t s) (λ h. clash (same_stage
 pub roles_apart : (topology : Topology) (s t : StageNo) (one other : Role → Bool) → ((role : Role) → one role ≡ true → other role ≡ true → ⊥) → has_role topology s one ≡ true → has_role topology t other ≡ true → same_stage s t ≡ false
 roles_apart topology s t one other apart h k =
     false_from_ne_true (same_stage s t) (λ same. two_roles topology s one other apart h (subst (λ x. has_role topology x other ≡ true) (sym (same_stage-true s t same)) k))
-
-pub processor_producer : (role : Role) → is_processor_role role ≡ true → is_producer_role role ≡ true → ⊥
-processor_producer Producer h k = let x : false ≡ true = h in cc
-processor_producer Processor h k = let x : false ≡ true = k in cc
-processor_producer Supervisor h k = let x : false ≡ true = k in cc
-processor_producer Batcher h k = let x : false ≡ true = k in cc
-processor_producer BatchProcessor h k = let x : false ≡ true = k in cc
-
-pub processor_supervisor : (role : Role) → is_processor_role role ≡ true → is_supervisor_role role ≡ true → ⊥
-processor_supervisor Producer h k = let x : false ≡ true = h in cc
-processor_supervisor Processor h k = let x : false ≡ true = k in cc
-processor_supervisor Supervisor h k = let x : false ≡ true = h in cc
-processor_supervisor Batcher h k = let x : false ≡ true = k in cc
-processor_supervisor BatchProcessor h k = let x : false ≡ true = k in cc
-
-pub processor_writes : (role : Role) → is_processor_role role ≡ true → is_batch_processor_role role ≡ true → ⊥
-processor_writes Producer h k = let x : false ≡ true = h in cc
-processor_writes Processor h k = let x : false ≡ true = k in cc
-processor_writes Supervisor h k = let x : false ≡ true = k in cc
-processor_writes Batcher h k = let x : false ≡ true = k in cc
-processor_writes BatchProcessor h k = let x : false ≡ true = h in cc
 
 -- only batch processors take from batchers
 batcher_feeds : (p c : Role) (b : Bool) → role_feeds p c b ≡ true → (is_batch_processor_role c ≡ true → ⊥) → is_batcher_role p ≡ false
@@ -85,10 +65,7 @@ spec_batcher spec = by_role spec.role refl
   where
     by_role : (role : Role) → spec.role ≡ role → is_batcher (Some spec) ≡ is_batcher_role role
     by_role Producer e = rw e refl
-    by_role Processor e = rw e refl
-    by_role Supervisor e = rw e refl
-    by_role Batcher e = rw e refl
-    by_role BatchProcessor e = rw e refl
+    by_role _ e = rw e refl
 
 pub fed_by_messages : (topology : Topology) (p c : StageNo) (one : Role → Bool) → ((role : Role) → one role ≡ true → is_batch_processor_role role ≡ true → ⊥) → feeds topology p c ≡ true → has_role topology c one ≡ true → is_batcher (spec_of topology p) ≡ false
 fed_by_messages topology p c one apart h role = by_specs (spec_of topology p) (spec_of topology c) refl h
@@ -249,13 +226,7 @@ taken_runs topology before s u ts d there stood fits idle = by_place (place topo
     none false = refl
 
     by_place : (p : Option Place) → MessageFits topology s d.0 p → runs_in s p ≡ false → (among ts d.1 ≡ true → in_inbox_by u p ≡ true) → runs_in s (option_map (taken ts s d.1) p) ≡ (same_sub d.0 u && (in_inbox_by d.0 p && among ts d.1))
-    by_place None fits idle stood = none (same_sub d.0 u)
-    by_place (Some (Waiting t)) fits idle stood = none (same_sub d.0 u)
     by_place (Some (Running t)) fits idle stood = idle ∙ none (same_sub d.0 u)
-    by_place (Some (Gathered t)) fits idle stood = none (same_sub d.0 u)
-    by_place (Some (InBatch b)) fits idle stood = none (same_sub d.0 u)
-    by_place (Some (Acked o)) fits idle stood = none (same_sub d.0 u)
-    by_place (Some (Lost l)) fits idle stood = none (same_sub d.0 u)
     by_place (Some (Inbox w)) fits idle stood = either (among ts d.1) refl stood
       where
         unchosen : (a b : Bool) → false ≡ (a && (b && false))
@@ -277,6 +248,7 @@ taken_runs topology before s u ts d there stood fits idle = by_place (place topo
             let first : same_sub d.0 u ≡ true = ap (same_sub d.0) (uw ∙ own) ∙ same_sub-self d.0 in
             let second : same_sub d.0 w ≡ true = ap (same_sub d.0) own ∙ same_sub-self d.0 in
             rw (here, first, second) (same_stage-self s)
+    by_place _ fits idle stood = none (same_sub d.0 u)
 
 -- the units of an inbox stand in it
 units_stand : (topology : Topology) (before : History) (s : StageNo) (u : SubNo) → is_batcher (spec_of topology u.producer) ≡ false → Each (λ n. in_inbox_by u (place topology before n) ≡ true) (units_on u (inbox topology before s))

@@ -6,7 +6,7 @@ use Rattle.pipe_types.specs.declared.numbers.SubNo.{SubNo}
 use Rattle.pipe_types.specs.declared.numbers.StageNo.{StageNo}
 use Rattle.pipe_types.specs.declared.topology.Topology.{Topology}
 use Rattle.pipe_types.specs.declared.message.Place.{Place}
-use Rattle.pipe_types.specs.declared.message.Place.TheVariants.{Waiting, Inbox, Running, Gathered, InBatch, Acked, Lost}
+use Rattle.pipe_types.specs.declared.message.Place.TheVariants.{Running, Gathered, Acked}
 use Rattle.pipe_types.specs.declared.message.Why.{Why}
 use Rattle.pipe_types.specs.declared.message.BatchEnd.TheVariants.{Outcomes}
 use Rattle.pipe_types.specs.declared.step.Step.{Step}
@@ -18,7 +18,7 @@ use Rattle.pipe_model.specs.History.{History, closed, incarnation}
 use Rattle.pipe_model.specs.Content.{has_crash}
 use Rattle.pipe_model.specs.Batches.{Batch, BatchPlace, AtBatcher, Sent, Dropped, Leg, on_legs, leg_taken, leg_answered, leg_lost, batch_sent, batch_on_legs, batch_killed}
 use Rattle.pipe_model.specs.Lives.{KillSet, reason_in, is_live, is_alive, death, death_after, kill_set}
-use Rattle.pipe_model.specs.Flow.{place, view_of, batch, among, runs_in, is_batcher, by_batch, killed, lost_with, change_place, new_batch, next_units, closing, answered, reply_to, has_batchers_in, chunk_by}
+use Rattle.pipe_model.specs.Flow.{place, view_of, batch, among, runs_in, is_gathered_in, is_batcher, by_batch, killed, lost_with, change_place, new_batch, next_units, closing, answered, reply_to, has_batchers_in, chunk_by}
 use Rattle.pipe_model.specs.Moves.{is_final}
 use Rattle.pipe_laws.proofs.Tests.{clash, same_stage-true, same_stage-self}
 use Rattle.pipe_laws.proofs.Places.{Move, stays, comes, comes_lost, sent_on, runs, waits, is_gathered, joins, ends, move_by, starts}
@@ -36,13 +36,11 @@ ends_work _ t = false
 
 pub runs_here : (s : StageNo) (p : Option Place) → runs_in s p ≡ true → p ≡ Some (Running s)
 runs_here s (Some (Running t)) h = ap (λ x. Some (Running x)) (sym (same_stage-true s t h))
-runs_here s None h = cc
-runs_here s (Some (Waiting t)) h = cc
-runs_here s (Some (Inbox u)) h = cc
-runs_here s (Some (Gathered t)) h = cc
-runs_here s (Some (InBatch b)) h = cc
-runs_here s (Some (Acked o)) h = cc
-runs_here s (Some (Lost l)) h = cc
+runs_here s _ h = cc
+
+pub gathered_here : (s : StageNo) (p : Option Place) → is_gathered_in s p ≡ true → p ≡ Some (Gathered s)
+gathered_here s (Some (Gathered t)) h = ap (λ x. Some (Gathered x)) (sym (same_stage-true s t h))
+gathered_here s _ h = cc
 
 killed_runs : (topology : Topology) (old : Option Why) (set : KillSet) (incarnation : StageNo → ℕ) (after : ℕ → Option Batch) (n : ℕ) (s : StageNo) → is_alive topology (death_after (reason_in set s) false old) s ≡ true → by_batch after n (killed set incarnation (Running s)) ≡ Running s
 killed_runs topology old set incarnation after n s live = either (reason_in set s) refl
@@ -88,12 +86,7 @@ runs_only topology before step s p q (ends x y final) other h = not_final y fina
   where
     not_final : (y : Place) → is_final (Some y) ≡ true → runs_in s (Some y) ≡ true → runs_in s (Some x) ≡ true
     not_final (Acked o) f h = cc
-    not_final (Lost l) f h = cc
-    not_final (Waiting t) f h = cc
-    not_final (Inbox u) f h = cc
-    not_final (Running t) f h = cc
-    not_final (Gathered t) f h = cc
-    not_final (InBatch b) f h = cc
+    not_final _ f h = cc
 
 -- the same messages run in a stage where the step neither starts nor ends work there
 pub runs_same : (topology : Topology) (before : History) (step : Step) (s : StageNo) (n : ℕ) → starts step s ≡ false → ends_work step s ≡ false → is_live topology (step ∷ before) s ≡ true → runs_in s (place topology (step ∷ before) n) ≡ runs_in s (place topology before n)

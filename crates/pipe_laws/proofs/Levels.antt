@@ -7,7 +7,7 @@ use Rattle.pipe_types.specs.declared.topology.StageSpec.{StageSpec}
 use Rattle.pipe_types.specs.declared.topology.Role.{Role}
 use Rattle.pipe_types.specs.declared.topology.Role.TheVariants.{Producer, Processor, Supervisor, Batcher, BatchProcessor}
 use Rattle.pipe_types.specs.declared.message.Place.{Place}
-use Rattle.pipe_types.specs.declared.message.Place.TheVariants.{Waiting, Inbox, Running, Gathered, InBatch, Acked, Lost}
+use Rattle.pipe_types.specs.declared.message.Place.TheVariants.{Waiting, Inbox, Running, Gathered, Acked, Lost}
 use Rattle.pipe_types.specs.Stages.{feeds, spec_of, role_feeds, option_feeds}
 use Rattle.pipe_types.specs.declared.step.Step.{Step}
 use Rattle.pipe_model.specs.History.{History}
@@ -31,10 +31,7 @@ rank topology s = rank_in (spec_of topology s)
 
 rank_of_most : (role : Role) → rank_of role ≤ 3
 rank_of_most Producer = omega arith
-rank_of_most Processor = omega arith
-rank_of_most Supervisor = omega arith
-rank_of_most Batcher = omega arith
-rank_of_most BatchProcessor = omega arith
+rank_of_most _ = omega arith
 
 rank_in_most : (o : Option StageSpec) → rank_in o ≤ 3
 rank_in_most None = omega arith
@@ -78,28 +75,19 @@ level topology (Some (Inbox u)) = 4 * rank topology u.consumer
 level topology (Some (Running s)) = 4 * rank topology s + 1
 level topology (Some (Gathered s)) = 4 * rank topology s + 2
 level topology (Some (Waiting s)) = 4 * rank topology s + 3
-level topology (Some (InBatch b)) = 100
-level topology (Some (Acked outcome)) = 100
-level topology (Some (Lost loss)) = 100
+level topology _ = 100
 
 level_final : (topology : Topology) (p : Place) → is_final (Some p) ≡ true → level topology (Some p) ≡ 100
 level_final topology (Acked outcome) h = refl
 level_final topology (Lost loss) h = refl
-level_final topology (Waiting s) h = cc
-level_final topology (Inbox u) h = cc
-level_final topology (Running s) h = cc
-level_final topology (Gathered s) h = cc
-level_final topology (InBatch b) h = cc
+level_final topology _ h = cc
 
-level_most : (topology : Topology) (p : Option Place) → level topology p ≤ 100
-level_most topology None = omega arith
+pub level_most : (topology : Topology) (p : Option Place) → level topology p ≤ 100
 level_most topology (Some (Inbox u)) = omega (arith, rank_most topology u.consumer)
 level_most topology (Some (Running s)) = omega (arith, rank_most topology s)
 level_most topology (Some (Gathered s)) = omega (arith, rank_most topology s)
 level_most topology (Some (Waiting s)) = omega (arith, rank_most topology s)
-level_most topology (Some (InBatch b)) = omega arith
-level_most topology (Some (Acked outcome)) = omega arith
-level_most topology (Some (Lost loss)) = omega arith
+level_most topology _ = omega arith
 
 pub level_grows : (topology : Topology) (before : History) (step : Step) (p q : Option Place) → Move topology before step p q → level topology p ≤ level topology q
 level_grows topology before step p q stays = omega arith

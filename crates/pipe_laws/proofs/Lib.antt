@@ -13,6 +13,7 @@ pub mod Weights
 pub mod Allowed
 pub mod Held
 pub mod Kept
+pub mod Roles
 pub mod Busy
 pub mod Accepted
 pub mod Replies
@@ -26,5 +27,6 @@ pub mod Ends
 pub mod Acknowledged
 pub mod Lossless
 pub mod HandlerReplies
+pub mod Outcomes
 pub mod Contents
 pub mod Claims

@@ -158,10 +158,8 @@ no_lost_leg [] h = refl
 no_lost_leg (leg ∷ legs) h = by_place leg.sub leg.place (and_left (not (is_leg_lost leg.place)) _ h) (no_lost_leg legs (and_right (not (is_leg_lost leg.place)) _ h))
   where
     by_place : (u : SubNo) (p : LegPlace) → not (is_leg_lost p) ≡ true → lost_leg legs ≡ None → lost_leg (record { sub = u; place = p } ∷ legs) ≡ None
-    by_place u InInbox h rest = rest
-    by_place u AtWork h rest = rest
-    by_place u (Answered o) h rest = rest
     by_place u (LegLost l) h rest = cc
+    by_place u _ h rest = rest
 
 failed_kept : (legs : List Leg) (i : ℕ) → is_lost (Some (settled_as None (failed_leg legs i))) ≡ false
 failed_kept [] i = refl
@@ -174,9 +172,7 @@ failed_kept (leg ∷ legs) i = by_place leg.sub leg.place (failed_kept legs i)
 
     by_place : (u : SubNo) (p : LegPlace) → is_lost (Some (settled_as None (failed_leg legs i))) ≡ false → is_lost (Some (settled_as None (failed_leg (record { sub = u; place = p } ∷ legs) i))) ≡ false
     by_place u (Answered outcomes) h = by_outcome u outcomes (slice_get outcomes i) refl h
-    by_place u InInbox h = h
-    by_place u AtWork h = h
-    by_place u (LegLost loss) h = h
+    by_place u _ h = h
 
 batch_leaves : (b : ℕ) (o : Option Batch) (n : ℕ) → batch_kept o ≡ true → is_lost (Some (place_in_batch b o n)) ≡ false
 batch_leaves b None n h = refl
@@ -228,12 +224,8 @@ taken_kept chunk s n (Inbox u) h = either (same_stage s u.consumer && among chun
     either : (b : Bool) → is_lost (Some (if b then Running s else Inbox u)) ≡ false
     either true = refl
     either false = refl
-taken_kept chunk s n (Waiting t) h = refl
-taken_kept chunk s n (Running t) h = refl
-taken_kept chunk s n (Gathered t) h = refl
-taken_kept chunk s n (InBatch b) h = refl
-taken_kept chunk s n (Acked o) h = refl
 taken_kept chunk s n (Lost l) h = h
+taken_kept chunk s n _ h = refl
 
 answered_kept : (b : Bool) (s : StageNo) (reply : Option Reply) → is_lost (Some (answered b s reply)) ≡ false
 answered_kept true s (Some (Pass m)) = refl
@@ -253,12 +245,8 @@ done_kept b chunk replies s n (Running t) h = either (same_stage s t)
     either : (a : Bool) → is_lost (Some (if a then answered b s (reply_to chunk replies n) else Running t)) ≡ false
     either true = answered_kept b s (reply_to chunk replies n)
     either false = refl
-done_kept b chunk replies s n (Waiting t) h = refl
-done_kept b chunk replies s n (Inbox u) h = refl
-done_kept b chunk replies s n (Gathered t) h = refl
-done_kept b chunk replies s n (InBatch m) h = refl
-done_kept b chunk replies s n (Acked o) h = refl
 done_kept b chunk replies s n (Lost l) h = h
+done_kept b chunk replies s n _ h = refl
 
 gathered_kept : (s : StageNo) (m n : ℕ) (p : Place) → is_lost (Some p) ≡ false → is_lost (Some (gathered s m n p)) ≡ false
 gathered_kept s m n (Inbox u) h = either (same_stage s u.consumer && m == n)
@@ -266,12 +254,8 @@ gathered_kept s m n (Inbox u) h = either (same_stage s u.consumer && m == n)
     either : (b : Bool) → is_lost (Some (if b then Gathered s else Inbox u)) ≡ false
     either true = refl
     either false = refl
-gathered_kept s m n (Waiting t) h = refl
-gathered_kept s m n (Running t) h = refl
-gathered_kept s m n (Gathered t) h = refl
-gathered_kept s m n (InBatch b) h = refl
-gathered_kept s m n (Acked o) h = refl
 gathered_kept s m n (Lost l) h = h
+gathered_kept s m n _ h = refl
 
 joined_kept : (numbers : List ℕ) (s : StageNo) (b n : ℕ) (p : Place) → is_lost (Some p) ≡ false → is_lost (Some (put_in_batch numbers s b n p)) ≡ false
 joined_kept numbers s b n (Gathered t) h = either (same_stage s t && among numbers n)
@@ -279,21 +263,13 @@ joined_kept numbers s b n (Gathered t) h = either (same_stage s t && among numbe
     either : (a : Bool) → is_lost (Some (if a then InBatch (batch_no b) else Gathered t)) ≡ false
     either true = refl
     either false = refl
-joined_kept numbers s b n (Waiting t) h = refl
-joined_kept numbers s b n (Inbox u) h = refl
-joined_kept numbers s b n (Running t) h = refl
-joined_kept numbers s b n (InBatch m) h = refl
-joined_kept numbers s b n (Acked o) h = refl
 joined_kept numbers s b n (Lost l) h = h
+joined_kept numbers s b n _ h = refl
 
 by_batch_kept : (after : ℕ → Option Batch) (n : ℕ) → ((b : ℕ) → batch_kept (after b) ≡ true) → (p : Place) → is_lost (Some p) ≡ false → is_lost (Some (by_batch after n p)) ≡ false
 by_batch_kept after n kept (InBatch b) h = batch_leaves b.0 (after b.0) n (kept b.0)
-by_batch_kept after n kept (Waiting t) h = refl
-by_batch_kept after n kept (Inbox u) h = refl
-by_batch_kept after n kept (Running t) h = refl
-by_batch_kept after n kept (Gathered t) h = refl
-by_batch_kept after n kept (Acked o) h = refl
 by_batch_kept after n kept (Lost l) h = h
+by_batch_kept after n kept _ h = refl
 
 child_kept : (again : Bool) (s : StageNo) (i : ℕ) (reply : Reply) → (crashed_reply reply && not again) ≡ false → is_lost (Some (child_place again s i reply)) ≡ false
 child_kept again s i (Pass m) h = refl
@@ -309,12 +285,8 @@ ended_kept again ended s i reply n keeps (Running t) h = either (same_stage s t)
     either true true k = child_kept again s i reply (k refl)
     either true false k = refl
     either false b k = refl
-ended_kept again ended s i reply n keeps (Waiting t) h = refl
-ended_kept again ended s i reply n keeps (Inbox u) h = refl
-ended_kept again ended s i reply n keeps (Gathered t) h = refl
-ended_kept again ended s i reply n keeps (InBatch b) h = refl
-ended_kept again ended s i reply n keeps (Acked o) h = refl
 ended_kept again ended s i reply n keeps (Lost l) h = h
+ended_kept again ended s i reply n keeps _ h = refl
 
 -- a journal that loses nothing has no lost message
 pub none_lost : (topology : Topology) (before : History) (n : ℕ) → is_lossless topology before ≡ true → is_lost (place topology before n) ≡ false
@@ -357,10 +329,4 @@ acknowledges_everything topology before sound h drained lossless n low high =
   where
     by_place : (p : Option Place) → place topology before n ≡ p → is_final p ≡ true → is_lost p ≡ false → times_in_all (acknowledgements topology before) n ≡ 1
     by_place (Some (Acked o)) e f l = (acknowledged_once topology before n sound h).once o e
-    by_place (Some (Lost loss)) e f l = cc
-    by_place None e f l = cc
-    by_place (Some (Waiting t)) e f l = cc
-    by_place (Some (Inbox u)) e f l = cc
-    by_place (Some (Running t)) e f l = cc
-    by_place (Some (Gathered t)) e f l = cc
-    by_place (Some (InBatch b)) e f l = cc
+    by_place _ e f l = cc

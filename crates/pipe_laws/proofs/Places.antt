@@ -25,7 +25,7 @@ use Rattle.pipe_types.specs.Numbers.{same_stage, batch_no}
 use Rattle.pipe_types.specs.Stages.{feeds}
 use Rattle.pipe_model.specs.History.{History}
 use Rattle.pipe_model.specs.Content.{has_crash, is_among_next}
-use Rattle.pipe_model.specs.Batches.{Batch, BatchPlace, AtBatcher, Sent, Dropped, Leg, LegPlace, InInbox, AtWork, Answered, LegLost, is_settled, settled_as, lost_leg, failed_leg, place_by_batch}
+use Rattle.pipe_model.specs.Batches.{Batch, BatchPlace, AtBatcher, Sent, Dropped, Leg, LegPlace, Answered, LegLost, is_settled, settled_as, lost_leg, failed_leg, place_by_batch}
 use Rattle.pipe_model.specs.Lives.{KillSet, reason_in, is_live, current_sub, live_subs, live_subs_from, death}
 use Rattle.pipe_model.specs.Flow.{place, view_of, batch, among, sends_by, rooms_by, waiting_by, subs_of, dispatched, waiting_after, taken, done, answered, reply_to, gathered, put_in_batch, by_batch, place_in_batch, killed, lost_with, child_ended, child_place, accepted_to, late_place, is_number}
 use Rattle.pipe_model.specs.Moves.{is_final}
@@ -122,19 +122,15 @@ failed_final (leg ∷ legs) i = by_place leg.sub leg.place (failed_final legs i)
 
     by_place : (u : SubNo) (p : LegPlace) → is_final (Some (settled_as None (failed_leg legs i))) ≡ true → is_final (Some (settled_as None (failed_leg (record { sub = u; place = p } ∷ legs) i))) ≡ true
     by_place u (Answered outcomes) h = by_outcome u outcomes (slice_get outcomes i) refl h
-    by_place u InInbox h = h
-    by_place u AtWork h = h
-    by_place u (LegLost loss) h = h
+    by_place u _ h = h
 
 lost_final : (legs : List Leg) (failed : Option Place) → is_final (Some (settled_as None failed)) ≡ true → is_final (Some (settled_as (lost_leg legs) failed)) ≡ true
 lost_final [] failed h = h
 lost_final (leg ∷ legs) failed h = by_place leg.sub leg.place (lost_final legs failed h)
   where
     by_place : (u : SubNo) (p : LegPlace) → is_final (Some (settled_as (lost_leg legs) failed)) ≡ true → is_final (Some (settled_as (lost_leg (record { sub = u; place = p } ∷ legs)) failed)) ≡ true
-    by_place u (Answered outcomes) h = h
-    by_place u InInbox h = h
-    by_place u AtWork h = h
     by_place u (LegLost loss) h = refl
+    by_place u _ h = h
 
 pub settled_final : (legs : List Leg) (i : ℕ) → is_final (Some (settled_as (lost_leg legs) (failed_leg legs i))) ≡ true
 settled_final legs i = lost_final legs (failed_leg legs i) (failed_final legs i)
@@ -161,7 +157,6 @@ module _ (topology : Topology) (before : History) (step : Step) where
       either false = stays
 
   move_dispatched : (units : List SentUnit) (over alone : List ℕ) (s : StageNo) (n : ℕ) → Each (IsOn topology before s) (subs_of units n) → (old : Option Place) → Move topology before step old (option_map (dispatched units over alone s n) old)
-  move_dispatched units over alone s n on None = stays
   move_dispatched units over alone s n on (Some (Waiting t)) = either (same_stage s t) refl
     where
       lost_or_not : (b : Bool) → Move topology before step (Some (Waiting s)) (Some (if b then Lost (Overflow s) else Waiting s))
@@ -175,31 +170,21 @@ module _ (topology : Topology) (before : History) (step : Step) where
       either : (b : Bool) → same_stage s t ≡ b → Move topology before step (Some (Waiting t)) (Some (if b then waiting_after (subs_of units n) (among over n) s else Waiting t))
       either true e = subst (λ x. Move topology before step (Some (Waiting x)) (Some (waiting_after (subs_of units n) (among over n) s))) (same_stage-true s t e) (here (subs_of units n) on)
       either false e = stays
-  move_dispatched units over alone s n on (Some (Inbox u)) = stays
-  move_dispatched units over alone s n on (Some (Running t)) = stays
-  move_dispatched units over alone s n on (Some (Gathered t)) = stays
   move_dispatched units over alone s n on (Some (InBatch b)) = either (among alone b.0)
     where
       either : (a : Bool) → Move topology before step (Some (InBatch b)) (Some (if a then Acked Successful else InBatch b))
       either true = ends _ _ refl
       either false = stays
-  move_dispatched units over alone s n on (Some (Acked o)) = stays
-  move_dispatched units over alone s n on (Some (Lost l)) = stays
+  move_dispatched units over alone s n on _ = stays
 
   move_taken : (chunk : List ℕ) (s : StageNo) (n : ℕ) → starts step s ≡ true → (old : Option Place) → Move topology before step old (option_map (taken chunk s n) old)
-  move_taken chunk s n from None = stays
   move_taken chunk s n from (Some (Inbox u)) = either (same_stage s u.consumer) (among chunk n) refl
     where
       either : (a b : Bool) → same_stage s u.consumer ≡ a → Move topology before step (Some (Inbox u)) (Some (if a && b then Running s else Inbox u))
       either true true e = subst (λ x. Move topology before step (Some (Inbox u)) (Some (Running x))) (sym (same_stage-true s u.consumer e)) (runs u (subst (λ x. starts step x ≡ true) (same_stage-true s u.consumer e) from))
       either true false e = stays
       either false b e = stays
-  move_taken chunk s n from (Some (Waiting t)) = stays
-  move_taken chunk s n from (Some (Running t)) = stays
-  move_taken chunk s n from (Some (Gathered t)) = stays
-  move_taken chunk s n from (Some (InBatch b)) = stays
-  move_taken chunk s n from (Some (Acked o)) = stays
-  move_taken chunk s n from (Some (Lost l)) = stays
+  move_taken chunk s n from _ = stays
 
   move_answered : (b : Bool) (s : StageNo) (reply : Option Reply) → Move topology before step (Some (Running s)) (Some (answered b s reply))
   move_answered true s (Some (Pass m)) = waits s
@@ -214,47 +199,29 @@ module _ (topology : Topology) (before : History) (step : Step) where
   move_answered false s None = stays
 
   move_done : (b : Bool) (chunk : List ℕ) (replies : List Reply) (s : StageNo) (n : ℕ) (old : Option Place) → Move topology before step old (option_map (done b chunk replies s n) old)
-  move_done b chunk replies s n None = stays
   move_done b chunk replies s n (Some (Running t)) = either (same_stage s t) refl
     where
       either : (a : Bool) → same_stage s t ≡ a → Move topology before step (Some (Running t)) (Some (if a then answered b s (reply_to chunk replies n) else Running t))
       either true e = subst (λ x. Move topology before step (Some (Running x)) (Some (answered b s (reply_to chunk replies n)))) (same_stage-true s t e) (move_answered b s (reply_to chunk replies n))
       either false e = stays
-  move_done b chunk replies s n (Some (Waiting t)) = stays
-  move_done b chunk replies s n (Some (Inbox u)) = stays
-  move_done b chunk replies s n (Some (Gathered t)) = stays
-  move_done b chunk replies s n (Some (InBatch m)) = stays
-  move_done b chunk replies s n (Some (Acked o)) = stays
-  move_done b chunk replies s n (Some (Lost l)) = stays
+  move_done b chunk replies s n _ = stays
 
   move_gathered : (s : StageNo) (m n : ℕ) (old : Option Place) → Move topology before step old (option_map (gathered s m n) old)
-  move_gathered s m n None = stays
   move_gathered s m n (Some (Inbox u)) = either (same_stage s u.consumer) (m == n) refl
     where
       either : (a b : Bool) → same_stage s u.consumer ≡ a → Move topology before step (Some (Inbox u)) (Some (if a && b then Gathered s else Inbox u))
       either true true e = subst (λ x. Move topology before step (Some (Inbox u)) (Some (Gathered x))) (sym (same_stage-true s u.consumer e)) (is_gathered u)
       either true false e = stays
       either false b e = stays
-  move_gathered s m n (Some (Waiting t)) = stays
-  move_gathered s m n (Some (Running t)) = stays
-  move_gathered s m n (Some (Gathered t)) = stays
-  move_gathered s m n (Some (InBatch b)) = stays
-  move_gathered s m n (Some (Acked o)) = stays
-  move_gathered s m n (Some (Lost l)) = stays
+  move_gathered s m n _ = stays
 
   move_joined : (numbers : List ℕ) (s : StageNo) (b n : ℕ) → closes step ≡ true → (old : Option Place) → Move topology before step old (option_map (put_in_batch numbers s b n) old)
-  move_joined numbers s b n from None = stays
   move_joined numbers s b n from (Some (Gathered t)) = either (same_stage s t && among numbers n)
     where
       either : (a : Bool) → Move topology before step (Some (Gathered t)) (Some (if a then InBatch (batch_no b) else Gathered t))
       either true = joins t _ from
       either false = stays
-  move_joined numbers s b n from (Some (Waiting t)) = stays
-  move_joined numbers s b n from (Some (Inbox u)) = stays
-  move_joined numbers s b n from (Some (Running t)) = stays
-  move_joined numbers s b n from (Some (InBatch m)) = stays
-  move_joined numbers s b n from (Some (Acked o)) = stays
-  move_joined numbers s b n from (Some (Lost l)) = stays
+  move_joined numbers s b n from _ = stays
 
   move_by_place : (b : BatchNo) (i : ℕ) (place : BatchPlace) → Move topology before step (Some (InBatch b)) (Some (place_by_batch b.0 place i))
   move_by_place b i (AtBatcher s) = stays
@@ -270,28 +237,20 @@ module _ (topology : Topology) (before : History) (step : Step) where
   move_in_batch b (Some x) n = move_by_place b _ x.place
 
   move_by_batch : (after : ℕ → Option Batch) (n : ℕ) (old : Option Place) → Move topology before step old (option_map (by_batch after n) old)
-  move_by_batch after n None = stays
   move_by_batch after n (Some (InBatch b)) = move_in_batch b (after b.0) n
-  move_by_batch after n (Some (Waiting t)) = stays
-  move_by_batch after n (Some (Inbox u)) = stays
-  move_by_batch after n (Some (Running t)) = stays
-  move_by_batch after n (Some (Gathered t)) = stays
-  move_by_batch after n (Some (Acked o)) = stays
-  move_by_batch after n (Some (Lost l)) = stays
+  move_by_batch after n _ = stays
 
   move_lost_with : (after : ℕ → Option Batch) (n i : ℕ) (s : StageNo) (why : Option Why) (p : Place) → Move topology before step (Some p) (Some (by_batch after n p)) → Move topology before step (Some p) (Some (by_batch after n (lost_with i s why p)))
   move_lost_with after n i s None p h = h
   move_lost_with after n i s (Some why) p h = ends _ _ refl
 
   move_killed : (set : KillSet) (incarnation : StageNo → ℕ) (after : ℕ → Option Batch) (n : ℕ) (old : Option Place) → Move topology before step old (option_map (λ p. by_batch after n (killed set incarnation p)) old)
-  move_killed set incarnation after n None = stays
   move_killed set incarnation after n (Some (Waiting t)) = move_lost_with after n (incarnation t) t (reason_in set t) (Waiting t) stays
   move_killed set incarnation after n (Some (Inbox u)) = move_lost_with after n (incarnation u.consumer) u.consumer (reason_in set u.consumer) (Inbox u) stays
   move_killed set incarnation after n (Some (Running t)) = move_lost_with after n (incarnation t) t (reason_in set t) (Running t) stays
   move_killed set incarnation after n (Some (Gathered t)) = move_lost_with after n (incarnation t) t (reason_in set t) (Gathered t) stays
   move_killed set incarnation after n (Some (InBatch b)) = move_in_batch b (after b.0) n
-  move_killed set incarnation after n (Some (Acked o)) = stays
-  move_killed set incarnation after n (Some (Lost l)) = stays
+  move_killed set incarnation after n _ = stays
 
   move_child_place : (again : Bool) (s : StageNo) (i : ℕ) (reply : Reply) → Move topology before step (Some (Running s)) (Some (child_place again s i reply))
   move_child_place again s i (Pass m) = ends _ _ refl
@@ -301,19 +260,13 @@ module _ (topology : Topology) (before : History) (step : Step) where
   move_child_place false s i Crashed = ends _ _ refl
 
   move_child_ended : (again : Bool) (ended : Option ℕ) (s : StageNo) (i : ℕ) (reply : Reply) (n : ℕ) (old : Option Place) → Move topology before step old (option_map (child_ended again ended s i reply n) old)
-  move_child_ended again ended s i reply n None = stays
   move_child_ended again ended s i reply n (Some (Running t)) = either (same_stage s t) (is_number ended n) refl
     where
       either : (a b : Bool) → same_stage s t ≡ a → Move topology before step (Some (Running t)) (Some (if a && b then child_place again s i reply else Running t))
       either true true e = subst (λ x. Move topology before step (Some (Running x)) (Some (child_place again s i reply))) (same_stage-true s t e) (move_child_place again s i reply)
       either true false e = stays
       either false b e = stays
-  move_child_ended again ended s i reply n (Some (Waiting t)) = stays
-  move_child_ended again ended s i reply n (Some (Inbox u)) = stays
-  move_child_ended again ended s i reply n (Some (Gathered t)) = stays
-  move_child_ended again ended s i reply n (Some (InBatch b)) = stays
-  move_child_ended again ended s i reply n (Some (Acked o)) = stays
-  move_child_ended again ended s i reply n (Some (Lost l)) = stays
+  move_child_ended again ended s i reply n _ = stays
 
 -- what each step does to a message is one of the moves
 pub move_by : (topology : Topology) (before : History) (step : Step) (n : ℕ) → Move topology before step (place topology before n) (place topology (step ∷ before) n)

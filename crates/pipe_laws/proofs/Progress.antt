@@ -9,7 +9,7 @@ use Rattle.pipe_types.specs.declared.numbers.MsgNo.{MsgNo}
 use Rattle.pipe_types.specs.declared.message.Trigger.{Trigger}
 use Rattle.pipe_types.specs.declared.topology.Topology.{Topology}
 use Rattle.pipe_types.specs.declared.message.Place.{Place}
-use Rattle.pipe_types.specs.declared.message.Place.TheVariants.{Waiting, Inbox, Running, Gathered, InBatch, Acked, Lost}
+use Rattle.pipe_types.specs.declared.message.Place.TheVariants.{Inbox, Gathered, InBatch, Acked, Lost}
 use Rattle.pipe_types.specs.declared.message.Outcome.{Outcome}
 use Rattle.pipe_types.specs.declared.message.Why.{Why}
 use Rattle.pipe_types.specs.declared.message.BatchEnd.TheVariants.{Outcomes}
@@ -58,9 +58,7 @@ settled_taken s (leg ∷ legs) = λ i. open_same leg.sub leg.place i && settled_
         by_stage : (b : Bool) → not (is_leg_open (if b then AtWork else InInbox)) ≡ false
         by_stage true = refl
         by_stage false = refl
-    open_same u AtWork = refl
-    open_same u (Answered o) = refl
-    open_same u (LegLost l) = refl
+    open_same u _ = refl
 
 going_taken : (s : StageNo) (p : BatchPlace) → going p ≡ true → going (batch_on_legs (leg_taken s) p) ≡ true
 going_taken s (AtBatcher t) h = refl
@@ -103,12 +101,7 @@ in_batch_before topology before step b p q (ends x y final) c e = not_final y fi
   where
     not_final : (y : Place) → is_final (Some y) ≡ true → Some y ≡ Some (InBatch b) → Some x ≡ Some (InBatch b)
     not_final (Acked o) f e = cc
-    not_final (Lost l) f e = cc
-    not_final (Waiting t) f e = cc
-    not_final (Inbox u) f e = cc
-    not_final (Running t) f e = cc
-    not_final (Gathered t) f e = cc
-    not_final (InBatch m) f e = cc
+    not_final _ f e = cc
 
 -- where the batch leaves its message in it, it goes on
 left_going : (b m : BatchNo) (p : BatchPlace) (i : ℕ) → Some (place_by_batch b.0 p i) ≡ Some (InBatch m) → going p ≡ true
@@ -117,12 +110,7 @@ left_going b m (Sent legs) i e = either (is_settled legs) e
   where
     final_not : (y : Place) → is_final (Some y) ≡ true → Some y ≡ Some (InBatch m) → false ≡ true
     final_not (Acked o) f e = cc
-    final_not (Lost l) f e = cc
-    final_not (Waiting t) f e = cc
-    final_not (Inbox u) f e = cc
-    final_not (Running t) f e = cc
-    final_not (Gathered t) f e = cc
-    final_not (InBatch k) f e = cc
+    final_not _ f e = cc
 
     either : (a : Bool) → Some (if a then settled_as (lost_leg legs) (failed_leg legs i) else InBatch (batch_no b.0)) ≡ Some (InBatch m) → not a ≡ true
     either true e = final_not _ (settled_final legs i) e
@@ -150,12 +138,6 @@ joined topology before numbers s n b p old e = by_place p old e
     kept false h k = k
 
     by_place : (p : Option Place) → (p ≡ Some (InBatch b) → in_progress (batch topology before b.0) ≡ true) → option_map (put_in_batch numbers s (closed before + 1) n) p ≡ Some (InBatch b) → in_progress (new_batch (b.0 == closed before + 1) numbers s (batch topology before b.0)) ≡ true
-    by_place None old e = cc
-    by_place (Some (Waiting t)) old e = cc
-    by_place (Some (Inbox u)) old e = cc
-    by_place (Some (Running t)) old e = cc
-    by_place (Some (Acked o)) old e = cc
-    by_place (Some (Lost l)) old e = cc
     by_place (Some (InBatch m)) old e = kept (b.0 == closed before + 1) refl (old e)
     by_place (Some (Gathered t)) old e = either (same_stage s t && among numbers n) e
       where
@@ -164,6 +146,7 @@ joined topology before numbers s n b p old e = by_place p old e
             let is : batch_no (closed before + 1) ≡ b = cc in
             made (b.0 == closed before + 1) (eq-eqb b.0 (closed before + 1) (sym (ap (λ x. x.0) is)))
         either false e = cc
+    by_place _ old e = cc
 
 -- a message that a dispatch leaves in its batch is of none that is served without a leg
 left_in_batch : (is_alone : Bool) (b : BatchNo) → Some (if is_alone then Acked Successful else InBatch b) ≡ Some (InBatch b) → is_alone ≡ false
@@ -374,14 +357,11 @@ held_at topology before n h some = by_place (place topology before n) refl some 
   where
     by_place : (p : Option Place) → place topology before n ≡ p → is_some p ≡ true → stands_live (is_live topology before) p ≡ true → is_held_at (is_live topology before) (batch topology before) p ≡ true
     by_place None e some live = some
-    by_place (Some (Waiting s)) e some live = live
-    by_place (Some (Inbox u)) e some live = live
-    by_place (Some (Running s)) e some live = live
-    by_place (Some (Gathered s)) e some live = live
     by_place (Some (Acked o)) e some live = refl
     by_place (Some (Lost l)) e some live = refl
     by_place (Some (InBatch b)) e some live =
         progress_live (is_live topology before) (batch topology before b.0) (batches_live topology before b.0 h) (in_batch_going topology before n b e)
+    by_place _ e some live = live
 
 -- each accepted message has one place, which holds it
 pub one_place_each : (topology : Topology) (before : History) → is_legal topology before ≡ true → HasOnePlaceEach topology before

@@ -17,22 +17,16 @@ use Rattle.pipe_laws.proofs.Tests.{clash, and_left, and_right}
 use Rattle.pipe_laws.proofs.Lists.{Each}
 
 head_safe : (r : Reply) (replies : List Reply) → has_crash (r ∷ replies) ≡ false → is_crashed r ≡ false
-head_safe (Pass m) replies h = refl
-head_safe (Failed why) replies h = refl
-head_safe (Raised why) replies h = refl
 head_safe Crashed replies h = cc
+head_safe _ replies h = refl
 
 tail_safe : (r : Reply) (replies : List Reply) → has_crash (r ∷ replies) ≡ false → has_crash replies ≡ false
-tail_safe (Pass m) replies h = h
-tail_safe (Failed why) replies h = h
-tail_safe (Raised why) replies h = h
 tail_safe Crashed replies h = cc
+tail_safe _ replies h = h
 
 safe_cons : (r : Reply) (replies : List Reply) → is_crashed r ≡ false → has_crash replies ≡ false → has_crash (r ∷ replies) ≡ false
-safe_cons (Pass m) replies h k = k
-safe_cons (Failed why) replies h k = k
-safe_cons (Raised why) replies h k = k
 safe_cons Crashed replies h k = cc
+safe_cons _ replies h k = k
 
 same_safe : (r q : Reply) → same_reply r q ≡ true → is_crashed r ≡ false → is_crashed q ≡ false
 same_safe r (Pass n) h k = refl
@@ -54,9 +48,7 @@ same_length (r ∷ replies) (q ∷ others) h k =
 
 pub crash_stays : (failed : Option (List ℕ)) (r : Reply) → is_crashed (with_reason failed r) ≡ is_crashed r
 crash_stays failed (Pass m) = refl
-crash_stays failed (Failed why) = refl
-crash_stays failed (Raised why) = refl
-crash_stays failed Crashed = refl
+crash_stays failed _ = refl
 
 chunk_length : (spec : StageSpec) (count : ℕ) (messages : List Message) → has_crash (chunk_replies spec count messages) ≡ false → length (chunk_replies spec count messages) ≡ length messages
 chunk_length spec count [] h = refl

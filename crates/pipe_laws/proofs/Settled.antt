@@ -9,7 +9,7 @@ use Rattle.pipe_types.specs.declared.message.Outcome.{Outcome}
 use Rattle.pipe_types.specs.declared.message.Loss.{Loss}
 use Rattle.pipe_types.specs.declared.message.Why.{Why}
 use Rattle.pipe_types.specs.declared.message.Place.{Place}
-use Rattle.pipe_types.specs.declared.message.Place.TheVariants.{Waiting, Inbox, Running, Gathered, InBatch, Acked, Lost}
+use Rattle.pipe_types.specs.declared.message.Place.TheVariants.{Inbox, Acked, Lost}
 use Rattle.pipe_types.specs.declared.message.BatchEnd.TheVariants.{Outcomes}
 use Rattle.pipe_types.specs.declared.step.Step.{Step}
 use Rattle.pipe_types.specs.declared.step.Step.TheVariants.{Accept, Dispatch, Take, Done, Gather, Close, Wrote, Child, ChildEnd, Kill, Late, Halt}
@@ -78,12 +78,7 @@ stays_settled topology later before n = by_place (place topology before n) refl
     by_place : (p : Option Place) → place topology before n ≡ p → IsTrue (is_final p) → place topology (later ++ before) n ≡ p
     by_place (Some (Acked o)) e final = acked_stays topology later before n o e
     by_place (Some (Lost l)) e final = lost_stays topology later before n l e
-    by_place None e final = cc
-    by_place (Some (Waiting s)) e final = cc
-    by_place (Some (Inbox u)) e final = cc
-    by_place (Some (Running s)) e final = cc
-    by_place (Some (Gathered s)) e final = cc
-    by_place (Some (InBatch b)) e final = cc
+    by_place _ e final = cc
 
 -- Legs
 

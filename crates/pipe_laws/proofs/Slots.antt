@@ -6,9 +6,8 @@ use Rattle.pipe_types.specs.declared.numbers.SubNo.{SubNo}
 use Rattle.pipe_types.specs.declared.numbers.StageNo.{StageNo}
 use Rattle.pipe_types.specs.declared.topology.Topology.{Topology}
 use Rattle.pipe_types.specs.declared.topology.Role.{Role}
-use Rattle.pipe_types.specs.declared.topology.Role.TheVariants.{Producer, Processor, Supervisor, Batcher, BatchProcessor}
 use Rattle.pipe_types.specs.declared.message.Place.{Place}
-use Rattle.pipe_types.specs.declared.message.Place.TheVariants.{Waiting, Inbox, Running, Gathered, InBatch, Acked, Lost}
+use Rattle.pipe_types.specs.declared.message.Place.TheVariants.{Inbox, Running, Acked}
 use Rattle.pipe_types.specs.declared.message.Reply.{Reply}
 use Rattle.pipe_types.specs.declared.step.Step.{Step}
 use Rattle.pipe_types.specs.declared.step.Step.TheVariants.{Fetch, Take, Done, Wrote, Child, ChildEnd}
@@ -30,34 +29,7 @@ use Rattle.pipe_laws.proofs.Kept.{ends_work, runs_kept, runs_here}
 use Rattle.pipe_laws.proofs.Busy.{WasCurrent, was_current, was_live, inbox_here}
 use Rattle.pipe_laws.proofs.Idle.{roles_apart, fed_by_messages, other_stage}
 use Rattle.pipe_model.specs.Standing.{in_inbox}
-
-pub supervisor_writes : (role : Role) → is_supervisor_role role ≡ true → is_batch_processor_role role ≡ true → ⊥
-supervisor_writes Producer h k = let x : false ≡ true = h in cc
-supervisor_writes Processor h k = let x : false ≡ true = h in cc
-supervisor_writes Supervisor h k = let x : false ≡ true = k in cc
-supervisor_writes Batcher h k = let x : false ≡ true = k in cc
-supervisor_writes BatchProcessor h k = let x : false ≡ true = h in cc
-
-pub supervisor_produces : (role : Role) → is_supervisor_role role ≡ true → is_producer_role role ≡ true → ⊥
-supervisor_produces Producer h k = let x : false ≡ true = h in cc
-supervisor_produces Processor h k = let x : false ≡ true = k in cc
-supervisor_produces Supervisor h k = let x : false ≡ true = k in cc
-supervisor_produces Batcher h k = let x : false ≡ true = k in cc
-supervisor_produces BatchProcessor h k = let x : false ≡ true = k in cc
-
-pub supervisor_takes : (role : Role) → is_supervisor_role role ≡ true → takes_role role ≡ true → ⊥
-supervisor_takes Producer h k = let x : false ≡ true = k in cc
-supervisor_takes Processor h k = let x : false ≡ true = h in cc
-supervisor_takes Supervisor h k = let x : false ≡ true = k in cc
-supervisor_takes Batcher h k = let x : false ≡ true = k in cc
-supervisor_takes BatchProcessor h k = let x : false ≡ true = h in cc
-
-pub supervisor_processes : (role : Role) → is_supervisor_role role ≡ true → is_processor_role role ≡ true → ⊥
-supervisor_processes Producer h k = let x : false ≡ true = k in cc
-supervisor_processes Processor h k = let x : false ≡ true = h in cc
-supervisor_processes Supervisor h k = let x : false ≡ true = k in cc
-supervisor_processes Batcher h k = let x : false ≡ true = k in cc
-supervisor_processes BatchProcessor h k = let x : false ≡ true = h in cc
+pub use Rattle.pipe_laws.proofs.Roles.{supervisor_writes, supervisor_produces, supervisor_takes, supervisor_processes}
 
 -- where the first unit of a stage that takes messages stands
 pub first_stands : (topology : Topology) (before : History) (s : StageNo) (one : Role → Bool) (n : ℕ) → ((role : Role) → one role ≡ true → is_batch_processor_role role ≡ true → ⊥) → has_role topology s one ≡ true → 1 ≤ n → n ≡ first_unit (inbox topology before s) → (u : SubNo) × (u.consumer ≡ s) × (place topology before n ≡ Some (Inbox u))
@@ -139,12 +111,7 @@ ran_or_stood topology before step s p q (ends x y final) e = not_final y final e
   where
     not_final : (y : Place) → is_final (Some y) ≡ true → Some y ≡ Some (Running s) → (Some x ≡ Some (Running s)) ⊎ (level topology (Some x) ≡ 4 * rank topology s)
     not_final (Acked o) f e = cc
-    not_final (Lost l) f e = cc
-    not_final (Waiting t) f e = cc
-    not_final (Inbox u) f e = cc
-    not_final (Running t) f e = cc
-    not_final (Gathered t) f e = cc
-    not_final (InBatch b) f e = cc
+    not_final _ f e = cc
 
 -- a slot's message that runs after a step ran before it
 pub ran_before : (topology : Topology) (before : History) (step : Step) (s : StageNo) (slot n : ℕ) → is_legal topology before ≡ true → in_slot before s slot ≡ Some n → place topology (step ∷ before) n ≡ Some (Running s) → place topology before n ≡ Some (Running s)

@@ -8,14 +8,14 @@ use Rattle.pipe_types.specs.declared.topology.Topology.{Topology}
 use Rattle.pipe_types.specs.declared.message.Outcome.{Outcome}
 use Rattle.pipe_types.specs.declared.message.Why.{Why}
 use Rattle.pipe_types.specs.declared.message.Place.{Place}
-use Rattle.pipe_types.specs.declared.message.Place.TheVariants.{Waiting, Inbox, Running, Gathered, InBatch, Acked, Lost}
+use Rattle.pipe_types.specs.declared.message.Place.TheVariants.{Inbox, Acked, Lost}
 use Rattle.pipe_types.specs.declared.message.BatchEnd.TheVariants.{Outcomes}
 use Rattle.pipe_types.specs.declared.step.Step.{Step}
 use Rattle.pipe_types.specs.declared.step.Step.TheVariants.{Dispatch, Take, Close, Wrote, Kill, Halt}
 use Rattle.pipe_types.specs.Numbers.{same_stage, same_sub}
 use Rattle.pipe_types.specs.Stages.{spec_of}
 use Rattle.pipe_model.specs.History.{History, closed}
-use Rattle.pipe_model.specs.Batches.{Batch, BatchPlace, AtBatcher, Sent, Dropped, Leg, LegPlace, InInbox, AtWork, Answered, LegLost, on_legs, leg_taken, leg_answered, leg_lost, batch_sent, batch_on_legs}
+use Rattle.pipe_model.specs.Batches.{Batch, BatchPlace, AtBatcher, Sent, Dropped, Leg, LegPlace, InInbox, AtWork, Answered, on_legs, leg_taken, leg_answered, leg_lost, batch_sent, batch_on_legs}
 use Rattle.pipe_model.specs.Lives.{KillSet, reason_in}
 use Rattle.pipe_model.specs.Flow.{place, view_of, batch, among, is_batcher, leg_waits, leg_waits_in, in_inbox_by, runs_in, change_place, new_batch, next_units, closing}
 use Rattle.pipe_model.specs.Moves.{is_final}
@@ -49,11 +49,7 @@ final_weighs_none : (c : StageNo) (u : SubNo) (p : Place) → is_final (Some p) 
 unfolding message_in_hand
 final_weighs_none c u (Acked o) h = refl
 final_weighs_none c u (Lost l) h = refl
-final_weighs_none c u (Waiting s) h = cc
-final_weighs_none c u (Inbox v) h = cc
-final_weighs_none c u (Running s) h = cc
-final_weighs_none c u (Gathered s) h = cc
-final_weighs_none c u (InBatch b) h = cc
+final_weighs_none c u _ h = cc
 
 message_move : (topology : Topology) (before : History) (step : Step) (u : SubNo) (p q : Option Place) → Move topology before step p q → MessageFits topology u.consumer u p → message_in_hand u.consumer u q ≤ message_in_hand u.consumer u p
 unfolding message_in_hand
@@ -103,9 +99,7 @@ waits_any u (leg ∷ legs) = by_place leg.sub leg.place (waits_any u legs)
   where
     by_place : (v : SubNo) (p : LegPlace) → leg_waits u legs ≡ any_leg is_in_inbox u legs → leg_waits u (record { sub = v; place = p } ∷ legs) ≡ any_leg is_in_inbox u (record { sub = v; place = p } ∷ legs)
     by_place v InInbox e = ap (λ b. (same_sub u v && true) || b) e
-    by_place v AtWork e = ap (λ b. (same_sub u v && false) || b) e
-    by_place v (Answered outcomes) e = ap (λ b. (same_sub u v && false) || b) e
-    by_place v (LegLost loss) e = ap (λ b. (same_sub u v && false) || b) e
+    by_place v _ e = ap (λ b. (same_sub u v && false) || b) e
 
 works_any : (u : SubNo) (legs : List Leg) → leg_works u legs ≡ any_leg is_at_work u legs
 works_any u [] = refl
@@ -159,15 +153,11 @@ taken_legs s u legs here = both_of (hand_change (leg_taken s) u (λ p. false) (�
   where
     waits_none : (p : LegPlace) → is_in_inbox (leg_taken s u p) ≡ false
     waits_none InInbox = rw here refl
-    waits_none AtWork = refl
-    waits_none (Answered o) = refl
-    waits_none (LegLost l) = refl
+    waits_none _ = refl
 
     works_more : (p : LegPlace) → is_at_work (leg_taken s u p) ≡ (is_at_work p || is_in_inbox p)
     works_more InInbox = rw here refl
-    works_more AtWork = refl
-    works_more (Answered o) = refl
-    works_more (LegLost l) = refl
+    works_more _ = refl
 
     both_of : (leg_waits u (on_legs (leg_taken s) legs) ≡ any_leg (λ p. false) u legs) × (leg_works u (on_legs (leg_taken s) legs) ≡ any_leg (λ p. is_at_work p || is_in_inbox p) u legs) → (leg_waits u (on_legs (leg_taken s) legs) ≡ false) × (leg_works u (on_legs (leg_taken s) legs) ≡ (leg_works u legs || leg_waits u legs))
     both_of t = (t.0 ∙ any_none u legs, t.1 ∙ (any_or is_at_work is_in_inbox u legs ∙ (let a = works_any u legs in let b = waits_any u legs in λ i. sym a i || sym b i)))
@@ -177,15 +167,11 @@ taken_legs_other s u legs other = both_of (hand_change (leg_taken s) u is_in_inb
   where
     same_waits : (p : LegPlace) → is_in_inbox (leg_taken s u p) ≡ is_in_inbox p
     same_waits InInbox = rw other refl
-    same_waits AtWork = refl
-    same_waits (Answered o) = refl
-    same_waits (LegLost l) = refl
+    same_waits _ = refl
 
     same_works : (p : LegPlace) → is_at_work (leg_taken s u p) ≡ is_at_work p
     same_works InInbox = rw other refl
-    same_works AtWork = refl
-    same_works (Answered o) = refl
-    same_works (LegLost l) = refl
+    same_works _ = refl
 
     both_of : (leg_waits u (on_legs (leg_taken s) legs) ≡ any_leg is_in_inbox u legs) × (leg_works u (on_legs (leg_taken s) legs) ≡ any_leg is_at_work u legs) → (leg_waits u (on_legs (leg_taken s) legs) ≡ leg_waits u legs) × (leg_works u (on_legs (leg_taken s) legs) ≡ leg_works u legs)
     both_of t = (t.0 ∙ sym (waits_any u legs), t.1 ∙ sym (works_any u legs))
@@ -195,26 +181,20 @@ pub answered_legs : (s : StageNo) (outcomes : List Outcome) (u : SubNo) (legs : 
 answered_legs s outcomes u legs = either (same_stage s u.consumer) refl
   where
     same_waits : (p : LegPlace) → is_in_inbox (leg_answered s outcomes u p) ≡ is_in_inbox p
-    same_waits InInbox = refl
     same_waits AtWork = by_stage (same_stage s u.consumer)
       where
         by_stage : (b : Bool) → is_in_inbox (if b then Answered outcomes else AtWork) ≡ false
         by_stage true = refl
         by_stage false = refl
-    same_waits (Answered o) = refl
-    same_waits (LegLost l) = refl
+    same_waits _ = refl
 
     works_none : same_stage s u.consumer ≡ true → (p : LegPlace) → is_at_work (leg_answered s outcomes u p) ≡ false
-    works_none here InInbox = refl
     works_none here AtWork = rw here refl
-    works_none here (Answered o) = refl
-    works_none here (LegLost l) = refl
+    works_none here _ = refl
 
     same_works : same_stage s u.consumer ≡ false → (p : LegPlace) → is_at_work (leg_answered s outcomes u p) ≡ is_at_work p
-    same_works other InInbox = refl
     same_works other AtWork = rw other refl
-    same_works other (Answered o) = refl
-    same_works other (LegLost l) = refl
+    same_works other _ = refl
 
     either : (b : Bool) → same_stage s u.consumer ≡ b → (leg_waits u (on_legs (leg_answered s outcomes) legs) ≡ leg_waits u legs) × (leg_works u (on_legs (leg_answered s outcomes) legs) ≡ (if b then false else leg_works u legs))
     either true here =
@@ -233,9 +213,7 @@ kept_legs set incarnation u legs e =
   where
     same : (p : LegPlace) → is_at_work (leg_lost None (incarnation u.consumer) u p) ≡ is_at_work p
     same InInbox = refl
-    same AtWork = refl
-    same (Answered o) = refl
-    same (LegLost l) = refl
+    same _ = refl
 
 taken_weighs : (s : StageNo) (u : SubNo) (legs : List Leg) → legs_in_hand u (on_legs (leg_taken s) legs) ≤ legs_in_hand u legs
 unfolding legs_in_hand
@@ -275,30 +253,22 @@ lost_weighs set incarnation u legs = either (reason_in set u.consumer) refl
       where
         same_w : (p : LegPlace) → is_in_inbox (leg_lost None (incarnation u.consumer) u p) ≡ is_in_inbox p
         same_w InInbox = refl
-        same_w AtWork = refl
-        same_w (Answered o) = refl
-        same_w (LegLost l) = refl
+        same_w _ = refl
 
         same_k : (p : LegPlace) → is_at_work (leg_lost None (incarnation u.consumer) u p) ≡ is_at_work p
         same_k InInbox = refl
-        same_k AtWork = refl
-        same_k (Answered o) = refl
-        same_k (LegLost l) = refl
+        same_k _ = refl
     either (Some why) e =
         let t = hand_change (λ v. leg_lost (reason_in set v.consumer) (incarnation v.consumer) v) u (λ p. false) (λ p. false) (λ p. rw e (none_w p)) (λ p. rw e (none_k p)) legs in
         rw (t.0 ∙ any_none u legs, t.1 ∙ any_none u legs) (omega arith)
       where
         none_w : (p : LegPlace) → is_in_inbox (leg_lost (Some why) (incarnation u.consumer) u p) ≡ false
         none_w InInbox = refl
-        none_w AtWork = refl
-        none_w (Answered o) = refl
-        none_w (LegLost l) = refl
+        none_w _ = refl
 
         none_k : (p : LegPlace) → is_at_work (leg_lost (Some why) (incarnation u.consumer) u p) ≡ false
         none_k InInbox = refl
-        none_k AtWork = refl
-        none_k (Answered o) = refl
-        none_k (LegLost l) = refl
+        none_k _ = refl
 
 -- a change of a sent batch by its legs
 hand_mapped : (u : SubNo) (change : BatchPlace → BatchPlace) (legs_change : SubNo → LegPlace → LegPlace) → ((legs : List Leg) → change (Sent legs) ≡ Sent (on_legs legs_change legs)) → ((legs : List Leg) → legs_in_hand u (on_legs legs_change legs) ≤ legs_in_hand u legs) → (o : Option Batch) → is_sent_batch o ≡ true → batch_in_hand u (option_map (λ x. change_place x (change x.place)) o) ≤ batch_in_hand u o

@@ -1,8 +1,7 @@
 -- Units judged by their partitions, and by their own numbers.
-use Rattle.std.proofs.Common.{◌≡◌, ℕ, ◌+◌, ◌<◌, List, [], ◌∷◌, ◌++◌, length, take, drop, get_or, map, Bool, true, false, refl, ap, sym, ◌∙◌, append_assoc, arith}
-use Rattle.std.specs.Prelude.{filter, reverse, count_by, cond, nat_le, ◌&&◌, if◌then◌else◌}
+use Rattle.std.proofs.Common.{◌≡◌, ℕ, ◌+◌, ◌<◌, List, [], ◌∷◌, ◌++◌, length, take, drop, get_or, map, Bool, true, false, refl, ap, sym, ◌∙◌, append_assoc}
+use Rattle.std.specs.Prelude.{filter, reverse, nat_le, ◌&&◌, if◌then◌else◌}
 use Rattle.std.proofs.lemmas.List.{reverse-append, at_drop_more, take_more}
-use Rattle.std.proofs.lemmas.List.Sums.{sum_by-cons, sum_by_push}
 use Rattle.pipe_types.specs.declared.numbers.SubNo.{SubNo}
 use Rattle.pipe_types.specs.declared.room.Room.{Room}
 use Rattle.pipe_types.specs.declared.room.Sent.{Sent}
@@ -10,6 +9,7 @@ use Rattle.pipe_types.specs.declared.topology.Dispatch.{Dispatch}
 use Rattle.pipe_types.specs.declared.topology.Dispatch.TheVariants.{Demand, Broadcast, Partition}
 use Rattle.pipe_types.specs.Dispatchers.{ByBroadcast, served_as, picks_all, mark_of, fit_all, has_rooms, on_each, sends, sends_from, serves, serves_from}
 use Rattle.plain_sends.specs.Casts.{is_cast, with_selves}
+use Rattle.plain_dispatch.proofs.Turned.{count_turned}
 
 -- what does not broadcast judges units by their partitions, whoever picks them
 pub parts_sent : (kind : Dispatch) (p : ℕ → SubNo → Bool) (part : ℕ → ℕ) (rooms : List Room) (ns : List ℕ) → is_cast kind ≡ false
@@ -38,15 +38,6 @@ selves_served Demand p part rooms ns h = cc
 selves_served Partition p part rooms ns h = cc
 
 -- Units turned round
-
-count_turned : (test : ℕ → Bool) (xs : List ℕ) → count_by test (reverse xs) ≡ count_by test xs
-count_turned test [] = refl
-count_turned test (x ∷ xs) =
-    let f : ℕ → ℕ = λ n. cond (test n) 1 0 in
-    let turned : count_by test (reverse (x ∷ xs)) ≡ count_by test (reverse xs ++ x ∷ []) = ap (count_by test) (reverse-append (x ∷ []) xs) in
-    let last : count_by test (reverse xs ++ x ∷ []) ≡ count_by test (reverse xs) + f x = sum_by_push f (reverse xs) x in
-    let first : count_by test (x ∷ xs) ≡ f x + count_by test xs = sum_by-cons f x xs in
-    omega (arith, turned, last, first, count_turned test xs)
 
 fit_turned : (p : ℕ → SubNo → Bool) (rooms : List Room) (xs : List ℕ) → fit_all p rooms (reverse xs) ≡ fit_all p rooms xs
 fit_turned p [] xs = refl

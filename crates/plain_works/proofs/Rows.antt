@@ -9,7 +9,7 @@ use Rattle.pipe_types.specs.declared.topology.StageSpec.{StageSpec}
 use Rattle.pipe_types.specs.declared.message.BatchEnd.{BatchEnd}
 use Rattle.pipe_types.specs.declared.message.BatchEnd.TheVariants.{Outcomes, Crashed}
 use Rattle.pipe_types.specs.declared.message.Place.{Place}
-use Rattle.pipe_types.specs.declared.message.Place.TheVariants.{Waiting, Inbox, Running, Gathered, InBatch, Acked, Lost}
+use Rattle.pipe_types.specs.declared.message.Place.TheVariants.{Inbox}
 use Rattle.pipe_types.specs.declared.step.Step.{Step}
 use Rattle.pipe_types.specs.declared.step.Step.TheVariants.{Take, Done, Gather, Wrote, ChildEnd, Restart}
 use Rattle.pipe_types.specs.Numbers.{same_stage, same_sub}
@@ -90,13 +90,7 @@ inbox_is (Some (Inbox v)) u old = ap (λ b. if b then old + 1 else old) (same_su
     by : (b : Bool) → (if b then old + 1 else old) ≡ (if b || false then old + 1 else old)
     by true = refl
     by false = refl
-inbox_is None u old = refl
-inbox_is (Some (Waiting s)) u old = refl
-inbox_is (Some (Running s)) u old = refl
-inbox_is (Some (Gathered s)) u old = refl
-inbox_is (Some (InBatch b)) u old = refl
-inbox_is (Some (Acked outcome)) u old = refl
-inbox_is (Some (Lost loss)) u old = refl
+inbox_is _ u old = refl
 
 came_is : (units : List (SubNo × ℕ)) (m : Option ℕ) (u : SubNo) → came_on units m u ≡ is_on (subs_for units m) u
 came_is [] m u = refl

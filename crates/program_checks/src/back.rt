@@ -11,8 +11,7 @@ use super::reading::{fault_in_verdict, steps_in};
 use journal_reading::{JournalFault, JournalRefusal, read_steps};
 use journal_texts::lines::journal_text;
 use pipe_config::read_topology;
-use pipe_journal::Journal;
-use pipe_types::message::Reply;
+use pipe_journal::{Journal, Replies, ReplyView};
 use std::alloc::{AllocError, Global};
 use std::io;
 use std::sync::Wait;
@@ -205,21 +204,21 @@ fn are_of_same_messages(read: &Journal, journal: &Journal) -> bool {
     true
 }
 
-fn are_to_same(read: &[Reply], replies: &[Reply]) -> bool {
-    for (at, reply) in replies.iter().enumerate() {
-        if !is_to_same(read.get(at), reply) {
+fn are_to_same(read: Replies<'_>, replies: Replies<'_>) -> bool {
+    for at in 0..replies.len() {
+        if !is_to_same(read.get(at), replies.item(at)) {
             return false;
         }
     }
     read.len() == replies.len()
 }
 
-fn is_to_same(read: Option<&Reply>, reply: &Reply) -> bool {
+fn is_to_same(read: Option<ReplyView<'_>>, reply: ReplyView<'_>) -> bool {
     match (read, reply) {
-        (Some(Reply::Pass(one)), Reply::Pass(other)) => {
+        (Some(ReplyView::Pass(one)), ReplyView::Pass(other)) => {
             one.no == other.no && one.producer == other.producer
         }
-        (Some(Reply::Pass(_)) | None, _) | (_, Reply::Pass(_)) => false,
+        (Some(ReplyView::Pass(_)) | None, _) | (_, ReplyView::Pass(_)) => false,
         (Some(_), _) => true,
     }
 }

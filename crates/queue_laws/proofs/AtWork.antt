@@ -7,7 +7,7 @@ use Rattle.pipe_types.specs.declared.numbers.StageNo.{StageNo}
 use Rattle.pipe_types.specs.declared.topology.Topology.{Topology}
 use Rattle.pipe_types.specs.declared.topology.StageSpec.{StageSpec}
 use Rattle.pipe_types.specs.declared.topology.Role.{Role}
-use Rattle.pipe_types.specs.declared.topology.Role.TheVariants.{Producer, Processor, Supervisor, Batcher, BatchProcessor}
+use Rattle.pipe_types.specs.declared.topology.Role.TheVariants.{Processor, BatchProcessor}
 use Rattle.pipe_types.specs.declared.message.BatchEnd.TheVariants.{Crashed as BatchCrashed}
 use Rattle.pipe_types.specs.declared.step.Step.TheVariants.{Take, Wrote}
 use Rattle.pipe_types.specs.Numbers.{same_stage, same_sub}
@@ -48,10 +48,7 @@ took_few topology c n sound role = by_spec (spec_of topology c) refl
   where
     by_role : (spec : StageSpec) (r : Role) → r ≡ spec.role → is_batch_processor_role r ≡ true → has_fields topology.stages spec ≡ true → is_batch_processor_in topology.stages spec ≡ true
     by_role spec BatchProcessor e h fields = ap (λ r. has_fields_of topology.stages r spec) e ∙ fields
-    by_role spec Producer e h fields = let x : false ≡ true = h in cc
-    by_role spec Processor e h fields = let x : false ≡ true = h in cc
-    by_role spec Supervisor e h fields = let x : false ≡ true = h in cc
-    by_role spec Batcher e h fields = let x : false ≡ true = h in cc
+    by_role spec _ e h fields = let x : false ≡ true = h in cc
 
     by_spec : (o : Option StageSpec) → spec_of topology c ≡ o → chunk_size (spec_of topology c) n ≤ 1
     by_spec None e = let none : has_role topology c is_batch_processor_role ≡ false = rw e refl in clash (has_role topology c is_batch_processor_role) role none

@@ -86,27 +86,22 @@ SentOn topology before u b = (is_batcher (spec_of topology u.producer) ≡ true)
 leg_sent : (topology : Topology) (before : History) (b : ℕ) (u : SubNo) (leg : Leg) → same_sub u leg.sub ≡ true → LegListed topology before b leg → SentOn topology before u b
 leg_sent topology before b u leg e l = subst (λ v. SentOn topology before v b) (sym (same_sub-true u leg.sub e)) (l.batcher, l.entry)
 
-waits_sent : (topology : Topology) (before : History) (b : ℕ) (u : SubNo) (legs : List Leg) → Each (LegListed topology before b) legs → leg_waits u legs ≡ true → SentOn topology before u b
-waits_sent topology before b u [] each h = cc
-waits_sent topology before b u (leg ∷ legs) each h = by_sub (same_sub u leg.sub) refl h (waits_sent topology before b u legs each.1)
+-- a test that a list passes by its first leg on the subscription was passed by one that was sent
+some_sent : (topology : Topology) (before : History) (b : ℕ) (u : SubNo) (test : List Leg → Bool) → test [] ≡ false
+    → ((v : SubNo) (p : LegPlace) (legs : List Leg) → same_sub u v ≡ false → test (record { sub = v; place = p } ∷ legs) ≡ true → test legs ≡ true)
+    → (legs : List Leg) → Each (LegListed topology before b) legs → test legs ≡ true → SentOn topology before u b
+some_sent topology before b u test none skip [] each h = clash (test []) h none
+some_sent topology before b u test none skip (leg ∷ legs) each h = by_sub (same_sub u leg.sub) refl h (some_sent topology before b u test none skip legs each.1)
   where
-    by_sub : (s : Bool) → same_sub u leg.sub ≡ s → leg_waits u (leg ∷ legs) ≡ true → (leg_waits u legs ≡ true → SentOn topology before u b) → SentOn topology before u b
+    by_sub : (s : Bool) → same_sub u leg.sub ≡ s → test (leg ∷ legs) ≡ true → (test legs ≡ true → SentOn topology before u b) → SentOn topology before u b
     by_sub true e h rest = leg_sent topology before b u leg e each.0
-    by_sub false e h rest = rest (skip leg.place h)
-      where
-        skip : (p : LegPlace) → leg_waits u (record { sub = leg.sub; place = p } ∷ legs) ≡ true → leg_waits u legs ≡ true
-        skip p k = rw e at k
+    by_sub false e h rest = rest (skip leg.sub leg.place legs e h)
+
+waits_sent : (topology : Topology) (before : History) (b : ℕ) (u : SubNo) (legs : List Leg) → Each (LegListed topology before b) legs → leg_waits u legs ≡ true → SentOn topology before u b
+waits_sent topology before b u legs each h = some_sent topology before b u (leg_waits u) refl (λ v p legs e k. rw e at k) legs each h
 
 works_sent : (topology : Topology) (before : History) (b : ℕ) (u : SubNo) (legs : List Leg) → Each (LegListed topology before b) legs → leg_works u legs ≡ true → SentOn topology before u b
-works_sent topology before b u [] each h = cc
-works_sent topology before b u (leg ∷ legs) each h = by_sub (same_sub u leg.sub) refl h (works_sent topology before b u legs each.1)
-  where
-    by_sub : (s : Bool) → same_sub u leg.sub ≡ s → leg_works u (leg ∷ legs) ≡ true → (leg_works u legs ≡ true → SentOn topology before u b) → SentOn topology before u b
-    by_sub true e h rest = leg_sent topology before b u leg e each.0
-    by_sub false e h rest = rest (skip leg.place h)
-      where
-        skip : (p : LegPlace) → leg_works u (record { sub = leg.sub; place = p } ∷ legs) ≡ true → leg_works u legs ≡ true
-        skip p k = rw e at k
+works_sent topology before b u legs each h = some_sent topology before b u (leg_works u) refl (λ v p legs e k. rw e at k) legs each h
 
 pub batch_stands_in_queue : (topology : Topology) (before : History) (b : ℕ) → is_legal topology before ≡ true → BatchStandsInQueue topology before b
 batch_stands_in_queue topology before b h =

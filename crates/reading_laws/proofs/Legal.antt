@@ -12,9 +12,9 @@ use Rattle.pipe_types.specs.declared.message.BatchEnd.TheVariants.{Outcomes, Cra
 use Rattle.pipe_types.specs.declared.message.Reply.{Reply}
 use Rattle.pipe_types.specs.declared.message.Reply.TheVariants.{Pass, Failed, Raised, Crashed}
 use Rattle.pipe_types.specs.declared.message.Why.{Why}
-use Rattle.pipe_types.specs.declared.message.Why.TheVariants.{Crash, Kill as KillWhy, Stop, Cancelled, Limit as LimitWhy}
+use Rattle.pipe_types.specs.declared.message.Why.TheVariants.{Crash, Kill as KillWhy, Cancelled, Limit as LimitWhy}
 use Rattle.pipe_types.specs.declared.step.LateAnswer.{LateAnswer}
-use Rattle.pipe_types.specs.declared.step.LateAnswer.TheVariants.{Records, Quiet as LateQuiet, Source, Wrote as LateWrote, Nothing}
+use Rattle.pipe_types.specs.declared.step.LateAnswer.TheVariants.{Records, Source, Wrote as LateWrote}
 use Rattle.pipe_types.specs.declared.step.Step.{Step}
 use Rattle.pipe_types.specs.declared.step.Step.TheVariants.{Ask, Fetch, Accept, Quiet, SourceEnd, Dispatch, Take, Done, Gather, Close, Wrote, Child, ChildEnd, Kill, Late, Restart, Tick, Drain, Halt, Refuse}
 use Rattle.pipe_types.specs.declared.topology.Topology.{Topology}
@@ -32,7 +32,7 @@ use Rattle.pipe_laws.proofs.Allowed.{legal_before, legal_step, unowed, take_fact
 use Rattle.pipe_laws.proofs.Busy.{two_roles, take_there}
 use Rattle.pipe_laws.proofs.Slots.{supervisor_processes}
 use Rattle.pipe_laws.proofs.Lists as Held
-use Rattle.reading_laws.proofs.Outcomes.{ends_count}
+use Rattle.pipe_laws.proofs.Outcomes.{ends_count}
 use Rattle.reading_laws.specs.Fields.{AreBytes, IsHeldReply, IsHeldOutcome, IsHeldEnd, IsHeldAnswer, IsHeld}
 use Rattle.reading_laws.specs.Named.{job_units, with_producer, named_at}
 use Rattle.reading_laws.proofs.Passing.{AreShort, PassesAs, PassAsThere, replies_pass, some_replies}
@@ -164,20 +164,16 @@ answer_spelt topology before s slot i (Records records) h held =
       some = some_records records (fetch_out before s) (late_records topology before s slot i records (legal_step topology before (Late s slot i (Records records)) h));
       each = records_at 0 records held;
     }
-answer_spelt topology before s slot i LateQuiet h held = tt
-answer_spelt topology before s slot i (Source how) h held = tt
 answer_spelt topology before s slot i (LateWrote n end) h held = (held.0, late_end_spelt topology before s slot i n end h held.1)
-answer_spelt topology before s slot i Nothing h held = tt
+answer_spelt topology before s slot i _ h held = tt
 
 -- ---- kills
 
 kill_spelt : (topology : Topology) (before : History) (s : StageNo) (why : Why) → allows topology before (Kill s why) ≡ true → IsKillWhy why
 unfolding IsKillWhy
-kill_spelt topology before s Crash h = tt
-kill_spelt topology before s KillWhy h = tt
-kill_spelt topology before s Stop h = tt
 kill_spelt topology before s (Cancelled u) h = let wrong : false ≡ true = unowed topology before (Kill s (Cancelled u)) (λ t. refl) (λ t. refl) h in cc
 kill_spelt topology before s LimitWhy h = let wrong : false ≡ true = unowed topology before (Kill s LimitWhy) (λ t. refl) (λ t. refl) h in cc
+kill_spelt topology before s _ h = tt
 
 -- ---- steps
 

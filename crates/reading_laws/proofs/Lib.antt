@@ -1,4 +1,3 @@
-mod Outcomes
 pub mod Passing
 pub mod Contents
 pub mod Producers

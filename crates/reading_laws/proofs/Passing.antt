@@ -1,10 +1,8 @@
 -- Replies of handlers pass the messages at their places on, with keys and payloads that are not too long.
-use Rattle.std.proofs.Common.{◌≡◌, ℕ, zero, suc, ◌+◌, ◌%◌, ◌≤◌, Bool, true, false, ◌||◌, List, [], ◌∷◌, ◌++◌, length, map, refl, sym, ◌∙◌, subst, Option, Some, None, arith}
+use Rattle.std.proofs.Common.{◌≡◌, ℕ, suc, ◌+◌, ◌%◌, ◌≤◌, Bool, true, false, ◌||◌, List, [], ◌∷◌, ◌++◌, length, map, refl, sym, ◌∙◌, subst, Option, Some, None, arith}
 use Rattle.std.specs.Prelude.{if◌then◌else◌, nat_lt, nat_le, ◌==◌}
 use Rattle.std.proofs.lemmas.Bool.{cond_both, leb-true, ltb-false, eqb-true}
 use Rattle.std.proofs.lemmas.Slice.Eq.{bytes_eq-Decides}
-use Rattle.std.proofs.lemmas.List.{length-take, length-drop}
-use Rattle.std.specs.List.{position_or_len}
 use Rattle.std.specs.Str.{bytes_eq}
 use Rattle.pipe_types.specs.declared.numbers.MsgNo.{MsgNo}
 use Rattle.pipe_types.specs.declared.message.Message.{Message}
@@ -17,21 +15,10 @@ use Rattle.pipe_types.specs.declared.topology.Rule.TheVariants.{Pass, Prefix, Re
 use Rattle.pipe_types.specs.declared.topology.StageSpec.{StageSpec}
 use Rattle.pipe_types.specs.Numbers.{same_stage}
 use Rattle.pipe_types.specs.Lines.{max_bytes}
-use Rattle.pipe_types.specs.Handlers.{is_space, after_fields, field, begins_with, rule_reply, and_then, rules_reply, eval, counted, is_crashed, with_reason, replies_until, chunk_replies, is_own_reply, are_own_replies}
+use Rattle.pipe_types.specs.Handlers.{field, begins_with, rule_reply, and_then, rules_reply, eval, counted, is_crashed, with_reason, replies_until, chunk_replies, is_own_reply, are_own_replies}
 use Rattle.pipe_model.specs.Work.{same_reply, same_replies, are_replies_by, are_handled}
 use Rattle.pipe_laws.proofs.Tests.{and_left, and_right, same_stage-true}
-
--- ---- fields
-
-length-after_fields : (n : ℕ) (payload : List ℕ) → length (after_fields n payload) ≤ length payload
-length-after_fields zero payload = omega arith
-length-after_fields (suc n) payload =
-    omega (arith, length-after_fields n payload, length-drop (position_or_len is_space (after_fields n payload) + 1) (after_fields n payload))
-
-length-field : (n : ℕ) (payload : List ℕ) → length (field n payload) ≤ length payload
-length-field zero payload = omega arith
-length-field (suc n) payload =
-    omega (arith, length-after_fields n payload, length-take (position_or_len is_space (after_fields n payload)) (after_fields n payload))
+use Rattle.pipe_types.proofs.FieldLengths.{length-field}
 
 -- ---- one message
 
@@ -77,9 +64,7 @@ rule_passes count first (FailEvery every) m is = cond_both (count % every == 0) 
 
 next_passes : (first : Message) (reply : Reply) (next : Message → Reply) → PassesAs first reply → ((m : Message) → StillIs first m → PassesAs first (next m)) → PassesAs first (and_then reply next)
 next_passes first (Passed m) next is go = go m is
-next_passes first (Failed why) next is go = tt
-next_passes first (Raised why) next is go = tt
-next_passes first Crashed next is go = tt
+next_passes first _ next is go = tt
 
 rules_pass : (count : ℕ) (first : Message) (rules : List Rule) (m : Message) → StillIs first m → PassesAs first (rules_reply count rules m)
 rules_pass count first [] m is = is
@@ -91,9 +76,7 @@ eval_passes spec count m short = rules_pass (counted count 1) m spec.rules m (re
 
 reason_passes : (failed : Option (List ℕ)) (first : Message) (reply : Reply) → PassesAs first reply → PassesAs first (with_reason failed reply)
 reason_passes failed first (Passed m) is = is
-reason_passes failed first (Failed why) is = tt
-reason_passes failed first (Raised why) is = tt
-reason_passes failed first Crashed is = tt
+reason_passes failed first _ is = tt
 
 -- ---- replies
 
@@ -167,9 +150,7 @@ own_passes batchers m (Passed p) h =
         key = leb-true _ _ (and_right (nat_le (length p.payload) max_bytes) _ three);
       };
     }
-own_passes batchers m (Failed why) h = tt
-own_passes batchers m (Raised why) h = tt
-own_passes batchers m Crashed h = tt
+own_passes batchers m _ h = tt
 
 own_all : (batchers : ℕ) (messages : List Message) (replies : List Reply) → are_own_replies batchers messages replies ≡ true → PassAsThere messages replies
 own_all batchers messages [] h = tt

@@ -9,7 +9,7 @@ use Rattle.pipe_types.specs.declared.message.Reply.{Reply}
 use Rattle.pipe_types.specs.declared.step.Step.{Step}
 use Rattle.pipe_types.specs.declared.step.Step.TheVariants.{Fetch, Take, Close, Child, Done}
 use Rattle.pipe_types.specs.declared.topology.Role.{Role}
-use Rattle.pipe_types.specs.declared.topology.Role.TheVariants.{Producer, Processor, Supervisor, Batcher, BatchProcessor}
+use Rattle.pipe_types.specs.declared.topology.Role.TheVariants.{Processor, BatchProcessor}
 use Rattle.pipe_types.specs.declared.topology.StageSpec.{StageSpec}
 use Rattle.pipe_types.specs.declared.topology.Topology.{Topology}
 use Rattle.pipe_types.specs.Numbers.{post, same_stage, same_sub}
@@ -119,17 +119,11 @@ weaker_role topology s one other f h = by (spec_of topology s) refl
 
 processor_takes : (r : Role) → is_processor_role r ≡ true → takes_role r ≡ true
 processor_takes Processor h = refl
-processor_takes Producer h = cc
-processor_takes Supervisor h = cc
-processor_takes Batcher h = cc
-processor_takes BatchProcessor h = cc
+processor_takes _ h = cc
 
 pub writer_takes : (r : Role) → is_batch_processor_role r ≡ true → takes_role r ≡ true
 writer_takes BatchProcessor h = refl
-writer_takes Producer h = cc
-writer_takes Processor h = cc
-writer_takes Supervisor h = cc
-writer_takes Batcher h = cc
+writer_takes _ h = cc
 
 -- the messages of a processor's chunk that is answered are there
 pub chunk_held : (topology : Topology) (before : History) (s : StageNo) (replies : List Reply) → is_legal topology (Done s replies ∷ before) ≡ true → Each (λ n. is_some (content before n) ≡ true) (taken_units topology before s)

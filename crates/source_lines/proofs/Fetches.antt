@@ -15,7 +15,7 @@ use Rattle.pipe_edges.specs.declared.lines.LineSource.{LineSource}
 use Rattle.pipe_edges.specs.declared.reading.LineEnd.{LineEnd}
 use Rattle.pipe_edges.specs.declared.reading.LineEnd.TheVariants as end
 use Rattle.pipe_edges.specs.declared.reading.Fetched.{Fetched}
-use Rattle.pipe_edges.specs.declared.reading.Fetched.TheVariants.{Records, NotYet, End, Fault, TooLong}
+use Rattle.pipe_edges.specs.declared.reading.Fetched.TheVariants.{End, Fault, TooLong}
 use Rattle.pipe_edges.proofs.TextLaws.{lines_ended, lines_nil}
 use Rattle.pipe_edges.proofs.HandLaws.{to_come as rest_of}
 use Rattle.source_lines.specs.Cut.{AreAllLines}
@@ -46,10 +46,8 @@ rose_from a b c le (inl below) = inl (omega (arith, le, below))
 rose_from a b c le (inr full) = inr full
 
 text_open : (now : Option LineEnd) (records : List (List ℕ)) → ¬ (now ≡ Some end.End) → text_of now records ≡ ended records
-text_open None records no_end = refl
 text_open (Some end.End) records no_end = absurd (no_end refl)
-text_open (Some end.Fault) records no_end = refl
-text_open (Some end.TooLong) records no_end = refl
+text_open _ records no_end = refl
 
 no_rest : (text held left : List ℕ) → held ≡ [] → left ≡ [] → text ++ (held ++ left) ≡ text
 no_rest text held left no_held no_left = rw (no_held, no_left, append-nil) refl
@@ -71,21 +69,13 @@ no_records end.TooLong result is = rw is refl
 -- which answer an end is
 long_cause : {E : Type 0} (now : Option LineEnd) (max f f' w w' : ℕ) (held : List ℕ) (result : Result Fetched E)
     → Remembers now result → now ≡ Some end.TooLong → IfOk result (λ x. FetchHasCause max f f' w w' held x) → BeginsTooLong held
-long_cause now max f f' w w' held (Ok (Records rs)) remembers is cause = grind arith
-long_cause now max f f' w w' held (Ok NotYet) remembers is cause = grind arith
-long_cause now max f f' w w' held (Ok End) remembers is cause = grind arith
-long_cause now max f f' w w' held (Ok Fault) remembers is cause = grind arith
 long_cause now max f f' w w' held (Ok TooLong) remembers is cause = cause
-long_cause now max f f' w w' held (Err e) remembers is cause = grind arith
+long_cause now max f f' w w' held _ remembers is cause = grind arith
 
 fault_cause : {E : Type 0} (now : Option LineEnd) (max f f' w w' : ℕ) (held : List ℕ) (result : Result Fetched E)
     → Remembers now result → now ≡ Some end.Fault → IfOk result (λ x. FetchHasCause max f f' w w' held x) → Rose f f'
-fault_cause now max f f' w w' held (Ok (Records rs)) remembers is cause = grind arith
-fault_cause now max f f' w w' held (Ok NotYet) remembers is cause = grind arith
-fault_cause now max f f' w w' held (Ok End) remembers is cause = grind arith
 fault_cause now max f f' w w' held (Ok Fault) remembers is cause = cause.0
-fault_cause now max f f' w w' held (Ok TooLong) remembers is cause = grind arith
-fault_cause now max f f' w w' held (Err e) remembers is cause = grind arith
+fault_cause now max f f' w w' held _ remembers is cause = grind arith
 
 short_lines : (records : List (List ℕ)) → All IsLine records → All (λ piece. length piece ≤ max_bytes) records
 short_lines [] each = All-nil (λ piece. length piece ≤ max_bytes)

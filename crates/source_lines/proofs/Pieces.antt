@@ -6,20 +6,12 @@ use Rattle.std.proofs.lemmas.List.{append_assoc, append-nil}
 use Rattle.std.proofs.lemmas.List.Elements.{All-nil, All-cons, All-append, All-head, All-tail}
 use Rattle.pipe_types.specs.Lines.{max_bytes, pieces, lines_of_pieces, lines}
 use Rattle.pipe_edges.specs.Texts.{HasNoLf, IsLine, ended, joined}
-use Rattle.pipe_edges.proofs.TextLaws.{pieces_front}
+use Rattle.pipe_edges.proofs.TextLaws.{pieces_front, pieces_lf, pieces_nil}
 use Rattle.source_lines.specs.Cut.{HasShortLines}
 
 pub ended_append : (first more : List (List ℕ)) → ended (first ++ more) ≡ ended first ++ ended more
 ended_append [] more = refl
 ended_append (r ∷ rs) more = rw (ended_append rs more) (sym (append_assoc r (10 ∷ ended rs) (ended more)))
-
-pieces_lf : (w : List ℕ) → pieces (10 ∷ w) ≡ [] ∷ pieces w
-unfolding pieces
-pieces_lf w = refl
-
-pieces_nil : pieces [] ≡ [] ∷ []
-unfolding pieces
-pieces_nil = refl
 
 -- lines and their LFs are the first pieces
 pub pieces_ended : (records : List (List ℕ)) (w : List ℕ) → All IsLine records → pieces (ended records ++ w) ≡ records ++ pieces w

@@ -10,6 +10,7 @@ ghost use Rattle.stage_buffer.specs.Waiting.{Waiting, units_of_part, without_fir
 ghost use Rattle.stage_buffer.specs.Order.{Orders, Becomes, HoldsSame, KeepsRoom, AreBelow, IsEarliest, IsLatest, entry, in_order, items_at, spare_at, remove, unit_of, unit_in, number_of, front_at, back_at, earlier_of, later_of, arrivals_of, arrivals_from};
 
 use circular_buffer::HeapCircularBuffer;
+use pipe_types::list::ListOf;
 use pipe_types::topology::Keep;
 use std::alloc::{AllocError, Global};
 use std::marker::Model;
@@ -29,26 +30,7 @@ struct Arrival {
 }
 
 /// The parts of units, in order.
-#[derive(Drop)]
-pub struct PartList {
-    items: Vec<u32>,
-}
-
-impl Model for PartList {
-    ghost use Rattle.std.specs.Prelude.{List, ℕ};
-
-    ghost Value = { List ℕ };
-
-    ghost view = { λ l. l.items.items };
-}
-
-impl PartList {
-    pub fn as_slice(&self) -> &[u32]
-        ensures { result.now ≡ self.now }
-    {
-        self.items.as_slice()
-    }
-}
+pub type PartList = ListOf<u32>;
 
 /// The units that wait, in order of arrival.
 #[derive(Drop)]
@@ -151,7 +133,7 @@ impl<T: Drop> Buffer<T> {
         let mut arrivals = arrivals_in(alloc, &self.rings)?;
         arrivals.sort_unstable_by_key(|arrival| arrival.at);
         let items = parts_of(alloc, &arrivals)?;
-        Ok(PartList { items })
+        Ok(PartList::from_vec(items))
     }
 
     /// How many units wait.

@@ -1,6 +1,7 @@
 -- A batch, message by message.
 use Rattle.std.proofs.Common.{◌≡◌, ℕ, suc, ◌+◌, ◌^◌, ◌<◌, ◌≤◌, true, cond, List, [], ◌∷◌, ◌++◌, length, map, drop, get_or, refl, sym, ap, ◌∙◌, subst, Option, Some, None, arith, append_assoc, append-nil, drop-cons, add-one}
-use Rattle.std.specs.Prelude.{unwrap_or}
+use Rattle.std.specs.Prelude.{unwrap_or, ◌==◌}
+use Rattle.std.proofs.lemmas.Bool.{eqb-true}
 use Rattle.std.proofs.lemmas.List.{drop_all}
 use Rattle.pipe_types.specs.declared.message.Message.{Message}
 use Rattle.pipe_types.specs.declared.message.Reply.{Reply}
@@ -11,8 +12,9 @@ use Rattle.pipe_types.specs.declared.message.BatchReply.{BatchReply}
 use Rattle.pipe_types.specs.declared.message.BatchReply.TheVariants.{Answered, Raised as RaisedBatch, Crashed as CrashedBatch}
 use Rattle.pipe_types.specs.declared.topology.Kind.{Kind}
 use Rattle.pipe_types.specs.declared.topology.Kind.TheVariants.{Steps, Lines, Own}
+use Rattle.pipe_types.specs.declared.topology.Rule.{Rule}
 use Rattle.pipe_types.specs.declared.topology.StageSpec.{StageSpec}
-use Rattle.pipe_types.specs.Handlers.{eval, counted, batch_replies, ends_batch, outcome_of, text_of, passed_lines, answer_of, batch_answer_by, count_after_batch}
+use Rattle.pipe_types.specs.Handlers.{eval, rules_reply, counted, batch_replies, ends_batch, outcome_of, text_of, passed_lines, answer_of, batch_answer_by, count_after_batch}
 
 -- the answer that a reply which ends a batch makes, where there is one
 abbrev pub batch_ender : List Reply → Option BatchReply
@@ -80,6 +82,14 @@ one_passed kind spec first messages seen m rest outcomes text p is so_far =
       ender = ap batch_ender (sym e) ∙ so_far.ender;
       count = counted-more seen (length after) ∙ (ap (λ rs. counted seen (length rs)) (sym e) ∙ so_far.count);
     }
+
+-- without rules every message passes as it is
+pub passes : (spec : StageSpec) (seen : ℕ) (m : Message) → spec.rules ≡ [] → Passed m ≡ eval spec seen m
+passes spec seen m none = ap (λ (rules : List Rule). rules_reply (counted seen 1) rules m) (sym none)
+
+pub no_rules : (rules : List Rule) → (length rules == 0) ≡ true → rules ≡ []
+no_rules [] h = refl
+no_rules (rule ∷ rules) h = let none : suc (length rules) ≡ 0 = eqb-true (suc (length rules)) 0 h in absurd (omega (arith, none))
 
 -- a message that failed
 pub one_failed : (kind : Kind) (spec : StageSpec) (first : ℕ) (messages : List Message) (seen : ℕ) (m : Message) (rest : List Message) (outcomes : List Outcome) (text : List ℕ) (why : List ℕ)

@@ -1,9 +1,9 @@
 -- What the rules leave of a message, and of a batch.
-use Rattle.std.proofs.Common.{◌≡◌, ℕ, zero, suc, ◌+◌, ◌%◌, ◌≤◌, Bool, true, cond, ◌&&◌, ◌||◌, List, [], ◌∷◌, ◌++◌, length, map, refl, ap, ◌∙◌, Option, Some, None, arith, rules}
+use Rattle.std.proofs.Common.{◌≡◌, ℕ, suc, ◌+◌, ◌%◌, ◌≤◌, Bool, true, cond, ◌&&◌, ◌||◌, List, [], ◌∷◌, ◌++◌, length, map, refl, ap, ◌∙◌, Option, Some, None, arith, rules}
 use Rattle.std.specs.Prelude.{unwrap_or, nat_lt, nat_le, ◌==◌}
 use Rattle.std.proofs.lemmas.Bool.{and_parts, and_from, or_right, cond_both, leb-true, le-leb, ltb-false, eq-eqb}
-use Rattle.std.proofs.lemmas.List.{length-take, length-drop, length-map}
-use Rattle.std.specs.List.{list_all, position_or_len}
+use Rattle.std.proofs.lemmas.List.{length-map}
+use Rattle.std.specs.List.{list_all}
 use Rattle.std.specs.Str.{bytes_eq}
 use Rattle.pipe_types.specs.declared.message.Message.{Message}
 use Rattle.pipe_types.specs.declared.message.Reply.{Reply}
@@ -15,21 +15,10 @@ use Rattle.pipe_types.specs.declared.topology.Rule.TheVariants.{Pass, Prefix, Re
 use Rattle.pipe_types.specs.declared.topology.StageSpec.{StageSpec}
 use Rattle.pipe_types.specs.Numbers.{same_stage}
 use Rattle.pipe_types.specs.Lines.{max_bytes}
-use Rattle.pipe_types.specs.Handlers.{is_space, after_fields, field, begins_with, rule_reply, and_then, rules_reply, eval, counted, is_own_reason, is_own_reply, is_own_outcome, outcome_of, batch_replies, ends_batch, batch_answer_by}
+use Rattle.pipe_types.specs.Handlers.{field, begins_with, rule_reply, and_then, rules_reply, eval, counted, is_own_reason, is_own_reply, is_own_outcome, outcome_of, batch_replies, ends_batch, batch_answer_by}
 use Rattle.stage_callback.specs.Callbacks.{routes_below, is_countable, can_arm, is_message_for, is_batch_answer}
 use Rattle.stage_callback.proofs.BatchSteps.{batch_ender, answered, answer_of-ender}
-
--- Fields
-
-length-after_fields : (n : ℕ) (payload : List ℕ) → length (after_fields n payload) ≤ length payload
-length-after_fields zero payload = omega arith
-length-after_fields (suc n) payload =
-    omega (arith, length-after_fields n payload, length-drop (position_or_len is_space (after_fields n payload) + 1) (after_fields n payload))
-
-length-field : (n : ℕ) (payload : List ℕ) → length (field n payload) ≤ length payload
-length-field zero payload = omega arith
-length-field (suc n) payload =
-    omega (arith, length-after_fields n payload, length-take (position_or_len is_space (after_fields n payload)) (after_fields n payload))
+use Rattle.pipe_types.proofs.FieldLengths.{length-field}
 
 -- One message
 

@@ -25,6 +25,9 @@ pub(crate) fn apply_to_batch(
     ensures reply { IfOk result (λ r. r.0 ≡ batch_answer_by kind spec.now count messages.now) }
     ensures count { IfOk result (λ r. r.1 ≡ count_after_batch spec.now count messages.now) }
 {
+    if spec.rules.as_slice().is_empty() {
+        return pass_all(alloc, kind, spec, count, messages);
+    }
     let mut seen = count;
     let mut outcomes = Vec::new(alloc);
     let mut text = Vec::new(alloc);
@@ -40,6 +43,30 @@ pub(crate) fn apply_to_batch(
             Reply::Raised(why) => return Ok((BatchReply::Raised(why), seen)),
             Reply::Crashed => return Ok((BatchReply::Crashed, seen)),
         }
+    }
+    let answer = BatchReply::Answered(OutcomeList::from_vec(outcomes), Bytes::from_vec(text));
+    Ok((answer, seen))
+}
+
+/// The same without rules: each message passes as it is, and is not copied.
+fn pass_all(
+    alloc: Global,
+    kind: Kind,
+    spec: &StageSpec,
+    count: u64,
+    messages: &[Message],
+) -> Result<(BatchReply, u64), AllocError>
+    requires { spec.now.rules ≡ [] }
+    ensures reply { IfOk result (λ r. r.0 ≡ batch_answer_by kind spec.now count messages.now) }
+    ensures count { IfOk result (λ r. r.1 ≡ count_after_batch spec.now count messages.now) }
+{
+    let mut seen = count;
+    let mut outcomes = Vec::with_capacity(alloc, messages.len())?;
+    let mut text = Vec::new(alloc);
+    for message in messages {
+        seen = seen.saturating_add(1);
+        outcomes.push(Outcome::Successful)?;
+        add_line(&mut text, kind, message)?;
     }
     let answer = BatchReply::Answered(OutcomeList::from_vec(outcomes), Bytes::from_vec(text));
     Ok((answer, seen))

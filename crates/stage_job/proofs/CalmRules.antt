@@ -39,10 +39,8 @@ rules_calm count (rule ∷ rules) m calm =
 
 calm_before : (failed : _) (reply : Reply) (replies : List Reply) → is_crashed reply ≡ false → has_crash (map (with_reason failed) replies) ≡ false
     → has_crash (map (with_reason failed) (cond (is_crashed reply) (reply ∷ []) (reply ∷ replies))) ≡ false
-calm_before failed (Passed m) replies calm rest = rest
-calm_before failed (Failed why) replies calm rest = rest
-calm_before failed (Raised why) replies calm rest = rest
 calm_before failed Crashed replies calm rest = cc
+calm_before failed _ replies calm rest = rest
 
 -- where no rule is a crash, no reply to a chunk is one
 pub chunk_calm : (spec : StageSpec) (count : ℕ) (messages : List Message) → never_crashes spec.rules ≡ true → has_crash (chunk_replies spec count messages) ≡ false

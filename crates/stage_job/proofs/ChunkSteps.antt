@@ -4,7 +4,7 @@ use Rattle.std.specs.List.{list_all}
 use Rattle.std.proofs.lemmas.Bool.{and_parts, and_from}
 use Rattle.pipe_types.specs.declared.message.Message.{Message}
 use Rattle.pipe_types.specs.declared.message.Reply.{Reply}
-use Rattle.pipe_types.specs.declared.message.Reply.TheVariants.{Pass as Passed, Failed, Raised, Crashed}
+use Rattle.pipe_types.specs.declared.message.Reply.TheVariants.{Pass as Passed, Crashed}
 use Rattle.pipe_types.specs.declared.topology.StageSpec.{StageSpec}
 use Rattle.pipe_types.specs.Handlers.{eval, counted, is_crashed, with_reason, replies_until, chunk_replies, is_own_reply, are_own_replies}
 use Rattle.stage_callback.specs.Callbacks.{is_message_for}
@@ -26,9 +26,7 @@ chunk-next spec seen m rest = by_reply (eval spec seen m) (replies_until is_cras
   where
     by_reply : (reply : Reply) (replies : List Reply) → map (with_reason spec.failed) (cond (is_crashed reply) (reply ∷ []) (reply ∷ replies)) ≡ with_next (with_reason spec.failed reply) (map (with_reason spec.failed) replies)
     by_reply (Passed p) replies = refl
-    by_reply (Failed why) replies = refl
-    by_reply (Raised why) replies = refl
-    by_reply Crashed replies = refl
+    by_reply _ replies = refl
 
 counted_one_more : (first n seen : ℕ) → seen ≡ counted first n → counted seen 1 ≡ counted first (n + 1)
 counted_one_more first n seen e = omega arith

@@ -8,7 +8,7 @@ use Rattle.pipe_types.specs.declared.numbers.StageNo.{StageNo}
 use Rattle.pipe_types.specs.declared.numbers.MsgNo.{MsgNo}
 use Rattle.pipe_types.specs.declared.topology.Topology.{Topology}
 use Rattle.pipe_types.specs.declared.message.Place.{Place}
-use Rattle.pipe_types.specs.declared.message.Place.TheVariants.{Waiting, Inbox, Running, Gathered, InBatch, Acked, Lost}
+use Rattle.pipe_types.specs.declared.message.Place.TheVariants.{Gathered, InBatch}
 use Rattle.pipe_types.specs.declared.message.Trigger.{Trigger}
 use Rattle.pipe_types.specs.declared.step.Step.{Step}
 use Rattle.pipe_types.specs.declared.step.Step.TheVariants.{Close, Dispatch, Take, Wrote, Kill, Halt}
@@ -26,7 +26,7 @@ use Rattle.pipe_model.specs.Ledger.{handled}
 use Rattle.pipe_laws.proofs.Tests.{clash, and_left, and_right, same_stage-self, same_sub-true}
 use Rattle.pipe_laws.proofs.Lists.{Each, each_always, each_weaker, each_filter}
 use Rattle.pipe_laws.proofs.Places.{move_by}
-use Rattle.pipe_laws.proofs.Levels.{rank, rank_most, level, level_grows, feeds_down}
+use Rattle.pipe_laws.proofs.Levels.{rank, rank_most, level, level_most, level_grows, feeds_down}
 use Rattle.pipe_laws.proofs.Accepted.{placed_accepted}
 use Rattle.pipe_laws.proofs.Settled.{batch_closed, is_some_map}
 use Rattle.pipe_laws.proofs.Allowed.{legal_before, legal_step, unowed}
@@ -91,16 +91,6 @@ level_kept topology before step n old =
     let up = level_grows topology before step (place topology before n) (place topology (step ∷ before) n) (move_by topology before step n) in
     let most = level_most topology (place topology (step ∷ before) n) in
     omega arith
-  where
-    level_most : (topology : Topology) (p : Option Place) → level topology p ≤ 100
-    level_most topology None = omega arith
-    level_most topology (Some (Inbox u)) = omega (arith, rank_most topology u.consumer)
-    level_most topology (Some (Running s)) = omega (arith, rank_most topology s)
-    level_most topology (Some (Gathered s)) = omega (arith, rank_most topology s)
-    level_most topology (Some (Waiting s)) = omega (arith, rank_most topology s)
-    level_most topology (Some (InBatch b)) = omega arith
-    level_most topology (Some (Acked outcome)) = omega arith
-    level_most topology (Some (Lost loss)) = omega arith
 
 -- the first of the open batch is gathered in the batcher, and joins the batch
 first_member : (ns : List ℕ) (n : ℕ) → 1 ≤ n → n ≡ first_in ns → among ns n ≡ true

@@ -7,7 +7,7 @@ use Rattle.pipe_types.specs.declared.numbers.StageNo.{StageNo}
 use Rattle.pipe_types.specs.declared.topology.Topology.{Topology}
 use Rattle.pipe_types.specs.declared.topology.StageSpec.{StageSpec}
 use Rattle.pipe_types.specs.declared.topology.Role.{Role}
-use Rattle.pipe_types.specs.declared.topology.Role.TheVariants.{Producer, Processor, Supervisor, Batcher, BatchProcessor}
+use Rattle.pipe_types.specs.declared.topology.Role.TheVariants.{Supervisor}
 use Rattle.pipe_types.specs.declared.message.Place.TheVariants.{Running}
 use Rattle.pipe_types.specs.Stages.{spec_of}
 use Rattle.pipe_types.specs.Sound.{IsSound, has_fields_of, asks_up_to, is_supervisor_in, is_lines, are_rules, is_reason}
@@ -39,17 +39,17 @@ slot_case P e (suc (suc (suc (suc (suc (suc (suc (suc (suc (suc (suc (suc (suc (
 slot_case P e (suc (suc (suc (suc (suc (suc (suc (suc (suc (suc (suc (suc (suc (suc (suc zero))))))))))))))) h = e.1.1.1.1.1.1.1.1.1.1.1.1.1.1.1.0
 slot_case P e (suc (suc (suc (suc (suc (suc (suc (suc (suc (suc (suc (suc (suc (suc (suc (suc n)))))))))))))))) h = absurd (omega arith)
 
+pub or_first : (a b : Bool) → (a || b) ≡ false → a ≡ false
+or_first true b h = h
+or_first false b h = refl
+
+pub or_last : (a b : Bool) → (a || b) ≡ false → b ≡ false
+or_last true b h = cc
+or_last false b h = h
+
 pub none_any : {A : Type 0} (test : A → Bool) (xs : List A) → list_any test xs ≡ false → Each (λ x. test x ≡ false) xs
 none_any test [] e = tt
 none_any test (x ∷ xs) e = (or_first (test x) (list_any test xs) e, none_any test xs (or_last (test x) (list_any test xs) e))
-  where
-    or_first : (a b : Bool) → (a || b) ≡ false → a ≡ false
-    or_first true b h = h
-    or_first false b h = refl
-
-    or_last : (a b : Bool) → (a || b) ≡ false → b ≡ false
-    or_last true b h = cc
-    or_last false b h = h
 
 pub record Children (spec : StageSpec) : Type 0 where
   pub some : 1 ≤ spec.max
@@ -71,10 +71,7 @@ slot_there topology before s n sound h role e = either (list_any (λ slot. is_nu
 
     by_role : (spec : StageSpec) (r : Role) → spec.role ≡ r → is_supervisor_role r ≡ true → spec.role ≡ Supervisor
     by_role spec Supervisor is h = is
-    by_role spec Producer is h = let x : false ≡ true = h in cc
-    by_role spec Processor is h = let x : false ≡ true = h in cc
-    by_role spec Batcher is h = let x : false ≡ true = h in cc
-    by_role spec BatchProcessor is h = let x : false ≡ true = h in cc
+    by_role spec _ is h = let x : false ≡ true = h in cc
 
     few : (o : Option StageSpec) → spec_of topology s ≡ o → max_of (spec_of topology s) ≤ 16
     few None is = let none : has_role topology s is_supervisor_role ≡ false = rw is refl in clash (has_role topology s is_supervisor_role) role none

@@ -7,9 +7,9 @@ use Rattle.pipe_types.specs.declared.numbers.StageNo.{StageNo}
 use Rattle.pipe_types.specs.declared.topology.Topology.{Topology}
 use Rattle.pipe_types.specs.declared.topology.StageSpec.{StageSpec}
 use Rattle.pipe_types.specs.declared.topology.Role.{Role}
-use Rattle.pipe_types.specs.declared.topology.Role.TheVariants.{Producer, Processor, Supervisor, Batcher, BatchProcessor}
+use Rattle.pipe_types.specs.declared.topology.Role.TheVariants.{Processor, Supervisor, BatchProcessor}
 use Rattle.pipe_types.specs.declared.message.Place.{Place}
-use Rattle.pipe_types.specs.declared.message.Place.TheVariants.{Waiting, Inbox, Running, Gathered, InBatch, Acked, Lost}
+use Rattle.pipe_types.specs.declared.message.Place.TheVariants.{Inbox, Running, Acked}
 use Rattle.pipe_types.specs.declared.step.Step.{Step}
 use Rattle.pipe_types.specs.declared.step.Step.TheVariants.{Take, Child}
 use Rattle.pipe_types.specs.Numbers.{same_sub}
@@ -61,16 +61,11 @@ role_rank topology s test P f h = by_spec (spec_of topology s) refl
 takes_rank : (role : Role) → takes_role role ≡ true → (rank_of role ≡ 3 → ⊥) → rank_of role ≡ 1
 takes_rank Processor h never = refl
 takes_rank BatchProcessor h never = absurd (never refl)
-takes_rank Producer h never = cc
-takes_rank Supervisor h never = cc
-takes_rank Batcher h never = cc
+takes_rank _ h never = cc
 
 supervisor_rank : (role : Role) → is_supervisor_role role ≡ true → rank_of role ≡ 1
 supervisor_rank Supervisor h = refl
-supervisor_rank Producer h = cc
-supervisor_rank Processor h = cc
-supervisor_rank Batcher h = cc
-supervisor_rank BatchProcessor h = cc
+supervisor_rank _ h = cc
 
 pub supervised_rank : (topology : Topology) (s : StageNo) → has_role topology s is_supervisor_role ≡ true → rank topology s ≡ 1
 supervised_rank topology s h = role_rank topology s is_supervisor_role (λ k. k ≡ 1) supervisor_rank h
@@ -80,10 +75,7 @@ processor_rank topology s h = role_rank topology s is_processor_role (λ k. k �
   where
     by : (role : Role) → is_processor_role role ≡ true → rank_of role ≡ 1
     by Processor h = refl
-    by Producer h = cc
-    by Supervisor h = cc
-    by Batcher h = cc
-    by BatchProcessor h = cc
+    by _ h = cc
 
 -- work on a message starts at level 2
 starts_low : (topology : Topology) (before : History) (step : Step) (u : SubNo) → allows topology before step ≡ true → starts step u.consumer ≡ true
@@ -117,12 +109,7 @@ runs_move topology before step n p q was fit h (ends x y final) old = λ s e. by
   where
     by_final : (y : Place) → is_final (Some y) ≡ true → (s : StageNo) → Some y ≡ Some (Running s) → rank topology s ≡ 1
     by_final (Acked o) f s e = cc
-    by_final (Lost l) f s e = cc
-    by_final (Waiting t) f s e = cc
-    by_final (Inbox u) f s e = cc
-    by_final (Running t) f s e = cc
-    by_final (Gathered t) f s e = cc
-    by_final (InBatch b) f s e = cc
+    by_final _ f s e = cc
 
 -- a message runs at level 2
 pub runs_low : (topology : Topology) (before : History) (n : ℕ) → Fits topology → is_legal topology before ≡ true → (s : StageNo) → place topology before n ≡ Some (Running s) → rank topology s ≡ 1

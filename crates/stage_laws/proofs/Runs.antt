@@ -8,7 +8,7 @@ use Rattle.pipe_types.specs.declared.topology.Topology.{Topology}
 use Rattle.pipe_types.specs.declared.message.Why.{Why}
 use Rattle.pipe_types.specs.declared.message.Place.{Place}
 use Rattle.pipe_types.specs.declared.message.Outcome.TheVariants.{Successful}
-use Rattle.pipe_types.specs.declared.message.Place.TheVariants.{Waiting, Inbox, Running, Gathered, InBatch, Acked, Lost}
+use Rattle.pipe_types.specs.declared.message.Place.TheVariants.{Waiting, Inbox, Running, InBatch, Acked}
 use Rattle.pipe_types.specs.declared.message.Reply.{Reply}
 use Rattle.pipe_types.specs.declared.message.Reply.TheVariants.{Pass, Failed as FailedReply, Raised, Crashed}
 use Rattle.pipe_types.specs.declared.room.Sent.{Sent as SentUnit}
@@ -35,13 +35,14 @@ use Rattle.pipe_laws.proofs.Allowed.{legal_step, take_facts, done_facts}
 use Rattle.pipe_laws.proofs.Chunks.{owes_crash, owed_dies}
 use Rattle.queue_laws.specs.Queues.{unless_killed}
 use Rattle.queue_laws.proofs.Filters.{filter_alike, filter_both, filter_split, filter_all, filter_none}
-use Rattle.queue_laws.proofs.Waits.{TestsIn, holder, killed_test}
+use Rattle.queue_laws.proofs.Waits.{TestsIn, tests_at, killed_test}
 use Rattle.queue_laws.proofs.Fits.{Fits}
 use Rattle.queue_laws.proofs.Roles.{batcher_rank}
 use Rattle.queue_laws.proofs.Working.{chunk_is}
 use Rattle.pipe_model.specs.Standing.{running}
 use Rattle.stage_laws.proofs.Plain.{none_runs}
 use Rattle.std.proofs.lemmas.Bool.{eq-eqb}
+use Rattle.pipe_laws.proofs.Kept.{runs_here}
 
 abbrev numbers : Topology → History → StageNo → List ℕ
 numbers topology before s = map (λ d. d.1) (sent_to topology before s)
@@ -163,23 +164,7 @@ runs_taken topology before s u k fit h role allowed =
 -- Kill and Halt
 
 pub runs_tests : (s : StageNo) → TestsIn (runs_in s) s
-runs_tests s =
-    record {
-      holds = holds;
-      none = refl;
-      batched = λ b. refl;
-      acked = λ o. refl;
-      lost = λ l. refl;
-    }
-  where
-    holds : (p : Place) (t : StageNo) → holder p ≡ Some t → runs_in s (Some p) ≡ true → t ≡ s
-    holds (Running w) t e h = let is : w ≡ t = cc in sym is ∙ sym (same_stage-true s w h)
-    holds (Waiting w) t e h = cc
-    holds (Inbox u) t e h = cc
-    holds (Gathered w) t e h = cc
-    holds (InBatch b) t e h = cc
-    holds (Acked o) t e h = cc
-    holds (Lost l) t e h = cc
+runs_tests s = tests_at (runs_in s) s (Running s) refl (runs_here s)
 
 killed_running : (topology : Topology) (before : History) (step : Step) (set : KillSet) (s : StageNo) → sent_to topology (step ∷ before) s ≡ sent_to topology before s
     → ((n : ℕ) → runs_in s (place topology (step ∷ before) n) ≡ (runs_in s (place topology before n) && not (is_some (reason_in set s)))) → running topology (step ∷ before) s ≡ unless_killed set s (running topology before s)

@@ -47,12 +47,7 @@ was_in topology before step b p q (ends x y final) c e = absurd (no_final y fina
   where
     no_final : (y : Place) → is_final (Some y) ≡ true → Some y ≡ Some (InBatch b) → ⊥
     no_final (Acked o) f h = cc
-    no_final (Lost l) f h = cc
-    no_final (Waiting t) f h = cc
-    no_final (Inbox u) f h = cc
-    no_final (Running t) f h = cc
-    no_final (Gathered t) f h = cc
-    no_final (InBatch d) f h = cc
+    no_final _ f h = cc
 
 -- a message in a batch is one of its numbers
 kept_in : (topology : Topology) (before : History) (step : Step) (n : ℕ) (b : BatchNo) → place topology before n ≡ Some (InBatch b) → among (numbers_in (batch topology before b.0)) n ≡ true → among (numbers_in (batch topology (step ∷ before) b.0)) n ≡ true
@@ -71,12 +66,6 @@ in_numbers topology (Close s first trigger ∷ before) n b e = by (place topolog
 
     by : (p : Option Place) → place topology before n ≡ p → option_map (put_in_batch (closing before (view_of topology before) s first.0) s (closed before + 1) n) p ≡ Some (InBatch b) → (place topology before n ≡ Some (InBatch b) → among (numbers_in (batch topology before b.0)) n ≡ true)
         → among (numbers_in (batch topology (Close s first trigger ∷ before) b.0)) n ≡ true
-    by None was h old = cc
-    by (Some (Waiting t)) was h old = cc
-    by (Some (Inbox u)) was h old = cc
-    by (Some (Running t)) was h old = cc
-    by (Some (Acked o)) was h old = cc
-    by (Some (Lost l)) was h old = cc
     by (Some (InBatch d)) was h old = let here : place topology before n ≡ Some (InBatch b) = was ∙ h in kept_in topology before (Close s first trigger) n b here (old here)
     by (Some (Gathered t)) was h old = either (same_stage s t) (among (closing before (view_of topology before) s first.0) n) refl h
       where
@@ -84,6 +73,7 @@ in_numbers topology (Close s first trigger ∷ before) n b e = by (place topolog
         either true true e k = let is : b ≡ batch_no (closed before + 1) = cc in joined (closed before + 1) is refl e
         either true false e k = cc
         either false y e k = cc
+    by _ was h old = cc
 in_numbers topology (step ∷ before) n b e =
     let was = was_in topology before step b (place topology before n) (place topology (step ∷ before) n) (move_by topology before step n) refl e in
     kept_in topology before step n b was (in_numbers topology before n b was)

@@ -6,7 +6,7 @@ use Rattle.pipe_types.specs.declared.numbers.StageNo.{StageNo}
 use Rattle.pipe_types.specs.declared.topology.Topology.{Topology}
 use Rattle.pipe_types.specs.declared.topology.StageSpec.{StageSpec}
 use Rattle.pipe_types.specs.declared.topology.Role.{Role}
-use Rattle.pipe_types.specs.declared.topology.Role.TheVariants.{Producer, Processor, Supervisor, Batcher, BatchProcessor}
+use Rattle.pipe_types.specs.declared.topology.Role.TheVariants.{Processor, BatchProcessor}
 use Rattle.pipe_types.specs.declared.message.Why.{Why}
 use Rattle.pipe_types.specs.declared.message.Reply.{Reply}
 use Rattle.pipe_types.specs.declared.message.BatchEnd.{BatchEnd}
@@ -38,11 +38,9 @@ takes_batches : (topology : Topology) (s : StageNo) → has_role topology s take
 takes_batches topology s takes other one = by_spec (spec_of topology s) refl
   where
     by_role : (r : Role) → takes_role r ≡ true → is_processor_role r ≡ false → rank_of r ≡ 1 → ⊥
-    by_role Producer h k e = let x : false ≡ true = h in cc
     by_role Processor h k e = let x : true ≡ false = k in cc
-    by_role Supervisor h k e = let x : false ≡ true = h in cc
-    by_role Batcher h k e = let x : false ≡ true = h in cc
     by_role BatchProcessor h k e = let x : 3 ≡ 1 = e in cc
+    by_role _ h k e = let x : false ≡ true = h in cc
 
     by_spec : (o : Option StageSpec) → spec_of topology s ≡ o → ⊥
     by_spec None e = let none : has_role topology s takes_role ≡ false = rw e refl in clash (has_role topology s takes_role) takes none

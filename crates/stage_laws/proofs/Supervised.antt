@@ -8,7 +8,7 @@ use Rattle.pipe_types.specs.declared.numbers.StageNo.{StageNo}
 use Rattle.pipe_types.specs.declared.numbers.MsgNo.{MsgNo}
 use Rattle.pipe_types.specs.declared.topology.Topology.{Topology}
 use Rattle.pipe_types.specs.declared.topology.Role.{Role}
-use Rattle.pipe_types.specs.declared.topology.Role.TheVariants.{Producer, Processor, Supervisor, Batcher, BatchProcessor}
+use Rattle.pipe_types.specs.declared.topology.Role.TheVariants.{Supervisor}
 use Rattle.pipe_types.specs.declared.message.Loss.TheVariants.{Killed}
 use Rattle.pipe_types.specs.declared.message.Why.TheVariants.{Crash}
 use Rattle.pipe_types.specs.declared.message.Place.{Place}
@@ -55,10 +55,7 @@ pub record Split (topology : Topology) (before : History) (s : StageNo) : Type 0
 
 supervisor_gathers : (role : Role) → is_supervisor_role role ≡ true → is_batcher_role role ≡ true → ⊥
 supervisor_gathers Supervisor h k = let x : false ≡ true = k in cc
-supervisor_gathers Producer h k = let x : false ≡ true = h in cc
-supervisor_gathers Processor h k = let x : false ≡ true = h in cc
-supervisor_gathers Batcher h k = let x : false ≡ true = h in cc
-supervisor_gathers BatchProcessor h k = let x : false ≡ true = h in cc
+supervisor_gathers _ h k = let x : false ≡ true = h in cc
 
 -- a message stands in the supervisor's inbox by its place
 inbox_places : (topology : Topology) (before : History) (s : StageNo) → has_role topology s is_supervisor_role ≡ true → Each (λ d. place topology before d.1 ≡ Some (Inbox d.0)) (inbox topology before s)
@@ -340,10 +337,8 @@ ended_runs topology before s slot reply n = by_place (place topology before n)
         crash false = refl
 
         by_reply : m ≡ n → (r : Reply) → runs_in s (Some (child_place (runs_again (spec_of topology s) (crashes before n)) s (incarnation before s) r)) ≡ not (not (crashed_reply r && runs_again (spec_of topology s) (crashes before m)) && true)
-        by_reply is (Pass x) = refl
-        by_reply is (FailedReply why) = refl
-        by_reply is (Raised why) = refl
         by_reply is Crashed = crash (runs_again (spec_of topology s) (crashes before n)) ∙ ap (λ k. not (not (runs_again (spec_of topology s) (crashes before k)) && true)) (sym is)
+        by_reply is _ = refl
 
         by_number : (c : Bool) → (m == n) ≡ c → runs_in s (Some (if c then child_place (runs_again (spec_of topology s) (crashes before n)) s (incarnation before s) reply else Running v)) ≡ not (not (crashed_reply reply && runs_again (spec_of topology s) (crashes before m)) && c)
         by_number true f = by_reply (eqb-true m n f) reply

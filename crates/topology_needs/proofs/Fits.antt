@@ -7,7 +7,7 @@ use Rattle.std.proofs.lemmas.List.Sums.{AllPass-from_list_all, sum_by-le, count_
 use Rattle.pipe_types.specs.declared.topology.Topology.{Topology}
 use Rattle.pipe_types.specs.declared.topology.StageSpec.{StageSpec}
 use Rattle.pipe_types.specs.declared.topology.Role.{Role}
-use Rattle.pipe_types.specs.declared.topology.Role.TheVariants.{Producer, Processor, Supervisor, Batcher, BatchProcessor}
+use Rattle.pipe_types.specs.declared.topology.Role.TheVariants.{Supervisor}
 use Rattle.pipe_types.specs.declared.topology.Kind.{Kind}
 use Rattle.pipe_types.specs.Sound.{IsSound, has_fields, has_fields_of, is_supervisor_in, asks_up_to, is_lines, are_rules, is_reason, no_batcher, no_dispatcher, no_buffer, no_edge, no_batching, no_select, no_batchers}
 use Rattle.pipe_types.specs.Stages.{spec_feeds}
@@ -21,11 +21,8 @@ children_few s h =
     leb-true s.max 16 (and_parts (nat_lt s.min s.max) (nat_le s.max 16) asks).1
 
 posts_few : (stages : List StageSpec) (r : Role) (s : StageSpec) → has_fields_of stages r s ≡ true → posts_in r s.max ≤ 16
-posts_few stages Producer s h = lit≤ tt
-posts_few stages Processor s h = lit≤ tt
 posts_few stages Supervisor s h = children_few s h
-posts_few stages Batcher s h = lit≤ tt
-posts_few stages BatchProcessor s h = lit≤ tt
+posts_few stages _ s h = lit≤ tt
 
 pub need_fits : (topology : Topology) (kind : Kind) → IsSound topology → need_of topology kind < 2 ^ 64
 need_fits topology kind sound =

@@ -2,10 +2,9 @@
 
 ghost use Rattle.std.specs.Prelude.{◌≡◌, ◌<◌, ◌^◌, ◌==◌, sum_by};
 ghost use Rattle.pipe_types.specs.Sound.{IsSound};
-ghost use Rattle.pipe_types.specs.Stages.{spec_feeds};
 ghost use Rattle.topology_needs.specs.Needs.{subscriptions_of, consumers_of};
 
-use pipe_types::topology::{Role, StageSpec, Topology};
+use pipe_types::topology::{StageSpec, Topology};
 
 /// The number of subscriptions with which the pipeline begins: the pairs of stages of which the second takes from the
 /// first. It is at most 4,096.
@@ -32,17 +31,6 @@ fn consumers(stages: &[StageSpec], producer: &StageSpec) -> usize
 {
     stages
         .iter()
-        .filter(|consumer| feeds(producer, consumer))
+        .filter(|consumer| producer.feeds(consumer))
         .count()
-}
-
-fn feeds(producer: &StageSpec, consumer: &StageSpec) -> bool
-    ensures { result ≡ spec_feeds producer.now consumer.now }
-{
-    match (producer.role, consumer.role) {
-        (Role::Producer, Role::Processor | Role::Supervisor) => true,
-        (Role::Processor, Role::Batcher) => true,
-        (Role::Batcher, Role::BatchProcessor) => producer.batcher == consumer.batcher,
-        _ => false,
-    }
 }

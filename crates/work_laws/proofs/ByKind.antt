@@ -9,7 +9,7 @@ use Rattle.pipe_types.specs.declared.topology.Topology.{Topology}
 use Rattle.pipe_types.specs.declared.topology.StageSpec.{StageSpec}
 use Rattle.pipe_types.specs.declared.topology.Keep.{Keep}
 use Rattle.pipe_types.specs.declared.topology.Role.{Role}
-use Rattle.pipe_types.specs.declared.topology.Role.TheVariants.{Producer, Processor, Supervisor, Batcher, BatchProcessor}
+use Rattle.pipe_types.specs.declared.topology.Role.TheVariants.{Processor, Batcher, BatchProcessor}
 use Rattle.pipe_types.specs.declared.message.Place.TheVariants.{Running}
 use Rattle.pipe_types.specs.declared.step.Step.{Step}
 use Rattle.pipe_types.specs.declared.step.Step.TheVariants.{Fetch, Dispatch, Take, Done, Wrote, Child, ChildEnd}
@@ -76,10 +76,7 @@ batcher_keeps topology before t sound h = by_spec (spec_of topology t) refl h
     by_role spec Batcher b is f =
         let rest = and_right ((spec.batcher == spec.index && ((by_demand spec spec.dispatch || by_broadcast spec spec.dispatch) || (by_partition (length (batch_processors spec.index topology.stages)) spec spec.dispatch && spec.field == 0))) && (asks_up_to 10000 spec && (is_between 1 10000 spec.batch_size && is_between 1 3600000 spec.batch_timeout))) _ f in
         and_left (is_none spec.size) _ (and_left (no_buffer spec) _ (and_left (no_buffer spec && no_handler spec) _ rest))
-    by_role spec Producer b is f = let x : is_batcher (Some spec) ≡ false = rw is refl in clash (is_batcher (Some spec)) b x
-    by_role spec Processor b is f = let x : is_batcher (Some spec) ≡ false = rw is refl in clash (is_batcher (Some spec)) b x
-    by_role spec Supervisor b is f = let x : is_batcher (Some spec) ≡ false = rw is refl in clash (is_batcher (Some spec)) b x
-    by_role spec BatchProcessor b is f = let x : is_batcher (Some spec) ≡ false = rw is refl in clash (is_batcher (Some spec)) b x
+    by_role spec _ b is f = let x : is_batcher (Some spec) ≡ false = rw is refl in clash (is_batcher (Some spec)) b x
 
     by_spec : (o : Option StageSpec) → spec_of topology t ≡ o → is_batcher o ≡ true → is_empty (lost_over topology before (view_of topology before) t) ≡ true
     by_spec None e b = cc
@@ -166,10 +163,8 @@ reply_role topology before (Done t replies) s h e =
   where
     processes : (role : Role) → is_processor_role role ≡ true → takes_role role ≡ true
     processes Processor h = refl
-    processes Producer h = let x : false ≡ true = h in cc
-    processes Supervisor h = let x : false ≡ true = h in cc
-    processes Batcher h = let x : false ≡ true = h in cc
     processes BatchProcessor h = refl
+    processes _ h = let x : false ≡ true = h in cc
 
     wider : (topology : Topology) (t : StageNo) (one : Role → Bool) → ((role : Role) → one role ≡ true → takes_role role ≡ true) → has_role topology t one ≡ true → has_role topology t takes_role ≡ true
     wider topology t one f k =
@@ -186,10 +181,8 @@ reply_role topology before (Wrote t bytes end) s h e =
   where
     writes : (role : Role) → is_batch_processor_role role ≡ true → takes_role role ≡ true
     writes Processor h = refl
-    writes Producer h = let x : false ≡ true = h in cc
-    writes Supervisor h = let x : false ≡ true = h in cc
-    writes Batcher h = let x : false ≡ true = h in cc
     writes BatchProcessor h = refl
+    writes _ h = let x : false ≡ true = h in cc
 reply_role topology before _ s h e = let x : false ≡ true = e in cc
 
 replies_answer : (before : History) (s : StageNo) → how_many (is_reply_of s) before ≤ answered before (post s 0)

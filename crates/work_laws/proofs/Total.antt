@@ -2,7 +2,7 @@
 use Rattle.std.proofs.Common.{◌≡◌, ℕ, ◌+◌, ◌≤◌, [], ◌∷◌, Bool, true, arith}
 use Rattle.pipe_types.specs.declared.topology.Topology.{Topology}
 use Rattle.pipe_types.specs.declared.step.Step.{Step}
-use Rattle.pipe_types.specs.declared.step.Step.TheVariants.{Ask, Fetch, Accept, Quiet, SourceEnd, Dispatch, Take, Done, Gather, Close, Wrote, Child, ChildEnd, Kill, Late, Restart, Tick, Drain, Halt, Refuse}
+use Rattle.pipe_types.specs.declared.step.Step.TheVariants.{Ask}
 use Rattle.pipe_types.specs.Sound.{IsSound}
 use Rattle.pipe_model.specs.History.{History}
 use Rattle.pipe_model.specs.Counting.{as_number}
@@ -20,25 +20,7 @@ by_kinds f =
 
 one_kind : (step : Step) → as_number (is_work step) ≤ by_kinds (λ test. as_number (test step))
 one_kind (Ask u n) = omega arith
-one_kind (Fetch s n) = omega arith
-one_kind (Accept s records) = omega arith
-one_kind (Quiet s) = omega arith
-one_kind (SourceEnd s how) = omega arith
-one_kind (Dispatch s) = omega arith
-one_kind (Take s u k) = omega arith
-one_kind (Done s replies) = omega arith
-one_kind (Gather s m) = omega arith
-one_kind (Close s first trigger) = omega arith
-one_kind (Wrote s bytes end) = omega arith
-one_kind (Child s m slot) = omega arith
-one_kind (ChildEnd s slot reply) = omega arith
-one_kind (Kill s why) = omega arith
-one_kind (Late s slot i answer) = omega arith
-one_kind (Restart s) = omega arith
-one_kind (Tick t) = omega arith
-one_kind (Drain cause) = omega arith
-one_kind Halt = omega arith
-one_kind (Refuse line) = omega arith
+one_kind _ = omega arith
 
 work_by_kinds : (before : History) → work_done before ≤ by_kinds (λ test. how_many test before)
 work_by_kinds [] = omega arith

@@ -13,10 +13,9 @@ returns-clause-live c = put_live c.args.rows.now c.args.consumer c.args.producer
 
 pub recount-requires-clause-some : goal.recount-requires-clause-some
 recount-requires-clause-some c =
-    let rows = c.args.rows.now in
     let at = slot_of c.args.consumer c.args.producer in
-    let counts = put_due rows c.args.consumer c.args.producer c.index-rows-at.result c.args.row c.requires.within c.index-rows-at.is in
-    one_less c.is_due-was.result c.is_due.result (due_rows (rows_of (set rows at (Some c.args.row)))) (due_rows (rows_of rows)) c.args.due.now
+    let counts = put_due c.args.rows.now c.args.consumer c.args.producer c.index-rows-at.result c.args.row c.requires.within c.index-rows-at.is in
+    one_less c.is_due-was.result c.is_due.result (due_rows (rows_of (set c.args.rows.now at (Some c.args.row)))) (due_rows (rows_of c.args.rows.now)) c.args.due.now
     (rw (c.is_due-was.ensures, c.is_due.ensures) counts) c.requires.counted
 
 pub recount-requires-clause-few : goal.recount-requires-clause-few
@@ -33,6 +32,4 @@ returns-clause-counted c =
     let at = slot_of c.args.consumer c.args.producer in
     let counts = put_due rows c.args.consumer c.args.producer c.index-rows-at.result c.args.row c.requires.within c.index-rows-at.is in
     let same : due_rows (rows_of (set rows at (Some c.args.row))) + (if c.is_due-was.result then 1 else 0) ≡ due_rows (rows_of rows) + (if c.is_due.result then 1 else 0) = rw (c.is_due-was.ensures, c.is_due.ensures) counts in
-    let recounted = c.recount.ensures in
-    let known = c.requires.counted in
-    omega (arith, same, recounted, known)
+    omega (arith, same, c.recount.ensures, c.requires.counted)

@@ -17,10 +17,9 @@ send_owed-requires-clause-live c =
 pub send_owed-requires-clause-messages : goal.send_owed-requires-clause-messages
 send_owed-requires-clause-messages c =
     let old = c.args.core.now in
-    let new = c.enroll.new.core in
     let x = c.requires.stands.holds in
-    let same : new.topology ≡ old.topology = c.enroll.ensures.topology ∙ c.in-Ok.ensures.topology in
-    messages_then old.topology new.topology old.journal.steps c.args.stage c.args.records same x.sound x.legal c.requires.legal
+    let same : c.enroll.new.core.topology ≡ old.topology = c.enroll.ensures.topology ∙ c.in-Ok.ensures.topology in
+    messages_then old.topology c.enroll.new.core.topology old.journal.steps c.args.stage c.args.records same x.sound x.legal c.requires.legal
 
 pub send_owed-requires-clause-legal : goal.send_owed-requires-clause-legal
 send_owed-requires-clause-legal c =

@@ -12,9 +12,8 @@ use Rattle.core_accepts.proofs.calls.is_due.Goals as goal
 pub index-requires : goal.index-requires
 index-requires c =
     let core = c.args.core.now in
-    let x = c.requires.holds in
-    let w = known_within core.topology c.args.stage (numbered_topology core.topology x.sound) (live_known core.topology core.journal.steps c.args.stage c.requires.live) in
-    omega (arith, w.1, x.fields.sized.waiting)
+    let w = known_within core.topology c.args.stage (numbered_topology core.topology c.requires.holds.sound) (live_known core.topology core.journal.steps c.args.stage c.requires.live) in
+    omega (arith, w.1, c.requires.holds.fields.sized.waiting)
 
 pub returns : goal.returns
 returns c =

@@ -11,15 +11,13 @@ use Rattle.core_accepts.proofs.fetches.put_fetch.Goals as goal
 
 pub note_fetch-requires : goal.note_fetch-requires
 note_fetch-requires c =
-    let core = c.args.core.now in
     let x = c.requires.stands.holds in
-    omega (arith, x.fields.sized.stages, fetch_within core.topology core.journal.steps c.args.stage c.args.n (numbered_topology core.topology x.sound) c.requires.legal)
+    omega (arith, x.fields.sized.stages, fetch_within c.args.core.now.topology c.args.core.now.journal.steps c.args.stage c.args.n (numbered_topology c.args.core.now.topology x.sound) c.requires.legal)
 
 pub put_out-requires : goal.put_out-requires
 put_out-requires c =
-    let core = c.args.core.now in
     let x = c.requires.stands.holds in
-    omega (arith, x.fields.sized.posts, fetch_within core.topology core.journal.steps c.args.stage c.args.n (numbered_topology core.topology x.sound) c.requires.legal)
+    omega (arith, x.fields.sized.posts, fetch_within c.args.core.now.topology c.args.core.now.journal.steps c.args.stage c.args.n (numbered_topology c.args.core.now.topology x.sound) c.requires.legal)
 
 pub returns-clause-stands : goal.returns-clause-stands
 returns-clause-stands c =

@@ -11,8 +11,7 @@ may_dispatch-requires-clause-there c = found_there c.args.core.now.topology c.ar
 pub returns-in-Some : goal.returns-in-Some
 returns-in-Some c =
     let t = c.args.core.now.topology in
-    let h = c.args.core.now.journal.steps in
-    c.may_dispatch.ensures ∙ ap (may_dispatch t h) (found_no t c.args.stage c.in-Some.spec.now (sym c.in-Some.ensures))
+    c.may_dispatch.ensures ∙ ap (may_dispatch t c.args.core.now.journal.steps) (found_no t c.args.stage c.in-Some.spec.now (sym c.in-Some.ensures))
 
 pub returns-in-None : goal.returns-in-None
 returns-in-None c = unfound_dispatch c.args.core.now.topology c.args.core.now.journal.steps c.args.stage (sym c.in-None.ensures)

@@ -19,12 +19,11 @@ returns-then-is_crash c =
 
 pub loop-k-preserved : goal.loop-k-preserved
 loop-k-preserved c =
-    let replies = c.args.replies.now in
     let k = c.loop-k.k in
     let r = c.index-replies-k.result in
-    let crash : is_crashed (get_or replies k r) ≡ false = ap is_crashed (sym c.index-replies-k.is) ∙ (sym c.is_crash.ensures ∙ c.if-is_crash.false) in
+    let crash : is_crashed (get_or c.args.replies.now k r) ≡ false = ap is_crashed (sym c.index-replies-k.is) ∙ (sym c.is_crash.ensures ∙ c.if-is_crash.false) in
     record {
-      left = sym (each_here c.args.chunk.now replies k 0 r false (omega (arith, c.if-k-chunk.false)) c.loop-k-test.true crash) ∙ c.loop-k.invariant.left;
+      left = sym (each_here c.args.chunk.now c.args.replies.now k 0 r false (omega (arith, c.if-k-chunk.false)) c.loop-k-test.true crash) ∙ c.loop-k.invariant.left;
       within = omega (arith, c.if-k-chunk.false);
     }
 

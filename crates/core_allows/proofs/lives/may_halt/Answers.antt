@@ -12,23 +12,19 @@ is_over_limit-requires-clause-there c =
 
 pub returns-then-is_over_limit : goal.returns-then-is_over_limit
 returns-then-is_over_limit c =
-    let core = c.args.core.now in
-    let test : StageSpec → Bool = does_halt core.topology core.journal.steps in
+    let test : StageSpec → Bool = does_halt c.args.core.now.topology c.args.core.now.journal.steps in
     let specs = c.as_slice-spec-items.result.now in
     let here = ap test (sym c.spec-item.is) ∙ (sym c.is_over_limit.ensures ∙ c.if-is_over_limit.true) in
     sym (any_here test specs c.loop-spec.spec-index c.spec-item.result c.loop-spec-test.true here) ∙ (c.loop-spec.invariant ∙ ap (list_any test) c.as_slice-spec-items.ensures)
 
 pub loop-spec-preserved : goal.loop-spec-preserved
 loop-spec-preserved c =
-    let core = c.args.core.now in
-    let test : StageSpec → Bool = does_halt core.topology core.journal.steps in
+    let test : StageSpec → Bool = does_halt c.args.core.now.topology c.args.core.now.journal.steps in
     let here = ap test (sym c.spec-item.is) ∙ (sym c.is_over_limit.ensures ∙ c.if-is_over_limit.false) in
     any_next test c.as_slice-spec-items.result.now c.loop-spec.spec-index c.spec-item.result c.loop-spec-test.true here ∙ c.loop-spec.invariant
 
 pub returns : goal.returns
 returns c =
-    let core = c.args.core.now in
-    let test : StageSpec → Bool = does_halt core.topology core.journal.steps in
-    let specs = c.as_slice-spec-items.result.now in
-    let none : drop c.loop-spec.spec-index specs ≡ [] = drop_all c.loop-spec.spec-index specs (omega arith) in
+    let test : StageSpec → Bool = does_halt c.args.core.now.topology c.args.core.now.journal.steps in
+    let none : drop c.loop-spec.spec-index c.as_slice-spec-items.result.now ≡ [] = drop_all c.loop-spec.spec-index c.as_slice-spec-items.result.now (omega arith) in
     ap (list_any test) (sym none) ∙ (c.loop-spec.invariant ∙ ap (list_any test) c.as_slice-spec-items.ensures)

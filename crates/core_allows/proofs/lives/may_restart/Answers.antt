@@ -3,7 +3,7 @@ use Rattle.std.specs.Prelude.{◌&&◌}
 use Rattle.pipe_types.specs.declared.numbers.StageNo.{StageNo}
 use Rattle.pipe_model.specs.Legal.{needs_restart, no_post_out, may_restart}
 use Rattle.move_laws.proofs.Still.{found_no}
-use Rattle.core_allows.proofs.Held.{found_there, and_parts}
+use Rattle.core_allows.proofs.Held.{found_there, tested_first}
 use Rattle.core_allows.proofs.lives.may_restart.Goals as goal
 
 pub is_ready_to_restart-requires-clause-there : goal.is_ready_to_restart-requires-clause-there
@@ -14,17 +14,15 @@ returns-then-is_ready_to_restart c =
     let t = c.args.core.now.topology in
     let h = c.args.core.now.journal.steps in
     let s = c.args.stage in
-    let no : c.in-Some.spec.now.no ≡ s = found_no t s c.in-Some.spec.now (sym c.in-Some.ensures) in
-    let ready : (needs_restart t h s && no_post_out t h s) ≡ true =
-    ap (λ (u : StageNo). needs_restart t h u && no_post_out t h u) (sym no) ∙ (sym c.is_ready_to_restart.ensures ∙ c.if-is_ready_to_restart.true) in
-    c.may_restart.ensures ∙ (ap (λ b. b && may_restart t h s) (sym ready) ∙ and_parts (needs_restart t h s) (no_post_out t h s) (may_restart t h s))
+    c.may_restart.ensures
+    ∙ tested_first (needs_restart t h s) (no_post_out t h s) (may_restart t h s) c.is_ready_to_restart.result true
+    (c.is_ready_to_restart.ensures ∙ ap (λ (u : StageNo). needs_restart t h u && no_post_out t h u) (found_no t s c.in-Some.spec.now (sym c.in-Some.ensures))) c.if-is_ready_to_restart.true
 
 pub returns-else-is_ready_to_restart : goal.returns-else-is_ready_to_restart
 returns-else-is_ready_to_restart c =
     let t = c.args.core.now.topology in
     let h = c.args.core.now.journal.steps in
     let s = c.args.stage in
-    let no : c.in-Some.spec.now.no ≡ s = found_no t s c.in-Some.spec.now (sym c.in-Some.ensures) in
-    let ready : (needs_restart t h s && no_post_out t h s) ≡ false =
-    ap (λ (u : StageNo). needs_restart t h u && no_post_out t h u) (sym no) ∙ (sym c.is_ready_to_restart.ensures ∙ c.if-is_ready_to_restart.false) in
-    c.if-is_ready_to_restart.false ∙ (ap (λ b. b && may_restart t h s) (sym ready) ∙ and_parts (needs_restart t h s) (no_post_out t h s) (may_restart t h s))
+    c.if-is_ready_to_restart.false
+    ∙ tested_first (needs_restart t h s) (no_post_out t h s) (may_restart t h s) c.is_ready_to_restart.result false
+    (c.is_ready_to_restart.ensures ∙ ap (λ (u : StageNo). needs_restart t h u && no_post_out t h u) (found_no t s c.in-Some.spec.now (sym c.in-Some.ensures))) c.if-is_ready_to_restart.false

@@ -12,9 +12,7 @@ does_pass-requires-clause-there c = found_there c.args.core.now.topology c.args.
 pub returns-in-Some : goal.returns-in-Some
 returns-in-Some c =
     let t = c.args.core.now.topology in
-    let h = c.args.core.now.journal.steps in
-    let s = c.args.stage in
     let spec = c.in-Some.spec.now in
     c.does_pass.ensures
-    ∙ (ap (λ o. not (feeds_batchers o) || has_room t h spec.no) c.in-Some.ensures
-    ∙ ap (λ u. not (feeds_batchers (spec_of t s)) || has_room t h u) (found_no t s spec (sym c.in-Some.ensures)))
+    ∙ (ap (λ o. not (feeds_batchers o) || has_room t c.args.core.now.journal.steps spec.no) c.in-Some.ensures
+    ∙ ap (λ u. not (feeds_batchers (spec_of t c.args.stage)) || has_room t c.args.core.now.journal.steps u) (found_no t c.args.stage spec (sym c.in-Some.ensures)))

@@ -22,46 +22,37 @@ returns-in_err-reserve-clause-stands c =
 
 pub returns-in_err-reserve-2-clause-stands : goal.returns-in_err-reserve-2-clause-stands
 returns-in_err-reserve-2-clause-stands c =
-    let core = c.args.core.now in
-    roomy_stands core c.reserve.new.self c.reserve-2.new.self core.waiting c.requires.stands c.in_ok-reserve.ensures.same_steps c.reserve-2.ensures.items (λ t. refl) refl
+    roomy_stands c.args.core.now c.reserve.new.self c.reserve-2.new.self c.args.core.now.waiting c.requires.stands c.in_ok-reserve.ensures.same_steps c.reserve-2.ensures.items (λ t. refl) refl
     c.in_ok-reserve.ensures.spare (λ t. omega arith)
 
 pub make_room_for_one-requires : goal.make_room_for_one-requires
 make_room_for_one-requires c =
-    let core = c.args.core.now in
     let x = c.requires.stands.holds in
-    omega (arith, x.fields.sized.waiting, (close_within core.topology core.journal.steps c.args.stage c.args.first c.requires.legal.trigger x.sound c.requires.legal.legal).1)
+    omega (arith, x.fields.sized.waiting, (close_within c.args.core.now.topology c.args.core.now.journal.steps c.args.stage c.args.first c.requires.legal.trigger x.sound c.requires.legal.legal).1)
 
 pub returns-in_err-make_room_for_one-clause-stands : goal.returns-in_err-make_room_for_one-clause-stands
 returns-in_err-make_room_for_one-clause-stands c =
-    let core = c.args.core.now in
-    roomy_stands core c.reserve.new.self c.reserve-2.new.self c.make_room_for_one.new.waiting c.requires.stands c.in_ok-reserve.ensures.same_steps c.in_ok-reserve-2.ensures.items
+    roomy_stands c.args.core.now c.reserve.new.self c.reserve-2.new.self c.make_room_for_one.new.waiting c.requires.stands c.in_ok-reserve.ensures.same_steps c.in_ok-reserve-2.ensures.items
     c.in_err-make_room_for_one.ensures.same c.in_err-make_room_for_one.ensures.len c.in_ok-reserve.ensures.spare c.in_err-make_room_for_one.ensures.rooms
 
 pub closable_in-found-requires-clause-within : goal.closable_in-found-requires-clause-within
 closable_in-found-requires-clause-within c =
-    let core = c.args.core.now in
     let x = c.requires.stands.holds in
-    omega (arith, x.fields.sized.batchers, (close_within core.topology core.journal.steps c.args.stage c.args.first c.requires.legal.trigger x.sound c.requires.legal.legal).1)
+    omega (arith, x.fields.sized.batchers, (close_within c.args.core.now.topology c.args.core.now.journal.steps c.args.stage c.args.first c.requires.legal.trigger x.sound c.requires.legal.legal).1)
 
 pub closable_in-found-requires-clause-some : goal.closable_in-found-requires-clause-some
 closable_in-found-requires-clause-some c = closing_some c.args.core.now c.args.stage c.args.first c.requires.legal.trigger c.args.dry c.requires.stands c.requires.legal.legal c.requires.dry
 
 pub overflow_cast-no : goal.overflow_cast-no
-overflow_cast-no c =
-    let core = c.args.core.now in
-    omega (arith, c.len.ensures, ap length c.in_ok-reserve-2.ensures.items, c.requires.stands.holds.fields.sized.batches, closed_small core c.requires.stands)
+overflow_cast-no c = omega (arith, c.len.ensures, ap length c.in_ok-reserve-2.ensures.items, c.requires.stands.holds.fields.sized.batches, closed_small c.args.core.now c.requires.stands)
 
 pub overflow_add-no : goal.overflow_add-no
-overflow_add-no c =
-    let core = c.args.core.now in
-    omega (arith, c.len.ensures, ap length c.in_ok-reserve-2.ensures.items, c.requires.stands.holds.fields.sized.batches, closed_small core c.requires.stands)
+overflow_add-no c = omega (arith, c.len.ensures, ap length c.in_ok-reserve-2.ensures.items, c.requires.stands.holds.fields.sized.batches, closed_small c.args.core.now c.requires.stands)
 
 pub close_open-batch-requires-clause-within : goal.close_open-batch-requires-clause-within
 close_open-batch-requires-clause-within c =
-    let core = c.args.core.now in
     let x = c.requires.stands.holds in
-    omega (arith, x.fields.sized.batchers, (close_within core.topology core.journal.steps c.args.stage c.args.first c.requires.legal.trigger x.sound c.requires.legal.legal).1)
+    omega (arith, x.fields.sized.batchers, (close_within c.args.core.now.topology c.args.core.now.journal.steps c.args.stage c.args.first c.requires.legal.trigger x.sound c.requires.legal.legal).1)
 
 pub close_open-batch-requires-clause-there : goal.close_open-batch-requires-clause-there
 close_open-batch-requires-clause-there c = found_there c.args.core.now c.args.stage c.args.dry c.closable_in-found.result c.closable_in-found.ensures.closable
@@ -80,23 +71,20 @@ join_all-requires c =
 
 pub part_of_batch-part-requires-clause-least : goal.part_of_batch-part-requires-clause-least
 part_of_batch-part-requires-clause-least c =
-    let core = c.args.core.now in
-    (close_within core.topology core.journal.steps c.args.stage c.args.first c.requires.legal.trigger c.requires.stands.holds.sound c.requires.legal.legal).0
+    (close_within c.args.core.now.topology c.args.core.now.journal.steps c.args.stage c.args.first c.requires.legal.trigger c.requires.stands.holds.sound c.requires.legal.legal).0
 
 pub part_of_batch-part-requires-clause-within : goal.part_of_batch-part-requires-clause-within
 part_of_batch-part-requires-clause-within c =
-    let core = c.args.core.now in
-    (close_within core.topology core.journal.steps c.args.stage c.args.first c.requires.legal.trigger c.requires.stands.holds.sound c.requires.legal.legal).1
+    (close_within c.args.core.now.topology c.args.core.now.journal.steps c.args.stage c.args.first c.requires.legal.trigger c.requires.stands.holds.sound c.requires.legal.legal).1
 
 pub part_of_batch-part-requires-clause-parts : goal.part_of_batch-part-requires-clause-parts
 part_of_batch-part-requires-clause-parts c =
     let core = c.args.core.now in
-    let sound = c.requires.stands.holds.sound in
-    let within = close_within core.topology core.journal.steps c.args.stage c.args.first c.requires.legal.trigger sound c.requires.legal.legal in
+    let within = close_within core.topology core.journal.steps c.args.stage c.args.first c.requires.legal.trigger c.requires.stands.holds.sound c.requires.legal.legal in
     let g =
     found_closing core c.args.stage c.args.first c.requires.legal.trigger c.args.dry c.closable_in-found.result c.close_open-batch.result.key c.close_open-batch.result.numbers.items c.requires.stands c.requires.legal.legal
     c.requires.dry c.closable_in-found.ensures.closable c.closable_in-found.ensures.first c.close_open-batch.ensures.key c.close_open-batch.ensures.numbers in
-    parts_here core.topology c.args.stage sound g.closing.role within.0 within.1
+    parts_here core.topology c.args.stage c.requires.stands.holds.sound g.closing.role within.0 within.1
 
 pub queue_batch-requires-clause-within : goal.queue_batch-requires-clause-within
 queue_batch-requires-clause-within c =

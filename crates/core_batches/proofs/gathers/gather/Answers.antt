@@ -29,8 +29,7 @@ first_unit-unit-requires-clause-within c =
 
 pub first_unit-unit-requires-clause-some : goal.first_unit-unit-requires-clause-some
 first_unit-unit-requires-clause-some c =
-    let core = c.args.core.now in
-    let some = some_first core.topology core.journal.steps c.args.stage c.requires.legal in
+    let some = some_first c.args.core.now.topology c.args.core.now.journal.steps c.args.stage c.requires.legal in
     let same = ap (λ (qs : List (VecDeque (SubNo × ℕ) Global)). length (queue_at qs c.args.stage)) c.deref.ensures.value in
     omega (arith, ap length (c.requires.stands.holds.fields.inboxes c.args.stage), some, same)
 

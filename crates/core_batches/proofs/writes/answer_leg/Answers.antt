@@ -1,6 +1,4 @@
-use Rattle.std.proofs.Common.{◌≡◌, ◌∷◌, ◌∙◌, ◌<◌, length, ap, sym, refl, arith, Some}
-use Rattle.std.specs.Prelude.{slice_get}
-use Rattle.std.proofs.lemmas.Option.{slice_get_read}
+use Rattle.std.proofs.Common.{◌≡◌, ◌∷◌, ◌∙◌, ◌<◌, length, ap, sym, refl, arith}
 use Rattle.pipe_types.specs.declared.message.BatchEnd.{BatchEnd}
 use Rattle.pipe_types.specs.declared.message.BatchEnd.TheVariants.{Outcomes}
 use Rattle.pipe_types.specs.declared.step.Step.TheVariants.{Wrote}
@@ -14,236 +12,113 @@ use Rattle.core_batches.proofs.writes.answer_leg.Goals as goal
 
 pub index-row-requires : goal.index-row-requires
 index-row-requires c =
-    let core = c.args.core.now in
-    let s = c.args.stage in
-    let bytes = c.args.bytes in
-    let end = c.args.end in
     let os = c.requires.answered.outcomes in
-    let stands = c.requires.stands in
-    let within : s.0 < length core.stages.items = stage_found core s bytes end os stands c.requires.legal c.requires.answered.is in
+    let within : c.args.stage.0 < length c.args.core.now.stages.items = stage_found c.args.core.now c.args.stage c.args.bytes c.args.end os c.requires.stands c.requires.legal c.requires.answered.is in
     omega (arith, within)
 
 pub unwrap-requires : goal.unwrap-requires
 unwrap-requires c =
-    let core = c.args.core.now in
-    let s = c.args.stage in
-    let bytes = c.args.bytes in
-    let end = c.args.end in
     let os = c.requires.answered.outcomes in
-    let stands = c.requires.stands in
-    let within : s.0 < length core.stages.items = stage_found core s bytes end os stands c.requires.legal c.requires.answered.is in
     let row = c.index-row.result.now in
-    let found : slice_get core.stages.items s.0 ≡ Some row = slice_get_read core.stages.items (length core.stages.items) s.0 row refl within c.index-row.ensures in
-    take_there core s bytes end os row stands c.requires.legal c.requires.answered.is found
+    take_there c.args.core.now c.args.stage c.args.bytes c.args.end os row c.requires.stands c.requires.legal c.requires.answered.is c.index-row.ensures
 
 pub overflow_sub-at : goal.overflow_sub-at
 overflow_sub-at c =
-    let core = c.args.core.now in
-    let s = c.args.stage in
-    let bytes = c.args.bytes in
-    let end = c.args.end in
     let os = c.requires.answered.outcomes in
-    let stands = c.requires.stands in
-    let within : s.0 < length core.stages.items = stage_found core s bytes end os stands c.requires.legal c.requires.answered.is in
-    let row = c.index-row.result.now in
-    let found : slice_get core.stages.items s.0 ≡ Some row = slice_get_read core.stages.items (length core.stages.items) s.0 row refl within c.index-row.ensures in
-    let u = c.unwrap.result.0 in
-    let b = row.taken in
-    let h = answering core s bytes end os row c.unwrap.result stands c.requires.legal c.requires.answered.is found c.unwrap.ensures in
+    let h = answering c.args.core.now c.args.stage c.args.bytes c.args.end os c.index-row.result.now c.unwrap.result c.requires.stands c.requires.legal c.requires.answered.is c.index-row.ensures c.unwrap.ensures in
     h.low
 
 pub outcomes_in-outcomes-requires-clause-within : goal.outcomes_in-outcomes-requires-clause-within
 outcomes_in-outcomes-requires-clause-within c =
-    let core = c.args.core.now in
-    let stands = c.requires.stands in
-    let within = stage_found core c.args.stage c.args.bytes c.args.end c.requires.answered.outcomes stands c.requires.legal c.requires.answered.is in
-    omega (arith, within, stands.holds.fields.sized.stages, stands.holds.fields.sized.ends)
+    let within = stage_found c.args.core.now c.args.stage c.args.bytes c.args.end c.requires.answered.outcomes c.requires.stands c.requires.legal c.requires.answered.is in
+    omega (arith, within, c.requires.stands.holds.fields.sized.stages, c.requires.stands.holds.fields.sized.ends)
 
 pub outcomes_in-outcomes-requires-clause-room : goal.outcomes_in-outcomes-requires-clause-room
 outcomes_in-outcomes-requires-clause-room c =
     let core = c.args.core.now in
-    let s = c.args.stage in
-    let bytes = c.args.bytes in
-    let end = c.args.end in
-    let stands = c.requires.stands in
     λ os is.
-    (let within : s.0 < length core.stages.items = stage_found core s bytes end os stands c.requires.legal is in
-    let row = c.index-row.result.now in
-    let found : slice_get core.stages.items s.0 ≡ Some row = slice_get_read core.stages.items (length core.stages.items) s.0 row refl within c.index-row.ensures in
-    let h = answering core s bytes end os row c.unwrap.result stands c.requires.legal is found c.unwrap.ensures in
-    wrote_size core s bytes os c.unwrap.result.0 row.taken (leg_place c.unwrap.result.0 (sent_on core.topology core.journal.steps row.taken)) h.written.ms h.written.legs stands.holds h.written.is)
+    (let row = c.index-row.result.now in
+    let h = answering core c.args.stage c.args.bytes c.args.end os row c.unwrap.result c.requires.stands c.requires.legal is c.index-row.ensures c.unwrap.ensures in
+    wrote_size core c.args.stage c.args.bytes os c.unwrap.result.0 row.taken (leg_place c.unwrap.result.0 (sent_on core.topology core.journal.steps row.taken)) h.written.ms h.written.legs c.requires.stands.holds h.written.is)
 
 pub leg_of_batch-leg-requires-clause-there : goal.leg_of_batch-leg-requires-clause-there
 leg_of_batch-leg-requires-clause-there c =
-    let core = c.args.core.now in
-    let s = c.args.stage in
-    let bytes = c.args.bytes in
-    let end = c.args.end in
     let os = c.outcomes_in-outcomes.result in
-    let stands = c.requires.stands in
-    let within : s.0 < length core.stages.items = stage_found core s bytes end os stands c.requires.legal c.outcomes_in-outcomes.ensures.answered in
-    let row = c.index-row.result.now in
-    let found : slice_get core.stages.items s.0 ≡ Some row = slice_get_read core.stages.items (length core.stages.items) s.0 row refl within c.index-row.ensures in
-    let u = c.unwrap.result.0 in
-    let b = row.taken in
-    let h = answering core s bytes end os row c.unwrap.result stands c.requires.legal c.outcomes_in-outcomes.ensures.answered found c.unwrap.ensures in
+    let h = answering c.args.core.now c.args.stage c.args.bytes c.args.end os c.index-row.result.now c.unwrap.result c.requires.stands c.requires.legal c.outcomes_in-outcomes.ensures.answered c.index-row.ensures c.unwrap.ensures in
     h.there
 
 pub leg_of_batch-leg-requires-clause-few : goal.leg_of_batch-leg-requires-clause-few
 leg_of_batch-leg-requires-clause-few c =
-    let core = c.args.core.now in
-    let s = c.args.stage in
-    let bytes = c.args.bytes in
-    let end = c.args.end in
     let os = c.outcomes_in-outcomes.result in
-    let stands = c.requires.stands in
-    let within : s.0 < length core.stages.items = stage_found core s bytes end os stands c.requires.legal c.outcomes_in-outcomes.ensures.answered in
-    let row = c.index-row.result.now in
-    let found : slice_get core.stages.items s.0 ≡ Some row = slice_get_read core.stages.items (length core.stages.items) s.0 row refl within c.index-row.ensures in
-    let u = c.unwrap.result.0 in
-    let b = row.taken in
-    let h = answering core s bytes end os row c.unwrap.result stands c.requires.legal c.outcomes_in-outcomes.ensures.answered found c.unwrap.ensures in
-    leg_few core s bytes os u b h
+    let h = answering c.args.core.now c.args.stage c.args.bytes c.args.end os c.index-row.result.now c.unwrap.result c.requires.stands c.requires.legal c.outcomes_in-outcomes.ensures.answered c.index-row.ensures c.unwrap.ensures in
+    leg_few c.args.core.now c.args.stage c.args.bytes os c.unwrap.result.0 c.index-row.result.now.taken h
 
 pub settle_leg-settled-requires-clause-open_leg : goal.settle_leg-settled-requires-clause-open_leg
 settle_leg-settled-requires-clause-open_leg c =
-    let core = c.args.core.now in
-    let s = c.args.stage in
-    let bytes = c.args.bytes in
-    let end = c.args.end in
     let os = c.outcomes_in-outcomes.result in
-    let stands = c.requires.stands in
-    let within : s.0 < length core.stages.items = stage_found core s bytes end os stands c.requires.legal c.outcomes_in-outcomes.ensures.answered in
-    let row = c.index-row.result.now in
-    let found : slice_get core.stages.items s.0 ≡ Some row = slice_get_read core.stages.items (length core.stages.items) s.0 row refl within c.index-row.ensures in
-    let u = c.unwrap.result.0 in
-    let b = row.taken in
-    let h = answering core s bytes end os row c.unwrap.result stands c.requires.legal c.outcomes_in-outcomes.ensures.answered found c.unwrap.ensures in
-    let leg = c.leg_of_batch-leg.result in
-    let same = leg_is core s bytes os u b h leg c.leg_of_batch-leg.ensures in
-    leg_open core s bytes os u b h leg same
+    let h = answering c.args.core.now c.args.stage c.args.bytes c.args.end os c.index-row.result.now c.unwrap.result c.requires.stands c.requires.legal c.outcomes_in-outcomes.ensures.answered c.index-row.ensures c.unwrap.ensures in
+    let same = leg_is c.args.core.now c.args.stage c.args.bytes os c.unwrap.result.0 c.index-row.result.now.taken h c.leg_of_batch-leg.result c.leg_of_batch-leg.ensures in
+    leg_open c.args.core.now c.args.stage c.args.bytes os c.unwrap.result.0 c.index-row.result.now.taken h c.leg_of_batch-leg.result same
 
 pub settle_leg-settled-requires-clause-there : goal.settle_leg-settled-requires-clause-there
 settle_leg-settled-requires-clause-there c =
-    let core = c.args.core.now in
-    let s = c.args.stage in
-    let bytes = c.args.bytes in
-    let end = c.args.end in
     let os = c.outcomes_in-outcomes.result in
-    let stands = c.requires.stands in
-    let within : s.0 < length core.stages.items = stage_found core s bytes end os stands c.requires.legal c.outcomes_in-outcomes.ensures.answered in
-    let row = c.index-row.result.now in
-    let found : slice_get core.stages.items s.0 ≡ Some row = slice_get_read core.stages.items (length core.stages.items) s.0 row refl within c.index-row.ensures in
-    let u = c.unwrap.result.0 in
-    let b = row.taken in
-    let h = answering core s bytes end os row c.unwrap.result stands c.requires.legal c.outcomes_in-outcomes.ensures.answered found c.unwrap.ensures in
-    legs_there core s bytes os u b h
+    let h = answering c.args.core.now c.args.stage c.args.bytes c.args.end os c.index-row.result.now c.unwrap.result c.requires.stands c.requires.legal c.outcomes_in-outcomes.ensures.answered c.index-row.ensures c.unwrap.ensures in
+    legs_there c.args.core.now c.args.stage c.args.bytes os c.unwrap.result.0 c.index-row.result.now.taken h
 
 pub settle_leg-settled-requires-clause-outcomes : goal.settle_leg-settled-requires-clause-outcomes
 settle_leg-settled-requires-clause-outcomes c =
-    let core = c.args.core.now in
-    let s = c.args.stage in
-    let bytes = c.args.bytes in
-    let end = c.args.end in
     let os = c.outcomes_in-outcomes.result in
-    let stands = c.requires.stands in
-    let within : s.0 < length core.stages.items = stage_found core s bytes end os stands c.requires.legal c.outcomes_in-outcomes.ensures.answered in
-    let row = c.index-row.result.now in
-    let found : slice_get core.stages.items s.0 ≡ Some row = slice_get_read core.stages.items (length core.stages.items) s.0 row refl within c.index-row.ensures in
-    let u = c.unwrap.result.0 in
-    let b = row.taken in
-    let h = answering core s bytes end os row c.unwrap.result stands c.requires.legal c.outcomes_in-outcomes.ensures.answered found c.unwrap.ensures in
-    outcomes_many core s bytes os u b h
+    let h = answering c.args.core.now c.args.stage c.args.bytes c.args.end os c.index-row.result.now c.unwrap.result c.requires.stands c.requires.legal c.outcomes_in-outcomes.ensures.answered c.index-row.ensures c.unwrap.ensures in
+    outcomes_many c.args.core.now c.args.stage c.args.bytes os c.unwrap.result.0 c.index-row.result.now.taken h
 
 pub end_batch-requires-clause-there : goal.end_batch-requires-clause-there
 end_batch-requires-clause-there c =
-    let core = c.args.core.now in
-    let s = c.args.stage in
-    let bytes = c.args.bytes in
-    let end = c.args.end in
     let os = c.outcomes_in-outcomes.result in
-    let stands = c.requires.stands in
-    let within : s.0 < length core.stages.items = stage_found core s bytes end os stands c.requires.legal c.outcomes_in-outcomes.ensures.answered in
-    let row = c.index-row.result.now in
-    let found : slice_get core.stages.items s.0 ≡ Some row = slice_get_read core.stages.items (length core.stages.items) s.0 row refl within c.index-row.ensures in
-    let u = c.unwrap.result.0 in
-    let b = row.taken in
-    let h = answering core s bytes end os row c.unwrap.result stands c.requires.legal c.outcomes_in-outcomes.ensures.answered found c.unwrap.ensures in
+    let h = answering c.args.core.now c.args.stage c.args.bytes c.args.end os c.index-row.result.now c.unwrap.result c.requires.stands c.requires.legal c.outcomes_in-outcomes.ensures.answered c.index-row.ensures c.unwrap.ensures in
     h.there
 
 pub end_batch-requires-clause-numbers : goal.end_batch-requires-clause-numbers
 end_batch-requires-clause-numbers c =
-    let core = c.args.core.now in
-    let s = c.args.stage in
-    let bytes = c.args.bytes in
-    let end = c.args.end in
     let os = c.outcomes_in-outcomes.result in
-    let stands = c.requires.stands in
-    let within : s.0 < length core.stages.items = stage_found core s bytes end os stands c.requires.legal c.outcomes_in-outcomes.ensures.answered in
-    let row = c.index-row.result.now in
-    let found : slice_get core.stages.items s.0 ≡ Some row = slice_get_read core.stages.items (length core.stages.items) s.0 row refl within c.index-row.ensures in
-    let u = c.unwrap.result.0 in
-    let b = row.taken in
-    let h = answering core s bytes end os row c.unwrap.result stands c.requires.legal c.outcomes_in-outcomes.ensures.answered found c.unwrap.ensures in
-    numbers_here core s bytes os u b h (sym stands.holds.fields.sized.places)
+    let h = answering c.args.core.now c.args.stage c.args.bytes c.args.end os c.index-row.result.now c.unwrap.result c.requires.stands c.requires.legal c.outcomes_in-outcomes.ensures.answered c.index-row.ensures c.unwrap.ensures in
+    numbers_here c.args.core.now c.args.stage c.args.bytes os c.unwrap.result.0 c.index-row.result.now.taken h (sym c.requires.stands.holds.fields.sized.places)
 
 pub end_batch-requires-clause-marks : goal.end_batch-requires-clause-marks
-end_batch-requires-clause-marks c =
-    let core = c.args.core.now in
-    let s = c.args.stage in
-    let bytes = c.args.bytes in
-    let end = c.args.end in
-    let os = c.outcomes_in-outcomes.result in
-    let stands = c.requires.stands in
-    let within : s.0 < length core.stages.items = stage_found core s bytes end os stands c.requires.legal c.outcomes_in-outcomes.ensures.answered in
-    stands.holds.fields.sized.settled ∙ sym stands.holds.fields.sized.places
+end_batch-requires-clause-marks c = c.requires.stands.holds.fields.sized.settled ∙ sym c.requires.stands.holds.fields.sized.places
 
 pub come_home-requires : goal.come_home-requires
 come_home-requires c =
-    let core = c.args.core.now in
-    let s = c.args.stage in
     let bytes = c.args.bytes in
     let end = c.args.end in
     let os = c.outcomes_in-outcomes.result in
-    let stands = c.requires.stands in
-    let within : s.0 < length core.stages.items = stage_found core s bytes end os stands c.requires.legal c.outcomes_in-outcomes.ensures.answered in
-    omega (arith, within, stands.holds.fields.sized.stages, stands.holds.fields.sized.posts)
+    let within : c.args.stage.0 < length c.args.core.now.stages.items = stage_found c.args.core.now c.args.stage bytes end os c.requires.stands c.requires.legal c.outcomes_in-outcomes.ensures.answered in
+    omega (arith, within, c.requires.stands.holds.fields.sized.stages, c.requires.stands.holds.fields.sized.posts)
 
 pub count_handled-requires : goal.count_handled-requires
 count_handled-requires c =
     let core = c.args.core.now in
-    let s = c.args.stage in
-    let bytes = c.args.bytes in
-    let end = c.args.end in
     let os = c.outcomes_in-outcomes.result in
-    let stands = c.requires.stands in
-    let within : s.0 < length core.stages.items = stage_found core s bytes end os stands c.requires.legal c.outcomes_in-outcomes.ensures.answered in
-    let row = c.index-row.result.now in
-    let found : slice_get core.stages.items s.0 ≡ Some row = slice_get_read core.stages.items (length core.stages.items) s.0 row refl within c.index-row.ensures in
     let u = c.unwrap.result.0 in
-    let b = row.taken in
-    let h = answering core s bytes end os row c.unwrap.result stands c.requires.legal c.outcomes_in-outcomes.ensures.answered found c.unwrap.ensures in
-    written_room core core.topology core.journal.steps s bytes os u b (leg_place u (sent_on core.topology core.journal.steps b)) h.written.ms h.written.legs stands.holds.fields h.written.is
+    let b = c.index-row.result.now.taken in
+    let h = answering core c.args.stage c.args.bytes c.args.end os c.index-row.result.now c.unwrap.result c.requires.stands c.requires.legal c.outcomes_in-outcomes.ensures.answered c.index-row.ensures c.unwrap.ensures in
+    written_room core core.topology core.journal.steps c.args.stage c.args.bytes os u b (leg_place u (sent_on core.topology core.journal.steps b)) h.written.ms h.written.legs c.requires.stands.holds.fields h.written.is
 
 pub push_spare-requires : goal.push_spare-requires
 push_spare-requires c =
-    let x = c.requires.stands.holds in
-    omega (arith, wrote_due c.args.core.now c.args.stage c.args.bytes c.args.end x c.requires.legal, x.room.steps)
+    omega (arith, wrote_due c.args.core.now c.args.stage c.args.bytes c.args.end c.requires.stands.holds c.requires.legal, c.requires.stands.holds.room.steps)
 
 pub returns-clause-stands : goal.returns-clause-stands
 returns-clause-stands c =
     let core = c.args.core.now in
     let s = c.args.stage in
     let bytes = c.args.bytes in
-    let end = c.args.end in
     let os = c.outcomes_in-outcomes.result in
     let stands = c.requires.stands in
-    let within : s.0 < length core.stages.items = stage_found core s bytes end os stands c.requires.legal c.outcomes_in-outcomes.ensures.answered in
     let row = c.index-row.result.now in
-    let found : slice_get core.stages.items s.0 ≡ Some row = slice_get_read core.stages.items (length core.stages.items) s.0 row refl within c.index-row.ensures in
     let u = c.unwrap.result.0 in
     let b = row.taken in
-    let h = answering core s bytes end os row c.unwrap.result stands c.requires.legal c.outcomes_in-outcomes.ensures.answered found c.unwrap.ensures in
+    let h = answering core s bytes c.args.end os row c.unwrap.result stands c.requires.legal c.outcomes_in-outcomes.ensures.answered c.index-row.ensures c.unwrap.ensures in
     let leg = c.leg_of_batch-leg.result in
     let same = leg_is core s bytes os u b h leg c.leg_of_batch-leg.ensures in
     let settled = c.settle_leg-settled.result in

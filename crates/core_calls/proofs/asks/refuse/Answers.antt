@@ -15,10 +15,9 @@ returns-clause-stands c =
     let core-new : Core = record core { journal = c.push_spare.new.self; totals = record core.totals { controls = core.totals.controls + 1; quiet = 0 } } in
     let written = c.push_spare.ensures.written ∙ ap (λ (h : History). Refuse c.args.line ∷ h) c.in_ok-reserve.ensures.same_steps in
     let fields = refused_fields core core.topology core.journal.steps c.args.line c.push_spare.new.self x.fields in
-    let allowed = c.requires.legal in
     let due = room_due core (Refuse c.args.line ∷ core.journal.steps) c.reserve.new.self.spare c.push_spare.new.self.spare x c.in_ok-reserve.ensures.room c.push_spare.ensures.spare in
-    let room = room_beside core core-new (Refuse c.args.line) x allowed refl due refl refl refl refl refl refl refl in
-    let holds = holds_after core core-new (Refuse c.args.line) x refl written allowed fields room in
+    let room = room_beside core core-new (Refuse c.args.line) x c.requires.legal refl due refl refl refl refl refl refl refl in
+    let holds = holds_after core core-new (Refuse c.args.line) x refl written c.requires.legal fields room in
     record { holds = holds; unowed = unowed_after core-new core.topology (Refuse c.args.line) core.journal.steps refl written refl }
 
 pub returns-in_err-reserve-clause-stands : goal.returns-in_err-reserve-clause-stands

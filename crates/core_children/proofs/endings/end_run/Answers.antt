@@ -12,7 +12,6 @@ use Rattle.pipe_model.specs.History.{incarnation}
 use Rattle.stage_subs.specs.Subs.{row_of, IsChanged}
 use Rattle.consumer_sup.specs.declared.Child.{Child as ChildRow}
 use Rattle.core_tables.specs.declared.rows.StageRow.{StageRow}
-use Rattle.core_tables.specs.Rows.{post_at}
 use Rattle.core_laws.specs.Columns.{came, stage_row}
 use Rattle.core_state.specs.declared.state.Core.{Core}
 use Rattle.core_state.specs.Stands.{child_at}
@@ -21,165 +20,98 @@ use Rattle.core_state.proofs.Steps.{holds_after}
 use Rattle.core_takes.specs.Replies.{handled_on}
 use Rattle.core_children.specs.Slots.{left_in}
 use Rattle.core_children.proofs.Rooming.{end_due, ended_queues}
-use Rattle.core_children.proofs.Ended.{slot_of, ends, Ended, ended_fields, row_room, number_read, child_there, again_read}
+use Rattle.core_children.proofs.Ended.{slot_of, Ended, ended_fields, row_room, child_there, ends_read, came_read}
 use Rattle.core_children.proofs.endings.end_run.Goals as goal
 
 pub index-requires : goal.index-requires
 index-requires c =
-    let core = c.args.core.now in
-    let s = c.args.stage in
-    let slot = c.args.slot in
-    let x = c.requires.holds in
-    let known = (slot_of core.topology core.journal.steps s slot c.args.reply x.sound x.legal c.requires.legal).1 in
-    omega (arith, known.within, x.fields.sized.stages, core.stages.ok.0)
+    let known = (slot_of c.args.core.now.topology c.args.core.now.journal.steps c.args.stage c.args.slot c.args.reply c.requires.holds.sound c.requires.holds.legal c.requires.legal).1 in
+    omega (arith, known.within, c.requires.holds.fields.sized.stages, c.args.core.now.stages.ok.0)
 
 pub index-sub-requires : goal.index-sub-requires
 index-sub-requires c =
-    let core = c.args.core.now in
-    let s = c.args.stage in
-    let slot = c.args.slot in
-    let x = c.requires.holds in
-    let known = (slot_of core.topology core.journal.steps s slot c.args.reply x.sound x.legal c.requires.legal).1 in
-    omega (arith, known.within, known.low, x.fields.sized.came, core.came.ok.0)
+    let known = (slot_of c.args.core.now.topology c.args.core.now.journal.steps c.args.stage c.args.slot c.args.reply c.requires.holds.sound c.requires.holds.legal c.requires.legal).1 in
+    omega (arith, known.within, known.low, c.requires.holds.fields.sized.came, c.args.core.now.came.ok.0)
 
 pub number_in-no-requires-clause-within : goal.number_in-no-requires-clause-within
 number_in-no-requires-clause-within c =
-    let core = c.args.core.now in
-    let s = c.args.stage in
-    let slot = c.args.slot in
-    let x = c.requires.holds in
-    let known = (slot_of core.topology core.journal.steps s slot c.args.reply x.sound x.legal c.requires.legal).1 in
-    omega (arith, known.within, x.fields.sized.children, ap length c.deref.ensures.value)
+    let known = (slot_of c.args.core.now.topology c.args.core.now.journal.steps c.args.stage c.args.slot c.args.reply c.requires.holds.sound c.requires.holds.legal c.requires.legal).1 in
+    omega (arith, known.within, c.requires.holds.fields.sized.children, ap length c.deref.ensures.value)
 
 pub number_in-no-requires-clause-there : goal.number_in-no-requires-clause-there
 number_in-no-requires-clause-there c =
-    let core = c.args.core.now in
-    let s = c.args.stage in
-    let slot = c.args.slot in
-    let x = c.requires.holds in
-    child_there core s slot c.args.reply c.deref.result.now x c.requires.legal c.deref.ensures.value
+    child_there c.args.core.now c.args.stage c.args.slot c.args.reply c.deref.result.now c.requires.holds c.requires.legal c.deref.ensures.value
 
 pub end_in-again-requires-clause-within : goal.end_in-again-requires-clause-within
 end_in-again-requires-clause-within c =
-    let core = c.args.core.now in
-    let s = c.args.stage in
-    let slot = c.args.slot in
-    let x = c.requires.holds in
-    let known = (slot_of core.topology core.journal.steps s slot c.args.reply x.sound x.legal c.requires.legal).1 in
-    omega (arith, known.within, x.fields.sized.children)
+    let known = (slot_of c.args.core.now.topology c.args.core.now.journal.steps c.args.stage c.args.slot c.args.reply c.requires.holds.sound c.requires.holds.legal c.requires.legal).1 in
+    omega (arith, known.within, c.requires.holds.fields.sized.children)
 
 pub leave_chunk-requires : goal.leave_chunk-requires
 leave_chunk-requires c =
-    let core = c.args.core.now in
-    let s = c.args.stage in
-    let slot = c.args.slot in
-    let x = c.requires.holds in
-    let known = (slot_of core.topology core.journal.steps s slot c.args.reply x.sound x.legal c.requires.legal).1 in
-    omega (arith, known.within, x.fields.sized.chunks)
+    let known = (slot_of c.args.core.now.topology c.args.core.now.journal.steps c.args.stage c.args.slot c.args.reply c.requires.holds.sound c.requires.holds.legal c.requires.legal).1 in
+    omega (arith, known.within, c.requires.holds.fields.sized.chunks)
 
 pub put_place-requires-clause-least : goal.put_place-requires-clause-least
 put_place-requires-clause-least c =
-    let core = c.args.core.now in
-    let s = c.args.stage in
-    let slot = c.args.slot in
-    let x = c.requires.holds in
-    let known = number_read core s slot c.args.reply c.number_in-no.result c.deref.result.now x c.requires.legal c.deref.ensures.value c.number_in-no.ensures in
-    let again = again_read core s slot c.args.reply c.number_in-no.result c.end_in-again.result c.has_crashed-crashed.result x c.requires.legal known c.has_crashed-crashed.ensures c.end_in-again.ensures.again in
-    let k = ends core.topology core.journal.steps s slot c.args.reply c.number_in-no.result c.end_in-again.result x.sound x.legal c.requires.legal known again in
-    k.least
+    (ends_read c.args.core.now c.args.stage c.args.slot c.args.reply c.number_in-no.result c.end_in-again.result c.has_crashed-crashed.result c.deref.result.now c.requires.holds c.requires.legal c.deref.ensures.value c.number_in-no.ensures c.has_crashed-crashed.ensures c.end_in-again.ensures.again).least
 
 pub put_place-requires-clause-within : goal.put_place-requires-clause-within
 put_place-requires-clause-within c =
-    let core = c.args.core.now in
-    let s = c.args.stage in
-    let slot = c.args.slot in
-    let x = c.requires.holds in
-    let known = number_read core s slot c.args.reply c.number_in-no.result c.deref.result.now x c.requires.legal c.deref.ensures.value c.number_in-no.ensures in
-    let again = again_read core s slot c.args.reply c.number_in-no.result c.end_in-again.result c.has_crashed-crashed.result x c.requires.legal known c.has_crashed-crashed.ensures c.end_in-again.ensures.again in
-    let k = ends core.topology core.journal.steps s slot c.args.reply c.number_in-no.result c.end_in-again.result x.sound x.legal c.requires.legal known again in
-    omega (arith, k.most, x.fields.sized.places)
+    omega (arith, (ends_read c.args.core.now c.args.stage c.args.slot c.args.reply c.number_in-no.result c.end_in-again.result c.has_crashed-crashed.result c.deref.result.now c.requires.holds c.requires.legal c.deref.ensures.value c.number_in-no.ensures c.has_crashed-crashed.ensures c.end_in-again.ensures.again).most, c.requires.holds.fields.sized.places)
 
 pub put_mark-requires-clause-least : goal.put_mark-requires-clause-least
 put_mark-requires-clause-least c =
-    let core = c.args.core.now in
-    let s = c.args.stage in
-    let slot = c.args.slot in
-    let x = c.requires.holds in
-    let known = number_read core s slot c.args.reply c.number_in-no.result c.deref.result.now x c.requires.legal c.deref.ensures.value c.number_in-no.ensures in
-    let again = again_read core s slot c.args.reply c.number_in-no.result c.end_in-again.result c.has_crashed-crashed.result x c.requires.legal known c.has_crashed-crashed.ensures c.end_in-again.ensures.again in
-    let k = ends core.topology core.journal.steps s slot c.args.reply c.number_in-no.result c.end_in-again.result x.sound x.legal c.requires.legal known again in
-    k.least
+    (ends_read c.args.core.now c.args.stage c.args.slot c.args.reply c.number_in-no.result c.end_in-again.result c.has_crashed-crashed.result c.deref.result.now c.requires.holds c.requires.legal c.deref.ensures.value c.number_in-no.ensures c.has_crashed-crashed.ensures c.end_in-again.ensures.again).least
 
 pub put_mark-requires-clause-within : goal.put_mark-requires-clause-within
 put_mark-requires-clause-within c =
-    let core = c.args.core.now in
-    let s = c.args.stage in
-    let slot = c.args.slot in
-    let x = c.requires.holds in
-    let known = number_read core s slot c.args.reply c.number_in-no.result c.deref.result.now x c.requires.legal c.deref.ensures.value c.number_in-no.ensures in
-    let again = again_read core s slot c.args.reply c.number_in-no.result c.end_in-again.result c.has_crashed-crashed.result x c.requires.legal known c.has_crashed-crashed.ensures c.end_in-again.ensures.again in
-    let k = ends core.topology core.journal.steps s slot c.args.reply c.number_in-no.result c.end_in-again.result x.sound x.legal c.requires.legal known again in
-    omega (arith, k.most, x.fields.sized.settled)
+    omega (arith, (ends_read c.args.core.now c.args.stage c.args.slot c.args.reply c.number_in-no.result c.end_in-again.result c.has_crashed-crashed.result c.deref.result.now c.requires.holds c.requires.legal c.deref.ensures.value c.number_in-no.ensures c.has_crashed-crashed.ensures c.end_in-again.ensures.again).most, c.requires.holds.fields.sized.settled)
 
 pub count_handled-requires : goal.count_handled-requires
 count_handled-requires c =
     let core = c.args.core.now in
     let s = c.args.stage in
-    let slot = c.args.slot in
     let x = c.requires.holds in
-    let known = number_read core s slot c.args.reply c.number_in-no.result c.deref.result.now x c.requires.legal c.deref.ensures.value c.number_in-no.ensures in
-    let again = again_read core s slot c.args.reply c.number_in-no.result c.end_in-again.result c.has_crashed-crashed.result x c.requires.legal known c.has_crashed-crashed.ensures c.end_in-again.ensures.again in
-    let k = ends core.topology core.journal.steps s slot c.args.reply c.number_in-no.result c.end_in-again.result x.sound x.legal c.requires.legal known again in
-    let sub : c.index-sub.result.now ≡ came core.topology core.journal.steps s slot =
-    (let there : Some c.index-sub.result.now ≡ Some (came core.topology core.journal.steps s slot) = sym (slice_get_read core.came.items (length core.came.items) (post_at s.0 slot) c.index-sub.result.now refl (omega (arith, k.within, k.low, x.fields.sized.came)) c.index-sub.ensures) ∙ x.fields.came s slot k.within k.low in
-    cc) in
+    let k = ends_read core s c.args.slot c.args.reply c.number_in-no.result c.end_in-again.result c.has_crashed-crashed.result c.deref.result.now x c.requires.legal c.deref.ensures.value c.number_in-no.ensures c.has_crashed-crashed.ensures c.end_in-again.ensures.again in
+    let sub = came_read core s c.args.slot c.args.reply c.number_in-no.result c.end_in-again.result c.index-sub.result.now x k c.index-sub.ensures in
     subst (λ (units : ℕ). IfSome (row_of core.subs c.index-sub.result.now) (λ row. row.generation ≡ c.index-sub.result.now.generation → row.counts.handled + units ≤ row.counts.arrived)) (sym c.units_handled-units.ensures)
     (subst (λ (u : SubNo). IfSome (row_of core.subs u) (λ row. row.generation ≡ u.generation → row.counts.handled + (if c.end_in-again.result then 0 else 1) ≤ row.counts.arrived)) (sym sub)
-    (row_room core core.topology core.journal.steps s slot c.args.reply c.number_in-no.result c.end_in-again.result x.fields k))
+    (row_room core core.topology core.journal.steps s c.args.slot c.args.reply c.number_in-no.result c.end_in-again.result x.fields k))
 
 pub come_home-requires : goal.come_home-requires
 come_home-requires c =
-    let core = c.args.core.now in
-    let s = c.args.stage in
-    let slot = c.args.slot in
-    let x = c.requires.holds in
-    let known = (slot_of core.topology core.journal.steps s slot c.args.reply x.sound x.legal c.requires.legal).1 in
-    record { within = omega (arith, known.within, known.low, x.fields.sized.posts) }
+    let known = (slot_of c.args.core.now.topology c.args.core.now.journal.steps c.args.stage c.args.slot c.args.reply c.requires.holds.sound c.requires.holds.legal c.requires.legal).1 in
+    record { within = omega (arith, known.within, known.low, c.requires.holds.fields.sized.posts) }
 
 pub push_spare-requires : goal.push_spare-requires
 push_spare-requires c =
-    let x = c.requires.holds in
-    omega (arith, end_due c.args.core.now c.args.stage c.args.slot c.args.reply x c.requires.legal, x.room.steps)
+    omega (arith, end_due c.args.core.now c.args.stage c.args.slot c.args.reply c.requires.holds c.requires.legal, c.requires.holds.room.steps)
 
 pub returns-clause-holds : goal.returns-clause-holds
 returns-clause-holds c =
     let core = c.args.core.now in
     let s = c.args.stage in
-    let slot = c.args.slot in
     let x = c.requires.holds in
-    let known = number_read core s slot c.args.reply c.number_in-no.result c.deref.result.now x c.requires.legal c.deref.ensures.value c.number_in-no.ensures in
-    let again = again_read core s slot c.args.reply c.number_in-no.result c.end_in-again.result c.has_crashed-crashed.result x c.requires.legal known c.has_crashed-crashed.ensures c.end_in-again.ensures.again in
-    let k = ends core.topology core.journal.steps s slot c.args.reply c.number_in-no.result c.end_in-again.result x.sound x.legal c.requires.legal known again in
-    let sub : c.index-sub.result.now ≡ came core.topology core.journal.steps s slot =
-    (let there : Some c.index-sub.result.now ≡ Some (came core.topology core.journal.steps s slot) = sym (slice_get_read core.came.items (length core.came.items) (post_at s.0 slot) c.index-sub.result.now refl (omega (arith, k.within, k.low, x.fields.sized.came)) c.index-sub.ensures) ∙ x.fields.came s slot k.within k.low in
-    cc) in
+    let k = ends_read core s c.args.slot c.args.reply c.number_in-no.result c.end_in-again.result c.has_crashed-crashed.result c.deref.result.now x c.requires.legal c.deref.ensures.value c.number_in-no.ensures c.has_crashed-crashed.ensures c.end_in-again.ensures.again in
+    let sub = came_read core s c.args.slot c.args.reply c.number_in-no.result c.end_in-again.result c.index-sub.result.now x k c.index-sub.ensures in
     let from : c.index.result.now.incarnation ≡ incarnation core.journal.steps s =
     (let there : Some c.index.result.now ≡ Some (stage_row core.topology core.journal.steps s) = sym (slice_get_read core.stages.items (length core.stages.items) s.0 c.index.result.now refl (omega (arith, k.within, x.fields.sized.stages)) c.index.ensures) ∙ x.fields.stages s k.within in
     let is : c.index.result.now ≡ stage_row core.topology core.journal.steps s = cc in
     ap (λ (r : StageRow). r.incarnation) is) in
     let placed : c.place_after-place.result ≡ child_place c.end_in-again.result s (incarnation core.journal.steps s) c.args.reply = c.place_after-place.ensures ∙ ap (λ i. child_place c.end_in-again.result s i c.args.reply) from in
     let marked : c.mark_of-mark.result ≡ (if c.end_in-again.result then 0 else length core.journal.steps) = c.mark_of-mark.ensures ∙ ap (λ e. if c.end_in-again.result then 0 else e) c.len-entry.ensures in
-    let row : child_at core.children.items s slot ≡ Some (record { no = message_no c.number_in-no.result; crashes = crashes core.journal.steps c.number_in-no.result }) = x.fields.children s slot ∙ k.child in
+    let row : child_at core.children.items s c.args.slot ≡ Some (record { no = message_no c.number_in-no.result; crashes = crashes core.journal.steps c.number_in-no.result }) = x.fields.children s c.args.slot ∙ k.child in
     let core-new : Core = record core { journal = c.push_spare.new.self; posts = c.come_home.new.posts; subs = c.count_handled.new.subs; chunks = c.leave_chunk.new.chunks; children = c.end_in-again.new.children; places = c.put_place.new.places; settled = c.put_mark.new.settled; totals = record core.totals { quiet = 0 } } in
-    let new : Ended core s slot c.args.reply c.number_in-no.result c.end_in-again.result c.come_home.new.posts c.count_handled.new.subs c.leave_chunk.new.chunks c.end_in-again.new.children c.put_place.new.places c.put_mark.new.settled =
+    let new : Ended core s c.args.slot c.args.reply c.number_in-no.result c.end_in-again.result c.come_home.new.posts c.count_handled.new.subs c.leave_chunk.new.chunks c.end_in-again.new.children c.put_place.new.places c.put_mark.new.settled =
     record {
       posts-is = c.come_home.ensures.posts;
       posts-len = c.come_home.ensures.len;
-      counts = subst (λ (units : ℕ). IsChanged core.subs c.count_handled.new.subs (came core.topology core.journal.steps s slot) (handled_on (came core.topology core.journal.steps s slot).generation units)) c.units_handled-units.ensures
+      counts = subst (λ (units : ℕ). IsChanged core.subs c.count_handled.new.subs (came core.topology core.journal.steps s c.args.slot) (handled_on (came core.topology core.journal.steps s c.args.slot).generation units)) c.units_handled-units.ensures
           (subst (λ (u : SubNo). IsChanged core.subs c.count_handled.new.subs u (handled_on u.generation c.units_handled-units.result)) sub c.count_handled.ensures);
       left = c.leave_chunk.ensures.left;
       left-len = c.leave_chunk.ensures.len;
-      slots = subst (λ (o : Option ChildRow). IfSome o (λ child. (t : StageNo) (j : ℕ) → child_at c.end_in-again.new.children.items t j ≡ (if t.0 == s.0 && slot == j then left_in c.end_in-again.result child else child_at core.children.items t j))) row c.end_in-again.ensures.ended;
+      slots = subst (λ (o : Option ChildRow). IfSome o (λ child. (t : StageNo) (j : ℕ) → child_at c.end_in-again.new.children.items t j ≡ (if t.0 == s.0 && c.args.slot == j then left_in c.end_in-again.result child else child_at core.children.items t j))) row c.end_in-again.ensures.ended;
       slots-len = c.end_in-again.ensures.len;
       kept = c.end_in-again.ensures.kept;
       placed = λ i. c.put_place.ensures.placed i ∙ ap (λ p. if c.number_in-no.result == suc i then Some p else slice_get core.places.items i) placed;
@@ -187,9 +119,9 @@ returns-clause-holds c =
       marks = λ i. c.put_mark.ensures.marked i ∙ ap (λ m. if c.number_in-no.result == suc i then Some m else slice_get core.settled.items i) marked;
       marks-len = c.put_mark.ensures.len;
     } in
-    let fields = ended_fields core s slot c.args.reply c.number_in-no.result c.end_in-again.result c.push_spare.new.self c.come_home.new.posts c.count_handled.new.subs c.leave_chunk.new.chunks c.end_in-again.new.children c.put_place.new.places c.put_mark.new.settled
+    let fields = ended_fields core s c.args.slot c.args.reply c.number_in-no.result c.end_in-again.result c.push_spare.new.self c.come_home.new.posts c.count_handled.new.subs c.leave_chunk.new.chunks c.end_in-again.new.children c.put_place.new.places c.put_mark.new.settled
     x.sound x.fields k new in
-    let room = room_after core core-new (ChildEnd s slot c.args.reply) x c.requires.legal refl (omega (arith, end_due core s slot c.args.reply x c.requires.legal, x.room.steps, c.push_spare.ensures.spare))
+    let room = room_after core core-new (ChildEnd s c.args.slot c.args.reply) x c.requires.legal refl (omega (arith, end_due core s c.args.slot c.args.reply x c.requires.legal, x.room.steps, c.push_spare.ensures.spare))
     c.put_place.ensures.capacity c.put_mark.ensures.capacity refl refl
-    (ended_queues core s c.number_in-no.result c.end_in-again.result c.leave_chunk.new.chunks.items x (child_end_facts core.topology core.journal.steps s slot c.args.reply c.requires.legal).role c.leave_chunk.ensures.left) refl in
-    holds_after core core-new (ChildEnd s slot c.args.reply) x refl c.push_spare.ensures.written c.requires.legal fields room
+    (ended_queues core s c.number_in-no.result c.end_in-again.result c.leave_chunk.new.chunks.items x (child_end_facts core.topology core.journal.steps s c.args.slot c.args.reply c.requires.legal).role c.leave_chunk.ensures.left) refl in
+    holds_after core core-new (ChildEnd s c.args.slot c.args.reply) x refl c.push_spare.ensures.written c.requires.legal fields room

@@ -35,32 +35,26 @@ start_again-requires-clause-again c =
 
 pub first_sub-sub-requires : goal.first_sub-sub-requires
 first_sub-sub-requires c =
-    let core = c.args.core.now in
-    let f = c.requires.stands.holds.fields in
-    let low = named_within core c.args.stage c.args.no c.args.slot c.requires.stands.holds c.requires.legal in
-    omega (arith, low, ap length c.deref-2.ensures.value, f.sized.inboxes, f.sized.children)
+    let low = named_within c.args.core.now c.args.stage c.args.no c.args.slot c.requires.stands.holds c.requires.legal in
+    omega (arith, low, ap length c.deref-2.ensures.value, c.requires.stands.holds.fields.sized.inboxes, c.requires.stands.holds.fields.sized.children)
 
 pub make_ready-requires-clause-within : goal.make_ready-requires-clause-within
 make_ready-requires-clause-within c =
-    let f = c.requires.stands.holds.fields in
     let low = named_within c.args.core.now c.args.stage c.args.no c.args.slot c.requires.stands.holds c.requires.legal in
-    omega (arith, low, f.sized.chunks, f.sized.children)
+    omega (arith, low, c.requires.stands.holds.fields.sized.chunks, c.requires.stands.holds.fields.sized.children)
 
 pub start_at-requires-clause-sub : goal.start_at-requires-clause-sub
 start_at-requires-clause-sub c =
-    let core = c.args.core.now in
     c.first_sub-sub.ensures
     ∙ (ap (λ qs. sub_first (queue_at qs c.args.stage)) c.deref-2.ensures.value
     ∙ (ap sub_first (c.requires.stands.holds.fields.inboxes c.args.stage)
     ∙ sym (ap (λ (t : Topology). sub_first (inbox t c.make_ready.new.core.journal.steps c.args.stage)) c.make_ready.ensures.topology
-    ∙ ap (λ (h : History). sub_first (inbox core.topology h c.args.stage)) c.make_ready.ensures.unchanged)))
+    ∙ ap (λ (h : History). sub_first (inbox c.args.core.now.topology h c.args.stage)) c.make_ready.ensures.unchanged)))
 
 pub start_at-requires-clause-within : goal.start_at-requires-clause-within
 start_at-requires-clause-within c =
-    let core = c.args.core.now in
-    let f = c.requires.stands.holds.fields in
-    let low = named_within core c.args.stage c.args.no c.args.slot c.requires.stands.holds c.requires.legal in
-    subst (λ (t : Topology). c.args.stage.0 ≤ length t.stages) (sym c.make_ready.ensures.topology) (omega (arith, low, f.sized.children))
+    let low = named_within c.args.core.now c.args.stage c.args.no c.args.slot c.requires.stands.holds c.requires.legal in
+    subst (λ (t : Topology). c.args.stage.0 ≤ length t.stages) (sym c.make_ready.ensures.topology) (omega (arith, low, c.requires.stands.holds.fields.sized.children))
 
 pub start_at-requires-clause-slot : goal.start_at-requires-clause-slot
 start_at-requires-clause-slot c =
@@ -73,8 +67,7 @@ start_at-requires-clause-slot c =
 
 pub start_at-requires-clause-free : goal.start_at-requires-clause-free
 start_at-requires-clause-free c =
-    let core = c.args.core.now in
-    let none : child_at core.children.items c.args.stage c.args.slot ≡ None =
-    is_none_of (child_at core.children.items c.args.stage c.args.slot)
+    let none : child_at c.args.core.now.children.items c.args.stage c.args.slot ≡ None =
+    is_none_of (child_at c.args.core.now.children.items c.args.stage c.args.slot)
     (sym (c.is_taken.ensures ∙ ap (λ kids. is_some (child_at kids c.args.stage c.args.slot)) c.deref.ensures.value) ∙ c.if-is_taken.false) in
     ap (λ kids. child_at kids.items c.args.stage c.args.slot) c.make_ready.ensures.tables.1 ∙ none

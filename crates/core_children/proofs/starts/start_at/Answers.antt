@@ -36,21 +36,20 @@ pub returns-clause-holds : goal.returns-clause-holds
 returns-clause-holds c =
     let core = c.args.core.now in
     let s = c.args.stage in
-    let m = c.args.no in
     let slot = c.args.slot in
     let x = c.requires.holds in
     let allowed = c.requires.legal in
-    let known = fresh_child core s m slot x c.requires.free allowed in
+    let known = fresh_child core s c.args.no slot x c.requires.free allowed in
     let new : Core = record core { journal = c.push_spare.new.self; posts = c.put_child_out.new.posts; came = c.note_came.new.came; inboxes = c.start_chunk.new.inboxes; chunks = c.start_chunk.new.chunks; children = c.start_in.new.children; places = c.run_all.new.places; totals = record core.totals { quiet = 0 } } in
     let out = λ (i : ℕ). c.put_child_out.ensures.posts i ∙ ap (λ rows. if post_at s.0 slot == i then out_of (slice_get rows s.0) else slice_get core.posts.items i) c.deref.ensures.value in
     let started =
-    fresh_started core s c.args.sub m slot c.put_child_out.new.posts c.note_came.new.came c.start_chunk.new.inboxes c.start_chunk.new.chunks c.start_in.new.children c.run_all.new.places x known c.requires.within c.requires.sub
+    fresh_started core s c.args.sub c.args.no slot c.put_child_out.new.posts c.note_came.new.came c.start_chunk.new.inboxes c.start_chunk.new.chunks c.start_in.new.children c.run_all.new.places x known c.requires.within c.requires.sub
     out c.put_child_out.ensures.len c.note_came.ensures.came c.note_came.ensures.len c.start_chunk.ensures.inboxes c.start_chunk.ensures.inboxes_len c.start_chunk.ensures.chunks c.start_chunk.ensures.chunks_len
     c.start_in.ensures.started c.start_in.ensures.len c.start_in.ensures.kept c.run_all.ensures.placed c.run_all.ensures.len in
     let fields =
-    started_fields core core.topology core.journal.steps s m slot c.push_spare.new.self c.put_child_out.new.posts c.note_came.new.came c.start_chunk.new.inboxes c.start_chunk.new.chunks c.start_in.new.children c.run_all.new.places x.fields started in
-    let room = room_after core new (Child s m slot) x allowed refl (room_due core (Child s m slot ∷ core.journal.steps) core.journal.spare c.push_spare.new.self.spare x c.requires.spare c.push_spare.ensures.spare)
+    started_fields core core.topology core.journal.steps s c.args.no slot c.push_spare.new.self c.put_child_out.new.posts c.note_came.new.came c.start_chunk.new.inboxes c.start_chunk.new.chunks c.start_in.new.children c.run_all.new.places x.fields started in
+    let room = room_after core new (Child s c.args.no slot) x allowed refl (room_due core (Child s c.args.no slot ∷ core.journal.steps) core.journal.spare c.push_spare.new.self.spare x c.requires.spare c.push_spare.ensures.spare)
     c.run_all.ensures.capacity refl refl refl
-    (child_queues core s c.start_chunk.new.chunks.items (λ t. list_at core.chunks.items t ++ take 1 (units_on c.args.sub (queue_at core.inboxes.items t))) x (child_facts core.topology core.journal.steps s m slot allowed).role
+    (child_queues core s c.start_chunk.new.chunks.items (λ t. list_at core.chunks.items t ++ take 1 (units_on c.args.sub (queue_at core.inboxes.items t))) x (child_facts core.topology core.journal.steps s c.args.no slot allowed).role
     c.start_chunk.ensures.chunks) refl in
-    holds_after core new (Child s m slot) x refl c.push_spare.ensures.written allowed fields room
+    holds_after core new (Child s c.args.no slot) x refl c.push_spare.ensures.written allowed fields room

@@ -127,28 +127,21 @@ push_spare-requires c =
 
 pub lose_new-requires : goal.lose_new-requires
 lose_new-requires c =
-    let core = c.args.core.now in
-    let x = c.requires.stands.holds in
-    let rows = late_rows core c.args.post.stage c.args.post.slot c.args.incarnation c.args.records x c.requires.legal in
-    omega (arith, rows.places, x.fields.sized.places, core.places.ok.0, ap (λ (rs : List (List ℕ)). length rs) c.as_slice.ensures)
+    let rows = late_rows c.args.core.now c.args.post.stage c.args.post.slot c.args.incarnation c.args.records c.requires.stands.holds c.requires.legal in
+    omega (arith, rows.places, c.requires.stands.holds.fields.sized.places, c.args.core.now.places.ok.0, ap (λ (rs : List (List ℕ)). length rs) c.as_slice.ensures)
 
 pub mark_new-requires : goal.mark_new-requires
 mark_new-requires c =
-    let core = c.args.core.now in
-    let x = c.requires.stands.holds in
-    let rows = late_rows core c.args.post.stage c.args.post.slot c.args.incarnation c.args.records x c.requires.legal in
-    omega (arith, rows.settled, x.fields.sized.settled, core.settled.ok.0, ap (λ (rs : List (List ℕ)). length rs) c.as_slice.ensures)
+    let rows = late_rows c.args.core.now c.args.post.stage c.args.post.slot c.args.incarnation c.args.records c.requires.stands.holds c.requires.legal in
+    omega (arith, rows.settled, c.requires.stands.holds.fields.sized.settled, c.args.core.now.settled.ok.0, ap (λ (rs : List (List ℕ)). length rs) c.as_slice.ensures)
 
 pub produce_new-requires : goal.produce_new-requires
 produce_new-requires c =
-    let core = c.args.core.now in
     let x = c.requires.stands.holds in
-    let rows = late_rows core c.args.post.stage c.args.post.slot c.args.incarnation c.args.records x c.requires.legal in
-    omega (arith, rows.producers, x.fields.sized.producers, core.producers.ok.0, ap (λ (rs : List (List ℕ)). length rs) c.as_slice.ensures)
+    let rows = late_rows c.args.core.now c.args.post.stage c.args.post.slot c.args.incarnation c.args.records x c.requires.legal in
+    omega (arith, rows.producers, x.fields.sized.producers, c.args.core.now.producers.ok.0, ap (λ (rs : List (List ℕ)). length rs) c.as_slice.ensures)
 
 pub content_new-requires : goal.content_new-requires
 content_new-requires c =
-    let core = c.args.core.now in
-    let x = c.requires.stands.holds in
-    let rows = late_rows core c.args.post.stage c.args.post.slot c.args.incarnation c.args.records x c.requires.legal in
-    omega (arith, rows.contents, x.fields.sized.contents, core.contents.ok.0, ap (λ (rs : List (List ℕ)). length rs) c.as_slice.ensures)
+    let rows = late_rows c.args.core.now c.args.post.stage c.args.post.slot c.args.incarnation c.args.records c.requires.stands.holds c.requires.legal in
+    omega (arith, rows.contents, c.requires.stands.holds.fields.sized.contents, c.args.core.now.contents.ok.0, ap (λ (rs : List (List ℕ)). length rs) c.as_slice.ensures)

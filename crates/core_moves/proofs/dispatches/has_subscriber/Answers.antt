@@ -8,13 +8,7 @@ use Rattle.core_rows.proofs.Finding.{any_here, any_next, stage_there}
 use Rattle.core_moves.proofs.dispatches.has_subscriber.Goals as goal
 
 pub room-requires : goal.room-requires
-room-requires c =
-    record {
-      holds = c.requires.stands.holds;
-      from = c.requires.from;
-      to = stage_there c.args.core.now.topology c.as_slice-spec-items.result.now c.loop-spec.spec-index c.spec-item.result c.requires.stands.holds.sound c.as_slice-spec-items.ensures c.loop-spec-test.true c.spec-item.is;
-      live = c.requires.live;
-    }
+room-requires c = record { holds = c.requires.stands.holds; from = c.requires.from; to = stage_there c.args.core.now.topology c.as_slice-spec-items.result.now c.loop-spec.spec-index c.spec-item.result c.requires.stands.holds.sound c.as_slice-spec-items.ensures c.loop-spec-test.true c.spec-item.is; live = c.requires.live }
 
 pub returns-then-is_some : goal.returns-then-is_some
 returns-then-is_some c =

@@ -18,17 +18,15 @@ is_served-requires-clause-waits c =
 
 pub returns-in-Some : goal.returns-in-Some
 returns-in-Some c =
-    let core = c.args.core.now in
-    let t = core.topology in
-    let h = core.journal.steps in
+    let t = c.args.core.now.topology in
+    let h = c.args.core.now.journal.steps in
     let s = c.args.spec.now.no in
     let kind : kind_in (spec_of t s) ≡ Broadcast = ap kind_in c.requires.there ∙ c.requires.kind in
     c.is_served.ensures ∙ broadcast_go t h s c.in-Some.first (picks_by t h (view_of t h)) (rooms_by t h (view_of t h) s) kind (sym c.in-Some.ensures)
 
 pub returns-in-None : goal.returns-in-None
 returns-in-None c =
-    let core = c.args.core.now in
-    let t = core.topology in
-    let h = core.journal.steps in
+    let t = c.args.core.now.topology in
+    let h = c.args.core.now.journal.steps in
     let s = c.args.spec.now.no in
     none_wait t h s (ByBroadcast (picks_by t h (view_of t h))) (rooms_by t h (view_of t h) s) (no_first t h s (sym c.in-None.ensures))

@@ -11,11 +11,10 @@ pub returns-then-may_gather_first : goal.returns-then-may_gather_first
 returns-then-may_gather_first c =
     let core = c.args.core.now in
     let test : StageSpec → Bool = λ spec. may_gather core.topology core.journal.steps spec.no (first_unit (inbox core.topology core.journal.steps spec.no)) in
-    let specs = c.as_slice-spec-items.result.now in
     let i = c.loop-spec.spec-index in
     let spec = c.spec-item.result in
     let here = ap test (sym c.spec-item.is) ∙ (sym c.may_gather_first.ensures ∙ c.if-may_gather_first.true) in
-    let all = sym (found_here test specs i spec c.loop-spec-test.true here) ∙ (c.loop-spec.invariant ∙ ap (find test) c.as_slice-spec-items.ensures) in
+    let all = sym (found_here test c.as_slice-spec-items.result.now i spec c.loop-spec-test.true here) ∙ (c.loop-spec.invariant ∙ ap (find test) c.as_slice-spec-items.ensures) in
     ap (λ (o : StageSpec). Some o.no) c.spec-item.is ∙ ap (option_map (λ (s : StageSpec). s.no)) all
 
 pub loop-spec-preserved : goal.loop-spec-preserved
@@ -29,8 +28,7 @@ pub returns : goal.returns
 returns c =
     let core = c.args.core.now in
     let test : StageSpec → Bool = λ spec. may_gather core.topology core.journal.steps spec.no (first_unit (inbox core.topology core.journal.steps spec.no)) in
-    let specs = c.as_slice-spec-items.result.now in
-    let none : drop c.loop-spec.spec-index specs ≡ [] = drop_all c.loop-spec.spec-index specs (omega arith) in
+    let none : drop c.loop-spec.spec-index c.as_slice-spec-items.result.now ≡ [] = drop_all c.loop-spec.spec-index c.as_slice-spec-items.result.now (omega arith) in
     ap (λ xs. option_map (λ (s : StageSpec). s.no) (find test xs)) (sym none) ∙ ap (option_map (λ (s : StageSpec). s.no)) (c.loop-spec.invariant ∙ ap (find test) c.as_slice-spec-items.ensures)
 
 pub may_gather_first-requires-clause-there : goal.may_gather_first-requires-clause-there

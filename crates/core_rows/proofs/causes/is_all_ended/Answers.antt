@@ -9,23 +9,20 @@ use Rattle.core_rows.proofs.causes.is_all_ended.Goals as goal
 
 pub returns-then-not-is_source_done : goal.returns-then-not-is_source_done
 returns-then-not-is_source_done c =
-    let core = c.args.core.now in
-    let test : StageSpec → Bool = λ spec. not (is_producer_role spec.role) || has_ended core.journal.steps spec.no in
+    let test : StageSpec → Bool = λ spec. not (is_producer_role spec.role) || has_ended c.args.core.now.journal.steps spec.no in
     let specs = c.as_slice-spec-items.result.now in
     let here = ap test (sym c.spec-item.is) ∙ (sym c.is_source_done.ensures ∙ c.if-not-is_source_done.true) in
     sym (all_not test specs c.loop-spec.spec-index c.spec-item.result c.loop-spec-test.true here) ∙ (c.loop-spec.invariant ∙ ap (list_all test) c.as_slice-spec-items.ensures)
 
 pub loop-spec-preserved : goal.loop-spec-preserved
 loop-spec-preserved c =
-    let core = c.args.core.now in
-    let test : StageSpec → Bool = λ spec. not (is_producer_role spec.role) || has_ended core.journal.steps spec.no in
+    let test : StageSpec → Bool = λ spec. not (is_producer_role spec.role) || has_ended c.args.core.now.journal.steps spec.no in
     let here = ap test (sym c.spec-item.is) ∙ (sym c.is_source_done.ensures ∙ c.if-not-is_source_done.false) in
     all_next test c.as_slice-spec-items.result.now c.loop-spec.spec-index c.spec-item.result c.loop-spec-test.true here ∙ c.loop-spec.invariant
 
 pub returns : goal.returns
 returns c =
-    let core = c.args.core.now in
-    let test : StageSpec → Bool = λ spec. not (is_producer_role spec.role) || has_ended core.journal.steps spec.no in
+    let test : StageSpec → Bool = λ spec. not (is_producer_role spec.role) || has_ended c.args.core.now.journal.steps spec.no in
     let specs = c.as_slice-spec-items.result.now in
     let none : drop c.loop-spec.spec-index specs ≡ [] = drop_all c.loop-spec.spec-index specs (omega arith) in
     ap (list_all test) (sym none) ∙ (c.loop-spec.invariant ∙ ap (list_all test) c.as_slice-spec-items.ensures)

@@ -1,13 +1,17 @@
-use Rattle.std.proofs.Common.{◌∙◌, sym}
-use Rattle.core_rows.proofs.Totals.{draining_is, drained_by}
+use Rattle.std.proofs.Common.{false, true, ap, sym, ◌∙◌}
+use Rattle.std.specs.Prelude.{not}
+use Rattle.core_rows.proofs.Totals.{draining_is, drained_if}
 use Rattle.core_rows.proofs.rests.is_drained.Goals as goal
 
-pub is_all_clear-requires : goal.is_all_clear-requires
-is_all_clear-requires c = record { stands = c.requires.stands; home = sym c.is_any_out.ensures ∙ c.if-is_any_out.false }
+pub returns-then-not-is_all_bare : goal.returns-then-not-is_all_bare
+returns-then-not-is_all_bare c =
+    let core = c.args.core.now in
+    let x = c.requires.stands.holds in
+    drained_if core.topology core.journal.steps x.sound x.legal (sym (draining_is core x) ∙ c.if-not-core.false) false (λ home. sym c.if-not-is_all_bare.true ∙ c.is_all_bare.ensures home)
 
 pub returns : goal.returns
 returns c =
     let core = c.args.core.now in
     let x = c.requires.stands.holds in
-    c.is_all_clear.ensures
-    ∙ drained_by core.topology core.journal.steps x.sound x.legal (sym (draining_is core x) ∙ c.if-not-core.false) (sym c.is_any_out.ensures ∙ c.if-is_any_out.false)
+    ap not c.is_any_out.ensures
+    ∙ drained_if core.topology core.journal.steps x.sound x.legal (sym (draining_is core x) ∙ c.if-not-core.false) true (λ home. sym c.if-not-is_all_bare.false ∙ c.is_all_bare.ensures home)

@@ -8,8 +8,7 @@ use Rattle.core_rows.proofs.rests.is_gathered_empty.Goals as goal
 
 pub returns : goal.returns
 returns c =
-    let core = c.args.core.now in
     let s = c.args.stage in
     c.has_none_open.ensures
     ∙ (ap (λ xs. is_empty (opens_in (slice_get xs s.0))) c.deref.ensures.value
-    ∙ (ap is_empty (c.requires.stands.holds.fields.opens s) ∙ empty_opens core.journal.steps (gathered_in core.topology core.journal.steps s)))
+    ∙ (ap is_empty (c.requires.stands.holds.fields.opens s) ∙ empty_opens c.args.core.now.journal.steps (gathered_in c.args.core.now.topology c.args.core.now.journal.steps s)))

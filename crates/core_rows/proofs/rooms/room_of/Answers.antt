@@ -27,9 +27,8 @@ loop-spec-preserved c =
 
 pub returns : goal.returns
 returns c =
-    let core = c.args.core.now in
-    let t = core.topology in
-    let h = core.journal.steps in
+    let t = c.args.core.now.topology in
+    let h = c.args.core.now.journal.steps in
     let s = c.args.producer.now.no in
     let specs = c.as_slice-spec-items.result.now in
     let none : drop c.loop-spec.spec-index specs ≡ [] = drop_all c.loop-spec.spec-index specs (omega arith) in

@@ -15,52 +15,47 @@ index-queue-requires c =
 
 pub index-requires : goal.index-requires
 index-requires c =
-    let core = c.args.core.now in
-    let t = core.topology in
-    let h = core.journal.steps in
+    let t = c.args.core.now.topology in
+    let h = c.args.core.now.journal.steps in
     let w = live_within t h c.args.stage c.requires.holds.sound c.requires.live in
-    let read = ap length (waiting_read core t h c.requires.holds.fields c.args.stage c.index-queue.result.now w.1 c.index-queue.ensures) in
+    let read = ap length (waiting_read c.args.core.now t h c.requires.holds.fields c.args.stage c.index-queue.result.now w.1 c.index-queue.ensures) in
     omega (arith, read, long_queue (part_of t h (spec_of t c.args.stage)) (waiting t h c.args.stage), c.requires.within)
 
 pub first_message-message-requires-clause-least : goal.first_message-message-requires-clause-least
 first_message-message-requires-clause-least c =
-    let core = c.args.core.now in
-    let t = core.topology in
-    let h = core.journal.steps in
+    let t = c.args.core.now.topology in
+    let h = c.args.core.now.journal.steps in
     let s = c.args.stage in
     let x = c.requires.holds in
     let w = live_within t h s x.sound c.requires.live in
-    let read = waiting_read core t h x.fields s c.index-queue.result.now w.1 c.index-queue.ensures in
+    let read = waiting_read c.args.core.now t h x.fields s c.index-queue.result.now w.1 c.index-queue.ensures in
     let number : c.index.result.now.1 ≡ get_or (waiting t h s) c.loop-k.k 0 =
     number_at (part_of t h (spec_of t s)) (waiting t h s) c.index-queue.result.now.items c.loop-k.k c.index.result.now read (omega (arith, c.requires.within)) c.index.ensures in
     omega (arith, number, (batch_there t h s c.loop-k.k x.sound x.legal c.requires.batches (omega (arith, c.requires.within))).0)
 
 pub first_message-message-requires-clause-waits : goal.first_message-message-requires-clause-waits
 first_message-message-requires-clause-waits c =
-    let core = c.args.core.now in
-    let t = core.topology in
-    let h = core.journal.steps in
+    let t = c.args.core.now.topology in
+    let h = c.args.core.now.journal.steps in
     let s = c.args.stage in
     let x = c.requires.holds in
     let w = live_within t h s x.sound c.requires.live in
-    let read = waiting_read core t h x.fields s c.index-queue.result.now w.1 c.index-queue.ensures in
+    let read = waiting_read c.args.core.now t h x.fields s c.index-queue.result.now w.1 c.index-queue.ensures in
     let number : c.index.result.now.1 ≡ get_or (waiting t h s) c.loop-k.k 0 =
     number_at (part_of t h (spec_of t s)) (waiting t h s) c.index-queue.result.now.items c.loop-k.k c.index.result.now read (omega (arith, c.requires.within)) c.index.ensures in
     subst (λ n. batch_waits_in s (batch t h n) ≡ true) (sym number) (batch_there t h s c.loop-k.k x.sound x.legal c.requires.batches (omega (arith, c.requires.within))).1
 
 pub loop-k-preserved : goal.loop-k-preserved
 loop-k-preserved c =
-    let core = c.args.core.now in
-    let t = core.topology in
-    let h = core.journal.steps in
+    let t = c.args.core.now.topology in
+    let h = c.args.core.now.journal.steps in
     let s = c.args.stage in
-    let x = c.requires.holds in
     let rooms = c.args.rooms.now in
     let old = c.loop-k.picks.items in
     let k = c.loop-k.k in
     let ws = take c.args.count (waiting t h s) in
-    let w = live_within t h s x.sound c.requires.live in
-    let read = waiting_read core t h x.fields s c.index-queue.result.now w.1 c.index-queue.ensures in
+    let w = live_within t h s c.requires.holds.sound c.requires.live in
+    let read = waiting_read c.args.core.now t h c.requires.holds.fields s c.index-queue.result.now w.1 c.index-queue.ensures in
     let number : c.index.result.now.1 ≡ get_or (waiting t h s) k 0 =
     number_at (part_of t h (spec_of t s)) (waiting t h s) c.index-queue.result.now.items k c.index.result.now read (omega (arith, c.requires.within)) c.index.ensures in
     let first : get_or ws k 0 ≡ get_or (waiting t h s) k 0 = get_or-take c.args.count (waiting t h s) k 0 (omega arith) in
@@ -72,9 +67,8 @@ loop-k-preserved c =
 
 pub returns : goal.returns
 returns c =
-    let core = c.args.core.now in
-    let t = core.topology in
-    let h = core.journal.steps in
+    let t = c.args.core.now.topology in
+    let h = c.args.core.now.journal.steps in
     let ws = take c.args.count (waiting t h c.args.stage) in
     let none : drop c.loop-k.k ws ≡ [] = drop_all c.loop-k.k ws (omega (arith, length-take-le c.args.count (waiting t h c.args.stage) c.requires.within)) in
     sym (append-nil c.loop-k.picks.items)

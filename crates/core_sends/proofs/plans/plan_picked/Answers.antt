@@ -1,9 +1,7 @@
-use Rattle.std.proofs.Common.{◌≡◌, ◌∙◌, length, ap, arith}
-use Rattle.pipe_types.specs.Stages.{spec_of}
+use Rattle.std.proofs.Common.{◌≡◌, ◌∙◌, arith}
 use Rattle.pipe_model.specs.Flow.{waiting}
-use Rattle.core_laws.specs.Columns.{part_of}
 use Rattle.core_sends.proofs.Looking.{looked}
-use Rattle.core_sends.proofs.Queued.{live_within, waiting_read, long_queue}
+use Rattle.core_sends.proofs.Queued.{live_within, many_read}
 use Rattle.core_sends.proofs.plans.plan_picked.Goals as goal
 
 pub index-requires : goal.index-requires
@@ -13,59 +11,24 @@ index-requires c =
 
 pub plan_first-requires-clause-within : goal.plan_first-requires-clause-within
 plan_first-requires-clause-within c =
-    let core = c.args.core.now in
-    let t = core.topology in
-    let h = core.journal.steps in
-    let s = c.args.stage in
-    let w = live_within t h s c.requires.holds.sound c.requires.live in
-    let read = waiting_read core t h c.requires.holds.fields s c.index.result.now w.1 c.index.ensures in
-    let many : c.len-waiting.result ≡ length (waiting t h s) = c.len-waiting.ensures ∙ (c.index.result.now.ok.0 ∙ (ap length read ∙ long_queue (part_of t h (spec_of t s)) (waiting t h s))) in
-    omega (arith, many)
+    omega (arith, many_read c.args.core.now c.args.stage c.index.result.now c.len-waiting.result c.requires.holds c.requires.live c.index.ensures (c.len-waiting.ensures ∙ c.index.result.now.ok.0))
 
 pub plan_first-requires-in-look-clause-within : goal.plan_first-requires-in-look-clause-within
 plan_first-requires-in-look-clause-within c =
-    let core = c.args.core.now in
-    let t = core.topology in
-    let h = core.journal.steps in
-    let s = c.args.stage in
-    let w = live_within t h s c.requires.holds.sound c.requires.live in
-    let read = waiting_read core t h c.requires.holds.fields s c.index.result.now w.1 c.index.ensures in
-    let many : c.len-waiting.result ≡ length (waiting t h s) = c.len-waiting.ensures ∙ (c.index.result.now.ok.0 ∙ (ap length read ∙ long_queue (part_of t h (spec_of t s)) (waiting t h s))) in
-    omega (arith, many)
+    omega (arith, many_read c.args.core.now c.args.stage c.index.result.now c.len-waiting.result c.requires.holds c.requires.live c.index.ensures (c.len-waiting.ensures ∙ c.index.result.now.ok.0))
 
 pub plan_first-requires-in-look-clause-few : goal.plan_first-requires-in-look-clause-few
 plan_first-requires-in-look-clause-few c =
-    let core = c.args.core.now in
-    let t = core.topology in
-    let h = core.journal.steps in
-    let s = c.args.stage in
-    let w = live_within t h s c.requires.holds.sound c.requires.live in
-    let read = waiting_read core t h c.requires.holds.fields s c.index.result.now w.1 c.index.ensures in
-    let many : c.len-waiting.result ≡ length (waiting t h s) = c.len-waiting.ensures ∙ (c.index.result.now.ok.0 ∙ (ap length read ∙ long_queue (part_of t h (spec_of t s)) (waiting t h s))) in
-    omega (arith, many)
+    omega (arith, many_read c.args.core.now c.args.stage c.index.result.now c.len-waiting.result c.requires.holds c.requires.live c.index.ensures (c.len-waiting.ensures ∙ c.index.result.now.ok.0))
 
 pub returns-clause-sent : goal.returns-clause-sent
 returns-clause-sent c =
-    let core = c.args.core.now in
-    let t = core.topology in
-    let h = core.journal.steps in
-    let s = c.args.stage in
-    let w = live_within t h s c.requires.holds.sound c.requires.live in
-    let read = waiting_read core t h c.requires.holds.fields s c.index.result.now w.1 c.index.ensures in
-    let many : c.len-waiting.result ≡ length (waiting t h s) = c.len-waiting.ensures ∙ (c.index.result.now.ok.0 ∙ (ap length read ∙ long_queue (part_of t h (spec_of t s)) (waiting t h s))) in
-    c.look.invariant.sent
-    ∙ (looked t h s c.look.count c.requires.broadcast (omega (arith, many, c.look.invariant.within))
-    (λ all. omega (arith, many, c.looks_on.ensures.done c.look-test.false (c.look.invariant.served ∙ all)))).0
+    let many = many_read c.args.core.now c.args.stage c.index.result.now c.len-waiting.result c.requires.holds c.requires.live c.index.ensures (c.len-waiting.ensures ∙ c.index.result.now.ok.0) in
+    let found = looked c.args.core.now.topology c.args.core.now.journal.steps c.args.stage c.look.count c.requires.broadcast (omega (arith, many, c.look.invariant.within)) (λ all. omega (arith, many, c.looks_on.ensures.done c.look-test.false (c.look.invariant.served ∙ all))) in
+    c.look.invariant.sent ∙ found.0
 
 pub returns-clause-served : goal.returns-clause-served
 returns-clause-served c =
-    let core = c.args.core.now in
-    let t = core.topology in
-    let h = core.journal.steps in
-    let s = c.args.stage in
-    let w = live_within t h s c.requires.holds.sound c.requires.live in
-    let read = waiting_read core t h c.requires.holds.fields s c.index.result.now w.1 c.index.ensures in
-    let many : c.len-waiting.result ≡ length (waiting t h s) = c.len-waiting.ensures ∙ (c.index.result.now.ok.0 ∙ (ap length read ∙ long_queue (part_of t h (spec_of t s)) (waiting t h s))) in
-    c.look.invariant.served
-    ∙ (looked t h s c.look.count c.requires.broadcast (omega (arith, many, c.look.invariant.within))
-    (λ all. omega (arith, many, c.looks_on.ensures.done c.look-test.false (c.look.invariant.served ∙ all)))).1
+    let many = many_read c.args.core.now c.args.stage c.index.result.now c.len-waiting.result c.requires.holds c.requires.live c.index.ensures (c.len-waiting.ensures ∙ c.index.result.now.ok.0) in
+    let found = looked c.args.core.now.topology c.args.core.now.journal.steps c.args.stage c.look.count c.requires.broadcast (omega (arith, many, c.look.invariant.within)) (λ all. omega (arith, many, c.looks_on.ensures.done c.look-test.false (c.look.invariant.served ∙ all))) in
+    c.look.invariant.served ∙ found.1

@@ -2,16 +2,13 @@ use Rattle.std.proofs.Common.{◌≡◌, ℕ, suc, ◌<◌, List, length, map, �
 use Rattle.std.specs.Prelude.{option_map, slice_get, filter, not, ◌&&◌}
 use Rattle.std.specs.Vec.{with_item}
 use Rattle.std.proofs.lemmas.Option.{slice_get_read}
-use Rattle.std.proofs.lemmas.List.{length-map}
 use Rattle.pipe_types.specs.declared.room.Sent.{Sent}
 use Rattle.pipe_types.specs.declared.step.Step.TheVariants.{Dispatch}
-use Rattle.pipe_types.specs.Stages.{spec_of}
-use Rattle.pipe_model.specs.Flow.{deliveries, waiting, delivered_to, subs_of, alone, among}
+use Rattle.pipe_model.specs.Flow.{waiting, delivered_to, subs_of, alone, among}
 use Rattle.message_ack.specs.Ends.{sent_in}
 use Rattle.stage_subs.specs.Subs.{row_at, sent_more}
-use Rattle.core_tables.specs.Tables.{named, queue_at, count_between, HasRoom}
-use Rattle.core_laws.specs.Columns.{part_of, waiting_parts}
-use Rattle.core_laws.specs.Laws.{IsSentWell}
+use Rattle.core_tables.specs.Tables.{named, queue_at, count_between}
+use Rattle.core_laws.specs.Columns.{waiting_parts}
 use Rattle.core_state.specs.declared.state.Core.{Core}
 use Rattle.core_state.specs.Stands.{Fields}
 use Rattle.core_state.specs.Room.{Roomy}
@@ -23,206 +20,94 @@ use Rattle.core_sends.specs.Losing.{numbers_in}
 use Rattle.core_sends.specs.Rooms.{planned, served_first}
 use Rattle.core_sends.proofs.AfterBatches.{are_begun, batch_fields, still_stands_with}
 use Rattle.core_sends.proofs.BatchesSent.{units_closed, none_begun, none_noted, rest_unsent}
-use Rattle.core_sends.proofs.Queued.{waiting_read, numbers_in_queue, long_queue}
-use Rattle.core_sends.proofs.Sendable.{dispatching, units_within, units_live, units_asked, room_named}
+use Rattle.core_sends.proofs.Sendable.{dispatching, units_within, units_live, units_asked, room_sent, queue_read, many_wait, units_named, sent_well}
 use Rattle.core_sends.proofs.Served.{served_within, lone_is, left_queue, queue_endable, placed_alike, marked_rows}
-use Rattle.core_sends.proofs.Sent.{deliveries_named, planned_below}
+use Rattle.core_sends.proofs.Sent.{planned_below}
 use Rattle.core_sends.proofs.sending.send_batches.Goals as goal
 
 pub index-requires : goal.index-requires
 index-requires c =
-    let core = c.args.core.now in
-    let t = core.topology in
-    let before = core.journal.steps in
-    let s = c.args.stage in
-    let x = c.requires.stands.holds in
-    let known = dispatching core s x c.requires.legal in
-    omega (arith, known.within, x.fields.sized.waiting)
+    omega (arith, (dispatching c.args.core.now c.args.stage c.requires.stands.holds c.requires.legal).within, c.requires.stands.holds.fields.sized.waiting)
 
 pub index_mut-requires : goal.index_mut-requires
 index_mut-requires c =
-    let core = c.args.core.now in
-    let t = core.topology in
-    let before = core.journal.steps in
-    let s = c.args.stage in
-    let x = c.requires.stands.holds in
-    let known = dispatching core s x c.requires.legal in
-    omega (arith, known.within, x.fields.sized.waiting)
+    omega (arith, (dispatching c.args.core.now c.args.stage c.requires.stands.holds c.requires.legal).within, c.requires.stands.holds.fields.sized.waiting)
 
 pub name_units-requires : goal.name_units-requires
 name_units-requires c =
     let core = c.args.core.now in
-    let t = core.topology in
-    let before = core.journal.steps in
-    let s = c.args.stage in
-    let x = c.requires.stands.holds in
-    let known = dispatching core s x c.requires.legal in
-    let queue = waiting_read core t before x.fields s c.index.result.now known.within c.index.ensures in
-    let numbers : numbers_in c.index.result.now.items ≡ waiting t before s = ap numbers_in queue ∙ numbers_in_queue (part_of t before (spec_of t s)) (waiting t before s) in
-    let long : length c.index.result.now.items ≡ length (waiting t before s) = ap length queue ∙ long_queue (part_of t before (spec_of t s)) (waiting t before s) in
-    record { within = subst (λ (us : List Sent). All (λ (d : Sent). d.unit < length c.index.result.now.items) us) (sym c.requires.planned) (subst (λ n. All (λ (d : Sent). d.unit < n) (planned t before s [])) (sym long) (planned_below t before s)) }
+    let long = many_wait core c.args.stage c.index.result.now c.requires.stands.holds c.requires.legal c.index.ensures in
+    record { within = subst (λ (us : List Sent). All (λ (d : Sent). d.unit < length c.index.result.now.items) us) (sym c.requires.planned) (subst (λ n. All (λ (d : Sent). d.unit < n) (planned core.topology core.journal.steps c.args.stage [])) (sym long) (planned_below core.topology core.journal.steps c.args.stage)) }
 
 pub deliver_all-requires-clause-within : goal.deliver_all-requires-clause-within
 deliver_all-requires-clause-within c =
     let core = c.args.core.now in
-    let t = core.topology in
-    let before = core.journal.steps in
-    let s = c.args.stage in
-    let x = c.requires.stands.holds in
-    let known = dispatching core s x c.requires.legal in
-    let queue = waiting_read core t before x.fields s c.index.result.now known.within c.index.ensures in
-    let numbers : numbers_in c.index.result.now.items ≡ waiting t before s = ap numbers_in queue ∙ numbers_in_queue (part_of t before (spec_of t s)) (waiting t before s) in
-    let units : c.name_units.new.units.items ≡ deliveries t before s =
-    c.name_units.ensures ∙ (ap (map (named (numbers_in c.index.result.now.items))) c.requires.planned ∙ (ap (λ ws. map (named ws) (planned t before s [])) numbers ∙ sym (deliveries_named t before s))) in
-    let is : c.deref-3.result.now ≡ deliveries t before s = c.deref-3.ensures.value ∙ units in
-    let well : All (IsSentWell t before) c.deref-3.result.now = subst (All (IsSentWell t before)) (sym is) known.law.well in
-    units_within t before c.deref-3.result.now (length core.inboxes.items) x.sound x.fields.sized.inboxes well
+    let is = units_named core c.args.stage c.index.result.now c.args.sent.items c.deref-3.result.now c.requires.stands.holds c.requires.legal c.index.ensures c.requires.planned (c.deref-3.ensures.value ∙ c.name_units.ensures) in
+    units_within core.topology core.journal.steps c.deref-3.result.now (length core.inboxes.items) c.requires.stands.holds.sound c.requires.stands.holds.fields.sized.inboxes (sent_well core c.args.stage c.deref-3.result.now c.requires.stands.holds c.requires.legal is)
 
 pub deliver_all-requires-clause-room : goal.deliver_all-requires-clause-room
 deliver_all-requires-clause-room c =
-    let core = c.args.core.now in
-    let is : c.deref-3.result.now ≡ map (named (numbers_in c.index.result.now.items)) c.args.sent.items = c.deref-3.ensures.value ∙ c.name_units.ensures in
-    let count : length c.args.sent.items ≡ length c.deref-3.result.now = sym (ap length is ∙ length-map c.args.sent.items (named (numbers_in c.index.result.now.items))) in
-    subst (All (HasRoom (length c.deref-3.result.now) core.inboxes.items)) (sym is)
-    (room_named (length c.args.sent.items) (length c.deref-3.result.now) core.inboxes.items (numbers_in c.index.result.now.items) c.args.sent.items count c.requires.room)
+    room_sent c.args.core.now.inboxes.items (numbers_in c.index.result.now.items) c.args.sent.items c.deref-3.result.now (c.deref-3.ensures.value ∙ c.name_units.ensures) c.requires.room
 
 pub count_all-requires-clause-live : goal.count_all-requires-clause-live
 count_all-requires-clause-live c =
     let core = c.args.core.now in
-    let t = core.topology in
-    let before = core.journal.steps in
-    let s = c.args.stage in
-    let x = c.requires.stands.holds in
-    let known = dispatching core s x c.requires.legal in
-    let queue = waiting_read core t before x.fields s c.index.result.now known.within c.index.ensures in
-    let numbers : numbers_in c.index.result.now.items ≡ waiting t before s = ap numbers_in queue ∙ numbers_in_queue (part_of t before (spec_of t s)) (waiting t before s) in
-    let units : c.name_units.new.units.items ≡ deliveries t before s =
-    c.name_units.ensures ∙ (ap (map (named (numbers_in c.index.result.now.items))) c.requires.planned ∙ (ap (λ ws. map (named ws) (planned t before s [])) numbers ∙ sym (deliveries_named t before s))) in
-    let is : c.deref-4.result.now ≡ deliveries t before s = c.deref-4.ensures.value ∙ units in
-    let well : All (IsSentWell t before) c.deref-4.result.now = subst (All (IsSentWell t before)) (sym is) known.law.well in
-    units_live core t before c.deref-4.result.now x.fields well
+    let is = units_named core c.args.stage c.index.result.now c.args.sent.items c.deref-4.result.now c.requires.stands.holds c.requires.legal c.index.ensures c.requires.planned (c.deref-4.ensures.value ∙ c.name_units.ensures) in
+    units_live core core.topology core.journal.steps c.deref-4.result.now c.requires.stands.holds.fields (sent_well core c.args.stage c.deref-4.result.now c.requires.stands.holds c.requires.legal is)
 
 pub count_all-requires-clause-asked : goal.count_all-requires-clause-asked
 count_all-requires-clause-asked c =
     let core = c.args.core.now in
-    let t = core.topology in
-    let before = core.journal.steps in
-    let s = c.args.stage in
-    let x = c.requires.stands.holds in
-    let known = dispatching core s x c.requires.legal in
-    let queue = waiting_read core t before x.fields s c.index.result.now known.within c.index.ensures in
-    let numbers : numbers_in c.index.result.now.items ≡ waiting t before s = ap numbers_in queue ∙ numbers_in_queue (part_of t before (spec_of t s)) (waiting t before s) in
-    let units : c.name_units.new.units.items ≡ deliveries t before s =
-    c.name_units.ensures ∙ (ap (map (named (numbers_in c.index.result.now.items))) c.requires.planned ∙ (ap (λ ws. map (named ws) (planned t before s [])) numbers ∙ sym (deliveries_named t before s))) in
-    let is : c.deref-4.result.now ≡ deliveries t before s = c.deref-4.ensures.value ∙ units in
-    let well : All (IsSentWell t before) c.deref-4.result.now = subst (All (IsSentWell t before)) (sym is) known.law.well in
-    units_asked core t before s c.deref-4.result.now x.fields known.law is well
+    let is = units_named core c.args.stage c.index.result.now c.args.sent.items c.deref-4.result.now c.requires.stands.holds c.requires.legal c.index.ensures c.requires.planned (c.deref-4.ensures.value ∙ c.name_units.ensures) in
+    units_asked core core.topology core.journal.steps c.args.stage c.deref-4.result.now c.requires.stands.holds.fields (dispatching core c.args.stage c.requires.stands.holds c.requires.legal).law is (sent_well core c.args.stage c.deref-4.result.now c.requires.stands.holds c.requires.legal is)
 
 pub begin_all-requires-clause-within : goal.begin_all-requires-clause-within
 begin_all-requires-clause-within c =
     let core = c.args.core.now in
-    let t = core.topology in
-    let before = core.journal.steps in
-    let s = c.args.stage in
-    let x = c.requires.stands.holds in
-    let known = dispatching core s x c.requires.legal in
-    let queue = waiting_read core t before x.fields s c.index.result.now known.within c.index.ensures in
-    let numbers : numbers_in c.index.result.now.items ≡ waiting t before s = ap numbers_in queue ∙ numbers_in_queue (part_of t before (spec_of t s)) (waiting t before s) in
-    let units : c.name_units.new.units.items ≡ deliveries t before s =
-    c.name_units.ensures ∙ (ap (map (named (numbers_in c.index.result.now.items))) c.requires.planned ∙ (ap (λ ws. map (named ws) (planned t before s [])) numbers ∙ sym (deliveries_named t before s))) in
-    let is : c.deref-2.result.now ≡ deliveries t before s = c.deref-2.ensures.value ∙ units in
-    let well : All (IsSentWell t before) c.deref-2.result.now = subst (All (IsSentWell t before)) (sym is) known.law.well in
-    units_closed t before s c.deref-2.result.now (length core.batches.items) c.requires.batches x.fields.sized.batches is well
+    let is = units_named core c.args.stage c.index.result.now c.args.sent.items c.deref-2.result.now c.requires.stands.holds c.requires.legal c.index.ensures c.requires.planned (c.deref-2.ensures.value ∙ c.name_units.ensures) in
+    units_closed core.topology core.journal.steps c.args.stage c.deref-2.result.now (length core.batches.items) c.requires.batches c.requires.stands.holds.fields.sized.batches is (sent_well core c.args.stage c.deref-2.result.now c.requires.stands.holds c.requires.legal is)
 
 pub begin_all-requires-clause-not_begun : goal.begin_all-requires-clause-not_begun
 begin_all-requires-clause-not_begun c =
     let core = c.args.core.now in
-    let t = core.topology in
-    let before = core.journal.steps in
-    let s = c.args.stage in
-    let x = c.requires.stands.holds in
-    let known = dispatching core s x c.requires.legal in
-    let queue = waiting_read core t before x.fields s c.index.result.now known.within c.index.ensures in
-    let numbers : numbers_in c.index.result.now.items ≡ waiting t before s = ap numbers_in queue ∙ numbers_in_queue (part_of t before (spec_of t s)) (waiting t before s) in
-    let units : c.name_units.new.units.items ≡ deliveries t before s =
-    c.name_units.ensures ∙ (ap (map (named (numbers_in c.index.result.now.items))) c.requires.planned ∙ (ap (λ ws. map (named ws) (planned t before s [])) numbers ∙ sym (deliveries_named t before s))) in
-    let is : c.deref-2.result.now ≡ deliveries t before s = c.deref-2.ensures.value ∙ units in
-    none_begun core t before s c.deref-2.result.now x.fields c.requires.batches is
+    let is = units_named core c.args.stage c.index.result.now c.args.sent.items c.deref-2.result.now c.requires.stands.holds c.requires.legal c.index.ensures c.requires.planned (c.deref-2.ensures.value ∙ c.name_units.ensures) in
+    none_begun core core.topology core.journal.steps c.args.stage c.deref-2.result.now c.requires.stands.holds.fields c.requires.batches is
 
 pub begin_all-requires-clause-not_noted : goal.begin_all-requires-clause-not_noted
 begin_all-requires-clause-not_noted c =
     let core = c.args.core.now in
-    let t = core.topology in
-    let before = core.journal.steps in
-    let s = c.args.stage in
-    let x = c.requires.stands.holds in
-    let known = dispatching core s x c.requires.legal in
-    let queue = waiting_read core t before x.fields s c.index.result.now known.within c.index.ensures in
-    let numbers : numbers_in c.index.result.now.items ≡ waiting t before s = ap numbers_in queue ∙ numbers_in_queue (part_of t before (spec_of t s)) (waiting t before s) in
-    let units : c.name_units.new.units.items ≡ deliveries t before s =
-    c.name_units.ensures ∙ (ap (map (named (numbers_in c.index.result.now.items))) c.requires.planned ∙ (ap (λ ws. map (named ws) (planned t before s [])) numbers ∙ sym (deliveries_named t before s))) in
-    let is : c.deref-2.result.now ≡ deliveries t before s = c.deref-2.ensures.value ∙ units in
-    none_noted core t before s c.deref-2.result.now x.fields x.legal c.requires.batches is
+    let is = units_named core c.args.stage c.index.result.now c.args.sent.items c.deref-2.result.now c.requires.stands.holds c.requires.legal c.index.ensures c.requires.planned (c.deref-2.ensures.value ∙ c.name_units.ensures) in
+    none_noted core core.topology core.journal.steps c.args.stage c.deref-2.result.now c.requires.stands.holds.fields c.requires.stands.holds.legal c.requires.batches is
 
 pub leave_batches-requires-clause-within : goal.leave_batches-requires-clause-within
 leave_batches-requires-clause-within c =
     let core = c.args.core.now in
-    let t = core.topology in
-    let before = core.journal.steps in
-    let s = c.args.stage in
-    let x = c.requires.stands.holds in
-    let known = dispatching core s x c.requires.legal in
-    let queue = waiting_read core t before x.fields s c.index.result.now known.within c.index.ensures in
-    let numbers : numbers_in c.index.result.now.items ≡ waiting t before s = ap numbers_in queue ∙ numbers_in_queue (part_of t before (spec_of t s)) (waiting t before s) in
-    let units : c.name_units.new.units.items ≡ deliveries t before s =
-    c.name_units.ensures ∙ (ap (map (named (numbers_in c.index.result.now.items))) c.requires.planned ∙ (ap (λ ws. map (named ws) (planned t before s [])) numbers ∙ sym (deliveries_named t before s))) in
-    let old = waiting_read core t before x.fields s c.index_mut.result.now known.within c.index_mut.ensures.value in
-    let long : length c.index_mut.result.now.items ≡ length (waiting t before s) = ap length old ∙ long_queue (part_of t before (spec_of t s)) (waiting t before s) in
-    let below : All (λ (d : Sent). d.unit < length (waiting t before s)) c.deref.result.now = subst (All (λ (d : Sent). d.unit < length (waiting t before s))) (sym (c.deref.ensures.value ∙ c.requires.planned)) (planned_below t before s) in
-    omega (arith, long, c.reach-first.ensures.least (length (waiting t before s)) below)
+    let long = many_wait core c.args.stage c.index_mut.result.now c.requires.stands.holds c.requires.legal c.index_mut.ensures.value in
+    let below : All (λ (d : Sent). d.unit < length (waiting core.topology core.journal.steps c.args.stage)) c.deref.result.now = subst (All (λ (d : Sent). d.unit < length (waiting core.topology core.journal.steps c.args.stage))) (sym (c.deref.ensures.value ∙ c.requires.planned)) (planned_below core.topology core.journal.steps c.args.stage) in
+    omega (arith, long, c.reach-first.ensures.least (length (waiting core.topology core.journal.steps c.args.stage)) below)
 
 pub leave_batches-requires-clause-rest : goal.leave_batches-requires-clause-rest
 leave_batches-requires-clause-rest c =
     let core = c.args.core.now in
-    let t = core.topology in
-    let before = core.journal.steps in
-    let s = c.args.stage in
-    let x = c.requires.stands.holds in
-    let known = dispatching core s x c.requires.legal in
-    let queue = waiting_read core t before x.fields s c.index.result.now known.within c.index.ensures in
-    let numbers : numbers_in c.index.result.now.items ≡ waiting t before s = ap numbers_in queue ∙ numbers_in_queue (part_of t before (spec_of t s)) (waiting t before s) in
-    let units : c.name_units.new.units.items ≡ deliveries t before s =
-    c.name_units.ensures ∙ (ap (map (named (numbers_in c.index.result.now.items))) c.requires.planned ∙ (ap (λ ws. map (named ws) (planned t before s [])) numbers ∙ sym (deliveries_named t before s))) in
-    let old = waiting_read core t before x.fields s c.index_mut.result.now known.within c.index_mut.ensures.value in
-    let is : c.deref-2.result.now ≡ deliveries t before s = c.deref-2.ensures.value ∙ units in
-    let begun = are_begun core t before s c.deref-2.result.now c.begin_all.new.legs is c.in_ok-begin_all.ensures.begun in
-    let above : All (λ (d : Sent). d.unit < c.reach-first.result) (planned t before s []) = subst (All (λ (d : Sent). d.unit < c.reach-first.result)) (c.deref.ensures.value ∙ c.requires.planned) c.reach-first.ensures.above in
+    let old = queue_read core c.args.stage c.index_mut.result.now c.requires.stands.holds c.requires.legal c.index_mut.ensures.value in
+    let is = units_named core c.args.stage c.index.result.now c.args.sent.items c.deref-2.result.now c.requires.stands.holds c.requires.legal c.index.ensures c.requires.planned (c.deref-2.ensures.value ∙ c.name_units.ensures) in
+    let begun = are_begun core core.topology core.journal.steps c.args.stage c.deref-2.result.now c.begin_all.new.legs is c.in_ok-begin_all.ensures.begun in
+    let above : All (λ (d : Sent). d.unit < c.reach-first.result) (planned core.topology core.journal.steps c.args.stage []) = subst (All (λ (d : Sent). d.unit < c.reach-first.result)) (c.deref.ensures.value ∙ c.requires.planned) c.reach-first.ensures.above in
     subst (λ (us : List (ℕ × ℕ)). All (λ (unit : ℕ × ℕ). not_sent c.begin_all.new.legs unit.1 ≡ true) (drop c.reach-first.result us)) (sym old)
-    (rest_unsent core t before s c.reach-first.result c.begin_all.new.legs x.fields x.sound x.legal c.requires.batches begun above)
+    (rest_unsent core core.topology core.journal.steps c.args.stage c.reach-first.result c.begin_all.new.legs c.requires.stands.holds.fields c.requires.stands.holds.sound c.requires.stands.holds.legal c.requires.batches begun above)
 
 pub leave_batches-requires-clause-served : goal.leave_batches-requires-clause-served
 leave_batches-requires-clause-served c =
     let core = c.args.core.now in
-    let t = core.topology in
-    let before = core.journal.steps in
-    let s = c.args.stage in
-    let x = c.requires.stands.holds in
-    let known = dispatching core s x c.requires.legal in
-    let old = waiting_read core t before x.fields s c.index_mut.result.now known.within c.index_mut.ensures.value in
-    let long : length c.index_mut.result.now.items ≡ length (waiting t before s) = ap length old ∙ long_queue (part_of t before (spec_of t s)) (waiting t before s) in
-    omega (arith, long, served_within t before s, c.requires.served)
+    let long = many_wait core c.args.stage c.index_mut.result.now c.requires.stands.holds c.requires.legal c.index_mut.ensures.value in
+    omega (arith, long, served_within core.topology core.journal.steps c.args.stage, c.requires.served)
 
 pub leave_batches-requires-clause-endable : goal.leave_batches-requires-clause-endable
 leave_batches-requires-clause-endable c =
     let core = c.args.core.now in
-    let t = core.topology in
-    let before = core.journal.steps in
-    let s = c.args.stage in
-    let x = c.requires.stands.holds in
-    let known = dispatching core s x c.requires.legal in
-    let old = waiting_read core t before x.fields s c.index_mut.result.now known.within c.index_mut.ensures.value in
+    let old = queue_read core c.args.stage c.index_mut.result.now c.requires.stands.holds c.requires.legal c.index_mut.ensures.value in
     subst (All (IsEndable c.begin_all.new.batches.items (length core.places.items))) (sym old)
-    (queue_endable core t before s c.begin_all.new.batches.items (length core.places.items) x.fields x.sound x.legal c.requires.batches c.begin_all.ensures.len c.begin_all.ensures.closed x.fields.sized.places)
+    (queue_endable core core.topology core.journal.steps c.args.stage c.begin_all.new.batches.items (length core.places.items) c.requires.stands.holds.fields c.requires.stands.holds.sound c.requires.stands.holds.legal c.requires.batches c.begin_all.ensures.len c.begin_all.ensures.closed c.requires.stands.holds.fields.sized.places)
 
 pub leave_batches-requires-clause-settled : goal.leave_batches-requires-clause-settled
 leave_batches-requires-clause-settled c = c.requires.stands.holds.fields.sized.settled ∙ sym c.requires.stands.holds.fields.sized.places
@@ -239,11 +124,8 @@ returns-clause-stands c =
     let s = c.args.stage in
     let x = c.requires.stands.holds in
     let known = dispatching core s x c.requires.legal in
-    let queue = waiting_read core t before x.fields s c.index.result.now known.within c.index.ensures in
-    let numbers : numbers_in c.index.result.now.items ≡ waiting t before s = ap numbers_in queue ∙ numbers_in_queue (part_of t before (spec_of t s)) (waiting t before s) in
-    let units : c.name_units.new.units.items ≡ deliveries t before s =
-    c.name_units.ensures ∙ (ap (map (named (numbers_in c.index.result.now.items))) c.requires.planned ∙ (ap (λ ws. map (named ws) (planned t before s [])) numbers ∙ sym (deliveries_named t before s))) in
-    let old = waiting_read core t before x.fields s c.index_mut.result.now known.within c.index_mut.ensures.value in
+    let units = units_named core s c.index.result.now c.args.sent.items c.name_units.new.units.items x c.requires.legal c.index.ensures c.requires.planned c.name_units.ensures in
+    let old = queue_read core s c.index_mut.result.now x c.requires.legal c.index_mut.ensures.value in
     let core-new : Core = record core { journal = c.push_spare.new.self; subs = c.count_all.new.subs; waiting = with_item core.waiting s.0 c.leave_batches.new.queue; inboxes = c.deliver_all.new.inboxes; places = c.leave_batches.new.places; settled = c.leave_batches.new.settled; batches = c.begin_all.new.batches; legs = c.begin_all.new.legs; totals = record core.totals { quiet = 0 } } in
     let legs = c.begin_all.new.legs in
     let items : List (ℕ × ℕ) = c.index_mut.result.now.items in

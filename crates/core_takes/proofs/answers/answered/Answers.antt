@@ -1,4 +1,4 @@
-use Rattle.std.proofs.Common.{◌≡◌, ℕ, suc, ◌≤◌, ◌++◌, List, length, ◌∙◌, arith, refl, ap, sym, subst, All}
+use Rattle.std.proofs.Common.{◌≡◌, suc, ◌≤◌, ◌++◌, List, length, ◌∙◌, arith, refl, ap, sym, subst, All}
 use Rattle.std.specs.Prelude.{option_map, slice_get, if◌then◌else◌, ◌==◌}
 use Rattle.pipe_types.specs.declared.step.Step.TheVariants.{Done}
 use Rattle.pipe_types.specs.declared.message.Reply.{Reply}
@@ -9,45 +9,29 @@ use Rattle.pipe_model.specs.Flow.{done}
 use Rattle.stage_subs.specs.Subs.{row_at}
 use Rattle.core_tables.specs.Tables.{queue_at, list_at}
 use Rattle.core_laws.specs.Columns.{running}
-use Rattle.core_laws.proofs.Lawful.{each_all}
 use Rattle.core_state.specs.declared.state.Core.{Core}
 use Rattle.core_state.proofs.Rooms.{room_after}
 use Rattle.core_state.proofs.Steps.{holds_after}
 use Rattle.core_takes.proofs.Rooming.{done_due, answer_queues}
 use Rattle.core_takes.specs.Replies.{passed_parts, marked, noted, counted_on, HasRow, parted, take_in}
 use Rattle.core_takes.proofs.TakenChunk.{list_read}
-use Rattle.core_takes.proofs.Answered.{known_answer, Answered, answered_fields, counts_fit, rows_there, replies_few}
+use Rattle.core_takes.proofs.Answered.{known_answer, chunk_read, chunk_numbered, Answered, answered_fields, counts_fit, rows_there, replies_few}
 use Rattle.core_takes.proofs.answers.answered.Goals as goal
 
 pub index-chunk-requires : goal.index-chunk-requires
 index-chunk-requires c =
-    let core = c.args.core.now in
-    let s = c.args.stage in
-    let rs = c.args.replies in
-    let x = c.requires.holds in
-    let known = known_answer core s rs x c.requires.legal c.requires.calm in
-    omega (arith, known.within, x.fields.sized.chunks, core.chunks.ok.0)
+    omega (arith, (known_answer c.args.core.now c.args.stage c.args.replies c.requires.holds c.requires.legal c.requires.calm).within, c.requires.holds.fields.sized.chunks, c.args.core.now.chunks.ok.0)
 
 pub answer_all-requires-clause-within : goal.answer_all-requires-clause-within
 answer_all-requires-clause-within c =
     let core = c.args.core.now in
-    let s = c.args.stage in
-    let rs = c.args.replies in
-    let x = c.requires.holds in
-    let known = known_answer core s rs x c.requires.legal c.requires.calm in
-    let read : c.index-chunk.result.now.items ≡ running core.topology core.journal.steps s = list_read core.chunks.items s c.index-chunk.result.now (omega (arith, known.within, x.fields.sized.chunks)) c.index-chunk.ensures ∙ x.fields.chunks s in
-    subst (All (λ (n : ℕ). (1 ≤ n) × (n ≤ length core.places.items))) (sym (c.deref.ensures.value ∙ read))
-    (subst (λ m. All (λ (n : ℕ). (1 ≤ n) × (n ≤ m)) (running core.topology core.journal.steps s)) (sym x.fields.sized.places) (each_all (λ n. (1 ≤ n) × (n ≤ accepted core.journal.steps)) (running core.topology core.journal.steps s) known.chunk))
+    let read = chunk_read core c.args.stage c.args.replies c.index-chunk.result.now c.requires.holds c.requires.legal c.requires.calm c.index-chunk.ensures in
+    chunk_numbered core c.args.stage c.args.replies c.deref.result.now (length core.places.items) c.requires.holds c.requires.legal c.requires.calm (c.deref.ensures.value ∙ read) c.requires.holds.fields.sized.places
 
 pub answer_all-requires-clause-many : goal.answer_all-requires-clause-many
 answer_all-requires-clause-many c =
-    let core = c.args.core.now in
-    let s = c.args.stage in
-    let rs = c.args.replies in
-    let x = c.requires.holds in
-    let known = known_answer core s rs x c.requires.legal c.requires.calm in
-    let read : c.index-chunk.result.now.items ≡ running core.topology core.journal.steps s = list_read core.chunks.items s c.index-chunk.result.now (omega (arith, known.within, x.fields.sized.chunks)) c.index-chunk.ensures ∙ x.fields.chunks s in
-    ap length c.as_slice.ensures ∙ (known.many ∙ sym (ap length (c.deref.ensures.value ∙ read)))
+    let read = chunk_read c.args.core.now c.args.stage c.args.replies c.index-chunk.result.now c.requires.holds c.requires.legal c.requires.calm c.index-chunk.ensures in
+    ap length c.as_slice.ensures ∙ ((known_answer c.args.core.now c.args.stage c.args.replies c.requires.holds c.requires.legal c.requires.calm).many ∙ sym (ap length (c.deref.ensures.value ∙ read)))
 
 pub answer_all-requires-clause-safe : goal.answer_all-requires-clause-safe
 answer_all-requires-clause-safe c = ap has_crash c.as_slice.ensures ∙ c.requires.calm
@@ -55,106 +39,66 @@ answer_all-requires-clause-safe c = ap has_crash c.as_slice.ensures ∙ c.requir
 pub mark_all-requires-clause-within : goal.mark_all-requires-clause-within
 mark_all-requires-clause-within c =
     let core = c.args.core.now in
-    let s = c.args.stage in
-    let rs = c.args.replies in
-    let x = c.requires.holds in
-    let known = known_answer core s rs x c.requires.legal c.requires.calm in
-    let read : c.index-chunk.result.now.items ≡ running core.topology core.journal.steps s = list_read core.chunks.items s c.index-chunk.result.now (omega (arith, known.within, x.fields.sized.chunks)) c.index-chunk.ensures ∙ x.fields.chunks s in
-    subst (All (λ (n : ℕ). (1 ≤ n) × (n ≤ length core.settled.items))) (sym (c.deref-2.ensures.value ∙ read))
-    (subst (λ m. All (λ (n : ℕ). (1 ≤ n) × (n ≤ m)) (running core.topology core.journal.steps s)) (sym x.fields.sized.settled) (each_all (λ n. (1 ≤ n) × (n ≤ accepted core.journal.steps)) (running core.topology core.journal.steps s) known.chunk))
+    let read = chunk_read core c.args.stage c.args.replies c.index-chunk.result.now c.requires.holds c.requires.legal c.requires.calm c.index-chunk.ensures in
+    chunk_numbered core c.args.stage c.args.replies c.deref-2.result.now (length core.settled.items) c.requires.holds c.requires.legal c.requires.calm (c.deref-2.ensures.value ∙ read) c.requires.holds.fields.sized.settled
 
 pub mark_all-requires-clause-many : goal.mark_all-requires-clause-many
 mark_all-requires-clause-many c =
-    let core = c.args.core.now in
-    let s = c.args.stage in
-    let rs = c.args.replies in
-    let x = c.requires.holds in
-    let known = known_answer core s rs x c.requires.legal c.requires.calm in
-    let read : c.index-chunk.result.now.items ≡ running core.topology core.journal.steps s = list_read core.chunks.items s c.index-chunk.result.now (omega (arith, known.within, x.fields.sized.chunks)) c.index-chunk.ensures ∙ x.fields.chunks s in
-    ap length c.as_slice-2.ensures ∙ (known.many ∙ sym (ap length (c.deref-2.ensures.value ∙ read)))
+    let read = chunk_read c.args.core.now c.args.stage c.args.replies c.index-chunk.result.now c.requires.holds c.requires.legal c.requires.calm c.index-chunk.ensures in
+    ap length c.as_slice-2.ensures ∙ ((known_answer c.args.core.now c.args.stage c.args.replies c.requires.holds c.requires.legal c.requires.calm).many ∙ sym (ap length (c.deref-2.ensures.value ∙ read)))
 
 pub note_all-requires-clause-within : goal.note_all-requires-clause-within
 note_all-requires-clause-within c =
     let core = c.args.core.now in
-    let s = c.args.stage in
-    let rs = c.args.replies in
-    let x = c.requires.holds in
-    let known = known_answer core s rs x c.requires.legal c.requires.calm in
+    let known = known_answer core c.args.stage c.args.replies c.requires.holds c.requires.legal c.requires.calm in
     subst (All (HasRow (length core.contents.items))) (sym c.as_slice-3.ensures)
-    (subst (λ m. All (HasRow m) rs) (sym x.fields.sized.contents) (rows_there (accepted core.journal.steps) (running core.topology core.journal.steps s) rs known.passes.answers known.chunk))
+    (subst (λ m. All (HasRow m) c.args.replies) (sym c.requires.holds.fields.sized.contents) (rows_there (accepted core.journal.steps) (running core.topology core.journal.steps c.args.stage) c.args.replies known.passes.answers known.chunk))
 
 pub note_all-requires-clause-few : goal.note_all-requires-clause-few
 note_all-requires-clause-few c =
-    let core = c.args.core.now in
-    let s = c.args.stage in
-    let rs = c.args.replies in
-    let x = c.requires.holds in
-    let known = known_answer core s rs x c.requires.legal c.requires.calm in
-    omega (arith, replies_few core s rs x known, ap length c.as_slice-3.ensures)
+    omega (arith, replies_few c.args.core.now c.args.stage c.args.replies c.requires.holds (known_answer c.args.core.now c.args.stage c.args.replies c.requires.holds c.requires.legal c.requires.calm), ap length c.as_slice-3.ensures)
 
 pub queue_passed-requires-clause-within : goal.queue_passed-requires-clause-within
 queue_passed-requires-clause-within c =
-    let core = c.args.core.now in
-    let s = c.args.stage in
-    let rs = c.args.replies in
-    let x = c.requires.holds in
-    let known = known_answer core s rs x c.requires.legal c.requires.calm in
-    omega (arith, known.within, x.fields.sized.waiting)
+    omega (arith, (known_answer c.args.core.now c.args.stage c.args.replies c.requires.holds c.requires.legal c.requires.calm).within, c.requires.holds.fields.sized.waiting)
 
 pub queue_passed-requires-clause-room : goal.queue_passed-requires-clause-room
 queue_passed-requires-clause-room c =
-    let core = c.args.core.now in
-    let s = c.args.stage in
-    let x = c.requires.holds in
-    let known = known_answer core s c.args.replies x c.requires.legal c.requires.calm in
-    λ passes. omega (arith, ap length c.as_slice-4.ensures, known.many, ap length (x.fields.chunks s), x.room.queues s (sym c.has_batchers-passes_on.ensures ∙ passes))
+    let known = known_answer c.args.core.now c.args.stage c.args.replies c.requires.holds c.requires.legal c.requires.calm in
+    λ passes. omega (arith, ap length c.as_slice-4.ensures, known.many, ap length (c.requires.holds.fields.chunks c.args.stage), c.requires.holds.room.queues c.args.stage (sym c.has_batchers-passes_on.ensures ∙ passes))
 
 pub push_spare-requires : goal.push_spare-requires
 push_spare-requires c =
-    let x = c.requires.holds in
-    omega (arith, done_due c.args.core.now c.args.stage c.args.replies x c.requires.legal, x.room.steps)
+    omega (arith, done_due c.args.core.now c.args.stage c.args.replies c.requires.holds c.requires.legal, c.requires.holds.room.steps)
 
 pub count_taken-requires : goal.count_taken-requires
 count_taken-requires c =
     let core = c.args.core.now in
     let s = c.args.stage in
-    let rs = c.args.replies in
-    let x = c.requires.holds in
-    let known = known_answer core s rs x c.requires.legal c.requires.calm in
-    let took : last_take core.journal.steps s ≡ c.last_take-take.result = sym (c.last_take-take.ensures ∙ (ap (λ rows. take_in (slice_get rows s.0)) c.deref-3.ensures.value ∙ ap take_in (x.fields.stages s known.within))) in
-    counts_fit core s rs c.last_take-take.result x known c.requires.calm took
+    let known = known_answer core s c.args.replies c.requires.holds c.requires.legal c.requires.calm in
+    let took : last_take core.journal.steps s ≡ c.last_take-take.result = sym (c.last_take-take.ensures ∙ (ap (λ rows. take_in (slice_get rows s.0)) c.deref-3.ensures.value ∙ ap take_in (c.requires.holds.fields.stages s known.within))) in
+    counts_fit core s c.args.replies c.last_take-take.result c.requires.holds known c.requires.calm took
 
 pub clear_chunk-requires : goal.clear_chunk-requires
 clear_chunk-requires c =
-    let core = c.args.core.now in
-    let s = c.args.stage in
-    let rs = c.args.replies in
-    let x = c.requires.holds in
-    let known = known_answer core s rs x c.requires.legal c.requires.calm in
-    omega (arith, known.within, x.fields.sized.chunks)
+    omega (arith, (known_answer c.args.core.now c.args.stage c.args.replies c.requires.holds c.requires.legal c.requires.calm).within, c.requires.holds.fields.sized.chunks)
 
 pub come_home-requires : goal.come_home-requires
 come_home-requires c =
-    let core = c.args.core.now in
-    let s = c.args.stage in
-    let rs = c.args.replies in
-    let x = c.requires.holds in
-    let known = known_answer core s rs x c.requires.legal c.requires.calm in
-    omega (arith, known.within, x.fields.sized.posts)
+    omega (arith, (known_answer c.args.core.now c.args.stage c.args.replies c.requires.holds c.requires.legal c.requires.calm).within, c.requires.holds.fields.sized.posts)
 
 pub returns-clause-holds : goal.returns-clause-holds
 returns-clause-holds c =
     let core = c.args.core.now in
     let s = c.args.stage in
-    let rs = c.args.replies in
     let x = c.requires.holds in
-    let known = known_answer core s rs x c.requires.legal c.requires.calm in
+    let known = known_answer core s c.args.replies x c.requires.legal c.requires.calm in
     let b = c.has_batchers-passes_on.result in
     let p = c.is_parted-by_partition.result in
     let read : c.index-chunk.result.now.items ≡ list_at core.chunks.items s = list_read core.chunks.items s c.index-chunk.result.now (omega (arith, known.within, x.fields.sized.chunks)) c.index-chunk.ensures in
     let took : c.last_take-take.result ≡ last_take core.journal.steps s = c.last_take-take.ensures ∙ (ap (λ rows. take_in (slice_get rows s.0)) c.deref-3.ensures.value ∙ ap take_in (x.fields.stages s known.within)) in
     let core-new : Core = record core { journal = c.push_spare.new.self; posts = c.come_home.new.posts; subs = c.count_taken.new.subs; waiting = c.queue_passed.new.waiting; chunks = c.clear_chunk.new.chunks; places = c.answer_all.new.places; settled = c.mark_all.new.settled; contents = c.note_all.new.contents; totals = record core.totals { quiet = 0 } } in
-    let new : Answered core s rs b p c.come_home.new.posts c.count_taken.new.subs c.queue_passed.new.waiting c.clear_chunk.new.chunks c.answer_all.new.places c.mark_all.new.settled c.note_all.new.contents =
+    let new : Answered core s c.args.replies b p c.come_home.new.posts c.count_taken.new.subs c.queue_passed.new.waiting c.clear_chunk.new.chunks c.answer_all.new.places c.mark_all.new.settled c.note_all.new.contents =
     record {
       posts-is = c.come_home.ensures.posts;
       posts-len = c.come_home.ensures.len;
@@ -168,15 +112,15 @@ returns-clause-holds c =
       placed-len = c.answer_all.ensures.len;
       marks = λ i. c.mark_all.ensures.rows i ∙ (ap (λ ns. marked b c.len-entry.result ns c.as_slice-2.result.now (suc i) (slice_get core.settled.items i)) (c.deref-2.ensures.value ∙ read)
           ∙ (ap (λ (ms : List Reply). marked b c.len-entry.result (list_at core.chunks.items s) ms (suc i) (slice_get core.settled.items i)) c.as_slice-2.ensures
-          ∙ ap (λ e. marked b e (list_at core.chunks.items s) rs (suc i) (slice_get core.settled.items i)) c.len-entry.ensures));
+          ∙ ap (λ e. marked b e (list_at core.chunks.items s) c.args.replies (suc i) (slice_get core.settled.items i)) c.len-entry.ensures));
       marks-len = c.mark_all.ensures.len;
       notes = λ i. c.note_all.ensures.rows i ∙ (ap (λ (ms : List Reply). noted c.len-entry.result 0 ms (suc i) (slice_get core.contents.items i)) c.as_slice-3.ensures
-          ∙ ap (λ e. noted e 0 rs (suc i) (slice_get core.contents.items i)) c.len-entry.ensures);
+          ∙ ap (λ e. noted e 0 c.args.replies (suc i) (slice_get core.contents.items i)) c.len-entry.ensures);
       notes-len = c.note_all.ensures.len;
     } in
-    let fields = answered_fields core s rs b p c.push_spare.new.self c.come_home.new.posts c.count_taken.new.subs c.queue_passed.new.waiting c.clear_chunk.new.chunks c.answer_all.new.places c.mark_all.new.settled c.note_all.new.contents
+    let fields = answered_fields core s c.args.replies b p c.push_spare.new.self c.come_home.new.posts c.count_taken.new.subs c.queue_passed.new.waiting c.clear_chunk.new.chunks c.answer_all.new.places c.mark_all.new.settled c.note_all.new.contents
     x known c.requires.calm c.has_batchers-passes_on.ensures (c.is_parted-by_partition.ensures ∙ ap parted known.spec-is) new in
-    let room = room_after core core-new (Done s rs) x c.requires.legal refl (omega (arith, done_due core s rs x c.requires.legal, x.room.steps, c.push_spare.ensures.spare))
+    let room = room_after core core-new (Done s c.args.replies) x c.requires.legal refl (omega (arith, done_due core s c.args.replies x c.requires.legal, x.room.steps, c.push_spare.ensures.spare))
     c.answer_all.ensures.capacity c.mark_all.ensures.capacity refl c.note_all.ensures.capacity
     (answer_queues core s c.clear_chunk.new.chunks.items c.queue_passed.new.waiting.items x c.clear_chunk.ensures.cleared c.queue_passed.ensures.rooms) refl in
-    holds_after core core-new (Done s rs) x refl c.push_spare.ensures.written c.requires.legal fields room
+    holds_after core core-new (Done s c.args.replies) x refl c.push_spare.ensures.written c.requires.legal fields room

@@ -6,87 +6,50 @@ use Rattle.pipe_model.specs.History.{History}
 use Rattle.pipe_model.specs.Flow.{inbox, batch}
 use Rattle.pipe_model.specs.Jobs.{with_step}
 use Rattle.pipe_model.specs.Legal.{allows, has_role, is_batch_processor_role, first_unit}
-use Rattle.core_tables.specs.Tables.{queue_at}
-use Rattle.core_laws.specs.Columns.{sub_first}
 use Rattle.core_takes.proofs.TakenBatch.{take_within}
-use Rattle.core_takes.proofs.TakenClosed.{first_batch}
-use Rattle.core_takes.proofs.TakenOne.{one_batch, begins_with, batch_after, taken_there}
+use Rattle.core_takes.proofs.TakenClosed.{closed_read, first_batch}
+use Rattle.core_takes.proofs.TakenOne.{batch_read, unit_read, begins_with, batch_after, taken_there}
 use Rattle.core_takes.proofs.takes.take_batch.Goals as goal
 
 pub batch_of-requires-clause-closed : goal.batch_of-requires-clause-closed
-batch_of-requires-clause-closed c =
-    let core = c.args.core.now in
-    let s = c.args.stage in
-    let u = c.first_sub-sub.result in
-    let x = c.requires.stands.holds in
-    let first : u ≡ sub_first (inbox core.topology core.journal.steps s) = c.first_sub-sub.ensures ∙ (ap (λ qs. sub_first (queue_at qs s)) c.deref.ensures.value ∙ ap sub_first (x.fields.inboxes s)) in
-    let unit : c.first_no-no.result ≡ first_unit (inbox core.topology core.journal.steps s) = c.first_no-no.ensures ∙ (ap (λ qs. first_unit (queue_at qs s)) c.deref-2.ensures.value ∙ ap first_unit (x.fields.inboxes s)) in
-    let next = one_batch core s u x c.requires.processor c.requires.legal first in
-    ap (λ n. is_some (batch core.topology core.journal.steps n)) unit ∙ first_batch core.topology core.journal.steps s u c.requires.processor (begins_with core s u next.allowed)
+batch_of-requires-clause-closed c = closed_read c.args.core.now c.args.stage c.first_sub-sub.result c.first_no-no.result c.deref.result.now c.deref-2.result.now c.requires.stands.holds c.requires.processor c.requires.legal c.first_sub-sub.ensures c.deref.ensures.value c.first_no-no.ensures c.deref-2.ensures.value
 
 pub make_batch_ready-requires-clause-within : goal.make_batch_ready-requires-clause-within
 make_batch_ready-requires-clause-within c =
-    let core = c.args.core.now in
-    let s = c.args.stage in
-    let u = c.first_sub-sub.result in
-    let x = c.requires.stands.holds in
-    let first : u ≡ sub_first (inbox core.topology core.journal.steps s) = c.first_sub-sub.ensures ∙ (ap (λ qs. sub_first (queue_at qs s)) c.deref.ensures.value ∙ ap sub_first (x.fields.inboxes s)) in
-    take_within core s u 1 x (one_batch core s u x c.requires.processor c.requires.legal first).allowed
+    let next = batch_read c.args.core.now c.args.stage c.first_sub-sub.result c.deref.result.now c.requires.stands.holds c.requires.processor c.requires.legal c.first_sub-sub.ensures c.deref.ensures.value in
+    take_within c.args.core.now c.args.stage c.first_sub-sub.result 1 c.requires.stands.holds next.allowed
 
 pub make_batch_ready-requires-clause-closed : goal.make_batch_ready-requires-clause-closed
-make_batch_ready-requires-clause-closed c =
-    let core = c.args.core.now in
-    let s = c.args.stage in
-    let u = c.first_sub-sub.result in
-    let x = c.requires.stands.holds in
-    let first : u ≡ sub_first (inbox core.topology core.journal.steps s) = c.first_sub-sub.ensures ∙ (ap (λ qs. sub_first (queue_at qs s)) c.deref.ensures.value ∙ ap sub_first (x.fields.inboxes s)) in
-    let unit : c.first_no-no.result ≡ first_unit (inbox core.topology core.journal.steps s) = c.first_no-no.ensures ∙ (ap (λ qs. first_unit (queue_at qs s)) c.deref-2.ensures.value ∙ ap first_unit (x.fields.inboxes s)) in
-    let next = one_batch core s u x c.requires.processor c.requires.legal first in
-    ap (λ n. is_some (batch core.topology core.journal.steps n)) unit ∙ first_batch core.topology core.journal.steps s u c.requires.processor (begins_with core s u next.allowed)
+make_batch_ready-requires-clause-closed c = closed_read c.args.core.now c.args.stage c.first_sub-sub.result c.first_no-no.result c.deref.result.now c.deref-2.result.now c.requires.stands.holds c.requires.processor c.requires.legal c.first_sub-sub.ensures c.deref.ensures.value c.first_no-no.ensures c.deref-2.ensures.value
 
 pub start_batch-requires-clause-legal : goal.start_batch-requires-clause-legal
 start_batch-requires-clause-legal c =
-    let core = c.args.core.now in
-    let s = c.args.stage in
-    let u = c.first_sub-sub.result in
-    let x = c.requires.stands.holds in
-    let first : u ≡ sub_first (inbox core.topology core.journal.steps s) = c.first_sub-sub.ensures ∙ (ap (λ qs. sub_first (queue_at qs s)) c.deref.ensures.value ∙ ap sub_first (x.fields.inboxes s)) in
-    let next = one_batch core s u x c.requires.processor c.requires.legal first in
-    ap (λ t. allows t c.make_batch_ready.new.core.journal.steps (Take s u 1)) c.make_batch_ready.ensures.topology
-    ∙ (ap (λ (h : History). allows core.topology h (Take s u 1)) c.make_batch_ready.ensures.unchanged ∙ next.allowed)
+    let next = batch_read c.args.core.now c.args.stage c.first_sub-sub.result c.deref.result.now c.requires.stands.holds c.requires.processor c.requires.legal c.first_sub-sub.ensures c.deref.ensures.value in
+    ap (λ t. allows t c.make_batch_ready.new.core.journal.steps (Take c.args.stage c.first_sub-sub.result 1)) c.make_batch_ready.ensures.topology
+    ∙ (ap (λ (h : History). allows c.args.core.now.topology h (Take c.args.stage c.first_sub-sub.result 1)) c.make_batch_ready.ensures.unchanged ∙ next.allowed)
 
 pub start_batch-requires-clause-processor : goal.start_batch-requires-clause-processor
 start_batch-requires-clause-processor c = ap (λ (t : Topology). has_role t c.args.stage is_batch_processor_role) c.make_batch_ready.ensures.topology ∙ c.requires.processor
 
 pub start_batch-requires-clause-first : goal.start_batch-requires-clause-first
 start_batch-requires-clause-first c =
-    let core = c.args.core.now in
-    let s = c.args.stage in
-    let x = c.requires.stands.holds in
-    let unit : c.first_no-no.result ≡ first_unit (inbox core.topology core.journal.steps s) = c.first_no-no.ensures ∙ (ap (λ qs. first_unit (queue_at qs s)) c.deref-2.ensures.value ∙ ap first_unit (x.fields.inboxes s)) in
+    let unit = unit_read c.args.core.now c.args.stage c.first_no-no.result c.deref-2.result.now c.requires.stands.holds c.first_no-no.ensures c.deref-2.ensures.value in
     unit
-    ∙ sym (ap (λ (t : Topology). first_unit (inbox t c.make_batch_ready.new.core.journal.steps s)) c.make_batch_ready.ensures.topology
-    ∙ ap (λ (h : History). first_unit (inbox core.topology h s)) c.make_batch_ready.ensures.unchanged)
+    ∙ sym (ap (λ (t : Topology). first_unit (inbox t c.make_batch_ready.new.core.journal.steps c.args.stage)) c.make_batch_ready.ensures.topology
+    ∙ ap (λ (h : History). first_unit (inbox c.args.core.now.topology h c.args.stage)) c.make_batch_ready.ensures.unchanged)
 
 pub returns-clause-appended : goal.returns-clause-appended
 returns-clause-appended c =
-    let core = c.args.core.now in
-    let s = c.args.stage in
-    let u = c.first_sub-sub.result in
-    let x = c.requires.stands.holds in
-    let first : u ≡ sub_first (inbox core.topology core.journal.steps s) = c.first_sub-sub.ensures ∙ (ap (λ qs. sub_first (queue_at qs s)) c.deref.ensures.value ∙ ap sub_first (x.fields.inboxes s)) in
-    let next = one_batch core s u x c.requires.processor c.requires.legal first in
-    c.start_batch.ensures.appended ∙ (ap (λ (h : History). Take s u 1 ∷ h) c.make_batch_ready.ensures.unchanged ∙ sym (ap (λ o. with_step o core.journal.steps) next.step))
+    let next = batch_read c.args.core.now c.args.stage c.first_sub-sub.result c.deref.result.now c.requires.stands.holds c.requires.processor c.requires.legal c.first_sub-sub.ensures c.deref.ensures.value in
+    c.start_batch.ensures.appended ∙ (ap (λ (h : History). Take c.args.stage c.first_sub-sub.result 1 ∷ h) c.make_batch_ready.ensures.unchanged ∙ sym (ap (λ o. with_step o c.args.core.now.journal.steps) next.step))
 
 pub returns-clause-batch : goal.returns-clause-batch
 returns-clause-batch c =
     let core = c.args.core.now in
     let s = c.args.stage in
     let u = c.first_sub-sub.result in
-    let x = c.requires.stands.holds in
-    let first : u ≡ sub_first (inbox core.topology core.journal.steps s) = c.first_sub-sub.ensures ∙ (ap (λ qs. sub_first (queue_at qs s)) c.deref.ensures.value ∙ ap sub_first (x.fields.inboxes s)) in
-    let unit : c.first_no-no.result ≡ first_unit (inbox core.topology core.journal.steps s) = c.first_no-no.ensures ∙ (ap (λ qs. first_unit (queue_at qs s)) c.deref-2.ensures.value ∙ ap first_unit (x.fields.inboxes s)) in
-    let next = one_batch core s u x c.requires.processor c.requires.legal first in
+    let unit = unit_read c.args.core.now c.args.stage c.first_no-no.result c.deref-2.result.now c.requires.stands.holds c.first_no-no.ensures c.deref-2.ensures.value in
+    let next = batch_read c.args.core.now c.args.stage c.first_sub-sub.result c.deref.result.now c.requires.stands.holds c.requires.processor c.requires.legal c.first_sub-sub.ensures c.deref.ensures.value in
     let begins = begins_with core s u next.allowed in
     let some : is_some (batch core.topology core.journal.steps c.first_no-no.result) ≡ true =
     ap (λ n. is_some (batch core.topology core.journal.steps n)) unit ∙ first_batch core.topology core.journal.steps s u c.requires.processor begins in

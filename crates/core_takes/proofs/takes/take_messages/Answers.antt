@@ -6,10 +6,9 @@ use Rattle.pipe_model.specs.Flow.{inbox, units_on}
 use Rattle.pipe_model.specs.Jobs.{with_step}
 use Rattle.pipe_model.specs.Work.{chunk_of, messages_of}
 use Rattle.core_tables.specs.Tables.{queue_at}
-use Rattle.core_laws.specs.Columns.{sub_first}
 use Rattle.core_takes.specs.Takes.{take_of}
 use Rattle.core_takes.proofs.TakenChunk.{known_take, size_of}
-use Rattle.core_takes.proofs.TakenStep.{picked, same_take, same_allowed, chunk_after}
+use Rattle.core_takes.proofs.TakenStep.{picked_read, same_take, same_allowed, chunk_after}
 use Rattle.core_takes.proofs.takes.take_messages.Goals as goal
 
 pub copies_of-requires-clause-least : goal.copies_of-requires-clause-least
@@ -18,11 +17,9 @@ copies_of-requires-clause-least c =
     let s = c.args.stage in
     let u = c.first_sub-sub.result in
     let most = c.most_units-most.result in
-    let x = c.requires.stands.holds in
-    let first : u ≡ sub_first (inbox core.topology core.journal.steps s) = c.first_sub-sub.ensures ∙ (ap (λ qs. sub_first (queue_at qs s)) c.deref.ensures.value ∙ ap sub_first (x.fields.inboxes s)) in
-    let known = known_take core s u most x c.requires.processor (picked core s u most c.requires.legal first c.most_units-most.ensures).allowed in
+    let known = known_take core s u most c.requires.stands.holds c.requires.processor (picked_read core s u most c.deref.result.now c.requires.stands.holds c.requires.legal c.first_sub-sub.ensures c.deref.ensures.value c.most_units-most.ensures).allowed in
     let is : c.deref-3.result.now ≡ take (size_of core s u most) (units_on u (inbox core.topology core.journal.steps s)) =
-    c.deref-3.ensures.value ∙ (c.in_ok-numbers.ensures ∙ (ap (λ qs. take most (units_on u (queue_at qs s))) c.deref-2.ensures.value ∙ (ap (λ us. take most (units_on u us)) (x.fields.inboxes s) ∙ sym (take_min most (units_on u (inbox core.topology core.journal.steps s)))))) in
+    c.deref-3.ensures.value ∙ (c.in_ok-numbers.ensures ∙ (ap (λ qs. take most (units_on u (queue_at qs s))) c.deref-2.ensures.value ∙ (ap (λ us. take most (units_on u us)) (c.requires.stands.holds.fields.inboxes s) ∙ sym (take_min most (units_on u (inbox core.topology core.journal.steps s)))))) in
     subst (All (λ (n : ℕ). 1 ≤ n)) (sym is) (λ k d below. (known.law.numbered k d below).0)
 
 pub make_ready-requires-clause-within : goal.make_ready-requires-clause-within
@@ -30,33 +27,24 @@ make_ready-requires-clause-within c =
     let core = c.args.core.now in
     let s = c.args.stage in
     let u = c.first_sub-sub.result in
-    let most = c.most_units-most.result in
-    let x = c.requires.stands.holds in
-    let first : u ≡ sub_first (inbox core.topology core.journal.steps s) = c.first_sub-sub.ensures ∙ (ap (λ qs. sub_first (queue_at qs s)) c.deref.ensures.value ∙ ap sub_first (x.fields.inboxes s)) in
-    (known_take core s u most x c.requires.processor (picked core s u most c.requires.legal first c.most_units-most.ensures).allowed).within
+    (known_take core s u c.most_units-most.result c.requires.stands.holds c.requires.processor (picked_read core s u c.most_units-most.result c.deref.result.now c.requires.stands.holds c.requires.legal c.first_sub-sub.ensures c.deref.ensures.value c.most_units-most.ensures).allowed).within
 
 pub start-requires-clause-legal : goal.start-requires-clause-legal
 start-requires-clause-legal c =
     let core = c.args.core.now in
     let s = c.args.stage in
     let u = c.first_sub-sub.result in
-    let most = c.most_units-most.result in
-    let x = c.requires.stands.holds in
-    let first : u ≡ sub_first (inbox core.topology core.journal.steps s) = c.first_sub-sub.ensures ∙ (ap (λ qs. sub_first (queue_at qs s)) c.deref.ensures.value ∙ ap sub_first (x.fields.inboxes s)) in
-    same_allowed core c.make_ready.new.core s u most c.make_ready.ensures.topology c.make_ready.ensures.unchanged (picked core s u most c.requires.legal first c.most_units-most.ensures).allowed
+    same_allowed core c.make_ready.new.core s u c.most_units-most.result c.make_ready.ensures.topology c.make_ready.ensures.unchanged (picked_read core s u c.most_units-most.result c.deref.result.now c.requires.stands.holds c.requires.legal c.first_sub-sub.ensures c.deref.ensures.value c.most_units-most.ensures).allowed
 
 pub returns-clause-appended : goal.returns-clause-appended
 returns-clause-appended c =
     let core = c.args.core.now in
     let s = c.args.stage in
     let u = c.first_sub-sub.result in
-    let most = c.most_units-most.result in
-    let x = c.requires.stands.holds in
-    let first : u ≡ sub_first (inbox core.topology core.journal.steps s) = c.first_sub-sub.ensures ∙ (ap (λ qs. sub_first (queue_at qs s)) c.deref.ensures.value ∙ ap sub_first (x.fields.inboxes s)) in
-    let is = picked core s u most c.requires.legal first c.most_units-most.ensures in
+    let is = picked_read core s u c.most_units-most.result c.deref.result.now c.requires.stands.holds c.requires.legal c.first_sub-sub.ensures c.deref.ensures.value c.most_units-most.ensures in
     c.start.ensures.appended
-    ∙ (ap (λ (h : History). take_of c.make_ready.new.core.topology c.make_ready.new.core.journal.steps s u most ∷ h) c.make_ready.ensures.unchanged
-    ∙ (ap (λ t. t ∷ core.journal.steps) (same_take core c.make_ready.new.core s u most c.make_ready.ensures.topology c.make_ready.ensures.unchanged)
+    ∙ (ap (λ (h : History). take_of c.make_ready.new.core.topology c.make_ready.new.core.journal.steps s u c.most_units-most.result ∷ h) c.make_ready.ensures.unchanged
+    ∙ (ap (λ t. t ∷ core.journal.steps) (same_take core c.make_ready.new.core s u c.most_units-most.result c.make_ready.ensures.topology c.make_ready.ensures.unchanged)
     ∙ sym (ap (λ o. with_step o core.journal.steps) is.step)))
 
 pub returns-clause-chunk : goal.returns-clause-chunk

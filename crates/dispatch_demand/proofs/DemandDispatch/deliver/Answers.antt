@@ -12,7 +12,7 @@ pub loop-served-preserved : goal.loop-served-preserved
 loop-served-preserved c =
     let serves : Serves (map bare c.args.room.now) c.deref-served-items.result.now =
     subst (λ (l : List Room). Serves (map bare c.args.room.now) l) (sym (c.deref-served-items.ensures.value ∙ c.in_ok-order.ensures))
-    (in_turn c.args.room.now _ c.requires c.in_ok-follow.ensures.same c.in_ok-follow.ensures.ordered) in
+    (in_turn c.args.room.now _ c.requires c.in_ok-keys.ensures.same c.in_ok-keys.ensures.ordered) in
     record {
       taken = demand_more _ _ _ _ _ _ c.loop-served-test.true c.loop-served.invariant.taken c.min-count.ensures;
       sent = one_served _ _ serves c.args.waiting _ _ _ _ c.loop-served-test.true c.loop-served.invariant.taken c.min-count.ensures _ _ c.loop-served.invariant.sent c.in_ok-send_run.ensures;
@@ -22,7 +22,7 @@ pub returns : goal.returns
 returns c =
     let serves : Serves (map bare c.args.room.now) c.deref-served-items.result.now =
     subst (λ (l : List Room). Serves (map bare c.args.room.now) l) (sym (c.deref-served-items.ensures.value ∙ c.in_ok-order.ensures))
-    (in_turn c.args.room.now _ c.requires c.in_ok-follow.ensures.same c.in_ok-follow.ensures.ordered) in
+    (in_turn c.args.room.now _ c.requires c.in_ok-keys.ensures.same c.in_ok-keys.ensures.ordered) in
     let all : take c.loop-served.served-index c.deref-served-items.result.now ≡ c.deref-served-items.result.now = take_all _ _ c.loop-served-test.false in
     let so_far = c.loop-served.invariant.taken ∙ ap (λ (l : List Room). min c.args.waiting (demand l)) all in
     c.from_vec.ensures ∙ c.loop-served.invariant.sent ∙ all_served _ _ serves c.args.waiting _ so_far ∙ sends_bare c.args.room.now _ (enumerate_from 0 (replicate c.args.waiting 0))

@@ -1,8 +1,16 @@
-use Rattle.std.proofs.Common.{sym, ap, ◌∙◌, refl}
+use Rattle.std.proofs.Common.{rules, List, sym, ap, ◌∙◌, refl}
+use Rattle.std.specs.Prelude.{find}
 use Rattle.std.proofs.lemmas.List.{append-nil}
-use Rattle.dispatch_partition.proofs.Units.{left_step, one_unit}
+use Rattle.pipe_types.specs.declared.room.Room.{Room}
+use Rattle.dispatch_partition.proofs.Units.{of_part, all_left, left_step, one_unit}
 use Rattle.dispatch_partition.proofs.PartitionDispatch.deliver.Goals as goal
 use Rattle.dispatch_partition.proofs.PartitionDispatch.deliver.Goals.{in-Some+in_ok-push, in_default}
+
+pub loop-place-init : goal.loop-place-init
+loop-place-init c = record {
+  left = λ q. ap (λ (rooms : List Room). find (of_part q) rooms) c.in_ok-left.ensures.items ∙ all_left c.args.room.now q;
+  sent = search rules;
+}
 
 pub loop-place-preserved : goal.loop-place-preserved
 loop-place-preserved c = record {

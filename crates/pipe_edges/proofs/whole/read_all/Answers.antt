@@ -15,14 +15,12 @@ returns-in-End-clause-bytes g c told =
 
 pub returns-in-Failed-clause-bytes : goal.returns-in-Failed-clause-bytes
 returns-in-Failed-clause-bytes g c told =
-    let source = g.B.ByteSource in
     let same : c.read_from.new.self ≡ c.loop-held.held = rw c.in-Failed.is at c.in_ok-read_from.ensures.grows in
-    whole_of source c.args.source.now c.read_from.new.source c.args.limit c.read_from.new.self _ (handed_more c.loop-held.invariant.handed c.in_ok-read_from.ensures.handed)
+    whole_of g.B.ByteSource c.args.source.now c.read_from.new.source c.args.limit c.read_from.new.self _ (handed_more c.loop-held.invariant.handed c.in_ok-read_from.ensures.handed)
     (rw same c.loop-held.invariant.within) told
 
 pub returns-in-Empty-clause-bytes : goal.returns-in-Empty-clause-bytes
 returns-in-Empty-clause-bytes g c told =
-    let source = g.B.ByteSource in
     let same : c.read_from.new.self ≡ c.loop-held.held = rw c.in-Empty.is at c.in_ok-read_from.ensures.grows in
-    whole_of source c.args.source.now c.read_from.new.source c.args.limit c.read_from.new.self _ (handed_more c.loop-held.invariant.handed c.in_ok-read_from.ensures.handed)
+    whole_of g.B.ByteSource c.args.source.now c.read_from.new.source c.args.limit c.read_from.new.self _ (handed_more c.loop-held.invariant.handed c.in_ok-read_from.ensures.handed)
     (rw same c.loop-held.invariant.within) told

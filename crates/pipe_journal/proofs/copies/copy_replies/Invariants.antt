@@ -1,6 +1,7 @@
 use Rattle.std.proofs.Common.{◌≡◌, take}
+use Rattle.pipe_journal.specs.Items.{replies_seen}
 use Rattle.pipe_journal.proofs.copies.copy_replies.Given as goal
 
 -- the copies so far
-abbrev pub invariant-loop-reply : goal.invariant-loop-reply
-invariant-loop-reply l = l.copied.items ≡ take l.reply-index l.replies
+abbrev pub invariant-loop-at : goal.invariant-loop-at
+invariant-loop-at l = l.copied.items ≡ take l.at (replies_seen l.replies)

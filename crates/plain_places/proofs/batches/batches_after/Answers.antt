@@ -11,11 +11,10 @@ pub returns : goal.returns
 returns c =
     let past = c.args.past.now in
     let before = history past.steps.now in
-    let old = c.args.tables.now.batches.items in
     IfOk-weaker c.rows_by.result _ _
     (λ rows is.
     batches_next past.topology.now before c.args.tables.now c.args.step.now rows.items c.requires.closed
     (is
     ∙ ap (λ rs. batches_changed before (row_change_of c.in_ok-change.change) (map batch_of rs)) c.as_slice.ensures.value
-    ∙ ap (λ change. batches_changed before change (map batch_of old)) c.in_ok-change.ensures))
+    ∙ ap (λ change. batches_changed before change (map batch_of c.args.tables.now.batches.items)) c.in_ok-change.ensures))
     c.rows_by.ensures

@@ -8,7 +8,8 @@ use Rattle.stage_buffer.proofs.Buffer.parts.Goals as goal
 pub returns : goal.returns
 returns g c =
     rw (← c.self.view_is)
-    (parts_sorted c.self.inside.rings.items c.in_ok-arrivals.arrivals.items c.sort_unstable_by_key.new.self.items c.in_ok-items.items.items c.self.invariant.orders.ascending
+    (c.from_vec.ensures
+    ∙ parts_sorted c.self.inside.rings.items c.in_ok-arrivals.arrivals.items c.sort_unstable_by_key.new.self.items c.in_ok-items.items.items c.self.invariant.orders.ascending
     (c.in_ok-arrivals.ensures ∙ ap (arrivals_from 0) c.deref.ensures.value)
     c.sort_unstable_by_key.ensures.permutation
     (IsNonDecreasingBy-from_sort_by_key (λ (a : Arrival). a.at) _ c.sort_unstable_by_key.ensures.sorted (λ a r f q. search rules))

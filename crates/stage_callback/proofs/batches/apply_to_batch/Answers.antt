@@ -1,10 +1,14 @@
-use Rattle.std.proofs.Common.{◌≡◌, refl, sym, ap, ◌∙◌}
+use Rattle.std.proofs.Common.{◌≡◌, length, refl, sym, ap, ◌∙◌}
+use Rattle.std.specs.Prelude.{◌==◌}
 use Rattle.pipe_types.specs.declared.message.Reply.TheVariants.{Raised, Crashed}
 use Rattle.pipe_types.specs.declared.message.BatchReply.TheVariants.{Answered, Raised as RaisedBatch, Crashed as CrashedBatch}
 use Rattle.pipe_types.specs.Handlers.{eval}
-use Rattle.stage_callback.proofs.BatchSteps.{next_message, same_so_far, one_passed, one_failed, ended_by, all_seen}
+use Rattle.stage_callback.proofs.BatchSteps.{next_message, same_so_far, one_passed, no_rules, one_failed, ended_by, all_seen}
 use Rattle.stage_callback.proofs.batches.apply_to_batch.Goals as goal
 use Rattle.stage_callback.proofs.batches.apply_to_batch.Goals.{in-Pass+in_ok-push-in-Pass+in_ok-add_line-in-Pass, in-Failed+in_ok-push-in-Failed}
+
+pub pass_all-requires : goal.pass_all-requires
+pass_all-requires c = no_rules c.args.spec.now.rules (ap (λ rules. length rules == 0) (sym c.as_slice.ensures) ∙ (sym c.is_empty.ensures ∙ c.if-is_empty.true))
 
 pub returns-in-Raised-clause-reply : goal.returns-in-Raised-clause-reply
 returns-in-Raised-clause-reply c =

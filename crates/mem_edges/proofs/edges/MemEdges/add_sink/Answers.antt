@@ -5,9 +5,8 @@ use Rattle.mem_edges.proofs.edges.MemEdges.add_sink.Goals as goal
 
 pub returns-clause-ok : goal.returns-clause-ok
 returns-clause-ok c =
-    let put = c.in_ok-put.ensures.ok in
     record {
-      stands = seen_there held_by _ _ put.stands;
-      free = put.free;
-      elsewhere = sink_put c.args.self.now _ c.args.name c.args.sink false put refl refl;
+      stands = seen_there held_by _ _ c.in_ok-put.ensures.ok.stands;
+      free = c.in_ok-put.ensures.ok.free;
+      elsewhere = sink_put c.args.self.now _ c.args.name c.args.sink false c.in_ok-put.ensures.ok refl refl;
     }

@@ -1,0 +1,10 @@
+use Rattle.std.proofs.Common.{◌≡◌, ◌++◌}
+use Rattle.std.specs.Prelude.{replicate}
+use Rattle.pipe_types.specs.declared.message.Outcome.TheVariants.{Successful}
+use Rattle.journal_texts.specs.Words.{list_text}
+use Rattle.journal_texts.specs.Steps.{outcome_text}
+use Rattle.journal_texts.proofs.items.put_successes.Given as goal
+
+-- the items so far
+abbrev pub invariant-loop-at : goal.invariant-loop-at
+invariant-loop-at l = l.out.items ≡ l.initial.out.items ++ list_text outcome_text (replicate l.at Successful)

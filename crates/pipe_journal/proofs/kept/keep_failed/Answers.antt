@@ -1,0 +1,5 @@
+use Rattle.pipe_journal.proofs.Keeping.{kept_failed}
+use Rattle.pipe_journal.proofs.kept.keep_failed.Goals as goal
+
+pub returns-clause-kept : goal.returns-clause-kept
+returns-clause-kept c = λ records words. kept_failed records words _ _ _ c.in_ok-why.ensures.kept
