@@ -21,8 +21,8 @@ pub enum WatchEnd {
     OutOfMemory,
 }
 
-/// What is shown the journal. Its count of faults never falls.
-pub trait Watch {
+/// What is shown the journal, by whichever worker holds the pipeline. Its count of faults never falls.
+pub trait Watch: Send {
     /// It fits this topology. No call changes it.
     ghost fits: { Self → Topology → Type 0 };
 
@@ -66,7 +66,11 @@ impl Watch for NoWatch {
 
     ghost faults = { λ w. 0 };
 
-    fn seen(&mut self, journal: &Journal) -> WatchEnd {
+    /// Does nothing.
+    fn seen(&mut self, journal: &Journal) -> WatchEnd
+        ensures same { self.new ≡ self.old }
+        ensures done { result ≡ WatchEnd.Done }
+    {
         let _ = journal;
         WatchEnd::Done
     }
