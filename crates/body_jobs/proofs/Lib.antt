@@ -3,4 +3,5 @@ pub mod Ending
 pub mod Handling
 pub mod Settling
 pub mod Sources
+pub mod Merges
 pub mod Lawful

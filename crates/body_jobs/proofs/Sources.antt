@@ -16,90 +16,10 @@ use Rattle.pipe_edges.specs.declared.reading.LineEnd.{LineEnd}
 use Rattle.pipe_edges.specs.declared.reading.LineEnd.TheVariants as end
 use Rattle.pipe_edges.specs.declared.reading.Fetched.{Fetched}
 use Rattle.pipe_edges.specs.declared.reading.Fetched.TheVariants.{Records, NotYet, End, Fault, TooLong}
-use Rattle.source_lines.specs.Read.{IsReadFrom}
-use Rattle.source_lines.proofs.Fetches.{Fetches, read_more}
-use Rattle.stage_bodies.specs.Seen.{SourceSeen, LineSeen, source_seen, line_seen}
-use Rattle.stage_bodies.specs.Jobs.{Both, ReadsOn, IsFetched, Fetches as FetchesOn, FetchGives, FetchIsHeldUp, FetchIsPaced, CutKeepsPace, IsCutFetch, records_of as records_in_outcome}
+use Rattle.source_lines.proofs.Fetches.{Fetches, reads_on}
+use Rattle.stage_bodies.specs.Seen.{LineSeen, line_seen, MergeSeen, FeedSeen, Single, Merged}
+use Rattle.stage_bodies.specs.Jobs.{Both, ReadsOn, IsFetched, Fetches as FetchesOn, FetchGives, FetchIsHeldUp, FetchIsPaced, CutKeepsPace, IsCutFetch, IsCutMerge, IsCutFeed, records_of as records_in_outcome}
 use Rattle.body_jobs.specs.Fetched.{came_of}
-
--- the same line source over what is seen of its bytes
-abbrev over : {B C : Type 0} → (B → C) → LineSource B → LineSource C
-over seen lines = record {
-  alloc = lines.alloc;
-  source = seen lines.source;
-  held = lines.held;
-  end = lines.end;
-  at_end = lines.at_end;
-  at_too_long = lines.at_too_long;
-}
-
--- what is seen of a source, as a source
-abbrev seen_source : SourceOf SourceSeen
-seen_source = record {
-  told = λ s. s.told;
-  taken = λ s. s.taken;
-  left = λ s. s.left;
-  faults = λ s. s.faults;
-  waits = λ s. s.waits;
-  paced = λ s. s.paced;
-}
-
-fetches_over : {B E : Type 0} (source : SourceOf B) (old new : LineSource B) (max : ℕ) (result : Result Fetched E)
-    → Fetches source old new max result
-    → Fetches seen_source (over (source_seen source) old) (over (source_seen source) new) max result
-fetches_over source old new max result f = record {
-  handed = record {
-    same_telling = f.handed.same_telling;
-    part = f.handed.part;
-    all_kept = f.handed.all_kept;
-    from_left = f.handed.from_left;
-    into_taken = f.handed.into_taken;
-    faults_stay = f.handed.faults_stay;
-    waits_stay = f.handed.waits_stay;
-  };
-  in_order = f.in_order;
-  each_is_a_line = f.each_is_a_line;
-  cause = f.cause;
-  nothing_left = f.nothing_left;
-  remembers = f.remembers;
-  again = again (line_end_of old) f.again;
-  paced = f.paced;
-}
-  where
-    again : (known : Option LineEnd) → IfSome known (λ e. (result ≡ Ok (answer_of e)) × (new ≡ old))
-        → IfSome known (λ e. (result ≡ Ok (answer_of e)) × (over (source_seen source) new ≡ over (source_seen source) old))
-    again None fact = fact
-    again (Some e) fact = (fact.0, ap (over (source_seen source)) fact.1)
-
--- the records of a fetch follow those of the fetches before
-pub reads_on : {B E : Type 0} (source : SourceOf B) (old new : LineSource B) (max : ℕ) (result : Result Fetched E)
-    → Fetches source old new max result
-    → ReadsOn (records_in result) (line_seen source old) (line_seen source new)
-reads_on source old new max result f opened earlier before =
-    let seen = source_seen source in
-    let first : IsReadFrom seen_source opened (over seen old) earlier = record {
-      same_telling = before.same_telling;
-      each_is_a_line = before.each_is_a_line;
-      same_bytes = before.same_bytes;
-      to_come = before.to_come;
-      at_end = before.at_end;
-      at_long = before.at_long;
-      at_fault = before.at_fault;
-      faults_stay = before.faults_stay;
-      waits_stay = before.waits_stay;
-    } in
-    let then = read_more seen_source opened (over seen old) (over seen new) earlier max result (line_end_of old) refl (fetches_over source old new max result f) first in
-    record {
-      same_telling = then.same_telling;
-      each_is_a_line = then.each_is_a_line;
-      same_bytes = then.same_bytes;
-      to_come = then.to_come;
-      at_end = then.at_end;
-      at_long = then.at_long;
-      at_fault = then.at_fault;
-      faults_stay = then.faults_stay;
-      waits_stay = then.waits_stay;
-    }
 
 -- a source that was not read
 not_read : (now : LineSeen) → ReadsOn [] now now
@@ -208,15 +128,27 @@ unread {E = E} source old new max e f = record {
     paced None k = k
     paced (Some pace) k = k.kept
 
--- a source that no job read
-pub untouched : (now : Option LineSeen) → Both IsCutFetch now now
-untouched None = tt
-untouched (Some now) = record { reads = not_read now; end_stays = known now.end; paced = paced now.source.paced.pace }
+known_still : (end : Option LineEnd) → IfSome end (λ e. end ≡ Some e)
+known_still None = tt
+known_still (Some e) = refl
+
+lines_untouched : (now : LineSeen) → IsCutFetch now now
+lines_untouched now = record { reads = not_read now; end_stays = known_still now.end; paced = paced now.source.paced.pace }
   where
     paced : (p : Option Pace) → CutKeepsPace p now now
     paced None = refl
     paced (Some pace) = record { same_pace = refl; same_moment = refl; within = λ low. low; own_stays = omega arith }
 
-    known : (end : Option LineEnd) → IfSome end (λ e. end ≡ Some e)
-    known None = tt
-    known (Some e) = refl
+merge_untouched : (now : MergeSeen) → IsCutMerge now now
+merge_untouched now = record {
+  reads = λ opened given before. ([], refl, rw append-nil before);
+  end_stays = known_still now.end;
+  waits_stay = omega arith;
+  unpaced = λ none. none;
+}
+
+-- a feed that no job read
+pub untouched : (now : Option FeedSeen) → Both IsCutFeed now now
+untouched None = tt
+untouched (Some (Single now)) = lines_untouched now
+untouched (Some (Merged now)) = merge_untouched now

@@ -1,12 +1,12 @@
 //! What leaves with a job.
 
 ghost use Rattle.std.specs.Prelude.{◌≡◌, None, Some, option_map};
-ghost use Rattle.stage_bodies.specs.Seen.{BodySeen, BoxSeen, source_seen, sink_seen, line_seen, with_source, with_callback};
+ghost use Rattle.stage_bodies.specs.Seen.{BodySeen, BoxSeen, sink_seen, feed_seen, with_source, with_callback};
 ghost use Rattle.body_jobs.specs.Boxes.{box_of};
 
 use crate::work::{run_work, start_over};
-use pipe_edges::{ByteSink, ByteSource, LineSource};
-use stage_bodies::{Answer, Houses, Job, Works};
+use pipe_edges::{ByteSink, ByteSource};
+use stage_bodies::{Answer, Feed, FeedSources, Houses, Job, Works};
 use stage_callback::Callback;
 use std::alloc::{AllocError, Global};
 
@@ -14,13 +14,13 @@ use std::alloc::{AllocError, Global};
 #[derive(Drop)]
 pub struct Body<S, K> {
     pub callback: Option<Box<dyn Callback + Send>>,
-    pub source: Option<LineSource<S>>,
+    pub source: Option<Feed<S>>,
     pub sink: Option<K>,
 }
 
 impl<S: ByteSource + Drop, K: ByteSink + Drop> Works for Body<S, K> {
     ghost look = { λ b. record {
-      source = option_map (line_seen S.ByteSource) b.source;
+      source = option_map (feed_seen S.ByteSource) b.source;
       sink = option_map (sink_seen K.told K.held K.faults) b.sink;
       callback = option_map (λ c. record {
         kind = (Callback-box c).kind c.value;
@@ -56,7 +56,7 @@ impl<S: ByteSource + Drop, K: ByteSink + Drop> Works for Body<S, K> {
     }
 
     fn at(&mut self, now: u64) {
-        if let Some(lines) = &mut self.source {
+        if let Some(Feed::Lines(lines)) = &mut self.source {
             lines.at(now);
         }
     }
@@ -92,8 +92,8 @@ impl<S: ByteSource + Drop, K: ByteSink + Drop> Houses<S, K> for Body<S, K> {
         }
     }
 
-    fn put_source(&mut self, source: LineSource<S>)
-        ensures { ⟦<Body<S, K> as Works>⟧.look self.new ≡ with_source (line_seen S.ByteSource source) (⟦<Body<S, K> as Works>⟧.look self.old) }
+    fn put_source(&mut self, source: Feed<S>)
+        ensures { ⟦<Body<S, K> as Works>⟧.look self.new ≡ with_source (feed_seen S.ByteSource source) (⟦<Body<S, K> as Works>⟧.look self.old) }
     {
         self.source = Some(source);
     }
@@ -102,9 +102,9 @@ impl<S: ByteSource + Drop, K: ByteSink + Drop> Houses<S, K> for Body<S, K> {
         self.sink = Some(sink);
     }
 
-    fn take_source(&mut self) -> Option<S> {
+    fn take_source(&mut self) -> Option<FeedSources<S>> {
         match self.source.take() {
-            Some(lines) => Some(lines.into_inner()),
+            Some(feed) => Some(feed.into_sources()),
             None => None,
         }
     }

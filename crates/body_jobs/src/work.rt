@@ -6,7 +6,7 @@ ghost use Rattle.body_jobs.specs.Boxes.{box_of};
 
 use crate::Body;
 use crate::batch::handle_batch;
-use crate::fetch::fetch;
+use crate::fetch::fetch_feed;
 use crate::write::write_end;
 use pipe_edges::{ByteSink, ByteSource};
 use pipe_types::message::{Batch, Message, MessageList};
@@ -44,7 +44,7 @@ fn fetch_next<S: ByteSource + Drop, K: ByteSink + Drop>(
     let Some(source) = &mut body.source else {
         unreachable!();
     };
-    fetch(source, most)
+    fetch_feed(source, most)
 }
 
 #[tactic(auto, using(crate::proofs::Sources::untouched))]

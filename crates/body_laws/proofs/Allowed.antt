@@ -35,8 +35,8 @@ use Rattle.pipe_model.specs.Legal.{is_legal, allows, owed, passes, may_come, is_
 use Rattle.pipe_laws.proofs.Tests.{both}
 use Rattle.stage_job.specs.Chunks.{never_crashes}
 use Rattle.stage_callback.specs.Callbacks.{is_message_for}
-use Rattle.stage_bodies.specs.Seen.{LineSeen, BoxSeen, BodySeen}
-use Rattle.stage_bodies.specs.Jobs.{Both, Fetches, IsFetched, Replies, EndsIn, IsDone, reset}
+use Rattle.stage_bodies.specs.Seen.{LineSeen, MergeSeen, FeedSeen, BoxSeen, BodySeen}
+use Rattle.stage_bodies.specs.Jobs.{Both, Fetches, FetchesMerge, FetchesFeed, IsFetched, IsMergeFetched, Replies, EndsIn, IsDone, reset}
 use Rattle.stage_bodies.specs.Posts.{IsWorkOf, IsOutNow, IsJobOf, step_of, is_crash, is_crashed_end}
 use Rattle.stage_bodies.specs.declared.job.Answer.{Answer}
 use Rattle.stage_bodies.specs.declared.job.Job.{Job}
@@ -46,7 +46,7 @@ use Rattle.stage_bodies.specs.declared.job.Outcome.{Outcome as Came}
 use Rattle.stage_bodies.specs.declared.job.Outcome.TheVariants as came
 use Rattle.body_laws.specs.Ready.{There, IsArmed, IsBodyAt}
 use Rattle.body_laws.proofs.Steps.{processors_alone, writers_alone, is_present}
-use Rattle.body_laws.proofs.Jobs.{fit_of, source_there, chunk_armed, batch_armed, chunk_for, child_for, batch_for}
+use Rattle.body_laws.proofs.Jobs.{of_feed, fit_of, source_there, chunk_armed, batch_armed, chunk_for, child_for, batch_for}
 use Rattle.body_laws.proofs.Contents.{Handles, processor_handles, supervisor_handles, messages_fit}
 use Rattle.body_laws.proofs.Laws.{no_control, stage_low}
 
@@ -78,10 +78,16 @@ records_fit records most some few short =
     rw (one, within) (all_short records (recursion_from_All (λ r. length r ≤ max_bytes) records short))
 
 -- what is known of an answer to a fetch
-fetched : (P : Type 0) (most : ℕ) (o : Came) (x y : Option LineSeen) → ((b c : LineSeen) → Fetches most o b c → P) → IsSome x → Both (Fetches most o) x y → P
-fetched P most o (Some b) (Some c) f h k = f b c k
-fetched P most o (Some b) None f h k = absurd k
-fetched P most o None y f h k = let x : false ≡ true = h in cc
+fetched : (P : Type 0) (most : ℕ) (o : Came) (x y : Option FeedSeen) → ((b c : LineSeen) → Fetches most o b c → P) → ((b c : MergeSeen) → FetchesMerge o b c → P) → IsSome x → Both (FetchesFeed most o) x y → P
+fetched P most o (Some b) (Some c) f g h k = of_feed P most o b c f g k
+fetched P most o (Some b) None f g h k = absurd k
+fetched P most o None y f g h k = let x : false ≡ true = h in cc
+
+not_merge_limit : (b c : MergeSeen) (h : SourceHow) → IsMergeFetched b c (came.Ended h) → is_limit h ≡ false
+not_merge_limit b c how.End k = refl
+not_merge_limit b c how.Fault k = refl
+not_merge_limit b c how.TooLong k = refl
+not_merge_limit b c how.Limit k = absurd k
 
 not_limit : (most waits waits' : ℕ) (held : List ℕ) (c : LineSeen) (h : SourceHow) → IsFetched most waits waits' held c.end (came.Ended h) → is_limit h ≡ false
 not_limit most waits waits' held c how.End k = refl
@@ -92,17 +98,17 @@ not_limit most waits waits' held c how.Limit k = absurd k
 fetch_row : (topology : Topology) (before : History) (p : Post) (most : ℕ) (o : Came) (old new : BodySeen) → 1 ≤ p.stage.0 → is_live topology before p.stage ≡ true → is_current before p.stage p.slot ≡ true → IsWorkOf topology before p (work.Fetch most)
     → IsSome old.source → IsDone (work.Fetch most) o old new → may_come topology before (step_of p o) ≡ true
 fetch_row topology before p most (came.Records records) old new low live current is there done =
-    let fit : are_records records most ≡ true = fetched (are_records records most ≡ true) most (came.Records records) old.source new.source (λ b c f. records_fit records most f.answer.0 f.answer.1 f.answer.3) there done.0 in
+    let fit : are_records records most ≡ true = fetched (are_records records most ≡ true) most (came.Records records) old.source new.source (λ b c f. records_fit records most f.answer.0 f.answer.1 f.answer.3) (λ b c f. let one = f.answer.0 in records_fit records most (omega (arith, one)) (omega (arith, one, is.2)) f.answer.1) there done.0 in
     both (is_live topology before p.stage) _ live (both (has_role topology p.stage is_producer_role) _ is.0 (both (is_current before p.stage 0) _ (current_first before p is.3 current) (subst (λ n. are_records records n ≡ true) is.1 fit)))
 fetch_row topology before p most came.NotYet old new low live current is there done =
     both (is_live topology before p.stage) _ live (both (has_role topology p.stage is_producer_role) _ is.0 (current_first before p is.3 current))
 fetch_row topology before p most (came.Ended h) old new low live current is there done =
-    let some : is_limit h ≡ false = fetched (is_limit h ≡ false) most (came.Ended h) old.source new.source (λ b c f. not_limit most b.source.waits c.source.waits c.waiting c h f.answer) there done.0 in
+    let some : is_limit h ≡ false = fetched (is_limit h ≡ false) most (came.Ended h) old.source new.source (λ b c f. not_limit most b.source.waits c.source.waits c.waiting c h f.answer) (λ b c f. not_merge_limit b c h f.answer) there done.0 in
     rw (no_control p low)
     (both (is_live topology before p.stage) _ live (both (has_role topology p.stage is_producer_role) _ is.0 (both (is_current before p.stage 0) _ (current_first before p is.3 current) (ap not some))))
-fetch_row topology before p most (came.Replies replies) old new low live current is there done = fetched (may_come topology before (Done p.stage replies) ≡ true) most (came.Replies replies) old.source new.source (λ b c f. absurd f.answer) there done.0
-fetch_row topology before p most (came.Wrote bytes end) old new low live current is there done = fetched (may_come topology before (Wrote p.stage bytes end) ≡ true) most (came.Wrote bytes end) old.source new.source (λ b c f. absurd f.answer) there done.0
-fetch_row topology before p most (came.Reply reply) old new low live current is there done = fetched (may_come topology before (ChildEnd p.stage p.slot reply) ≡ true) most (came.Reply reply) old.source new.source (λ b c f. absurd f.answer) there done.0
+fetch_row topology before p most (came.Replies replies) old new low live current is there done = fetched (may_come topology before (Done p.stage replies) ≡ true) most (came.Replies replies) old.source new.source (λ b c f. absurd f.answer) (λ b c f. absurd f.answer) there done.0
+fetch_row topology before p most (came.Wrote bytes end) old new low live current is there done = fetched (may_come topology before (Wrote p.stage bytes end) ≡ true) most (came.Wrote bytes end) old.source new.source (λ b c f. absurd f.answer) (λ b c f. absurd f.answer) there done.0
+fetch_row topology before p most (came.Reply reply) old new low live current is there done = fetched (may_come topology before (ChildEnd p.stage p.slot reply) ≡ true) most (came.Reply reply) old.source new.source (λ b c f. absurd f.answer) (λ b c f. absurd f.answer) there done.0
 
 -- ---- chunks
 
@@ -243,8 +249,8 @@ no_crash_fetch : (most : ℕ) (o : Came) (old new : BodySeen) → IsSome old.sou
 no_crash_fetch most (came.Records records) old new there done = refl
 no_crash_fetch most came.NotYet old new there done = refl
 no_crash_fetch most (came.Ended h) old new there done = refl
-no_crash_fetch most (came.Replies replies) old new there done = fetched (is_crash (came.Replies replies) ≡ false) most (came.Replies replies) old.source new.source (λ b c f. absurd f.answer) there done.0
-no_crash_fetch most (came.Wrote bytes end) old new there done = fetched (is_crash (came.Wrote bytes end) ≡ false) most (came.Wrote bytes end) old.source new.source (λ b c f. absurd f.answer) there done.0
+no_crash_fetch most (came.Replies replies) old new there done = fetched (is_crash (came.Replies replies) ≡ false) most (came.Replies replies) old.source new.source (λ b c f. absurd f.answer) (λ b c f. absurd f.answer) there done.0
+no_crash_fetch most (came.Wrote bytes end) old new there done = fetched (is_crash (came.Wrote bytes end) ≡ false) most (came.Wrote bytes end) old.source new.source (λ b c f. absurd f.answer) (λ b c f. absurd f.answer) there done.0
 no_crash_fetch most (came.Reply reply) old new there done = refl
 
 chunk_calm : (topology : Topology) (before : History) (s : StageNo) (spec : StageSpec) (messages : List Message) (replies : List Reply) (x y : Option BoxSeen) → spec.kind ≢ Own → never_crashes spec.rules ≡ true → There x (IsArmed topology before s spec) → Both (Replies 0 messages replies) x y → has_crash replies ≡ false

@@ -1,9 +1,9 @@
 -- What a job's answer makes of its body, beside what the journal says with it.
-use Rattle.std.proofs.Common.{◌≡◌, ℕ, ◌^◌, ◌≤◌, ◌<◌, List, [], ◌∷◌, ◌++◌, length, take, Bool, true, false, refl, ap, sym, ◌∙◌, subst, Some, None, Option, arith, ◌+◌}
+use Rattle.std.proofs.Common.{◌≡◌, ℕ, ◌^◌, ◌≤◌, ◌<◌, List, [], ◌∷◌, ◌++◌, length, take, Bool, true, false, refl, ap, sym, ◌∙◌, subst, Some, None, Option, arith, ◌+◌, map, inl, inr}
 use Rattle.std.specs.Prelude.{not, ◌≢◌, ◌&&◌, nat_lt, IfSome, count_by, ◌||◌}
 use Rattle.std.specs.List.{list_all}
 use Rattle.std.proofs.lemmas.Bool.{eq-eqb, ltb-true}
-use Rattle.std.proofs.lemmas.List.{append-nil, append_assoc}
+use Rattle.std.proofs.lemmas.List.{append-nil, append_assoc, map-append}
 use Rattle.pipe_types.specs.declared.numbers.StageNo.{StageNo}
 use Rattle.pipe_types.specs.declared.numbers.Post.{Post}
 use Rattle.pipe_types.specs.declared.message.Batch.{Batch}
@@ -36,16 +36,18 @@ use Rattle.stage_callback.proofs.Resets.{counted_on}
 use Rattle.stage_job.specs.Chunks.{RoseBy}
 use Rattle.stage_job.specs.Lawful.{AreLawful}
 use Rattle.stage_bodies.specs.Lawful.{IsLawfulEnd}
-use Rattle.stage_bodies.specs.Seen.{SourceSeen, LineSeen, SinkSeen, BoxSeen}
-use Rattle.stage_bodies.specs.Reads.{AreReadFrom}
-use Rattle.stage_bodies.specs.Jobs.{CutKeepsPace, KeepsBox, ReadsOn, IsFetched, Fetches, Replies, Ends, Writes, text_by, is_bad_end, reset}
+use Rattle.stage_bodies.specs.Seen.{SourceSeen, LineSeen, MergeSeen, waits_together, FeedSeen, Single, Merged, sources_in, SinkSeen, BoxSeen}
+use Rattle.stage_bodies.specs.Reads.{AreReadFrom, MergeReadsOn}
+use Rattle.line_merge.specs.Seen.{AreUnpaced}
+use Rattle.stage_bodies.specs.Jobs.{CutKeepsPace, KeepsBox, ReadsOn, IsFetched, IsMergeFetched, IsCutFeed, Fetches, FetchesMerge, FetchesFeed, records_of, Replies, Ends, Writes, text_by, is_bad_end, reset}
+use Rattle.stage_bodies.specs.declared.job.Outcome.{Outcome as Came}
 use Rattle.stage_bodies.specs.declared.job.Outcome.TheVariants as came
 use Rattle.pace_laws.specs.Pacing.{IsTold, PaceGoes, PaceRests}
 use Rattle.pace_laws.proofs.Fetching.{accepts, cut_of, ends, loses, rests}
 use Rattle.body_laws.specs.Counts.{short_writes, calls_of, bad_of, one_more, resets_of}
 use Rattle.body_laws.specs.Lawful.{has_sink, IsLawfulWrite}
-use Rattle.body_laws.specs.Keeps.{IsKnownEnd, KeepsSource, KeepsSink, IsCounted, KeepsCallback}
-use Rattle.body_laws.specs.Ready.{IsArmed}
+use Rattle.body_laws.specs.Keeps.{IsKnownEnd, KeepsSource, KeepsMerge, KeepsFeed, KeepsSink, IsCounted, KeepsCallback}
+use Rattle.body_laws.specs.Ready.{IsArmed, IsToldFeed}
 use Rattle.body_laws.proofs.Posts.{same_post-self}
 use Rattle.body_laws.proofs.Steps.{is_present}
 use Rattle.body_laws.proofs.Rises.{rise_stays, rise_more, rise_one, rise_if, count_small, count_done, count_wrote, one_passed}
@@ -76,7 +78,7 @@ end_known (Some how.TooLong) old new stays known = rw known at stays
 end_known (Some how.Limit) old new stays known = known
 
 -- these records were read, and the journal does not have them
-pub source_reads : (before : History) (s : StageNo) (records : List (List ℕ)) (a b c : LineSeen) → KeepsSource before s true [] a b → ReadsOn records b c → IfSome b.end (λ e. c.end ≡ Some e) → CutKeepsPace b.source.paced.pace b c → KeepsSource before s false records a c
+source_reads : (before : History) (s : StageNo) (records : List (List ℕ)) (a b c : LineSeen) → KeepsSource before s true [] a b → ReadsOn records b c → IfSome b.end (λ e. c.end ≡ Some e) → CutKeepsPace b.source.paced.pace b c → KeepsSource before s false records a c
 source_reads before s records a b c k on stays cut = record {
   read = subst (λ r. AreReadFrom a.source c (r ++ records)) (append-nil (fed before s)) (on a.source (fed before s ++ []) k.read);
   known = end_known (source_end before s) b.end c.end stays k.known;
@@ -85,7 +87,7 @@ source_reads before s records a b c k on stays cut = record {
 }
 
 -- a later journal has them
-pub source_accepts : (before after : History) (s : StageNo) (most : ℕ) (records : List (List ℕ)) (a b c : LineSeen) → fed after s ≡ fed before s ++ records → source_end after s ≡ source_end before s → quiets after s ≡ quiets before s
+source_accepts : (before after : History) (s : StageNo) (most : ℕ) (records : List (List ℕ)) (a b c : LineSeen) → fed after s ≡ fed before s ++ records → source_end after s ≡ source_end before s → quiets after s ≡ quiets before s
     → PaceGoes before after s records → IsTold before s b → KeepsSource before s true [] a b → Fetches most (came.Records records) b c → KeepsSource after s true [] a c
 source_accepts before after s most records a b c same_fed same_end same_quiets goes told k fetched =
     let on = source_reads before s records a b c k fetched.reads fetched.end_stays (cut_of b.source.paced.pace (came.Records records) b c fetched.paced) in
@@ -97,7 +99,7 @@ source_accepts before after s most records a b c same_fed same_end same_quiets g
     }
 
 -- it has one more quiet
-pub source_rests : (before after : History) (s : StageNo) (most : ℕ) (a b c : LineSeen) → fed after s ≡ fed before s → source_end after s ≡ source_end before s → quiets after s ≡ quiets before s + 1
+source_rests : (before after : History) (s : StageNo) (most : ℕ) (a b c : LineSeen) → fed after s ≡ fed before s → source_end after s ≡ source_end before s → quiets after s ≡ quiets before s + 1
     → PaceRests before after s → IsTold before s b → KeepsSource before s true [] a b → Fetches most came.NotYet b c → KeepsSource after s true [] a c
 source_rests before after s most a b c same_fed same_end same_quiets goes told k fetched =
     let on = source_reads before s [] a b c k fetched.reads fetched.end_stays (cut_of b.source.paced.pace came.NotYet b c fetched.paced) in
@@ -109,7 +111,7 @@ source_rests before after s most a b c same_fed same_end same_quiets goes told k
     }
 
 -- it has the end
-pub source_ends : (before after : History) (s : StageNo) (most : ℕ) (h : SourceHow) (a b c : LineSeen) → fed after s ≡ fed before s → source_end after s ≡ Some h → quiets after s ≡ quiets before s
+source_ends : (before after : History) (s : StageNo) (most : ℕ) (h : SourceHow) (a b c : LineSeen) → fed after s ≡ fed before s → source_end after s ≡ Some h → quiets after s ≡ quiets before s
     → PaceGoes before after s [] → IsTold before s b → KeepsSource before s true [] a b → Fetches most (came.Ended h) b c → KeepsSource after s true [] a c
 source_ends before after s most h a b c same_fed same_end same_quiets goes told k fetched =
     let on = source_reads before s [] a b c k fetched.reads fetched.end_stays (cut_of b.source.paced.pace (came.Ended h) b c fetched.paced) in
@@ -125,6 +127,122 @@ source_ends before after s most h a b c same_fed same_end same_quiets goes told 
     by_how how.Fault known = known
     by_how how.TooLong known = known
     by_how how.Limit known = known
+
+-- ---- merges
+
+-- these records were read, and the journal does not have them
+merge_reads : (before : History) (s : StageNo) (records : List (List ℕ)) (a b c : MergeSeen) → KeepsMerge before s [] a b → MergeReadsOn records b c → IfSome b.end (λ e. c.end ≡ Some e) → waits_together b ≤ waits_together c → (AreUnpaced b → AreUnpaced c) → KeepsMerge before s records a c
+merge_reads before s records a b c k on stays rises unpaced =
+    let more = on (sources_in (Merged a)) k.given k.read in
+    record {
+      given = k.given ++ more.0;
+      records =
+          map-append (λ d. d.1) k.given more.0
+          ∙ ap (λ x. x ++ map (λ d. d.1) more.0) k.records
+          ∙ ap (λ x. (fed before s ++ []) ++ x) more.1
+          ∙ ap (λ x. x ++ records) (append-nil (fed before s));
+      read = more.2;
+      known = end_known (source_end before s) b.end c.end stays k.known;
+      quiet = rise_stays (quiets before s) (waits_together a) (waits_together b) (waits_together c) k.quiet rises;
+      unpaced = unpaced k.unpaced;
+    }
+
+merge_accepts : (before after : History) (s : StageNo) (records : List (List ℕ)) (a b c : MergeSeen) → fed after s ≡ fed before s ++ records → source_end after s ≡ source_end before s → quiets after s ≡ quiets before s
+    → KeepsMerge before s [] a b → FetchesMerge (came.Records records) b c → KeepsMerge after s [] a c
+merge_accepts before after s records a b c same_fed same_end same_quiets k f =
+    let on = merge_reads before s records a b c k f.reads f.end_stays f.waits_stay f.unpaced in
+    record {
+      given = on.given;
+      records = on.records ∙ sym (append-nil (fed before s ++ records)) ∙ ap (λ x. x ++ []) (sym same_fed);
+      read = on.read;
+      known = rw same_end on.known;
+      quiet = rw same_quiets on.quiet;
+      unpaced = on.unpaced;
+    }
+
+rise_again : (times a b c : ℕ) → RoseBy times a b → RoseBy 1 b c → b ≤ c → RoseBy (times + 1) a c
+rise_again times a b c (inl before) (inl now) le = inl (omega (arith, before, now))
+rise_again times a b c (inr full) now le = inr (omega (arith, full, le))
+rise_again times a b c (inl before) (inr full) le = inr full
+
+merge_rests : (before after : History) (s : StageNo) (a b c : MergeSeen) → fed after s ≡ fed before s → source_end after s ≡ source_end before s → quiets after s ≡ quiets before s + 1
+    → KeepsMerge before s [] a b → FetchesMerge came.NotYet b c → KeepsMerge after s [] a c
+merge_rests before after s a b c same_fed same_end same_quiets k f =
+    let on = merge_reads before s [] a b c k f.reads f.end_stays f.waits_stay f.unpaced in
+    record {
+      given = on.given;
+      records = rw same_fed on.records;
+      read = on.read;
+      known = rw same_end on.known;
+      quiet = rw same_quiets (rise_again (quiets before s) (waits_together a) (waits_together b) (waits_together c) k.quiet f.answer.0 f.waits_stay);
+      unpaced = on.unpaced;
+    }
+
+merge_ends : (before after : History) (s : StageNo) (h : SourceHow) (a b c : MergeSeen) → fed after s ≡ fed before s → source_end after s ≡ Some h → quiets after s ≡ quiets before s
+    → KeepsMerge before s [] a b → FetchesMerge (came.Ended h) b c → KeepsMerge after s [] a c
+merge_ends before after s h a b c same_fed same_end same_quiets k f =
+    let on = merge_reads before s [] a b c k f.reads f.end_stays f.waits_stay f.unpaced in
+    record {
+      given = on.given;
+      records = rw same_fed on.records;
+      read = on.read;
+      known = rw same_end (by_how h f.answer);
+      quiet = rw same_quiets on.quiet;
+      unpaced = on.unpaced;
+    }
+  where
+    by_how : (h : SourceHow) → IsMergeFetched b c (came.Ended h) → IsKnownEnd (Some h) c.end
+    by_how how.End known = known
+    by_how how.Fault known = known
+    by_how how.TooLong known = known
+    by_how how.Limit known = known
+
+-- ---- feeds
+
+-- what a fetch brought was read, and the journal does not have it
+pub feed_fetched : (before : History) (s : StageNo) (most : ℕ) (o : Came) (a b c : FeedSeen) → KeepsFeed before s true [] a b → FetchesFeed most o b c → KeepsFeed before s false (records_of o) a c
+feed_fetched before s most o (Single a) (Single b) (Single c) k f = source_reads before s (records_of o) a b c k f.reads f.end_stays (cut_of b.source.paced.pace o b c f.paced)
+feed_fetched before s most o (Merged a) (Merged b) (Merged c) k f = merge_reads before s (records_of o) a b c k f.reads f.end_stays f.waits_stay f.unpaced
+feed_fetched before s most o (Single a) (Single b) (Merged c) k f = absurd f
+feed_fetched before s most o (Merged a) (Merged b) (Single c) k f = absurd f
+feed_fetched before s most o (Single a) (Merged b) c k f = absurd k
+feed_fetched before s most o (Merged a) (Single b) c k f = absurd k
+
+-- a fetch was cut off
+pub feed_cut : (before : History) (s : StageNo) (a b c : FeedSeen) → KeepsFeed before s true [] a b → IsCutFeed b c → KeepsFeed before s false [] a c
+feed_cut before s (Single a) (Single b) (Single c) k f = source_reads before s [] a b c k f.reads f.end_stays f.paced
+feed_cut before s (Merged a) (Merged b) (Merged c) k f = merge_reads before s [] a b c k f.reads f.end_stays f.waits_stay f.unpaced
+feed_cut before s (Single a) (Single b) (Merged c) k f = absurd f
+feed_cut before s (Merged a) (Merged b) (Single c) k f = absurd f
+feed_cut before s (Single a) (Merged b) c k f = absurd k
+feed_cut before s (Merged a) (Single b) c k f = absurd k
+
+pub feed_accepts : (before after : History) (s : StageNo) (most : ℕ) (records : List (List ℕ)) (a b c : FeedSeen) → fed after s ≡ fed before s ++ records → source_end after s ≡ source_end before s → quiets after s ≡ quiets before s
+    → PaceGoes before after s records → IsToldFeed before s b → KeepsFeed before s true [] a b → FetchesFeed most (came.Records records) b c → KeepsFeed after s true [] a c
+feed_accepts before after s most records (Single a) (Single b) (Single c) same_fed same_end same_quiets goes told k f = source_accepts before after s most records a b c same_fed same_end same_quiets goes told k f
+feed_accepts before after s most records (Merged a) (Merged b) (Merged c) same_fed same_end same_quiets goes told k f = merge_accepts before after s records a b c same_fed same_end same_quiets k f
+feed_accepts before after s most records (Single a) (Single b) (Merged c) same_fed same_end same_quiets goes told k f = absurd f
+feed_accepts before after s most records (Merged a) (Merged b) (Single c) same_fed same_end same_quiets goes told k f = absurd f
+feed_accepts before after s most records (Single a) (Merged b) c same_fed same_end same_quiets goes told k f = absurd k
+feed_accepts before after s most records (Merged a) (Single b) c same_fed same_end same_quiets goes told k f = absurd k
+
+pub feed_rests : (before after : History) (s : StageNo) (most : ℕ) (a b c : FeedSeen) → fed after s ≡ fed before s → source_end after s ≡ source_end before s → quiets after s ≡ quiets before s + 1
+    → PaceRests before after s → IsToldFeed before s b → KeepsFeed before s true [] a b → FetchesFeed most came.NotYet b c → KeepsFeed after s true [] a c
+feed_rests before after s most (Single a) (Single b) (Single c) same_fed same_end same_quiets goes told k f = source_rests before after s most a b c same_fed same_end same_quiets goes told k f
+feed_rests before after s most (Merged a) (Merged b) (Merged c) same_fed same_end same_quiets goes told k f = merge_rests before after s a b c same_fed same_end same_quiets k f
+feed_rests before after s most (Single a) (Single b) (Merged c) same_fed same_end same_quiets goes told k f = absurd f
+feed_rests before after s most (Merged a) (Merged b) (Single c) same_fed same_end same_quiets goes told k f = absurd f
+feed_rests before after s most (Single a) (Merged b) c same_fed same_end same_quiets goes told k f = absurd k
+feed_rests before after s most (Merged a) (Single b) c same_fed same_end same_quiets goes told k f = absurd k
+
+pub feed_ends : (before after : History) (s : StageNo) (most : ℕ) (h : SourceHow) (a b c : FeedSeen) → fed after s ≡ fed before s → source_end after s ≡ Some h → quiets after s ≡ quiets before s
+    → PaceGoes before after s [] → IsToldFeed before s b → KeepsFeed before s true [] a b → FetchesFeed most (came.Ended h) b c → KeepsFeed after s true [] a c
+feed_ends before after s most h (Single a) (Single b) (Single c) same_fed same_end same_quiets goes told k f = source_ends before after s most h a b c same_fed same_end same_quiets goes told k f
+feed_ends before after s most h (Merged a) (Merged b) (Merged c) same_fed same_end same_quiets goes told k f = merge_ends before after s h a b c same_fed same_end same_quiets k f
+feed_ends before after s most h (Single a) (Single b) (Merged c) same_fed same_end same_quiets goes told k f = absurd f
+feed_ends before after s most h (Merged a) (Merged b) (Single c) same_fed same_end same_quiets goes told k f = absurd f
+feed_ends before after s most h (Single a) (Merged b) c same_fed same_end same_quiets goes told k f = absurd k
+feed_ends before after s most h (Merged a) (Single b) c same_fed same_end same_quiets goes told k f = absurd k
 
 -- ---- sinks
 

@@ -26,25 +26,25 @@ use Rattle.pipe_model.specs.Legal.{fetch_out, is_legal, allows, has_role, has_en
 use Rattle.pipe_laws.proofs.Tests.{clash, and_left, and_right, not_true, same_stage-self}
 use Rattle.pipe_laws.proofs.Allowed.{legal_step, unowed, take_facts, child_facts}
 use Rattle.pipe_laws.specs.Read.{quiets}
-use Rattle.stage_bodies.specs.Seen.{LineSeen, SinkSeen, BoxSeen, BodySeen}
-use Rattle.stage_bodies.specs.Jobs.{Both, KeepsBox, Fetches, EndsIn, Writes, IsDone, IsCutOff, records_of, text_by, Fits}
+use Rattle.stage_bodies.specs.Seen.{LineSeen, MergeSeen, FeedSeen, Single, Merged, SinkSeen, BoxSeen, BodySeen}
+use Rattle.stage_bodies.specs.Jobs.{Both, KeepsBox, Fetches, FetchesMerge, FetchesFeed, EndsIn, Writes, IsDone, IsCutOff, records_of, text_by, Fits}
 use Rattle.stage_bodies.specs.Posts.{place_at, IsWorkOf, step_of, brings_records}
 use Rattle.stage_bodies.specs.declared.job.Work.{Work}
 use Rattle.stage_bodies.specs.declared.job.Work.TheVariants as work
 use Rattle.stage_bodies.specs.declared.job.Outcome.{Outcome as Came}
 use Rattle.stage_bodies.specs.declared.job.Outcome.TheVariants as came
 use Rattle.stage_callback.specs.Laws.{Law}
-use Rattle.pace_laws.specs.Pacing.{IsTold, PaceSame}
+use Rattle.pace_laws.specs.Pacing.{PaceSame}
 use Rattle.pace_laws.proofs.Fetching.{cut_of, same_pace}
 use Rattle.pace_laws.proofs.Going.{accept_goes, end_goes, quiet_rests}
 use Rattle.body_laws.specs.Counts.{short_writes, calls_of, bad_of, resets_of}
 use Rattle.body_laws.specs.Lawful.{has_sink, AreLawfulAnswers}
-use Rattle.body_laws.specs.Keeps.{has_post, is_silent, KeepsSource, KeepsSink, KeepsCallback, KeepsBody, KeepsPartly, KeepsPost, Keeps}
-use Rattle.body_laws.specs.Ready.{There, IsArmed, IsBodyFor, IsBodyAt, Ready, WasTold}
+use Rattle.body_laws.specs.Keeps.{has_post, is_silent, KeepsSource, KeepsMerge, KeepsFeed, KeepsSink, KeepsCallback, KeepsBody, KeepsPartly, KeepsPost, Keeps}
+use Rattle.body_laws.specs.Ready.{There, IsArmed, IsBodyFor, IsBodyAt, Ready, IsToldFeed, WasTold}
 use Rattle.body_laws.proofs.Posts.{same_post-true, some_role, put_has_post}
 use Rattle.body_laws.proofs.Steps.{writers_alone, stays, is_present}
 use Rattle.body_laws.proofs.Staying.{both_map, both_then, both_with, there_map, Quietly, post_stays, ready_stays}
-use Rattle.body_laws.proofs.Answering.{source_reads, source_accepts, source_rests, source_ends, sink_wrote, text_is_taken, callback_done, callback_wrote, callback_child, counts_done, counts_wrote, box_then}
+use Rattle.body_laws.proofs.Answering.{feed_fetched, feed_cut, feed_accepts, feed_rests, feed_ends, sink_wrote, text_is_taken, callback_done, callback_wrote, callback_child, counts_done, counts_wrote, box_then}
 
 -- ---- silent steps
 
@@ -210,8 +210,17 @@ sinks_as topology before p body h fit =
 
 -- ---- what the journal says as before, after another step
 
-pub source_as : (h h' : History) (s : StageNo) (a b : LineSeen) → fed h' s ≡ fed h s → source_end h' s ≡ source_end h s → quiets h' s ≡ quiets h s → PaceSame h h' s → KeepsSource h s true [] a b → KeepsSource h' s true [] a b
+source_as : (h h' : History) (s : StageNo) (a b : LineSeen) → fed h' s ≡ fed h s → source_end h' s ≡ source_end h s → quiets h' s ≡ quiets h s → PaceSame h h' s → KeepsSource h s true [] a b → KeepsSource h' s true [] a b
 source_as h h' s a b e f g same k = record { read = rw e k.read; known = rw f k.known; quiet = rw g k.quiet; paced = same_pace a.source.paced.pace h h' s true a.source b same k.paced }
+
+merge_as : (h h' : History) (s : StageNo) (a b : MergeSeen) → fed h' s ≡ fed h s → source_end h' s ≡ source_end h s → quiets h' s ≡ quiets h s → KeepsMerge h s [] a b → KeepsMerge h' s [] a b
+merge_as h h' s a b e f g k = record { given = k.given; records = rw e k.records; read = k.read; known = rw f k.known; quiet = rw g k.quiet; unpaced = k.unpaced }
+
+pub feed_as : (h h' : History) (s : StageNo) (a b : FeedSeen) → fed h' s ≡ fed h s → source_end h' s ≡ source_end h s → quiets h' s ≡ quiets h s → PaceSame h h' s → KeepsFeed h s true [] a b → KeepsFeed h' s true [] a b
+feed_as h h' s (Single a) (Single b) e f g same k = source_as h h' s a b e f g same k
+feed_as h h' s (Merged a) (Merged b) e f g same k = merge_as h h' s a b e f g k
+feed_as h h' s (Single a) (Merged b) e f g same k = absurd k
+feed_as h h' s (Merged a) (Single b) e f g same k = absurd k
 
 pub sink_as : (topology : Topology) (h h' : History) (s : StageNo) (a b : SinkSeen) → sink_text topology h' s ≡ sink_text topology h s → short_writes topology h' s ≡ short_writes topology h s → KeepsSink topology h s a b → KeepsSink topology h' s a b
 sink_as topology h h' s a b e f k = record { told = k.told; held = λ t. rw e (k.held t); faults_stay = k.faults_stay; short = rw f k.short }
@@ -229,38 +238,45 @@ callback_as topology h h' p a b e l f g i lawful k = record {
 
 -- ---- no other answers
 
-pub no_fetch : (most : ℕ) (o : Came) (x y : Option LineSeen) → ((b c : LineSeen) → Fetches most o b c → ⊥) → IsSome x → Both (Fetches most o) x y → ⊥
-no_fetch most o (Some b) (Some c) f h k = f b c k
-no_fetch most o (Some b) None f h k = k
-no_fetch most o None y f h k = let x : false ≡ true = h in cc
+-- what follows from a fetch of either kind of feed
+pub of_feed : (P : Type 0) (most : ℕ) (o : Came) (x y : FeedSeen) → ((b c : LineSeen) → Fetches most o b c → P) → ((b c : MergeSeen) → FetchesMerge o b c → P) → FetchesFeed most o x y → P
+of_feed P most o (Single b) (Single c) f g k = f b c k
+of_feed P most o (Merged b) (Merged c) f g k = g b c k
+of_feed P most o (Single b) (Merged c) f g k = absurd k
+of_feed P most o (Merged b) (Single c) f g k = absurd k
+
+pub no_fetch : (most : ℕ) (o : Came) (x y : Option FeedSeen) → ((b c : LineSeen) → Fetches most o b c → ⊥) → ((b c : MergeSeen) → FetchesMerge o b c → ⊥) → IsSome x → Both (FetchesFeed most o) x y → ⊥
+no_fetch most o (Some b) (Some c) f g h k = of_feed ⊥ most o b c f g k
+no_fetch most o (Some b) None f g h k = k
+no_fetch most o None y f g h k = let x : false ≡ true = h in cc
 
 -- ---- the body with its answer in the journal
 
-fetched_body : (topology : Topology) (before : History) (p : Post) (most : ℕ) (o : Came) (a old new : BodySeen) → is_live topology before p.stage ≡ true → most ≡ fetch_out before p.stage → IsSome old.source → IfSome old.source (IsTold before p.stage) → IsDone (work.Fetch most) o old new → KeepsBody topology before p a old
+fetched_body : (topology : Topology) (before : History) (p : Post) (most : ℕ) (o : Came) (a old new : BodySeen) → is_live topology before p.stage ≡ true → most ≡ fetch_out before p.stage → IsSome old.source → IfSome old.source (IsToldFeed before p.stage) → IsDone (work.Fetch most) o old new → KeepsBody topology before p a old
     → KeepsBody topology (step_of p o ∷ before) p a new
 fetched_body topology before p most (came.Records records) a old new live is there told done k = record {
-  source = both_then (λ x y z h f. source_accepts before (Accept p.stage records ∷ before) p.stage most records x y z (rw (same_stage-self p.stage) refl) refl refl (accept_goes before p.stage records) h.1 h.0 f) a.source old.source new.source (both_with (KeepsSource before p.stage true []) (IsTold before p.stage) a.source old.source k.source told) done.0;
+  source = both_then (λ x y z h f. feed_accepts before (Accept p.stage records ∷ before) p.stage most records x y z (rw (same_stage-self p.stage) refl) refl refl (accept_goes before p.stage records) h.1 h.0 f) a.source old.source new.source (both_with (KeepsFeed before p.stage true []) (IsToldFeed before p.stage) a.source old.source k.source told) done.0;
   sink = subst (λ x. Both (KeepsSink topology (Accept p.stage records ∷ before) p.stage) a.sink x) (sym done.1) (both_map (λ x y h. sink_as topology before (Accept p.stage records ∷ before) p.stage x y refl refl h) a.sink old.sink k.sink);
   callback = subst (λ x. Both (KeepsCallback topology (Accept p.stage records ∷ before) p) a.callback x) (sym done.2) (both_map (λ x y h. callback_as topology before (Accept p.stage records ∷ before) p x y refl (λ now. is_present topology before p.stage live) refl refl refl (λ law are. (are, tt)) h) a.callback old.callback k.callback);
 }
 fetched_body topology before p most came.NotYet a old new live is there told done k = record {
-  source = both_then (λ x y z h f. source_rests before (Quiet p.stage ∷ before) p.stage most x y z refl refl (rw (same_stage-self p.stage) refl) (quiet_rests before p.stage) h.1 h.0 f) a.source old.source new.source (both_with (KeepsSource before p.stage true []) (IsTold before p.stage) a.source old.source k.source told) done.0;
+  source = both_then (λ x y z h f. feed_rests before (Quiet p.stage ∷ before) p.stage most x y z refl refl (rw (same_stage-self p.stage) refl) (quiet_rests before p.stage) h.1 h.0 f) a.source old.source new.source (both_with (KeepsFeed before p.stage true []) (IsToldFeed before p.stage) a.source old.source k.source told) done.0;
   sink = subst (λ x. Both (KeepsSink topology (Quiet p.stage ∷ before) p.stage) a.sink x) (sym done.1) (both_map (λ x y h. sink_as topology before (Quiet p.stage ∷ before) p.stage x y refl refl h) a.sink old.sink k.sink);
   callback = subst (λ x. Both (KeepsCallback topology (Quiet p.stage ∷ before) p) a.callback x) (sym done.2) (both_map (λ x y h. callback_as topology before (Quiet p.stage ∷ before) p x y refl (λ now. is_present topology before p.stage live) refl refl refl (λ law are. (are, tt)) h) a.callback old.callback k.callback);
 }
 fetched_body topology before p most (came.Ended h) a old new live is there told done k = record {
-  source = both_then (λ x y z k f. source_ends before (SourceEnd p.stage h ∷ before) p.stage most h x y z refl (rw (same_stage-self p.stage) refl) refl (end_goes before p.stage h) k.1 k.0 f) a.source old.source new.source (both_with (KeepsSource before p.stage true []) (IsTold before p.stage) a.source old.source k.source told) done.0;
+  source = both_then (λ x y z k f. feed_ends before (SourceEnd p.stage h ∷ before) p.stage most h x y z refl (rw (same_stage-self p.stage) refl) refl (end_goes before p.stage h) k.1 k.0 f) a.source old.source new.source (both_with (KeepsFeed before p.stage true []) (IsToldFeed before p.stage) a.source old.source k.source told) done.0;
   sink = subst (λ x. Both (KeepsSink topology (SourceEnd p.stage h ∷ before) p.stage) a.sink x) (sym done.1) (both_map (λ x y k. sink_as topology before (SourceEnd p.stage h ∷ before) p.stage x y refl refl k) a.sink old.sink k.sink);
   callback = subst (λ x. Both (KeepsCallback topology (SourceEnd p.stage h ∷ before) p) a.callback x) (sym done.2) (both_map (λ x y k. callback_as topology before (SourceEnd p.stage h ∷ before) p x y refl (λ now. is_present topology before p.stage live) refl refl refl (λ law are. (are, tt)) k) a.callback old.callback k.callback);
 }
-fetched_body topology before p most (came.Replies replies) a old new live is there told done k = absurd (no_fetch most (came.Replies replies) old.source new.source (λ b c f. f.answer) there done.0)
-fetched_body topology before p most (came.Wrote bytes end) a old new live is there told done k = absurd (no_fetch most (came.Wrote bytes end) old.source new.source (λ b c f. f.answer) there done.0)
-fetched_body topology before p most (came.Reply reply) a old new live is there told done k = absurd (no_fetch most (came.Reply reply) old.source new.source (λ b c f. f.answer) there done.0)
+fetched_body topology before p most (came.Replies replies) a old new live is there told done k = absurd (no_fetch most (came.Replies replies) old.source new.source (λ b c f. f.answer) (λ b c f. f.answer) there done.0)
+fetched_body topology before p most (came.Wrote bytes end) a old new live is there told done k = absurd (no_fetch most (came.Wrote bytes end) old.source new.source (λ b c f. f.answer) (λ b c f. f.answer) there done.0)
+fetched_body topology before p most (came.Reply reply) a old new live is there told done k = absurd (no_fetch most (came.Reply reply) old.source new.source (λ b c f. f.answer) (λ b c f. f.answer) there done.0)
 
 chunk_body : (topology : Topology) (before : History) (p : Post) (messages : List Message) (replies : List Reply) (a old new : BodySeen) → p.slot ≡ 0 → messages ≡ chunk_of topology before p.stage → is_live topology before p.stage ≡ true → IsDone (work.Chunk messages) (came.Replies replies) old new → KeepsBody topology before p a old
     → KeepsBody topology (Done p.stage replies ∷ before) p a new
 chunk_body topology before p messages replies a old new first is live done k = record {
-  source = subst (λ x. Both (KeepsSource (Done p.stage replies ∷ before) p.stage true []) a.source x) (sym done.1) (both_map (λ x y h. source_as before (Done p.stage replies ∷ before) p.stage x y refl refl refl (record { came = λ interval i. refl; own = λ share interval. refl; same_fetch = refl }) h) a.source old.source k.source);
+  source = subst (λ x. Both (KeepsFeed (Done p.stage replies ∷ before) p.stage true []) a.source x) (sym done.1) (both_map (λ x y h. feed_as before (Done p.stage replies ∷ before) p.stage x y refl refl refl (record { came = λ interval i. refl; own = λ share interval. refl; same_fetch = refl }) h) a.source old.source k.source);
   sink = subst (λ x. Both (KeepsSink topology (Done p.stage replies ∷ before) p.stage) a.sink x) (sym done.2) (both_map (λ x y h. sink_as topology before (Done p.stage replies ∷ before) p.stage x y refl refl h) a.sink old.sink k.sink);
   callback = both_then (λ x y z h f. callback_done topology before p messages replies x y z first is live h f) a.callback old.callback new.callback k.callback done.0;
 }
@@ -268,7 +284,7 @@ chunk_body topology before p messages replies a old new first is live done k = r
 child_body : (topology : Topology) (before : History) (p : Post) (message : Message) (reply : Reply) (a old new : BodySeen) → has_role topology p.stage is_supervisor_role ≡ true → message ∷ [] ≡ child_of before p.stage p.slot → IsDone (work.Child message) (came.Reply reply) old new → KeepsBody topology before p a old
     → KeepsBody topology (ChildEnd p.stage p.slot reply ∷ before) p a new
 child_body topology before p message reply a old new child is done k = record {
-  source = subst (λ x. Both (KeepsSource (ChildEnd p.stage p.slot reply ∷ before) p.stage true []) a.source x) (sym done.1) (both_map (λ x y h. source_as before (ChildEnd p.stage p.slot reply ∷ before) p.stage x y refl refl refl (record { came = λ interval i. refl; own = λ share interval. refl; same_fetch = refl }) h) a.source old.source k.source);
+  source = subst (λ x. Both (KeepsFeed (ChildEnd p.stage p.slot reply ∷ before) p.stage true []) a.source x) (sym done.1) (both_map (λ x y h. feed_as before (ChildEnd p.stage p.slot reply ∷ before) p.stage x y refl refl refl (record { came = λ interval i. refl; own = λ share interval. refl; same_fetch = refl }) h) a.source old.source k.source);
   sink = subst (λ x. Both (KeepsSink topology (ChildEnd p.stage p.slot reply ∷ before) p.stage) a.sink x) (sym done.2) (both_map (λ x y h. sink_as topology before (ChildEnd p.stage p.slot reply ∷ before) p.stage x y refl refl h) a.sink old.sink k.sink);
   callback = both_then (λ x y z h f. callback_child topology before p message reply x y z child is h f) a.callback old.callback new.callback k.callback done.0;
 }
@@ -296,7 +312,7 @@ answered_body topology before p (work.Chunk messages) o a old new live is fit to
 answered_body topology before p (work.Batch batch) (came.Wrote bytes end) a old new live is fit told done k =
     let f = batch_armed topology before p old is.0 fit in
     record {
-      source = subst (λ x. Both (KeepsSource (Wrote p.stage bytes end ∷ before) p.stage true []) a.source x) (sym done.1) (both_map (λ x y h. source_as before (Wrote p.stage bytes end ∷ before) p.stage x y refl refl refl (record { came = λ interval i. refl; own = λ share interval. refl; same_fetch = refl }) h) a.source old.source k.source);
+      source = subst (λ x. Both (KeepsFeed (Wrote p.stage bytes end ∷ before) p.stage true []) a.source x) (sym done.1) (both_map (λ x y h. feed_as before (Wrote p.stage bytes end ∷ before) p.stage x y refl refl refl (record { came = λ interval i. refl; own = λ share interval. refl; same_fetch = refl }) h) a.source old.source k.source);
       sink = batch_sink topology before p.stage f.spec batch bytes end old new a.sink old.callback new.callback f.is (writers_alone topology p.stage is.0) live is.1.messages f.box done.0 k.sink;
       callback = batch_callback topology before p f.spec batch bytes end old new a.callback old.callback new.callback is.2 f.is is.1 (sinks_as topology before p old is.0 fit) (writers_alone topology p.stage is.0) live f.box done.0 k.callback;
     }
@@ -335,7 +351,7 @@ fetched_fit : (topology : Topology) (before : History) (p : Post) (most : ℕ) (
 fetched_fit topology before p most o old new h fit done =
     let f = fit_of topology before p is_producer_role old h fit in
     fit_at topology (step_of p o ∷ before) p f.spec new f.is
-    (for_source topology (step_of p o ∷ before) p.stage f.spec f.spec.role new f.role (some_after (Fetches most o) old.source new.source done.0 (source_for topology before p.stage f.spec f.spec.role old f.role f.holds)))
+    (for_source topology (step_of p o ∷ before) p.stage f.spec f.spec.role new f.role (some_after (FetchesFeed most o) old.source new.source done.0 (source_for topology before p.stage f.spec f.spec.role old f.role f.holds)))
 
 pub answered_fit : (topology : Topology) (before : History) (p : Post) (w : Work) (o : Came) (old new : BodySeen) → is_live topology before p.stage ≡ true → IsWorkOf topology before p w → IsBodyAt topology before p old → IsDone w o old new
     → IsBodyAt topology (step_of p o ∷ before) p new
@@ -372,7 +388,7 @@ answered_fit topology before p (work.Child message) o old new live is fit done =
 
 pub unrecorded_body : (topology : Topology) (before : History) (p : Post) (w : Work) (o : Came) (a old new : BodySeen) → brings_records o ≡ true → IsDone w o old new → KeepsBody topology before p a old → KeepsPartly topology before p a new
 unrecorded_body topology before p (work.Fetch most) o a old new brings done k = record {
-  source = both_then (λ x y z h f. (records_of o, source_reads before p.stage (records_of o) x y z h f.reads f.end_stays (cut_of y.source.paced.pace o y z f.paced))) a.source old.source new.source k.source done.0;
+  source = both_then (λ x y z h f. (records_of o, feed_fetched before p.stage most o x y z h f)) a.source old.source new.source k.source done.0;
   sink = subst (Both (KeepsSink topology before p.stage) a.sink) (sym done.1) k.sink;
   callback = subst (λ x. Both KeepsBox a.callback x) (sym done.2) (both_map (λ x y h. h.kept) a.callback old.callback k.callback);
 }
@@ -387,7 +403,7 @@ unrecorded_body topology before p (work.Child message) o a old new brings done k
 
 pub cut_body : (topology : Topology) (before : History) (p : Post) (a old new : BodySeen) → IsCutOff old new → KeepsBody topology before p a old → KeepsPartly topology before p a new
 cut_body topology before p a old new cut k = record {
-  source = both_then (λ x y z h f. ([], source_reads before p.stage [] x y z h f.reads f.end_stays f.paced)) a.source old.source new.source k.source cut.source;
+  source = both_then (λ x y z h f. ([], feed_cut before p.stage x y z h f)) a.source old.source new.source k.source cut.source;
   sink = subst (Both (KeepsSink topology before p.stage) a.sink) (sym cut.sink) k.sink;
   callback = both_then (λ x y z h f. box_then x y z h.kept f) a.callback old.callback new.callback k.callback cut.callback;
 }

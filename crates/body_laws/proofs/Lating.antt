@@ -24,7 +24,7 @@ use Rattle.pipe_laws.proofs.Tests.{clash, same_stage-self}
 use Rattle.pipe_laws.proofs.Allowed.{legal_before, legal_step, late_facts}
 use Rattle.queue_laws.proofs.Late.{out_present}
 use Rattle.stage_bodies.specs.Seen.{SinkSeen, BoxSeen, BodySeen}
-use Rattle.stage_bodies.specs.Jobs.{Both, KeepsBox, Fetches, EndsIn, IsDone, text_by}
+use Rattle.stage_bodies.specs.Jobs.{Both, KeepsBox, FetchesFeed, EndsIn, IsDone, text_by}
 use Rattle.stage_bodies.specs.Posts.{place_at, IsWorkOf}
 use Rattle.stage_bodies.specs.declared.job.Work.{Work}
 use Rattle.stage_bodies.specs.declared.job.Work.TheVariants as work
@@ -35,17 +35,16 @@ use Rattle.stage_callback.specs.Laws.{RoseExactly}
 use Rattle.stage_callback.proofs.Resets.{none_counted, counted_on}
 use Rattle.body_laws.specs.Counts.{calls_of, bad_of, resets_of, one_more}
 use Rattle.body_laws.specs.Lawful.{has_sink, IsLawfulStep}
-use Rattle.pace_laws.specs.Pacing.{IsTold}
 use Rattle.pace_laws.proofs.Going.{late_end_goes, late_goes, late_rests}
-use Rattle.body_laws.specs.Keeps.{KeepsSource, KeepsSink, IsCounted, KeepsCallback, KeepsBody, Keeps}
+use Rattle.body_laws.specs.Keeps.{KeepsFeed, KeepsSink, IsCounted, KeepsCallback, KeepsBody, Keeps}
 use Rattle.body_laws.specs.Lates.{late_of, late_step}
-use Rattle.body_laws.specs.Ready.{There, IsArmed, IsBodyAt, Ready, WasTold}
+use Rattle.body_laws.specs.Ready.{There, IsArmed, IsBodyAt, Ready, IsToldFeed, WasTold}
 use Rattle.body_laws.proofs.Posts.{same_post-true, same_post-self, out_has_post, few_slots}
 use Rattle.body_laws.proofs.Rises.{rise_stays}
 use Rattle.body_laws.proofs.Steps.{producers_alone, processors_alone, writers_alone}
 use Rattle.body_laws.proofs.Staying.{both_map, both_then, both_with, keeps_answered, ready_answered}
-use Rattle.body_laws.proofs.Answering.{source_accepts, source_rests, source_ends, sink_wrote, text_is_taken, box_then, box_reset, resets_on, lawful_write}
-use Rattle.body_laws.proofs.Jobs.{no_fetch, fit_of, fit_at, source_for, for_source, chunk_for, for_chunk, child_for, for_child, batch_for, for_batch, source_there, batch_armed, sinks_as, source_as, sink_as, some_after, sink_same, there_some, armed_after}
+use Rattle.body_laws.proofs.Answering.{feed_accepts, feed_rests, feed_ends, sink_wrote, text_is_taken, box_then, box_reset, resets_on, lawful_write}
+use Rattle.body_laws.proofs.Jobs.{no_fetch, fit_of, fit_at, source_for, for_source, chunk_for, for_chunk, child_for, for_child, batch_for, for_batch, source_there, batch_armed, sinks_as, feed_as, sink_as, some_after, sink_same, there_some, armed_after}
 use Rattle.body_laws.proofs.Laws.{both_whole}
 
 -- ---- the stage is dead
@@ -112,26 +111,26 @@ callback_late topology before p i answer a b c count k on resets lawful = record
 box_same : (a : BoxSeen) → KeepsBox a a
 box_same a = record { kind = refl; spec = refl; law = refl; told = refl; calls = omega arith; bad = omega arith; no_calls = λ own. refl; no_bad = λ own. refl }
 
-fetched_late : (topology : Topology) (before : History) (p : Post) (most i : ℕ) (o : Came) (a old new : BodySeen) → IsWorkOf topology before p (work.Fetch most) → is_legal topology (late_step p i o ∷ before) ≡ true → IsSome old.source → IfSome old.source (IsTold before p.stage) → IsDone (work.Fetch most) o old new → KeepsBody topology before p a old
+fetched_late : (topology : Topology) (before : History) (p : Post) (most i : ℕ) (o : Came) (a old new : BodySeen) → IsWorkOf topology before p (work.Fetch most) → is_legal topology (late_step p i o ∷ before) ≡ true → IsSome old.source → IfSome old.source (IsToldFeed before p.stage) → IsDone (work.Fetch most) o old new → KeepsBody topology before p a old
     → KeepsBody topology (late_step p i o ∷ before) p a new
 fetched_late topology before p most i (came.Records records) a old new is legal there told done k = record {
-  source = both_then (λ x y z h f. source_accepts before (late_step p i (came.Records records) ∷ before) p.stage most records x y z (rw (same_stage-self p.stage) refl) refl refl (late_goes before p.stage p.slot i records) h.1 h.0 f) a.source old.source new.source (both_with (KeepsSource before p.stage true []) (IsTold before p.stage) a.source old.source k.source told) done.0;
+  source = both_then (λ x y z h f. feed_accepts before (late_step p i (came.Records records) ∷ before) p.stage most records x y z (rw (same_stage-self p.stage) refl) refl refl (late_goes before p.stage p.slot i records) h.1 h.0 f) a.source old.source new.source (both_with (KeepsFeed before p.stage true []) (IsToldFeed before p.stage) a.source old.source k.source told) done.0;
   sink = subst (λ x. Both (KeepsSink topology (late_step p i (came.Records records) ∷ before) p.stage) a.sink x) (sym done.1) (both_map (λ x y h. sink_as topology before (late_step p i (came.Records records) ∷ before) p.stage x y refl refl h) a.sink old.sink k.sink);
   callback = subst (λ x. Both (KeepsCallback topology (late_step p i (came.Records records) ∷ before) p) a.callback x) (sym done.2) (both_map (λ x y h. callback_late topology before p i (late.Records records) x y y (uncounted topology before p (work.Fetch most) i (late.Records records) y is legal) h (box_same y) (λ own r. none_more topology before p i (late.Records records) x y y (producers_alone topology p.stage is.0) r (none_counted y.resets y.resets refl)) (λ same. tt)) a.callback old.callback k.callback);
 }
 fetched_late topology before p most i came.NotYet a old new is legal there told done k = record {
-  source = both_then (λ x y z h f. source_rests before (late_step p i came.NotYet ∷ before) p.stage most x y z refl refl (rw (same_stage-self p.stage) refl) (late_rests before p.stage p.slot i) h.1 h.0 f) a.source old.source new.source (both_with (KeepsSource before p.stage true []) (IsTold before p.stage) a.source old.source k.source told) done.0;
+  source = both_then (λ x y z h f. feed_rests before (late_step p i came.NotYet ∷ before) p.stage most x y z refl refl (rw (same_stage-self p.stage) refl) (late_rests before p.stage p.slot i) h.1 h.0 f) a.source old.source new.source (both_with (KeepsFeed before p.stage true []) (IsToldFeed before p.stage) a.source old.source k.source told) done.0;
   sink = subst (λ x. Both (KeepsSink topology (late_step p i came.NotYet ∷ before) p.stage) a.sink x) (sym done.1) (both_map (λ x y h. sink_as topology before (late_step p i came.NotYet ∷ before) p.stage x y refl refl h) a.sink old.sink k.sink);
   callback = subst (λ x. Both (KeepsCallback topology (late_step p i came.NotYet ∷ before) p) a.callback x) (sym done.2) (both_map (λ x y h. callback_late topology before p i late.Quiet x y y (uncounted topology before p (work.Fetch most) i late.Quiet y is legal) h (box_same y) (λ own r. none_more topology before p i late.Quiet x y y (producers_alone topology p.stage is.0) r (none_counted y.resets y.resets refl)) (λ same. tt)) a.callback old.callback k.callback);
 }
 fetched_late topology before p most i (came.Ended h) a old new is legal there told done k = record {
-  source = both_then (λ x y z k f. source_ends before (late_step p i (came.Ended h) ∷ before) p.stage most h x y z refl (rw (same_stage-self p.stage) refl) refl (late_end_goes before p.stage p.slot i h) k.1 k.0 f) a.source old.source new.source (both_with (KeepsSource before p.stage true []) (IsTold before p.stage) a.source old.source k.source told) done.0;
+  source = both_then (λ x y z k f. feed_ends before (late_step p i (came.Ended h) ∷ before) p.stage most h x y z refl (rw (same_stage-self p.stage) refl) refl (late_end_goes before p.stage p.slot i h) k.1 k.0 f) a.source old.source new.source (both_with (KeepsFeed before p.stage true []) (IsToldFeed before p.stage) a.source old.source k.source told) done.0;
   sink = subst (λ x. Both (KeepsSink topology (late_step p i (came.Ended h) ∷ before) p.stage) a.sink x) (sym done.1) (both_map (λ x y k. sink_as topology before (late_step p i (came.Ended h) ∷ before) p.stage x y refl refl k) a.sink old.sink k.sink);
   callback = subst (λ x. Both (KeepsCallback topology (late_step p i (came.Ended h) ∷ before) p) a.callback x) (sym done.2) (both_map (λ x y k. callback_late topology before p i (late.Source h) x y y (uncounted topology before p (work.Fetch most) i (late.Source h) y is legal) k (box_same y) (λ own r. none_more topology before p i (late.Source h) x y y (producers_alone topology p.stage is.0) r (none_counted y.resets y.resets refl)) (λ same. tt)) a.callback old.callback k.callback);
 }
-fetched_late topology before p most i (came.Replies replies) a old new is legal there told done k = absurd (no_fetch most (came.Replies replies) old.source new.source (λ b c f. f.answer) there done.0)
-fetched_late topology before p most i (came.Wrote bytes end) a old new is legal there told done k = absurd (no_fetch most (came.Wrote bytes end) old.source new.source (λ b c f. f.answer) there done.0)
-fetched_late topology before p most i (came.Reply reply) a old new is legal there told done k = absurd (no_fetch most (came.Reply reply) old.source new.source (λ b c f. f.answer) there done.0)
+fetched_late topology before p most i (came.Replies replies) a old new is legal there told done k = absurd (no_fetch most (came.Replies replies) old.source new.source (λ b c f. f.answer) (λ b c f. f.answer) there done.0)
+fetched_late topology before p most i (came.Wrote bytes end) a old new is legal there told done k = absurd (no_fetch most (came.Wrote bytes end) old.source new.source (λ b c f. f.answer) (λ b c f. f.answer) there done.0)
+fetched_late topology before p most i (came.Reply reply) a old new is legal there told done k = absurd (no_fetch most (came.Reply reply) old.source new.source (λ b c f. f.answer) (λ b c f. f.answer) there done.0)
 
 sink_late : (topology : Topology) (before : History) (p : Post) (i : ℕ) (spec : StageSpec) (asked : Batch) (bytes : ℕ) (end : BatchEnd) (old new : BodySeen) (a : Option SinkSeen) (x y : Option BoxSeen) → spec_of topology p.stage ≡ Some spec → has_role topology p.stage is_supervisor_role ≡ false
     → is_out before (post p.stage 0) ≡ true → asked.messages ≡ batch_of topology before p.stage → There x (IsArmed topology before p.stage spec) → Both (EndsIn asked bytes end old new) x y → Both (KeepsSink topology before p.stage) a old.sink
@@ -160,7 +159,7 @@ late_body : (topology : Topology) (before : History) (p : Post) (w : Work) (i : 
     → KeepsBody topology (late_step p i o ∷ before) p a new
 late_body topology before p (work.Fetch most) i o a old new legal out is fit told done k = fetched_late topology before p most i o a old new is legal (source_there topology before p old is.0 fit) told done k
 late_body topology before p (work.Chunk messages) i (came.Replies replies) a old new legal out is fit told done k = record {
-  source = subst (λ x. Both (KeepsSource (late_step p i (came.Replies replies) ∷ before) p.stage true []) a.source x) (sym done.1) (both_map (λ x y h. source_as before (late_step p i (came.Replies replies) ∷ before) p.stage x y refl refl refl (record { came = λ interval i. refl; own = λ share interval. refl; same_fetch = refl }) h) a.source old.source k.source);
+  source = subst (λ x. Both (KeepsFeed (late_step p i (came.Replies replies) ∷ before) p.stage true []) a.source x) (sym done.1) (both_map (λ x y h. feed_as before (late_step p i (came.Replies replies) ∷ before) p.stage x y refl refl refl (record { came = λ interval i. refl; own = λ share interval. refl; same_fetch = refl }) h) a.source old.source k.source);
   sink = subst (λ x. Both (KeepsSink topology (late_step p i (came.Replies replies) ∷ before) p.stage) a.sink x) (sym done.2) (both_map (λ x y h. sink_as topology before (late_step p i (came.Replies replies) ∷ before) p.stage x y refl refl h) a.sink old.sink k.sink);
   callback = both_then (λ x y z h f. callback_late topology before p i late.Nothing x y z (uncounted topology before p (work.Chunk messages) i late.Nothing z is legal) h f.kept (λ own r. none_more topology before p i late.Nothing x y z (processors_alone topology p.stage is.0) r (f.resets own)) (λ same. tt)) a.callback old.callback new.callback k.callback done.0;
 }
@@ -168,7 +167,7 @@ late_body topology before p (work.Chunk messages) i o a old new legal out is fit
 late_body topology before p (work.Batch batch) i (came.Wrote bytes end) a old new legal out is fit told done k =
     let f = batch_armed topology before p old is.0 fit in
     record {
-      source = subst (λ x. Both (KeepsSource (late_step p i (came.Wrote bytes end) ∷ before) p.stage true []) a.source x) (sym done.1) (both_map (λ x y h. source_as before (late_step p i (came.Wrote bytes end) ∷ before) p.stage x y refl refl refl (record { came = λ interval i. refl; own = λ share interval. refl; same_fetch = refl }) h) a.source old.source k.source);
+      source = subst (λ x. Both (KeepsFeed (late_step p i (came.Wrote bytes end) ∷ before) p.stage true []) a.source x) (sym done.1) (both_map (λ x y h. feed_as before (late_step p i (came.Wrote bytes end) ∷ before) p.stage x y refl refl refl (record { came = λ interval i. refl; own = λ share interval. refl; same_fetch = refl }) h) a.source old.source k.source);
       sink = sink_late topology before p i f.spec batch bytes end old new a.sink old.callback new.callback f.is (writers_alone topology p.stage is.0) (subst (λ n. is_out before (post p.stage n) ≡ true) is.2 out) is.1.messages f.box done.0 k.sink;
       callback =
           batch_late topology before p i f.spec batch bytes end old new a.callback old.callback new.callback f.is (writers_alone topology p.stage is.0) (subst (λ n. is_out before (post p.stage n) ≡ true) is.2 out) is.1 (sinks_as topology before p old is.0 fit) f.box
@@ -176,7 +175,7 @@ late_body topology before p (work.Batch batch) i (came.Wrote bytes end) a old ne
     }
 late_body topology before p (work.Batch batch) i o a old new legal out is fit told done k = absurd done
 late_body topology before p (work.Child message) i (came.Reply reply) a old new legal out is fit told done k = record {
-  source = subst (λ x. Both (KeepsSource (late_step p i (came.Reply reply) ∷ before) p.stage true []) a.source x) (sym done.1) (both_map (λ x y h. source_as before (late_step p i (came.Reply reply) ∷ before) p.stage x y refl refl refl (record { came = λ interval i. refl; own = λ share interval. refl; same_fetch = refl }) h) a.source old.source k.source);
+  source = subst (λ x. Both (KeepsFeed (late_step p i (came.Reply reply) ∷ before) p.stage true []) a.source x) (sym done.1) (both_map (λ x y h. feed_as before (late_step p i (came.Reply reply) ∷ before) p.stage x y refl refl refl (record { came = λ interval i. refl; own = λ share interval. refl; same_fetch = refl }) h) a.source old.source k.source);
   sink = subst (λ x. Both (KeepsSink topology (late_step p i (came.Reply reply) ∷ before) p.stage) a.sink x) (sym done.2) (both_map (λ x y h. sink_as topology before (late_step p i (came.Reply reply) ∷ before) p.stage x y refl refl h) a.sink old.sink k.sink);
   callback = both_then (λ x y z h f. callback_late topology before p i late.Nothing x y z (uncounted topology before p (work.Child message) i late.Nothing z is legal) h (box_reset y z f.kept) (λ own r. one_reset topology before p i late.Nothing x y z is.0 r (f.resets own)) (λ same. tt)) a.callback old.callback new.callback k.callback done.0;
 }
@@ -188,7 +187,7 @@ late_fit : (topology : Topology) (before : History) (p : Post) (w : Work) (i : �
 late_fit topology before p (work.Fetch most) i o old new legal is fit done =
     let f = fit_of topology before p is_producer_role old is.0 fit in
     fit_at topology (late_step p i o ∷ before) p f.spec new f.is
-    (for_source topology (late_step p i o ∷ before) p.stage f.spec f.spec.role new f.role (some_after (Fetches most o) old.source new.source done.0 (source_for topology before p.stage f.spec f.spec.role old f.role f.holds)))
+    (for_source topology (late_step p i o ∷ before) p.stage f.spec f.spec.role new f.role (some_after (FetchesFeed most o) old.source new.source done.0 (source_for topology before p.stage f.spec f.spec.role old f.role f.holds)))
 late_fit topology before p (work.Chunk messages) i (came.Replies replies) old new legal is fit done =
     let f = fit_of topology before p is_processor_role old is.0 fit in
     fit_at topology (late_step p i (came.Replies replies) ∷ before) p f.spec new f.is

@@ -20,11 +20,11 @@ use Rattle.pipe_laws.proofs.Allowed.{legal_step, unowed}
 use Rattle.stage_laws.proofs.FewSlots.{none_any, slot_case}
 use Rattle.stage_callback.proofs.Resets.{counted_on}
 use Rattle.pipe_types.specs.declared.topology.Kind.TheVariants.{Own}
-use Rattle.stage_bodies.specs.Seen.{LineSeen, SinkSeen, BoxSeen, BodySeen}
+use Rattle.stage_bodies.specs.Seen.{FeedSeen, SinkSeen, BoxSeen, BodySeen}
 use Rattle.stage_bodies.specs.Jobs.{Both, IsReset, IsResetBody}
 use Rattle.stage_bodies.specs.Posts.{place_at}
 use Rattle.body_laws.specs.Counts.{calls_of, bad_of, resets_of}
-use Rattle.body_laws.specs.Keeps.{has_post, KeepsSource, KeepsSink, KeepsCallback, KeepsBody, KeepsPost, Keeps}
+use Rattle.body_laws.specs.Keeps.{has_post, KeepsFeed, KeepsSink, KeepsCallback, KeepsBody, KeepsPost, Keeps}
 use Rattle.body_laws.specs.Lates.{AreReset}
 use Rattle.body_laws.specs.Ready.{There, IsArmed, IsBodyFor, IsBodyAt, Ready}
 use Rattle.body_laws.proofs.Posts.{few_slots}
@@ -32,7 +32,7 @@ use Rattle.body_laws.proofs.Rises.{rise_stays}
 use Rattle.body_laws.proofs.Steps.{stays, flip}
 use Rattle.body_laws.proofs.Answering.{box_then}
 use Rattle.body_laws.proofs.Staying.{both_map, both_then, there_map, post_stays, ready_stays}
-use Rattle.body_laws.proofs.Jobs.{source_as, sink_as}
+use Rattle.body_laws.proofs.Jobs.{feed_as, sink_as}
 
 -- no post of the stage is out
 home : (topology : Topology) (before : History) (p : Post) → IsSound topology → is_legal topology (Restart p.stage ∷ before) ≡ true → has_post topology p ≡ true → is_out before p ≡ false
@@ -56,15 +56,15 @@ callback_restarts topology before p a b c k r = record {
   lawful = (k.lawful, tt);
 }
 
-source_restarts : (before : History) (s : StageNo) (a b : Option LineSeen) → Both (KeepsSource before s true []) a b → Both (KeepsSource (Restart s ∷ before) s true []) a b
-source_restarts before s a b k = both_map (λ x y h. source_as before (Restart s ∷ before) s x y refl refl refl (record { came = λ interval i. refl; own = λ share interval. refl; same_fetch = refl }) h) a b k
+source_restarts : (before : History) (s : StageNo) (a b : Option FeedSeen) → Both (KeepsFeed before s true []) a b → Both (KeepsFeed (Restart s ∷ before) s true []) a b
+source_restarts before s a b k = both_map (λ x y h. feed_as before (Restart s ∷ before) s x y refl refl refl (record { came = λ interval i. refl; own = λ share interval. refl; same_fetch = refl }) h) a b k
 
 sink_restarts : (topology : Topology) (before : History) (s : StageNo) (a b : Option SinkSeen) → Both (KeepsSink topology before s) a b → Both (KeepsSink topology (Restart s ∷ before) s) a b
 sink_restarts topology before s a b k = both_map (λ x y h. sink_as topology before (Restart s ∷ before) s x y refl refl h) a b k
 
 body_restarts : (topology : Topology) (before : History) (p : Post) (a b c : BodySeen) → KeepsBody topology before p a b → IsResetBody b c → KeepsBody topology (Restart p.stage ∷ before) p a c
 body_restarts topology before p a b c k r = record {
-  source = source_restarts before p.stage a.source c.source (subst (λ o. Both (KeepsSource before p.stage true []) a.source o) (sym r.source) k.source);
+  source = source_restarts before p.stage a.source c.source (subst (λ o. Both (KeepsFeed before p.stage true []) a.source o) (sym r.source) k.source);
   sink = sink_restarts topology before p.stage a.sink c.sink (subst (λ o. Both (KeepsSink topology before p.stage) a.sink o) (sym r.sink) k.sink);
   callback = both_then (λ x y z h g. callback_restarts topology before p x y z h g) a.callback b.callback c.callback k.callback r.callback;
 }
@@ -77,7 +77,7 @@ armed_restarts topology before s spec (Some b) None r armed = r
 armed_restarts topology before s spec None (Some c) r armed = absurd r
 
 fit_restarts : (topology : Topology) (before : History) (s : StageNo) (spec : StageSpec) (role : Role) (body after : BodySeen) → IsResetBody body after → IsBodyFor topology before s spec role body → IsBodyFor topology (Restart s ∷ before) s spec role after
-fit_restarts topology before s spec Producer body after r k = subst (λ (o : Option LineSeen). IsSome o) (sym r.source) k
+fit_restarts topology before s spec Producer body after r k = subst (λ (o : Option FeedSeen). IsSome o) (sym r.source) k
 fit_restarts topology before s spec Processor body after r k = armed_restarts topology before s spec body.callback after.callback r.callback k
 fit_restarts topology before s spec Supervisor body after r k = armed_restarts topology before s spec body.callback after.callback r.callback k
 fit_restarts topology before s spec Batcher body after r k = k

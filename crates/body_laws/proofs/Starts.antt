@@ -11,11 +11,11 @@ use Rattle.pipe_edges.specs.Texts.{IsLine}
 use Rattle.pipe_edges.specs.declared.reading.LineEnd.{LineEnd}
 use Rattle.pipe_edges.specs.declared.reading.LineEnd.TheVariants as end
 use Rattle.stage_callback.proofs.Resets.{none_counted}
-use Rattle.stage_bodies.specs.Seen.{LineSeen, SinkSeen, BoxSeen, BodySeen}
+use Rattle.stage_bodies.specs.Seen.{LineSeen, MergeSeen, waits_together, FeedSeen, Single, Merged, SinkSeen, BoxSeen, BodySeen}
 use Rattle.stage_bodies.specs.Jobs.{Both}
 use Rattle.stage_bodies.specs.Posts.{place_at}
-use Rattle.body_laws.specs.Keeps.{KeepsSource, KeepsSink, KeepsCallback, KeepsBody, Keeps}
-use Rattle.body_laws.specs.Ready.{IsUnused, IsFilled}
+use Rattle.body_laws.specs.Keeps.{KeepsSource, KeepsMerge, KeepsFeed, KeepsSink, KeepsCallback, KeepsBody, Keeps}
+use Rattle.body_laws.specs.Ready.{IsUnused, IsNewFeed, IsNewMerge, IsFilled}
 use Rattle.pace_laws.specs.Pacing.{IsNewGate}
 use Rattle.pace_laws.proofs.Fetching.{starts as begins}
 use Rattle.body_laws.proofs.Rises.{rise_none}
@@ -41,6 +41,16 @@ source_starts s a empty none gate = record {
   paced = begins s a.source.paced.pace a gate.fresh gate.some empty;
 }
 
+merge_starts : (s : StageNo) (a : MergeSeen) → IsNewMerge a → KeepsMerge [] s [] a a
+merge_starts s a new = record {
+  given = [];
+  records = refl;
+  read = new.read;
+  known = tt;
+  quiet = rise_none (waits_together a);
+  unpaced = new.unpaced;
+}
+
 sink_starts : (topology : Topology) (s : StageNo) (a : SinkSeen) → KeepsSink topology [] s a a
 sink_starts topology s a = record { told = refl; held = λ t. sym (append-nil a.held); faults_stay = omega arith; short = rise_none a.faults }
 
@@ -56,14 +66,15 @@ callback_starts topology p a zero_count = record {
 
 body_starts : (topology : Topology) (p : Post) (a : BodySeen) → IsUnused a → KeepsBody topology [] p a a
 body_starts topology p a unused = record {
-  source = by_source a.source unused.waiting unused.end unused.gate;
+  source = by_source a.source unused.source;
   sink = by_sink a.sink;
   callback = by_callback a.callback unused.count;
 }
   where
-    by_source : (x : Option LineSeen) → IfSome x (λ lines. lines.waiting ≡ []) → IfSome x (λ lines. lines.end ≡ None) → IfSome x (λ lines. IsNewGate lines.source.paced) → Both (KeepsSource [] p.stage true []) x x
-    by_source (Some lines) empty none gate = source_starts p.stage lines empty none gate
-    by_source None empty none gate = tt
+    by_source : (x : Option FeedSeen) → IfSome x IsNewFeed → Both (KeepsFeed [] p.stage true []) x x
+    by_source (Some (Single lines)) new = source_starts p.stage lines new.waiting new.end new.gate
+    by_source (Some (Merged merge)) new = merge_starts p.stage merge new
+    by_source None new = tt
 
     by_sink : (x : Option SinkSeen) → Both (KeepsSink topology [] p.stage) x x
     by_sink (Some sink) = sink_starts topology p.stage sink

@@ -16,11 +16,11 @@ use Rattle.pipe_model.specs.Lives.{restarts}
 use Rattle.pipe_model.specs.Posts.{puts_out, answers, is_out}
 use Rattle.pipe_model.specs.Legal.{is_legal}
 use Rattle.pipe_laws.proofs.Tests.{clash}
-use Rattle.stage_bodies.specs.Seen.{LineSeen, SinkSeen, BoxSeen, BodySeen}
+use Rattle.stage_bodies.specs.Seen.{LineSeen, FeedSeen, Single, Merged, SinkSeen, BoxSeen, BodySeen}
 use Rattle.stage_bodies.specs.Jobs.{Both}
 use Rattle.stage_bodies.specs.Posts.{place_at}
 use Rattle.pace_laws.proofs.Fetching.{part as pace_part, stays as pace_on}
-use Rattle.body_laws.specs.Keeps.{has_post, KeepsSource, KeepsSink, IsCounted, KeepsCallback, KeepsBody, KeepsPartly, KeepsPost, Keeps}
+use Rattle.body_laws.specs.Keeps.{has_post, KeepsSource, KeepsFeed, KeepsSink, IsCounted, KeepsCallback, KeepsBody, KeepsPartly, KeepsPost, Keeps}
 use Rattle.body_laws.specs.Ready.{There, IsArmed, IsBodyFor, IsBodyAt, Ready}
 use Rattle.body_laws.proofs.Posts.{few_slots, own_places}
 use Rattle.body_laws.proofs.Steps.{Stays, stays, out_stays}
@@ -65,6 +65,13 @@ source_stays topology before step p whole lost a b st k = record {
   paced = pace_on a.source.paced.pace before (step ∷ before) p.stage whole a.source b st.paced k.paced;
 }
 
+feed_stays : (topology : Topology) (before : History) (step : Step) (p : Post) (whole : Bool) (lost : List (List ℕ)) (a b : FeedSeen) → Stays topology before step p → KeepsFeed before p.stage whole lost a b → KeepsFeed (step ∷ before) p.stage whole lost a b
+feed_stays topology before step p whole lost (Single a) (Single b) st k = source_stays topology before step p whole lost a b st k
+feed_stays topology before step p whole lost (Merged a) (Merged b) st k =
+    record { given = k.given; records = rw st.fed k.records; read = k.read; known = rw st.end k.known; quiet = rw st.quiets k.quiet; unpaced = k.unpaced }
+feed_stays topology before step p whole lost (Single a) (Merged b) st k = absurd k
+feed_stays topology before step p whole lost (Merged a) (Single b) st k = absurd k
+
 sink_stays : (topology : Topology) (before : History) (step : Step) (p : Post) (a b : SinkSeen) → Stays topology before step p → KeepsSink topology before p.stage a b → KeepsSink topology (step ∷ before) p.stage a b
 sink_stays topology before step p a b st k = record {
   told = k.told;
@@ -85,14 +92,14 @@ callback_stays topology before step p a b st k = record {
 
 pub body_stays : (topology : Topology) (before : History) (step : Step) (p : Post) (a b : BodySeen) → Stays topology before step p → KeepsBody topology before p a b → KeepsBody topology (step ∷ before) p a b
 body_stays topology before step p a b st k = record {
-  source = both_map (λ x y h. source_stays topology before step p true [] x y st h) a.source b.source k.source;
+  source = both_map (λ x y h. feed_stays topology before step p true [] x y st h) a.source b.source k.source;
   sink = both_map (λ x y h. sink_stays topology before step p x y st h) a.sink b.sink k.sink;
   callback = both_map (λ x y h. callback_stays topology before step p x y st h) a.callback b.callback k.callback;
 }
 
 pub partly_stays : (topology : Topology) (before : History) (step : Step) (p : Post) (a b : BodySeen) → Stays topology before step p → KeepsPartly topology before p a b → KeepsPartly topology (step ∷ before) p a b
 partly_stays topology before step p a b st k = record {
-  source = both_map (λ x y h. (h.0, source_stays topology before step p false h.0 x y st h.1)) a.source b.source k.source;
+  source = both_map (λ x y h. (h.0, feed_stays topology before step p false h.0 x y st h.1)) a.source b.source k.source;
   sink = both_map (λ x y h. sink_stays topology before step p x y st h) a.sink b.sink k.sink;
   callback = k.callback;
 }
@@ -127,10 +134,16 @@ out_as topology before p b c x y e k = rw e k
 source_is_part : (before : History) (s : StageNo) (a b : LineSeen) → KeepsSource before s true [] a b → KeepsSource before s false [] a b
 source_is_part before s a b k = record { read = k.read; known = k.known; quiet = k.quiet; paced = pace_part a.source.paced.pace before s a.source b k.paced }
 
+feed_is_part : (before : History) (s : StageNo) (a b : FeedSeen) → KeepsFeed before s true [] a b → KeepsFeed before s false [] a b
+feed_is_part before s (Single a) (Single b) k = source_is_part before s a b k
+feed_is_part before s (Merged a) (Merged b) k = k
+feed_is_part before s (Single a) (Merged b) k = absurd k
+feed_is_part before s (Merged a) (Single b) k = absurd k
+
 -- a body that stands where the journal leaves it stands so in part
 pub whole_is_part : (topology : Topology) (before : History) (p : Post) (a b : BodySeen) → KeepsBody topology before p a b → KeepsPartly topology before p a b
 whole_is_part topology before p a b k = record {
-  source = both_map (λ x y h. ([], source_is_part before p.stage x y h)) a.source b.source k.source;
+  source = both_map (λ x y h. ([], feed_is_part before p.stage x y h)) a.source b.source k.source;
   sink = k.sink;
   callback = both_map (λ x y h. h.kept) a.callback b.callback k.callback;
 }

@@ -1,5 +1,5 @@
 -- What a journal has to do with what is seen of bodies.
-use Rattle.std.specs.Prelude.{◌≡◌, ◌≢◌, ◌≤◌, ◌⊎◌, ℕ, Bool, true, false, List, [], ◌++◌, nat_lt, ◌==◌, ◌||◌, IsTrue, Option, Some, None}
+use Rattle.std.specs.Prelude.{◌≡◌, ◌≢◌, ◌≤◌, ◌⊎◌, ℕ, Bool, true, false, List, [], ◌++◌, map, nat_lt, ◌==◌, ◌||◌, IsTrue, Option, Some, None}
 use Rattle.pipe_types.specs.declared.numbers.StageNo.{StageNo}
 use Rattle.pipe_types.specs.declared.numbers.Post.{Post}
 use Rattle.pipe_types.specs.declared.step.SourceHow.{SourceHow}
@@ -24,8 +24,9 @@ use Rattle.pipe_edges.specs.declared.reading.LineEnd.TheVariants as end
 use Rattle.pipe_laws.specs.Read.{quiets}
 use Rattle.stage_callback.specs.Laws.{RoseExactly}
 use Rattle.stage_job.specs.Chunks.{RoseBy}
-use Rattle.stage_bodies.specs.Seen.{LineSeen, SinkSeen, BoxSeen, BodySeen}
-use Rattle.stage_bodies.specs.Reads.{AreReadFrom}
+use Rattle.stage_bodies.specs.Seen.{LineSeen, MergeSeen, waits_together, FeedSeen, Single, Merged, sources_in, SinkSeen, BoxSeen, BodySeen}
+use Rattle.stage_bodies.specs.Reads.{AreReadFrom, AreMergedFrom}
+use Rattle.line_merge.specs.Seen.{AreUnpaced}
 use Rattle.stage_bodies.specs.Jobs.{Both, KeepsBox}
 use Rattle.stage_bodies.specs.Posts.{place_at}
 use Rattle.pace_laws.specs.Pacing.{KeepsPace}
@@ -65,6 +66,20 @@ pub record KeepsSource (before : History) (s : StageNo) (whole : Bool) (lost : L
   pub quiet : RoseBy (quiets before s) opened.source.waits now.source.waits
   pub paced : KeepsPace before s whole opened.source now
 
+-- the same of a merge whose sources have no pace: each record that was read has the place of its source
+pub record KeepsMerge (before : History) (s : StageNo) (lost : List (List ℕ)) (opened now : MergeSeen) : Type 0 where
+  pub given : List (ℕ × List ℕ)
+  pub records : map (λ d. d.1) given ≡ fed before s ++ lost
+  pub read : AreMergedFrom (sources_in (Merged opened)) now given
+  pub known : IsKnownEnd (source_end before s) now.end
+  pub quiet : RoseBy (quiets before s) (waits_together opened) (waits_together now)
+  pub unpaced : AreUnpaced now
+
+abbrev pub KeepsFeed : History → StageNo → (whole : Bool) → (lost : List (List ℕ)) → (opened now : FeedSeen) → Type 0
+KeepsFeed before s whole lost (Single opened) (Single now) = KeepsSource before s whole lost opened now
+KeepsFeed before s whole lost (Merged opened) (Merged now) = KeepsMerge before s lost opened now
+KeepsFeed before s whole lost _ _ = ⊥
+
 -- ---- sinks
 
 -- behind what it held stands the text of the stage; each write of less than its text has its cause in the sink
@@ -96,13 +111,13 @@ pub record KeepsCallback (topology : Topology) (before : History) (p : Post) (op
 
 -- the body stands where the journal leaves it
 pub record KeepsBody (topology : Topology) (before : History) (p : Post) (opened now : BodySeen) : Type 0 where
-  pub source : Both (KeepsSource before p.stage true []) opened.source now.source
+  pub source : Both (KeepsFeed before p.stage true []) opened.source now.source
   pub sink : Both (KeepsSink topology before p.stage) opened.sink now.sink
   pub callback : Both (KeepsCallback topology before p) opened.callback now.callback
 
 -- the same, where a job was cut off, or the records that it brought are not in the journal: its source may have given more lines
 pub record KeepsPartly (topology : Topology) (before : History) (p : Post) (opened now : BodySeen) : Type 0 where
-  pub source : Both (λ old new. (lost : List (List ℕ)) × KeepsSource before p.stage false lost old new) opened.source now.source
+  pub source : Both (λ old new. (lost : List (List ℕ)) × KeepsFeed before p.stage false lost old new) opened.source now.source
   pub sink : Both (KeepsSink topology before p.stage) opened.sink now.sink
   pub callback : Both KeepsBox opened.callback now.callback
 

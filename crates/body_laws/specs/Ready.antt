@@ -10,7 +10,9 @@ use Rattle.pipe_types.specs.declared.topology.Topology.{Topology}
 use Rattle.pipe_types.specs.Stages.{spec_of}
 use Rattle.pipe_model.specs.History.{History}
 use Rattle.pipe_model.specs.Posts.{is_out}
-use Rattle.stage_bodies.specs.Seen.{BoxSeen, BodySeen}
+use Rattle.stage_bodies.specs.Seen.{LineSeen, MergeSeen, FeedSeen, Single, Merged, sources_in, BoxSeen, BodySeen}
+use Rattle.stage_bodies.specs.Reads.{AreMergedFrom}
+use Rattle.line_merge.specs.Seen.{AreUnpaced}
 use Rattle.stage_bodies.specs.Posts.{place_at}
 use Rattle.stage_bodies.specs.declared.job.Work.{Work}
 use Rattle.stage_bodies.specs.declared.job.Work.TheVariants as work
@@ -45,9 +47,14 @@ IsBodyOf topology before s spec body = IsBodyFor topology before s spec spec.rol
 abbrev pub IsBodyAt : Topology → History → Post → BodySeen → Type 0
 IsBodyAt topology before p body = There (spec_of topology p.stage) (λ spec. IsBodyOf topology before p.stage spec body)
 
+-- a merge is not told
+abbrev pub IsToldFeed : History → StageNo → FeedSeen → Type 0
+IsToldFeed before s (Single now) = IsTold before s now
+IsToldFeed before s (Merged now) = Unit {0}
+
 -- the source of a body that left for a fetch was told the moment of the fetch
 abbrev pub WasTold : History → StageNo → Work → BodySeen → Type 0
-WasTold before s (work.Fetch most) body = IfSome body.source (IsTold before s)
+WasTold before s (work.Fetch most) body = IfSome body.source (IsToldFeed before s)
 WasTold before s _ body = Unit {0}
 
 -- the body of each post that is not out is there, and holds what its jobs need
@@ -55,11 +62,24 @@ abbrev pub Ready : Topology → History → (ℕ → Option BodySeen) → Type 0
 Ready topology before now =
     (p : Post) → IsTrue (has_post topology p) → is_out before p ≡ false → There (now (place_at p)) (IsBodyAt topology before p)
 
--- nothing was read of its source, whose gate was told no moment and has given nothing; and a built-in callback counted nothing
+-- nothing was read of the source, whose gate was told no moment and has given nothing
+pub record AreNewLines (lines : LineSeen) : Type 0 where
+  pub waiting : lines.waiting ≡ []
+  pub end : lines.end ≡ None
+  pub gate : IsNewGate lines.source.paced
+
+-- nothing was read of the sources, which have no pace
+pub record IsNewMerge (merge : MergeSeen) : Type 0 where
+  pub read : AreMergedFrom (sources_in (Merged merge)) merge []
+  pub unpaced : AreUnpaced merge
+
+abbrev pub IsNewFeed : FeedSeen → Type 0
+IsNewFeed (Single lines) = AreNewLines lines
+IsNewFeed (Merged merge) = IsNewMerge merge
+
+-- nothing was read of its source, and a built-in callback counted nothing
 pub record IsUnused (body : BodySeen) : Type 0 where
-  pub waiting : IfSome body.source (λ lines. lines.waiting ≡ [])
-  pub end : IfSome body.source (λ lines. lines.end ≡ None)
-  pub gate : IfSome body.source (λ lines. IsNewGate lines.source.paced)
+  pub source : IfSome body.source IsNewFeed
   pub count : IfSome body.callback (λ box. box.kind ≢ Own → box.count ≡ 0)
 
 -- the bodies that a run begins with: each post has its own, which is unused

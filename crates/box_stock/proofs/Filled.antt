@@ -14,7 +14,7 @@ use Rattle.pipe_types.specs.declared.topology.Topology.{Topology}
 use Rattle.pipe_types.specs.Numbers.{post}
 use Rattle.pipe_types.specs.Sound.{IsSound, has_fields_of, is_producer_in, by_demand, by_partition, is_size, processors}
 use Rattle.pipe_types.specs.Stages.{spec_of}
-use Rattle.stage_bodies.specs.Seen.{BoxSeen, BodySeen, LineSeen, SinkSeen}
+use Rattle.stage_bodies.specs.Seen.{BoxSeen, BodySeen, FeedSeen, Single, Merged, SinkSeen}
 use Rattle.stage_bodies.specs.Jobs.{Both}
 use Rattle.stage_bodies.specs.Posts.{place_at}
 use Rattle.stage_laws.proofs.Numbering.{numbered_topology}
@@ -22,7 +22,7 @@ use Rattle.body_laws.specs.Keeps.{has_slot, has_post, has_post_in}
 use Rattle.pipe_edges.specs.Paces.{Pace, PaceSeen}
 use Rattle.edge_names.specs.Gates.{ArePaces}
 use Rattle.pace_laws.specs.Pacing.{IsNewGate, IsPace, at_start}
-use Rattle.body_laws.specs.Ready.{There, IsArmed, IsBodyFor, IsBodyAt, IsUnused, IsFilled}
+use Rattle.body_laws.specs.Ready.{There, IsArmed, IsBodyFor, IsBodyAt, IsNewFeed, IsUnused, IsFilled}
 use Rattle.body_laws.proofs.Posts.{few_slots}
 use Rattle.edge_names.specs.Seen.{EdgesSeen}
 use Rattle.edge_names.specs.Supplies.{Feeds, Feed, Supplied, Fed, Written, FeedsProducers, by_name, fed, feed_by, supplied_by, written}
@@ -58,9 +58,7 @@ with_box topology s spec box body w = subst (λ o. There o (IsArmed topology [] 
 
 unused_with : (spec : StageSpec) (box : BoxSeen) (body : BodySeen) → IsWith spec box body → IsUnused body
 unused_with spec box body w = record {
-  waiting = subst (λ o. IfSome o (λ (lines : LineSeen). lines.waiting ≡ [])) (sym w.source) tt;
-  end = subst (λ o. IfSome o (λ (lines : LineSeen). lines.end ≡ None)) (sym w.source) tt;
-  gate = subst (λ o. IfSome o (λ (lines : LineSeen). IsNewGate lines.source.paced)) (sym w.source) tt;
+  source = subst (λ o. IfSome o IsNewFeed) (sym w.source) tt;
   count = subst (λ o. IfSome o (λ (b : BoxSeen). b.kind ≢ Own → b.count ≡ 0)) (sym w.callback) (λ other. w.count);
 }
 
@@ -76,7 +74,7 @@ before_with : (spec : StageSpec) (o : Option BoxSeen) (old : BodySeen) → There
 before_with spec None old held = absurd held
 before_with spec (Some box) old (is, own, kind, count) = record { box = box; is = is; own = own; kind = kind; count = count }
 
-no_source : (edges : EdgesSeen) (what : Option Supplied) (old new : Option LineSeen) → (what ≡ None) ⊎ ((name : List ℕ) × (what ≡ Some (Written name))) → HasFeed edges what old new → new ≡ old
+no_source : (edges : EdgesSeen) (what : Option Supplied) (old new : Option FeedSeen) → (what ≡ None) ⊎ ((name : List ℕ) × (what ≡ Some (Written name))) → HasFeed edges what old new → new ≡ old
 no_source edges what old new (inl none) h = subst (λ c. HasFeed edges c old new) none h
 no_source edges what old new (inr some) h = subst (λ c. HasFeed edges c old new) some.1 h
 
@@ -91,11 +89,9 @@ still_with edges spec what box old new calls is own kind count opened = record {
   count = count;
 }
 
-record IsFreshSource (source : Option LineSeen) : Type 0 where
+record IsFreshSource (source : Option FeedSeen) : Type 0 where
   pub some : IsSome source
-  pub waiting : IfSome source (λ lines. lines.waiting ≡ [])
-  pub end : IfSome source (λ lines. lines.end ≡ None)
-  pub gate : IfSome source (λ lines. IsNewGate lines.source.paced)
+  pub new : IfSome source IsNewFeed
 
 -- a gate that begins has given nothing
 new_gate : (paced : PaceSeen) (pace : Option Pace) → paced ≡ at_start pace → IsPace pace → IsNewGate paced
@@ -103,8 +99,9 @@ new_gate paced pace begins some =
     let same : paced.pace ≡ pace = ap (λ (p : PaceSeen). p.pace) begins in
     record { fresh = begins ∙ ap at_start (sym same); some = subst IsPace (sym same) some }
 
-fresh_source : (edges : EdgesSeen) (pace : Option Pace) (feed : Feed) (old new : Option LineSeen) → IsPace pace → HasFeed edges (Some (Fed pace feed)) old new → IsFreshSource new
-fresh_source edges pace feed old (Some lines) some h = record { some = refl; waiting = h.nothing_waits; end = h.no_end; gate = new_gate lines.source.paced pace h.gate some }
+fresh_source : (edges : EdgesSeen) (pace : Option Pace) (feed : Feed) (old new : Option FeedSeen) → IsPace pace → HasFeed edges (Some (Fed pace feed)) old new → IsFreshSource new
+fresh_source edges pace feed old (Some (Single lines)) some h = record { some = refl; new = record { waiting = h.nothing_waits; end = h.no_end; gate = new_gate lines.source.paced pace h.gate some } }
+fresh_source edges pace feed old (Some (Merged merge)) some h = absurd h
 fresh_source edges pace feed old None some h = absurd h
 
 sink_there : (edges : EdgesSeen) (name : List ℕ) (old new : Option SinkSeen) → HasSink edges (Some (Written name)) old new → is_some new ≡ true
@@ -121,7 +118,7 @@ ready_producer topology edges s spec what pace (Some feed) old new begins some f
     let none : new.callback ≡ None = opened.callback ∙ ap (λ (b : BodySeen). b.callback) is in
     record {
       ready = fresh.some;
-      unused = record { waiting = fresh.waiting; end = fresh.end; gate = fresh.gate; count = subst (λ o. IfSome o (λ (b : BoxSeen). b.kind ≢ Own → b.count ≡ 0)) (sym none) tt };
+      unused = record { source = fresh.new; count = subst (λ o. IfSome o (λ (b : BoxSeen). b.kind ≢ Own → b.count ≡ 0)) (sym none) tt };
     }
 
 ready_batch : (topology : Topology) (edges : EdgesSeen) (s : StageNo) (spec : StageSpec) (what : Option Supplied) (edge : Option (List ℕ)) (box : BoxSeen) (old new : BodySeen)

@@ -1,1 +1,2 @@
 pub mod RuleText
+pub mod SourceText

@@ -197,7 +197,7 @@ producer_rows =
     ∷ later_row MaxSeconds (Whole max_seconds)
     ∷ row Mode (Text shape.Mode)
     ∷ required_row Name (Text shape.Name)
-    ∷ required_row Source (Text shape.Edge)
+    ∷ required_row Source (Text shape.Source)
     ∷ []
 
 abbrev pub processors_rows : (max : ℕ) → List Row

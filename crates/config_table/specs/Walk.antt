@@ -1,7 +1,7 @@
 -- The walk of a topology file: keys in byte order, arrays by position, depth first.
-use Rattle.std.specs.Prelude.{ℕ, ◌+◌, ◌==◌, Bool, ◌&&◌, List, [], ◌∷◌, ◌++◌, Option, Some, None, if◌then◌else◌, flat_map, bytes_eq, ℤ, pos, option_and_then}
+use Rattle.std.specs.Prelude.{ℕ, ◌+◌, ◌==◌, Bool, false, ◌&&◌, ◌||◌, List, [], ◌∷◌, ◌++◌, Option, Some, None, if◌then◌else◌, flat_map, bytes_eq, ℤ, pos, option_and_then}
 use Rattle.std.specs.List.{list_any}
-use Rattle.toml.specs.Data.{Data, Items, no_items, item, Members, no_members, member, as_integer, as_array, as_table}
+use Rattle.toml.specs.Data.{Data, Items, no_items, item, Members, no_members, member, as_integer, as_str, as_array, as_table}
 use Rattle.config_table.specs.declared.fault.ConfigFault.{ConfigFault}
 use Rattle.config_table.specs.declared.fault.ConfigFault.TheVariants as fault
 use Rattle.config_table.specs.declared.format.FileVersion.{FileVersion}
@@ -10,6 +10,7 @@ use Rattle.config_table.specs.declared.format.Key.TheVariants as key
 use Rattle.config_table.specs.declared.format.Row.{Row}
 use Rattle.config_table.specs.declared.format.Section.{Section}
 use Rattle.config_table.specs.declared.format.Section.TheVariants.{Pipeline, Producer, Processors, Supervisor, Batcher}
+use Rattle.config_rule.specs.SourceText.{is_merged}
 use Rattle.config_table.specs.Fault.{under, at_place}
 use Rattle.config_table.specs.Format.{has, key_name, value_at, rows}
 use Rattle.config_table.specs.Values.{value_faults, item_count}
@@ -70,21 +71,35 @@ top_faults v producers k d =
     else if bytes_eq k (key_name key.Version) then []
     else fault.UnknownKey k ∷ []
 
--- how many producers the file has, as far as they stand in an array
-abbrev pub count_in : Option Items → ℕ
-count_in None = 0
-count_in (Some items) = item_count items
+-- a producer's source is a merge
+abbrev pub is_merged_text : Option (List ℕ) → Bool
+is_merged_text None = false
+is_merged_text (Some text) = is_merged text
 
-abbrev pub producer_count : Members → ℕ
-producer_count table = count_in (option_and_then as_array (value_at key.Producer table))
+abbrev pub is_merged_in : Option Members → Bool
+is_merged_in None = false
+is_merged_in (Some table) = is_merged_text (option_and_then as_str (value_at key.Source table))
 
--- the faults of every place, in the order of the walk, beside so many producers
-abbrev pub faults_beside : FileVersion → (producers : ℕ) → Members → List ConfigFault
-faults_beside v producers no_members = []
-faults_beside v producers (member k d ms) = top_faults v producers k d ++ faults_beside v producers ms
+abbrev pub any_merged : Items → Bool
+any_merged no_items = false
+any_merged (item d ds) = is_merged_in (as_table d) || any_merged ds
+
+-- how many records a rate needs at least: one for each producer, as far as they stand in an array, and more than it may have
+-- where the source of one is a merge
+abbrev pub need_in : Option Items → ℕ
+need_in None = 0
+need_in (Some items) = if any_merged items then 1000001 else item_count items
+
+abbrev pub rate_need : Members → ℕ
+rate_need table = need_in (option_and_then as_array (value_at key.Producer table))
+
+-- the faults of every place, in the order of the walk, where a rate needs so many records
+abbrev pub faults_beside : FileVersion → (need : ℕ) → Members → List ConfigFault
+faults_beside v need no_members = []
+faults_beside v need (member k d ms) = top_faults v need k d ++ faults_beside v need ms
 
 abbrev pub faults_of : FileVersion → Members → List ConfigFault
-faults_of v table = faults_beside v (producer_count table) table
+faults_of v table = faults_beside v (rate_need table) table
 
 -- `version` is the whole number 1 or 2
 abbrev pub version_in : Option ℤ → Option FileVersion

@@ -64,6 +64,7 @@ pub struct Range {
 pub enum Shape {
     Name,
     Edge,
+    Source,
     Reason,
     Rule,
     Selector,

@@ -203,7 +203,7 @@ fn producer_rows(alloc: Global) -> Result<Vec<Row>, AllocError>
         later_row(Key::MaxSeconds, Form::Whole(Range::MAX_SECONDS)),
         row(Key::Mode, Form::Text(Shape::Mode)),
         required_row(Key::Name, Form::Text(Shape::Name)),
-        required_row(Key::Source, Form::Text(Shape::Edge)),
+        required_row(Key::Source, Form::Text(Shape::Source)),
     ];
     Ok(Vec::from_array(alloc, rows)?)
 }

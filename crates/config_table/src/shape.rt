@@ -8,6 +8,7 @@ ghost use Rattle.config_table.specs.Shape.{fits as fits_of, word_place as word_p
 
 use crate::format::Shape;
 use config_rule::form::parse;
+use config_rule::sources::may_be_source;
 
 /// The place of the text among two words.
 fn of_two(text: &str, first: &str, second: &str) -> Option<usize>
@@ -51,6 +52,7 @@ impl Shape {
             Shape::BatchKind => of_three(text, "lines", "steps", "own"),
             Shape::Name
             | Shape::Edge
+            | Shape::Source
             | Shape::Reason
             | Shape::Rule
             | Shape::Selector
@@ -64,7 +66,8 @@ impl Shape {
     {
         match self {
             Shape::Name => is_name(text),
-            Shape::Edge => !text.is_empty() && text.len() <= 4096,
+            Shape::Edge => is_edge(text),
+            Shape::Source => is_edge(text) && may_be_source(text.as_bytes()),
             Shape::Reason => is_reason_text(text.as_bytes()),
             Shape::Rule => is_rule_text(text.as_bytes()),
             Shape::Selector => text.len() <= 4096,
@@ -77,6 +80,13 @@ impl Shape {
             Shape::BatchKind => self.word_place(text).is_some(),
         }
     }
+}
+
+/// 1 to 4096 bytes.
+fn is_edge(text: &str) -> bool
+    ensures { result ≡ is_between 1 4096 (length text.now) }
+{
+    !text.is_empty() && text.len() <= 4096
 }
 
 fn are_name_bytes(text: &[u8]) -> bool

@@ -11,8 +11,12 @@ use crate::fault::{ConfigFault, at_place, copied, sooner, under};
 use crate::format::{FileVersion, Key, Row, Section, value_at};
 use crate::rows::rows;
 use crate::value::value_fault;
+use config_rule::sources::is_merged_source;
 use std::alloc::{AllocError, Global};
 use toml::{Table, Value};
+
+/// One more than the most records of an interval.
+const TOO_MANY_RECORDS: usize = 1_000_001;
 
 fn is_known(version: FileVersion, rows: &[Row], key: &str) -> bool
     ensures { result ≡ walk.is_known version rows.now key.now }
@@ -209,21 +213,56 @@ fn top_fault(
     }
 }
 
-/// How many producers the file has.
+/// Whether the source of a producer is a merge.
+fn has_merged_source(producer: &Value) -> bool
+    ensures { result ≡ walk.is_merged_in (as_table (view producer.now)) }
+{
+    match producer.as_table() {
+        Some(table) => match value_at(table, Key::Source) {
+            Some(source) => match source.as_str() {
+                Some(text) => is_merged_source(text.as_bytes()),
+                None => false,
+            },
+            None => false,
+        },
+        None => false,
+    }
+}
+
+/// Whether the source of any producer is a merge.
+fn is_any_merged(producers: &[Value]) -> bool
+    ensures { result ≡ walk.any_merged (items_view producers.now) }
+{
+    for producer in producers {
+        if has_merged_source(producer) {
+            return true;
+        }
+    }
+    false
+}
+
+/// How many records a rate needs at least: one for each producer, and more than it may have where the source of one is a
+/// merge.
 #[tactic(auto, using(crate::proofs::Items::count_lemma))]
-fn producer_count(table: &Table) -> usize
-    ensures { result ≡ walk.producer_count (table_view table.now) }
+fn rate_need(table: &Table) -> usize
+    ensures { result ≡ walk.rate_need (table_view table.now) }
 {
     match value_at(table, Key::Producer) {
         Some(value) => match value.as_array() {
-            Some(items) => items.len(),
+            Some(items) => {
+                if is_any_merged(items.as_slice()) {
+                    TOO_MANY_RECORDS
+                } else {
+                    items.len()
+                }
+            }
             None => 0,
         },
         None => 0,
     }
 }
 
-/// The first fault of the members of a file that has so many producers.
+/// The first fault of the members of a file whose rate needs so many records.
 fn members_fault(
     alloc: Global,
     version: FileVersion,
@@ -248,7 +287,7 @@ pub fn walk_fault(
 ) -> Result<Option<ConfigFault>, AllocError>
     ensures { IfOk result (λ found. found ≡ least (walk.faults_of version (table_view table.now))) }
 {
-    members_fault(alloc, version, producer_count(table), table)
+    members_fault(alloc, version, rate_need(table), table)
 }
 
 fn version_in(number: i64) -> Option<FileVersion>

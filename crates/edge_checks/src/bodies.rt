@@ -15,7 +15,7 @@ use pipe_types::bytes::Bytes;
 use pipe_types::message::{BatchEnd, Outcome as End};
 use pipe_types::numbers::{Post, StageNo};
 use pipe_types::topology::Kind;
-use stage_bodies::{Houses, Job, Outcome, Work, Works};
+use stage_bodies::{Feed, Houses, Job, Outcome, Work, Works};
 use stage_callback::{Callback, LinesBox, StepsBox, unarmed};
 use std::alloc::{AllocError, Global};
 use told_text::Told;
@@ -217,7 +217,7 @@ pub fn filled(told: &mut Told) -> Result<(), AllocError> {
 fn fill<B: Houses<MemSource, MemSink>>(alloc: Global, body: &mut B) -> Result<(), AllocError> {
     let source = source_of(alloc, "a", "")?;
     if let Ok(lines) = LineSource::new(alloc, source) {
-        body.put_source(lines);
+        body.put_source(Feed::Lines(lines));
     }
     body.put_sink(sink_of(alloc, "x", 9, "")?);
     Ok(())

@@ -17,7 +17,7 @@ use Rattle.pipe_edges.specs.Paces.{Pace}
 use Rattle.pipe_edges.specs.declared.edges.EdgeKind.{EdgeKind}
 use Rattle.pipe_edges.specs.declared.edges.EdgeKind.TheVariants.{File, Source, Sink}
 use Rattle.pipe_edges.specs.declared.edges.EdgeEnd.TheVariants.{Failed}
-use Rattle.stage_bodies.specs.Seen.{SourceSeen, SinkSeen, LineSeen, BodySeen}
+use Rattle.stage_bodies.specs.Seen.{SourceSeen, SinkSeen, LineSeen, FeedSeen, Single, Merged, BodySeen}
 use Rattle.stage_bodies.specs.Jobs.{Both}
 use Rattle.stage_bodies.specs.Posts.{place_at}
 use Rattle.stage_laws.specs.Numbered.{IsNumberedTopology}
@@ -96,11 +96,12 @@ gives_feed_from : (calls : List (EdgeKind × List ℕ)) (a b : EdgesSeen) (feed 
 gives_feed_from calls a b (Opened name) source asks h = gives_source_from calls a b name source asks h
 gives_feed_from calls a b (Made bytes) source asks h = h
 
-pub has_feed_from : (calls : List (EdgeKind × List ℕ)) (a b : EdgesSeen) (what : Option Supplied) (x y z : Option LineSeen) → Asks calls a b → y ≡ x → HasFeed b what y z → HasFeed a what x z
+pub has_feed_from : (calls : List (EdgeKind × List ℕ)) (a b : EdgesSeen) (what : Option Supplied) (x y z : Option FeedSeen) → Asks calls a b → y ≡ x → HasFeed b what y z → HasFeed a what x z
 has_feed_from calls a b None x y z asks e h = h ∙ e
 has_feed_from calls a b (Some (Written name)) x y z asks e h = h ∙ e
 has_feed_from calls a b (Some (Fed pace feed)) x y None asks e h = h
-has_feed_from calls a b (Some (Fed pace feed)) x y (Some lines) asks e h =
+has_feed_from calls a b (Some (Fed pace feed)) x y (Some (Merged merge)) asks e h = h
+has_feed_from calls a b (Some (Fed pace feed)) x y (Some (Single lines)) asks e h =
     record { source = gives_feed_from calls a b feed (without_gate lines.source) asks h.source; gate = h.gate; nothing_waits = h.nothing_waits; no_end = h.no_end }
 
 pub has_sink_from : (calls : List (EdgeKind × List ℕ)) (a b : EdgesSeen) (what : Option Supplied) (x y z : Option SinkSeen) → Asks calls a b → y ≡ x → HasSink b what y z → HasSink a what x z
@@ -258,8 +259,9 @@ opened_stage feeds topology s spec edges old new numbered found h =
     subst (λ c. Both (IsOpened edges c) (old (place_at (post s 0))) (new (place_at (post s 0)))) (chosen feeds true (nat_le s.0 (length topology.stages)) (spec_of topology s) refl within ∙ ap (supplied_in feeds) found) (h (post s 0) (omega arith))
 
 -- what was supplied is there
-pub given_feed : (edges : EdgesSeen) (pace : Option Pace) (feed : Feed) (old new : Option LineSeen) → HasFeed edges (Some (Fed pace feed)) old new → (lines : LineSeen) × (new ≡ Some lines) × GivesFed edges pace feed lines
-given_feed edges pace feed old (Some lines) h = (lines, refl, h)
+pub given_feed : (edges : EdgesSeen) (pace : Option Pace) (feed : Feed) (old new : Option FeedSeen) → HasFeed edges (Some (Fed pace feed)) old new → (lines : LineSeen) × (new ≡ Some (Single lines)) × GivesFed edges pace feed lines
+given_feed edges pace feed old (Some (Single lines)) h = (lines, refl, h)
+given_feed edges pace feed old (Some (Merged merge)) h = absurd h
 given_feed edges pace feed old None h = absurd h
 
 pub given_sink : (edges : EdgesSeen) (name : List ℕ) (old new : Option SinkSeen) → HasSink edges (Some (Written name)) old new → (sink : SinkSeen) × (new ≡ Some sink) × GivesSink edges name sink

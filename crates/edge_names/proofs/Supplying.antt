@@ -5,7 +5,7 @@ use Rattle.std.proofs.lemmas.List.{append-nil}
 use Rattle.pipe_edges.specs.Paces.{Pace}
 use Rattle.pipe_edges.specs.declared.edges.EdgeKind.{EdgeKind}
 use Rattle.pipe_edges.specs.declared.edges.EdgeKind.TheVariants.{Source}
-use Rattle.stage_bodies.specs.Seen.{SourceSeen, LineSeen, BodySeen, with_source}
+use Rattle.stage_bodies.specs.Seen.{SourceSeen, LineSeen, Single, BodySeen, with_source}
 use Rattle.stage_bodies.specs.Jobs.{Both}
 use Rattle.edge_names.specs.Seen.{EdgesSeen}
 use Rattle.edge_names.specs.Gates.{HasNoWait, IsGated, IsInner}
@@ -33,20 +33,20 @@ same_either true x = refl
 same_either false x = refl
 
 -- the body at the place has the lines, and all others are as they were
-fed_body : (edges : EdgesSeen) (pace : Option Pace) (feed : Feed) (lines : LineSeen) (body : Option BodySeen) → GivesFed edges pace feed lines → Both (IsOpened edges (Some (Fed pace feed))) body (option_map (with_source lines) body)
+fed_body : (edges : EdgesSeen) (pace : Option Pace) (feed : Feed) (lines : LineSeen) (body : Option BodySeen) → GivesFed edges pace feed lines → Both (IsOpened edges (Some (Fed pace feed))) body (option_map (with_source (Single lines)) body)
 fed_body edges pace feed lines (Some b) gives = record { source = gives; sink = refl; callback = refl }
 fed_body edges pace feed lines None gives = tt
 
 fed_table : (edges : EdgesSeen) (pace : Option Pace) (feed : Feed) (lines : LineSeen) (at : ℕ) (old new : ℕ → Option BodySeen) → GivesFed edges pace feed lines
-    → ((s : ℕ) → new s ≡ (if at == s then option_map (with_source lines) (old s) else old s)) → AreOpenedAt at (Some (Fed pace feed)) edges old new
+    → ((s : ℕ) → new s ≡ (if at == s then option_map (with_source (Single lines)) (old s) else old s)) → AreOpenedAt at (Some (Fed pace feed)) edges old new
 fed_table edges pace feed lines at old new gives is s = subst (λ b. Both (IsOpened edges (if at == s then Some (Fed pace feed) else None)) (old s) b) (sym (is s)) (by (at == s))
   where
-    by : (t : Bool) → Both (IsOpened edges (if t then Some (Fed pace feed) else None)) (old s) (if t then option_map (with_source lines) (old s) else old s)
+    by : (t : Bool) → Both (IsOpened edges (if t then Some (Fed pace feed) else None)) (old s) (if t then option_map (with_source (Single lines)) (old s) else old s)
     by true = fed_body edges pace feed lines (old s) gives
     by false = same_body edges (old s)
 
 pub feed_opened : {T : Type 0} (x : T) (pace : Option Pace) (feed : Option Feed) (source : SourceSeen) (lines : LineSeen) (at : ℕ) (a b : EdgesSeen) (old new : ℕ → Option BodySeen) → Asks (one (feed_call feed)) a b → IsSupplied a feed (Some source)
-    → IsGated pace source lines → ((s : ℕ) → new s ≡ (if at == s then option_map (with_source lines) (old s) else old s)) → OpensOne (fed pace feed) at (Ok x) a b old new
+    → IsGated pace source lines → ((s : ℕ) → new s ≡ (if at == s then option_map (with_source (Single lines)) (old s) else old s)) → OpensOne (fed pace feed) at (Ok x) a b old new
 feed_opened x pace (Some feed) source lines at a b old new asks gives gated is = record {
   asks = asks;
   bodies = fed_table a pace feed lines at old new (fed_gated a pace feed source lines gated gives) is;

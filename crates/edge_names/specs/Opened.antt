@@ -12,7 +12,7 @@ use Rattle.pipe_edges.specs.Named.{StandsAsBefore}
 use Rattle.pipe_edges.specs.Paces.{Pace}
 use Rattle.pipe_edges.specs.declared.edges.EdgeKind.{EdgeKind}
 use Rattle.pipe_edges.specs.declared.edges.EdgeKind.TheVariants.{Source}
-use Rattle.stage_bodies.specs.Seen.{SourceSeen, SinkSeen, LineSeen, BodySeen}
+use Rattle.stage_bodies.specs.Seen.{SourceSeen, SinkSeen, LineSeen, FeedSeen, Single, Merged, BodySeen}
 use Rattle.stage_bodies.specs.Jobs.{Both}
 use Rattle.stage_bodies.specs.Posts.{place_at}
 use Rattle.edge_names.specs.Seen.{EdgesSeen}
@@ -81,9 +81,9 @@ pub record GivesFed (edges : EdgesSeen) (pace : Option Pace) (feed : Feed) (line
   pub no_end : lines.end ≡ None
 
 -- the source that a body has where this was supplied
-abbrev pub HasFeed : EdgesSeen → Option Supplied → (old new : Option LineSeen) → Type 0
-HasFeed edges (Some (Fed pace feed)) old (Some lines) = GivesFed edges pace feed lines
-HasFeed edges (Some (Fed pace feed)) old None = ⊥
+abbrev pub HasFeed : EdgesSeen → Option Supplied → (old new : Option FeedSeen) → Type 0
+HasFeed edges (Some (Fed pace feed)) old (Some (Single lines)) = GivesFed edges pace feed lines
+HasFeed edges (Some (Fed pace feed)) old _ = ⊥
 HasFeed edges (Some (Written name)) old new = new ≡ old
 HasFeed edges None old new = new ≡ old
 

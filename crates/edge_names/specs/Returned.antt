@@ -1,10 +1,10 @@
 -- What a run gives back by name, stage by stage.
-use Rattle.std.specs.Prelude.{◌≡◌, ◌<◌, ◌++◌, ℕ, List, [], ◌∷◌, length, take, Option, Some, None, option_map, IsTrue, All}
+use Rattle.std.specs.Prelude.{◌≡◌, ◌<◌, ◌++◌, ℕ, List, [], ◌∷◌, length, take, Option, Some, None, IsTrue, All}
 use Rattle.std.specs.List.{flat_map}
 use Rattle.pipe_types.specs.Numbers.{post}
 use Rattle.pipe_types.specs.declared.topology.StageSpec.{StageSpec}
 use Rattle.pipe_types.specs.declared.topology.Topology.{Topology}
-use Rattle.stage_bodies.specs.Seen.{SourceSeen, SinkSeen, BodySeen}
+use Rattle.stage_bodies.specs.Seen.{SourceSeen, SourcesSeen, OneSource, SinkSeen, FeedSeen, Single, BodySeen}
 use Rattle.stage_bodies.specs.Jobs.{Both}
 use Rattle.stage_bodies.specs.Posts.{place_at}
 use Rattle.edge_names.specs.Seen.{EdgesSeen}
@@ -13,8 +13,18 @@ use Rattle.edge_names.specs.Supplies.{Feeds, Feed, Opened, Made, Supplied, Fed, 
 
 -- ---- what is given back
 
+-- the source of a feed that has one
+abbrev pub one_source : Option FeedSeen → Option SourceSeen
+one_source (Some (Single lines)) = Some lines.source
+one_source _ = None
+
+-- the source that is taken out, if it is one
+abbrev pub one_out : Option SourcesSeen → Option SourceSeen
+one_out (Some (OneSource source)) = Some source
+one_out _ = None
+
 abbrev pub source_in : Option BodySeen → Option SourceSeen
-source_in (Some body) = option_map (λ lines. lines.source) body.source
+source_in (Some body) = one_source body.source
 source_in None = None
 
 abbrev pub sink_in : Option BodySeen → Option SinkSeen

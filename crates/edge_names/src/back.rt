@@ -2,12 +2,12 @@
 
 ghost use Rattle.std.specs.Prelude.{◌≡◌, ◌≢◌, ◌++◌, ℕ, [], Option, length, option_map, OnOk, OnErr};
 ghost use Rattle.pipe_types.specs.Sound.{IsSound};
-ghost use Rattle.stage_bodies.specs.Seen.{body_at, line_seen};
+ghost use Rattle.stage_bodies.specs.Seen.{body_at, line_seen, sources_seen};
 ghost use Rattle.edge_names.specs.Controls.{IsBackFirst, IsGivenInPart, named_control};
 ghost use Rattle.edge_names.specs.Supplies.{at_paces, supplied, written};
 ghost use Rattle.pipe_edges.specs.Paces.{Pace};
 ghost use Rattle.pipe_types.specs.declared.topology.StageSpec.{StageSpec};
-ghost use Rattle.edge_names.specs.Returned.{AreCalm, GivesBack, GivesOff, IsBackInPart, IsCalm, KeepsCallbacks, named_source, named_sink, source_in, sink_in, sources_of, sinks_of};
+ghost use Rattle.edge_names.specs.Returned.{AreCalm, GivesBack, GivesOff, IsBackInPart, IsCalm, KeepsCallbacks, one_out, named_source, named_sink, source_in, sink_in, sources_of, sinks_of};
 
 use crate::control::back_control;
 use crate::gates::take_off;
@@ -17,11 +17,21 @@ use pipe_edges::{ByteSink, ByteSource, Edges, LineSource};
 use pipe_types::numbers::Post;
 use pipe_types::topology::{Role, StageSpec, Topology};
 use rate_gate::GatedSource;
-use stage_bodies::{Houses, place_of, put_back, take_out};
+use stage_bodies::{FeedSources, Houses, place_of, put_back, take_out};
 use std::alloc::AllocError;
 
+// The source of a feed that has one.
+fn one_of<S: ByteSource + Drop>(sources: Option<FeedSources<S>>) -> Option<S>
+    ensures { option_map (⟦<S as SeenSource>⟧.seen) result ≡ one_out (option_map (sources_seen S.ByteSource) sources) }
+{
+    match sources {
+        Some(FeedSources::One(source)) => Some(source),
+        _ => None,
+    }
+}
+
 /// Takes the source out of the body at this place.
-fn source_out<S: ByteSource, K: ByteSink, B: Houses<S, K>>(
+fn source_out<S: ByteSource + Drop, K: ByteSink, B: Houses<S, K>>(
     bodies: &mut Vec<Option<B>>,
     at: usize,
 ) -> Option<S>
@@ -32,7 +42,7 @@ fn source_out<S: ByteSource, K: ByteSink, B: Houses<S, K>>(
 {
     let body = take_out(bodies, at)?;
     let mut body = body;
-    let source = body.take_source();
+    let source = one_of(body.take_source());
     put_back(bodies, at, body);
     source
 }

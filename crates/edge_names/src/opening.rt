@@ -2,7 +2,7 @@
 
 ghost use Rattle.std.specs.Prelude.{◌≡◌, ◌≤◌, ◌==◌, ℕ, None, Some, if◌then◌else◌, length, option_map, IfOk, IfErr, IfSome, OnOk, OnErr, IsSome};
 ghost use Rattle.pipe_types.specs.Sound.{IsSound};
-ghost use Rattle.stage_bodies.specs.Seen.{line_seen, body_at, with_source, with_sink};
+ghost use Rattle.stage_bodies.specs.Seen.{Single, line_seen, body_at, with_source, with_sink};
 ghost use Rattle.edge_names.specs.Controls.{IsCutShort, IsUndone, control_call, run_calls};
 ghost use Rattle.edge_names.specs.Opened.{Asks, AreHome, AreOpened, HasSource, IfCutOff, IfFailed, IsCutOff, IsFailed, OpensOne, edge_calls};
 ghost use Rattle.edge_names.specs.Gates.{IsShared};
@@ -22,7 +22,7 @@ use pipe_types::bytes::Text;
 use pipe_types::numbers::Post;
 use pipe_types::topology::{Role, StageSpec, Topology};
 use rate_gate::{Gate, GatedSource};
-use stage_bodies::{Houses, place_of, put_back, take_out};
+use stage_bodies::{Feed, Houses, place_of, put_back, take_out};
 use std::alloc::Global;
 
 /// Why not everything is open.
@@ -41,11 +41,11 @@ fn set_source<S: ByteSource + Drop, K: ByteSink, B: Houses<S, K>>(
 )
     ensures len { length bodies.new.items ≡ length bodies.old.items }
     ensures others { (s : ℕ) → body_at B.look bodies.new.items s
-        ≡ (if at == s then option_map (with_source (line_seen S.ByteSource lines)) (body_at B.look bodies.old.items s) else body_at B.look bodies.old.items s) }
+        ≡ (if at == s then option_map (with_source (Single (line_seen S.ByteSource lines))) (body_at B.look bodies.old.items s) else body_at B.look bodies.old.items s) }
 {
     if let Some(body) = take_out(bodies, at) {
         let mut body = body;
-        body.put_source(lines);
+        body.put_source(Feed::Lines(lines));
         put_back(bodies, at, body);
     }
 }

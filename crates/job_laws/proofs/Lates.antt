@@ -1,5 +1,5 @@
 -- The late answer of a job that is out may be recorded.
-use Rattle.std.proofs.Common.{◌≡◌, ℕ, List, Bool, true, false, ap, sym, ◌∙◌, subst, Some, None, Option}
+use Rattle.std.proofs.Common.{◌≡◌, ◌≤◌, ℕ, List, Bool, true, false, ap, sym, ◌∙◌, subst, Some, None, Option, arith}
 use Rattle.std.specs.Prelude.{not, ◌≢◌, ◌&&◌, ◌||◌, ◌==◌, IsSome, is_some}
 use Rattle.std.proofs.lemmas.Bool.{eq-eqb, or_right}
 use Rattle.pipe_types.specs.declared.numbers.Post.{Post}
@@ -19,8 +19,8 @@ use Rattle.pipe_model.specs.Posts.{is_out, out_from}
 use Rattle.pipe_model.specs.Work.{is_end_by, is_batch_handled, batch_of, count}
 use Rattle.pipe_model.specs.Legal.{allows, owed, passes, may_come, late_fits, happened, is_halt, has_role, are_records, is_producer_role, is_processor_role, is_batch_processor_role, is_supervisor_role}
 use Rattle.pipe_laws.proofs.Tests.{both}
-use Rattle.stage_bodies.specs.Seen.{LineSeen, BoxSeen, BodySeen}
-use Rattle.stage_bodies.specs.Jobs.{Both, Fetches, EndsIn, IsDone}
+use Rattle.stage_bodies.specs.Seen.{FeedSeen, BoxSeen, BodySeen}
+use Rattle.stage_bodies.specs.Jobs.{Both, FetchesFeed, EndsIn, IsDone}
 use Rattle.stage_bodies.specs.Posts.{IsWorkOf}
 use Rattle.stage_bodies.specs.declared.job.Work.{Work}
 use Rattle.stage_bodies.specs.declared.job.Work.TheVariants as work
@@ -29,25 +29,28 @@ use Rattle.stage_bodies.specs.declared.job.Outcome.TheVariants as came
 use Rattle.body_laws.specs.Lates.{late_of, late_step}
 use Rattle.body_laws.specs.Ready.{There, IsArmed, IsBodyAt}
 use Rattle.body_laws.proofs.Steps.{writers_alone}
-use Rattle.body_laws.proofs.Jobs.{fit_of, source_there, batch_for}
+use Rattle.body_laws.proofs.Jobs.{of_feed, fit_of, source_there, batch_for}
 use Rattle.body_laws.proofs.Allowed.{records_fit}
 
 -- ---- fetches
 
 -- what the answer to a fetch says as a late answer
-fetched_fits : (topology : Topology) (before : History) (s : StageNo) (most : ℕ) (o : Came) (x y : Option LineSeen) → has_role topology s is_producer_role ≡ true → ((records : List (List ℕ)) → are_records records most ≡ true → late_fits topology before s (late_of (came.Records records)) ≡ true)
-    → IsSome x → Both (Fetches most o) x y → late_fits topology before s (late_of o) ≡ true
-fetched_fits topology before s most (came.Records records) (Some b) (Some c) role fits there done = fits records (records_fit records most done.answer.0 done.answer.1 done.answer.3)
-fetched_fits topology before s most came.NotYet (Some b) (Some c) role fits there done = role
-fetched_fits topology before s most (came.Ended how.End) (Some b) (Some c) role fits there done = role
-fetched_fits topology before s most (came.Ended how.Fault) (Some b) (Some c) role fits there done = role
-fetched_fits topology before s most (came.Ended how.TooLong) (Some b) (Some c) role fits there done = role
-fetched_fits topology before s most (came.Ended how.Limit) (Some b) (Some c) role fits there done = absurd done.answer
-fetched_fits topology before s most (came.Replies replies) (Some b) (Some c) role fits there done = absurd done.answer
-fetched_fits topology before s most (came.Wrote bytes end) (Some b) (Some c) role fits there done = absurd done.answer
-fetched_fits topology before s most (came.Reply reply) (Some b) (Some c) role fits there done = absurd done.answer
-fetched_fits topology before s most o (Some b) None role fits there done = absurd done
-fetched_fits topology before s most o None y role fits there done = let x : false ≡ true = there in cc
+fetched_fits : (topology : Topology) (before : History) (s : StageNo) (most : ℕ) (o : Came) (x y : Option FeedSeen) → 1 ≤ most → has_role topology s is_producer_role ≡ true → ((records : List (List ℕ)) → are_records records most ≡ true → late_fits topology before s (late_of (came.Records records)) ≡ true)
+    → IsSome x → Both (FetchesFeed most o) x y → late_fits topology before s (late_of o) ≡ true
+fetched_fits topology before s most (came.Records records) (Some b) (Some c) some role fits there done =
+    of_feed (late_fits topology before s (late_of (came.Records records)) ≡ true) most (came.Records records) b c
+    (λ b c f. fits records (records_fit records most f.answer.0 f.answer.1 f.answer.3))
+    (λ b c f. let one = f.answer.0 in fits records (records_fit records most (omega (arith, one)) (omega (arith, one, some)) f.answer.1)) done
+fetched_fits topology before s most came.NotYet (Some b) (Some c) some role fits there done = role
+fetched_fits topology before s most (came.Ended how.End) (Some b) (Some c) some role fits there done = role
+fetched_fits topology before s most (came.Ended how.Fault) (Some b) (Some c) some role fits there done = role
+fetched_fits topology before s most (came.Ended how.TooLong) (Some b) (Some c) some role fits there done = role
+fetched_fits topology before s most (came.Ended how.Limit) (Some b) (Some c) some role fits there done = absurd (of_feed ⊥ most (came.Ended how.Limit) b c (λ b c f. f.answer) (λ b c f. f.answer) done)
+fetched_fits topology before s most (came.Replies replies) (Some b) (Some c) some role fits there done = absurd (of_feed ⊥ most (came.Replies replies) b c (λ b c f. f.answer) (λ b c f. f.answer) done)
+fetched_fits topology before s most (came.Wrote bytes end) (Some b) (Some c) some role fits there done = absurd (of_feed ⊥ most (came.Wrote bytes end) b c (λ b c f. f.answer) (λ b c f. f.answer) done)
+fetched_fits topology before s most (came.Reply reply) (Some b) (Some c) some role fits there done = absurd (of_feed ⊥ most (came.Reply reply) b c (λ b c f. f.answer) (λ b c f. f.answer) done)
+fetched_fits topology before s most o (Some b) None some role fits there done = absurd done
+fetched_fits topology before s most o None y some role fits there done = let x : false ≡ true = there in cc
 
 -- ---- batches
 
@@ -84,7 +87,7 @@ batch_fits topology before p batch bytes end old new out is fit done =
 -- what the work came to has the form that a late answer has
 answer_fits : (topology : Topology) (before : History) (p : Post) (w : Work) (o : Came) (old new : BodySeen) → is_out before p ≡ true → IsWorkOf topology before p w → IsBodyAt topology before p old → IsDone w o old new → late_fits topology before p.stage (late_of o) ≡ true
 answer_fits topology before p (work.Fetch most) o old new out is fit done =
-    fetched_fits topology before p.stage most o old.source new.source is.0 (λ records k. both (has_role topology p.stage is_producer_role) _ is.0 (subst (λ n. are_records records n ≡ true) is.1 k)) (source_there topology before p old is.0 fit) done.0
+    fetched_fits topology before p.stage most o old.source new.source is.2 is.0 (λ records k. both (has_role topology p.stage is_producer_role) _ is.0 (subst (λ n. are_records records n ≡ true) is.1 k)) (source_there topology before p old is.0 fit) done.0
 answer_fits topology before p (work.Chunk messages) (came.Replies replies) old new out is fit done = ap (λ b. b || has_role topology p.stage is_supervisor_role) is.0
 answer_fits topology before p (work.Chunk messages) o old new out is fit done = absurd done
 answer_fits topology before p (work.Batch batch) (came.Wrote bytes end) old new out is fit done = batch_fits topology before p batch bytes end old new out is fit done

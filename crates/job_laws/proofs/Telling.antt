@@ -19,16 +19,15 @@ use Rattle.pipe_laws.proofs.Allowed.{legal_step, take_facts, child_facts}
 use Rattle.pipe_laws.proofs.Busy.{producer_supervises, takes_producer, two_roles}
 use Rattle.pipe_laws.proofs.Tests.{clash, same_stage-self}
 use Rattle.rate_laws.specs.Rates.{fetched_at}
-use Rattle.pace_laws.specs.Pacing.{IsTold}
 use Rattle.pace_laws.proofs.Fetching.{tells, told_again}
-use Rattle.stage_bodies.specs.Seen.{LineSeen, BodySeen}
-use Rattle.stage_bodies.specs.Moments.{told_lines, told_body, told_for}
+use Rattle.stage_bodies.specs.Seen.{FeedSeen, Single, Merged, BodySeen}
+use Rattle.stage_bodies.specs.Moments.{told_feed, told_body, told_for}
 use Rattle.stage_bodies.specs.Jobs.{Both}
 use Rattle.stage_bodies.specs.Posts.{IsWorkOf}
 use Rattle.stage_bodies.specs.declared.job.Work.{Work}
 use Rattle.stage_bodies.specs.declared.job.Work.TheVariants as work
-use Rattle.body_laws.specs.Keeps.{KeepsBody, KeepsSource}
-use Rattle.body_laws.specs.Ready.{There, IsBodyFor, IsBodyOf, IsBodyAt, WasTold}
+use Rattle.body_laws.specs.Keeps.{KeepsBody, KeepsFeed}
+use Rattle.body_laws.specs.Ready.{There, IsBodyFor, IsBodyOf, IsBodyAt, IsToldFeed, WasTold}
 use Rattle.body_laws.proofs.Posts.{same_post-true}
 
 -- ---- the moment of a fetch
@@ -66,9 +65,9 @@ fetch_stays before step p put first = refl
 
 -- ---- the source that is told
 
-some_told : (now : ℕ) (source : Option LineSeen) → IsSome source → IsSome (option_map (told_lines now) source)
+some_told : (now : ℕ) (source : Option FeedSeen) → IsSome source → IsSome (option_map (told_feed now) source)
 some_told now None some = some
-some_told now (Some lines) some = refl
+some_told now (Some feed) some = refl
 
 told_ready : (topology : Topology) (before : History) (p : Post) (now : ℕ) (body : BodySeen) → IsBodyAt topology before p body → IsBodyAt topology before p (told_body now body)
 told_ready topology before p now body = by (spec_of topology p.stage)
@@ -84,11 +83,14 @@ told_ready topology before p now body = by (spec_of topology p.stage)
     by None h = h
     by (Some spec) h = by_role spec spec.role h
 
-told_source : (before : History) (s : StageNo) (opened source : Option LineSeen) → Both (KeepsSource before s true []) opened source → Both (KeepsSource before s true []) opened (option_map (told_lines (fetched_at before s)) source)
+told_source : (before : History) (s : StageNo) (opened source : Option FeedSeen) → Both (KeepsFeed before s true []) opened source → Both (KeepsFeed before s true []) opened (option_map (told_feed (fetched_at before s)) source)
 told_source before s None None k = k
-told_source before s None (Some lines) k = k
+told_source before s None (Some feed) k = k
 told_source before s (Some old) None k = k
-told_source before s (Some old) (Some lines) k = record {
+told_source before s (Some (Single old)) (Some (Merged now)) k = k
+told_source before s (Some (Merged old)) (Some (Single now)) k = k
+told_source before s (Some (Merged old)) (Some (Merged now)) k = k
+told_source before s (Some (Single old)) (Some (Single lines)) k = record {
   read = record {
     same_telling = k.read.same_telling;
     each_is_a_line = k.read.each_is_a_line;
@@ -110,9 +112,10 @@ told_kept : (topology : Topology) (before : History) (p : Post) (opened : Option
 told_kept topology before p None body k = k
 told_kept topology before p (Some old) body k = record { source = told_source before p.stage old.source body.source k.source; sink = k.sink; callback = k.callback }
 
-told_was : (before : History) (s : StageNo) (source : Option LineSeen) → IfSome (option_map (told_lines (fetched_at before s)) source) (IsTold before s)
+told_was : (before : History) (s : StageNo) (source : Option FeedSeen) → IfSome (option_map (told_feed (fetched_at before s)) source) (IsToldFeed before s)
 told_was before s None = tt
-told_was before s (Some lines) = told_again (fetched_at before s) lines.source.paced
+told_was before s (Some (Single lines)) = told_again (fetched_at before s) lines.source.paced
+told_was before s (Some (Merged merge)) = tt
 
 -- ---- by the work
 
@@ -132,7 +135,7 @@ kept_told topology before p (work.Child message) moment opened body is same k = 
 
 pub was_told : (topology : Topology) (before : History) (p : Post) (w : Work) (moment : ℕ) (body : BodySeen) → IsWorkOf topology before p w → (has_role topology p.stage is_producer_role ≡ true → fetched_at before p.stage ≡ moment)
     → WasTold before p.stage w (told_for w moment body)
-was_told topology before p (work.Fetch most) moment body is same = subst (λ m. IfSome (option_map (told_lines m) body.source) (IsTold before p.stage)) (same is.0) (told_was before p.stage body.source)
+was_told topology before p (work.Fetch most) moment body is same = subst (λ m. IfSome (option_map (told_feed m) body.source) (IsToldFeed before p.stage)) (same is.0) (told_was before p.stage body.source)
 was_told topology before p (work.Chunk messages) moment body is same = tt
 was_told topology before p (work.Batch batch) moment body is same = tt
 was_told topology before p (work.Child message) moment body is same = tt
@@ -141,9 +144,10 @@ was_told topology before p (work.Child message) moment body is same = tt
 pub still_told : (topology : Topology) (before : History) (step : Step) (p : Post) (w : Work) (body : BodySeen) → puts_out step p ≡ false → IsWorkOf topology before p w → WasTold before p.stage w body → WasTold (step ∷ before) p.stage w body
 still_told topology before step p (work.Fetch most) body put is told = by body.source told
   where
-    by : (source : Option LineSeen) → IfSome source (IsTold before p.stage) → IfSome source (IsTold (step ∷ before) p.stage)
+    by : (source : Option FeedSeen) → IfSome source (IsToldFeed before p.stage) → IfSome source (IsToldFeed (step ∷ before) p.stage)
     by None h = tt
-    by (Some lines) h = rw (fetch_stays before step p put is.3) h
+    by (Some (Single lines)) h = rw (fetch_stays before step p put is.3) h
+    by (Some (Merged merge)) h = tt
 still_told topology before step p (work.Chunk messages) body put is told = tt
 still_told topology before step p (work.Batch batch) body put is told = tt
 still_told topology before step p (work.Child message) body put is told = tt

@@ -30,7 +30,7 @@ use Rattle.config_table.specs.declared.format.Shape.TheVariants as shape
 use Rattle.config_table.specs.Fault.{under, at_place}
 use Rattle.config_table.specs.Format.{has, key_name, value_at, rows}
 use Rattle.config_table.specs.Values.{number_flaw, text_flaw, rules_flaw, sinks_flaw, select_flaw, flaw_faults, item_faults, items_faults, value_faults}
-use Rattle.config_table.specs.Walk.{is_named, is_known, key_faults, unknown_keys, held_faults, row_faults, rows_faults, table_faults, each_faults, array_faults, top_faults, producer_count, faults_beside, faults_of, version_in, version_of}
+use Rattle.config_table.specs.Walk.{is_named, is_known, key_faults, unknown_keys, held_faults, row_faults, rows_faults, table_faults, each_faults, array_faults, top_faults, rate_need, faults_beside, faults_of, version_in, version_of}
 use Rattle.pipe_config.specs.Flat.{is_text, are_texts, is_leaf, are_leaves, is_leaf_table, are_leaf_tables, is_part, is_flat, are_distinct, table_is_distinct, tables_are_distinct, part_is_distinct, parts_are_distinct}
 use Rattle.pipe_config.proofs.Named.{both}
 use Rattle.pipe_config.proofs.Distinct.{nothing_left}
@@ -227,4 +227,4 @@ flat_from v n t number (member k d ms) within once parts clear =
 
 -- the table of a file of version 2 without faults in its places is flat
 pub flat_table : (t : Members) → are_distinct t ≡ true → parts_are_distinct t ≡ true → version_of t ≡ Some Two → faults_of Two t ≡ [] → is_flat t ≡ true
-flat_table t once parts version clear = flat_from Two (producer_count t) t (version_part Two t version) t (λ k d found. found) once parts clear
+flat_table t once parts version clear = flat_from Two (rate_need t) t (version_part Two t version) t (λ k d found. found) once parts clear

@@ -29,7 +29,7 @@ use Rattle.config_table.specs.declared.format.Section.{Section}
 use Rattle.config_table.specs.declared.format.Section.TheVariants as section
 use Rattle.config_table.specs.Fault.{least, under, at_place}
 use Rattle.config_table.specs.Format.{has, key_name, value_at, pipeline_rows, rows}
-use Rattle.config_table.specs.Walk.{is_named, is_known, key_faults, unknown_keys, missing_faults, held_faults, row_faults, rows_faults, table_faults, each_faults, array_faults, top_faults, count_in, producer_count, faults_beside, faults_of, version_of}
+use Rattle.config_table.specs.Walk.{is_named, is_known, key_faults, unknown_keys, missing_faults, held_faults, row_faults, rows_faults, table_faults, each_faults, array_faults, top_faults, need_in, rate_need, faults_beside, faults_of, version_of}
 use Rattle.config_settings.specs.Settings.{settings_of}
 use Rattle.pipe_config.specs.File.{unless, judged, topology_by, topology_of, topology_of_table, topology_of_file, IsAccepted}
 use Rattle.pipe_config.specs.Upgrade.{set_member, with_version_2, refusal_of, IsUpgrade, IsRefused}
@@ -217,7 +217,7 @@ file_lift n no_members h = h
 file_lift n (member k d ms) h = lift_append {x = top_faults One n k d} {y = faults_beside One n ms} {u = top_faults Two n k d} {w = faults_beside Two n ms} (top_lift n k d) (file_lift n ms) h
 
 any_lift : (v : FileVersion) (ms : Members) → faults_of v ms ≡ [] → faults_of Two ms ≡ []
-any_lift One ms h = file_lift (producer_count ms) ms h
+any_lift One ms h = file_lift (rate_need ms) ms h
 any_lift Two ms h = h
 
 -- ---- the table with version 2
@@ -252,8 +252,8 @@ is_version_2 ms = rw (get_set (codes "version") (integer (pos 2)) ms) refl
 clear_again : (v : FileVersion) (ms : Members) → least (faults_of v ms) ≡ None → faults_of Two (with_version_2 ms) ≡ []
 clear_again v ms e =
     let clear : faults_of Two ms ≡ [] = any_lift v ms (least_none (faults_of v ms) e) in
-    let same : producer_count (with_version_2 ms) ≡ producer_count ms = ap (λ (o : Option Data). count_in (option_and_then as_array o)) (get_other (codes "producer") (codes "version") (integer (pos 2)) ms refl) in
-    ap (λ (n : ℕ). faults_beside Two n (with_version_2 ms)) same ∙ set_clear (producer_count ms) (integer (pos 2)) ms clear
+    let same : rate_need (with_version_2 ms) ≡ rate_need ms = ap (λ (o : Option Data). need_in (option_and_then as_array o)) (get_other (codes "producer") (codes "version") (integer (pos 2)) ms refl) in
+    ap (λ (n : ℕ). faults_beside Two n (with_version_2 ms)) same ∙ set_clear (rate_need ms) (integer (pos 2)) ms clear
 
 judged_again : (v : FileVersion) (ms : Members) (o : Option ConfigFault) (t : Topology) → least (faults_of v ms) ≡ o → unless o (judged (settings_of ms)) ≡ Ok t → topology_by (Some Two) (with_version_2 ms) ≡ Ok t
 judged_again v ms (Some fault) t e h = cc

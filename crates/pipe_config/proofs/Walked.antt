@@ -26,7 +26,7 @@ use Rattle.config_table.specs.Values.{item_count, item_faults, items_faults, fla
 use Rattle.config_table.specs.Shape.{fits}
 use Rattle.config_table.specs.declared.format.Shape.{Shape}
 use Rattle.config_table.specs.declared.value.Flaw.TheVariants.{OutOfRange}
-use Rattle.config_table.specs.Walk.{held_faults, row_faults, rows_faults, unknown_keys, table_faults, each_faults, array_faults, top_faults, producer_count, faults_beside, faults_of}
+use Rattle.config_table.specs.Walk.{held_faults, row_faults, rows_faults, unknown_keys, table_faults, each_faults, array_faults, top_faults, rate_need, faults_beside, faults_of}
 use Rattle.config_settings.specs.Settings as settings
 use Rattle.config_settings.specs.Settings.{texts_in, text_before, table_at, array_at, settings_of, producers_in, producers_at, batchers_in, batchers_at, producer_of, processors_of, supervisor_of, batcher_of, own_limit, reason_of, kind_of, demand_of, pipeline_number}
 use Rattle.config_build.specs.Limits.{producer_limits, processor_limits, supervisor_limits, batcher_limits}
@@ -393,15 +393,15 @@ pub walked_fits : (v : FileVersion) (table : Members) → least (faults_of v tab
 walked_fits v table h =
     let clear : faults_of v table ≡ [] = least_none (faults_of v table) h in
     record {
-      producers = producers_given v (array_at key.Producer table) (λ items is. held_array v (producer_count table) table key.Producer section.Producer (value_at key.Producer table) items (λ d. refl) clear refl is);
-      processors = processors_given v (table_at key.Processors table) (λ t is. held_table v (producer_count table) table key.Processors section.Processors (value_at key.Processors table) t (λ d. refl) clear refl is);
-      supervisor = supervisor_given v (table_at key.Supervisor table) (λ t is. held_table v (producer_count table) table key.Supervisor section.Supervisor (value_at key.Supervisor table) t (λ d. refl) clear refl is);
-      batchers = batchers_given v (array_at key.Batcher table) (λ items is. held_array v (producer_count table) table key.Batcher section.Batcher (value_at key.Batcher table) items (λ d. refl) clear refl is);
+      producers = producers_given v (array_at key.Producer table) (λ items is. held_array v (rate_need table) table key.Producer section.Producer (value_at key.Producer table) items (λ d. refl) clear refl is);
+      processors = processors_given v (table_at key.Processors table) (λ t is. held_table v (rate_need table) table key.Processors section.Processors (value_at key.Processors table) t (λ d. refl) clear refl is);
+      supervisor = supervisor_given v (table_at key.Supervisor table) (λ t is. held_table v (rate_need table) table key.Supervisor section.Supervisor (value_at key.Supervisor table) t (λ d. refl) clear refl is);
+      batchers = batchers_given v (array_at key.Batcher table) (λ items is. held_array v (rate_need table) table key.Batcher section.Batcher (value_at key.Batcher table) items (λ d. refl) clear refl is);
       pipeline = both
           (both (most_of 0 1000 (pipeline_number format.max_restarts key.MaxRestarts (table_at key.Pipeline table)) (pipeline_between format.max_restarts key.MaxRestarts (table_at key.Pipeline table) refl))
           (pipeline_between format.max_seconds key.MaxSeconds (table_at key.Pipeline table) refl))
           (both (most_of 0 1000000 (pipeline_number format.idle_limit key.IdleLimit (table_at key.Pipeline table)) (pipeline_between format.idle_limit key.IdleLimit (table_at key.Pipeline table) refl))
-          (control_given v (producer_count table) (table_at key.Pipeline table) (λ t is. held_table v (producer_count table) table key.Pipeline (section.Pipeline (producer_count table)) (value_at key.Pipeline table) t (λ d. refl) clear refl is)));
+          (control_given v (rate_need table) (table_at key.Pipeline table) (λ t is. held_table v (rate_need table) table key.Pipeline (section.Pipeline (rate_need table)) (value_at key.Pipeline table) t (λ d. refl) clear refl is)));
       limits = both (producers_at_own (array_at key.Producer table)) (both (processors_own (table_at key.Processors table)) (both (supervisor_own (table_at key.Supervisor table)) (batchers_at_own (array_at key.Batcher table))));
       sizes = both (pipeline_between format.record_limit key.RecordLimit (table_at key.Pipeline table) refl) (pipeline_between format.byte_limit key.ByteLimit (table_at key.Pipeline table) refl);
       rate = rate_given (length (producers_at (array_at key.Producer table))) (table_at key.Pipeline table);

@@ -16,10 +16,10 @@ use Rattle.pipe_model.specs.History.{History}
 use Rattle.pipe_model.specs.Legal.{is_legal, has_role, is_producer_role, is_batch_processor_role}
 use Rattle.pipe_model.specs.Posts.{is_out}
 use Rattle.stage_laws.proofs.Numbering.{numbered_topology}
-use Rattle.stage_bodies.specs.Seen.{SourceSeen, SinkSeen, LineSeen, BodySeen}
+use Rattle.stage_bodies.specs.Seen.{SourceSeen, SinkSeen, LineSeen, FeedSeen, Single, Merged, BodySeen}
 use Rattle.stage_bodies.specs.Jobs.{Both}
 use Rattle.stage_bodies.specs.Posts.{place_at}
-use Rattle.body_laws.specs.Keeps.{Keeps, KeepsPost, KeepsSource, KeepsSink, has_slot}
+use Rattle.body_laws.specs.Keeps.{Keeps, KeepsPost, KeepsSource, KeepsFeed, KeepsSink, has_slot}
 use Rattle.body_laws.specs.Ready.{There}
 use Rattle.body_laws.proofs.Posts.{first_post, producer_post}
 use Rattle.edge_names.specs.Supplies.{Feeds, Feed, Supplied, Fed, Written, fed, supplied, supplied_by, written}
@@ -27,7 +27,7 @@ use Rattle.pipe_edges.specs.Paces.{Pace}
 use Rattle.edge_names.specs.Seen.{EdgesSeen}
 use Rattle.edge_names.specs.Named.{GivesSink}
 use Rattle.edge_names.specs.Opened.{AreHome, AreOpened, GivesFed, IsOpened, supplied_in}
-use Rattle.edge_names.specs.Returned.{AreCalm, IsCalm, source_in, sink_in}
+use Rattle.edge_names.specs.Returned.{AreCalm, IsCalm, one_source, source_in, sink_in}
 use Rattle.edge_names.proofs.Openings.{opened_stage, given_feed, given_sink}
 use Rattle.pipe_run.specs.Outside.{AreUsed, IsFedRead, IsSinkWritten}
 use Rattle.pipe_run.proofs.Sources.{fed_read}
@@ -102,7 +102,7 @@ there_at P o x e h = subst (λ z. There z P) (sym e) h
 
 record IsSourceOpened (edges : EdgesSeen) (pace : Option Pace) (feed : Feed) (body : Option BodySeen) : Type 0 where
   pub lines : LineSeen
-  pub has : There body (λ b. b.source ≡ Some lines)
+  pub has : There body (λ b. b.source ≡ Some (Single lines))
   pub gives : GivesFed edges pace feed lines
 
 source_opened : (edges : EdgesSeen) (pace : Option Pace) (feed : Feed) (x y : Option BodySeen) → IsSome x → Both (IsOpened edges (Some (Fed pace feed))) x y → IsSourceOpened edges pace feed y
@@ -134,32 +134,42 @@ record IsSourceKept (before : History) (s : StageNo) (out : Bool) (opened : Line
   pub in_fetch : (lost ≡ []) ⊎ (out ≡ true)
   pub keeps : KeepsSource before s full lost opened now
 
-source_whole : (before : History) (s : StageNo) (out : Bool) (lines : LineSeen) (c : BodySeen) (x y : Option LineSeen) → x ≡ Some lines → c.source ≡ y → Both (KeepsSource before s true []) x y → IsSourceKept before s out lines (Some c)
-source_whole before s out lines c (Some a) (Some now) e is h = record {
-  now = now;
-  is = ap (option_map (λ (l : LineSeen). l.source)) is;
-  full = true;
-  lost = [];
-  in_fetch = inl refl;
-  keeps = let same : a ≡ lines = cc in subst (λ z. KeepsSource before s true [] z now) same h;
-}
+single_then : (before : History) (s : StageNo) (whole : Bool) (lost : List (List ℕ)) (lines : LineSeen) (now : FeedSeen) → KeepsFeed before s whole lost (Single lines) now → (kept : LineSeen) × (now ≡ Single kept) × KeepsSource before s whole lost lines kept
+single_then before s whole lost lines (Single kept) h = (kept, refl, h)
+single_then before s whole lost lines (Merged merge) h = absurd h
+
+source_whole : (before : History) (s : StageNo) (out : Bool) (lines : LineSeen) (c : BodySeen) (x y : Option FeedSeen) → x ≡ Some (Single lines) → c.source ≡ y → Both (KeepsFeed before s true []) x y → IsSourceKept before s out lines (Some c)
+source_whole before s out lines c (Some a) (Some feed) e is h =
+    let same : a ≡ Single lines = cc in
+    let kept = single_then before s true [] lines feed (subst (λ z. KeepsFeed before s true [] z feed) same h) in
+    record {
+      now = kept.0;
+      is = ap one_source (is ∙ ap Some kept.1);
+      full = true;
+      lost = [];
+      in_fetch = inl refl;
+      keeps = kept.2;
+    }
 source_whole before s out lines c (Some a) None e is h = absurd h
 source_whole before s out lines c None y e is h = cc
 
-source_partly : (before : History) (s : StageNo) (lines : LineSeen) (c : BodySeen) (x y : Option LineSeen) → x ≡ Some lines → c.source ≡ y
-    → Both (λ old new. (lost : List (List ℕ)) × KeepsSource before s false lost old new) x y → IsSourceKept before s true lines (Some c)
-source_partly before s lines c (Some a) (Some now) e is h = record {
-  now = now;
-  is = ap (option_map (λ (l : LineSeen). l.source)) is;
-  full = false;
-  lost = h.0;
-  in_fetch = inr refl;
-  keeps = let same : a ≡ lines = cc in subst (λ z. KeepsSource before s false h.0 z now) same h.1;
-}
+source_partly : (before : History) (s : StageNo) (lines : LineSeen) (c : BodySeen) (x y : Option FeedSeen) → x ≡ Some (Single lines) → c.source ≡ y
+    → Both (λ old new. (lost : List (List ℕ)) × KeepsFeed before s false lost old new) x y → IsSourceKept before s true lines (Some c)
+source_partly before s lines c (Some a) (Some feed) e is h =
+    let same : a ≡ Single lines = cc in
+    let kept = single_then before s false h.0 lines feed (subst (λ z. KeepsFeed before s false h.0 z feed) same h.1) in
+    record {
+      now = kept.0;
+      is = ap one_source (is ∙ ap Some kept.1);
+      full = false;
+      lost = h.0;
+      in_fetch = inr refl;
+      keeps = kept.2;
+    }
 source_partly before s lines c (Some a) None e is h = absurd h
 source_partly before s lines c None y e is h = cc
 
-source_kept : (topology : Topology) (before : History) (p : Post) (out : Bool) (lines : LineSeen) (o n : Option BodySeen) → There o (λ b. b.source ≡ Some lines) → IsSome n → KeepsPost topology before p out o n → IsSourceKept before p.stage out lines n
+source_kept : (topology : Topology) (before : History) (p : Post) (out : Bool) (lines : LineSeen) (o n : Option BodySeen) → There o (λ b. b.source ≡ Some (Single lines)) → IsSome n → KeepsPost topology before p out o n → IsSourceKept before p.stage out lines n
 source_kept topology before p false lines (Some b) (Some c) has some k = source_whole before p.stage false lines c b.source c.source has refl k.source
 source_kept topology before p true lines (Some b) (Some c) has some (inl none) = cc
 source_kept topology before p true lines (Some b) (Some c) has some (inr k) = source_partly before p.stage lines c b.source c.source has refl k.source
@@ -227,7 +237,7 @@ sources_used feeds whole topology edges before table opened bodies run s pace fe
     let some : IsSome (supplied feeds c.spec) = subst (λ (o : Option Supplied). IsSome o) (sym c.fits) refl in
     let both = subst (λ o. Both (IsOpened edges o) (table at) (opened at)) c.fits (opened_stage feeds topology s c.spec edges table opened numbered c.found run.opens) in
     let o = source_opened edges pace feed (table at) (opened at) (run.home s c.spec c.found some) both in
-    let there = run.stay at (some_from (λ b. b.source ≡ Some o.lines) (opened at) o.has) in
+    let there = run.stay at (some_from (λ b. b.source ≡ Some (Single o.lines)) (opened at) o.has) in
     let kept = source_kept topology before (post s 0) (is_out before (post s 0)) o.lines (opened at) (bodies at) o.has there (run.keeps (post s 0) (first_post topology s is_producer_role producer_post role)) in
     let own : same_stage s (stage 0) ≡ false = ne_eqb s.0 0 (λ zero. omega (arith, zero, (numbered.within s c.spec c.found).0)) in
     there_at (IsFedRead whole edges before s pace feed) (source_in (bodies at)) kept.now.source kept.is

@@ -19,7 +19,8 @@ use Rattle.pipe_edges.specs.declared.reading.Fetched.TheVariants.{End, Fault, To
 use Rattle.pipe_edges.proofs.TextLaws.{lines_ended, lines_nil}
 use Rattle.pipe_edges.proofs.HandLaws.{to_come as rest_of}
 use Rattle.source_lines.specs.Cut.{AreAllLines}
-use Rattle.source_lines.specs.Read.{IsReadFrom}
+use Rattle.source_lines.specs.Seen.{SourceSeen, line_seen}
+use Rattle.source_lines.specs.Read.{AreReadFrom, ReadsOn}
 use Rattle.source_lines.proofs.Pieces.{ended_append, pieces_ended, short_joined}
 
 -- what a fetch promises of the source before and after
@@ -100,10 +101,10 @@ opens : {E : Type 0} {now : Option LineEnd} (P : Fetched → Type 0) (result : R
 opens P (Ok f) cause none = cause (rw none refl)
 opens P (Err e) cause none = tt
 
-read_open : {B E : Type 0} (source : SourceOf B) (opened : B) (old new : LineSource B) (records : List (List ℕ)) (max : ℕ) (result : Result Fetched E)
+read_open : {B E : Type 0} (source : SourceOf B) (opened : SourceSeen) (old new : LineSource B) (records : List (List ℕ)) (max : ℕ) (result : Result Fetched E)
     → line_end_of old ≡ None → Fetches source old new max result
-    → IsReadFrom source opened old records
-    → IsReadFrom source opened new (records ++ records_in result)
+    → AreReadFrom opened (line_seen source old) records
+    → AreReadFrom opened (line_seen source new) (records ++ records_in result)
 read_open source opened old new records max result none f r = record {
   same_telling = f.handed.same_telling ∙ r.same_telling;
   each_is_a_line = All-append IsLine records (records_in result) r.each_is_a_line f.each_is_a_line;
@@ -127,21 +128,26 @@ read_open source opened old new records max result none f r = record {
       ap lines (sym e)
       ∙ f.in_order (rw r.same_telling t)
       ∙ no_lines _ (waiting new) (source.left (line_source new)) nothing.0 (nothing.1 (rw r.same_telling t)) in
-      all_lines (source.left opened) records (records_in result) r.each_is_a_line f.each_is_a_line (rw (r.to_come t (is_open none), e) refl) all;
+      all_lines opened.left records (records_in result) r.each_is_a_line f.each_is_a_line (rw (r.to_come t (is_open none), e) refl) all;
   at_long = λ is. long_cause (line_end_of new) max _ _ _ _ (waiting new) result f.remembers is (opens _ result f.cause none);
-  at_fault = λ is. rose_from (source.faults opened) (source.faults (line_source old)) (source.faults (line_source new)) r.faults_stay
+  at_fault = λ is. rose_from opened.faults (source.faults (line_source old)) (source.faults (line_source new)) r.faults_stay
       (fault_cause (line_end_of new) max _ _ _ _ (waiting new) result f.remembers is (opens _ result f.cause none));
   faults_stay = omega (arith, r.faults_stay, f.handed.faults_stay);
   waits_stay = omega (arith, r.waits_stay, f.handed.waits_stay);
 }
 
--- the records of a fetch follow those of the fetches before
-pub read_more : {B E : Type 0} (source : SourceOf B) (opened : B) (old new : LineSource B) (records : List (List ℕ)) (max : ℕ) (result : Result Fetched E) (known : Option LineEnd)
+read_more : {B E : Type 0} (source : SourceOf B) (opened : SourceSeen) (old new : LineSource B) (records : List (List ℕ)) (max : ℕ) (result : Result Fetched E) (known : Option LineEnd)
     → line_end_of old ≡ known → Fetches source old new max result
-    → IsReadFrom source opened old records
-    → IsReadFrom source opened new (records ++ records_in result)
+    → AreReadFrom opened (line_seen source old) records
+    → AreReadFrom opened (line_seen source new) (records ++ records_in result)
 read_more source opened old new records max result None is f r =
     read_open source opened old new records max result is f r
 read_more source opened old new records max result (Some e) is f r =
     let again : (result ≡ Ok (answer_of e)) × (new ≡ old) = known_again _ (line_end_of old) e is f.again in
     rw (no_records e result again.0, again.1, append-nil) r
+
+-- the records of a fetch follow those of the fetches before
+pub reads_on : {B E : Type 0} (source : SourceOf B) (old new : LineSource B) (max : ℕ) (result : Result Fetched E)
+    → Fetches source old new max result
+    → ReadsOn (records_in result) (line_seen source old) (line_seen source new)
+reads_on source old new max result f opened earlier before = read_more source opened old new earlier max result (line_end_of old) refl f before

@@ -1,10 +1,11 @@
 //! One fetch of lines.
 
-ghost use Rattle.std.specs.Prelude.{◌≡◌, ◌<◌, ◌++◌, ℕ, List, Some, IfOk, IfSome};
+ghost use Rattle.std.specs.Prelude.{◌≡◌, ◌<◌, Some, IfOk, IfSome};
 ghost use Rattle.pipe_edges.specs.LineSource.{line_source, waiting, line_end_of};
 ghost use Rattle.pipe_edges.specs.Needed.{ReadsAsNeeded};
 ghost use Rattle.pipe_edges.specs.Fetch.{records_in, text_of};
-ghost use Rattle.source_lines.specs.Read.{IsReadFrom, IsFetchAnswer};
+ghost use Rattle.source_lines.specs.Read.{ReadsOn, IsFetchAnswer};
+ghost use Rattle.source_lines.specs.Seen.{line_seen};
 
 use pipe_edges::{ByteSource, Fetched, LineSource};
 use std::alloc::AllocError;
@@ -17,9 +18,7 @@ pub fn read_lines<B: ByteSource>(
 ) -> Result<Fetched, AllocError>
     requires { 0 < max }
     // The records of this fetch follow those of the fetches before.
-    ensures read { (opened : B) (records : List (List ℕ))
-        → IsReadFrom B.ByteSource opened source.old records
-        → IsReadFrom B.ByteSource opened source.new (records ++ records_in result) }
+    ensures read { ReadsOn (records_in result) (line_seen B.ByteSource source.old) (line_seen B.ByteSource source.new) }
     ensures end_stays { IfSome (line_end_of source.old) (λ end. line_end_of source.new ≡ Some end) }
     // It reads no more than the records need.
     ensures needed { ReadsAsNeeded (waiting source.old) (waiting source.new)

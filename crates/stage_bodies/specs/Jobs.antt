@@ -28,8 +28,9 @@ use Rattle.stage_callback.specs.declared.answers.Said.{Said}
 use Rattle.stage_job.specs.Chunks.{never_crashes, RoseBy}
 use Rattle.stage_job.specs.Lawful.{AreLawful}
 use Rattle.stage_job.specs.Told.{chunk_by}
-use Rattle.stage_bodies.specs.Seen.{SourceSeen, LineSeen, SinkSeen, BoxSeen, BodySeen}
-use Rattle.stage_bodies.specs.Reads.{AreReadFrom}
+use Rattle.stage_bodies.specs.Seen.{LineSeen, MergeSeen, waits_together, FeedSeen, Single, Merged, SinkSeen, BoxSeen, BodySeen}
+pub use Rattle.stage_bodies.specs.Reads.{ReadsOn, MergeReadsOn}
+use Rattle.line_merge.specs.Seen.{AreUnpaced}
 use Rattle.stage_bodies.specs.Told.{end_told, text_told}
 use Rattle.stage_bodies.specs.Lawful.{IsLawfulEnd}
 use Rattle.stage_bodies.specs.declared.job.Work.{Work}
@@ -62,11 +63,6 @@ IsFetched most waits waits' held now (came.Ended how.Fault) = now ≡ Some end.F
 IsFetched most waits waits' held now (came.Ended how.TooLong) = now ≡ Some end.TooLong
 IsFetched most waits waits' held now _ = ⊥
 
--- the records follow those that were read before
-abbrev pub ReadsOn : (records : List (List ℕ)) → (old new : LineSeen) → Type 0
-ReadsOn records old new =
-    (opened : SourceSeen) (earlier : List (List ℕ)) → AreReadFrom opened old earlier → AreReadFrom opened new (earlier ++ records)
-
 -- what a fetch with a pace gave, if no line is too long: just its records
 abbrev pub FetchGives : (before : ℕ) → LineSeen → Came → Type 0
 FetchGives before now (came.Records records) = Gives before (length records) now.source.paced now.waiting
@@ -96,6 +92,32 @@ pub record Fetches (most : ℕ) (result : Came) (old new : LineSeen) : Type 0 wh
   pub answer : IsFetched most old.source.waits new.source.waits new.waiting new.end result
   pub paced : FetchIsPaced old.source.paced.pace result old new
   pub needed : ReadsAsNeeded old.waiting new.waiting (text_of new.end (records_of result))
+
+-- ---- merges
+
+-- what the answer to a fetch of a merge says: one record, none too long; that the waits rose; or the end that is known from now on
+abbrev pub IsMergeFetched : (old new : MergeSeen) → Came → Type 0
+IsMergeFetched old new (came.Records records) =
+    (length records ≡ 1) × All (λ r. length r ≤ max_bytes) records × (¬ (new.end ≡ Some end.Fault)) × (¬ (new.end ≡ Some end.TooLong))
+IsMergeFetched old new came.NotYet = RoseBy 1 (waits_together old) (waits_together new) × (new.end ≡ None)
+IsMergeFetched old new (came.Ended how.End) = new.end ≡ Some end.End
+IsMergeFetched old new (came.Ended how.Fault) = new.end ≡ Some end.Fault
+IsMergeFetched old new (came.Ended how.TooLong) = new.end ≡ Some end.TooLong
+IsMergeFetched old new _ = ⊥
+
+-- a fetch of a merge whose sources have no pace
+pub record FetchesMerge (result : Came) (old new : MergeSeen) : Type 0 where
+  pub reads : MergeReadsOn (records_of result) old new
+  pub end_stays : IfSome old.end (λ e. new.end ≡ Some e)
+  pub answer : IsMergeFetched old new result
+  pub waits_stay : waits_together old ≤ waits_together new
+  pub unpaced : AreUnpaced old → AreUnpaced new
+
+-- a fetch of a feed
+abbrev pub FetchesFeed : (most : ℕ) → Came → (old new : FeedSeen) → Type 0
+FetchesFeed most result (Single old) (Single new) = Fetches most result old new
+FetchesFeed most result (Merged old) (Merged new) = FetchesMerge result old new
+FetchesFeed most result _ _ = ⊥
 
 -- ---- callbacks
 
@@ -202,7 +224,7 @@ EndsIn batch bytes end old new before after =
 -- the work came to this answer, and what it did not use is as it was
 abbrev pub IsDone : Work → Came → BodySeen → BodySeen → Type 0
 IsDone (work.Fetch most) result old new =
-    Both (Fetches most result) old.source new.source × (new.sink ≡ old.sink) × (new.callback ≡ old.callback)
+    Both (FetchesFeed most result) old.source new.source × (new.sink ≡ old.sink) × (new.callback ≡ old.callback)
 IsDone (work.Chunk messages) (came.Replies replies) old new =
     Both (Replies 0 messages replies) old.callback new.callback × (new.source ≡ old.source) × (new.sink ≡ old.sink)
 IsDone (work.Batch batch) (came.Wrote bytes end) old new =
@@ -222,8 +244,20 @@ pub record IsCutFetch (old new : LineSeen) : Type 0 where
   pub end_stays : IfSome old.end (λ e. new.end ≡ Some e)
   pub paced : CutKeepsPace old.source.paced.pace old new
 
+-- the same of a merge
+pub record IsCutMerge (old new : MergeSeen) : Type 0 where
+  pub reads : MergeReadsOn [] old new
+  pub end_stays : IfSome old.end (λ e. new.end ≡ Some e)
+  pub waits_stay : waits_together old ≤ waits_together new
+  pub unpaced : AreUnpaced old → AreUnpaced new
+
+abbrev pub IsCutFeed : (old new : FeedSeen) → Type 0
+IsCutFeed (Single old) (Single new) = IsCutFetch old new
+IsCutFeed (Merged old) (Merged new) = IsCutMerge old new
+IsCutFeed _ _ = ⊥
+
 -- nothing was written, and the callback is the same
 pub record IsCutOff (old new : BodySeen) : Type 0 where
-  pub source : Both IsCutFetch old.source new.source
+  pub source : Both IsCutFeed old.source new.source
   pub sink : new.sink ≡ old.sink
   pub callback : Both KeepsBox old.callback new.callback

@@ -5,11 +5,13 @@
 //! as plain data. `take_out` and `put_back` move bodies out of a table by post and back.
 #![tactic(auto)]
 
+mod feed;
 mod houses;
 mod job;
 mod table;
 mod works;
 
+pub use feed::{Feed, FeedSources};
 pub use houses::Houses;
 pub use job::{Answer, Job, Outcome, Work};
 pub use table::{PLACES, place_of, put_back, take_out};

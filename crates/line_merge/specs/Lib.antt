@@ -1,0 +1,6 @@
+pub mod Items
+pub mod Streams
+pub mod Tries
+pub mod Opening
+pub mod Seen
+pub mod Fetch
