@@ -120,6 +120,11 @@ impl Edges for RealEdges {
         Ok(RealSource::new(count(&mut self.faults, reader)?))
     }
 
+    fn open_stream(&mut self, name: &Text) -> Result<RealSource<Reader>, EdgeEnd> {
+        let reader = Reader::open_stream(&self.rt, &mut self.opened, name.as_str());
+        Ok(RealSource::new(count(&mut self.faults, reader)?))
+    }
+
     fn open_sink(&mut self, name: &Text) -> Result<RealOut<Writer>, EdgeEnd> {
         let writer = Writer::open(&self.rt, &mut self.opened, name.as_str());
         let writer = count(&mut self.faults, writer)?;

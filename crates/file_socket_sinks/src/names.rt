@@ -89,9 +89,13 @@ impl Address<'_> {
 
     /// Listens at it until a peer connects, and answers that connection. Others are refused from then on.
     pub fn accept(&self, rt: &HostRuntime) -> io::Result<TcpStream> {
-        let listener = TcpListener::bind(rt, (self.host, self.port))?;
-        let (stream, _) = listener.accept()?;
+        let (stream, _) = self.listen(rt)?.accept()?;
         Ok(stream)
+    }
+
+    /// Listens at it. A peer may connect from then on.
+    pub fn listen(&self, rt: &HostRuntime) -> io::Result<TcpListener> {
+        TcpListener::bind(rt, (self.host, self.port))
     }
 }
 

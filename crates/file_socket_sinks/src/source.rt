@@ -8,12 +8,12 @@ ghost use Rattle.file_socket_sinks.specs.Names.{IsSourceName};
 
 use crate::names::SourceName;
 use crate::opened::OpenFiles;
-use crate::waits::{Patience, Waits};
+use crate::waits::{OF_MERGES, Patience, Waits};
 use pipe_edges::{ByteSource, ReadEnd};
 use std::fs::File;
 use std::io;
 use std::io::{ErrorKind, Read, Stdin};
-use std::net::TcpStream;
+use std::net::{TcpListener, TcpStream};
 use std::os::fd::{AsRawFd, RawFd};
 
 /// A file, a connection or standard input.
@@ -21,6 +21,7 @@ use std::os::fd::{AsRawFd, RawFd};
 enum Stream {
     File(File),
     Connection(TcpStream),
+    Listener(TcpListener),
     Input(Stdin),
 }
 
@@ -29,6 +30,7 @@ impl AsRawFd for Stream {
         match self {
             Stream::File(file) => file.as_raw_fd(),
             Stream::Connection(stream) => stream.as_raw_fd(),
+            Stream::Listener(listener) => listener.as_raw_fd(),
             Stream::Input(input) => input.as_raw_fd(),
         }
     }
@@ -39,15 +41,17 @@ impl Read for Stream {
         match self {
             Stream::File(file) => file.read(piece),
             Stream::Connection(stream) => stream.read(piece),
+            Stream::Listener(_) => Err(io::Error::from(ErrorKind::WouldBlock)),
             Stream::Input(input) => input.read(piece),
         }
     }
 }
 
 /// A file, a connection or standard input, of which a read waits no longer than its patience lasts: then it is
-/// `WouldBlock`. A regular file is read at once.
+/// `WouldBlock`. A regular file is read at once. A listener becomes the connection of its first peer.
 #[derive(Drop)]
 pub struct Reader {
+    rt: HostRuntime,
     stream: Stream,
     waits: Option<Waits>,
 }
@@ -77,8 +81,42 @@ impl Reader {
             Some(SourceName::Listen(own)) => Stream::Connection(own.accept(rt)?),
             None => return Err(io::Error::from(ErrorKind::InvalidInput)),
         };
+        Reader::of(rt, stream, patience)
+    }
+
+    /// Opens what the name of one of the sources of a merge says. A listener's peer is not waited for: a later read accepts it.
+    pub fn open_stream(
+        rt: &HostRuntime,
+        opened: &mut OpenFiles,
+        name: &str,
+    ) -> io::Result<Reader>
+        ensures { IfOk result (λ _. IsSourceName name.now) }
+    {
+        match SourceName::parse(name) {
+            Some(SourceName::Listen(own)) => {
+                Reader::of(rt, Stream::Listener(own.listen(rt)?), OF_MERGES)
+            }
+            _ => Reader::open(rt, opened, name, OF_MERGES),
+        }
+    }
+
+    fn of(rt: &HostRuntime, stream: Stream, patience: Patience) -> io::Result<Reader> {
         let waits = Waits::new(rt, stream.as_raw_fd(), patience)?;
-        Ok(Reader { stream, waits })
+        Ok(Reader {
+            rt: *rt,
+            stream,
+            waits,
+        })
+    }
+
+    // Takes the peer that waits at a listener, where one does.
+    fn meet(&mut self) -> io::Result<()> {
+        if let Stream::Listener(listener) = &self.stream {
+            let (connection, _) = listener.accept()?;
+            self.waits = Waits::new(&self.rt, connection.as_raw_fd(), OF_MERGES)?;
+            self.stream = Stream::Connection(connection);
+        }
+        Ok(())
     }
 }
 
@@ -87,6 +125,10 @@ impl Read for Reader {
         if let Some(waits) = &mut self.waits
             && !waits.is_ready(self.stream.as_raw_fd())?
         {
+            return Err(io::Error::from(ErrorKind::WouldBlock));
+        }
+        if let Stream::Listener(_) = &self.stream {
+            self.meet()?;
             return Err(io::Error::from(ErrorKind::WouldBlock));
         }
         self.stream.read(piece)

@@ -34,6 +34,12 @@ pub const OF_CONTROL: Patience = Patience {
     longest_ms: 0,
 };
 
+/// A reading of one of the sources of a merge never waits, since the others are read between its readings.
+pub const OF_MERGES: Patience = Patience {
+    first_ms: 0,
+    longest_ms: 0,
+};
+
 /// Waits for one descriptor.
 #[derive(Drop)]
 pub struct Waits {

@@ -84,6 +84,24 @@ pub trait Edges {
         self.open_source(name)
     }
 
+    /// Opens one of the sources of a merge, as `open_source` does. Its other sources are opened after it, and are read between
+    /// its reads: where these may wait for a peer, an implementation opens it so that neither opening nor reading waits, and a
+    /// read answers `Empty` at once.
+    fn open_stream(&mut self, name: &Text) -> Result<Self::Source, EdgeEnd>
+        ensures same_telling { told self.new ≡ told self.old }
+        ensures fresh { IfOk result (IsFreshSource Self.Source.taken Self.Source.faults Self.Source.waits Self.Source.paced) }
+        ensures given { IsTrue (told self.old)
+            → IfOk result (GivesSource Self.Source.told Self.Source.left (named self.old EdgeKind.Source name.now)) }
+        ensures stands { IsTrue (told self.old) → StandsAsBefore (named self.old) (named self.new) }
+        ensures asked { IsTrue (told self.old)
+            → asked self.new ≡ asked_after result EdgeKind.Source name.now (asked self.old) }
+        ensures back { KeepsBack sources_back sinks_back self.old self.new }
+        ensures faults_stay { faults self.old ≤ faults self.new }
+        ensures cause { EdgeHasCause (faults self.old) (faults self.new) result }
+    {
+        self.open_source(name)
+    }
+
     /// Opens the sink of this name, which has counted nothing.
     fn open_sink(&mut self, name: &Text) -> Result<Self::Sink, EdgeEnd>
         ensures same_telling { told self.new ≡ told self.old }
