@@ -1,7 +1,6 @@
 //! The acknowledgements of a run.
 
-ghost use Rattle.std.specs.Prelude.{◌≡◌, IfOk, map};
-ghost use Rattle.std.specs.List.{flat_map};
+ghost use Rattle.std.specs.{Prelude.{◌≡◌, IfOk, map}, List.{flat_map}};
 ghost use Rattle.pipe_types.specs.Sound.{IsSound};
 ghost use Rattle.pipe_model.specs.Places.{ArePlaces};
 ghost use Rattle.journal_texts.specs.Acks.{ack_text as text_of_acks};

@@ -1,7 +1,6 @@
 //! The lines of the acknowledgements.
 
-ghost use Rattle.std.specs.Prelude.{◌≡◌, ◌++◌, All, IfOk, OnOk, codes, find, map, option_copied};
-ghost use Rattle.std.specs.List.{flat_map};
+ghost use Rattle.std.specs.{Prelude.{◌≡◌, ◌++◌, All, IfOk, OnOk, codes, find, map, option_copied}, List.{flat_map}};
 ghost use Rattle.pipe_types.specs.Numbers.{same_stage};
 ghost use Rattle.journal_texts.specs.Acks.{ack_line};
 ghost use Rattle.ack_texts.specs.Groups.{InOrder, line_of, lines_of, verdicts_in};

@@ -1,8 +1,7 @@
 //! Bytes and numbers, written at the end of a text.
 
 ghost use Rattle.std.specs.Prelude.{◌≡◌, ◌++◌, OnOk, decimal, codes, map};
-ghost use Rattle.journal_texts.specs.Words.{next_text, more_text};
-ghost use Rattle.journal_texts.specs.Acks.{numbers_text};
+ghost use Rattle.journal_texts.specs.{Words.{next_text, more_text}, Acks.{numbers_text}};
 
 use itoa::Buffer;
 use pipe_types::numbers::MsgNo;

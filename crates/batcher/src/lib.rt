@@ -7,8 +7,7 @@
 
 ghost use Rattle.std.specs.Prelude.{◌≡◌, ◌+◌, ◌-◌, ◌<◌, ◌↔◌, nat_le, ◌++◌, [], take, drop, remove, length, slice_get, option_map, All, IsTrue, IsNone, IfSome, IfNone, OnOk, OnErr, option_to_list};
 ghost use Rattle.std.specs.List.{flat_map};
-ghost use Rattle.batcher.specs.Batches.{fits as key_fits, gathered, trigger_of, first_of, left_of, numbers_in, IsClosable};
-ghost use Rattle.batcher.specs.Seen.{batch_in, first_has_passed};
+ghost use Rattle.batcher.specs.{Batches.{fits as key_fits, gathered, trigger_of, first_of, left_of, numbers_in, IsClosable}, Seen.{batch_in, first_has_passed}};
 
 mod messages;
 mod open;

@@ -1,8 +1,7 @@
 //! The messages of one open batch, and counts of the batches that are ready.
 
 ghost use Rattle.std.specs.Prelude.{◌≡◌, ◌<◌, [], ◌∷◌, ◌++◌, ◌-◌, ◌^◌, ◌&&◌, ◌||◌, if◌then◌else◌, false, length, OnOk, OnErr};
-ghost use Rattle.batcher.specs.Batches.{first_of, joined};
-ghost use Rattle.batcher.specs.Seen.{is_ready, batch_in, more_ready as with_more, less_ready as with_less};
+ghost use Rattle.batcher.specs.{Batches.{first_of, joined}, Seen.{is_ready, batch_in, more_ready as with_more, less_ready as with_less}};
 
 use pipe_types::numbers::MsgNo;
 use std::alloc::AllocError;

@@ -1,12 +1,8 @@
 //! The open batches by their keys, in the order in which they were opened.
 
 ghost use Rattle.std.specs.Prelude.{◌≡◌, ◌-◌, ◌^◌, not, ◌==◌, ◌∷◌, [], ◌++◌, ℕ, ◌<◌, ◌||◌, Bool, nat_lt, All, List, Vec, length, bytes_eq, remove, slice_get, vec_capacity, ◌≤◌, option_map, option_copied, IfOk, OnOk, OnErr, IfSome, IfNone, Some, None, if◌then◌else◌};
-ghost use Rattle.std.specs.Global.{Global};
-ghost use Rattle.std.specs.Map.{lookup, keys_of};
-ghost use Rattle.std.specs.List.{IsDistinct};
-ghost use Rattle.batcher.specs.Batches.{gathered};
-ghost use Rattle.batcher.specs.Seen.{seen, more_ready, IsKept, PopsNumber, entries_of, key_in, HasRoom};
-ghost use Rattle.batcher.specs.declared.messages.Messages.{Messages};
+ghost use Rattle.std.specs.{Global.{Global}, Map.{lookup, keys_of}, List.{IsDistinct}};
+ghost use Rattle.batcher.specs.{Batches.{gathered}, Seen.{seen, more_ready, IsKept, PopsNumber, entries_of, key_in, HasRoom}, declared.messages.Messages.{Messages}};
 
 use crate::messages::Messages;
 use lru::LruCache;

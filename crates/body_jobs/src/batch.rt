@@ -1,14 +1,10 @@
 //! Batches.
 
 ghost use Rattle.std.specs.Prelude.{◌≡◌, ◌∷◌, [], IfOk, length, map};
-ghost use Rattle.stage_bodies.specs.Told.{raised_with};
-ghost use Rattle.stage_bodies.specs.Lawful.{AreSettled, IsLawfullyHandled, IsSettled};
-ghost use Rattle.stage_bodies.specs.Jobs.{KeepsBox};
+ghost use Rattle.stage_bodies.specs.{Told.{raised_with}, Lawful.{AreSettled, IsLawfullyHandled, IsSettled}, Jobs.{KeepsBox}};
 ghost use Rattle.stage_callback.specs.Laws.{KeepsBatch, KeepsFailed};
-ghost use Rattle.stage_job.specs.Lawful.{IsReasonLeft};
-ghost use Rattle.stage_job.specs.Told.{reason_by};
-ghost use Rattle.body_jobs.specs.Batches.{Asks, AsksFailed, Settles, Handles};
-ghost use Rattle.body_jobs.specs.Boxes.{box_of};
+ghost use Rattle.stage_job.specs.{Lawful.{IsReasonLeft}, Told.{reason_by}};
+ghost use Rattle.body_jobs.specs.{Batches.{Asks, AsksFailed, Settles, Handles}, Boxes.{box_of}};
 
 use pipe_types::bytes::Bytes;
 use pipe_types::message::{Batch, BatchEnd, BatchReply, Message, Outcome, OutcomeList};

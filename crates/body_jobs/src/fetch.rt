@@ -1,10 +1,8 @@
 //! Fetches.
 
 ghost use Rattle.std.specs.Prelude.{◌≡◌, ◌<◌, [], OnErr, IfOk};
-ghost use Rattle.pipe_edges.specs.LineSource.{waiting};
-ghost use Rattle.pipe_edges.specs.Needed.{ReadsAsNeeded};
-ghost use Rattle.stage_bodies.specs.Seen.{line_seen, merge_seen, feed_seen};
-ghost use Rattle.stage_bodies.specs.Jobs.{Fetches, FetchesMerge, FetchesFeed, IsCutFetch, IsCutMerge, IsCutFeed};
+ghost use Rattle.pipe_edges.specs.{LineSource.{waiting}, Needed.{ReadsAsNeeded}};
+ghost use Rattle.stage_bodies.specs.{Seen.{line_seen, merge_seen, feed_seen}, Jobs.{Fetches, FetchesMerge, FetchesFeed, IsCutFetch, IsCutMerge, IsCutFeed}};
 ghost use Rattle.body_jobs.specs.Fetched.{came_of};
 
 use line_merge::LineMerge;

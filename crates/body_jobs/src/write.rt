@@ -1,8 +1,7 @@
 //! The text of a batch.
 
 ghost use Rattle.std.specs.Prelude.{◌≡◌, [], map, length, is_some, option_map};
-ghost use Rattle.stage_bodies.specs.Seen.{sink_seen};
-ghost use Rattle.stage_bodies.specs.Jobs.{Both, Writes};
+ghost use Rattle.stage_bodies.specs.{Seen.{sink_seen}, Jobs.{Both, Writes}};
 ghost use Rattle.pipe_model.specs.Work.{sink_reason};
 ghost use Rattle.body_jobs.specs.Batches.{IsWritten, by_sink};
 

@@ -9,35 +9,16 @@
 #![tactic(auto)]
 
 ghost use Rattle.std.specs.Prelude.{◌≡◌, ◌≢◌, ◌<◌, ◌==◌, ℕ, length, [], ◌∷◌, true, false, if◌then◌else◌, IsTrue, Option, Some, None};
-ghost use Rattle.pipe_types.specs.declared.message.Message.{Message};
-ghost use Rattle.pipe_types.specs.declared.numbers.Post.{Post};
-ghost use Rattle.pipe_types.specs.declared.numbers.StageNo.{StageNo};
-ghost use Rattle.pipe_types.specs.declared.step.Step.{Step};
-ghost use Rattle.pipe_types.specs.declared.step.Step.TheVariants.{Restart};
-ghost use Rattle.pipe_types.specs.declared.topology.Kind.TheVariants.{Own};
-ghost use Rattle.pipe_types.specs.declared.topology.StageSpec.{StageSpec};
-ghost use Rattle.pipe_types.specs.declared.topology.Topology.{Topology};
-ghost use Rattle.pipe_types.specs.Sound.{IsSound, batchers};
-ghost use Rattle.pipe_types.specs.Stages.{spec_of};
-ghost use Rattle.pipe_model.specs.Acknowledgements.{is_acked_failed};
-ghost use Rattle.pipe_model.specs.Content.{content};
-ghost use Rattle.pipe_model.specs.Flow.{place};
-ghost use Rattle.pipe_model.specs.History.{History};
-ghost use Rattle.pipe_model.specs.Legal.{is_legal, allows, owed};
+ghost use Rattle.pipe_types.specs.{declared.message.Message.{Message}, declared.numbers.Post.{Post}, declared.numbers.StageNo.{StageNo}, declared.step.Step.{Step}};
+ghost use Rattle.pipe_types.specs.{declared.step.Step.TheVariants.{Restart}, declared.topology.Kind.TheVariants.{Own}, declared.topology.StageSpec.{StageSpec}};
+ghost use Rattle.pipe_types.specs.{declared.topology.Topology.{Topology}, Sound.{IsSound, batchers}, Stages.{spec_of}};
+ghost use Rattle.pipe_model.specs.{Acknowledgements.{is_acked_failed}, Content.{content}, Flow.{place}, History.{History}, Legal.{is_legal, allows, owed}};
 ghost use Rattle.pipe_model.specs.Posts.{is_out, puts_out};
 ghost use Rattle.stage_callback.specs.Callbacks.{is_message_for};
 ghost use Rattle.stage_job.specs.Chunks.{never_crashes};
-ghost use Rattle.stage_bodies.specs.Seen.{BodySeen};
-ghost use Rattle.stage_bodies.specs.Jobs.{Both, Fits, IsDone, IsCutOff};
-ghost use Rattle.stage_bodies.specs.Posts.{place_at, IsWorkOf, IsOutNow, IsJobOf, step_of, is_crash, brings_records};
-ghost use Rattle.stage_bodies.specs.declared.job.Answer.{Answer};
-ghost use Rattle.stage_bodies.specs.declared.job.Job.{Job};
-ghost use Rattle.stage_bodies.specs.declared.job.Outcome.{Outcome as Came};
-ghost use Rattle.stage_bodies.specs.declared.job.Work.{Work};
-ghost use Rattle.body_laws.specs.Keeps.{has_post, is_silent, KeepsBody, Keeps};
-ghost use Rattle.body_laws.specs.Lates.{late_step, AreReset};
-ghost use Rattle.body_laws.specs.Passes.{all_pass};
-ghost use Rattle.body_laws.specs.Ready.{There, IsBodyAt, Ready, IsFilled, WasTold};
+ghost use Rattle.stage_bodies.specs.{Seen.{BodySeen}, Jobs.{Both, Fits, IsDone, IsCutOff}, Posts.{place_at, IsWorkOf, IsOutNow, IsJobOf, step_of, is_crash, brings_records}};
+ghost use Rattle.stage_bodies.specs.{declared.job.Answer.{Answer}, declared.job.Job.{Job}, declared.job.Outcome.{Outcome as Came}, declared.job.Work.{Work}};
+ghost use Rattle.body_laws.specs.{Keeps.{has_post, is_silent, KeepsBody, Keeps}, Lates.{late_step, AreReset}, Passes.{all_pass}, Ready.{There, IsBodyAt, Ready, IsFilled, WasTold}};
 
 /// Posts with slots below 16 have places of their own.
 #[tactic(auto, using(crate::proofs::Posts::own_places))]

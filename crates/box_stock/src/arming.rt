@@ -3,8 +3,7 @@
 ghost use Rattle.std.specs.Prelude.{◌≡◌, ◌≢◌, ◌<◌, ℕ, length, slice_get, OnOk, OnErr};
 ghost use Rattle.pipe_types.specs.Sound.{IsSound};
 ghost use Rattle.stage_bodies.specs.Jobs.{Both};
-ghost use Rattle.box_stock.specs.Lends.{IsArmedFor, IsSameBox, box_at};
-ghost use Rattle.box_stock.specs.Homes.{joined};
+ghost use Rattle.box_stock.specs.{Lends.{IsArmedFor, IsSameBox, box_at}, Homes.{joined}};
 
 use crate::boxed::Boxed;
 use crate::homes::home_in;

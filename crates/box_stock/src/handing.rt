@@ -1,11 +1,8 @@
 //! Handing out.
 
 ghost use Rattle.std.specs.Prelude.{◌≡◌, ◌≢◌, ◌<◌, ◌≤◌, ◌*◌, ℕ, Some, if◌then◌else◌, length, slice_get, IfSome, IfOk, IfErr, vec_capacity};
-ghost use Rattle.pipe_types.specs.Sound.{IsSound};
-ghost use Rattle.pipe_types.specs.declared.numbers.Post.{Post};
-ghost use Rattle.stage_bodies.specs.Seen.{body_at};
-ghost use Rattle.stage_bodies.specs.Jobs.{Both};
-ghost use Rattle.stage_bodies.specs.Posts.{place_at};
+ghost use Rattle.pipe_types.specs.{Sound.{IsSound}, declared.numbers.Post.{Post}};
+ghost use Rattle.stage_bodies.specs.{Seen.{body_at}, Jobs.{Both}, Posts.{place_at}};
 ghost use Rattle.box_stock.specs.Homes.{joined, post_for, Suffices};
 ghost use Rattle.box_stock.specs.Lends.{AreApart, AreHandedOut, AreStillThere, IsHandedOut, IsLent, IsSameBox, IsSlipOf, box_at, body_with, is_home, kinds_of, slip_at};
 

@@ -4,8 +4,7 @@ ghost use Rattle.std.specs.Prelude.{◌≡◌, ◌<◌, ℕ, Some, if◌then◌e
 ghost use Rattle.pipe_types.specs.Sound.{IsSound};
 ghost use Rattle.stage_job.specs.Boxes.{same_kind, boxes_of_kind};
 ghost use Rattle.topology_needs.specs.Needs.{boxes_in as boxes_by_kind, posts_of};
-ghost use Rattle.box_stock.specs.Homes.{joined, posts_with, post_for};
-ghost use Rattle.box_stock.specs.Lends.{kinds_of};
+ghost use Rattle.box_stock.specs.{Homes.{joined, posts_with, post_for}, Lends.{kinds_of}};
 
 use crate::boxed::Boxed;
 use pipe_types::numbers::Post;

@@ -7,20 +7,12 @@
 #![tactic(auto)]
 
 ghost use Rattle.std.specs.Prelude.{◌≡◌, ℕ, List, length, Option, None};
-ghost use Rattle.pipe_types.specs.Sound.{IsSound};
-ghost use Rattle.pipe_types.specs.declared.topology.Kind.{Kind};
-ghost use Rattle.pipe_types.specs.declared.topology.StageSpec.{StageSpec};
-ghost use Rattle.pipe_types.specs.declared.topology.Topology.{Topology};
+ghost use Rattle.pipe_types.specs.{Sound.{IsSound}, declared.topology.Kind.{Kind}, declared.topology.StageSpec.{StageSpec}, declared.topology.Topology.{Topology}};
 ghost use Rattle.stage_bodies.specs.Seen.{BodySeen};
 ghost use Rattle.body_laws.specs.Ready.{IsFilled};
-ghost use Rattle.edge_names.specs.Seen.{EdgesSeen};
-ghost use Rattle.edge_names.specs.Gates.{ArePaces};
-ghost use Rattle.edge_names.specs.Supplies.{Feeds, FeedsProducers, by_name};
-ghost use Rattle.edge_names.specs.Opened.{AreHome, AreOpened};
+ghost use Rattle.edge_names.specs.{Seen.{EdgesSeen}, Gates.{ArePaces}, Supplies.{Feeds, FeedsProducers, by_name}, Opened.{AreHome, AreOpened}};
 ghost use Rattle.topology_needs.specs.Needs.{boxes_in as boxes_by_kind, shortage_of};
-ghost use Rattle.box_stock.specs.Homes.{Suffices};
-ghost use Rattle.box_stock.specs.Lends.{AreHandedOut, AreStillThere, CallbacksRemain};
-ghost use Rattle.box_stock.specs.declared.handing.Slip.{Slip};
+ghost use Rattle.box_stock.specs.{Homes.{Suffices}, Lends.{AreHandedOut, AreStillThere, CallbacksRemain}, declared.handing.Slip.{Slip}};
 
 mod arming;
 mod boxed;

@@ -1,14 +1,9 @@
 //! Tables of bodies, before anything is in them.
 
 ghost use Rattle.std.specs.Prelude.{◌≡◌, ◌≢◌, ◌<◌, ◌*◌, ◌==◌, if◌then◌else◌, ℕ, Some, None, length, IfOk};
-ghost use Rattle.pipe_types.specs.Sound.{IsSound, is_producer};
-ghost use Rattle.pipe_types.specs.Numbers.{post};
-ghost use Rattle.pipe_types.specs.Stages.{spec_of};
-ghost use Rattle.pipe_types.specs.declared.numbers.StageNo.{StageNo};
-ghost use Rattle.pipe_types.specs.declared.topology.StageSpec.{StageSpec};
+ghost use Rattle.pipe_types.specs.{Sound.{IsSound, is_producer}, Numbers.{post}, Stages.{spec_of}, declared.numbers.StageNo.{StageNo}, declared.topology.StageSpec.{StageSpec}};
 ghost use Rattle.pipe_types.specs.declared.topology.Role.TheVariants.{Producer};
-ghost use Rattle.stage_bodies.specs.Seen.{body_at};
-ghost use Rattle.stage_bodies.specs.Posts.{place_at};
+ghost use Rattle.stage_bodies.specs.{Seen.{body_at}, Posts.{place_at}};
 ghost use Rattle.box_stock.specs.Lends.{bare_body};
 
 use crate::boxed::{Boxed, Carries};

@@ -1,7 +1,6 @@
 //! The stages of a topology in their order.
 
-ghost use Rattle.std.specs.Prelude.{◌≡◌, ◌+◌, ◌<◌, ◌≤◌, ◌^◌, ◌++◌, length, map, IfOk, OnOk};
-ghost use Rattle.std.specs.Option.{ForSome};
+ghost use Rattle.std.specs.{Prelude.{◌≡◌, ◌+◌, ◌<◌, ◌≤◌, ◌^◌, ◌++◌, length, map, IfOk, OnOk}, Option.{ForSome}};
 ghost use Rattle.config_judge.specs.Judge as judge;
 ghost use Rattle.config_build.specs.Build as build;
 ghost use Rattle.config_build.specs.Limits as limits;

@@ -1,7 +1,6 @@
 //! Single stages.
 
-ghost use Rattle.std.specs.Prelude.{◌≡◌, ◌+◌, ◌<◌, ◌^◌, length, codes, IfOk};
-ghost use Rattle.std.specs.Option.{ForSome};
+ghost use Rattle.std.specs.{Prelude.{◌≡◌, ◌+◌, ◌<◌, ◌^◌, length, codes, IfOk}, Option.{ForSome}};
 ghost use Rattle.pipe_types.specs.Sound.{numbered_name};
 ghost use Rattle.config_build.specs.Build as build;
 

@@ -1,7 +1,6 @@
 //! The routes of rules.
 
-ghost use Rattle.std.specs.Prelude.{◌≡◌, length, option_map, IfOk};
-ghost use Rattle.std.specs.List.{list_any};
+ghost use Rattle.std.specs.{Prelude.{◌≡◌, length, option_map, IfOk}, List.{list_any}};
 ghost use Rattle.config_rule.specs.RuleText.{rule_of, form_rule};
 ghost use Rattle.config_table.specs.Fault.{least};
 ghost use Rattle.config_judge.specs.Judge as judge;

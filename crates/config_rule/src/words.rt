@@ -1,7 +1,6 @@
 //! The words and numbers of a rule's text.
 
-ghost use Rattle.std.specs.Prelude.{◌≡◌, ℕ, ◌-◌, ◌^◌, ◌≤◌, ◌==◌, min, option_map, position};
-ghost use Rattle.std.specs.List.{list_all};
+ghost use Rattle.std.specs.{Prelude.{◌≡◌, ℕ, ◌-◌, ◌^◌, ◌≤◌, ◌==◌, min, option_map, position}, List.{list_all}};
 ghost use Rattle.pipe_types.specs.Sound.{is_between};
 ghost use Rattle.config_rule.specs.RuleText.{at_space, digits_number, is_decimal, decimal_in as decimal_in_of};
 

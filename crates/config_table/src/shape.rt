@@ -1,7 +1,6 @@
 //! The texts that a key may hold.
 
-ghost use Rattle.std.specs.Prelude.{◌≡◌, ◌∷◌, [], ◌≤◌, length, position, bytes_eq, is_some, Some};
-ghost use Rattle.std.specs.List.{list_all};
+ghost use Rattle.std.specs.{Prelude.{◌≡◌, ◌∷◌, [], ◌≤◌, length, position, bytes_eq, is_some, Some}, List.{list_all}};
 ghost use Rattle.pipe_types.specs.Sound.{is_name as is_name_of, is_name_byte, is_reason, is_between};
 ghost use Rattle.config_rule.specs.RuleText.{rule_of};
 ghost use Rattle.config_table.specs.Shape.{fits as fits_of, word_place as word_place_of};

@@ -1,8 +1,7 @@
 //! What is wrong with a value at a key.
 
 ghost use Rattle.std.specs.Prelude.{◌≡◌, IfOk};
-ghost use Rattle.toml.specs.Data.{as_integer, as_str, as_array};
-ghost use Rattle.toml.specs.View.{view, items_view};
+ghost use Rattle.toml.specs.{Data.{as_integer, as_str, as_array}, View.{view, items_view}};
 ghost use Rattle.config_table.specs.Fault.{least, at_place as at_place_of};
 ghost use Rattle.config_table.specs.Values as values;
 

@@ -1,10 +1,8 @@
 //! The walk of a topology file: keys in byte order, arrays by position, depth first.
 
 ghost use Rattle.std.specs.Prelude.{◌≡◌, bytes_eq, flat_map, Some, IfOk};
-ghost use Rattle.toml.specs.Data.{as_array, as_table};
-ghost use Rattle.toml.specs.View.{view, items_view, table_view};
-ghost use Rattle.config_table.specs.Fault.{least};
-ghost use Rattle.config_table.specs.Format.{key_name};
+ghost use Rattle.toml.specs.{Data.{as_array, as_table}, View.{view, items_view, table_view}};
+ghost use Rattle.config_table.specs.{Fault.{least}, Format.{key_name}};
 ghost use Rattle.config_table.specs.Walk as walk;
 
 use crate::fault::{ConfigFault, at_place, copied, sooner, under};

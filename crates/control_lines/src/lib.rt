@@ -7,18 +7,10 @@
 #![tactic(auto)]
 
 ghost use Rattle.std.specs.Prelude.{◌≡◌, ◌∷◌, [], ℕ, List, true, false, IsTrue, IfSome, Option};
-ghost use Rattle.pipe_types.specs.declared.step.Step.{Step};
-ghost use Rattle.pipe_types.specs.declared.topology.Topology.{Topology};
-ghost use Rattle.pipe_types.specs.Numbers.{stage};
-ghost use Rattle.pipe_types.specs.Sound.{IsSound};
-ghost use Rattle.pipe_model.specs.History.{History};
-ghost use Rattle.pipe_model.specs.Legal.{is_legal, ends_source};
-ghost use Rattle.pipe_model.specs.Outside.{is_control};
+ghost use Rattle.pipe_types.specs.{declared.step.Step.{Step}, declared.topology.Topology.{Topology}, Numbers.{stage}, Sound.{IsSound}};
+ghost use Rattle.pipe_model.specs.{History.{History}, Legal.{is_legal, ends_source}, Outside.{is_control}};
 ghost use Rattle.stage_bodies.specs.Seen.{LineSeen};
-ghost use Rattle.control_lines.specs.Steps.{begins, AddsControl};
-ghost use Rattle.control_lines.specs.Keeping.{KeepsLines, KeepsControl, KeepsControlPartly, IsFresh};
-ghost use Rattle.control_lines.specs.Obeyed.{IsControlRead};
-ghost use Rattle.control_lines.specs.Rest.{LeavesAtRest};
+ghost use Rattle.control_lines.specs.{Steps.{begins, AddsControl}, Keeping.{KeepsLines, KeepsControl, KeepsControlPartly, IsFresh}, Obeyed.{IsControlRead}, Rest.{LeavesAtRest}};
 
 mod orders;
 mod reading;

@@ -1,14 +1,9 @@
 //! Control lines, and what they ask for.
 
-ghost use Rattle.std.specs.Prelude.{◌≡◌, ◌∷◌, ◌+◌, ◌++◌, ◌&&◌, ℕ, not, codes, false, IsOk, OnOk, OnErr, IsTrue, option_map};
-ghost use Rattle.std.specs.Str.{bytes_eq};
-ghost use Rattle.pipe_model.specs.History.{controls};
-ghost use Rattle.pipe_model.specs.Lives.{is_live};
-ghost use Rattle.pipe_model.specs.Legal.{happened, is_halt, is_drain, may_control};
-ghost use Rattle.pipe_model.specs.Outside.{control_reading, named_live};
+ghost use Rattle.std.specs.{Prelude.{◌≡◌, ◌∷◌, ◌+◌, ◌++◌, ◌&&◌, ℕ, not, codes, false, IsOk, OnOk, OnErr, IsTrue, option_map}, Str.{bytes_eq}};
+ghost use Rattle.pipe_model.specs.{History.{controls}, Lives.{is_live}, Legal.{happened, is_halt, is_drain, may_control}, Outside.{control_reading, named_live}};
 ghost use Rattle.core_state.specs.Stands.{Stands};
-ghost use Rattle.control_lines.specs.Orders.{step_for};
-ghost use Rattle.control_lines.specs.Steps.{is_kill};
+ghost use Rattle.control_lines.specs.{Orders.{step_for}, Steps.{is_kill}};
 
 use core_calls::asks::refuse;
 use core_kills::kills::kill;

@@ -2,15 +2,10 @@
 
 ghost use Rattle.std.specs.Prelude.{◌≡◌, [], false, nat_le, IsTrue, OnOk, OnErr, Option, option_map};
 ghost use Rattle.pipe_types.specs.Numbers.{stage};
-ghost use Rattle.pipe_model.specs.History.{controls};
-ghost use Rattle.pipe_model.specs.Legal.{happened, is_halt, has_ended, may_control};
+ghost use Rattle.pipe_model.specs.{History.{controls}, Legal.{happened, is_halt, has_ended, may_control}};
 ghost use Rattle.core_state.specs.Stands.{Stands};
-ghost use Rattle.stage_bodies.specs.Seen.{LineSeen, line_seen};
-ghost use Rattle.stage_bodies.specs.declared.job.Outcome.TheVariants.{Records};
-ghost use Rattle.control_lines.specs.Orders.{with_reading, IsReading};
-ghost use Rattle.control_lines.specs.Steps.{AddsControl};
-ghost use Rattle.control_lines.specs.Keeping.{KeepsLines, KeepsLinesOn, KeepsControl, KeepsControlOn};
-ghost use Rattle.control_lines.specs.Rest.{LeavesAtRest};
+ghost use Rattle.stage_bodies.specs.{Seen.{LineSeen, line_seen}, declared.job.Outcome.TheVariants.{Records}};
+ghost use Rattle.control_lines.specs.{Orders.{with_reading, IsReading}, Steps.{AddsControl}, Keeping.{KeepsLines, KeepsLinesOn, KeepsControl, KeepsControlOn}, Rest.{LeavesAtRest}};
 
 use crate::orders::obey_line;
 use body_jobs::fetch::fetch;

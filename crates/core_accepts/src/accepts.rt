@@ -1,9 +1,7 @@
 //! Accepts: records become messages that wait in their producer.
 
-ghost use Rattle.std.specs.Prelude.{◌≡◌, ◌∷◌, ◌++◌, ◌+◌, ◌<◌, ◌≤◌, ◌^◌, length, OnOk, IsTrue};
-ghost use Rattle.std.specs.VecDeque.{deque_len, deque_capacity};
-ghost use Rattle.pipe_model.specs.History.{bytes_in};
-ghost use Rattle.pipe_model.specs.Legal.{allows};
+ghost use Rattle.std.specs.{Prelude.{◌≡◌, ◌∷◌, ◌++◌, ◌+◌, ◌<◌, ◌≤◌, ◌^◌, length, OnOk, IsTrue}, VecDeque.{deque_len, deque_capacity}};
+ghost use Rattle.pipe_model.specs.{History.{bytes_in}, Legal.{allows}};
 ghost use Rattle.core_tables.specs.Tables.{spare_at};
 ghost use Rattle.core_laws.specs.Enrolled.{record_part, queued};
 ghost use Rattle.core_state.specs.Stands.{Holds, Stands};

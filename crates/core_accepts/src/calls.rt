@@ -2,9 +2,7 @@
 
 ghost use Rattle.std.specs.Prelude.{◌≡◌, ◌∷◌, [], ◌≤◌, ◌||◌, ◌==◌, length, map, All, None, true, false, not, OnOk, OnErr, IfOk, IfErr, IsTrue};
 ghost use Rattle.pipe_types.specs.Stages.{spec_of};
-ghost use Rattle.pipe_model.specs.Lives.{is_live};
-ghost use Rattle.pipe_model.specs.Flow.{is_batcher};
-ghost use Rattle.pipe_model.specs.Legal.{allows, owed, may_dispatch};
+ghost use Rattle.pipe_model.specs.{Lives.{is_live}, Flow.{is_batcher}, Legal.{allows, owed, may_dispatch}};
 ghost use Rattle.core_tables.specs.Tables.{spare_at, HasRoom as HasInboxRoom};
 ghost use Rattle.core_laws.specs.Enrolled.{record_part};
 ghost use Rattle.core_state.specs.Stands.{Holds, Stands};

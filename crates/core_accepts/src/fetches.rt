@@ -3,8 +3,7 @@
 ghost use Rattle.std.specs.Prelude.{◌≡◌, ◌∷◌, ◌+◌, ◌≤◌, IfOk, OnOk, OnErr, IsTrue};
 ghost use Rattle.pipe_model.specs.Legal.{allows, bound as bound_in};
 ghost use Rattle.core_laws.specs.Due.{booked};
-ghost use Rattle.core_state.specs.Room.{HaveRows};
-ghost use Rattle.core_state.specs.Stands.{Stands};
+ghost use Rattle.core_state.specs.{Room.{HaveRows}, Stands.{Stands}};
 ghost use Rattle.core_accepts.specs.Rooms.{pulled};
 
 use crate::limits::fetches_out;

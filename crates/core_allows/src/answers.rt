@@ -1,14 +1,9 @@
 //! Answers to jobs. What the handlers reply, write and end with is not tested.
 
 ghost use Rattle.std.specs.Prelude.{◌≡◌, ℕ, ◌&&◌, not, ◌==◌, IsTrue};
-ghost use Rattle.pipe_types.specs.declared.message.BatchEnd.{BatchEnd as End};
-ghost use Rattle.pipe_types.specs.declared.message.Reply.{Reply as ReplyValue};
-ghost use Rattle.pipe_types.specs.declared.step.Step.TheVariants.{Wrote, ChildEnd, Late};
-ghost use Rattle.pipe_types.specs.Numbers.{post};
-ghost use Rattle.pipe_model.specs.History.{incarnation as incarnation_as};
-ghost use Rattle.pipe_model.specs.Posts.{is_out, out_from};
-ghost use Rattle.pipe_model.specs.Lives.{is_live};
-ghost use Rattle.pipe_model.specs.Legal.{may_come};
+ghost use Rattle.pipe_types.specs.{declared.message.BatchEnd.{BatchEnd as End}, declared.message.Reply.{Reply as ReplyValue}};
+ghost use Rattle.pipe_types.specs.{declared.step.Step.TheVariants.{Wrote, ChildEnd, Late}, Numbers.{post}};
+ghost use Rattle.pipe_model.specs.{History.{incarnation as incarnation_as}, Posts.{is_out, out_from}, Lives.{is_live}, Legal.{may_come}};
 ghost use Rattle.core_state.specs.Stands.{Stands};
 ghost use Rattle.core_allows.specs.Tested.{may_be_written, may_child_end, may_be_late, late_form};
 

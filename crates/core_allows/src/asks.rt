@@ -2,8 +2,7 @@
 
 ghost use Rattle.std.specs.Prelude.{◌≡◌};
 ghost use Rattle.pipe_types.specs.declared.step.Step.TheVariants.{Ask};
-ghost use Rattle.pipe_model.specs.Ledger.{due};
-ghost use Rattle.pipe_model.specs.Legal.{may_come};
+ghost use Rattle.pipe_model.specs.{Ledger.{due}, Legal.{may_come}};
 ghost use Rattle.core_state.specs.Stands.{Stands};
 
 use core_state::Core;

@@ -1,11 +1,8 @@
 //! Children of a supervisor.
 
 ghost use Rattle.std.specs.Prelude.{◌≡◌, slice_get, option_map, if◌then◌else◌, ◌&&◌, ◌==◌, nat_le, nat_lt};
-ghost use Rattle.pipe_types.specs.declared.step.Step.TheVariants.{Child};
-ghost use Rattle.pipe_types.specs.Stages.{spec_of};
-ghost use Rattle.pipe_model.specs.Posts.{in_slot};
-ghost use Rattle.pipe_model.specs.Flow.{inbox, is_number};
-ghost use Rattle.pipe_model.specs.Legal.{may_come, runs_number, max_of, first_unit as first_number};
+ghost use Rattle.pipe_types.specs.{declared.step.Step.TheVariants.{Child}, Stages.{spec_of}};
+ghost use Rattle.pipe_model.specs.{Posts.{in_slot}, Flow.{inbox, is_number}, Legal.{may_come, runs_number, max_of, first_unit as first_number}};
 ghost use Rattle.core_laws.specs.Columns.{child_row};
 ghost use Rattle.core_state.specs.Stands.{Stands, child_of};
 ghost use Rattle.core_allows.specs.Rows.{starts_by};

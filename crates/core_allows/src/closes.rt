@@ -2,8 +2,7 @@
 
 ghost use Rattle.std.specs.Prelude.{◌≡◌, ◌≤◌, ◌&&◌, ◌==◌, true, Some};
 ghost use Rattle.pipe_types.specs.declared.step.Step.TheVariants.{Close};
-ghost use Rattle.pipe_model.specs.Flow.{closing, view_of, first_in};
-ghost use Rattle.pipe_model.specs.Legal.{may_come, has_role, is_batcher_role, trigger_of, same_trigger};
+ghost use Rattle.pipe_model.specs.{Flow.{closing, view_of, first_in}, Legal.{may_come, has_role, is_batcher_role, trigger_of, same_trigger}};
 ghost use Rattle.core_state.specs.Stands.{Stands};
 
 use crate::rows::is_batcher;

@@ -1,10 +1,8 @@
 //! Replies to the chunk of a processor. What the handlers reply is not tested.
 
 ghost use Rattle.std.specs.Prelude.{◌≡◌, ◌==◌, length, slice_get, IsTrue};
-ghost use Rattle.pipe_types.specs.declared.step.Step.TheVariants.{Done};
-ghost use Rattle.pipe_types.specs.Handlers.{is_crashed};
-ghost use Rattle.pipe_model.specs.Flow.{chunk_by, view_of};
-ghost use Rattle.pipe_model.specs.Legal.{may_come};
+ghost use Rattle.pipe_types.specs.{declared.step.Step.TheVariants.{Done}, Handlers.{is_crashed}};
+ghost use Rattle.pipe_model.specs.{Flow.{chunk_by, view_of}, Legal.{may_come}};
 ghost use Rattle.core_tables.specs.Tables.{list_in};
 ghost use Rattle.core_state.specs.Stands.{Stands};
 ghost use Rattle.core_allows.specs.Tested.{may_be_done, answers_each};

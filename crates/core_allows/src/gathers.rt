@@ -1,11 +1,8 @@
 //! Whether a batcher may gather what stands first in its inbox.
 
 ghost use Rattle.std.specs.Prelude.{◌≡◌, ◌≤◌, ◌&&◌, ◌==◌, nat_le, Some};
-ghost use Rattle.pipe_types.specs.declared.step.Step.TheVariants.{Gather};
-ghost use Rattle.pipe_types.specs.Stages.{spec_of};
-ghost use Rattle.pipe_model.specs.Content.{key_in, content};
-ghost use Rattle.pipe_model.specs.Flow.{inbox, open_batch_by, view_of};
-ghost use Rattle.pipe_model.specs.Legal.{may_come, lets_in, has_room, first_unit as first_number};
+ghost use Rattle.pipe_types.specs.{declared.step.Step.TheVariants.{Gather}, Stages.{spec_of}};
+ghost use Rattle.pipe_model.specs.{Content.{key_in, content}, Flow.{inbox, open_batch_by, view_of}, Legal.{may_come, lets_in, has_room, first_unit as first_number}};
 ghost use Rattle.core_state.specs.Stands.{Stands};
 
 use crate::rows::is_batcher;

@@ -1,8 +1,7 @@
 //! Kills by control lines, restarts, and the halt.
 
 ghost use Rattle.std.specs.Prelude.{◌≡◌, Some};
-ghost use Rattle.pipe_types.specs.declared.step.Step.TheVariants.{Kill, Restart, Halt};
-ghost use Rattle.pipe_types.specs.Stages.{spec_of};
+ghost use Rattle.pipe_types.specs.{declared.step.Step.TheVariants.{Kill, Restart, Halt}, Stages.{spec_of}};
 ghost use Rattle.pipe_model.specs.Legal.{may_come};
 ghost use Rattle.core_state.specs.Stands.{Stands};
 ghost use Rattle.core_allows.specs.Lives.{does_halt};

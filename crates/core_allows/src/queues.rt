@@ -1,10 +1,8 @@
 //! What a stage takes out of its inbox.
 
 ghost use Rattle.std.specs.Prelude.{◌≡◌, ◌||◌, not, length, nat_lt, slice_get, Some};
-ghost use Rattle.pipe_types.specs.declared.step.Step.TheVariants.{Take};
-ghost use Rattle.pipe_types.specs.Stages.{spec_of};
-ghost use Rattle.pipe_model.specs.Flow.{inbox, units_on};
-ghost use Rattle.pipe_model.specs.Legal.{may_come, has_role, takes_role, first_sub, chunk_size, feeds_batchers, has_room};
+ghost use Rattle.pipe_types.specs.{declared.step.Step.TheVariants.{Take}, Stages.{spec_of}};
+ghost use Rattle.pipe_model.specs.{Flow.{inbox, units_on}, Legal.{may_come, has_role, takes_role, first_sub, chunk_size, feeds_batchers, has_room}};
 ghost use Rattle.core_tables.specs.Tables.{items_in};
 ghost use Rattle.core_state.specs.Stands.{Stands};
 

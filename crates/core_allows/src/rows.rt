@@ -2,8 +2,7 @@
 
 ghost use Rattle.std.specs.Prelude.{◌≡◌, ◌&&◌, ◌==◌, slice_get};
 ghost use Rattle.pipe_types.specs.Numbers.{stage as control, post};
-ghost use Rattle.pipe_model.specs.History.{controls};
-ghost use Rattle.pipe_model.specs.Posts.{is_out, out_from};
+ghost use Rattle.pipe_model.specs.{History.{controls}, Posts.{is_out, out_from}};
 ghost use Rattle.pipe_model.specs.Legal.{has_role, is_producer_role, is_processor_role, is_batch_processor_role, is_supervisor_role, is_batcher_role, is_current, fetch_out, has_ended, may_control};
 ghost use Rattle.core_state.specs.Stands.{Stands};
 ghost use Rattle.core_allows.specs.Rows.{from_by, fetched_by};

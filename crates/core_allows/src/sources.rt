@@ -1,13 +1,8 @@
 //! What a source answers: records, that it has nothing now, or that it has ended.
 
-ghost use Rattle.std.specs.Prelude.{◌≡◌, ◌&&◌, not, ◌==◌, nat_le, length};
-ghost use Rattle.std.specs.List.{list_all};
-ghost use Rattle.pipe_types.specs.declared.step.Step.TheVariants.{Accept, Quiet, SourceEnd};
-ghost use Rattle.pipe_types.specs.Lines.{max_bytes};
-ghost use Rattle.pipe_types.specs.Numbers.{stage as control};
-ghost use Rattle.pipe_model.specs.History.{controls};
-ghost use Rattle.pipe_model.specs.Lives.{is_live};
-ghost use Rattle.pipe_model.specs.Legal.{may_come, are_records, has_role, is_producer_role, is_current, is_limit, same_truth, has_ended};
+ghost use Rattle.std.specs.{Prelude.{◌≡◌, ◌&&◌, not, ◌==◌, nat_le, length}, List.{list_all}};
+ghost use Rattle.pipe_types.specs.{declared.step.Step.TheVariants.{Accept, Quiet, SourceEnd}, Lines.{max_bytes}, Numbers.{stage as control}};
+ghost use Rattle.pipe_model.specs.{History.{controls}, Lives.{is_live}, Legal.{may_come, are_records, has_role, is_producer_role, is_current, is_limit, same_truth, has_ended}};
 ghost use Rattle.core_state.specs.Stands.{Stands};
 
 use crate::rows::{MOST_CONTROLS, controls, fetch_out, has_control_ended, is_current, is_producer};

@@ -1,10 +1,8 @@
 //! A batcher closes an open batch.
 
 ghost use Rattle.std.specs.Prelude.{◌≡◌, ◌∷◌, ◌+◌, IfOk, OnOk, OnErr, IsTrue};
-ghost use Rattle.pipe_types.specs.declared.message.Trigger.{Trigger};
-ghost use Rattle.pipe_types.specs.Numbers.{batch_no};
-ghost use Rattle.pipe_model.specs.History.{closed};
-ghost use Rattle.pipe_model.specs.Legal.{allows, is_dry};
+ghost use Rattle.pipe_types.specs.{declared.message.Trigger.{Trigger}, Numbers.{batch_no}};
+ghost use Rattle.pipe_model.specs.{History.{closed}, Legal.{allows, is_dry}};
 ghost use Rattle.core_state.specs.Stands.{Stands};
 ghost use Rattle.core_batches.specs.Closes.{MayClose};
 

@@ -2,8 +2,7 @@
 
 ghost use Rattle.std.specs.Prelude.{◌≡◌, ◌∷◌, IfOk, OnErr, IsTrue};
 ghost use Rattle.pipe_types.specs.Numbers.{message_no};
-ghost use Rattle.pipe_model.specs.Flow.{inbox};
-ghost use Rattle.pipe_model.specs.Legal.{allows, first_unit as first_number};
+ghost use Rattle.pipe_model.specs.{Flow.{inbox}, Legal.{allows, first_unit as first_number}};
 ghost use Rattle.core_state.specs.Stands.{Stands};
 
 use crate::rows::{count_handled, drop_first, first_unit, join_open, place_gathered};

@@ -1,11 +1,9 @@
 //! What a call of a batcher makes of one row.
 
 ghost use Rattle.std.specs.Prelude.{◌≡◌, ℕ, ◌+◌, ◌-◌, ◌<◌, ◌≤◌, suc, length, drop, slice_get, vec_capacity, option_map, if◌then◌else◌, ◌==◌, Some, IsTrue, IfSome, OnOk, OnErr};
-ghost use Rattle.pipe_types.specs.declared.numbers.StageNo.{StageNo as Stage};
-ghost use Rattle.pipe_types.specs.declared.message.Place.TheVariants.{Gathered};
+ghost use Rattle.pipe_types.specs.{declared.numbers.StageNo.{StageNo as Stage}, declared.message.Place.TheVariants.{Gathered}};
 ghost use Rattle.pipe_model.specs.Content.{key_in};
-ghost use Rattle.pipe_journal.specs.Items.{message_seen, reply_seen};
-ghost use Rattle.pipe_journal.specs.Readers.{reply_at};
+ghost use Rattle.pipe_journal.specs.{Items.{message_seen, reply_seen}, Readers.{reply_at}};
 ghost use Rattle.batcher.specs.Batches.{fits};
 ghost use Rattle.stage_subs.specs.Subs.{row_of, IsChanged};
 ghost use Rattle.core_tables.specs.Tables.{queue_at};

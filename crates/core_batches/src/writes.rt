@@ -1,8 +1,7 @@
 //! A batch processor answers its batch.
 
 ghost use Rattle.std.specs.Prelude.{◌≡◌, ◌∷◌, ◌≤◌, ◌<◌, ◌==◌, ℕ, List, length, vec_capacity, false, IsOk, IsTrue};
-ghost use Rattle.pipe_types.specs.declared.numbers.StageNo.{StageNo as Stage};
-ghost use Rattle.pipe_types.specs.declared.message.Outcome.{Outcome as OutcomeSeen};
+ghost use Rattle.pipe_types.specs.{declared.numbers.StageNo.{StageNo as Stage}, declared.message.Outcome.{Outcome as OutcomeSeen}};
 ghost use Rattle.pipe_types.specs.declared.message.BatchEnd.TheVariants.{Outcomes};
 ghost use Rattle.pipe_model.specs.Legal.{allows};
 ghost use Rattle.core_tables.specs.Tables.{room_at};

@@ -4,8 +4,7 @@ ghost use Rattle.std.specs.Prelude.{◌≡◌, false, IfOk, IfSome, IsTrue};
 ghost use Rattle.pipe_types.specs.Sound.{IsSound};
 ghost use Rattle.pipe_model.specs.Legal.{allows as allows_by, happened, is_halt};
 ghost use Rattle.move_laws.specs.NextMoves.{IsLegalMove};
-ghost use Rattle.core_moves.specs.Moves.{seen_as};
-ghost use Rattle.core_moves.specs.declared.moves.Move.TheVariants.{Pause};
+ghost use Rattle.core_moves.specs.{Moves.{seen_as}, declared.moves.Move.TheVariants.{Pause}};
 ghost use Rattle.core_state.specs.Stands.{Stands};
 ghost use Rattle.core_jobs.specs.Steps.{is_own_step};
 

@@ -1,7 +1,6 @@
 //! Topologies in memory whose stages have limits on restarts of their own, which no topology file tells.
 
-ghost use Rattle.std.specs.Prelude.{◌≡◌, map, nat_lt, IfOk, IfSome};
-ghost use Rattle.std.specs.List.{list_all};
+ghost use Rattle.std.specs.{Prelude.{◌≡◌, map, nat_lt, IfOk, IfSome}, List.{list_all}};
 ghost use Rattle.pipe_types.specs.Sound.{IsSound, are_limits as are_limits_of, is_limit as is_limit_of};
 ghost use Rattle.core_checks.specs.Limits.{bare};
 

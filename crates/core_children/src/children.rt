@@ -2,16 +2,12 @@
 
 ghost use Rattle.std.specs.Prelude.{◌≡◌, ◌∷◌, ◌≤◌, ◌<◌, ℕ, length, Some, None, is_some, true, IfOk, OnOk, OnErr, IsTrue};
 ghost use Rattle.pipe_types.specs.declared.numbers.StageNo.{StageNo as Stage};
-ghost use Rattle.pipe_model.specs.Content.{content};
-ghost use Rattle.pipe_model.specs.Posts.{in_slot};
-ghost use Rattle.pipe_model.specs.Flow.{inbox};
-ghost use Rattle.pipe_model.specs.Legal.{allows, runs_number, first_unit};
+ghost use Rattle.pipe_model.specs.{Content.{content}, Posts.{in_slot}, Flow.{inbox}, Legal.{allows, runs_number, first_unit}};
 ghost use Rattle.consumer_sup.specs.Children.{alive};
 ghost use Rattle.core_tables.specs.Tables.{queue_at, list_at, room_at};
 ghost use Rattle.core_state.specs.Stands.{Stands, Holds, child_at};
 ghost use Rattle.core_laws.specs.Columns.{sub_first};
-ghost use Rattle.core_children.specs.Slots.{slots_at};
-ghost use Rattle.core_children.specs.Starts.{may_start_child};
+ghost use Rattle.core_children.specs.{Slots.{slots_at}, Starts.{may_start_child}};
 
 use crate::slots::slot_again;
 use crate::starts::{start_again, start_first};

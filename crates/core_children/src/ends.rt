@@ -2,8 +2,7 @@
 
 ghost use Rattle.std.specs.Prelude.{◌≡◌, ℕ, suc, ◌<◌, ◌≤◌, ◌==◌, ◌&&◌, not, filter, if◌then◌else◌, slice_get, length, vec_capacity, Some};
 ghost use Rattle.pipe_types.specs.declared.numbers.StageNo.{StageNo as Stage};
-ghost use Rattle.pipe_model.specs.Flow.{child_place};
-ghost use Rattle.pipe_model.specs.Ledger.{crashed_reply};
+ghost use Rattle.pipe_model.specs.{Flow.{child_place}, Ledger.{crashed_reply}};
 ghost use Rattle.core_tables.specs.Tables.{list_at};
 
 use pipe_types::message::{Loss, Outcome, Place, Reply, Why};

@@ -1,13 +1,10 @@
 //! The slots of a supervisor.
 
 ghost use Rattle.std.specs.Prelude.{◌≡◌, ◌<◌, ℕ, length, if◌then◌else◌, ◌==◌, ◌&&◌, slice_get, option_map, Some, None, IfSome, IsSome};
-ghost use Rattle.pipe_types.specs.declared.numbers.StageNo.{StageNo as Stage};
-ghost use Rattle.pipe_types.specs.Children.{runs_again};
+ghost use Rattle.pipe_types.specs.{declared.numbers.StageNo.{StageNo as Stage}, Children.{runs_again}};
 ghost use Rattle.consumer_sup.specs.Children.{alive, Slots, child_in};
-ghost use Rattle.core_state.specs.Stands.{child_at};
-ghost use Rattle.core_state.specs.Readings.{out_in};
-ghost use Rattle.core_children.specs.Slots.{slots_at, left_in, is_again};
-ghost use Rattle.core_children.specs.Starts.{again_in};
+ghost use Rattle.core_state.specs.{Stands.{child_at}, Readings.{out_in}};
+ghost use Rattle.core_children.specs.{Slots.{slots_at, left_in, is_again}, Starts.{again_in}};
 
 use consumer_sup::{ChildEnd, Children};
 use core_tables::posts::SLOTS;

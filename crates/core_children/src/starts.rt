@@ -1,12 +1,9 @@
 //! The commits of a child's start.
 
 ghost use Rattle.std.specs.Prelude.{◌≡◌, ◌∷◌, ◌≤◌, ◌<◌, ℕ, ◌==◌, if◌then◌else◌, slice_get, length, Some, None, IsTrue};
-ghost use Rattle.pipe_model.specs.Posts.{in_slot};
-ghost use Rattle.pipe_model.specs.Flow.{inbox};
-ghost use Rattle.pipe_model.specs.Legal.{allows, runs_number};
+ghost use Rattle.pipe_model.specs.{Posts.{in_slot}, Flow.{inbox}, Legal.{allows, runs_number}};
 ghost use Rattle.consumer_sup.specs.Children.{alive};
-ghost use Rattle.core_tables.specs.Rows.{post_at};
-ghost use Rattle.core_tables.specs.Tables.{room_at};
+ghost use Rattle.core_tables.specs.{Rows.{post_at}, Tables.{room_at}};
 ghost use Rattle.core_state.specs.Stands.{Holds, child_at};
 ghost use Rattle.core_laws.specs.Columns.{sub_first};
 ghost use Rattle.core_takes.specs.Takes.{out_of};

@@ -1,13 +1,8 @@
 //! Handlers that crashed: the answer, and the kill that it owes.
 
-ghost use Rattle.std.specs.Prelude.{◌≡◌, ◌∷◌, Some, IsTrue};
-ghost use Rattle.std.specs.List.{list_any};
-ghost use Rattle.pipe_types.specs.declared.message.BatchEnd.TheVariants.{Crashed};
-ghost use Rattle.pipe_types.specs.declared.message.Why.TheVariants.{Crash};
-ghost use Rattle.pipe_types.specs.declared.step.Step.TheVariants.{Done, Wrote, Kill};
-ghost use Rattle.pipe_model.specs.Content.{has_crash};
-ghost use Rattle.pipe_model.specs.Ledger.{crashed_reply};
-ghost use Rattle.pipe_model.specs.Legal.{allows, owed, is_crash_of};
+ghost use Rattle.std.specs.{Prelude.{◌≡◌, ◌∷◌, Some, IsTrue}, List.{list_any}};
+ghost use Rattle.pipe_types.specs.{declared.message.BatchEnd.TheVariants.{Crashed}, declared.message.Why.TheVariants.{Crash}, declared.step.Step.TheVariants.{Done, Wrote, Kill}};
+ghost use Rattle.pipe_model.specs.{Content.{has_crash}, Ledger.{crashed_reply}, Legal.{allows, owed, is_crash_of}};
 ghost use Rattle.core_state.specs.Stands.{Holds, Stands};
 ghost use Rattle.stage_bodies.specs.Posts.{is_crashed_end};
 

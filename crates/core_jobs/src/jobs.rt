@@ -2,8 +2,7 @@
 
 ghost use Rattle.std.specs.Prelude.{◌≡◌, true, false, IfOk, OnErr, IsTrue};
 ghost use Rattle.pipe_types.specs.declared.step.Step.TheVariants.{Fetch};
-ghost use Rattle.pipe_model.specs.Jobs.{may_take_next};
-ghost use Rattle.pipe_model.specs.Legal.{allows, bound, has_role, is_producer_role, is_supervisor_role};
+ghost use Rattle.pipe_model.specs.{Jobs.{may_take_next}, Legal.{allows, bound, has_role, is_producer_role, is_supervisor_role}};
 ghost use Rattle.move_laws.specs.NextMoves.{MayBegin};
 ghost use Rattle.core_state.specs.Stands.{Stands};
 ghost use Rattle.core_children.specs.Starts.{may_start_child};

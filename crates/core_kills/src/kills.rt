@@ -1,10 +1,8 @@
 //! The calls that kill.
 
 ghost use Rattle.std.specs.Prelude.{◌≡◌, ◌∷◌, ◌+◌, ◌≤◌, length, true, OnOk, OnErr, IsOk, IsTrue};
-ghost use Rattle.pipe_types.specs.declared.numbers.StageNo.{StageNo as Stage};
-ghost use Rattle.pipe_types.specs.declared.step.Step.TheVariants.{Kill as KillStep, Halt as HaltStep};
-ghost use Rattle.pipe_model.specs.Lives.{reason_in, kill_set};
-ghost use Rattle.pipe_model.specs.Legal.{allows};
+ghost use Rattle.pipe_types.specs.{declared.numbers.StageNo.{StageNo as Stage}, declared.step.Step.TheVariants.{Kill as KillStep, Halt as HaltStep}};
+ghost use Rattle.pipe_model.specs.{Lives.{reason_in, kill_set}, Legal.{allows}};
 ghost use Rattle.core_state.specs.Stands.{Holds, Stands, totals_of};
 ghost use Rattle.core_deaths.specs.Reasons.{reason_at, is_killing};
 ghost use Rattle.core_laws.specs.Due.{due_steps};

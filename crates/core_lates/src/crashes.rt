@@ -4,8 +4,7 @@
 //! and is the step that comes next.
 
 ghost use Rattle.std.specs.Prelude.{◌≡◌, ◌∷◌, Some, IsTrue};
-ghost use Rattle.pipe_model.specs.Content.{has_crash};
-ghost use Rattle.pipe_model.specs.Legal.{allows, owed, is_crash_of};
+ghost use Rattle.pipe_model.specs.{Content.{has_crash}, Legal.{allows, owed, is_crash_of}};
 ghost use Rattle.core_state.specs.Stands.{Holds};
 
 use core_state::Core;

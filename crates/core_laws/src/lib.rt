@@ -5,18 +5,9 @@
 #![tactic(auto)]
 
 ghost use Rattle.std.specs.Prelude.{◌≡◌, ℕ, Some, IsTrue};
-ghost use Rattle.pipe_types.specs.declared.numbers.StageNo.{StageNo};
-ghost use Rattle.pipe_types.specs.declared.topology.Topology.{Topology};
-ghost use Rattle.pipe_model.specs.History.{History};
-ghost use Rattle.pipe_types.specs.declared.numbers.SubNo.{SubNo};
-ghost use Rattle.pipe_types.specs.Numbers.{same_sub};
-ghost use Rattle.pipe_types.specs.Sound.{IsSound};
-ghost use Rattle.pipe_model.specs.Flow.{sent_to};
-ghost use Rattle.pipe_model.specs.Ledger.{came_on};
-ghost use Rattle.pipe_model.specs.Legal.{is_legal};
-ghost use Rattle.pipe_model.specs.Posts.{in_slot};
-ghost use Rattle.core_laws.specs.Columns.{child_row, came};
-ghost use Rattle.core_laws.specs.Slots.{child_in_slot};
+ghost use Rattle.pipe_types.specs.{declared.numbers.StageNo.{StageNo}, declared.topology.Topology.{Topology}, declared.numbers.SubNo.{SubNo}, Numbers.{same_sub}, Sound.{IsSound}};
+ghost use Rattle.pipe_model.specs.{History.{History}, Flow.{sent_to}, Ledger.{came_on}, Legal.{is_legal}, Posts.{in_slot}};
+ghost use Rattle.core_laws.specs.{Columns.{child_row, came}, Slots.{child_in_slot}};
 
 /// The child of a slot is the message that was last started there, while it runs, with its crashes.
 #[tactic(auto, using(crate::proofs::Children::child_is))]

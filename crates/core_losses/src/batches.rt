@@ -1,15 +1,11 @@
 //! The batches that a kill takes with it.
 
 ghost use Rattle.std.specs.Prelude.{◌≡◌, ◌==◌, ◌*◌, ◌<◌, ◌^◌, ◌&&◌, ℕ, suc, List, All, false, true, not, is_some, length, map, slice_get, option_map, None, Some, IfSome, if◌then◌else◌, vec_capacity};
-ghost use Rattle.pipe_model.specs.Flow.{among, by_batch};
-ghost use Rattle.pipe_model.specs.Standing.{going};
-ghost use Rattle.pipe_model.specs.Legal.{is_batcher_role};
-ghost use Rattle.message_ack.specs.Ends.{sent_in, IsSettledBy};
-ghost use Rattle.message_ack.specs.declared.legs.Settled.{Settled as SettledSeen};
+ghost use Rattle.pipe_model.specs.{Flow.{among, by_batch}, Standing.{going}, Legal.{is_batcher_role}};
+ghost use Rattle.message_ack.specs.{Ends.{sent_in, IsSettledBy}, declared.legs.Settled.{Settled as SettledSeen}};
 ghost use Rattle.core_laws.specs.Columns.{ends_on, ends_in_progress};
 ghost use Rattle.core_deaths.specs.Reasons.{reason_at};
-ghost use Rattle.core_losses.specs.Losses.{incarnation_at, loss_in};
-ghost use Rattle.core_losses.specs.Legs.{LegsSeen};
+ghost use Rattle.core_losses.specs.{Losses.{incarnation_at, loss_in}, Legs.{LegsSeen}};
 ghost use Rattle.core_losses.specs.Batches.{drop_at, drop_in, drop_due, drop_of, BatchSeen, BatchesSeen, batch_lost, fate_legs, ended_in, marked_in, after_kill, left_batch};
 
 use crate::ends::end_all;

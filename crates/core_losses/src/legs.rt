@@ -2,13 +2,11 @@
 
 ghost use Rattle.std.specs.Prelude.{◌≡◌, ◌==◌, ◌*◌, ◌&&◌, ℕ, List, false, true, not, is_some, length, slice_get, None, IfSome, if◌then◌else◌};
 ghost use Rattle.pipe_types.specs.declared.numbers.SubNo.{SubNo as Sub};
-ghost use Rattle.pipe_model.specs.Batches.{Leg, Sent};
-ghost use Rattle.pipe_model.specs.Standing.{has_entry, going};
+ghost use Rattle.pipe_model.specs.{Batches.{Leg, Sent}, Standing.{has_entry, going}};
 ghost use Rattle.message_ack.specs.Ends.{sent_in};
 ghost use Rattle.core_laws.specs.Columns.{ends_on};
 ghost use Rattle.core_deaths.specs.Reasons.{reason_at};
-ghost use Rattle.core_losses.specs.Losses.{incarnation_at, loss_in};
-ghost use Rattle.core_losses.specs.Legs.{works_in, loss_if, leg_due, leg_loss, IsOpenEnd, lost_at, SettledAs, LegsSeen, legs_after};
+ghost use Rattle.core_losses.specs.{Losses.{incarnation_at, loss_in}, Legs.{works_in, loss_if, leg_due, leg_loss, IsOpenEnd, lost_at, SettledAs, LegsSeen, legs_after}};
 
 use crate::messages::loss_of;
 use core_tables::posts::SLOTS;

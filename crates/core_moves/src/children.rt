@@ -1,12 +1,8 @@
 //! Whether a child may start in a supervisor.
 
 ghost use Rattle.std.specs.Prelude.{◌≡◌, ◌<◌, ◌&&◌, ◌||◌, nat_lt, nat_le, Some, false, slice_get, is_some};
-ghost use Rattle.pipe_types.specs.declared.step.Step.TheVariants.{Child};
-ghost use Rattle.pipe_types.specs.Numbers.{message_no};
-ghost use Rattle.pipe_types.specs.Stages.{spec_of};
-ghost use Rattle.pipe_model.specs.Flow.{inbox};
-ghost use Rattle.pipe_model.specs.Legal.{allows, happened, is_halt, first_unit as first_number};
-ghost use Rattle.pipe_model.specs.Moves.{has_child, next_in_slot};
+ghost use Rattle.pipe_types.specs.{declared.step.Step.TheVariants.{Child}, Numbers.{message_no}, Stages.{spec_of}};
+ghost use Rattle.pipe_model.specs.{Flow.{inbox}, Legal.{allows, happened, is_halt, first_unit as first_number}, Moves.{has_child, next_in_slot}};
 ghost use Rattle.core_laws.specs.Columns.{child_row};
 ghost use Rattle.core_state.specs.Stands.{Stands, child_of};
 ghost use Rattle.core_moves.specs.Children.{starts_now, has_message_now};

@@ -2,9 +2,7 @@
 
 ghost use Rattle.std.specs.Prelude.{◌≡◌, true, Some, option_map};
 ghost use Rattle.pipe_types.specs.Stages.{spec_of};
-ghost use Rattle.pipe_model.specs.Legal.{is_batcher_role};
-ghost use Rattle.pipe_model.specs.Moves.{closable, first_closable};
-ghost use Rattle.pipe_model.specs.Standing.{gathered_in};
+ghost use Rattle.pipe_model.specs.{Legal.{is_batcher_role}, Moves.{closable, first_closable}, Standing.{gathered_in}};
 ghost use Rattle.core_state.specs.Stands.{Stands};
 ghost use Rattle.core_moves.specs.Closes.{closing_move};
 

@@ -4,11 +4,8 @@
 //! nothing more comes to its batcher, then its timeout.
 
 ghost use Rattle.std.specs.Prelude.{◌≡◌, ◌∷◌, ◌+◌, IfOk, OnOk, OnErr, IsTrue};
-ghost use Rattle.pipe_types.specs.declared.message.Trigger.{Trigger};
-ghost use Rattle.pipe_types.specs.declared.step.Step.TheVariants.{Close};
-ghost use Rattle.pipe_types.specs.Numbers.{batch_no};
-ghost use Rattle.pipe_model.specs.History.{closed};
-ghost use Rattle.pipe_model.specs.Legal.{allows};
+ghost use Rattle.pipe_types.specs.{declared.message.Trigger.{Trigger}, declared.step.Step.TheVariants.{Close}, Numbers.{batch_no}};
+ghost use Rattle.pipe_model.specs.{History.{closed}, Legal.{allows}};
 ghost use Rattle.core_state.specs.Stands.{Stands};
 ghost use Rattle.core_batches.specs.Closes.{MayClose};
 

@@ -1,20 +1,13 @@
 //! Whether a dispatch of a stage sends, serves or loses anything.
 
-ghost use Rattle.std.specs.Prelude.{◌≡◌, ◌&&◌, ◌||◌, ◌==◌, not, Some, true, length, map, slice_get, is_some, option_map, ◌≤◌};
-ghost use Rattle.std.specs.List.{list_any, list_all};
-ghost use Rattle.pipe_types.specs.declared.topology.Dispatch.TheVariants.{Broadcast, Partition};
-ghost use Rattle.pipe_types.specs.Dispatchers.{ByDemand, ByBroadcast, ByPartition, served_as};
-ghost use Rattle.pipe_types.specs.Stages.{spec_of};
-ghost use Rattle.pipe_model.specs.Lives.{is_live};
-ghost use Rattle.pipe_model.specs.Content.{key_in};
-ghost use Rattle.pipe_model.specs.Flow.{is_empty, batch, batch_waits_in, waiting, rooms_by, picks_by, view_of};
-ghost use Rattle.pipe_model.specs.Legal.{may_dispatch};
+ghost use Rattle.std.specs.{Prelude.{◌≡◌, ◌&&◌, ◌||◌, ◌==◌, not, Some, true, length, map, slice_get, is_some, option_map, ◌≤◌}, List.{list_any, list_all}};
+ghost use Rattle.pipe_types.specs.{declared.topology.Dispatch.TheVariants.{Broadcast, Partition}, Dispatchers.{ByDemand, ByBroadcast, ByPartition, served_as}, Stages.{spec_of}};
+ghost use Rattle.pipe_model.specs.{Lives.{is_live}, Content.{key_in}, Flow.{is_empty, batch, batch_waits_in, waiting, rooms_by, picks_by, view_of}, Legal.{may_dispatch}};
 ghost use Rattle.pipe_journal.specs.Items.{message_seen};
 ghost use Rattle.core_tables.specs.Tables.{items_in};
 ghost use Rattle.core_laws.specs.Columns.{waiting_parts};
 ghost use Rattle.core_state.specs.Stands.{Stands};
-ghost use Rattle.core_sends.specs.Rooms.{room_between, marks_of};
-ghost use Rattle.core_sends.specs.Picks.{picks_key};
+ghost use Rattle.core_sends.specs.{Rooms.{room_between, marks_of}, Picks.{picks_key}};
 ghost use Rattle.core_moves.specs.Sends.{goes_some, is_over, is_open_in, is_held_in, is_let_in, wants_in, first_number};
 
 use core_rows::rests::is_waiting_empty;

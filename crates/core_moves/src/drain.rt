@@ -2,8 +2,7 @@
 
 ghost use Rattle.std.specs.Prelude.{◌≡◌, ◌<◌, ◌∷◌, OnOk, OnErr, IsTrue};
 ghost use Rattle.pipe_types.specs.declared.step.DrainCause.TheVariants.{Control};
-ghost use Rattle.pipe_model.specs.History.{controls_after};
-ghost use Rattle.pipe_model.specs.Legal.{allows};
+ghost use Rattle.pipe_model.specs.{History.{controls_after}, Legal.{allows}};
 ghost use Rattle.core_state.specs.Stands.{Stands};
 
 use core_state::{Core, MOST_DUE};

@@ -1,10 +1,8 @@
 //! The first stage for which a step or a job comes next.
 
 ghost use Rattle.std.specs.Prelude.{◌≡◌, ◌&&◌, ◌||◌, find, option_map, reverse, false, Some};
-ghost use Rattle.pipe_types.specs.declared.step.Step.TheVariants.{Fetch};
-ghost use Rattle.pipe_types.specs.Stages.{spec_of};
-ghost use Rattle.pipe_model.specs.Flow.{inbox};
-ghost use Rattle.pipe_model.specs.Legal.{needs_restart, no_post_out, may_dispatch, may_gather, may_come, bound, happened, is_halt, first_unit};
+ghost use Rattle.pipe_types.specs.{declared.step.Step.TheVariants.{Fetch}, Stages.{spec_of}};
+ghost use Rattle.pipe_model.specs.{Flow.{inbox}, Legal.{needs_restart, no_post_out, may_dispatch, may_gather, may_come, bound, happened, is_halt, first_unit}};
 ghost use Rattle.pipe_model.specs.Moves.{has_job, has_child, first_take};
 ghost use Rattle.core_state.specs.Stands.{Stands};
 

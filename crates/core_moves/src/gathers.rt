@@ -2,9 +2,7 @@
 
 ghost use Rattle.std.specs.Prelude.{◌≡◌, ◌≤◌, ◌-◌, ◌&&◌, nat_le, Some, slice_get};
 ghost use Rattle.pipe_types.specs.Stages.{spec_of};
-ghost use Rattle.pipe_model.specs.Content.{key_in, content};
-ghost use Rattle.pipe_model.specs.Lives.{is_live};
-ghost use Rattle.pipe_model.specs.Flow.{inbox, open_batch_by, view_of};
+ghost use Rattle.pipe_model.specs.{Content.{key_in, content}, Lives.{is_live}, Flow.{inbox, open_batch_by, view_of}};
 ghost use Rattle.pipe_model.specs.Legal.{may_gather, lets_in, is_batcher_role, first_unit as first_number};
 ghost use Rattle.batcher.specs.Batches.{fits as key_fits};
 ghost use Rattle.core_tables.specs.Tables.{items_in};

@@ -2,10 +2,7 @@
 
 ghost use Rattle.std.specs.Prelude.{◌≡◌, true, false};
 ghost use Rattle.pipe_types.specs.declared.numbers.StageNo.{StageNo as Stage};
-ghost use Rattle.pipe_model.specs.Lives.{is_live};
-ghost use Rattle.pipe_model.specs.Legal.{happened, is_drain, is_halt};
-ghost use Rattle.pipe_model.specs.Moves.{move as next_move_of, jobs_out, is_drained, Pause};
-ghost use Rattle.pipe_model.specs.Standing.{Rests};
+ghost use Rattle.pipe_model.specs.{Lives.{is_live}, Legal.{happened, is_drain, is_halt}, Moves.{move as next_move_of, jobs_out, is_drained, Pause}, Standing.{Rests}};
 ghost use Rattle.move_laws.specs.NextMoves.{IsLegalMove, Acts, Pauses};
 ghost use Rattle.core_state.specs.Stands.{Stands};
 ghost use Rattle.core_moves.specs.Moves.{seen_as};

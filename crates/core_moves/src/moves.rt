@@ -2,8 +2,7 @@
 
 ghost use Rattle.std.specs.Prelude.{◌≡◌, if◌then◌else◌, Some, None, true, false};
 ghost use Rattle.pipe_types.specs.declared.step.Step.TheVariants.{Restart, Halt, Ask};
-ghost use Rattle.pipe_model.specs.Ledger.{due};
-ghost use Rattle.pipe_model.specs.Legal.{happened, is_halt, may_restart};
+ghost use Rattle.pipe_model.specs.{Ledger.{due}, Legal.{happened, is_halt, may_restart}};
 ghost use Rattle.pipe_model.specs.Moves.{move as next_move_of, move_or_pause, or_else, if_so, is_drained, jobs_out, StepMove, Drained as DrainedMove, JobsOut as JobsOutMove};
 ghost use Rattle.core_state.specs.Stands.{Stands};
 ghost use Rattle.core_rows.specs.Rows.{is_due};

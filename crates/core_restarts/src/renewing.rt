@@ -1,9 +1,7 @@
 //! The rows of a restarted stage and of its pairs.
 
 ghost use Rattle.std.specs.Prelude.{◌≡◌, ℕ, ◌+◌, ◌-◌, ◌^◌, ◌<◌, ◌≤◌, suc, ◌==◌, ◌&&◌, true, false, if◌then◌else◌, option_map, length, slice_get, Some};
-ghost use Rattle.pipe_types.specs.declared.numbers.StageNo.{StageNo as Stage};
-ghost use Rattle.pipe_types.specs.Sound.{IsSound};
-ghost use Rattle.pipe_types.specs.Stages.{spec_of, feeds as feeds_in};
+ghost use Rattle.pipe_types.specs.{declared.numbers.StageNo.{StageNo as Stage}, Sound.{IsSound}, Stages.{spec_of, feeds as feeds_in}};
 ghost use Rattle.stage_subs.specs.Subs.{row_at, is_pair};
 ghost use Rattle.core_state.specs.Readings.{lives_by, incarnation_by};
 ghost use Rattle.core_restarts.specs.Renewals.{restarted, live_upto, begins, joins, renewed, IsClosed, AreRenewed};

@@ -2,8 +2,7 @@
 
 ghost use Rattle.std.specs.Prelude.{◌≡◌, Some, None, Option, find, nat_lt};
 ghost use Rattle.pipe_types.specs.Stages.{spec_of};
-ghost use Rattle.pipe_model.specs.Ledger.{due};
-ghost use Rattle.pipe_model.specs.Moves.{all_subs, subs_into};
+ghost use Rattle.pipe_model.specs.{Ledger.{due}, Moves.{all_subs, subs_into}};
 ghost use Rattle.core_state.specs.Stands.{Stands};
 ghost use Rattle.core_rows.specs.Rows.{is_due, due_between, sub_if_due};
 

@@ -1,13 +1,8 @@
 //! The fetch and the take that a stage may begin.
 
 ghost use Rattle.std.specs.Prelude.{◌≡◌, ◌&&◌, ◌||◌, not, Some, true, false, length, nat_lt, nat_le, if◌then◌else◌, slice_get};
-ghost use Rattle.pipe_types.specs.declared.step.Step.TheVariants.{Fetch};
-ghost use Rattle.pipe_types.specs.Numbers.{post as post_of};
-ghost use Rattle.pipe_types.specs.Stages.{spec_of};
-ghost use Rattle.pipe_model.specs.History.{accepted_bytes};
-ghost use Rattle.pipe_model.specs.Posts.{is_out};
-ghost use Rattle.pipe_model.specs.Lives.{is_live};
-ghost use Rattle.pipe_model.specs.Flow.{is_empty, inbox};
+ghost use Rattle.pipe_types.specs.{declared.step.Step.TheVariants.{Fetch}, Numbers.{post as post_of}, Stages.{spec_of}};
+ghost use Rattle.pipe_model.specs.{History.{accepted_bytes}, Posts.{is_out}, Lives.{is_live}, Flow.{is_empty, inbox}};
 ghost use Rattle.pipe_model.specs.Legal.{bound, fetch_out, fetches_out, has_ended, rests, happened, is_drain, is_halt, is_producer_role, takes_role, has_room, may_come};
 ghost use Rattle.pipe_model.specs.Moves.{first_take};
 ghost use Rattle.core_state.specs.Stands.{Stands};

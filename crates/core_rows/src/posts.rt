@@ -2,9 +2,7 @@
 
 ghost use Rattle.std.specs.Prelude.{◌≡◌, ◌&&◌, Some};
 ghost use Rattle.pipe_types.specs.Numbers.{post as post_of};
-ghost use Rattle.pipe_model.specs.Posts.{has_post_out, is_out};
-ghost use Rattle.pipe_model.specs.Legal.{is_no_fetch_out, is_producer_role};
-ghost use Rattle.pipe_model.specs.Moves.{jobs_out};
+ghost use Rattle.pipe_model.specs.{Posts.{has_post_out, is_out}, Legal.{is_no_fetch_out, is_producer_role}, Moves.{jobs_out}};
 ghost use Rattle.core_state.specs.Stands.{Stands};
 
 use core_state::Core;

@@ -2,9 +2,7 @@
 
 ghost use Rattle.std.specs.Prelude.{◌≡◌, ◌&&◌, ◌||◌, not, Some, true, false, slice_get, is_some};
 ghost use Rattle.pipe_types.specs.Stages.{spec_of};
-ghost use Rattle.pipe_model.specs.Flow.{is_empty, waiting, inbox, chunk_by, view_of};
-ghost use Rattle.pipe_model.specs.Legal.{is_dry, has_role, is_batcher_role, is_early_role};
-ghost use Rattle.pipe_model.specs.Moves.{is_drained, jobs_out};
+ghost use Rattle.pipe_model.specs.{Flow.{is_empty, waiting, inbox, chunk_by, view_of}, Legal.{is_dry, has_role, is_batcher_role, is_early_role}, Moves.{is_drained, jobs_out}};
 ghost use Rattle.pipe_model.specs.Standing.{all_clear, is_clear, is_done_above, gathered_in};
 ghost use Rattle.core_tables.specs.Tables.{items_in, list_in};
 ghost use Rattle.core_state.specs.Stands.{Stands, opens_in};

@@ -2,8 +2,7 @@
 
 ghost use Rattle.std.specs.Prelude.{◌≡◌, ◌&&◌, ◌||◌, not, Some, length, slice_get, nat_lt};
 ghost use Rattle.pipe_types.specs.Stages.{spec_of};
-ghost use Rattle.pipe_model.specs.Flow.{room, waiting};
-ghost use Rattle.pipe_model.specs.Legal.{has_room, feeds_batchers};
+ghost use Rattle.pipe_model.specs.{Flow.{room, waiting}, Legal.{has_room, feeds_batchers}};
 ghost use Rattle.core_tables.specs.Tables.{items_in};
 ghost use Rattle.core_state.specs.Stands.{Stands};
 ghost use Rattle.core_rows.specs.Rows.{open_on};

@@ -2,8 +2,7 @@
 
 ghost use Rattle.std.specs.Prelude.{◌≡◌, ℕ, suc, ◌+◌, ◌≤◌, length, All, true, drop, take, filter, option_map, slice_get, Some, vec_capacity};
 ghost use Rattle.core_tables.specs.Tables.{spare_in};
-ghost use Rattle.core_sends.specs.Losing.{marked};
-ghost use Rattle.core_sends.specs.Batches.{not_sent, numbers_of, succeeded, all_succeeded, all_marked, lone_of, IsEndable};
+ghost use Rattle.core_sends.specs.{Losing.{marked}, Batches.{not_sent, numbers_of, succeeded, all_succeeded, all_marked, lone_of, IsEndable}};
 
 use crate::leaving::keep_unsent;
 use core_state::settles::mark_all;

@@ -1,10 +1,8 @@
 //! What each dispatcher sends of the units of a queue.
 
 ghost use Rattle.std.specs.Prelude.{◌≡◌, ◌+◌, ◌<◌, ◌^◌, ◌++◌, length, map, IfOk, false};
-ghost use Rattle.pipe_types.specs.declared.topology.Dispatch.TheVariants.{Partition};
-ghost use Rattle.pipe_types.specs.Dispatchers.{served_as, picks_all, sends_by_place};
+ghost use Rattle.pipe_types.specs.{declared.topology.Dispatch.TheVariants.{Partition}, Dispatchers.{served_as, picks_all, sends_by_place}, Rooms.{AreAscending, PartsDiffer}};
 ghost use Rattle.core_laws.specs.Columns.{is_broadcast};
-ghost use Rattle.pipe_types.specs.Rooms.{AreAscending, PartsDiffer};
 
 use dispatch_demand::DemandDispatch;
 use dispatch_partition::PartitionDispatch;

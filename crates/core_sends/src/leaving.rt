@@ -1,10 +1,8 @@
 //! The queue of units that wait, without those that were sent.
 
-ghost use Rattle.std.specs.Prelude.{◌≡◌, ℕ, ◌<◌, ◌≤◌, ◌++◌, ◌∷◌, [], length, All, filter, drop, if◌then◌else◌, true, not, IsTrue, Some};
-ghost use Rattle.std.specs.VecDeque.{deque_len, deque_capacity};
+ghost use Rattle.std.specs.{Prelude.{◌≡◌, ℕ, ◌<◌, ◌≤◌, ◌++◌, ◌∷◌, [], length, All, filter, drop, if◌then◌else◌, true, not, IsTrue, Some}, VecDeque.{deque_len, deque_capacity}};
 ghost use Rattle.core_tables.specs.Tables.{spare_in};
-ghost use Rattle.core_sends.specs.Batches.{not_sent};
-ghost use Rattle.core_sends.specs.Losing.{still_waits, first_kept, passed};
+ghost use Rattle.core_sends.specs.{Batches.{not_sent}, Losing.{still_waits, first_kept, passed}};
 
 use message_ack::Legs;
 use pipe_types::message::Place;

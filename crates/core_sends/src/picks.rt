@@ -1,15 +1,11 @@
 //! Which subscription picks which of the batches that wait.
 
 ghost use Rattle.std.specs.Prelude.{◌≡◌, ◌≤◌, ◌++◌, length, map, take, true, Some, IfOk, OnOk, option_map};
-ghost use Rattle.pipe_types.specs.Handlers.{begins_with};
-ghost use Rattle.pipe_types.specs.Stages.{spec_of};
-ghost use Rattle.pipe_model.specs.Content.{key_in};
-ghost use Rattle.pipe_model.specs.Flow.{batch, batch_waits_in, first_in, is_batcher, key_by, picks_by, view_of, waiting};
-ghost use Rattle.pipe_model.specs.Lives.{is_live};
+ghost use Rattle.pipe_types.specs.{Handlers.{begins_with}, Stages.{spec_of}};
+ghost use Rattle.pipe_model.specs.{Content.{key_in}, Flow.{batch, batch_waits_in, first_in, is_batcher, key_by, picks_by, view_of, waiting}, Lives.{is_live}};
 ghost use Rattle.pipe_journal.specs.Items.{message_seen};
 ghost use Rattle.core_state.specs.Stands.{Holds};
-ghost use Rattle.core_sends.specs.Batches.{numbers_of};
-ghost use Rattle.core_sends.specs.Picks.{picks_key, picks_row, picks_list};
+ghost use Rattle.core_sends.specs.{Batches.{numbers_of}, Picks.{picks_key, picks_row, picks_list}};
 
 use core_state::Core;
 use core_state::contents::{content_at, message_at};

@@ -1,14 +1,12 @@
 //! What a dispatch would send, and room for it.
 
 ghost use Rattle.std.specs.Prelude.{◌≡◌, ◌+◌, ◌<◌, ◌≤◌, ◌^◌, [], length, true, false, All, IfOk, OnOk};
-ghost use Rattle.pipe_model.specs.Lives.{is_live, is_live_sub};
-ghost use Rattle.pipe_model.specs.Flow.{waiting, kind_in, rooms_by, view_of};
+ghost use Rattle.pipe_model.specs.{Lives.{is_live, is_live_sub}, Flow.{waiting, kind_in, rooms_by, view_of}};
 ghost use Rattle.pipe_types.specs.Stages.{spec_of};
 ghost use Rattle.core_laws.specs.Columns.{is_broadcast};
 ghost use Rattle.core_tables.specs.Tables.{HasRoom};
 ghost use Rattle.core_state.specs.Stands.{Holds, Stands};
-ghost use Rattle.core_sends.specs.Rooms.{planned, served_first};
-ghost use Rattle.core_sends.specs.Picks.{first_sends, first_serves};
+ghost use Rattle.core_sends.specs.{Rooms.{planned, served_first}, Picks.{first_sends, first_serves}};
 
 use crate::deliveries::deliver;
 use crate::picks::picks_of;

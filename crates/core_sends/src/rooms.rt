@@ -2,8 +2,7 @@
 
 ghost use Rattle.std.specs.Prelude.{◌≡◌, Some, true, IfOk, OnOk};
 ghost use Rattle.pipe_types.specs.Stages.{spec_of};
-ghost use Rattle.pipe_model.specs.Lives.{is_live};
-ghost use Rattle.pipe_model.specs.Flow.{rooms_by, view_of};
+ghost use Rattle.pipe_model.specs.{Lives.{is_live}, Flow.{rooms_by, view_of}};
 ghost use Rattle.core_state.specs.Stands.{Holds};
 ghost use Rattle.core_sends.specs.Rooms.{room_between, and_room};
 

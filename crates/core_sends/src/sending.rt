@@ -2,12 +2,10 @@
 
 ghost use Rattle.std.specs.Prelude.{◌≡◌, ℕ, suc, ◌∷◌, [], ◌+◌, ◌≤◌, ◌<◌, length, All, map, drop, option_map, slice_get, IsTrue, true, false, Some, OnOk, OnErr, vec_capacity};
 ghost use Rattle.pipe_types.specs.Stages.{spec_of};
-ghost use Rattle.pipe_model.specs.Flow.{is_batcher};
-ghost use Rattle.pipe_model.specs.Legal.{allows};
+ghost use Rattle.pipe_model.specs.{Flow.{is_batcher}, Legal.{allows}};
 ghost use Rattle.core_tables.specs.Tables.{named, spare_in, HasRoom};
 ghost use Rattle.core_state.specs.Stands.{Holds, Stands};
-ghost use Rattle.core_sends.specs.Losing.{still_waits, left_in, numbers_in, over_of, kept_of, lost_over_size, marked};
-ghost use Rattle.core_sends.specs.Rooms.{planned, served_first};
+ghost use Rattle.core_sends.specs.{Losing.{still_waits, left_in, numbers_in, over_of, kept_of, lost_over_size, marked}, Rooms.{planned, served_first}};
 
 use crate::alone::leave_batches;
 use crate::batches::begin_all;

@@ -1,7 +1,6 @@
 //! How the messages of a batch end that is settled.
 
-ghost use Rattle.std.specs.Prelude.{◌≡◌, ◌≢◌, ℕ, suc, ◌≤◌, length, All, slice_get, option_map, unwrap_or, vec_capacity};
-ghost use Rattle.std.specs.List.{AllPairs};
+ghost use Rattle.std.specs.{Prelude.{◌≡◌, ◌≢◌, ℕ, suc, ◌≤◌, length, All, slice_get, option_map, unwrap_or, vec_capacity}, List.{AllPairs}};
 ghost use Rattle.pipe_types.specs.declared.message.Outcome.TheVariants.{Successful};
 ghost use Rattle.core_state.specs.Settles.{end_at, ended_from, marked};
 

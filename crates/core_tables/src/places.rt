@@ -2,8 +2,7 @@
 
 ghost use Rattle.std.specs.Prelude.{◌≡◌, ℕ, suc, ◌≤◌, ◌∷◌, [], length, All, option_map, slice_get, vec_capacity};
 ghost use Rattle.pipe_model.specs.Flow.{dispatched, taken};
-ghost use Rattle.core_tables.specs.Chunks.{run_in};
-ghost use Rattle.core_tables.specs.Tables.{IsNumbered};
+ghost use Rattle.core_tables.specs.{Chunks.{run_in}, Tables.{IsNumbered}};
 
 use pipe_types::message::Place;
 use pipe_types::numbers::StageNo;

@@ -2,9 +2,7 @@
 
 ghost use Rattle.std.specs.Prelude.{◌≡◌, ◌∷◌, false, slice_get, IsOk, IsTrue};
 ghost use Rattle.pipe_types.specs.Stages.{spec_of};
-ghost use Rattle.pipe_model.specs.Content.{has_crash};
-ghost use Rattle.pipe_model.specs.Flow.{has_batchers_in};
-ghost use Rattle.pipe_model.specs.Legal.{allows};
+ghost use Rattle.pipe_model.specs.{Content.{has_crash}, Flow.{has_batchers_in}, Legal.{allows}};
 ghost use Rattle.core_state.specs.Stands.{Stands, Holds};
 ghost use Rattle.core_takes.specs.Replies.{parted, take_in};
 

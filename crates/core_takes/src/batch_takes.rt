@@ -2,9 +2,7 @@
 
 ghost use Rattle.std.specs.Prelude.{◌≡◌, ◌∷◌, ◌≤◌, ◌<◌, ◌==◌, if◌then◌else◌, drop, length, is_some, true, IsTrue, OnOk};
 ghost use Rattle.pipe_types.specs.declared.numbers.StageNo.{StageNo as Stage};
-ghost use Rattle.pipe_model.specs.Flow.{inbox, batch as batch_as};
-ghost use Rattle.pipe_model.specs.Legal.{allows, has_role, is_batch_processor_role, first_unit};
-ghost use Rattle.pipe_model.specs.Taken.{closed_as};
+ghost use Rattle.pipe_model.specs.{Flow.{inbox, batch as batch_as}, Legal.{allows, has_role, is_batch_processor_role, first_unit}, Taken.{closed_as}};
 ghost use Rattle.core_tables.specs.Tables.{queue_at, room_at};
 ghost use Rattle.core_laws.specs.Columns.{closed_numbers};
 ghost use Rattle.core_state.specs.Stands.{Stands, Holds};

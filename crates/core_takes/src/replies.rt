@@ -3,11 +3,9 @@
 ghost use Rattle.std.specs.Prelude.{◌≡◌, ℕ, suc, ◌∷◌, [], ◌+◌, ◌<◌, ◌≤◌, ◌^◌, ◌++◌, length, All, Some, false, IfSome, option_map, slice_get, if◌then◌else◌, ◌==◌, true, OnOk, vec_capacity};
 ghost use Rattle.std.specs.VecDeque.{deque_len, deque_capacity};
 ghost use Rattle.pipe_types.specs.declared.numbers.StageNo.{StageNo as Stage};
-ghost use Rattle.pipe_model.specs.Content.{has_crash};
-ghost use Rattle.pipe_model.specs.Flow.{answered, done};
+ghost use Rattle.pipe_model.specs.{Content.{has_crash}, Flow.{answered, done}};
 ghost use Rattle.stage_subs.specs.Subs.{row_of, row_at, IsChanged};
-ghost use Rattle.core_tables.specs.Answers.{done_as};
-ghost use Rattle.core_tables.specs.Tables.{queue_at, list_at, spare_at};
+ghost use Rattle.core_tables.specs.{Answers.{done_as}, Tables.{queue_at, list_at, spare_at}};
 ghost use Rattle.core_takes.specs.Replies.{passed_parts, ends, marked, noted, HasRow, handled_on, counted_on};
 
 use core_tables::rows::ContentRow;

@@ -1,12 +1,9 @@
 //! The commit of a take of messages.
 
 ghost use Rattle.std.specs.Prelude.{◌≡◌, ◌∷◌, ◌≤◌, ◌<◌, ℕ, ◌==◌, if◌then◌else◌, option_map, slice_get, length, true, IsTrue};
-ghost use Rattle.pipe_types.specs.declared.numbers.StageNo.{StageNo as Stage};
-ghost use Rattle.pipe_types.specs.Stages.{spec_of};
-ghost use Rattle.pipe_model.specs.Flow.{first_in, has_batchers_in};
-ghost use Rattle.pipe_model.specs.Legal.{allows, has_role, is_processor_role};
-ghost use Rattle.core_tables.specs.Rows.{post_at, taking};
-ghost use Rattle.core_tables.specs.Tables.{room_at, spare_at};
+ghost use Rattle.pipe_types.specs.{declared.numbers.StageNo.{StageNo as Stage}, Stages.{spec_of}};
+ghost use Rattle.pipe_model.specs.{Flow.{first_in, has_batchers_in}, Legal.{allows, has_role, is_processor_role}};
+ghost use Rattle.core_tables.specs.{Rows.{post_at, taking}, Tables.{room_at, spare_at}};
 ghost use Rattle.core_state.specs.Stands.{Holds};
 ghost use Rattle.core_takes.specs.Takes.{take_of, out_of};
 

@@ -1,13 +1,9 @@
 //! The call that takes.
 
 ghost use Rattle.std.specs.Prelude.{◌≡◌, ◌≢◌, ◌≤◌, ◌<◌, ℕ, [], true, IfOk, OnOk, OnErr, IsTrue, length, take, is_some};
-ghost use Rattle.pipe_types.specs.declared.numbers.StageNo.{StageNo as Stage};
-ghost use Rattle.pipe_types.specs.Stages.{spec_of};
-ghost use Rattle.pipe_model.specs.Jobs.{take_step, may_take_next, with_step};
-ghost use Rattle.pipe_model.specs.Flow.{inbox, units_on, has_batchers_in, batch as batch_as};
-ghost use Rattle.pipe_model.specs.Legal.{has_role, is_batch_processor_role, is_processor_role, first_unit};
-ghost use Rattle.pipe_model.specs.Work.{chunk_of};
-ghost use Rattle.pipe_model.specs.Taken.{first_key, IsBatch, IsTaken};
+ghost use Rattle.pipe_types.specs.{declared.numbers.StageNo.{StageNo as Stage}, Stages.{spec_of}};
+ghost use Rattle.pipe_model.specs.{Jobs.{take_step, may_take_next, with_step}, Flow.{inbox, units_on, has_batchers_in, batch as batch_as}};
+ghost use Rattle.pipe_model.specs.{Legal.{has_role, is_batch_processor_role, is_processor_role, first_unit}, Work.{chunk_of}, Taken.{first_key, IsBatch, IsTaken}};
 ghost use Rattle.core_tables.specs.Tables.{queue_at, list_at, room_at, spare_at};
 ghost use Rattle.core_state.specs.Stands.{Stands, Holds};
 ghost use Rattle.core_laws.specs.Columns.{sub_first};

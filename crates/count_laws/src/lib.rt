@@ -6,18 +6,9 @@
 #![tactic(auto)]
 
 ghost use Rattle.std.specs.Prelude.{◌≡◌, ℕ, ◌+◌, ◌*◌, ◌≤◌, length, false, IsTrue};
-ghost use Rattle.pipe_types.specs.declared.numbers.StageNo.{StageNo};
-ghost use Rattle.pipe_types.specs.declared.numbers.SubNo.{SubNo};
-ghost use Rattle.pipe_types.specs.declared.numbers.Post.{Post};
-ghost use Rattle.pipe_types.specs.declared.topology.Topology.{Topology};
-ghost use Rattle.pipe_types.specs.Numbers.{post, same_stage, stage};
-ghost use Rattle.pipe_types.specs.Stages.{spec_of};
-ghost use Rattle.pipe_types.specs.Sound.{IsSound};
-ghost use Rattle.pipe_model.specs.History.{History, incarnation, controls};
-ghost use Rattle.pipe_model.specs.Posts.{is_out, crashes};
-ghost use Rattle.pipe_model.specs.Counting.{as_number};
-ghost use Rattle.pipe_model.specs.Lives.{generation};
-ghost use Rattle.pipe_model.specs.Ledger.{max_in};
+ghost use Rattle.pipe_types.specs.{declared.numbers.StageNo.{StageNo}, declared.numbers.SubNo.{SubNo}, declared.numbers.Post.{Post}, declared.topology.Topology.{Topology}};
+ghost use Rattle.pipe_types.specs.{Numbers.{post, same_stage, stage}, Stages.{spec_of}, Sound.{IsSound}};
+ghost use Rattle.pipe_model.specs.{History.{History, incarnation, controls}, Posts.{is_out, crashes}, Counting.{as_number}, Lives.{generation}, Ledger.{max_in}};
 ghost use Rattle.pipe_model.specs.Legal.{is_legal, has_role, is_producer_role, takes_role, has_ended};
 ghost use Rattle.count_laws.specs.Counts.{movers, senders, takes, asks, begun, answered, kills, crash_kills, child_starts};
 

@@ -5,10 +5,8 @@
 #![tactic(auto)]
 
 ghost use Rattle.std.specs.Prelude.{◌≡◌, ℕ, ◌+◌, ◌*◌, ◌<◌, ◌≤◌, ◌++◌, ◌∷◌, [], true, false, if◌then◌else◌, cond, filter, map, length, get_or, OnOk, IfOk, replicate};
-ghost use Rattle.pipe_types.specs.Dispatchers.{ByBroadcast, picks_all, on_each, sends_by_place, serves_by_place};
-ghost use Rattle.pipe_types.specs.Rooms.{AreAscending};
-ghost use Rattle.dispatch_broadcast.specs.Least.{least_left};
-ghost use Rattle.dispatch_broadcast.specs.Picks.{picks_in, places};
+ghost use Rattle.pipe_types.specs.{Dispatchers.{ByBroadcast, picks_all, on_each, sends_by_place, serves_by_place}, Rooms.{AreAscending}};
+ghost use Rattle.dispatch_broadcast.specs.{Least.{least_left}, Picks.{picks_in, places}};
 
 use pipe_types::room::{Room, Sent, SentList};
 use std::alloc::{AllocError, Global};

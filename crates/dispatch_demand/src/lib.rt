@@ -4,12 +4,9 @@
 //! It promises exactly the sends of the demand rule, by unit and then by subscription, or want of memory.
 #![tactic(auto)]
 
-ghost use Rattle.std.specs.Prelude.{◌≡◌, ◌++◌, ◌+◌, ◌<◌, ◌^◌, OnOk, IfOk, replicate, map};
-ghost use Rattle.std.specs.List.Sorted.{IsPermutation, IsSorted};
-ghost use Rattle.pipe_types.specs.Dispatchers.{ByDemand, sends_by_place};
-ghost use Rattle.pipe_types.specs.Rooms.{AreAscending};
-ghost use Rattle.dispatch_demand.specs.Run.{run};
-ghost use Rattle.dispatch_demand.specs.Serving.{serving_key, key_cmp, room_at};
+ghost use Rattle.std.specs.{Prelude.{◌≡◌, ◌++◌, ◌+◌, ◌<◌, ◌^◌, OnOk, IfOk, replicate, map}, List.Sorted.{IsPermutation, IsSorted}};
+ghost use Rattle.pipe_types.specs.{Dispatchers.{ByDemand, sends_by_place}, Rooms.{AreAscending}};
+ghost use Rattle.dispatch_demand.specs.{Run.{run}, Serving.{serving_key, key_cmp, room_at}};
 
 use pipe_types::numbers::SubNo;
 use pipe_types::room::{Room, Sent, SentList};

@@ -8,8 +8,7 @@
 mod left;
 
 ghost use Rattle.std.specs.Prelude.{◌≡◌, ◌<◌, ◌≤◌, ◌^◌, IfOk, length};
-ghost use Rattle.pipe_types.specs.Dispatchers.{ByPartition, sends_by_place, partition_of as partition_of_bytes};
-ghost use Rattle.pipe_types.specs.Rooms.{AreAscending, PartsDiffer};
+ghost use Rattle.pipe_types.specs.{Dispatchers.{ByPartition, sends_by_place, partition_of as partition_of_bytes}, Rooms.{AreAscending, PartsDiffer}};
 
 use crate::left::take_one;
 use pipe_types::room::{Room, Sent, SentList};

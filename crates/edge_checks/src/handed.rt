@@ -1,8 +1,7 @@
 //! What a value that holds boxes can say of them, in its own ghost members, where workers hand it over.
 
 ghost use Rattle.std.specs.Prelude.{◌≡◌, ◌≢◌, ◌≤◌, ℕ, All, IfSome, OnOk};
-ghost use Rattle.pipe_types.specs.Handlers.{counted as counted_by};
-ghost use Rattle.pipe_types.specs.declared.topology.StageSpec.{StageSpec};
+ghost use Rattle.pipe_types.specs.{Handlers.{counted as counted_by}, declared.topology.StageSpec.{StageSpec}};
 
 use super::boxes::{Handler, message_of};
 use super::own::ask;

@@ -1,8 +1,7 @@
 //! Sources, sinks and clocks in memory.
 
 ghost use Rattle.std.specs.Prelude.{IfOk};
-ghost use Rattle.mem_edges.specs.MemSource.{IsUnread};
-ghost use Rattle.mem_edges.specs.MemSink.{IsUnwritten};
+ghost use Rattle.mem_edges.specs.{MemSource.{IsUnread}, MemSink.{IsUnwritten}};
 
 use super::stories::{story, tell_read};
 use super::texts::{bytes_of, count, halves, number};

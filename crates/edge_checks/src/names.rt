@@ -1,8 +1,7 @@
 //! What names spell, and calls by name in memory.
 
 ghost use Rattle.std.specs.Prelude.{◌≡◌, IfOk};
-ghost use Rattle.mem_edges.specs.MemSource.{IsUnread};
-ghost use Rattle.mem_edges.specs.MemSink.{IsUnwritten};
+ghost use Rattle.mem_edges.specs.{MemSource.{IsUnread}, MemSink.{IsUnwritten}};
 
 use super::memory::{read_twice, sink_of, source_of, tell_held};
 use super::stories::tell_wrote;

@@ -1,11 +1,8 @@
 //! A user's own callback, called through its box.
 
 ghost use Rattle.std.specs.Prelude.{◌≡◌, ◌≢◌, ◌++◌, ◌∷◌, [], true, false, IfOk, OnOk, IsTrue};
-ghost use Rattle.pipe_types.specs.Handlers.{eval, counted};
-ghost use Rattle.pipe_types.specs.declared.topology.Kind.TheVariants.{Own};
-ghost use Rattle.pipe_types.specs.Reason.{IsReasonText};
+ghost use Rattle.pipe_types.specs.{Handlers.{eval, counted}, declared.topology.Kind.TheVariants.{Own}, Reason.{IsReasonText}, Counts.{Rose}};
 ghost use Rattle.stage_callback.specs.Callbacks.{is_passed};
-ghost use Rattle.pipe_types.specs.Counts.{Rose};
 
 use super::boxes::{Handler, message_of, tell_failed, tell_kind, tell_number, tell_prepared};
 use pipe_types::message::{Batch, Message, Reply};

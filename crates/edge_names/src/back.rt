@@ -1,13 +1,11 @@
 //! Giving back by name, in stage order.
 
 ghost use Rattle.std.specs.Prelude.{◌≡◌, ◌≢◌, ◌++◌, ℕ, [], Option, length, option_map, OnOk, OnErr};
-ghost use Rattle.pipe_types.specs.Sound.{IsSound};
+ghost use Rattle.pipe_types.specs.{Sound.{IsSound}, declared.topology.StageSpec.{StageSpec}};
 ghost use Rattle.stage_bodies.specs.Seen.{body_at, line_seen, sources_seen};
-ghost use Rattle.edge_names.specs.Controls.{IsBackFirst, IsGivenInPart, named_control};
-ghost use Rattle.edge_names.specs.Supplies.{at_paces, supplied, written};
-ghost use Rattle.pipe_edges.specs.Paces.{Pace};
-ghost use Rattle.pipe_types.specs.declared.topology.StageSpec.{StageSpec};
+ghost use Rattle.edge_names.specs.{Controls.{IsBackFirst, IsGivenInPart, named_control}, Supplies.{at_paces, supplied, written}};
 ghost use Rattle.edge_names.specs.Returned.{AreCalm, GivesBack, GivesOff, IsBackInPart, IsCalm, KeepsCallbacks, one_out, named_source, named_sink, source_in, sink_in, sources_of, sinks_of};
+ghost use Rattle.pipe_edges.specs.Paces.{Pace};
 
 use crate::control::back_control;
 use crate::gates::take_off;

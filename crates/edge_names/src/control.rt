@@ -2,9 +2,7 @@
 
 ghost use Rattle.std.specs.Prelude.{[], option_map, IfOk, IfErr, OnOk, OnErr};
 ghost use Rattle.stage_bodies.specs.Seen.{line_seen};
-ghost use Rattle.edge_names.specs.Controls.{IsControlOpened, control_call, named_control};
-ghost use Rattle.edge_names.specs.Opened.{IfCutOff, IfFailed, IsOneCut, IsOneFailed};
-ghost use Rattle.edge_names.specs.Returned.{GivesBack};
+ghost use Rattle.edge_names.specs.{Controls.{IsControlOpened, control_call, named_control}, Opened.{IfCutOff, IfFailed, IsOneCut, IsOneFailed}, Returned.{GivesBack}};
 
 use crate::lines::open_lines;
 use crate::opening::Unopened;

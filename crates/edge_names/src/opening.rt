@@ -1,15 +1,12 @@
 //! Opening by name, in stage order.
 
 ghost use Rattle.std.specs.Prelude.{◌≡◌, ◌≤◌, ◌==◌, ℕ, None, Some, if◌then◌else◌, length, option_map, IfOk, IfErr, IfSome, OnOk, OnErr, IsSome};
-ghost use Rattle.pipe_types.specs.Sound.{IsSound};
+ghost use Rattle.pipe_types.specs.{Sound.{IsSound}, Sound.{producers as producers_of}};
 ghost use Rattle.stage_bodies.specs.Seen.{Single, line_seen, body_at, with_source, with_sink};
 ghost use Rattle.edge_names.specs.Controls.{IsCutShort, IsUndone, control_call, run_calls};
-ghost use Rattle.edge_names.specs.Opened.{Asks, AreHome, AreOpened, HasSource, IfCutOff, IfFailed, IsCutOff, IsFailed, OpensOne, edge_calls};
-ghost use Rattle.edge_names.specs.Gates.{IsShared};
-ghost use Rattle.edge_names.specs.Supplies.{Written, at_paces, fed, supplied};
-ghost use Rattle.pipe_types.specs.Sound.{producers as producers_of};
+ghost use Rattle.edge_names.specs.{Opened.{Asks, AreHome, AreOpened, HasSource, IfCutOff, IfFailed, IsCutOff, IsFailed, OpensOne, edge_calls}, Gates.{IsShared}};
+ghost use Rattle.edge_names.specs.{Supplies.{Written, at_paces, fed, supplied}, Returned.{KeepsCallbacks}};
 ghost use Rattle.rate_gate.specs.Gate.{pace_of, moment_of, given_of};
-ghost use Rattle.edge_names.specs.Returned.{KeepsCallbacks};
 
 use crate::back::give_back;
 use crate::control::open_control;

@@ -3,8 +3,7 @@
 ghost use Rattle.std.specs.Prelude.{IfOk};
 ghost use Rattle.pipe_edges.specs.declared.edges.EdgeKind.TheVariants.{Source, Sink};
 ghost use Rattle.stage_bodies.specs.Seen.{SourceSeen, SinkSeen, source_seen, sink_seen};
-ghost use Rattle.edge_names.specs.Seen.{EdgesSeen, edges_seen};
-ghost use Rattle.edge_names.specs.Named.{GivesSource, GivesSink, Opens, BacksSource, BacksSink};
+ghost use Rattle.edge_names.specs.{Seen.{EdgesSeen, edges_seen}, Named.{GivesSource, GivesSink, Opens, BacksSource, BacksSink}};
 
 use pipe_edges::{ByteSink, ByteSource, EdgeEnd, Edges};
 use pipe_types::bytes::Text;

@@ -3,8 +3,7 @@
 ghost use Rattle.std.specs.Prelude.{[], Some, Option, option_map, IfOk, IfErr, OnOk, OnErr};
 ghost use Rattle.pipe_types.specs.declared.topology.StageSpec.{StageSpec};
 ghost use Rattle.stage_bodies.specs.Seen.{source_seen};
-ghost use Rattle.edge_names.specs.Supplies.{Feed, by_name, feed_call, given_back};
-ghost use Rattle.edge_names.specs.Opened.{Asks, IfCutOff, IfFailed, IsOneCut, IsOneFailed, IsSupplied, one};
+ghost use Rattle.edge_names.specs.{Supplies.{Feed, by_name, feed_call, given_back}, Opened.{Asks, IfCutOff, IfFailed, IsOneCut, IsOneFailed, IsSupplied, one}};
 ghost use Rattle.edge_names.specs.Returned.{GivesBack, IsCalmFeed};
 
 use crate::lines::copy_text;

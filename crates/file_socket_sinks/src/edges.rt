@@ -2,8 +2,7 @@
 
 ghost use Rattle.std.specs.Prelude.{◌≡◌, ◌≤◌, [], false, ℕ, List};
 ghost use Rattle.pipe_edges.specs.Named.{AddsBack, EdgeHasCause};
-ghost use Rattle.file_socket_sinks.specs.Back.{given_in};
-ghost use Rattle.file_socket_sinks.specs.Came.{OpenCameTo};
+ghost use Rattle.file_socket_sinks.specs.{Back.{given_in}, Came.{OpenCameTo}};
 
 use crate::opened::OpenFiles;
 use crate::output::{RealOut, Writer};

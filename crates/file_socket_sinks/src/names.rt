@@ -1,9 +1,7 @@
 //! What the names of sources and sinks spell.
 
 ghost use Rattle.std.specs.Prelude.{◌≡◌, ◌∷◌, ◌++◌, List, ℕ, IfSome, IsSomeAnd, MatchOption};
-ghost use Rattle.file_socket_sinks.specs.declared.names.Address.{Address};
-ghost use Rattle.file_socket_sinks.specs.declared.names.SourceName.{SourceName};
-ghost use Rattle.file_socket_sinks.specs.declared.names.SinkName.{SinkName};
+ghost use Rattle.file_socket_sinks.specs.{declared.names.Address.{Address}, declared.names.SourceName.{SourceName}, declared.names.SinkName.{SinkName}};
 ghost use Rattle.file_socket_sinks.specs.Names.{Lacks, SplitsAddress, SpellsPort, SpellsAddress, SpellsSource, SpellsSink};
 
 use std::io;

@@ -1,8 +1,6 @@
 //! Files, connections and the standard streams as sinks.
 
-ghost use Rattle.std.specs.Prelude.{◌≡◌, ◌≢◌, [], false, ℕ, List, IfOk, IfErr};
-ghost use Rattle.std.specs.Io.{WritesAtMost};
-ghost use Rattle.std.specs.IoError.{error_kind};
+ghost use Rattle.std.specs.{Prelude.{◌≡◌, ◌≢◌, [], false, ℕ, List, IfOk, IfErr}, Io.{WritesAtMost}, IoError.{error_kind}};
 ghost use Rattle.file_socket_sinks.specs.Names.{IsSinkName};
 
 use crate::names::SinkName;

@@ -1,10 +1,7 @@
 //! Files, standard input and connections as sources.
 
-ghost use Rattle.std.specs.Prelude.{◌≡◌, ◌≢◌, [], false, ℕ, List, length, IfOk, IfErr};
-ghost use Rattle.std.specs.Io.{ReadsAtMost};
-ghost use Rattle.std.specs.IoError.{error_kind};
-ghost use Rattle.file_socket_sinks.specs.Came.{ReadCameTo};
-ghost use Rattle.file_socket_sinks.specs.Names.{IsSourceName};
+ghost use Rattle.std.specs.{Prelude.{◌≡◌, ◌≢◌, [], false, ℕ, List, length, IfOk, IfErr}, Io.{ReadsAtMost}, IoError.{error_kind}};
+ghost use Rattle.file_socket_sinks.specs.{Came.{ReadCameTo}, Names.{IsSourceName}};
 
 use crate::names::SourceName;
 use crate::opened::OpenFiles;

@@ -7,23 +7,11 @@
 #![tactic(auto)]
 
 ghost use Rattle.std.specs.Prelude.{◌≡◌, ◌≢◌, ◌==◌, ◌++◌, ℕ, ◌∷◌, true, false, if◌then◌else◌, IsTrue, Option, Some, None};
-ghost use Rattle.pipe_types.specs.declared.numbers.Post.{Post};
-ghost use Rattle.pipe_types.specs.declared.step.Step.{Step};
-ghost use Rattle.pipe_types.specs.declared.topology.Topology.{Topology};
-ghost use Rattle.pipe_types.specs.Sound.{IsSound};
-ghost use Rattle.pipe_model.specs.History.{History, incarnation, now as now_of};
-ghost use Rattle.pipe_model.specs.Legal.{is_legal, allows, owed};
-ghost use Rattle.pipe_model.specs.Posts.{answers, puts_out};
-ghost use Rattle.stage_bodies.specs.Seen.{BodySeen};
-ghost use Rattle.stage_bodies.specs.Jobs.{Both, IsDone, IsCutOff};
-ghost use Rattle.stage_bodies.specs.Posts.{place_at, IsJobOf, step_of, brings_records};
-ghost use Rattle.stage_bodies.specs.declared.job.Answer.{Answer};
-ghost use Rattle.stage_bodies.specs.declared.job.Job.{Job};
-ghost use Rattle.stage_bodies.specs.declared.job.Outcome.{Outcome as Came};
-ghost use Rattle.body_laws.specs.Keeps.{is_silent, KeepsBody, Keeps};
-ghost use Rattle.body_laws.specs.Lates.{late_step};
-ghost use Rattle.body_laws.specs.Ready.{IsBodyAt, Ready, WasTold};
-ghost use Rattle.stage_bodies.specs.Moments.{told_for};
+ghost use Rattle.pipe_types.specs.{declared.numbers.Post.{Post}, declared.step.Step.{Step}, declared.topology.Topology.{Topology}, Sound.{IsSound}};
+ghost use Rattle.pipe_model.specs.{History.{History, incarnation, now as now_of}, Legal.{is_legal, allows, owed}, Posts.{answers, puts_out}};
+ghost use Rattle.stage_bodies.specs.{Seen.{BodySeen}, Jobs.{Both, IsDone, IsCutOff}, Posts.{place_at, IsJobOf, step_of, brings_records}, declared.job.Answer.{Answer}};
+ghost use Rattle.stage_bodies.specs.{declared.job.Job.{Job}, declared.job.Outcome.{Outcome as Came}, Moments.{told_for}};
+ghost use Rattle.body_laws.specs.{Keeps.{is_silent, KeepsBody, Keeps}, Lates.{late_step}, Ready.{IsBodyAt, Ready, WasTold}};
 ghost use Rattle.job_laws.specs.Away.{IsAway, is_from_live, AreElsewhere, IsAnswerTo};
 
 /// A job leaves with its body after the step that puts its post out; for a fetch its source is told the moment.

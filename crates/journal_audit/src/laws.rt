@@ -4,8 +4,7 @@ ghost use Rattle.std.specs.Prelude.{◌≡◌, ◌++◌, ℕ, List, true};
 ghost use Rattle.pipe_types.specs.declared.topology.Topology.{Topology};
 ghost use Rattle.pipe_model.specs.Legal.{is_legal};
 ghost use Rattle.journal_texts.specs.Steps.{journal_text};
-ghost use Rattle.journal_audit.specs.declared.verdict.Verdict.TheVariants.{Legal};
-ghost use Rattle.journal_audit.specs.Verdicts.{summary_of, verdict_in};
+ghost use Rattle.journal_audit.specs.{declared.verdict.Verdict.TheVariants.{Legal}, Verdicts.{summary_of, verdict_in}};
 
 use journal_reading::laws::journals_are_read_back;
 use pipe_journal::Journal;

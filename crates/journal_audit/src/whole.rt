@@ -2,14 +2,10 @@
 
 ghost use Rattle.std.specs.Prelude.{◌≡◌, ◌++◌, ◌∷◌, [], ℕ, List, true, IfOk};
 ghost use Rattle.pipe_types.specs.Sound.{IsSound};
-ghost use Rattle.pipe_model.specs.History.{History};
-ghost use Rattle.pipe_model.specs.Legal.{is_legal};
+ghost use Rattle.pipe_model.specs.{History.{History}, Legal.{is_legal}};
 ghost use Rattle.journal_texts.specs.Steps.{journal_text};
-ghost use Rattle.reading_laws.specs.Fields.{AreHeld, IsCountable};
-ghost use Rattle.reading_laws.specs.Text.{lines_of, lines_in, after_header};
-ghost use Rattle.journal_audit.specs.declared.verdict.Verdict.TheVariants.{Legal, Bad};
-ghost use Rattle.journal_audit.specs.Causes.{judged};
-ghost use Rattle.journal_audit.specs.Verdicts.{summary_of, verdict_by, verdict_in, IsSaid};
+ghost use Rattle.reading_laws.specs.{Fields.{AreHeld, IsCountable}, Text.{lines_of, lines_in, after_header}};
+ghost use Rattle.journal_audit.specs.{declared.verdict.Verdict.TheVariants.{Legal, Bad}, Causes.{judged}, Verdicts.{summary_of, verdict_by, verdict_in, IsSaid}};
 
 use crate::lines::{LineFound, audit_line};
 use crate::summary::summary;

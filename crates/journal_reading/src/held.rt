@@ -1,8 +1,7 @@
 //! What the types of a journal's steps keep: numbers of their width, bytes that are bytes, and reasons that are reasons. Each
 //! function does nothing, and its clauses say what the type of its argument keeps.
 
-ghost use Rattle.pipe_journal.specs.Items.{reply_seen, records_seen, replies_seen};
-ghost use Rattle.pipe_journal.specs.Views.{end_seen, answer_seen, step_seen};
+ghost use Rattle.pipe_journal.specs.{Items.{reply_seen, records_seen, replies_seen}, Views.{end_seen, answer_seen, step_seen}};
 ghost use Rattle.line_reading.specs.Spelling.{Each, IsShort, IsNumber, IsLong, IsWhy, IsStage};
 ghost use Rattle.reading_laws.specs.Fields.{AreBytes, IsHeldReply, IsHeldOutcome, IsHeldEnd, IsHeldAnswer, IsHeld, AreHeld, IsCountable};
 

@@ -2,11 +2,9 @@
 
 ghost use Rattle.std.specs.Prelude.{◌≡◌, ◌++◌, ℕ, List, Ok, true};
 ghost use Rattle.pipe_types.specs.declared.topology.Topology.{Topology};
-ghost use Rattle.pipe_model.specs.History.{History};
-ghost use Rattle.pipe_model.specs.Legal.{is_legal};
+ghost use Rattle.pipe_model.specs.{History.{History}, Legal.{is_legal}};
 ghost use Rattle.journal_texts.specs.Steps.{journal_text};
-ghost use Rattle.reading_laws.specs.Fields.{AreHeld, IsCountable};
-ghost use Rattle.reading_laws.specs.Text.{text_in};
+ghost use Rattle.reading_laws.specs.{Fields.{AreHeld, IsCountable}, Text.{text_in}};
 ghost use Rattle.journal_reading.specs.Faults.{unjudged};
 
 use crate::held::hold_steps;

@@ -1,7 +1,6 @@
 //! The lines of a text, and the first word of a line.
 
-ghost use Rattle.std.specs.Prelude.{◌≡◌, ◌<◌, [], ◌∷◌, length, IfSome, IfNone, bytes_eq};
-ghost use Rattle.std.specs.List.{slice_split};
+ghost use Rattle.std.specs.{Prelude.{◌≡◌, ◌<◌, [], ◌∷◌, length, IfSome, IfNone, bytes_eq}, List.{slice_split}};
 ghost use Rattle.line_reading.specs.Reading.{is_at};
 ghost use Rattle.reading_laws.specs.Text.{header, lines_of};
 

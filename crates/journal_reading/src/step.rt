@@ -1,9 +1,7 @@
 //! One line behind the first.
 
-ghost use Rattle.std.specs.Prelude.{◌≡◌, ◌∷◌, [], IfOk, decimal, bytes_eq, if◌then◌else◌};
-ghost use Rattle.std.specs.List.{slice_split};
-ghost use Rattle.line_reading.specs.Lines.{step_in};
-ghost use Rattle.line_reading.specs.Reading.{is_at};
+ghost use Rattle.std.specs.{Prelude.{◌≡◌, ◌∷◌, [], IfOk, decimal, bytes_eq, if◌then◌else◌}, List.{slice_split}};
+ghost use Rattle.line_reading.specs.{Lines.{step_in}, Reading.{is_at}};
 ghost use Rattle.reading_laws.specs.Text.{line_in, end_in, step_or_fault};
 ghost use Rattle.journal_reading.specs.Reads.{jobs_of, read_as, parts_in};
 

@@ -1,17 +1,11 @@
 //! A whole text.
 
 ghost use Rattle.std.specs.Prelude.{◌≡◌, ◌++◌, ℕ, List, [], ◌∷◌, true, IfOk, IfErr};
-ghost use Rattle.pipe_types.specs.declared.topology.Topology.{Topology as TopologyOf};
-ghost use Rattle.pipe_types.specs.Sound.{IsSound};
-ghost use Rattle.pipe_model.specs.History.{History};
-ghost use Rattle.pipe_model.specs.Legal.{is_legal};
+ghost use Rattle.pipe_types.specs.{declared.topology.Topology.{Topology as TopologyOf}, Sound.{IsSound}};
+ghost use Rattle.pipe_model.specs.{History.{History}, Legal.{is_legal}};
 ghost use Rattle.journal_texts.specs.Steps.{journal_text};
-ghost use Rattle.reading_laws.specs.Fields.{AreHeld, IsCountable};
-ghost use Rattle.reading_laws.specs.Text.{lines_of, lines_in, after_header, text_in, IsTextOf};
-ghost use Rattle.journal_reading.specs.declared.fault.JournalFault.TheVariants.{OutOfMemory};
-ghost use Rattle.journal_reading.specs.Faults.{unjudged};
-ghost use Rattle.journal_reading.specs.Reads.{Answers, steps_in, IsOf};
-ghost use Rattle.journal_reading.specs.OneLine.{ReadsOne};
+ghost use Rattle.reading_laws.specs.{Fields.{AreHeld, IsCountable}, Text.{lines_of, lines_in, after_header, text_in, IsTextOf}};
+ghost use Rattle.journal_reading.specs.{declared.fault.JournalFault.TheVariants.{OutOfMemory}, Faults.{unjudged}, Reads.{Answers, steps_in, IsOf}, OneLine.{ReadsOne}};
 
 use crate::copies::copy_topology;
 use crate::fault::{JournalFault, JournalRefusal};

@@ -1,9 +1,7 @@
 //! How many messages failed, and why.
 
-ghost use Rattle.std.specs.Prelude.{◌≡◌, ◌+◌, ◌<◌, ◌^◌, ℕ, List, IfOk, OnOk, option_map};
-ghost use Rattle.std.specs.List.{filter_map};
-ghost use Rattle.journal_texts.specs.Report.{reason_of as reason_of_place, with_reason};
-ghost use Rattle.journal_texts.specs.Failures.{counted, count_in, AreFailures, AddsFailure};
+ghost use Rattle.std.specs.{Prelude.{◌≡◌, ◌+◌, ◌<◌, ◌^◌, ℕ, List, IfOk, OnOk, option_map}, List.{filter_map}};
+ghost use Rattle.journal_texts.specs.{Report.{reason_of as reason_of_place, with_reason}, Failures.{counted, count_in, AreFailures, AddsFailure}};
 
 use pipe_types::message::{Outcome, Place};
 use std::alloc::{AllocError, Global};

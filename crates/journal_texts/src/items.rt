@@ -1,12 +1,8 @@
 //! Bytes in hexadecimal digits, and lists joined by commas.
 
-ghost use Rattle.std.specs.Prelude.{◌≡◌, ◌++◌, ◌<◌, ◌+◌, Bool, true, false, OnOk, decimal, codes, replicate};
-ghost use Rattle.pipe_types.specs.declared.message.Reply.{Reply};
-ghost use Rattle.pipe_types.specs.declared.message.Outcome.TheVariants.{Successful};
-ghost use Rattle.pipe_journal.specs.Items.{message_seen, reply_seen, records_seen, replies_seen};
-ghost use Rattle.std.specs.List.{flat_map};
-ghost use Rattle.std.specs.Fmt.{digit_glyph};
-ghost use Rattle.pipe_journal.specs.Views.{end_seen};
+ghost use Rattle.std.specs.{Prelude.{◌≡◌, ◌++◌, ◌<◌, ◌+◌, Bool, true, false, OnOk, decimal, codes, replicate}, List.{flat_map}, Fmt.{digit_glyph}};
+ghost use Rattle.pipe_types.specs.{declared.message.Reply.{Reply}, declared.message.Outcome.TheVariants.{Successful}};
+ghost use Rattle.pipe_journal.specs.{Items.{message_seen, reply_seen, records_seen, replies_seen}, Views.{end_seen}};
 ghost use Rattle.journal_texts.specs.Words.{byte_text, bytes_text, next_text, more_text, list_text, separator, number_word, words};
 ghost use Rattle.journal_texts.specs.Steps.{flag_text, reply_text, outcome_text, ends_text};
 

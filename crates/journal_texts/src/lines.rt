@@ -1,9 +1,7 @@
 //! The line of a step.
 
-ghost use Rattle.std.specs.Prelude.{◌≡◌, ◌++◌, [], ◌∷◌, OnOk, IfOk, codes, reverse};
-ghost use Rattle.std.specs.List.{flat_map};
-ghost use Rattle.pipe_journal.specs.Items.{reply_seen, records_seen, replies_seen};
-ghost use Rattle.pipe_journal.specs.Views.{end_seen, answer_seen, step_seen};
+ghost use Rattle.std.specs.{Prelude.{◌≡◌, ◌++◌, [], ◌∷◌, OnOk, IfOk, codes, reverse}, List.{flat_map}};
+ghost use Rattle.pipe_journal.specs.{Items.{reply_seen, records_seen, replies_seen}, Views.{end_seen, answer_seen, step_seen}};
 ghost use Rattle.journal_texts.specs.Words.{words};
 ghost use Rattle.journal_texts.specs.Steps.{trigger_word as word_of_trigger, why_word as word_of_why, ends_text, answer_text, step_text, step_line as line_of_step, journal_text as text_of_journal};
 

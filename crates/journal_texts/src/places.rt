@@ -1,7 +1,6 @@
 //! What the places of the messages come to.
 
-ghost use Rattle.std.specs.Prelude.{◌≡◌, ◌≤◌, IfOk, count_by, map, length, vec_len};
-ghost use Rattle.std.specs.List.{filter_map};
+ghost use Rattle.std.specs.{Prelude.{◌≡◌, ◌≤◌, IfOk, count_by, map, length, vec_len}, List.{filter_map}};
 ghost use Rattle.journal_texts.specs.Report.{loss_of as loss_of_place, is_successful as is_success, is_overflow, is_killed};
 
 use pipe_types::message::{Loss, Outcome, Place};

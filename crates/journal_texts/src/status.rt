@@ -1,7 +1,6 @@
 //! The status of a run.
 
-ghost use Rattle.std.specs.Prelude.{◌≡◌, ◌||◌};
-ghost use Rattle.std.specs.List.{list_any};
+ghost use Rattle.std.specs.{Prelude.{◌≡◌, ◌||◌}, List.{list_any}};
 ghost use Rattle.pipe_model.specs.Legal.{happened, is_halt as is_halt_step};
 ghost use Rattle.pipe_journal.specs.Views.{step_seen};
 ghost use Rattle.journal_texts.specs.Report.{places as places_of, is_fault as is_fault_how, is_source_fault as is_source_fault_step, is_lost as is_lost_place, is_failed as is_failed_place, gravest_of, status_of};

@@ -1,7 +1,6 @@
 //! What the steps of a journal, oldest first, come to.
 
-ghost use Rattle.std.specs.Prelude.{◌≡◌, ◌++◌, ◌+◌, ◌<◌, ◌^◌, ◌||◌, if◌then◌else◌, IfOk, OnOk, reverse};
-ghost use Rattle.std.specs.Option.{option_to_list};
+ghost use Rattle.std.specs.{Prelude.{◌≡◌, ◌++◌, ◌+◌, ◌<◌, ◌^◌, ◌||◌, if◌then◌else◌, IfOk, OnOk, reverse}, Option.{option_to_list}};
 ghost use Rattle.pipe_journal.specs.Views.{step_seen};
 ghost use Rattle.pipe_model.specs.Legal.{is_halt as is_halt_step};
 ghost use Rattle.journal_texts.specs.Report.{fault_by as fault_by_how, fault_of as fault_of_step, is_restart as is_restart_step, is_refuse as is_refuse_step, cause_of as cause_of_step};

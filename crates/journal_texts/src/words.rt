@@ -1,9 +1,7 @@
 //! Bytes and numbers, written at the end of a text.
 
 ghost use Rattle.std.specs.Prelude.{◌≡◌, ◌++◌, OnOk, decimal, codes};
-ghost use Rattle.journal_texts.specs.Words.{lf};
-ghost use Rattle.journal_texts.specs.Steps.{how_word as word_of_how, cause_word as word_of_cause};
-ghost use Rattle.journal_texts.specs.Report.{count_line, named_line};
+ghost use Rattle.journal_texts.specs.{Words.{lf}, Steps.{how_word as word_of_how, cause_word as word_of_cause}, Report.{count_line, named_line}};
 
 use itoa::Buffer;
 use pipe_types::step::{DrainCause, SourceHow};

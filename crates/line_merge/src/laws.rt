@@ -2,10 +2,8 @@
 
 ghost use Rattle.std.specs.Prelude.{◌≡◌, ℕ, List, Some, IsTrue, slice_get};
 ghost use Rattle.pipe_edges.specs.declared.reading.LineEnd.TheVariants.{End};
-ghost use Rattle.source_lines.specs.Seen.{SourceSeen};
-ghost use Rattle.source_lines.specs.Cut.{AreFirstLines, AreAllLines};
-ghost use Rattle.line_merge.specs.Items.{lines_from};
-ghost use Rattle.line_merge.specs.Seen.{MergeSeen, AreMergedFrom};
+ghost use Rattle.source_lines.specs.{Seen.{SourceSeen}, Cut.{AreFirstLines, AreAllLines}};
+ghost use Rattle.line_merge.specs.{Items.{lines_from}, Seen.{MergeSeen, AreMergedFrom}};
 
 /// The lines that were given from a place are the first lines of its source.
 pub fn merged_lines_are_first()

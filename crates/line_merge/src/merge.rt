@@ -2,8 +2,7 @@
 
 ghost use Rattle.std.specs.Prelude.{◌≡◌, ◌≤◌, ◌<◌, ◌++◌, [], ℕ, List, None, Some, All, IsNone, IfOk, IfErr, IfSome, Ok, length, map, slice_get, vec_capacity};
 ghost use Rattle.line_merge.specs.Items.{item_of, end_by, given_by, next_place, places_in};
-ghost use Rattle.pipe_edges.specs.Fetch.{records_in};
-ghost use Rattle.pipe_edges.specs.Texts.{IsLine};
+ghost use Rattle.pipe_edges.specs.{Fetch.{records_in}, Texts.{IsLine}};
 ghost use Rattle.source_lines.specs.Seen.{SourceSeen, source_seen};
 
 use crate::item::{MergeEnd, MergeItem};

@@ -1,8 +1,7 @@
 //! One source of a merge.
 
 ghost use Rattle.std.specs.Prelude.{◌≡◌, ◌∷◌, [], true, false, Some, IfOk, IfErr, length};
-ghost use Rattle.pipe_edges.specs.LineSource.{line_source, line_end_of};
-ghost use Rattle.pipe_edges.specs.declared.reading.LineEnd.TheVariants.{End};
+ghost use Rattle.pipe_edges.specs.{LineSource.{line_source, line_end_of}, declared.reading.LineEnd.TheVariants.{End}};
 ghost use Rattle.line_merge.specs.Items.{line_in, fetched_by, IsSingle};
 
 use crate::item::Taken;

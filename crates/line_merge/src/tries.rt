@@ -1,9 +1,7 @@
 //! One try of each source of a round.
 
 ghost use Rattle.std.specs.Prelude.{◌≡◌, ◌≤◌, ◌<◌, ℕ, true, false, IfOk, length, slice_get};
-ghost use Rattle.line_merge.specs.Items.{line_in, lines_from, given_in, given_by};
-ghost use Rattle.line_merge.specs.Streams.{Both, There};
-ghost use Rattle.line_merge.specs.Tries.{Gives, TakenHasCause, RangeHasCause, RoundHasCause};
+ghost use Rattle.line_merge.specs.{Items.{line_in, lines_from, given_in, given_by}, Streams.{Both, There}, Tries.{Gives, TakenHasCause, RangeHasCause, RoundHasCause}};
 ghost use Rattle.line_merge.specs.Opening.{SomeIsOpen, NoneIsOpen, IsWithout, RestHasCause};
 
 use crate::item::{MergeItem, Taken};

@@ -1,7 +1,6 @@
 //! Numbers, and bytes in hexadecimal digits.
 
-ghost use Rattle.std.specs.Prelude.{◌≡◌, ◌<◌, ◌≤◌, IfSome, ◌+◌, ◌*◌, ◌-◌, map, IfOk, Option, Some, None, if◌then◌else◌, ◌&&◌, nat_le};
-ghost use Rattle.std.specs.List.{slice_split};
+ghost use Rattle.std.specs.{Prelude.{◌≡◌, ◌<◌, ◌≤◌, IfSome, ◌+◌, ◌*◌, ◌-◌, map, IfOk, Option, Some, None, if◌then◌else◌, ◌&&◌, nat_le}, List.{slice_split}};
 ghost use Rattle.line_reading.specs.Lines.{stage_in, short_number, number as number_of, long_number};
 ghost use Rattle.line_reading.specs.Reading.{Gives, is_digit, is_at, number_in, digits_after, next_number, digit_in, pair_in, pairs_in, bytes_in};
 

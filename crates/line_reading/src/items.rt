@@ -3,8 +3,7 @@
 ghost use Rattle.std.specs.Prelude.{◌≡◌, ℕ, if◌then◌else◌, ◌^◌, ◌<◌, ◌+◌, ◌≤◌, map, length, IfOk, IfErr, List, Result, Option, Some, None, option_map, bytes_eq, codes};
 ghost use Rattle.std.specs.List.{slice_split};
 ghost use Rattle.pipe_types.specs.Sound.{is_reason as is_reason_in};
-ghost use Rattle.line_reading.specs.declared.fault.Fault.{Fault as FaultOf};
-ghost use Rattle.line_reading.specs.Reading.{Gives, Fails, texts_of, is_at};
+ghost use Rattle.line_reading.specs.{declared.fault.Fault.{Fault as FaultOf}, Reading.{Gives, Fails, texts_of, is_at}};
 ghost use Rattle.line_reading.specs.Lines.{so_far, joined, before, record_in, items_from, list_in, reason_in, reason_alone, by_rows, outcome_rows, successful_in, outcome_in, ends_in};
 
 use crate::fault::{Fault, ReadError};

@@ -1,8 +1,7 @@
 //! The words behind the first, by kind of line.
 
 ghost use Rattle.std.specs.Prelude.{◌≡◌};
-ghost use Rattle.pipe_types.specs.Numbers.{stage as stage_no, subscription, post as post_of, message_no};
-ghost use Rattle.pipe_types.specs.declared.step.Step.TheVariants.{Quiet, Dispatch, Restart};
+ghost use Rattle.pipe_types.specs.{Numbers.{stage as stage_no, subscription, post as post_of, message_no}, declared.step.Step.TheVariants.{Quiet, Dispatch, Restart}};
 ghost use Rattle.line_reading.specs.Reading.{Gives, texts_of};
 ghost use Rattle.line_reading.specs.Lines.{ask_in, fetch_in, accept_in, stage_alone, of_stage, source_in, take_in, done_in, gather_in, close_in, wrote_in, child_in, child_end_in, kill_in, tick_in, drain_in, halt_in, refuse_in};
 

@@ -2,8 +2,7 @@
 
 ghost use Rattle.std.specs.Prelude.{◌≡◌, Result};
 ghost use Rattle.pipe_types.specs.declared.step.LateAnswer.{LateAnswer as AnswerOf};
-ghost use Rattle.line_reading.specs.declared.fault.Fault.{Fault as FaultOf};
-ghost use Rattle.line_reading.specs.Reading.{Gives, texts_of};
+ghost use Rattle.line_reading.specs.{declared.fault.Fault.{Fault as FaultOf}, Reading.{Gives, texts_of}};
 ghost use Rattle.line_reading.specs.Lines.{by_rows, records_answer_in, wrote_answer_in, late_by, late_records_in, late_alone_in, late_source_in, late_wrote_in, late_rows, late_in};
 
 use crate::fault::{Fault, ReadError};

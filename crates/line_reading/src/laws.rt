@@ -3,8 +3,7 @@
 ghost use Rattle.std.specs.Prelude.{◌≡◌, ℕ, List, Ok};
 ghost use Rattle.pipe_types.specs.declared.step.Step.{Step};
 ghost use Rattle.journal_texts.specs.Steps.{step_text};
-ghost use Rattle.line_reading.specs.Lines.{Jobs, step_in};
-ghost use Rattle.line_reading.specs.Spelling.{IsSpelt};
+ghost use Rattle.line_reading.specs.{Lines.{Jobs, step_in}, Spelling.{IsSpelt}};
 
 /// The line of a step that can be spelt is read as that step.
 #[tactic(auto, using(crate::proofs::Again::step_again))]

@@ -1,9 +1,7 @@
 //! The line of a step.
 
-ghost use Rattle.std.specs.Prelude.{◌≡◌, bytes_eq, codes};
-ghost use Rattle.std.specs.List.{slice_split};
-ghost use Rattle.line_reading.specs.Reading.{Gives, texts_of, is_at};
-ghost use Rattle.line_reading.specs.Lines.{rows, rows_of_numbers, rows_of_one, rows_of_words, rows_of_lists, by_rows, by_first, step_in};
+ghost use Rattle.std.specs.{Prelude.{◌≡◌, bytes_eq, codes}, List.{slice_split}};
+ghost use Rattle.line_reading.specs.{Reading.{Gives, texts_of, is_at}, Lines.{rows, rows_of_numbers, rows_of_one, rows_of_words, rows_of_lists, by_rows, by_first, step_in}};
 
 use crate::fault::{Fault, ReadError};
 use crate::fields::parts;

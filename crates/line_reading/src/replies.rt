@@ -1,7 +1,6 @@
 //! Replies of handlers.
 
-ghost use Rattle.std.specs.Prelude.{◌≡◌, ◌≤◌, ◌<◌, length, nat_le, List, Result, Option, Some, None, Ok, Err, bytes_eq, codes};
-ghost use Rattle.std.specs.List.{slice_split};
+ghost use Rattle.std.specs.{Prelude.{◌≡◌, ◌≤◌, ◌<◌, length, nat_le, List, Result, Option, Some, None, Ok, Err, bytes_eq, codes}, List.{slice_split}};
 ghost use Rattle.line_reading.specs.Reading.{Gives, texts_of, is_at};
 ghost use Rattle.line_reading.specs.Lines.{items_from, list_in, limited_in, flag_in, named_in, by_rows, contents_in, passed_in, failed_in, raised_in, crashed_in, reply_rows, reply_in, reply_at};
 

@@ -1,8 +1,7 @@
 //! Words of which there are few.
 
 ghost use Rattle.std.specs.Prelude.{◌≡◌, bytes_eq};
-ghost use Rattle.line_reading.specs.Reading.{Gives};
-ghost use Rattle.line_reading.specs.Lines.{how_in, cause_in, trigger_in, why_in};
+ghost use Rattle.line_reading.specs.{Reading.{Gives}, Lines.{how_in, cause_in, trigger_in, why_in}};
 
 use crate::fault::{Fault, ReadError};
 use pipe_types::message::{Trigger, Why};

@@ -1,8 +1,7 @@
 //! What stands under names, in memory.
 
 ghost use Rattle.std.specs.Prelude.{◌≡◌, [], true, false, ℕ, List, OnOk, OnErr, MatchOption};
-ghost use Rattle.pipe_edges.specs.declared.edges.EdgeKind.{EdgeKind};
-ghost use Rattle.pipe_edges.specs.Named.{StandsAsBefore};
+ghost use Rattle.pipe_edges.specs.{declared.edges.EdgeKind.{EdgeKind}, Named.{StandsAsBefore}};
 
 use crate::named::{Named, free_place, put};
 use crate::{MemSink, MemSource};

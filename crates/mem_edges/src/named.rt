@@ -1,9 +1,7 @@
 //! What stands under names, the newest first.
 
 ghost use Rattle.std.specs.Prelude.{◌≡◌, MatchOption, false, OnOk, OnErr, IfOk};
-ghost use Rattle.mem_edges.specs.Shelf.{is_free};
-ghost use Rattle.mem_edges.specs.Opens.{Puts};
-ghost use Rattle.mem_edges.specs.Place.{IsFreePlace};
+ghost use Rattle.mem_edges.specs.{Shelf.{is_free}, Opens.{Puts}, Place.{IsFreePlace}};
 
 use pipe_types::bytes::Text;
 use std::alloc::{AllocError, Global};

@@ -1,16 +1,11 @@
 //! Opening, reading and giving back by name, in memory.
 
 ghost use Rattle.std.specs.Prelude.{◌≡◌, ◌≤◌, ◌+◌, ◌++◌, ◌∷◌, [], true, false, ℕ, take, IfOk, OnOk, OnErr, MatchResult};
-ghost use Rattle.pipe_edges.specs.declared.edges.EdgeKind.TheVariants.{File, Source, Sink};
-ghost use Rattle.pipe_types.specs.Counts.{Rose};
-ghost use Rattle.pipe_edges.specs.Paces.{unpaced};
+ghost use Rattle.pipe_edges.specs.{declared.edges.EdgeKind.TheVariants.{File, Source, Sink}, Paces.{unpaced}};
 ghost use Rattle.pipe_edges.specs.Named.{IsFreshSource, GivesSource, GivesSink, asked_after, StandsAsBefore, OthersStand, KeepsBack, AddsBack, EdgeHasCause};
-ghost use Rattle.mem_edges.specs.MemSource.{taken_of, left_of, all_bytes, acts as source_acts};
-ghost use Rattle.mem_edges.specs.MemSink.{held_by, room_of, acts as sink_acts};
-ghost use Rattle.mem_edges.specs.Calls.{calls_in};
-ghost use Rattle.mem_edges.specs.Refusals.{RefusesExactly};
-ghost use Rattle.mem_edges.specs.Place.{IsFreePlace};
-ghost use Rattle.mem_edges.specs.Opens.{Opens, FreeAsBefore, FreeAfter, FreeAgain, RefusalEnd, PlaysAgain, faults_after_call};
+ghost use Rattle.pipe_types.specs.Counts.{Rose};
+ghost use Rattle.mem_edges.specs.{MemSource.{taken_of, left_of, all_bytes, acts as source_acts}, MemSink.{held_by, room_of, acts as sink_acts}, Calls.{calls_in}};
+ghost use Rattle.mem_edges.specs.{Refusals.{RefusesExactly}, Place.{IsFreePlace}, Opens.{Opens, FreeAsBefore, FreeAfter, FreeAgain, RefusalEnd, PlaysAgain, faults_after_call}};
 ghost use Rattle.mem_edges.specs.MemEdges.{named_in, is_free_in, asked_in, sources_given_back, sinks_given_back, fails_of, fails_next as fails_next_of, refuses};
 
 use crate::edges::{Call, MemEdges};

@@ -1,7 +1,6 @@
 //! Verdicts by producer.
 
-ghost use Rattle.std.specs.Prelude.{◌≡◌, ◌↔◌, ℕ, IfOk, map, Contains};
-ghost use Rattle.std.specs.List.Sorted.{IsStrictlyIncreasing};
+ghost use Rattle.std.specs.{Prelude.{◌≡◌, ◌↔◌, ℕ, IfOk, map, Contains}, List.Sorted.{IsStrictlyIncreasing}};
 ghost use Rattle.pipe_types.specs.Handlers.{is_successful as is_successful_outcome};
 ghost use Rattle.message_ack.specs.Groups.{acknowledgement, successful_of, failed_of, IsAcknowledgement, AreAcknowledgements};
 

@@ -2,20 +2,15 @@
 
 ghost use Rattle.std.specs.Prelude.{◌≡◌, ◌≢◌, ◌≤◌, [], true, codes, map, Some, IfOk, IfSome};
 ghost use Rattle.program_words.specs.Words.{texts_of};
-ghost use Rattle.pipe_types.specs.declared.numbers.StageNo.{StageNo};
-ghost use Rattle.pipe_types.specs.Stages.{spec_of};
+ghost use Rattle.pipe_types.specs.{declared.numbers.StageNo.{StageNo}, Stages.{spec_of}};
 ghost use Rattle.pipe_model.specs.Outside.{fed};
 ghost use Rattle.pipe_edges.specs.declared.edges.EdgeKind.{EdgeKind};
-ghost use Rattle.mem_edges.specs.MemEdges.{named_in};
-ghost use Rattle.mem_edges.specs.MemSink.{held_by, IsUnwritten};
+ghost use Rattle.mem_edges.specs.{MemEdges.{named_in}, MemSink.{held_by, IsUnwritten}};
 ghost use Rattle.source_lines.specs.Cut.{AreFirstLines};
 ghost use Rattle.edge_names.specs.Opened.{call_in};
 ghost use Rattle.box_stock.specs.Lends.{kinds_of};
-ghost use Rattle.pipe_top.specs.Boxes.{AreBoxesLeft};
-ghost use Rattle.pipe_top.specs.Cases.{Named, feeds_of};
-ghost use Rattle.pipe_top.specs.Runs.{IsRunOrNone, IsEndOf, IsStatusOf, out_text};
-ghost use Rattle.own_callback.specs.Came.{run_words, case_of_file};
-ghost use Rattle.own_callback.specs.Plain.{WritesPlainText};
+ghost use Rattle.pipe_top.specs.{Boxes.{AreBoxesLeft}, Cases.{Named, feeds_of}, Runs.{IsRunOrNone, IsEndOf, IsStatusOf, out_text}};
+ghost use Rattle.own_callback.specs.{Came.{run_words, case_of_file}, Plain.{WritesPlainText}};
 
 use box_stock::{Boxed, Carries};
 use made_sources::MadeSource;

@@ -1,9 +1,7 @@
 //! A callback of one's own that says what it writes.
 
-ghost use Rattle.std.specs.Prelude.{◌≡◌, false, [], IfOk, IsTrue};
-ghost use Rattle.std.specs.List.{list_all};
-ghost use Rattle.pipe_types.specs.Handlers.{text_by};
-ghost use Rattle.pipe_types.specs.declared.topology.Kind.TheVariants.{Own};
+ghost use Rattle.std.specs.{Prelude.{◌≡◌, false, [], IfOk, IsTrue}, List.{list_all}};
+ghost use Rattle.pipe_types.specs.{Handlers.{text_by}, declared.topology.Kind.TheVariants.{Own}};
 ghost use Rattle.stage_callback.specs.Callbacks.{HasOwnText, is_batch_answer};
 ghost use Rattle.own_callback.specs.Plain.{has_plain_payload, is_plain_byte, is_plain_text, plain_law};
 

@@ -2,8 +2,7 @@
 
 ghost use Rattle.std.specs.Prelude.{◌≡◌, List, [], IfOk};
 ghost use Rattle.stage_callback.specs.Laws.{AllAllow, MessageForm};
-ghost use Rattle.pipe_types.specs.declared.message.Message.{Message};
-ghost use Rattle.pipe_types.specs.declared.message.Reply.{Reply};
+ghost use Rattle.pipe_types.specs.{declared.message.Message.{Message}, declared.message.Reply.{Reply}};
 
 use pipe_types::message::{Batch, Message, Outcome, Reply};
 use pipe_types::numbers::MsgNo;

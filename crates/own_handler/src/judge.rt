@@ -1,8 +1,6 @@
 //! Answers of a handler, each as it is or as a crash.
 
-ghost use Rattle.std.specs.Prelude.{◌≡◌, ◌++◌, List, length, IfOk, IsTrue};
-ghost use Rattle.std.specs.List.{list_all};
-ghost use Rattle.std.specs.Str.{bytes_eq};
+ghost use Rattle.std.specs.{Prelude.{◌≡◌, ◌++◌, List, length, IfOk, IsTrue}, List.{list_all}, Str.{bytes_eq}};
 ghost use Rattle.pipe_types.specs.Handlers.{is_own_reason as is_own_reason_in, is_own_reply as is_own_reply_in, may_pass as may_pass_in, is_own_outcome as is_own_outcome_in, is_successful as is_successful_in, lines_where};
 ghost use Rattle.pipe_types.specs.declared.message.Message.{Message};
 ghost use Rattle.stage_callback.specs.Callbacks.{is_passed as is_passed_in, is_ready as is_ready_in, is_all_successful as is_all_successful_in, is_prepared_answer, is_batch_answer, is_failed_answer, HasOwnText};

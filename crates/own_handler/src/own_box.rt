@@ -1,11 +1,8 @@
 //! The callback that a handler makes.
 
 ghost use Rattle.std.specs.Prelude.{◌≡◌, ◌≤◌, false, [], IfOk, OnOk, OnErr, IsTrue};
-ghost use Rattle.pipe_types.specs.Handlers.{counted, is_own_reply};
-ghost use Rattle.pipe_types.specs.Counts.{Rose};
-ghost use Rattle.pipe_types.specs.declared.topology.Kind.TheVariants.{Own};
-ghost use Rattle.stage_callback.specs.Callbacks.{is_passed as is_passed_in, is_all_successful as is_all_successful_in, is_batch_answer, HasOwnText};
-ghost use Rattle.stage_callback.specs.Laws.{Keeps};
+ghost use Rattle.pipe_types.specs.{Handlers.{counted, is_own_reply}, Counts.{Rose}, declared.topology.Kind.TheVariants.{Own}};
+ghost use Rattle.stage_callback.specs.{Callbacks.{is_passed as is_passed_in, is_all_successful as is_all_successful_in, is_batch_answer, HasOwnText}, Laws.{Keeps}};
 ghost use Rattle.own_handler.specs.Judged.{IsJudged, counted_unless, law_of};
 
 use crate::Handler;

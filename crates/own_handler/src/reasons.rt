@@ -1,8 +1,7 @@
 //! Reasons from words.
 
 ghost use Rattle.std.specs.Prelude.{◌≡◌, IsTrue};
-ghost use Rattle.pipe_types.specs.Reason.{IsReasonText};
-ghost use Rattle.pipe_types.specs.Handlers.{is_own_reason};
+ghost use Rattle.pipe_types.specs.{Reason.{IsReasonText}, Handlers.{is_own_reason}};
 
 use pipe_types::reason::Reason;
 

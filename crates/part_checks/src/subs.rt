@@ -7,8 +7,7 @@
 
 ghost use Rattle.std.specs.Prelude.{◌≡◌, ◌+◌, ◌/◌, ◌%◌, ◌≤◌, [], Some};
 ghost use Rattle.pipe_types.specs.Numbers.{stage, subscription};
-ghost use Rattle.stage_subs.specs.Subs.{row_at};
-ghost use Rattle.stage_subs.specs.declared.TheConstants.{LAST_STAGE};
+ghost use Rattle.stage_subs.specs.{Subs.{row_at}, declared.TheConstants.{LAST_STAGE}};
 
 use crate::words::{Case, cut, item, mode_of, number, refuse, short, why_of};
 use pipe_types::numbers::{StageNo, SubNo};

@@ -1,7 +1,6 @@
 //! From the bytes of a file to its topology.
 
-ghost use Rattle.std.specs.Prelude.{◌≡◌, ◌≢◌, ◌<◌, ◌^◌, codes, Some, None, Ok, Err, IfOk, IfErr};
-ghost use Rattle.std.specs.Option.{ForSome};
+ghost use Rattle.std.specs.{Prelude.{◌≡◌, ◌≢◌, ◌<◌, ◌^◌, codes, Some, None, Ok, Err, IfOk, IfErr}, Option.{ForSome}};
 ghost use Rattle.toml.specs.View.{table_view};
 ghost use Rattle.pipe_types.specs.Sound.{IsSound};
 ghost use Rattle.pipe_config.specs.File.{table_of, topology_by, topology_of, judged as judged_of, topology_of_file, Answers, IsAccepted};

@@ -1,14 +1,11 @@
 //! The text of a topology file as version 2.
 
-ghost use Rattle.std.specs.Prelude.{◌≡◌, true, [], Some, Ok, IfOk, IfErr, OnOk, string_bytes};
-ghost use Rattle.std.specs.Str.{is_utf8};
-ghost use Rattle.toml.specs.View.{table_view};
-ghost use Rattle.toml.specs.Parse.{parse_document};
+ghost use Rattle.std.specs.{Prelude.{◌≡◌, true, [], Some, Ok, IfOk, IfErr, OnOk, string_bytes}, Str.{is_utf8}};
+ghost use Rattle.toml.specs.{View.{table_view}, Parse.{parse_document}};
 ghost use Rattle.config_table.specs.declared.format.FileVersion.TheVariants as version;
 ghost use Rattle.config_table.specs.Walk.{version_of, faults_of};
 ghost use Rattle.pipe_types.specs.declared.topology.Topology.{Topology};
-ghost use Rattle.pipe_config.specs.File.{topology_of, topology_of_file};
-ghost use Rattle.pipe_config.specs.Upgrade.{with_version_2, refusal_of, IsUpgrade, IsRefused};
+ghost use Rattle.pipe_config.specs.{File.{topology_of, topology_of_file}, Upgrade.{with_version_2, refusal_of, IsUpgrade, IsRefused}};
 
 use crate::flat::is_flat;
 use crate::read::read_judged;

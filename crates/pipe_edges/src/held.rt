@@ -1,11 +1,7 @@
 //! The bytes that were read and stand behind the lines that were handed out.
 
 ghost use Rattle.std.specs.Prelude.{◌≡◌, ◌<◌, ◌≤◌, ◌+◌, ◌++◌, [], List, ℕ, length, take, drop, vec_len, IsTrue, IfOk, IfSome, IfNone, OnErr, All};
-ghost use Rattle.pipe_edges.specs.Texts.{HasNoLf, IsLine, ended};
-ghost use Rattle.pipe_edges.specs.Cut.{EndsAt, IsSearched, CutsLines, CutsAll};
-ghost use Rattle.pipe_edges.specs.Handed.{Handed};
-ghost use Rattle.pipe_edges.specs.Reads.{ReadHasCause};
-ghost use Rattle.pipe_edges.specs.Held.{ReadGrows};
+ghost use Rattle.pipe_edges.specs.{Texts.{HasNoLf, IsLine, ended}, Cut.{EndsAt, IsSearched, CutsLines, CutsAll}, Handed.{Handed}, Reads.{ReadHasCause}, Held.{ReadGrows}};
 ghost use Rattle.pipe_edges.specs.Pacing.{ReadIsHeld};
 
 use crate::{ByteSource, ReadEnd};

@@ -2,12 +2,8 @@
 
 ghost use Rattle.std.specs.Prelude.{◌≡◌, ◌<◌, ◌++◌, ℕ, [], None, Some, All, IsTrue, IsNone, IfOk, IfErr, IfSome};
 ghost use Rattle.pipe_types.specs.Lines.{lines};
-ghost use Rattle.pipe_edges.specs.declared.reading.LineEnd.TheVariants.{End, TooLong};
-ghost use Rattle.pipe_edges.specs.Texts.{IsLine, BeginsTooLong};
-ghost use Rattle.pipe_edges.specs.Handed.{Handed};
-ghost use Rattle.pipe_edges.specs.Needed.{ReadsAsNeeded};
-ghost use Rattle.pipe_edges.specs.Pacing.{FetchIsPaced, IsToldAt};
-ghost use Rattle.pipe_edges.specs.Fetch.{answer_of, records_in, text_of, FetchHasCause, Remembers};
+ghost use Rattle.pipe_edges.specs.{declared.reading.LineEnd.TheVariants.{End, TooLong}, Texts.{IsLine, BeginsTooLong}, Handed.{Handed}, Needed.{ReadsAsNeeded}};
+ghost use Rattle.pipe_edges.specs.{Pacing.{FetchIsPaced, IsToldAt}, Fetch.{answer_of, records_in, text_of, FetchHasCause, Remembers}};
 
 use crate::ByteSource;
 use crate::held::Held;

@@ -1,11 +1,7 @@
 //! The reading of a fetch: whole lines off what is held, or more bytes until there is a reason to stop.
 
 ghost use Rattle.std.specs.Prelude.{◌≡◌, ◌<◌, ℕ, IfOk};
-ghost use Rattle.pipe_edges.specs.Texts.{IsLine};
-ghost use Rattle.pipe_edges.specs.Handed.{Handed};
-ghost use Rattle.pipe_edges.specs.Needed.{ReadsAsNeeded};
-ghost use Rattle.pipe_edges.specs.Fetch.{answer_of};
-ghost use Rattle.pipe_edges.specs.Pacing.{RoundIsPaced, as_round};
+ghost use Rattle.pipe_edges.specs.{Texts.{IsLine}, Handed.{Handed}, Needed.{ReadsAsNeeded}, Fetch.{answer_of}, Pacing.{RoundIsPaced, as_round}};
 ghost use Rattle.pipe_edges.specs.Stop.{fetched_of, end_of, text_in, text_in_round, StopHasCause, RoundHasCause};
 
 use crate::held::{Held, MAX_LINE};

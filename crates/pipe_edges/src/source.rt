@@ -1,8 +1,7 @@
 //! Where bytes come from.
 
 ghost use Rattle.std.specs.Prelude.{◌≡◌, ◌<◌, ◌≤◌, Bool, List, ℕ, length, IsTrue};
-ghost use Rattle.pipe_edges.specs.Reads.{ReadsBytes, ReadIsCounted, ReadHasCause};
-ghost use Rattle.pipe_edges.specs.Paces.{PaceSeen, ReadIsPaced, told_at, unpaced};
+ghost use Rattle.pipe_edges.specs.{Reads.{ReadsBytes, ReadIsCounted, ReadHasCause}, Paces.{PaceSeen, ReadIsPaced, told_at, unpaced}};
 
 /// What a read came to: some bytes, the end, a fault, or nothing ready yet.
 #[derive(Clone, Copy, PartialEq, Eq)]

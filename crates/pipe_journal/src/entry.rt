@@ -1,9 +1,7 @@
 //! What a journal keeps of a step: its kind and its numbers, and where the store has the rest.
 
-ghost use Rattle.std.specs.Prelude.{◌≡◌, ◌≤◌, ◌+◌, length, IfSome, replicate};
-ghost use Rattle.std.specs.List.{list_all};
-ghost use Rattle.pipe_types.specs.declared.step.Step.{Step as StepOf};
-ghost use Rattle.pipe_types.specs.declared.message.Outcome.TheVariants.{Successful};
+ghost use Rattle.std.specs.{Prelude.{◌≡◌, ◌≤◌, ◌+◌, length, IfSome, replicate}, List.{list_all}};
+ghost use Rattle.pipe_types.specs.{declared.step.Step.{Step as StepOf}, declared.message.Outcome.TheVariants.{Successful}};
 ghost use Rattle.pipe_journal.specs.Entries.{Keeps, spare_of, IsHeld, step_of, is_success};
 
 use crate::store::Store;

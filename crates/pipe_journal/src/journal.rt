@@ -1,9 +1,7 @@
 //! The list of steps.
 
 ghost use Rattle.std.specs.Prelude.{◌≡◌, ◌+◌, ◌<◌, ◌≤◌, ◌==◌, [], ◌∷◌, length, Some, option_copied, option_map, IsOk, IfOk, OnOk, OnErr, IfErr};
-ghost use Rattle.pipe_journal.specs.Items.{reply_seen};
-ghost use Rattle.pipe_journal.specs.Readers.{step_at, payload_at, reply_at};
-ghost use Rattle.pipe_journal.specs.Views.{step_seen};
+ghost use Rattle.pipe_journal.specs.{Items.{reply_seen}, Readers.{step_at, payload_at, reply_at}, Views.{step_seen}};
 
 use crate::entry::{Entry, pack};
 use crate::items::ReplyView;

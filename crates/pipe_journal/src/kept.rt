@@ -2,9 +2,7 @@
 
 ghost use Rattle.std.specs.Prelude.{◌≡◌, List, ℕ, [], ◌∷◌, ◌++◌, ◌+◌, ◌<◌, length, slice_get, bytes_eq, Some, true, IfOk, OnOk};
 ghost use Rattle.pipe_types.specs.declared.message.Reply.{Reply as ReplyOf};
-ghost use Rattle.pipe_journal.specs.Grown.{Extends, IsAdded, AreAdded};
-ghost use Rattle.pipe_journal.specs.Packed.{text_at, reply_of, IsFound, IsKept, IsRecord};
-ghost use Rattle.pipe_journal.specs.Items.{reply_seen};
+ghost use Rattle.pipe_journal.specs.{Grown.{Extends, IsAdded, AreAdded}, Packed.{text_at, reply_of, IsFound, IsKept, IsRecord}, Items.{reply_seen}};
 
 use crate::items::{MessageView, ReplyView};
 use crate::shelf::Shelf;

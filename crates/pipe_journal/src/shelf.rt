@@ -1,8 +1,7 @@
 //! Texts that stand one behind another, so that each costs its bytes and four more.
 
 ghost use Rattle.std.specs.Prelude.{◌≡◌, [], ◌∷◌, ◌++◌, ◌<◌, length, slice_get, Some, OnOk, OnErr};
-ghost use Rattle.pipe_journal.specs.Cuts.{start_at, cut, AreEnds};
-ghost use Rattle.pipe_journal.specs.Grown.{Extends};
+ghost use Rattle.pipe_journal.specs.{Cuts.{start_at, cut, AreEnds}, Grown.{Extends}};
 
 use std::alloc::{AllocError, Global};
 use std::marker::Model;

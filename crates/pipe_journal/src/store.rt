@@ -3,8 +3,7 @@
 
 ghost use Rattle.std.specs.Prelude.{◌≡◌, ◌≤◌, ◌<◌, ◌+◌, length, IsOk, OnOk};
 ghost use Rattle.slab.specs.Slab.{ContainsKey};
-ghost use Rattle.pipe_journal.specs.Entries.{KeepsValues, Keeps, room_in, spare_of, reply_in, step_in};
-ghost use Rattle.pipe_journal.specs.Items.{reply_seen};
+ghost use Rattle.pipe_journal.specs.{Entries.{KeepsValues, Keeps, room_in, spare_of, reply_in, step_in}, Items.{reply_seen}};
 
 use crate::items::ReplyView;
 use crate::kept::Kept;

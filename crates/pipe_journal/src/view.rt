@@ -2,10 +2,7 @@
 
 ghost use Rattle.std.specs.Prelude.{◌≡◌, IfOk, replicate};
 ghost use Rattle.pipe_types.specs.declared.message.Outcome.TheVariants.{Successful};
-ghost use Rattle.pipe_journal.specs.Entries.{IsHeld, step_of};
-ghost use Rattle.pipe_journal.specs.Items.{records_seen, replies_seen};
-ghost use Rattle.pipe_journal.specs.Views.{end_seen, answer_seen, step_seen};
-ghost use Rattle.pipe_journal.specs.Readers.{records_of, replies_of};
+ghost use Rattle.pipe_journal.specs.{Entries.{IsHeld, step_of}, Items.{records_seen, replies_seen}, Views.{end_seen, answer_seen, step_seen}, Readers.{records_of, replies_of}};
 
 use crate::copies::{copy_outcomes, copy_records, copy_replies, copy_reply};
 use crate::entry::Entry;

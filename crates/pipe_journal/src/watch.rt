@@ -4,11 +4,8 @@
 //! it. `NoWatch` does nothing.
 
 ghost use Rattle.std.specs.Prelude.{◌≡◌, ◌≤◌, ◌↔◌, Bool, ℕ, List, None, Option, true, false};
-ghost use Rattle.pipe_types.specs.Counts.{Rose};
-ghost use Rattle.pipe_types.specs.declared.topology.Topology.{Topology};
-ghost use Rattle.pipe_model.specs.Begins.{BeginsWith};
-ghost use Rattle.pipe_model.specs.History.{History};
-ghost use Rattle.pipe_model.specs.Legal.{is_legal};
+ghost use Rattle.pipe_types.specs.{Counts.{Rose}, declared.topology.Topology.{Topology}};
+ghost use Rattle.pipe_model.specs.{Begins.{BeginsWith}, History.{History}, Legal.{is_legal}};
 ghost use Rattle.pipe_journal.specs.Watched.{StandsOn, is_failure};
 
 use crate::journal::Journal;

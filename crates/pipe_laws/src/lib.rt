@@ -8,17 +8,11 @@
 #![tactic(auto)]
 
 ghost use Rattle.std.specs.Prelude.{◌≡◌, ◌≤◌, ℕ, ◌∷◌, length, IsTrue};
-ghost use Rattle.pipe_types.specs.declared.numbers.StageNo.{StageNo};
-ghost use Rattle.pipe_types.specs.declared.numbers.SubNo.{SubNo};
-ghost use Rattle.pipe_types.specs.declared.topology.Topology.{Topology};
-ghost use Rattle.pipe_types.specs.declared.step.Step.{Step};
-ghost use Rattle.pipe_model.specs.History.{History};
-ghost use Rattle.pipe_model.specs.Flow.{place};
-ghost use Rattle.pipe_model.specs.Begins.{BeginsWith};
-ghost use Rattle.pipe_model.specs.Legal.{is_legal};
+ghost use Rattle.pipe_types.specs.{declared.numbers.StageNo.{StageNo}, declared.numbers.SubNo.{SubNo}, declared.topology.Topology.{Topology}, declared.step.Step.{Step}};
 ghost use Rattle.pipe_types.specs.Sound.{IsSound};
-ghost use Rattle.pipe_laws.specs.KeptClaims.{KeepsClaims};
+ghost use Rattle.pipe_model.specs.{History.{History}, Flow.{place}, Begins.{BeginsWith}, Legal.{is_legal}};
 ghost use Rattle.pipe_model.specs.Claims.{KeepsLedger, HasOnePlaceEach, StaysSettled, LegStaysSettled, LeavesNothing, IsAcknowledgedOnce, AcknowledgesEverything};
+ghost use Rattle.pipe_laws.specs.KeptClaims.{KeepsClaims};
 
 /// A tick moves no message.
 pub fn tick_moves_nothing()

@@ -2,8 +2,7 @@
 
 ghost use Rattle.std.specs.Prelude.{◌≡◌, ◌++◌, IfOk, map};
 ghost use Rattle.pipe_types.specs.Numbers.{subscription};
-ghost use Rattle.pipe_model.specs.Flow.{sent as sent_in};
-ghost use Rattle.pipe_model.specs.Acknowledgements.{numbers_upto};
+ghost use Rattle.pipe_model.specs.{Flow.{sent as sent_in}, Acknowledgements.{numbers_upto}};
 ghost use Rattle.plain_legal.specs.Machines.{MachineStands, topology_of, history_of};
 ghost use Rattle.pipe_replay.specs.Rows.{sub_row as sub_row_in, rows_of_pair as rows_of_pair_in, rows_of_consumer as rows_of_consumer_in, rows_of_all as rows_of_all_in};
 

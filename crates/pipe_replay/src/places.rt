@@ -1,9 +1,7 @@
 //! The rows of places.
 
 ghost use Rattle.std.specs.Prelude.{◌≡◌, ◌+◌, ◌<◌, true, IfOk, length};
-ghost use Rattle.pipe_model.specs.History.{history};
-ghost use Rattle.pipe_model.specs.Legal.{is_legal};
-ghost use Rattle.pipe_model.specs.Places.{ArePlaces};
+ghost use Rattle.pipe_model.specs.{History.{history}, Legal.{is_legal}, Places.{ArePlaces}};
 ghost use Rattle.plain_places.specs.Standing.{TablesStand};
 ghost use Rattle.pipe_replay.specs.Rows.{SettledStand, IsPlaceRow};
 

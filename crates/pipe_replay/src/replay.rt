@@ -2,11 +2,9 @@
 
 ghost use Rattle.std.specs.Prelude.{◌≡◌, true, IfOk, IfSome, IsSome, is_some};
 ghost use Rattle.pipe_types.specs.Sound.{IsSound};
-ghost use Rattle.pipe_model.specs.History.{history};
-ghost use Rattle.pipe_model.specs.Legal.{is_legal};
+ghost use Rattle.pipe_model.specs.{History.{history}, Legal.{is_legal}};
 ghost use Rattle.pipe_laws.specs.KeptClaims.{KeepsClaims};
-ghost use Rattle.pipe_replay.specs.Rows.{IsStateOf};
-ghost use Rattle.pipe_replay.specs.States.{StateStands};
+ghost use Rattle.pipe_replay.specs.{Rows.{IsStateOf}, States.{StateStands}};
 
 use crate::ledgers::sub_rows;
 use crate::lives::life_rows;

@@ -1,9 +1,7 @@
 //! When each message was acknowledged or lost.
 
 ghost use Rattle.std.specs.Prelude.{◌≡◌, ◌+◌, ◌<◌, ◌∷◌, IfOk, length};
-ghost use Rattle.pipe_model.specs.History.{history};
-ghost use Rattle.pipe_model.specs.Moves.{is_final as is_final_in};
-ghost use Rattle.pipe_model.specs.Places.{settled_at};
+ghost use Rattle.pipe_model.specs.{History.{history}, Moves.{is_final as is_final_in}, Places.{settled_at}};
 ghost use Rattle.plain_places.specs.Standing.{TablesStand};
 ghost use Rattle.pipe_replay.specs.Rows.{SettledStand};
 

@@ -2,8 +2,7 @@
 
 ghost use Rattle.std.specs.Prelude.{◌≡◌, ◌∷◌, [], IfOk, IfSome, is_some};
 ghost use Rattle.pipe_types.specs.declared.topology.Topology.{Topology as AnyTopology};
-ghost use Rattle.pipe_model.specs.History.{history};
-ghost use Rattle.pipe_model.specs.Legal.{allows as allows_in, is_legal};
+ghost use Rattle.pipe_model.specs.{History.{history}, Legal.{allows as allows_in, is_legal}};
 ghost use Rattle.pipe_replay.specs.States.{StateStands};
 
 use crate::settled::settled_after;

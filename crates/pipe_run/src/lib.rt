@@ -5,14 +5,11 @@
 #![tactic(auto)]
 
 ghost use Rattle.std.specs.Prelude.{◌≡◌, ℕ, Bool, List, All, Option, None};
-ghost use Rattle.pipe_types.specs.declared.numbers.StageNo.{StageNo};
-ghost use Rattle.pipe_types.specs.declared.topology.Rate.{Rate};
+ghost use Rattle.pipe_types.specs.{declared.numbers.StageNo.{StageNo}, declared.topology.Rate.{Rate}};
 ghost use Rattle.pipe_model.specs.History.{History};
-ghost use Rattle.pipe_edges.specs.Paces.{unpaced};
-ghost use Rattle.pipe_edges.specs.Texts.{IsLine, ended};
+ghost use Rattle.pipe_edges.specs.{Paces.{unpaced}, Texts.{IsLine, ended}};
 ghost use Rattle.stage_bodies.specs.Seen.{SourceSeen};
-ghost use Rattle.pipe_run.specs.Outside.{IsMadeRead};
-ghost use Rattle.pipe_run.specs.Records.{ReadsRecords};
+ghost use Rattle.pipe_run.specs.{Outside.{IsMadeRead}, Records.{ReadsRecords}};
 
 mod run;
 

@@ -3,20 +3,13 @@
 ghost use Rattle.std.specs.Prelude.{◌≡◌, ◌≤◌, ◌<◌, ◌*◌, ℕ, [], length, true, map, option_map, is_ok, IfOk, IfErr, IfSome, OnOk, OnErr};
 ghost use Rattle.pipe_types.specs.Sound.{IsSound};
 ghost use Rattle.core_state.specs.Stands.{Stands};
-ghost use Rattle.stage_bodies.specs.Seen.{body_at, line_seen};
-ghost use Rattle.stage_bodies.specs.Jobs.{Both};
+ghost use Rattle.stage_bodies.specs.{Seen.{body_at, line_seen}, Jobs.{Both}};
 ghost use Rattle.body_laws.specs.Ready.{IsFilled};
-ghost use Rattle.run_pipe.specs.Keeping.{IsFresh};
-ghost use Rattle.run_pipe.specs.Clocks.{clock_seen};
-ghost use Rattle.run_pipe.specs.Ends.{HasEnded};
-ghost use Rattle.edge_names.specs.Supplies.{FeedsProducers, at_paces};
+ghost use Rattle.run_pipe.specs.{Keeping.{IsFresh}, Clocks.{clock_seen}, Ends.{HasEnded}};
+ghost use Rattle.edge_names.specs.{Supplies.{FeedsProducers, at_paces}, Returned.{KeepsCallbacks}};
 ghost use Rattle.rate_laws.specs.Rates.{KeepsRate};
-ghost use Rattle.edge_names.specs.Returned.{KeepsCallbacks};
-ghost use Rattle.box_stock.specs.Homes.{Suffices};
-ghost use Rattle.box_stock.specs.Lends.{AreHandedOut, AreStillThere, IsSameBox, box_at, kinds_of};
-ghost use Rattle.pipe_run.specs.Boxes.{AreBoxesLeft, AreSameBoxes, LeavesCallbacks};
-ghost use Rattle.pipe_run.specs.Steps.{WentOn};
-ghost use Rattle.pipe_run.specs.Whole.{IsRunOf, HasFailed, HasWanted, HasCome, IfUnopened, IfWanting};
+ghost use Rattle.box_stock.specs.{Homes.{Suffices}, Lends.{AreHandedOut, AreStillThere, IsSameBox, box_at, kinds_of}};
+ghost use Rattle.pipe_run.specs.{Boxes.{AreBoxesLeft, AreSameBoxes, LeavesCallbacks}, Steps.{WentOn}, Whole.{IsRunOf, HasFailed, HasWanted, HasCome, IfUnopened, IfWanting}};
 
 use box_stock::{Boxed, Carries, Lent, hand_out, take_back};
 use core_state::Core;

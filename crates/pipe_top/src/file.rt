@@ -1,10 +1,8 @@
 //! The topology file.
 
 ghost use Rattle.std.specs.Prelude.{◌≡◌, ◌⊎◌, ◌≤◌, ℕ, List, [], Ok, Some, None, IsTrue, IfOk, IfErr};
-ghost use Rattle.pipe_types.specs.Counts.{Rose};
-ghost use Rattle.pipe_types.specs.Sound.{IsSound};
-ghost use Rattle.pipe_config.specs.File.{topology_of_file};
-ghost use Rattle.pipe_config.specs.Upgrade.{IsUpgrade};
+ghost use Rattle.pipe_types.specs.{Counts.{Rose}, Sound.{IsSound}};
+ghost use Rattle.pipe_config.specs.{File.{topology_of_file}, Upgrade.{IsUpgrade}};
 ghost use Rattle.pipe_top.specs.Flows.{ReadsFile, ReadsTopology, ReadsUpgrade, UpgradesTo, IsUpgraded, IsChecked, IsCheckedOrNot};
 
 use crate::run::{Ran, refused};

@@ -1,18 +1,13 @@
 //! The top call.
 
 ghost use Rattle.std.specs.Prelude.{◌≡◌, ◌≢◌, ◌⊎◌, ◌≤◌, [], None, Some, IsTrue, count_by, length, map};
-ghost use Rattle.pipe_types.specs.Counts.{Rose};
-ghost use Rattle.pipe_types.specs.Sound.{IsSound, is_producer as is_producer_role, producers as producers_of};
-ghost use Rattle.program_words.specs.Refusals.{memory_line};
-ghost use Rattle.program_words.specs.Words.{command_of, texts_of, Flow, Check, Run, Gen, Upgrade, Audit};
+ghost use Rattle.pipe_types.specs.{Counts.{Rose}, Sound.{IsSound, is_producer as is_producer_role, producers as producers_of}};
+ghost use Rattle.program_words.specs.{Refusals.{memory_line}, Words.{command_of, texts_of, Flow, Check, Run, Gen, Upgrade, Audit}};
 ghost use Rattle.pipe_run.specs.Clocks.{clock_seen};
 ghost use Rattle.box_stock.specs.Lends.{kinds_of};
-ghost use Rattle.topology_needs.specs.Needs.{boxes_in};
-ghost use Rattle.pipe_top.specs.Cases.{InCase};
+ghost use Rattle.topology_needs.specs.{Needs.{boxes_in}, declared.stock.Boxes.{Boxes}};
+ghost use Rattle.pipe_top.specs.{Cases.{InCase}, Runs.{IsRunOrNone, IsCall, IsKnownStatus, IsRefusalStatus, IsUnopenedStatus, IsOr}, Flows.{Came, ComesAudited}};
 ghost use Rattle.run_verdicts.specs.Verdicts.{AddsPrefix};
-ghost use Rattle.pipe_top.specs.Runs.{IsRunOrNone, IsCall, IsKnownStatus, IsRefusalStatus, IsUnopenedStatus, IsOr};
-ghost use Rattle.pipe_top.specs.Flows.{Came, ComesAudited};
-ghost use Rattle.topology_needs.specs.declared.stock.Boxes.{Boxes};
 
 use crate::audit::{audit_named, audited};
 use crate::file::{checked, finish_upgrade, read_named, upgrade_named};

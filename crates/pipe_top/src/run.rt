@@ -3,15 +3,11 @@
 ghost use Rattle.std.specs.Prelude.{◌≡◌, ◌≢◌, ◌⊎◌, ◌≤◌, ◌++◌, [], true, false, Some, None, IfOk, is_ok, map};
 ghost use Rattle.pipe_types.specs.Sound.{IsSound};
 ghost use Rattle.core_state.specs.Stands.{Stands};
-ghost use Rattle.pipe_run.specs.Clocks.{clock_seen};
-ghost use Rattle.edge_names.specs.Supplies.{FeedsProducers};
-ghost use Rattle.edge_names.specs.Controls.{run_calls};
-ghost use Rattle.box_stock.specs.Homes.{Suffices};
-ghost use Rattle.box_stock.specs.Lends.{kinds_of};
+ghost use Rattle.pipe_run.specs.{Clocks.{clock_seen}, Whole.{HasCome}};
+ghost use Rattle.edge_names.specs.{Supplies.{FeedsProducers}, Controls.{run_calls}};
+ghost use Rattle.box_stock.specs.{Homes.{Suffices}, Lends.{kinds_of}};
 ghost use Rattle.topology_needs.specs.Needs.{boxes_in as boxes_by_kind, shortage_of};
-ghost use Rattle.pipe_run.specs.Whole.{HasCome};
-ghost use Rattle.pipe_top.specs.Cases.{Feeding, feeds_of, Runs, run_case, opening_calls};
-ghost use Rattle.pipe_top.specs.Flows.{IsFedBy, IsJudgement, ComesBy, refusal_in};
+ghost use Rattle.pipe_top.specs.{Cases.{Feeding, feeds_of, Runs, run_case, opening_calls}, Flows.{IsFedBy, IsJudgement, ComesBy, refusal_in}};
 
 use box_stock::{Boxed, Carries, boxes_in};
 use core_state::Core;

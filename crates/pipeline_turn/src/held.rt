@@ -1,8 +1,7 @@
 //! What a turn hands about.
 ghost use Rattle.std.specs.Prelude.{◌≡◌, List};
 ghost use Rattle.pipe_types.specs.declared.numbers.Post.{Post};
-ghost use Rattle.pipe_model.specs.History.{History};
-ghost use Rattle.pipe_model.specs.Posts.{is_out};
+ghost use Rattle.pipe_model.specs.{History.{History}, Posts.{is_out}};
 
 use pipe_journal::Journal;
 use pipe_types::numbers::Post;

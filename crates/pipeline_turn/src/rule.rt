@@ -1,6 +1,5 @@
 //! The rule of the table, and what each kind of step tells.
-ghost use Rattle.pipeline_turn.specs.Rule.{IsRuled, opening_view};
-ghost use Rattle.pipeline_turn.specs.Steps.{took, gave, settled, unchanged, parting, parted, hearing, spent_view};
+ghost use Rattle.pipeline_turn.specs.{Rule.{IsRuled, opening_view}, Steps.{took, gave, settled, unchanged, parting, parted, hearing, spent_view}};
 
 use crate::held::Held;
 use crate::view::{Handed, View};

@@ -1,11 +1,8 @@
 //! The turn itself, and the calls over it.
 ghost use Rattle.std.specs.Prelude.{◌≡◌, ◌<◌, ◌≤◌, ◌+◌, ◌-◌, ◌≢◌, true, false, Some, None, IfSome, IfNone, IfOk, IfErr, IsSome, [], Contains};
 ghost use Rattle.pipe_types.specs.declared.numbers.Post.{Post};
-ghost use Rattle.pipe_model.specs.Posts.{is_out};
-ghost use Rattle.pipe_model.specs.Begins.{BeginsWith};
-ghost use Rattle.pipeline_turn.specs.declared.view.Handed.{Handed};
-ghost use Rattle.pipeline_turn.specs.Jobs.{IsUnanswered, IsUndone, IsOwnJob, AreAway, longer};
-ghost use Rattle.pipeline_turn.specs.Seats.{IsIdle};
+ghost use Rattle.pipe_model.specs.{Posts.{is_out}, Begins.{BeginsWith}};
+ghost use Rattle.pipeline_turn.specs.{declared.view.Handed.{Handed}, Jobs.{IsUnanswered, IsUndone, IsOwnJob, AreAway, longer}, Seats.{IsIdle}};
 
 use crate::held::Held;
 use crate::rule::{Give, OneHolder, Parting, Settle, Take, Tell, Terms};

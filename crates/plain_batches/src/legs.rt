@@ -2,8 +2,7 @@
 
 ghost use Rattle.std.specs.Prelude.{◌≡◌, [], IfOk, map};
 ghost use Rattle.pipe_model.specs.Batches as model;
-ghost use Rattle.pipe_model.specs.History.{history, incarnation as incarnation_in};
-ghost use Rattle.pipe_model.specs.Lives.{reason_in};
+ghost use Rattle.pipe_model.specs.{History.{history, incarnation as incarnation_in}, Lives.{reason_in}};
 ghost use Rattle.plain_queues.specs.Views.{leg_of, leg_place_of, batch_place_of};
 ghost use Rattle.plain_batches.specs.Changes.{change_of};
 

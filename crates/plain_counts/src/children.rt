@@ -1,8 +1,7 @@
 //! How often children crashed.
 
 ghost use Rattle.std.specs.Prelude.{◌≡◌, IfOk, option_copied};
-ghost use Rattle.pipe_model.specs.History.{history};
-ghost use Rattle.pipe_model.specs.Posts.{crashed_as as crashed_as_in, crashes_after as crashes_then, crashes as crashes_in};
+ghost use Rattle.pipe_model.specs.{History.{history}, Posts.{crashed_as as crashed_as_in, crashes_after as crashes_then, crashes as crashes_in}};
 ghost use Rattle.pipe_model.specs.Flow.{runs_again as runs_again_in};
 
 use crate::counts::plus;

@@ -1,13 +1,10 @@
 //! Sources, fetches, restarts and the drain.
 
 ghost use Rattle.std.specs.Prelude.{◌≡◌, ◌+◌, ◌∷◌, ◌&&◌, ◌||◌, not, Bool, true, false, nat_le, if◌then◌else◌, IfOk};
-ghost use Rattle.pipe_types.specs.Restarts.{limit_at as limit_at_in, restarts_counted, may_restart_at};
-ghost use Rattle.pipe_types.specs.Numbers.{stage as stage_in};
-ghost use Rattle.pipe_types.specs.declared.topology.Role.{Role};
+ghost use Rattle.pipe_types.specs.{Restarts.{limit_at as limit_at_in, restarts_counted, may_restart_at}, Numbers.{stage as stage_in}, declared.topology.Role.{Role}};
 ghost use Rattle.pipe_model.specs.History.{History, history, now as now_in};
 ghost use Rattle.pipe_model.specs.Legal.{happened, is_drain as is_drain_in, is_halt as is_halt_in, ends_source as ends_source_in, has_ended as has_ended_in, rests as rests_in, restart_times, limit_of as limit_of_in, may_restart as may_restart_in, has_role, is_producer_role as is_producer_role_in, is_processor_role as is_processor_role_in, is_batcher_role as is_batcher_role_in, is_batch_processor_role as is_batch_processor_role_in, is_supervisor_role as is_supervisor_role_in, takes_role as takes_role_in, is_early_role as is_early_role_in, fetch_out as fetch_out_in, fetches_out as fetches_out_in, is_no_fetch_out as is_no_fetch_out_in, is_current as is_current_in, gathered_at as gathered_at_in, quiet_row as quiet_row_in, may_control as may_control_in, all_ended as all_ended_in};
-ghost use Rattle.plain_counts.specs.Limits.{is_under as is_under_in};
-ghost use Rattle.plain_counts.specs.Fetches.{last_fetch as last_fetch_in, out_of as out_of_in, role_passes};
+ghost use Rattle.plain_counts.specs.{Limits.{is_under as is_under_in}, Fetches.{last_fetch as last_fetch_in, out_of as out_of_in, role_passes}};
 
 use crate::counts::{controls, incarnation, now, plus};
 use crate::posts::{is_out, out_from};

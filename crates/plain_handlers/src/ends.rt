@@ -1,7 +1,6 @@
 //! How a batch ends, and what a sink takes of it.
 
-ghost use Rattle.std.specs.Prelude.{◌≡◌, ◌++◌, ◌∷◌, [], ◌&&◌, IfOk, map, option_copied};
-ghost use Rattle.std.specs.List.{list_any, list_all};
+ghost use Rattle.std.specs.{Prelude.{◌≡◌, ◌++◌, ◌∷◌, [], ◌&&◌, IfOk, map, option_copied}, List.{list_any, list_all}};
 ghost use Rattle.pipe_types.specs.Handlers.{outcome_of as outcome_of_in, passed_lines, text_of as text_of_in, answer_of, batch_answer as batch_answer_in, outcome_with as outcome_with_in, end_by as end_by_in, text_by, count_after_batch as count_after_batch_in, is_own_outcome as is_own_outcome_in, is_own_end as is_own_end_in, lines_where};
 ghost use Rattle.pipe_model.specs.Work.{sink_reason as sink_reason_in, failed_by_sink as failed_by_sink_in, is_failed_by_sink as is_failed_by_sink_in, is_write_end as is_write_end_in, own_text as own_text_in, before_sink as before_sink_in, is_end_of as is_end_of_in, is_batch_handled as is_batch_handled_in};
 ghost use Rattle.plain_handlers.specs.Tests.{line_where, outcome_test, outcome_by_sink, outcome_undone};

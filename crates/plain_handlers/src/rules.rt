@@ -1,8 +1,7 @@
 //! The rules of a handler, each on one message.
 
 ghost use Rattle.std.specs.Prelude.{◌≡◌, ◌+◌, ◌++◌, ◌^◌, ◌<◌, ◌%◌, IfOk, length};
-ghost use Rattle.pipe_types.specs.Reason.{IsReasonText};
-ghost use Rattle.pipe_types.specs.Handlers.{begins_with, eval as eval_in, rule_reply as rule_reply_in, rules_reply as rules_reply_in};
+ghost use Rattle.pipe_types.specs.{Reason.{IsReasonText}, Handlers.{begins_with, eval as eval_in, rule_reply as rule_reply_in, rules_reply as rules_reply_in}};
 
 use pipe_types::bytes::Bytes;
 use pipe_types::fields::field;

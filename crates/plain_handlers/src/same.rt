@@ -1,7 +1,6 @@
 //! Whether two answers are the same.
 
-ghost use Rattle.std.specs.Prelude.{◌≡◌, if◌then◌else◌, not};
-ghost use Rattle.std.specs.Str.{bytes_eq};
+ghost use Rattle.std.specs.{Prelude.{◌≡◌, if◌then◌else◌, not}, Str.{bytes_eq}};
 ghost use Rattle.pipe_model.specs.Work.{same_message as same_message_in, same_reply as same_reply_in, same_replies as same_replies_in, same_outcome as same_outcome_in, same_outcomes as same_outcomes_in, same_end as same_end_in};
 
 use pipe_types::message::{BatchEnd, Message, Outcome, Reply};

@@ -1,9 +1,7 @@
 //! Answers from killed incarnations.
 
 ghost use Rattle.std.specs.Prelude.{◌≡◌, ◌&&◌, ◌==◌, IfOk, not};
-ghost use Rattle.pipe_model.specs.History.{incarnation as incarnation_in};
-ghost use Rattle.pipe_model.specs.Lives.{is_live as is_live_in};
-ghost use Rattle.pipe_model.specs.Legal.{late_fits as late_fits_in, may_be_late as may_be_late_in};
+ghost use Rattle.pipe_model.specs.{History.{incarnation as incarnation_in}, Lives.{is_live as is_live_in}, Legal.{late_fits as late_fits_in, may_be_late as may_be_late_in}};
 ghost use Rattle.plain_legal.specs.Machines.{MachineStands, topology_of, history_of};
 
 use crate::answers::ends_batch;

@@ -2,8 +2,7 @@
 
 ghost use Rattle.std.specs.Prelude.{◌≡◌, ◌++◌, ◌∷◌, [], IfOk};
 ghost use Rattle.pipe_types.specs.declared.numbers.StageNo.{StageNo as Stage};
-ghost use Rattle.pipe_model.specs.History.{History, history};
-ghost use Rattle.pipe_model.specs.Lives.{reason_in, is_alive, renews, one_more, restarts as restarts_in};
+ghost use Rattle.pipe_model.specs.{History.{History, history}, Lives.{reason_in, is_alive, renews, one_more, restarts as restarts_in}};
 ghost use Rattle.plain_lives.specs.Lives.{generation_by, kept, LivesStand};
 
 use crate::deaths::{Death, Lives, Renewal, live_stages};

@@ -1,12 +1,10 @@
 //! The batches after one more step.
 
 ghost use Rattle.std.specs.Prelude.{◌≡◌, IfOk, map, length, take};
-ghost use Rattle.pipe_model.specs.History.{history, closed as closed_in};
-ghost use Rattle.pipe_model.specs.Flow.{subs_of, closing as closing_in, next_units as next_units_in};
+ghost use Rattle.pipe_model.specs.{History.{history, closed as closed_in}, Flow.{subs_of, closing as closing_in, next_units as next_units_in}};
 ghost use Rattle.plain_lives.specs.Lives.{LivesStand};
 ghost use Rattle.plain_queues.specs.Views.{batch_of, batch_place_of, view_in};
-ghost use Rattle.plain_places.specs.Rows.{each_from, batches_changed};
-ghost use Rattle.plain_places.specs.Moves.{Closed as ClosedIn, batch_place_moved, batch_moved, batch_change};
+ghost use Rattle.plain_places.specs.{Rows.{each_from, batches_changed}, Moves.{Closed as ClosedIn, batch_place_moved, batch_moved, batch_change}};
 ghost use Rattle.plain_places.specs.Changes.{row_move_of, row_change_of, BatchesAfter};
 
 use crate::moves::is_among;

@@ -1,11 +1,9 @@
 //! Where a step moves the messages that stand somewhere.
 
 ghost use Rattle.std.specs.Prelude.{◌≡◌, IfOk, option_copied};
-ghost use Rattle.pipe_model.specs.History.{history, incarnation as incarnation_in};
-ghost use Rattle.pipe_model.specs.Lives.{reason_in};
+ghost use Rattle.pipe_model.specs.{History.{history, incarnation as incarnation_in}, Lives.{reason_in}};
 ghost use Rattle.pipe_model.specs.Flow.{among as among_in, subs_of, waiting_after as waiting_after_in, dispatched as dispatched_in, taken as taken_in, answered as answered_in, reply_to as reply_to_in, done as done_in, gathered as gathered_in, put_in_batch as put_in_batch_in, lost_with as lost_with_in, killed as killed_in, child_place as child_place_in, is_number as is_number_in, child_ended as child_ended_in};
-ghost use Rattle.plain_places.specs.Moves.{moved_by};
-ghost use Rattle.plain_places.specs.Changes.{move_of};
+ghost use Rattle.plain_places.specs.{Moves.{moved_by}, Changes.{move_of}};
 
 use pipe_types::message::{Loss, Outcome, Place, Reply, Why};
 use pipe_types::numbers::{BatchNo, StageNo};

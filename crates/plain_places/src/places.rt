@@ -2,9 +2,7 @@
 
 ghost use Rattle.std.specs.Prelude.{◌≡◌, ◌++◌, IfOk, length, replicate};
 ghost use Rattle.pipe_types.specs.Stages.{spec_of};
-ghost use Rattle.pipe_model.specs.History.{history, accepted as accepted_in};
-ghost use Rattle.pipe_model.specs.Lives.{death};
-ghost use Rattle.pipe_model.specs.Flow.{batch_after, has_batchers_in, late_place as late_place_in};
+ghost use Rattle.pipe_model.specs.{History.{history, accepted as accepted_in}, Lives.{death}, Flow.{batch_after, has_batchers_in, late_place as late_place_in}};
 ghost use Rattle.plain_lives.specs.Lives.{LivesStand};
 ghost use Rattle.plain_queues.specs.Views.{batch_at, view_in};
 ghost use Rattle.plain_places.specs.Rows.{each_from, places_changed};

@@ -5,8 +5,7 @@ ghost use Rattle.pipe_types.specs.declared.topology.Topology.{Topology as Stages
 ghost use Rattle.pipe_model.specs.History.{history};
 ghost use Rattle.plain_lives.specs.Lives.{LivesStand};
 ghost use Rattle.plain_queues.specs.Views.{view_in};
-ghost use Rattle.plain_places.specs.Standing.{TablesStand};
-ghost use Rattle.plain_places.specs.Moves.{sent_by};
+ghost use Rattle.plain_places.specs.{Standing.{TablesStand}, Moves.{sent_by}};
 
 use crate::batches::batches_after;
 use crate::places::places_after;

@@ -1,10 +1,8 @@
 //! What waits, stands in an inbox, runs, or is gathered.
 
-ghost use Rattle.std.specs.Prelude.{◌≡◌, ◌++◌, ◌∷◌, [], IfOk, map, if◌then◌else◌};
-ghost use Rattle.std.specs.Str.{bytes_eq};
+ghost use Rattle.std.specs.{Prelude.{◌≡◌, ◌++◌, ◌∷◌, [], IfOk, map, if◌then◌else◌}, Str.{bytes_eq}};
 ghost use Rattle.pipe_types.specs.Stages.{spec_of};
-ghost use Rattle.pipe_model.specs.History.{history};
-ghost use Rattle.pipe_model.specs.Content.{content as content_in, key_in};
+ghost use Rattle.pipe_model.specs.{History.{history}, Content.{content as content_in, key_in}};
 ghost use Rattle.pipe_model.specs.Flow.{is_batcher as is_batcher_in, waits_in as waits_in_model, runs_in as runs_in_model, is_gathered_in as is_gathered_in_model, in_inbox_by as in_inbox_by_model, batch_waits_in as batch_waits_in_model, leg_waits as leg_waits_model, leg_waits_in as leg_waits_in_model, waiting_by, inbox_by, units_on as units_on_in, chunk_by, open_batch_by};
 ghost use Rattle.plain_queues.specs.Views.{leg_of, place_at, batch_at, standing_of, running_of, view_in};
 

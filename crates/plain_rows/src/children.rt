@@ -2,9 +2,7 @@
 
 ghost use Rattle.std.specs.Prelude.{◌≡◌, ◌&&◌, ◌==◌, IfOk, if◌then◌else◌, nat_le, nat_lt};
 ghost use Rattle.pipe_types.specs.Stages.{spec_of};
-ghost use Rattle.pipe_model.specs.History.{history};
-ghost use Rattle.pipe_model.specs.Posts.{in_slot as in_slot_in};
-ghost use Rattle.pipe_model.specs.Flow.{is_number as is_number_in, inbox as inbox_in};
+ghost use Rattle.pipe_model.specs.{History.{history}, Posts.{in_slot as in_slot_in}, Flow.{is_number as is_number_in, inbox as inbox_in}};
 ghost use Rattle.pipe_model.specs.Legal.{max_of as max_of_in, runs_number as runs_number_in, first_unit as first_unit_in, may_start as may_start_in};
 ghost use Rattle.plain_lives.specs.Lives.{LivesStand};
 ghost use Rattle.plain_places.specs.Standing.{TablesStand};

@@ -2,8 +2,7 @@
 
 ghost use Rattle.std.specs.Prelude.{◌≡◌, ◌+◌, ◌&&◌, ◌==◌, IfOk, nat_le};
 ghost use Rattle.pipe_types.specs.Stages.{spec_of};
-ghost use Rattle.pipe_model.specs.History.{history, accepted as accepted_in, now as now_in};
-ghost use Rattle.pipe_model.specs.Flow.{place as place_in};
+ghost use Rattle.pipe_model.specs.{History.{history, accepted as accepted_in, now as now_in}, Flow.{place as place_in}};
 ghost use Rattle.pipe_model.specs.Legal.{is_before as is_before_in, none_before as none_before_in, is_dry as is_dry_in, batch_timeout_in, gathered_at as gathered_at_in, trigger_of as trigger_of_in, same_trigger as same_trigger_in, may_close as may_close_in};
 ghost use Rattle.plain_lives.specs.Lives.{LivesStand};
 ghost use Rattle.plain_places.specs.Standing.{TablesStand};

@@ -1,11 +1,8 @@
 //! Fetches, and what a source answers to them.
 
-ghost use Rattle.std.specs.Prelude.{◌≡◌, ◌-◌, ◌&&◌, ◌==◌, IfOk, not, Some, min, length, nat_le, nat_lt};
-ghost use Rattle.std.specs.List.{list_all};
-ghost use Rattle.pipe_types.specs.Numbers.{post as post_in};
-ghost use Rattle.pipe_types.specs.Lines.{max_bytes};
-ghost use Rattle.pipe_model.specs.History.{history, accepted as accepted_in, accepted_bytes as accepted_bytes_in, controls as controls_in};
-ghost use Rattle.pipe_model.specs.Posts.{is_out as is_out_in};
+ghost use Rattle.std.specs.{Prelude.{◌≡◌, ◌-◌, ◌&&◌, ◌==◌, IfOk, not, Some, min, length, nat_le, nat_lt}, List.{list_all}};
+ghost use Rattle.pipe_types.specs.{Numbers.{post as post_in}, Lines.{max_bytes}};
+ghost use Rattle.pipe_model.specs.{History.{history, accepted as accepted_in, accepted_bytes as accepted_bytes_in, controls as controls_in}, Posts.{is_out as is_out_in}};
 ghost use Rattle.pipe_model.specs.Legal.{may_come, has_ended as has_ended_in, rests as rests_in, happened, is_drain, fetches_out as fetches_out_in, pull_bound as pull_bound_in, bound as bound_in, are_records as are_records_in, is_limit as is_limit_in, same_truth, may_end as may_end_in};
 ghost use Rattle.plain_lives.specs.Lives.{LivesStand};
 ghost use Rattle.plain_places.specs.Standing.{TablesStand};

@@ -2,9 +2,7 @@
 
 ghost use Rattle.std.specs.Prelude.{◌≡◌, ◌&&◌, ◌==◌, IfOk};
 ghost use Rattle.pipe_types.specs.Stages.{spec_of};
-ghost use Rattle.pipe_model.specs.History.{history};
-ghost use Rattle.pipe_model.specs.Content.{content as content_in, flush_in};
-ghost use Rattle.pipe_model.specs.Flow.{view_of, inbox as inbox_in, closing as closing_in};
+ghost use Rattle.pipe_model.specs.{History.{history}, Content.{content as content_in, flush_in}, Flow.{view_of, inbox as inbox_in, closing as closing_in}};
 ghost use Rattle.pipe_model.specs.Legal.{last_in, ends_in_flush as ends_in_flush_in, batch_size_in, first_unit as first_unit_in, lets_in as lets_in_model, may_gather as may_gather_in};
 ghost use Rattle.plain_lives.specs.Lives.{LivesStand};
 ghost use Rattle.plain_places.specs.Standing.{TablesStand};

@@ -2,8 +2,7 @@
 
 ghost use Rattle.std.specs.Prelude.{◌≡◌, ◌-◌, ◌&&◌, ◌||◌, ◌==◌, IfOk, not, length, nat_le};
 ghost use Rattle.pipe_types.specs.Stages.{spec_of};
-ghost use Rattle.pipe_model.specs.History.{history};
-ghost use Rattle.pipe_model.specs.Flow.{inbox as inbox_in, units_on as units_on_in};
+ghost use Rattle.pipe_model.specs.{History.{history}, Flow.{inbox as inbox_in, units_on as units_on_in}};
 ghost use Rattle.pipe_model.specs.Legal.{feeds_batchers as feeds_batchers_in, first_sub as first_sub_in, first_unit as first_unit_in, chunk_size as chunk_size_in, has_room as has_room_in, may_take as may_take_in};
 ghost use Rattle.plain_lives.specs.Lives.{LivesStand};
 ghost use Rattle.plain_places.specs.Standing.{TablesStand};

@@ -1,13 +1,9 @@
 //! Replies to a chunk, late answers, and restarts.
 
-ghost use Rattle.std.specs.Prelude.{◌≡◌, ◌∷◌, ◌≤◌, IfOk, OnOk, OnErr, IsTrue};
-ghost use Rattle.std.specs.List.{list_any};
-ghost use Rattle.pipe_model.specs.Ledger.{crashed_reply};
-ghost use Rattle.pipe_model.specs.Content.{has_crash};
-ghost use Rattle.pipe_model.specs.Legal.{allows};
+ghost use Rattle.std.specs.{Prelude.{◌≡◌, ◌∷◌, ◌≤◌, IfOk, OnOk, OnErr, IsTrue}, List.{list_any}};
+ghost use Rattle.pipe_model.specs.{Ledger.{crashed_reply}, Content.{has_crash}, Legal.{allows}};
 ghost use Rattle.core_state.specs.Stands.{Stands, Holds};
-ghost use Rattle.plain_run.specs.Owes.{Owes};
-ghost use Rattle.plain_run.specs.Works.{WorksStand};
+ghost use Rattle.plain_run.specs.{Owes.{Owes}, Works.{WorksStand}};
 
 use crate::after::After;
 use crate::works::{Works, count_in, note_count};

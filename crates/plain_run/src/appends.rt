@@ -3,10 +3,7 @@
 ghost use Rattle.std.specs.Prelude.{◌≡◌, ◌∷◌, false, None, IfOk, OnOk, OnErr, IsTrue};
 ghost use Rattle.pipe_model.specs.Legal.{allows, owed};
 ghost use Rattle.core_state.specs.Stands.{Stands, Holds};
-ghost use Rattle.plain_run.specs.Owes.{Owes};
-ghost use Rattle.plain_run.specs.Runs.{IsRun};
-ghost use Rattle.plain_run.specs.Steps.{is_clock as is_clock_as, is_flow as is_flow_as, keeps_works as keeps_works_as};
-ghost use Rattle.plain_run.specs.Works.{WorksStand};
+ghost use Rattle.plain_run.specs.{Owes.{Owes}, Runs.{IsRun}, Steps.{is_clock as is_clock_as, is_flow as is_flow_as, keeps_works as keeps_works_as}, Works.{WorksStand}};
 ghost use Rattle.plain_run.specs.declared.after.After.TheVariants.{Free};
 
 use crate::accepts::append_accept;

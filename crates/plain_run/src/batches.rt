@@ -4,8 +4,7 @@ ghost use Rattle.std.specs.Prelude.{◌≡◌, ◌∷◌, IfOk, OnOk, OnErr, IsT
 ghost use Rattle.pipe_types.specs.Stages.{spec_of};
 ghost use Rattle.pipe_model.specs.Legal.{allows};
 ghost use Rattle.core_state.specs.Stands.{Stands, Holds};
-ghost use Rattle.plain_run.specs.Owes.{Owes, is_crash};
-ghost use Rattle.plain_run.specs.Works.{WorksStand, count_with as count_with_as};
+ghost use Rattle.plain_run.specs.{Owes.{Owes, is_crash}, Works.{WorksStand, count_with as count_with_as}};
 
 use crate::after::After;
 use crate::given::batch_of;

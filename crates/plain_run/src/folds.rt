@@ -2,8 +2,7 @@
 
 ghost use Rattle.std.specs.Prelude.{◌≡◌, IfOk};
 ghost use Rattle.pipe_types.specs.Sound.{IsSound};
-ghost use Rattle.pipe_model.specs.History.{history};
-ghost use Rattle.pipe_model.specs.Legal.{is_legal};
+ghost use Rattle.pipe_model.specs.{History.{history}, Legal.{is_legal}};
 
 use crate::run::PlainRun;
 use pipe_types::step::Step;

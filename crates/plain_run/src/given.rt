@@ -1,12 +1,9 @@
 //! Whether an answer is the handlers'.
 
 ghost use Rattle.std.specs.Prelude.{◌≡◌, ◌∷◌, [], true, IfOk, IsTrue};
-ghost use Rattle.pipe_types.specs.Stages.{spec_of};
-ghost use Rattle.pipe_model.specs.Flow.{first_in};
-ghost use Rattle.pipe_model.specs.Posts.{is_out};
-ghost use Rattle.pipe_model.specs.Work.{count, chunk_of as chunk_as, batch_of as batch_as, child_of as child_as, are_handled as are_handled_as};
+ghost use Rattle.pipe_types.specs.{Stages.{spec_of}, Numbers.{post}};
+ghost use Rattle.pipe_model.specs.{Flow.{first_in}, Posts.{is_out}, Work.{count, chunk_of as chunk_as, batch_of as batch_as, child_of as child_as, are_handled as are_handled_as}};
 ghost use Rattle.pipe_model.specs.Legal.{has_role, is_processor_role, ends_batch};
-ghost use Rattle.pipe_types.specs.Numbers.{post};
 ghost use Rattle.core_state.specs.Stands.{Holds, Stands};
 ghost use Rattle.core_allows.specs.Tested.{allows_tested, is_given as is_given_as};
 ghost use Rattle.plain_run.specs.Works.{WorksStand, numbers_at};

@@ -2,13 +2,9 @@
 
 ghost use Rattle.std.specs.Prelude.{◌≡◌, ◌≤◌, true, slice_get, option_map, option_to_list};
 ghost use Rattle.pipe_types.specs.Numbers.{message_no};
-ghost use Rattle.pipe_model.specs.Posts.{is_out as is_out_as};
-ghost use Rattle.pipe_model.specs.Content.{producer_of as producer_of_as};
-ghost use Rattle.pipe_model.specs.Legal.{has_role, is_processor_role, is_supervisor_role};
-ghost use Rattle.core_state.specs.Readings.{out_by};
-ghost use Rattle.core_state.specs.Stands.{Holds};
-ghost use Rattle.plain_run.specs.Jobs.{job_units, named_at as named_at_as};
-ghost use Rattle.plain_run.specs.Works.{WorksStand};
+ghost use Rattle.pipe_model.specs.{Posts.{is_out as is_out_as}, Content.{producer_of as producer_of_as}, Legal.{has_role, is_processor_role, is_supervisor_role}};
+ghost use Rattle.core_state.specs.{Readings.{out_by}, Stands.{Holds}};
+ghost use Rattle.plain_run.specs.{Jobs.{job_units, named_at as named_at_as}, Works.{WorksStand}};
 
 use crate::works::{Works, started_in, taken_in};
 use core_state::Core;

@@ -3,10 +3,7 @@
 ghost use Rattle.std.specs.Prelude.{◌≡◌, ◌∷◌, ◌&&◌, not, true, false, Some, None, is_some, unwrap_or, IfOk, IfSome, OnErr, IsTrue};
 ghost use Rattle.pipe_model.specs.Legal.{allows as allows_as, is_dispatch_of as is_dispatch_of_as, is_crash_of as is_crash_of_as, owed, happened, is_halt};
 ghost use Rattle.core_state.specs.Stands.{Stands, Holds};
-ghost use Rattle.plain_run.specs.Owes.{OwesDispatch};
-ghost use Rattle.plain_run.specs.Runs.{IsRun};
-ghost use Rattle.plain_run.specs.Works.{WorksStand};
-ghost use Rattle.plain_run.specs.declared.after.After.TheVariants.{Free, Accept as AfterAccept, Crash as AfterCrash};
+ghost use Rattle.plain_run.specs.{Owes.{OwesDispatch}, Runs.{IsRun}, Works.{WorksStand}, declared.after.After.TheVariants.{Free, Accept as AfterAccept, Crash as AfterCrash}};
 
 use crate::accepts::{append_owed, is_due, plan_owed};
 use crate::after::After;

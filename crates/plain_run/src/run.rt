@@ -1,12 +1,8 @@
 //! The run.
 
-ghost use Rattle.std.specs.Prelude.{◌≡◌, ◌∷◌, [], true, false, length, IfOk, IfErr, OnErr, Ok};
-ghost use Rattle.std.specs.List.{filter_map};
+ghost use Rattle.std.specs.{Prelude.{◌≡◌, ◌∷◌, [], true, false, length, IfOk, IfErr, OnErr, Ok}, List.{filter_map}};
 ghost use Rattle.pipe_types.specs.Sound.{IsSound};
-ghost use Rattle.pipe_model.specs.Acknowledgements.{numbers_upto};
-ghost use Rattle.pipe_model.specs.History.{accepted as accepted_in};
-ghost use Rattle.pipe_model.specs.Flow.{place};
-ghost use Rattle.pipe_model.specs.Legal.{allows, is_legal, happened, is_halt};
+ghost use Rattle.pipe_model.specs.{Acknowledgements.{numbers_upto}, History.{accepted as accepted_in}, Flow.{place}, Legal.{allows, is_legal, happened, is_halt}};
 ghost use Rattle.pipe_model.specs.Moves.{is_drained as is_drained_as};
 ghost use Rattle.core_state.specs.Stands.{Stands};
 ghost use Rattle.plain_run.specs.Jobs.{named_at as named_at_as};

@@ -1,11 +1,7 @@
 //! Where the messages of a run stand, and whether it is drained. A step may be owed.
 
-ghost use Rattle.std.specs.Prelude.{◌≡◌, Some, length};
-ghost use Rattle.std.specs.List.{filter_map, list_all};
-ghost use Rattle.pipe_model.specs.Acknowledgements.{numbers_upto};
-ghost use Rattle.pipe_model.specs.History.{accepted as accepted_in};
-ghost use Rattle.pipe_model.specs.Flow.{place};
-ghost use Rattle.pipe_model.specs.Moves.{is_drained as is_drained_as, jobs_out, is_final};
+ghost use Rattle.std.specs.{Prelude.{◌≡◌, Some, length}, List.{filter_map, list_all}};
+ghost use Rattle.pipe_model.specs.{Acknowledgements.{numbers_upto}, History.{accepted as accepted_in}, Flow.{place}, Moves.{is_drained as is_drained_as, jobs_out, is_final}};
 ghost use Rattle.pipe_model.specs.Posts.{has_post_out};
 ghost use Rattle.core_state.specs.Stands.{Holds};
 

@@ -1,8 +1,7 @@
 //! Takes.
 
 ghost use Rattle.std.specs.Prelude.{◌≡◌, ◌∷◌, ◌<◌, length, take, IfOk, OnOk, OnErr, IsTrue};
-ghost use Rattle.pipe_model.specs.Flow.{units_on};
-ghost use Rattle.pipe_model.specs.Legal.{allows};
+ghost use Rattle.pipe_model.specs.{Flow.{units_on}, Legal.{allows}};
 ghost use Rattle.core_tables.specs.Tables.{queue_at};
 ghost use Rattle.core_state.specs.Stands.{Stands};
 ghost use Rattle.plain_run.specs.Works.{WorksStand};

@@ -2,8 +2,7 @@
 
 ghost use Rattle.std.specs.Prelude.{◌≡◌, ℕ, ◌+◌, ◌*◌, ◌<◌, ◌^◌, ◌==◌, [], Some, None, replicate, length, slice_get, slice_index, if◌then◌else◌, IfOk};
 ghost use Rattle.pipe_types.specs.declared.numbers.StageNo.{StageNo as Stage};
-ghost use Rattle.core_tables.specs.Rows.{post_at};
-ghost use Rattle.core_tables.specs.Tables.{list_at};
+ghost use Rattle.core_tables.specs.{Rows.{post_at}, Tables.{list_at}};
 ghost use Rattle.plain_run.specs.Works.{held_in};
 
 use core_tables::posts::SLOTS;

@@ -3,9 +3,7 @@
 ghost use Rattle.std.specs.Prelude.{◌≡◌, ◌++◌, ◌∷◌, [], ◌&&◌, if◌then◌else◌, IfOk, map, filter, count_by, option_copied};
 ghost use Rattle.pipe_types.specs.Handlers.{begins_with};
 ghost use Rattle.pipe_types.specs.Dispatchers.{ByBroadcast, fit_all as fit_all_in, has_rooms as has_rooms_in, on_each, sends as sends_in, serves as serves_in};
-ghost use Rattle.pipe_model.specs.History.{history};
-ghost use Rattle.pipe_model.specs.Content.{content as content_in, key_in};
-ghost use Rattle.pipe_model.specs.Flow.{select_in, key_by, picks_by};
+ghost use Rattle.pipe_model.specs.{History.{history}, Content.{content as content_in, key_in}, Flow.{select_in, key_by, picks_by}};
 ghost use Rattle.plain_queues.specs.Views.{view_in};
 ghost use Rattle.plain_sends.specs.Casts.{with_selves};
 

@@ -2,9 +2,7 @@
 
 ghost use Rattle.std.specs.Prelude.{◌≡◌, ◌-◌, IfOk};
 ghost use Rattle.pipe_types.specs.Stages.{spec_of};
-ghost use Rattle.pipe_model.specs.History.{history, asked as asked_in};
-ghost use Rattle.pipe_model.specs.Lives.{live_subs as live_subs_in};
-ghost use Rattle.pipe_model.specs.Flow.{index_in as index_in_model, rooms_by, count_on};
+ghost use Rattle.pipe_model.specs.{History.{history, asked as asked_in}, Lives.{live_subs as live_subs_in}, Flow.{index_in as index_in_model, rooms_by, count_on}};
 ghost use Rattle.plain_lives.specs.Lives.{LivesStand};
 ghost use Rattle.plain_queues.specs.Views.{view_in};
 ghost use Rattle.plain_sends.specs.Rooms.{open_by, sum_by_subs, room_by};

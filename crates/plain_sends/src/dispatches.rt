@@ -2,8 +2,7 @@
 
 ghost use Rattle.std.specs.Prelude.{◌≡◌, ◌&&◌, ◌||◌, not, IfOk, Some, map, option_copied};
 ghost use Rattle.pipe_types.specs.Stages.{spec_of};
-ghost use Rattle.pipe_model.specs.History.{history};
-ghost use Rattle.pipe_model.specs.Lives.{is_live as is_live_in};
+ghost use Rattle.pipe_model.specs.{History.{history}, Lives.{is_live as is_live_in}};
 ghost use Rattle.pipe_model.specs.Flow.{is_empty, kind_in, partition_in, sends_by as sends_by_in, served_by as served_by_in, alone_by, subs_of, unsent as unsent_in, over_in, lost_over as lost_over_in};
 ghost use Rattle.plain_lives.specs.Lives.{LivesStand};
 ghost use Rattle.plain_queues.specs.Views.{view_in};

@@ -1,12 +1,8 @@
 //! The partition of a waiting unit.
 
-ghost use Rattle.std.specs.Prelude.{◌≡◌, IfOk, position, option_copied, Some};
-ghost use Rattle.std.specs.List.{before_first, after_first};
-ghost use Rattle.pipe_types.specs.Handlers.{is_space, field as field_in};
-ghost use Rattle.pipe_types.specs.Dispatchers.{partition_of as partition_of_in};
-ghost use Rattle.pipe_model.specs.History.{history};
-ghost use Rattle.pipe_model.specs.Content.{content as content_in, key_in, batcher_in, payload_in};
-ghost use Rattle.pipe_model.specs.Flow.{first_in, numbers_in, partition_in};
+ghost use Rattle.std.specs.{Prelude.{◌≡◌, IfOk, position, option_copied, Some}, List.{before_first, after_first}};
+ghost use Rattle.pipe_types.specs.{Handlers.{is_space, field as field_in}, Dispatchers.{partition_of as partition_of_in}};
+ghost use Rattle.pipe_model.specs.{History.{history}, Content.{content as content_in, key_in, batcher_in, payload_in}, Flow.{first_in, numbers_in, partition_in}};
 ghost use Rattle.plain_queues.specs.Views.{batch_at, view_in};
 
 use pipe_types::step::Step;

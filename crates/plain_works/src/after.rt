@@ -2,8 +2,7 @@
 
 ghost use Rattle.std.specs.Prelude.{◌≡◌, ◌∷◌, [], IfOk};
 ghost use Rattle.pipe_types.specs.declared.topology.Topology.{Topology as TopologyOf};
-ghost use Rattle.pipe_model.specs.History.{history};
-ghost use Rattle.pipe_model.specs.Flow.{view_of};
+ghost use Rattle.pipe_model.specs.{History.{history}, Flow.{view_of}};
 ghost use Rattle.plain_queues.specs.Views.{view_in};
 ghost use Rattle.plain_works.specs.Works.{WorksStand};
 

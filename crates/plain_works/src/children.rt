@@ -1,8 +1,7 @@
 //! How often children crashed.
 
 ghost use Rattle.std.specs.Prelude.{◌≡◌, IfOk};
-ghost use Rattle.pipe_model.specs.History.{history};
-ghost use Rattle.pipe_model.specs.Ledger.{crashed_reply, crashes_of as crashes_of_in};
+ghost use Rattle.pipe_model.specs.{History.{history}, Ledger.{crashed_reply, crashes_of as crashes_of_in}};
 
 use pipe_types::message::Reply;
 use pipe_types::step::Step;

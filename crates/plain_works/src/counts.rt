@@ -1,11 +1,8 @@
 //! How many messages handlers have seen.
 
 ghost use Rattle.std.specs.Prelude.{◌≡◌, ◌∷◌, IfOk};
-ghost use Rattle.pipe_types.specs.declared.numbers.StageNo.{StageNo as Stage};
-ghost use Rattle.pipe_types.specs.Stages.{spec_of};
-ghost use Rattle.pipe_model.specs.History.{history};
-ghost use Rattle.pipe_model.specs.Flow.{view_of};
-ghost use Rattle.pipe_model.specs.Work.{count as count_in};
+ghost use Rattle.pipe_types.specs.{declared.numbers.StageNo.{StageNo as Stage}, Stages.{spec_of}};
+ghost use Rattle.pipe_model.specs.{History.{history}, Flow.{view_of}, Work.{count as count_in}};
 ghost use Rattle.plain_queues.specs.Views.{view_in};
 ghost use Rattle.plain_works.specs.Works.{count_by, after_batch as after_batch_in, step_counts, with_count as with_count_in, WorksStand};
 

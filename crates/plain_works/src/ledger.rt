@@ -1,10 +1,8 @@
 //! What was handled on subscriptions, and when an ask is due.
 
 ghost use Rattle.std.specs.Prelude.{◌≡◌, ◌∷◌, [], ◌++◌, ◌&&◌, if◌then◌else◌, IfOk, Some, option_map};
-ghost use Rattle.pipe_types.specs.declared.numbers.SubNo.{SubNo as Sub};
-ghost use Rattle.pipe_types.specs.Stages.{spec_of};
-ghost use Rattle.pipe_model.specs.History.{history};
-ghost use Rattle.pipe_model.specs.Posts.{in_slot as in_slot_in};
+ghost use Rattle.pipe_types.specs.{declared.numbers.SubNo.{SubNo as Sub}, Stages.{spec_of}};
+ghost use Rattle.pipe_model.specs.{History.{history}, Posts.{in_slot as in_slot_in}};
 ghost use Rattle.pipe_model.specs.Flow.{view_of, place as place_in, sent_to as sent_to_in, delivered_to, is_number as is_number_in, runs_again as runs_again_in};
 ghost use Rattle.pipe_model.specs.Ledger.{handled as handled_in, pending as pending_in, due as due_in, max_in, min_in, crashed_reply, crashes_of as crashes_of_in};
 ghost use Rattle.plain_lives.specs.Lives.{LivesStand};

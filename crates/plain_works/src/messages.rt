@@ -1,9 +1,7 @@
 //! The messages that a stage works on.
 
 ghost use Rattle.std.specs.Prelude.{◌≡◌, ◌++◌, ◌∷◌, [], IfOk, false};
-ghost use Rattle.pipe_model.specs.History.{history};
-ghost use Rattle.pipe_model.specs.Content.{content as content_in};
-ghost use Rattle.pipe_model.specs.Flow.{view_of, batch as batch_in, first_in, numbers_in};
+ghost use Rattle.pipe_model.specs.{History.{history}, Content.{content as content_in}, Flow.{view_of, batch as batch_in, first_in, numbers_in}};
 ghost use Rattle.pipe_model.specs.Work.{taken_units, messages_of as messages_of_in, chunk_of as chunk_of_in, batch_of as batch_of_in, child_of as child_of_in};
 ghost use Rattle.plain_counts.specs.Seen.{message_seen};
 ghost use Rattle.plain_queues.specs.Views.{batch_at, view_in};

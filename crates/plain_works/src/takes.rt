@@ -2,8 +2,7 @@
 
 ghost use Rattle.std.specs.Prelude.{◌≡◌, ◌∷◌, IfOk, take, option_map, option_copied};
 ghost use Rattle.pipe_types.specs.declared.numbers.StageNo.{StageNo as Stage};
-ghost use Rattle.pipe_model.specs.History.{history};
-ghost use Rattle.pipe_model.specs.Flow.{view_of, inbox as inbox_in, units_on as units_on_in};
+ghost use Rattle.pipe_model.specs.{History.{history}, Flow.{view_of, inbox as inbox_in, units_on as units_on_in}};
 ghost use Rattle.plain_queues.specs.Views.{view_in};
 ghost use Rattle.plain_works.specs.Works.{units_by, units_in, taken_of, step_takes, with_taken};
 

@@ -1,9 +1,7 @@
 //! What stands outside of a call, in memory.
 
 ghost use Rattle.std.specs.Prelude.{◌≡◌, ℕ, List, IfOk, codes};
-ghost use Rattle.mem_edges.specs.MemSource.{IsUnread};
-ghost use Rattle.mem_edges.specs.MemSink.{IsUnwritten};
-ghost use Rattle.mem_edges.specs.MemEdges.{IsNew};
+ghost use Rattle.mem_edges.specs.{MemSource.{IsUnread}, MemSink.{IsUnwritten}, MemEdges.{IsNew}};
 ghost use Rattle.pipe_edges.specs.declared.edges.EdgeKind.{EdgeKind};
 
 use super::case::{Case, number};

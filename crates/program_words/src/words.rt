@@ -1,8 +1,7 @@
 //! Which command the words are.
 
 ghost use Rattle.std.specs.Prelude.{◌≡◌, ◌==◌, ◌||◌, ◌&&◌, IfOk, false, option_and_then, slice_index, bytes_eq, decimal};
-ghost use Rattle.clap.specs.Words.{app_of, found_of, rows_of, rule_of, subcommand_rows_of};
-ghost use Rattle.clap.specs.Takes.{is_given};
+ghost use Rattle.clap.specs.{Words.{app_of, found_of, rows_of, rule_of, subcommand_rows_of}, Takes.{is_given}};
 ghost use Rattle.pipe_types.specs.Sound.{is_between};
 ghost use Rattle.program_words.specs.Words.{command_of, texts_of, seen_as, flow_of, taken_of, named_in, check_in, upgrade_in, run_in, gen_in, audit_in, workers_in, workers_of, number_in as number_in_of, number_at as number_at_of, grammar, check_grammar, run_grammar, gen_grammar, upgrade_grammar, audit_grammar, flag_rule, word_rule};
 

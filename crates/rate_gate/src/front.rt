@@ -1,9 +1,7 @@
 //! What stands between a source and who reads it: a gate, and the bytes that were read ahead.
 
 ghost use Rattle.std.specs.Prelude.{◌≡◌, ◌<◌, ◌≤◌, ◌++◌, ℕ, [], false, length, IsTrue, IfOk};
-ghost use Rattle.pipe_edges.specs.Reads.{ReadsBytes, ReadIsCounted, ReadHasCause};
-ghost use Rattle.pipe_edges.specs.Paces.{ReadIsPaced, told_at};
-ghost use Rattle.pipe_edges.specs.declared.source.ReadEnd.TheVariants.{Empty};
+ghost use Rattle.pipe_edges.specs.{Reads.{ReadsBytes, ReadIsCounted, ReadHasCause}, Paces.{ReadIsPaced, told_at}, declared.source.ReadEnd.TheVariants.{Empty}};
 
 use crate::gate::Gate;
 use crate::room::{Gift, Room};

@@ -1,8 +1,7 @@
 //! A source in its gate.
 
 ghost use Rattle.std.specs.Prelude.{◌≡◌, ◌<◌, ◌≤◌, ℕ, List, [], Some, length, IsTrue, IfOk, IfErr, option_map};
-ghost use Rattle.pipe_edges.specs.Reads.{ReadsBytes, ReadIsCounted, ReadHasCause};
-ghost use Rattle.pipe_edges.specs.Paces.{PaceSeen, ReadIsPaced, told_at};
+ghost use Rattle.pipe_edges.specs.{Reads.{ReadsBytes, ReadIsCounted, ReadHasCause}, Paces.{PaceSeen, ReadIsPaced, told_at}};
 ghost use Rattle.rate_gate.specs.Gate.{pace_of, moment_of, given_of};
 
 use crate::front::Front;

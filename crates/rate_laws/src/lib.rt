@@ -5,12 +5,8 @@
 #![tactic(auto)]
 
 ghost use Rattle.std.specs.Prelude.{◌≡◌, ◌<◌, ◌≤◌, ℕ, length, IsTrue};
-ghost use Rattle.pipe_types.specs.declared.numbers.StageNo.{StageNo};
-ghost use Rattle.pipe_types.specs.declared.topology.Rate.{Rate};
-ghost use Rattle.pipe_types.specs.declared.topology.Topology.{Topology};
-ghost use Rattle.pipe_types.specs.Sound.{IsSound, producers};
-ghost use Rattle.pipe_model.specs.History.{History, now};
-ghost use Rattle.pipe_model.specs.Legal.{is_legal};
+ghost use Rattle.pipe_types.specs.{declared.numbers.StageNo.{StageNo}, declared.topology.Rate.{Rate}, declared.topology.Topology.{Topology}, Sound.{IsSound, producers}};
+ghost use Rattle.pipe_model.specs.{History.{History, now}, Legal.{is_legal}};
 ghost use Rattle.rate_laws.specs.Rates.{KeepsRate, KeepsShares, came_by, fetched_at, interval_of};
 
 /// No fetch was made later than now.

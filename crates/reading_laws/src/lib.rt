@@ -6,16 +6,11 @@
 #![tactic(auto)]
 
 ghost use Rattle.std.specs.Prelude.{◌≡◌, ℕ, List, ◌∷◌, ◌++◌, true, None, Ok, IsTrue};
-ghost use Rattle.pipe_types.specs.declared.step.Step.{Step};
-ghost use Rattle.pipe_types.specs.declared.topology.Topology.{Topology};
-ghost use Rattle.pipe_model.specs.History.{History};
-ghost use Rattle.pipe_model.specs.Legal.{is_legal};
+ghost use Rattle.pipe_types.specs.{declared.step.Step.{Step}, declared.topology.Topology.{Topology}};
+ghost use Rattle.pipe_model.specs.{History.{History}, Legal.{is_legal}};
 ghost use Rattle.journal_texts.specs.Steps.{journal_text};
-ghost use Rattle.line_reading.specs.declared.fault.Fault.{Fault};
-ghost use Rattle.line_reading.specs.Spelling.{IsSpelt};
-ghost use Rattle.reading_laws.specs.Named.{named_at};
-ghost use Rattle.reading_laws.specs.Fields.{IsHeld, AreHeld, IsCountable};
-ghost use Rattle.reading_laws.specs.Text.{Causes, text_in, IsTextOf};
+ghost use Rattle.line_reading.specs.{declared.fault.Fault.{Fault}, Spelling.{IsSpelt}};
+ghost use Rattle.reading_laws.specs.{Named.{named_at}, Fields.{IsHeld, AreHeld, IsCountable}, Text.{Causes, text_in, IsTextOf}};
 
 /// Each step of a legal journal has a line that is read as that step.
 #[tactic(auto, using(crate::proofs::Legal::legal_spelt))]

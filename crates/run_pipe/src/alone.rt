@@ -1,9 +1,7 @@
 //! A run by one worker.
 
 ghost use Rattle.std.specs.Prelude.{◌≡◌, ◌≤◌, []};
-ghost use Rattle.run_pipe.specs.Runs.{RanToEnd, IsIdleWithin};
-ghost use Rattle.run_pipe.specs.Seen.{PipeState, state_of, away_of};
-ghost use Rattle.run_pipe.specs.Stems.{Stems};
+ghost use Rattle.run_pipe.specs.{Runs.{RanToEnd, IsIdleWithin}, Seen.{PipeState, state_of, away_of}, Stems.{Stems}};
 
 use crate::pipe::Pipe;
 use pipe_edges::{ByteSource, Clock};

@@ -4,13 +4,8 @@ ghost use Rattle.std.specs.Prelude.{◌≡◌, [], None, Some, Err, IfSome, map,
 ghost use Rattle.core_state.specs.Stands.{Stands};
 ghost use Rattle.stage_bodies.specs.Seen.{body_at, line_seen};
 ghost use Rattle.body_laws.specs.Ready.{IsFilled};
-ghost use Rattle.stage_holds.specs.Keeping.{IsFresh};
-ghost use Rattle.stage_holds.specs.Clocks.{clock_seen};
-ghost use Rattle.run_pipe.specs.Parts.{state_by};
-ghost use Rattle.run_pipe.specs.Runs.{RanToEnd};
-ghost use Rattle.run_pipe.specs.Seen.{PipeSeen, state_of, away_of};
-ghost use Rattle.run_pipe.specs.Stems.{Stems};
-ghost use Rattle.run_pipe.specs.Whole.{IsPipe, IsWhole};
+ghost use Rattle.stage_holds.specs.{Keeping.{IsFresh}, Clocks.{clock_seen}};
+ghost use Rattle.run_pipe.specs.{Parts.{state_by}, Runs.{RanToEnd}, Seen.{PipeSeen, state_of, away_of}, Stems.{Stems}, Whole.{IsPipe, IsWhole}};
 
 use crate::ends::RunEnd;
 use core_state::Core;

@@ -2,14 +2,9 @@
 
 ghost use Rattle.std.specs.Prelude.{◌≡◌, ◌≢◌, true, Some, IfSome, IsSome};
 ghost use Rattle.pipe_types.specs.declared.numbers.Post.{Post as PostSeen};
-ghost use Rattle.pipe_model.specs.Begins.{BeginsWith};
-ghost use Rattle.pipe_model.specs.Posts.{is_out};
+ghost use Rattle.pipe_model.specs.{Begins.{BeginsWith}, Posts.{is_out}, History.{History}};
 ghost use Rattle.pipeline_turn.specs.Jobs.{IsUndone, IsUnanswered, IsOwnJob, AreAway};
-ghost use Rattle.pipe_model.specs.History.{History};
-ghost use Rattle.run_pipe.specs.Jobs.{IsLoadOf, IsHomeOf, IsBrought};
-ghost use Rattle.run_pipe.specs.Rounded.{Rounded, IsRecorded};
-ghost use Rattle.run_pipe.specs.Rounds.{round_of, end_of};
-ghost use Rattle.run_pipe.specs.Seen.{PipeSeen, PipeState, state_of, away_of};
+ghost use Rattle.run_pipe.specs.{Jobs.{IsLoadOf, IsHomeOf, IsBrought}, Rounded.{Rounded, IsRecorded}, Rounds.{round_of, end_of}, Seen.{PipeSeen, PipeState, state_of, away_of}};
 ghost use Rattle.run_pipe.specs.Stems.{Stems};
 ghost use Rattle.stage_workers.specs.Rounds.{IfJob, job_post, brought_post};
 

@@ -1,9 +1,7 @@
 //! A run by workers.
 
 ghost use Rattle.std.specs.Prelude.{◌≡◌, ◌≤◌, [], IsSomeAnd};
-ghost use Rattle.run_pipe.specs.Runs.{HasRun};
-ghost use Rattle.run_pipe.specs.Seen.{state_of, away_of};
-ghost use Rattle.run_pipe.specs.Stems.{Stems};
+ghost use Rattle.run_pipe.specs.{Runs.{HasRun}, Seen.{state_of, away_of}, Stems.{Stems}};
 
 use crate::alone::run_here;
 use crate::pipe::Pipe;

@@ -2,10 +2,8 @@
 
 ghost use Rattle.std.specs.Prelude.{◌≡◌, IfOk};
 ghost use Rattle.core_state.specs.Stands.{Stands};
-ghost use Rattle.journal_texts.specs.Acks.{ack_text as text_of_acks};
-ghost use Rattle.journal_texts.specs.Report.{places as places_in, report_text as text_of_report};
-ghost use Rattle.run_verdicts.specs.Texts.{run_text};
-ghost use Rattle.run_verdicts.specs.Verdicts.{whole_text};
+ghost use Rattle.journal_texts.specs.{Acks.{ack_text as text_of_acks}, Report.{places as places_in, report_text as text_of_report}};
+ghost use Rattle.run_verdicts.specs.{Texts.{run_text}, Verdicts.{whole_text}};
 
 use crate::verdict::{Shows, Texts};
 use ack_texts::ack_text;

@@ -1,11 +1,8 @@
 //! One fetch of lines.
 
 ghost use Rattle.std.specs.Prelude.{◌≡◌, ◌<◌, Some, IfOk, IfSome};
-ghost use Rattle.pipe_edges.specs.LineSource.{line_source, waiting, line_end_of};
-ghost use Rattle.pipe_edges.specs.Needed.{ReadsAsNeeded};
-ghost use Rattle.pipe_edges.specs.Fetch.{records_in, text_of};
-ghost use Rattle.source_lines.specs.Read.{ReadsOn, IsFetchAnswer};
-ghost use Rattle.source_lines.specs.Seen.{line_seen};
+ghost use Rattle.pipe_edges.specs.{LineSource.{line_source, waiting, line_end_of}, Needed.{ReadsAsNeeded}, Fetch.{records_in, text_of}};
+ghost use Rattle.source_lines.specs.{Read.{ReadsOn, IsFetchAnswer}, Seen.{line_seen}};
 
 use pipe_edges::{ByteSource, Fetched, LineSource};
 use std::alloc::AllocError;

@@ -1,9 +1,7 @@
 //! A body as a pipeline sees it.
 
 ghost use Rattle.std.specs.Prelude.{◌≡◌, OnErr, IfOk};
-ghost use Rattle.stage_bodies.specs.Seen.{BodySeen};
-ghost use Rattle.stage_bodies.specs.Moments.{told_body};
-ghost use Rattle.stage_bodies.specs.Jobs.{Fits, IsDone, IsCutOff, IsResetBody};
+ghost use Rattle.stage_bodies.specs.{Seen.{BodySeen}, Moments.{told_body}, Jobs.{Fits, IsDone, IsCutOff, IsResetBody}};
 
 use crate::job::{Answer, Job};
 use std::alloc::{AllocError, Global};

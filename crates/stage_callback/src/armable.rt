@@ -1,7 +1,6 @@
 //! Whether a callback may be armed with a spec.
 
-ghost use Rattle.std.specs.Prelude.{◌≡◌};
-ghost use Rattle.std.specs.List.{list_all};
+ghost use Rattle.std.specs.{Prelude.{◌≡◌}, List.{list_all}};
 ghost use Rattle.stage_callback.specs.Callbacks.{can_arm, is_countable as is_countable_in, routes_below as routes_below_in};
 
 use pipe_types::topology::{Rule, StageSpec};

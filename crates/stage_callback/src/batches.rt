@@ -1,7 +1,6 @@
 //! What the built-in kinds answer to a batch.
 
-ghost use Rattle.std.specs.Prelude.{◌≡◌, ◌∷◌, ◌++◌, [], IsTrue, IfOk, OnOk};
-ghost use Rattle.std.specs.List.{list_all};
+ghost use Rattle.std.specs.{Prelude.{◌≡◌, ◌∷◌, ◌++◌, [], IsTrue, IfOk, OnOk}, List.{list_all}};
 ghost use Rattle.pipe_types.specs.Handlers.{eval, batch_answer_by, count_after_batch, text_of};
 ghost use Rattle.stage_callback.specs.Callbacks.{is_countable};
 

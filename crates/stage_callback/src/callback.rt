@@ -1,13 +1,11 @@
 //! A callback: what a stage calls on its messages.
 
 ghost use Rattle.std.specs.Prelude.{◌≡◌, ◌≢◌, ◌≤◌, ℕ, Bool, true, false, List, IsTrue, IfOk, OnOk, OnErr};
-ghost use Rattle.pipe_types.specs.Handlers.{eval, batch_answer_by, count_after_batch, counted, is_own_reply};
-ghost use Rattle.pipe_types.specs.declared.topology.Kind.{Kind};
-ghost use Rattle.pipe_types.specs.declared.topology.StageSpec.{StageSpec};
+ghost use Rattle.pipe_types.specs.{Handlers.{eval, batch_answer_by, count_after_batch, counted, is_own_reply}, declared.topology.Kind.{Kind}};
+ghost use Rattle.pipe_types.specs.{declared.topology.StageSpec.{StageSpec}, Counts.{Rose}};
 ghost use Rattle.stage_callback.specs.declared.answers.Said.{Said};
 ghost use Rattle.stage_callback.specs.Callbacks.{can_arm, is_message_for, is_passed, is_ready, is_all_successful, is_prepared_answer, is_batch_answer, is_failed_answer, HasOwnText, failed_reply, said_with};
 ghost use Rattle.stage_callback.specs.Laws.{Keeps, KeepsBatch, KeepsChunk, KeepsFailed, Law, RoseExactly, free};
-ghost use Rattle.pipe_types.specs.Counts.{Rose};
 
 use crate::{BatchReply, FailedReply, Prepared};
 use pipe_types::message::{Batch, Message, Reply};

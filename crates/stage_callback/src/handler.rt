@@ -1,7 +1,6 @@
 //! What both built-in kinds hold: the spec that they were armed with, and how many messages they have seen.
 
-ghost use Rattle.std.specs.Prelude.{◌≡◌, true, IfOk, OnOk, OnErr, IsTrue, []};
-ghost use Rattle.std.specs.List.{list_all};
+ghost use Rattle.std.specs.{Prelude.{◌≡◌, true, IfOk, OnOk, OnErr, IsTrue, []}, List.{list_all}};
 ghost use Rattle.pipe_types.specs.Handlers.{eval, batch_answer_by, count_after_batch, counted, is_own_reply};
 ghost use Rattle.stage_callback.specs.Callbacks.{can_arm, is_message_for, is_batch_answer, failed_reply};
 

@@ -1,9 +1,7 @@
 //! The rules of the built-in kinds, each on one message.
 
-ghost use Rattle.std.specs.Prelude.{◌≡◌, ◌+◌, ◌++◌, ◌^◌, ◌<◌, IsTrue, IfOk, length};
-ghost use Rattle.std.specs.List.{list_all};
-ghost use Rattle.pipe_types.specs.Reason.{IsReasonText};
-ghost use Rattle.pipe_types.specs.Handlers.{begins_with, eval, rule_reply, rules_reply};
+ghost use Rattle.std.specs.{Prelude.{◌≡◌, ◌+◌, ◌++◌, ◌^◌, ◌<◌, IsTrue, IfOk, length}, List.{list_all}};
+ghost use Rattle.pipe_types.specs.{Reason.{IsReasonText}, Handlers.{begins_with, eval, rule_reply, rules_reply}};
 ghost use Rattle.stage_callback.specs.Callbacks.{is_countable};
 
 use crate::copies::copy_bytes;

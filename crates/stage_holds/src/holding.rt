@@ -6,9 +6,7 @@ ghost use Rattle.core_state.specs.Stands.{Stands};
 ghost use Rattle.stage_bodies.specs.Seen.{body_at, line_seen};
 ghost use Rattle.body_laws.specs.Ready.{Ready};
 ghost use Rattle.stage_moves.specs.Clocks.{clock_seen};
-ghost use Rattle.stage_holds.specs.Holds.{Holds, IsHome};
-ghost use Rattle.stage_holds.specs.Nexts.{HasSlept};
-ghost use Rattle.stage_holds.specs.Parts.{parts_by};
+ghost use Rattle.stage_holds.specs.{Holds.{Holds, IsHome}, Nexts.{HasSlept}, Parts.{parts_by}};
 
 use crate::homes::come_home;
 use crate::leaves::leave;

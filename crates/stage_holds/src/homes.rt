@@ -3,12 +3,9 @@
 ghost use Rattle.std.specs.Prelude.{◌≡◌, ◌≤◌, length, IsTrue, OnOk, OnErr};
 ghost use Rattle.pipe_model.specs.Legal.{allows};
 ghost use Rattle.core_state.specs.Stands.{Stands};
-ghost use Rattle.stage_bodies.specs.Posts.{brings_records};
-ghost use Rattle.stage_bodies.specs.Seen.{body_at};
-ghost use Rattle.body_laws.specs.Lates.{late_of};
-ghost use Rattle.body_laws.specs.Ready.{Ready};
-ghost use Rattle.stage_holds.specs.Answers.{is_in_time, answer_step, with_answered};
-ghost use Rattle.stage_holds.specs.Holds.{Comes, IsHome};
+ghost use Rattle.stage_bodies.specs.{Posts.{brings_records}, Seen.{body_at}};
+ghost use Rattle.body_laws.specs.{Lates.{late_of}, Ready.{Ready}};
+ghost use Rattle.stage_holds.specs.{Answers.{is_in_time, answer_step, with_answered}, Holds.{Comes, IsHome}};
 
 use crate::loads::Home;
 use core_lates::late;

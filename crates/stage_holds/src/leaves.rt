@@ -1,12 +1,9 @@
 //! A worker goes away with a job.
 
 ghost use Rattle.std.specs.Prelude.{◌≡◌, ◌<◌, length, IfOk};
-ghost use Rattle.pipe_model.specs.Moves.{move as next_move_of, Job as JobMove};
+ghost use Rattle.pipe_model.specs.{Moves.{move as next_move_of, Job as JobMove}, History.{now as last_tick}};
 ghost use Rattle.core_state.specs.Stands.{Stands};
-ghost use Rattle.pipe_model.specs.History.{now as last_tick};
-ghost use Rattle.stage_bodies.specs.Seen.{body_at};
-ghost use Rattle.stage_bodies.specs.Moments.{told_for};
-ghost use Rattle.stage_bodies.specs.Posts.{place_at};
+ghost use Rattle.stage_bodies.specs.{Seen.{body_at}, Moments.{told_for}, Posts.{place_at}};
 ghost use Rattle.body_laws.specs.Ready.{Ready};
 ghost use Rattle.stage_holds.specs.Holds.{LeavesOn};
 

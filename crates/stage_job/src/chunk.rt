@@ -1,16 +1,11 @@
 //! A chunk of a processor through its callback.
 
-ghost use Rattle.std.specs.Prelude.{◌≡◌, ◌≢◌, ◌≤◌, ◌<◌, ◌^◌, false, List, [], ◌∷◌, ◌++◌, Some, IsTrue, IfOk, OnOk, length, count_by};
-ghost use Rattle.std.specs.List.{list_all};
-ghost use Rattle.pipe_types.specs.Counts.{Rose};
-ghost use Rattle.pipe_types.specs.Handlers.{eval, counted, with_reason, reason_of, chunk_replies, is_crashed, is_own_reason, is_own_reply, are_own_replies};
+ghost use Rattle.std.specs.{Prelude.{◌≡◌, ◌≢◌, ◌≤◌, ◌<◌, ◌^◌, false, List, [], ◌∷◌, ◌++◌, Some, IsTrue, IfOk, OnOk, length, count_by}, List.{list_all}};
+ghost use Rattle.pipe_types.specs.{Counts.{Rose}, Handlers.{eval, counted, with_reason, reason_of, chunk_replies, is_crashed, is_own_reason, is_own_reply, are_own_replies}};
 ghost use Rattle.pipe_model.specs.Content.{has_crash};
-ghost use Rattle.stage_callback.specs.Callbacks.{is_message_for, is_passed, is_ready, is_prepared_answer};
-ghost use Rattle.stage_callback.specs.Laws.{Keeps, KeepsChunk};
-ghost use Rattle.stage_callback.specs.declared.answers.FailedReply.{FailedReply};
+ghost use Rattle.stage_callback.specs.{Callbacks.{is_message_for, is_passed, is_ready, is_prepared_answer}, Laws.{Keeps, KeepsChunk}, declared.answers.FailedReply.{FailedReply}};
 ghost use Rattle.stage_callback.specs.declared.answers.Said.{Said};
-ghost use Rattle.stage_job.specs.Lawful.{AreLawful, AreRepliesTo, IsLawful, IsRaised, IsReasonLeft};
-ghost use Rattle.stage_job.specs.Told.{chunk_by, replies_by, raised_by, reason_by, MakeReply};
+ghost use Rattle.stage_job.specs.{Lawful.{AreLawful, AreRepliesTo, IsLawful, IsRaised, IsReasonLeft}, Told.{chunk_by, replies_by, raised_by, reason_by, MakeReply}};
 ghost use Rattle.stage_job.specs.Chunks.{never_crashes, RoseBy};
 
 use pipe_types::message::{Message, MessageList, Reply, ReplyList};

@@ -6,24 +6,12 @@
 //! Each function is a law: it does nothing, and its clause states the law. `proofs/` has the facts behind them.
 #![tactic(auto)]
 
-ghost use Rattle.std.specs.Prelude.{◌≡◌, ℕ, ◌+◌, ◌≤◌, List, ◌∷◌, length, true, Some, IsTrue};
-ghost use Rattle.std.specs.List.{list_any};
-ghost use Rattle.pipe_types.specs.declared.numbers.StageNo.{StageNo};
-ghost use Rattle.pipe_types.specs.declared.numbers.SubNo.{SubNo};
-ghost use Rattle.pipe_types.specs.declared.numbers.BatchNo.{BatchNo};
-ghost use Rattle.pipe_types.specs.declared.topology.Topology.{Topology};
-ghost use Rattle.pipe_types.specs.declared.message.Place.TheVariants.{Running, InBatch};
-ghost use Rattle.pipe_types.specs.Stages.{spec_of};
-ghost use Rattle.pipe_types.specs.Sound.{IsSound};
-ghost use Rattle.pipe_model.specs.History.{History, accepted, closed};
-ghost use Rattle.pipe_model.specs.Posts.{in_slot, slots};
-ghost use Rattle.pipe_model.specs.Flow.{place, batch, view_of, waiting, among, numbers_in, open_batch_by, is_number};
-ghost use Rattle.pipe_model.specs.Ledger.{handled};
-ghost use Rattle.pipe_model.specs.Legal.{is_legal, has_role, is_supervisor_role, batch_size_in, fetches_out};
-ghost use Rattle.pipe_types.specs.declared.step.Step.{Step};
-ghost use Rattle.pipe_model.specs.Standing.{running};
-ghost use Rattle.stage_laws.specs.Numbered.{IsNumberedTopology};
-ghost use Rattle.stage_laws.specs.Running.{running_after};
+ghost use Rattle.std.specs.{Prelude.{◌≡◌, ℕ, ◌+◌, ◌≤◌, List, ◌∷◌, length, true, Some, IsTrue}, List.{list_any}};
+ghost use Rattle.pipe_types.specs.{declared.numbers.StageNo.{StageNo}, declared.numbers.SubNo.{SubNo}, declared.numbers.BatchNo.{BatchNo}, declared.topology.Topology.{Topology}};
+ghost use Rattle.pipe_types.specs.{declared.message.Place.TheVariants.{Running, InBatch}, Stages.{spec_of}, Sound.{IsSound}, declared.step.Step.{Step}};
+ghost use Rattle.pipe_model.specs.{History.{History, accepted, closed}, Posts.{in_slot, slots}, Flow.{place, batch, view_of, waiting, among, numbers_in, open_batch_by, is_number}};
+ghost use Rattle.pipe_model.specs.{Ledger.{handled}, Legal.{is_legal, has_role, is_supervisor_role, batch_size_in, fetches_out}, Standing.{running}};
+ghost use Rattle.stage_laws.specs.{Numbered.{IsNumberedTopology}, Running.{running_after}};
 
 /// The stages of a sound topology stand in it by their numbers, and there are at most 64.
 #[tactic(auto, using(crate::proofs::Laws::numbered_law))]

@@ -2,18 +2,14 @@
 
 ghost use Rattle.std.specs.Prelude.{◌≡◌, ◌<◌, ◌≤◌, ◌+◌, ◌*◌, ℕ, false, length, OnOk, IfOk, Option, is_some, option_map};
 ghost use Rattle.pipe_types.specs.declared.step.Step.{Step as StepSeen};
-ghost use Rattle.pipe_model.specs.History.{controls};
-ghost use Rattle.pipe_model.specs.Legal.{happened, is_halt};
-ghost use Rattle.pipe_model.specs.Moves.{move as next_move_of, jobs_out, StepMove, Pause as PauseMove};
+ghost use Rattle.pipe_model.specs.{History.{controls}, Legal.{happened, is_halt}, Moves.{move as next_move_of, jobs_out, StepMove, Pause as PauseMove}};
 ghost use Rattle.work_laws.specs.Left.{work_left};
 ghost use Rattle.core_state.specs.Stands.{Stands};
 ghost use Rattle.core_moves.specs.Moves.{seen_as};
 ghost use Rattle.stage_bodies.specs.Seen.{LineSeen, body_at, line_seen};
 ghost use Rattle.body_laws.specs.Ready.{Ready};
 ghost use Rattle.control_lines.specs.Keeping.{KeepsControl, KeepsControlOn};
-ghost use Rattle.stage_moves.specs.Going.{GoesOn, AddsSilently};
-ghost use Rattle.stage_moves.specs.Clocks.{ClockSeen, clock_seen, KeepsClock, KeepsClockAheadOn};
-ghost use Rattle.stage_moves.specs.Pauses.{rounds_left};
+ghost use Rattle.stage_moves.specs.{Going.{GoesOn, AddsSilently}, Clocks.{ClockSeen, clock_seen, KeepsClock, KeepsClockAheadOn}, Pauses.{rounds_left}};
 
 use crate::clocks::read_clock;
 use crate::steps::go_on;

@@ -4,9 +4,7 @@ ghost use Rattle.std.specs.Prelude.{◌≡◌, false};
 ghost use Rattle.pipe_types.specs.Counts.{Rose};
 ghost use Rattle.pipe_model.specs.Legal.{happened, is_halt};
 ghost use Rattle.core_state.specs.Stands.{Stands};
-ghost use Rattle.stage_moves.specs.Clocks.{clock_seen, IsRead, IsPaused};
-ghost use Rattle.stage_moves.specs.Going.{Waits};
-ghost use Rattle.stage_moves.specs.Pauses.{least_time, pause_of};
+ghost use Rattle.stage_moves.specs.{Clocks.{clock_seen, IsRead, IsPaused}, Going.{Waits}, Pauses.{least_time, pause_of}};
 
 use core_calls::asks::tick;
 use core_state::Core;

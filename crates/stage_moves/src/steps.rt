@@ -1,8 +1,7 @@
 //! The steps of the pipeline's own.
 
 ghost use Rattle.std.specs.Prelude.{◌<◌, ◌≡◌, length, OnOk, IfOk};
-ghost use Rattle.pipe_types.specs.declared.step.Step.{Step as StepSeen};
-ghost use Rattle.pipe_types.specs.declared.step.Step.TheVariants.{Restart};
+ghost use Rattle.pipe_types.specs.{declared.step.Step.{Step as StepSeen}, declared.step.Step.TheVariants.{Restart}};
 ghost use Rattle.pipe_model.specs.Moves.{move as next_move_of, StepMove};
 ghost use Rattle.work_laws.specs.Left.{work_left};
 ghost use Rattle.core_state.specs.Stands.{Stands};

@@ -6,11 +6,9 @@
 #![tactic(auto)]
 
 ghost use Rattle.std.specs.Prelude.{◌≡◌, ◌==◌, ◌+◌, ◌*◌, ◌<◌, ◌≤◌, ◌^◌, ◌-◌, ◌↔◌, [], Option, true, false, length, option_map, IsTrue, IsSome, IfSome, OnOk, IfOk, OnErr, nat_lt, if◌then◌else◌};
-ghost use Rattle.pipe_types.specs.Numbers.{subscription};
+ghost use Rattle.pipe_types.specs.{Numbers.{subscription}, declared.numbers.StageNo.{StageNo as Stage}};
 ghost use Rattle.pipe_model.specs.Lives.{exits as mode_exits};
-ghost use Rattle.pipe_types.specs.declared.numbers.StageNo.{StageNo as Stage};
-ghost use Rattle.stage_demand.specs.Demand.{counts_of};
-ghost use Rattle.stage_demand.specs.declared.TheConstants.{MAX_DEMAND};
+ghost use Rattle.stage_demand.specs.{Demand.{counts_of}, declared.TheConstants.{MAX_DEMAND}};
 ghost use Rattle.stage_subs.specs.Subs.{row_at, row_of, rows_of, seen_in, slot_of, generation_in, live_in, live_rows, has_due_in, due_rows, is_live, live_sub, open_in, due_on, room_on, room_below as room_below_in, room_to as room_to_in, begun, closed, asked_more, sent_more, handled_more, IsPut, IsChanged};
 
 use pipe_types::message::Why;

@@ -2,10 +2,8 @@
 
 ghost use Rattle.std.specs.Prelude.{◌≡◌, ◌≢◌, true, Some, IfSome};
 ghost use Rattle.pipe_types.specs.declared.numbers.Post.{Post};
-ghost use Rattle.pipe_model.specs.History.{History};
-ghost use Rattle.pipe_model.specs.Posts.{is_out};
+ghost use Rattle.pipe_model.specs.{History.{History}, Posts.{is_out}, Begins.{BeginsWith}};
 ghost use Rattle.pipeline_turn.specs.Jobs.{IsUnanswered, IsUndone, IsOwnJob, AreAway};
-ghost use Rattle.pipe_model.specs.Begins.{BeginsWith};
 ghost use Rattle.stage_workers.specs.Rounds.{IfJob, job_post, brought_post};
 
 use pipe_types::numbers::Post;

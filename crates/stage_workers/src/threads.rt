@@ -1,7 +1,6 @@
 //! Workers in threads.
 
-ghost use Rattle.std.specs.Prelude.{◌≡◌, ◌<◌, ◌≤◌, [], IfOk, IfErr};
-ghost use Rattle.std.specs.Thread.{IsSend, IsSync};
+ghost use Rattle.std.specs.{Prelude.{◌≡◌, ◌<◌, ◌≤◌, [], IfOk, IfErr}, Thread.{IsSend, IsSync}};
 ghost use Rattle.pipeline_turn.specs.Seats.{IsIdle, IsSameSeat};
 
 use crate::shift::Shift;

@@ -2,8 +2,7 @@
 
 ghost use Rattle.std.specs.Prelude.{◌≡◌, ◌-◌, ◌≤◌, false, true, IfSome, nat_le};
 ghost use Rattle.pipeline_turn.specs.Seats.{IsIdle, IsSameSeat};
-ghost use Rattle.stage_workers.specs.Rounds.{job_post, brought_post};
-ghost use Rattle.stage_workers.specs.Holds.{post_after, Comes, after_round};
+ghost use Rattle.stage_workers.specs.{Rounds.{job_post, brought_post}, Holds.{post_after, Comes, after_round}};
 
 use crate::shift::{Round, Shift};
 use pipe_types::numbers::Post;

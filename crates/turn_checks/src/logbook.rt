@@ -1,12 +1,9 @@
 //! A journal and a token for each stage, as a value that seats hand about.
 ghost use Rattle.std.specs.Prelude.{◌≡◌, ◌≢◌, IfSome, IfOk, Some, None, true, [], Contains};
-ghost use Rattle.pipe_types.specs.declared.numbers.Post.{Post};
-ghost use Rattle.pipe_model.specs.Begins.{BeginsWith};
-ghost use Rattle.pipe_model.specs.Posts.{answers, puts_out, is_out};
-ghost use Rattle.pipe_types.specs.Numbers.{same_post, post as post_of};
+ghost use Rattle.pipe_types.specs.{declared.numbers.Post.{Post}, Numbers.{same_post, post as post_of}};
+ghost use Rattle.pipe_model.specs.{Begins.{BeginsWith}, Posts.{answers, puts_out, is_out}};
 ghost use Rattle.pipe_journal.specs.Views.{step_seen};
-ghost use Rattle.turn_checks.specs.Logged.{out_next};
-ghost use Rattle.turn_checks.specs.Tokens.{away_from, brought_post, entry_post};
+ghost use Rattle.turn_checks.specs.{Logged.{out_next}, Tokens.{away_from, brought_post, entry_post}};
 ghost use Rattle.pipeline_turn.specs.Jobs.{IsUnanswered, IsOwnJob, AreAway};
 
 use crate::tokens::{Job, Token, first_at_home, put_token, take_token, tokens};

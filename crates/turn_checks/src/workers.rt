@@ -1,6 +1,5 @@
 //! As many workers as there are seats.
-ghost use Rattle.std.specs.Prelude.{◌≡◌, ◌<◌, ◌≤◌, false, true, None, [], IfOk, IfErr};
-ghost use Rattle.std.specs.Thread.{IsSend, IsSync};
+ghost use Rattle.std.specs.{Prelude.{◌≡◌, ◌<◌, ◌≤◌, false, true, None, [], IfOk, IfErr}, Thread.{IsSend, IsSync}};
 ghost use Rattle.pipe_model.specs.Begins.{BeginsWith};
 ghost use Rattle.pipeline_turn.specs.Seats.{IsIdle, IsSameSeat};
 ghost use Rattle.turn_checks.specs.Tokens.{brought_post, entry_post};

@@ -6,16 +6,10 @@
 #![tactic(auto)]
 
 ghost use Rattle.std.specs.Prelude.{◌≡◌, ◌∷◌, ◌<◌, ◌≤◌, ℕ, true, IsTrue};
-ghost use Rattle.pipe_types.specs.declared.numbers.StageNo.{StageNo};
-ghost use Rattle.pipe_types.specs.declared.step.Step.{Step};
-ghost use Rattle.pipe_types.specs.declared.step.Step.TheVariants.{Fetch, Quiet, Tick};
-ghost use Rattle.pipe_types.specs.declared.topology.Topology.{Topology};
-ghost use Rattle.pipe_types.specs.Sound.{IsSound};
-ghost use Rattle.pipe_model.specs.History.{History};
-ghost use Rattle.pipe_model.specs.Legal.{is_legal, quiet_row};
-ghost use Rattle.work_laws.specs.Work.{work_done, is_work};
-ghost use Rattle.work_laws.specs.Limits.{most_work};
-ghost use Rattle.work_laws.specs.Left.{work_left};
+ghost use Rattle.pipe_types.specs.{declared.numbers.StageNo.{StageNo}, declared.step.Step.{Step}, declared.step.Step.TheVariants.{Fetch, Quiet, Tick}};
+ghost use Rattle.pipe_types.specs.{declared.topology.Topology.{Topology}, Sound.{IsSound}};
+ghost use Rattle.pipe_model.specs.{History.{History}, Legal.{is_legal, quiet_row}};
+ghost use Rattle.work_laws.specs.{Work.{work_done, is_work}, Limits.{most_work}, Left.{work_left}};
 
 /// A journal has at most so many steps of work, however long it runs.
 #[tactic(auto, using(crate::proofs::Laws::work_law))]
