@@ -82,11 +82,7 @@ impl Reader {
     }
 
     /// Opens what the name of one of the sources of a merge says. A listener's peer is not waited for: a later read accepts it.
-    pub fn open_stream(
-        rt: &HostRuntime,
-        opened: &mut OpenFiles,
-        name: &str,
-    ) -> io::Result<Reader>
+    pub fn open_stream(rt: &HostRuntime, opened: &mut OpenFiles, name: &str) -> io::Result<Reader>
         ensures { IfOk result (λ _. IsSourceName name.now) }
     {
         match SourceName::parse(name) {
