@@ -16,7 +16,7 @@ use Rattle.edge_names.specs.declared.opening.Unopened.{Unopened}
 use Rattle.edge_names.specs.declared.opening.Unopened.TheVariants.{Failed, OutOfMemory}
 use Rattle.edge_names.proofs.Cuts.{cut_back, cut_nothing, failed_feed, is_source, opens_not}
 use Rattle.edge_names.proofs.Gating.{fed_gated}
-use Rattle.edge_names.proofs.Merging.{up_to_none}
+use Rattle.edge_names.proofs.Merges.{up_to_none}
 use Rattle.edge_names.proofs.Openings.{fed_calls}
 use Rattle.edge_names.proofs.Returns.{calm_written, off_as, off_nothing}
 

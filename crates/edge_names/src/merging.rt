@@ -1,6 +1,6 @@
 //! The sources of a merge, opened and given back in the order of their names.
 
-ghost use Rattle.std.specs.Prelude.{◌≡◌, ◌×◌, ◌≤◌, [], Some, length, map, IfOk, IfErr, IsSome, OnOk, OnErr};
+ghost use Rattle.std.specs.Prelude.{◌≡◌, ◌≤◌, [], Some, length, map, IfOk, IfErr, IsSome, OnOk, OnErr};
 ghost use Rattle.stage_bodies.specs.Seen.{merge_seen};
 ghost use Rattle.edge_names.specs.{Supplies.{feed_calls, merge_count, merged_names, under_names}, Opened.{Asks, GiveSources, IfCutOff, IfFailed, IsMergeOf, IsOneCut, IsOneFailed}};
 ghost use Rattle.edge_names.specs.Returned.{GivesBack, GivesOff, IsBackUpTo};

@@ -1,6 +1,6 @@
 //! How the producers of a run come to their sources.
 
-ghost use Rattle.std.specs.Prelude.{◌≡◌, ◌×◌, ◌≤◌, [], false, is_none, Some, Option, option_map, IfOk, IfErr, IfSome, OnOk, OnErr};
+ghost use Rattle.std.specs.Prelude.{◌≡◌, ◌≤◌, [], false, is_none, Some, Option, option_map, IfOk, IfErr, IfSome, OnOk, OnErr};
 ghost use Rattle.pipe_types.specs.declared.topology.StageSpec.{StageSpec};
 ghost use Rattle.stage_bodies.specs.Seen.{OneSource, source_seen};
 ghost use Rattle.edge_names.specs.{Supplies.{Feed, by_name, feed_at, feed_calls, given_back, merge_count}, Naming.{splits_in}, Opened.{Asks, FailsToOpen, IfCutOff, IfFailed, IsSupplied}};
@@ -10,7 +10,8 @@ use crate::names::{copy_name, count_merged};
 use crate::opening::Unopened;
 use crate::seen::{SeenEdges, SeenSource};
 use pipe_edges::{ByteSource, EdgeEnd, Edges};
-use pipe_types::topology::{Role, StageSpec, Topology};
+use pipe_types::topology::{StageSpec, Topology};
+use stage_bodies::has_several_sources;
 use std::alloc::{AllocError, Global};
 
 /// Supplies producers with their sources, and gives back what they opened.
@@ -73,7 +74,7 @@ impl ByName {
         ByName {
             alloc,
             splits,
-            has_several: has_several(splits, topology),
+            has_several: has_several_sources(topology.stages.as_slice()),
         }
     }
 
@@ -87,27 +88,6 @@ impl ByName {
             has_several: false,
         }
     }
-}
-
-fn is_merge(splits: bool, spec: &StageSpec) -> bool {
-    match &spec.edge {
-        Some(text) => spec.role == Role::Producer && count_merged(splits, text.as_str()).is_some(),
-        None => false,
-    }
-}
-
-/// Whether there are several sources: more than one producer, or a merge.
-fn has_several(splits: bool, topology: &Topology) -> bool {
-    let mut producers = 0u64;
-    for spec in topology.stages.as_slice() {
-        if is_merge(splits, spec) {
-            return true;
-        }
-        if spec.role == Role::Producer {
-            producers = producers.saturating_add(1);
-        }
-    }
-    producers > 1
 }
 
 // The calls are made here and not in generic functions over `Edges`, which a method of an implementation cannot call.

@@ -1,18 +1,14 @@
 -- The names in the text of a merged source.
-use Rattle.std.proofs.Common.{◌≡◌, ◌≢◌, ◌≤◌, ◌<◌, ℕ, zero, suc, ◌+◌, Bool, true, false, List, [], ◌∷◌, ◌++◌, length, take, drop, get_or, cond, codes, refl, ap, sym, ◌∙◌, subst, arith}
+use Rattle.std.proofs.Common.{◌≡◌, ◌≢◌, ◌≤◌, ◌<◌, ℕ, zero, suc, ◌+◌, ◌-◌, Bool, true, false, List, [], ◌∷◌, ◌++◌, length, take, drop, get_or, cond, refl, ap, sym, ◌∙◌, subst, arith}
 use Rattle.std.specs.Prelude.{◌==◌, ◌&&◌, slice_get, count_by, Option, Some, None, option_map, if◌then◌else◌, IsSome, IfSome}
-use Rattle.std.specs.List.{list_all, starts_with}
-use Rattle.std.specs.Option.{MatchOption}
-use Rattle.std.specs.Str.{IsCharBoundary}
-use Rattle.std.specs.Str.Pattern.{StripsPrefix, FindsTextPrefix}
-use Rattle.std.proofs.lemmas.Bool.{eqb-false, ne_eqb, leb-true}
-use Rattle.std.proofs.lemmas.Str.Pattern.{IsSplitOnceResult, split_parts, starts_text}
+use Rattle.std.specs.List.{list_all}
+use Rattle.std.proofs.lemmas.List.Sums.{sum_by-cons}
+use Rattle.std.proofs.lemmas.Bool.{ne_eqb, leb-true}
+use Rattle.std.proofs.lemmas.Str.Pattern.{IsSplitOnceResult, split_parts}
 use denote.Ref.{Bor}
-use Rattle.pipe_types.specs.Handlers.{begins_with}
 use Rattle.pipe_types.specs.Sound.{is_between}
 use Rattle.pipe_laws.proofs.Tests.{and_left, and_right}
-use Rattle.config_rule.specs.SourceText.{are_names, before_first, is_name, may_be_source, merged_in, parts}
-use Rattle.edge_names.specs.Naming.{parts_behind}
+use Rattle.config_rule.specs.SourceText.{are_names, before_first, is_name, merged_in, parts}
 use Rattle.edge_names.specs.Supplies.{Feed, Opened, Merged, feed_at, feed_of_names, feed_of_text, fitting, merge_count, names_of}
 
 -- ---- commas
@@ -49,15 +45,33 @@ count_before b (p ∷ ps) some = refl
 
 pub count_parts : (text : List ℕ) → length (parts text) ≡ count_by is_comma text + 1
 count_parts [] = omega arith
-count_parts (b ∷ bs) = by (b == 44) refl
+count_parts (b ∷ bs) =
+    let all : count_by is_comma (b ∷ bs) ≡ cond (b == 44) 1 0 + count_by is_comma bs = sum_by-cons (λ x. cond (is_comma x) 1 0) b bs in
+    by (b == 44) (count_parts bs) ∙ ap (λ n. n + 1) (sym all)
   where
-    more = count_parts bs
-
-    by : (is : Bool) → (b == 44) ≡ is → length (if is then [] ∷ parts bs else before_first b (parts bs)) ≡ (cond is 1 0 + count_by is_comma bs) + 1
-    by true is = omega (arith, more)
-    by false is =
+    by : (is : Bool) → length (parts bs) ≡ count_by is_comma bs + 1 → length (if is then [] ∷ parts bs else before_first b (parts bs)) ≡ (cond is 1 0 + count_by is_comma bs) + 1
+    by true more = omega (arith, more)
+    by false more =
         let same = count_before b (parts bs) (omega (arith, more)) in
         omega (arith, same, more)
+
+-- ---- places
+
+-- what stands behind the first name are the next ones
+pub next_place : (names rest : List ℕ) (name : List ℕ) (behind : List ℕ) (i : ℕ) → ((j k : ℕ) → j ≡ i + k → slice_get (parts names) j ≡ slice_get (parts rest) k) → parts rest ≡ name ∷ parts behind
+    → (j k : ℕ) → j ≡ i + 1 + k → slice_get (parts names) j ≡ slice_get (parts behind) k
+next_place names rest name behind i same cut j k e = same j (suc k) (omega (arith, e)) ∙ ap (λ ps. slice_get ps (suc k)) cut
+
+-- behind the last name there is none
+pub no_place : (names rest name : List ℕ) (i place : ℕ) → ((j k : ℕ) → j ≡ i + k → slice_get (parts names) j ≡ slice_get (parts rest) k) → parts rest ≡ name ∷ [] → i < place → None ≡ slice_get (parts names) place
+no_place names rest name i place same cut lt = sym (beyond (place - i) (omega (arith, lt)) (omega (arith, lt)))
+  where
+    beyond : (k : ℕ) → 1 ≤ k → place ≡ i + k → slice_get (parts names) place ≡ None
+    beyond zero some e = absurd (omega (arith, some))
+    beyond (suc k) some e = same place (suc k) e ∙ ap (λ ps. slice_get ps (suc k)) cut
+
+pub this_place : (names rest name : List ℕ) (others : List (List ℕ)) (place : ℕ) → ((j k : ℕ) → j ≡ place + k → slice_get (parts names) j ≡ slice_get (parts rest) k) → parts rest ≡ name ∷ others → Some name ≡ slice_get (parts names) place
+this_place names rest name others place same cut = sym (same place 0 (omega arith) ∙ ap (λ ps. slice_get ps 0) cut)
 
 -- ---- how many
 
@@ -67,41 +81,6 @@ names_count names fit =
     (leb-true 2 (length names) (and_left _ _ between), leb-true (length names) 64 (and_right _ _ between))
 
 -- ---- merges
-
-abbrev many : List ℕ
-many = codes "many:"
-
--- what is stripped of `many:`
-pub stripped : (text : List ℕ) (r : Option (Bor (List ℕ))) → MatchOption r (FindsTextPrefix many text None) (λ x. StripsPrefix (FindsTextPrefix many) text x.now) → option_map (λ x. x.now) r ≡ merged_in text
-stripped text None h = by (begins_with many text) (starts_text false many text h)
-  where
-    by : (b : Bool) → false ≡ b → None ≡ (if b then Some (drop 5 text) else None)
-    by true e = cc
-    by false e = refl
-stripped text (Some x) h =
-    let at : h.0 ≡ 5 = h.1.0 in
-    let begins : true ≡ begins_with many text = starts_text true many text (h.0, h.1, subst (λ k. IsCharBoundary text k) (sym at) h.1.2) in
-    by (begins_with many text) begins (h.2 ∙ ap (λ k. drop k text) at)
-  where
-    by : (b : Bool) → true ≡ b → x.now ≡ drop 5 text → Some x.now ≡ (if b then Some (drop 5 text) else None)
-    by true e is = ap Some is
-    by false e is = cc
-
-pub unfit : (o : Option (List ℕ)) → may_be_source o ≡ false → fitting o ≡ None
-unfit (Some names) e = by (are_names (parts names)) e
-  where
-    by : (b : Bool) → b ≡ false → (if b then Some names else None) ≡ None
-    by true e = cc
-    by false e = refl
-unfit None e = cc
-
-pub fit : (o : Option (List ℕ)) → may_be_source o ≡ true → fitting o ≡ o
-fit (Some names) e = by (are_names (parts names)) e
-  where
-    by : (b : Bool) → b ≡ true → (if b then Some names else None) ≡ Some names
-    by true e = refl
-    by false e = cc
-fit None e = refl
 
 fitted : (o : Option (List ℕ)) (names : List ℕ) → fitting o ≡ Some names → are_names (parts names) ≡ true
 fitted (Some own) names e = by (are_names (parts own)) refl e
