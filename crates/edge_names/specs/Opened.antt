@@ -21,7 +21,7 @@ use Rattle.edge_names.specs.Seen.{EdgesSeen}
 use Rattle.edge_names.specs.Named.{GivesSource, GivesSink}
 use Rattle.pace_laws.specs.Pacing.{at_start}
 use Rattle.edge_names.specs.Gates.{without_gate}
-use Rattle.edge_names.specs.Supplies.{Feeds, Feed, Opened, Merged, Made, Supplied, Fed, Written, IsMade, calls_for, stage_calls, supplied}
+use Rattle.edge_names.specs.Supplies.{Feeds, Feed, Opened, Merged, Made, Supplied, Fed, Written, IsMade, calls_for, source_call, stage_calls, supplied}
 use Rattle.edge_names.specs.declared.opening.Unopened.{Unopened}
 use Rattle.edge_names.specs.declared.opening.Unopened.TheVariants.{Failed, OutOfMemory}
 
@@ -83,6 +83,17 @@ pub record GivesFed (edges : EdgesSeen) (pace : Option Pace) (feed : Feed) (line
   pub nothing_waits : lines.waiting ≡ []
   pub no_end : lines.end ≡ None
 
+-- the sources that were opened under these names, in order
+abbrev pub GiveSources : EdgesSeen → List (List ℕ) → List SourceSeen → Type 0
+GiveSources edges [] [] = Unit {0}
+GiveSources edges (name ∷ names) (source ∷ sources) = GivesSource edges name source × GiveSources edges names sources
+GiveSources edges _ _ = ⊥
+
+-- the merge of these sources, of which no line was read
+pub record IsMergeOf (sources : List SourceSeen) (merge : MergeSeen) : Type 0 where
+  pub same : sources_in (MergedSeen merge) ≡ sources
+  pub unread : AreMergedFrom sources merge []
+
 -- the sources that were opened under these names, 2 to 64, in order, of which no line was read. They stand in no gate
 pub record GivesMerge (edges : EdgesSeen) (names : List (List ℕ)) (merge : MergeSeen) : Type 0 where
   pub some : 2 ≤ length names
@@ -143,6 +154,12 @@ IfFailed OutOfMemory P = Unit {0}
 abbrev pub IfCutOff : Unopened → Type 0 → Type 0
 IfCutOff (Failed name) P = Unit {0}
 IfCutOff OutOfMemory P = P
+
+-- the call that opens this source failed by this name
+pub record FailsToOpen (feed : Option Feed) (name : List ℕ) (old new : EdgesSeen) : Type 0 where
+  pub is : feed ≡ Some (Opened name)
+  pub asks : Asks (source_call name ∷ []) old new
+  pub fault : Rose old.faults new.faults
 
 -- each of these calls opened a source, of which nothing was read, under its name
 abbrev pub AreUnread : EdgesSeen → (calls : List (EdgeKind × List ℕ)) → List (List ℕ × SourceSeen) → Type 0

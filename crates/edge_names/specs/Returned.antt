@@ -4,7 +4,7 @@ use Rattle.std.specs.List.{flat_map}
 use Rattle.pipe_types.specs.Numbers.{post}
 use Rattle.pipe_types.specs.declared.topology.StageSpec.{StageSpec}
 use Rattle.pipe_types.specs.declared.topology.Topology.{Topology}
-use Rattle.stage_bodies.specs.Seen.{SourceSeen, SourcesSeen, sources_out, SinkSeen, FeedSeen, Single, BodySeen}
+use Rattle.stage_bodies.specs.Seen.{SourceSeen, SourcesSeen, OneSource, sources_out, SinkSeen, FeedSeen, Single, BodySeen}
 use Rattle.stage_bodies.specs.Jobs.{Both}
 use Rattle.stage_bodies.specs.Posts.{place_at}
 use Rattle.edge_names.specs.Seen.{EdgesSeen}
@@ -72,6 +72,11 @@ pub record GivesOff (sources : List (List ℕ × SourceSeen)) (sinks : List (Lis
   pub ungated : AreInner sources inner
   pub back : GivesBack inner sinks old new
 
+-- memory was wanting: the first so many of these went back
+pub record IsBackUpTo (sources : List (List ℕ × SourceSeen)) (old new : EdgesSeen) : Type 0 where
+  pub count : ℕ
+  pub back : GivesOff (take count sources) [] old new
+
 -- the sources of the first so many stages, and the first so many of the next one
 abbrev pub sources_before : Feeds → (n more : ℕ) → List StageSpec → (ℕ → Option BodySeen) → List (List ℕ × SourceSeen)
 sources_before feeds n more stages table = sources_of feeds (take n stages) table ++ take more (sources_of feeds (take 1 (drop n stages)) table)
@@ -89,6 +94,11 @@ IsCalmFeed (Some (Made bytes)) source = (source.faults ≡ 0) × (source.waits �
 IsCalmFeed (Some (Opened name)) source = Unit {0}
 IsCalmFeed (Some (Merged names)) source = Unit {0}
 IsCalmFeed None source = Unit {0}
+
+-- the same of what was taken out of a body, in its gate
+abbrev pub IsCalmOut : Option Feed → SourcesSeen → Type 0
+IsCalmOut (Some (Made bytes)) (OneSource source) = (source.faults ≡ 0) × HasNoWait source
+IsCalmOut _ sources = Unit {0}
 
 -- nor in its gate, beside the gate's own
 abbrev pub IsCalm : Option Supplied → Option SourceSeen → Type 0

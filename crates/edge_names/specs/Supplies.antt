@@ -75,6 +75,13 @@ merge_count (Some (Opened name)) = None
 merge_count (Some (Made bytes)) = None
 merge_count None = None
 
+-- the names of a merge
+abbrev pub merged_names : Option Feed → List (List ℕ)
+merged_names (Some (Merged names)) = names
+merged_names (Some (Opened name)) = []
+merged_names (Some (Made bytes)) = []
+merged_names None = []
+
 -- how the source at a place comes to be, from 0: a merge opens one of each name, and else there is one
 abbrev pub feed_at : Option Feed → (place : ℕ) → Option Feed
 feed_at (Some (Merged names)) place = option_map Opened (slice_get names place)
@@ -84,15 +91,23 @@ feed_at None place = None
 
 -- ---- supplies
 
--- a text that goes on behind `many:` with as many names as may be is a merge, and any other is one name
-abbrev pub split_feed : (names : Option (List ℕ)) → (text : List ℕ) → Feed
-split_feed (Some names) text = if are_names (parts names) then Merged (parts names) else Opened text
-split_feed None text = Opened text
+-- as many names as may be
+abbrev pub fitting : Option (List ℕ) → Option (List ℕ)
+fitting (Some names) = if are_names (parts names) then Some names else None
+fitting None = None
 
--- a text is one name where it is not split
+-- the names of a text that is a merge, joined by commas: they stand behind `many:`. A text that is not split has none
+abbrev pub names_of : (splits : Bool) → (text : List ℕ) → Option (List ℕ)
+names_of true text = fitting (merged_in text)
+names_of false text = None
+
+-- any other text is one name
+abbrev pub feed_of_names : (names : Option (List ℕ)) → (text : List ℕ) → Feed
+feed_of_names (Some names) text = Merged (parts names)
+feed_of_names None text = Opened text
+
 abbrev pub feed_of_text : (splits : Bool) → (text : List ℕ) → Feed
-feed_of_text true text = split_feed (merged_in text) text
-feed_of_text false text = Opened text
+feed_of_text splits text = feed_of_names (names_of splits text) text
 
 abbrev pub feed_by : (splits : Bool) → (edge : Option (List ℕ)) → Option Feed
 feed_by splits (Some text) = Some (feed_of_text splits text)
