@@ -96,7 +96,8 @@ impl<B: Works, S: ByteSource, C: Clock, W: Watch> Pipe<B, S, C, W> {
             Some(spec) => {
                 spec.role == Role::Processor
                     && spec.kind != Kind::Own
-                    && (spec.max as usize).saturating_mul(spec.rules.len() + 1) <= QUICK_RULES
+                    && (spec.max as usize).saturating_mul(spec.rules.as_slice().len() + 1)
+                        <= QUICK_RULES
             }
             None => false,
         }
