@@ -26,6 +26,7 @@ use Rattle.stage_workers.specs.declared.shift.Round.TheVariants.{Job}
 use Rattle.run_pipe.specs.Ends.{HasMemory}
 use Rattle.run_pipe.specs.Jobs.{IsLoadOf, IsHomeOf, IsBrought}
 use Rattle.run_pipe.specs.Rounded.{Rounded, IsRecorded}
+use Rattle.run_pipe.specs.Rounds.{IsOn}
 use Rattle.run_pipe.specs.Seen.{PipeState, away_of}
 use Rattle.run_pipe.specs.Serves.{Serves}
 use Rattle.run_pipe.specs.Stems.{Stems}
@@ -147,3 +148,19 @@ module _ {B : Type 0} (look : B → BodySeen) (brought : Option (Home B)) (old m
         recorded = all_recorded_on brought old middle new going r.adds.begins s.recorded;
         away = away;
       }
+
+-- ---- in a loop of holds
+
+-- the holds so far, behind which the pipe goes on where there is more to do
+pub record Serving {B : Type 0} (look : B → BodySeen) (brought : Option (Home B)) (round : Round (Load B)) (old now : PipeState) : Type 0 where
+  pub serves : Serves look brought round old now
+  pub going : IsOn round → now.end ≡ None
+
+pub serving_first : {B : Type 0} (look : B → BodySeen) (brought : Option (Home B)) (round : Round (Load B)) (old now : PipeState) → Rounded look brought round old now → Serving look brought round old now
+serving_first look brought round old now r = record { serves = served_once look brought round old now r; going = λ on. (r.on on).1 }
+
+pub serving_on : {B : Type 0} (look : B → BodySeen) (brought : Option (Home B)) (old middle : PipeState) (load : Load B) → Serving look brought (Job load) old middle
+    → (home : Home B) → home.post ≡ load.job.post → IsOutcomeOf load.job home.answer (look load.body) (look home.body)
+    → (round : Round (Load B)) (new : PipeState) → Rounded look (Some home) round middle new → IsWhole old → Serving look brought round old new
+serving_on look brought old middle load s home same outcome round new r w =
+    record { serves = served_on look brought old middle load s.serves home same outcome round new r w (s.going tt); going = λ on. (r.on on).1 }

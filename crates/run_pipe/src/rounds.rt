@@ -11,7 +11,6 @@ ghost use Rattle.stage_workers.specs.Rounds.{IfJob, job_post, brought_post};
 use crate::ends::RunEnd;
 use crate::pipe::Pipe;
 use pipe_edges::{ByteSource, Clock};
-use pipe_journal::Watch;
 use pipe_types::numbers::Post;
 use pipe_types::topology::{Kind, Role};
 use stage_bodies::Works;
@@ -19,7 +18,7 @@ use stage_holds::{Home, Load, Next, come_home, hold};
 use stage_workers::{Round, Shift};
 use std::alloc::{AllocError, Global};
 
-impl<B: Works, S: ByteSource, C: Clock, W: Watch> Shift for Pipe<B, S, C, W> {
+impl<B: Works, S: ByteSource, C: Clock, W> Shift for Pipe<B, S, C, W> {
     type Load = Load<B>;
 
     type Home = Home<B>;
@@ -67,7 +66,7 @@ const QUICK_JOBS: u32 = 32;
 /// How often rules are applied at most in a job that is quick.
 const QUICK_RULES: usize = 128;
 
-impl<B: Works, S: ByteSource, C: Clock, W: Watch> Pipe<B, S, C, W> {
+impl<B: Works, S: ByteSource, C: Clock, W> Pipe<B, S, C, W> {
     /// Holds the pipe. A job that is quick is done at once, and the pipe held again with what comes of it: handing the pipe to
     /// another worker would take longer. So many at most, since the others wait.
     fn serve(&mut self, brought: Option<Home<B>>) -> Round<Load<B>>
