@@ -1,22 +1,18 @@
 -- A worker that does its job while it has the pipe, and holds it again.
 use Rattle.std.proofs.Common.{◌≡◌, ◌≢◌, ⊎_elim, inl, inr, Bool, true, false, refl, sym, ap, ◌∙◌, subst, Option, Some, None, Result, Ok, Err, Contains}
-use Rattle.std.specs.Prelude.{IfSome, IfOk, IsSome, is_some}
-use Rattle.std.specs.Result.{IsErr}
+use Rattle.std.specs.Prelude.{IfSome, IfOk}
 use Rattle.std.specs.declared.alloc.AllocError.{AllocError}
 use Rattle.pipe_types.specs.declared.numbers.Post.{Post}
-use Rattle.pipe_types.specs.declared.topology.Topology.{Topology}
 use Rattle.pipe_model.specs.Begins.{BeginsWith}
 use Rattle.pipe_model.specs.History.{History}
 use Rattle.pipe_model.specs.Posts.{is_out}
-use Rattle.pipeline_turn.specs.Jobs.{IsUndone, IsUnanswered, IsOwnJob, AreAway}
+use Rattle.pipeline_turn.specs.Jobs.{IsUnanswered, IsOwnJob, AreAway}
 use Rattle.pipeline_turn.proofs.Journals.{begins_through, still_out, unanswered_itself, unanswered_through}
 use Rattle.stage_bodies.specs.Seen.{BodySeen}
 use Rattle.stage_bodies.specs.Posts.{place_at, brings_records}
 use Rattle.stage_bodies.specs.declared.job.Answer.{Answer}
-use Rattle.body_laws.specs.Keeps.{has_post}
 use Rattle.body_laws.specs.Ready.{There, IsBodyAt}
 use Rattle.stage_holds.specs.Answers.{with_answered}
-use Rattle.stage_holds.specs.Holds.{AddsHold}
 use Rattle.stage_holds.specs.Homes.{IsOutcomeOf}
 use Rattle.stage_holds.specs.declared.loads.Load.{Load}
 use Rattle.stage_holds.specs.declared.loads.Home.{Home}
@@ -24,7 +20,7 @@ use Rattle.stage_workers.specs.Rounds.{brought_post, job_post}
 use Rattle.stage_workers.specs.declared.shift.Round.{Round}
 use Rattle.stage_workers.specs.declared.shift.Round.TheVariants.{Job}
 use Rattle.run_pipe.specs.Ends.{HasMemory}
-use Rattle.run_pipe.specs.Jobs.{IsLoadOf, IsHomeOf, IsBrought}
+use Rattle.run_pipe.specs.Jobs.{IsLoadOf, IsBrought}
 use Rattle.run_pipe.specs.Rounded.{Rounded, IsRecorded}
 use Rattle.run_pipe.specs.Rounds.{IsOn}
 use Rattle.run_pipe.specs.Seen.{PipeState, away_of}
@@ -98,10 +94,10 @@ module _ {B : Type 0} (look : B → BodySeen) (brought : Option (Home B)) (old m
     served_brings o = (o.0, middle.steps, s.stems o.0 o.1 o.2 o.3, brings o.0 (served_load o))
 
     module _ (round : Round (Load B)) (new : PipeState) (r : Rounded look (Some home) round middle new) (w : IsWhole old) where
-      own : Option Post
+      abbrev own : Option Post
       own = brought_post (λ h. h.post) brought
 
-      job : Option Post
+      abbrev job : Option Post
       job = job_post (λ l. l.job.post) round
 
       -- neither is a post that was out, and is not the worker's own, the one of the job that was done
