@@ -18,7 +18,7 @@ use Rattle.edge_names.specs.Opened.{Asks, AreOpened, AreUnread, FailsToOpen, IfC
 use Rattle.edge_names.specs.Supplies.{Feeds, Feed, Supplied, calls_for, feed_calls, stage_calls, supplied}
 use Rattle.edge_names.proofs.Openings.{asks_empty, asks_nothing}
 
-abbrev is_source : EdgeKind × List ℕ → Type 0
+abbrev pub is_source : EdgeKind × List ℕ → Type 0
 is_source call = call.0 ≡ Source
 
 -- no call was made

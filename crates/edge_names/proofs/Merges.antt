@@ -1,12 +1,16 @@
 -- The sources of a merge, opened and given back.
-use Rattle.std.proofs.Common.{◌≡◌, ◌≤◌, ◌<◌, ℕ, zero, suc, ◌+◌, Bool, true, false, List, [], ◌∷◌, ◌++◌, length, map, take, drop, refl, ap, sym, ◌∙◌, subst, inl, inr, arith}
+use Rattle.std.proofs.Common.{◌≡◌, ◌≤◌, ◌<◌, ℕ, zero, suc, ◌+◌, Bool, true, false, List, [], ◌∷◌, ◌++◌, length, map, reverse, take, drop, refl, ap, sym, ◌∙◌, subst, inl, inr, arith}
 use Rattle.std.specs.Prelude.{◌⊎◌, slice_get, All, Option, Some, None, IsSome, IfSome, OnOk, OnErr, option_map, Result, Ok, Err}
-use Rattle.std.proofs.lemmas.List.{append-nil, append_assoc}
+use Rattle.std.proofs.lemmas.List.{append-nil, append_assoc, map-append, reverse-append, reverse-reverse}
 use Rattle.std.proofs.lemmas.List.Elements.{All-append, All-cons, All-nil}
 use Rattle.pipe_edges.specs.Paces.{PaceSeen, unpaced}
 use Rattle.pipe_edges.specs.declared.edges.EdgeKind.{EdgeKind}
 use Rattle.pipe_edges.specs.declared.edges.EdgeKind.TheVariants.{Source}
-use Rattle.stage_bodies.specs.Seen.{SourceSeen, LineSeen, MergeSeen, Merged as MergedSeen, sources_in, OneSource, ManySources}
+use Rattle.pipe_edges.specs.declared.source.ByteSource.{Ghosts as SourceOf}
+use Rattle.line_merge.specs.Streams.{sources_of as streams_sources}
+use Rattle.line_merge.specs.declared.merge.LineMerge.{LineMerge}
+use Rattle.stage_bodies.specs.Seen.{SourceSeen, source_seen, LineSeen, MergeSeen, merge_seen, Merged as MergedSeen, sources_in, SourcesSeen, OneSource, ManySources}
+use Rattle.stage_bodies.proofs.Feeds.{many_out}
 use Rattle.stage_bodies.specs.Jobs.{Both}
 use Rattle.stage_bodies.specs.Reads.{AreMergedFrom}
 use Rattle.edge_names.specs.Seen.{EdgesSeen}
@@ -83,12 +87,8 @@ pub give_next : (edges : EdgesSeen) (names : List (List ℕ)) (place : ℕ) (nam
 give_next edges names place name sources source here h one =
     subst (λ ns. GiveSources edges ns (sources ++ source ∷ [])) (sym (take_next names place name here)) (give_more edges (take place names) sources name source h one)
 
-map_append : {A B : Type 0} (f : A → B) (xs ys : List A) → map f (xs ++ ys) ≡ map f xs ++ map f ys
-map_append f [] ys = refl
-map_append f (x ∷ xs) ys = ap (λ z. f x ∷ z) (map_append f xs ys)
-
 pub calls_next : (names : List (List ℕ)) (place : ℕ) (name : List ℕ) → slice_get names place ≡ Some name → map source_call (take place names) ++ source_call name ∷ [] ≡ map source_call (take (place + 1) names)
-calls_next names place name here = sym (ap (map source_call) (take_next names place name here) ∙ map_append source_call (take place names) (name ∷ []))
+calls_next names place name here = sym (ap (map source_call) (take_next names place name here) ∙ map-append source_call (take place names) (name ∷ []))
 
 -- the names in front of one, that name, and those behind it
 pub cut_at : {A : Type 0} (names : List A) (place : ℕ) (name : A) → slice_get names place ≡ Some name → names ≡ take place names ++ name ∷ drop (suc place) names
@@ -105,7 +105,7 @@ front_and_rest (suc place) (x ∷ xs) = ap (λ z. x ∷ z) (front_and_rest place
 
 pub parts_at : (names : List (List ℕ)) (place : ℕ) (name : List ℕ) → slice_get names place ≡ Some name
     → map source_call names ≡ map source_call (take place names) ++ source_call name ∷ map source_call (drop (suc place) names)
-parts_at names place name here = ap (map source_call) (cut_at names place name here) ∙ map_append source_call (take place names) (name ∷ drop (suc place) names)
+parts_at names place name here = ap (map source_call) (cut_at names place name here) ∙ map-append source_call (take place names) (name ∷ drop (suc place) names)
 
 -- sources of the first names stand under these
 under_first : (edges : EdgesSeen) (place : ℕ) (names : List (List ℕ)) (sources : List SourceSeen) → GiveSources edges (take place names) sources → under_names names sources ≡ under_names (take place names) sources
@@ -170,6 +170,14 @@ drop_none (x ∷ xs) = refl
 pub back_start : (names : List (List ℕ)) (all : List SourceSeen) (a : EdgesSeen) → AreBackSoFar names all 0 all a a
 back_start names all a = record { done = []; parts = ap (λ ns. under_names ns all) (sym (drop_none names)); back = off_nothing a }
 
+-- the list of them reversed, of which the last is the next
+pub back_begin : {B : Type 0} (names : List (List ℕ)) (seen : B → SourceSeen) (sources turned : List B) (a : EdgesSeen) → turned ≡ reverse sources → AreBackSoFar names (map seen sources) 0 (map seen (reverse turned)) a a
+back_begin names seen sources turned a is =
+    subst (λ left. AreBackSoFar names (map seen sources) 0 (map seen left) a a) (sym (ap reverse is ∙ reverse-reverse sources)) (back_start names (map seen sources) a)
+
+turned_next : {B : Type 0} (all rest : List B) (o : B) → all ≡ rest ++ o ∷ [] → reverse all ≡ o ∷ reverse rest
+turned_next all rest o parts = ap reverse parts ∙ reverse-append rest (o ∷ [])
+
 -- the name at a place, and those behind it
 drop_here : (names : List (List ℕ)) (place : ℕ) → ((slice_get names place ≡ None) × (drop place names ≡ []) × (drop (suc place) names ≡ [])) ⊎ ((name : List ℕ) × (slice_get names place ≡ Some name) × (drop place names ≡ name ∷ drop (suc place) names))
 drop_here [] zero = inl (refl, refl, refl)
@@ -205,6 +213,14 @@ back_next names all place gated inner left a b c h is back = by (drop_here names
           back = off_more h.done given [] [] a b c h.back off;
         }
 
+pub back_turn : {B : Type 0} (feed : Option Feed) (seen : B → SourceSeen) (sources all rest : List B) (o : B) (place : ℕ) (inner : SourceSeen) (a b c : EdgesSeen) → feed ≡ Some (Merged (merged_names feed)) → all ≡ rest ++ o ∷ []
+    → AreBackSoFar (merged_names feed) (map seen sources) place (map seen (reverse all)) a b → IsInner (seen o) inner → GivesBack (given_back (feed_at feed place) (Some (OneSource inner))) [] b c
+    → AreBackSoFar (merged_names feed) (map seen sources) (place + 1) (map seen (reverse rest)) a c
+back_turn feed seen sources all rest o place inner a b c merge parts h is back =
+    let names = merged_names feed in
+    back_next names (map seen sources) place (seen o) inner (map seen (reverse rest)) a b c (subst (λ left. AreBackSoFar names (map seen sources) place (map seen left) a b) (turned_next all rest o parts) h) is
+    (subst (λ f. GivesBack (given_back (feed_at f place) (Some (OneSource inner))) [] b c) merge back)
+
 -- all went back
 pub back_all : (names : List (List ℕ)) (all : List SourceSeen) (place : ℕ) (left : List SourceSeen) (a b : EdgesSeen) → AreBackSoFar names all place left a b → left ≡ [] → GivesOff (under_names names all) [] a b
 back_all names all place left a b h none =
@@ -237,6 +253,14 @@ take_all_of (x ∷ xs) = ap (λ z. x ∷ z) (take_all_of xs)
 pub up_to_all : (xs : List (List ℕ × SourceSeen)) (a b : EdgesSeen) → GivesOff xs [] a b → IsBackUpTo xs a b
 up_to_all xs a b h = record { count = length xs; back = subst (λ ys. GivesOff ys [] a b) (sym (take_all_of xs)) h }
 
+pub up_to_either : {T X : Type 0} (r : Result T X) (xs : List (List ℕ × SourceSeen)) (a b : EdgesSeen) → OnOk r (GivesOff xs [] a b) → OnErr r (IsBackUpTo xs a b) → IsBackUpTo xs a b
+up_to_either (Ok x) xs a b all part = up_to_all xs a b all
+up_to_either (Err x) xs a b all part = part
+
+pub up_to_any : (u : Unopened) (xs : List (List ℕ × SourceSeen)) (a b : EdgesSeen) → GivesOff xs [] a b → IfCutOff u (IsBackUpTo xs a b)
+up_to_any (Failed name) xs a b h = tt
+up_to_any OutOfMemory xs a b h = up_to_all xs a b h
+
 take_none : {A : Type 0} (xs : List A) → take 0 xs ≡ []
 take_none [] = refl
 take_none (x ∷ xs) = refl
@@ -245,6 +269,12 @@ pub up_to_none : (xs : List (List ℕ × SourceSeen)) (a b : EdgesSeen) → Give
 up_to_none xs a b h = record { count = 0; back = subst (λ ys. GivesOff ys [] a b) (sym (take_none xs)) (off_as [] [] a b h) }
 
 -- ---- opened
+
+-- at each place of a merge there is a name
+pub name_at_place : (names : List (List ℕ)) (place count : ℕ) → length names ≡ count → place < count → (name : List ℕ) × (slice_get names place ≡ Some name)
+name_at_place [] place count len lt = absurd (omega (arith, len, lt))
+name_at_place (name ∷ names) zero count len lt = (name, refl)
+name_at_place (name ∷ names) (suc place) count len lt = name_at_place names place (length names) refl (omega (arith, len, lt))
 
 -- the sources of a merge at the places in front of one were opened
 pub record AreOpenedUpTo (names : List (List ℕ)) (place : ℕ) (sources : List SourceSeen) (a b : EdgesSeen) : Type 0 where
@@ -333,7 +363,7 @@ cut_after names place sources extra rest a c d gives few parts asks up =
 next_cut : (names : List (List ℕ)) (place : ℕ) (sources : List SourceSeen) (a b c d : EdgesSeen) → AreOpenedUpTo names place sources a b → Asks [] b c → IsBackUpTo (under_names names sources) c d → IsOneCut (map source_call names) a d
 next_cut names place sources a b c d h none up =
     let before = map source_call (take place names) in
-    let parts : map source_call names ≡ before ++ map source_call (drop place names) = ap (map source_call) (front_and_rest place names) ∙ map_append source_call (take place names) (drop place names) in
+    let parts : map source_call names ≡ before ++ map source_call (drop place names) = ap (map source_call) (front_and_rest place names) ∙ map-append source_call (take place names) (drop place names) in
     cut_after names place sources [] (map source_call (drop place names)) a c d h.gives (All-nil is_source) (parts ∙ ap (λ z. z ++ map source_call (drop place names)) (sym (append-nil before)))
     (asks_more before [] a b c h.asks none) up
 
@@ -372,6 +402,14 @@ merge_cut names sources a b c asks gives up =
     (subst (λ cs. Asks cs a b) (sym (append-nil (map source_call (take (length names) names)) ∙ calls)) asks) up
 
 -- ---- the merge
+
+abbrev many_in : SourcesSeen → List SourceSeen
+many_in (ManySources sources) = sources
+many_in (OneSource source) = []
+
+-- a new merge is that of its sources
+pub merge_is : {B : Type 0} (row : SourceOf B) (merge : LineMerge B) (sources : List B) → streams_sources merge ≡ sources → AreMergedFrom (map (source_seen row) sources) (merge_seen row merge) [] → IsMergeOf (map (source_seen row) sources) (merge_seen row merge)
+merge_is row merge sources same unread = record { same = ap many_in (sym (many_out row merge sources (sym same))); unread = unread }
 
 each_given : (edges : EdgesSeen) (names : List (List ℕ)) (sources : List SourceSeen) → GiveSources edges names sources → (k : ℕ) → Both (GivesSource edges) (slice_get names k) (slice_get sources k)
 each_given edges [] [] h k = tt
