@@ -60,6 +60,13 @@ pub merge_opened : {T : Type 0} (x : T) (pace : Option Pace) (names : List (List
     → ((was : Option FeedSeen) → HasFeed a (Some (Fed pace (Merged names))) was (Some read)) → ((s : ℕ) → new s ≡ (if at == s then option_map (with_source read) (old s) else old s)) → OpensOne (fed pace (Some (Merged names))) at (Ok x) a b old new
 merge_opened x pace names read at a b old new asks gives is = record { asks = asks; bodies = fed_table a pace (Merged names) read at old new gives is }
 
+pub merge_ok : {T : Type 0} (x : T) (pace : Option Pace) (feed : Option Feed) (at : ℕ) (a b c : EdgesSeen) (old new : ℕ → Option BodySeen) → feed ≡ Some (Merged (merged_names feed)) → c ≡ b
+    → OpensOne (fed pace (Some (Merged (merged_names feed)))) at (Ok x) a b old new → OpensOne (fed pace feed) at (Ok x) a c old new
+merge_ok x pace feed at a b c old new merge same opened = subst (λ f. OpensOne (fed pace f) at (Ok x) a c old new) (sym merge) (subst (λ d. OpensOne (fed pace (Some (Merged (merged_names feed)))) at (Ok x) a d old new) (sym same) opened)
+
+pub merge_short : (pace : Option Pace) (feed : Option Feed) (a b : EdgesSeen) → feed ≡ Some (Merged (merged_names feed)) → IsOneCut (feed_calls (Some (Merged (merged_names feed)))) a b → IsOneCut (calls_for (fed pace feed)) a b
+merge_short pace feed a b merge cut = subst (λ f. IsOneCut (calls_for (fed pace f)) a b) (sym merge) cut
+
 -- a producer without a source
 pub feed_none : {T : Type 0} (x : T) (pace : Option Pace) (feed : Option Feed) (at : ℕ) (a b : EdgesSeen) (table : ℕ → Option BodySeen) → Asks (feed_calls feed) a b → IsSupplied a feed None → OpensOne (fed pace feed) at (Ok x) a b table table
 feed_none x pace (Some feed) at a b table asks gives = absurd gives

@@ -44,11 +44,11 @@ record IsCutAt (records lost : List (List ℕ)) (given : List (ℕ × List ℕ))
   pub recorded : map (λ d. d.1) order ≡ records
   pub others : map (λ d. d.1) more ≡ lost
 
-tail_of : List (List ℕ) → List (List ℕ)
+abbrev tail_of : List (List ℕ) → List (List ℕ)
 tail_of [] = []
 tail_of (r ∷ rs) = rs
 
-head_of : List (List ℕ) → List ℕ
+abbrev head_of : List (List ℕ) → List ℕ
 head_of [] = []
 head_of (r ∷ rs) = r
 

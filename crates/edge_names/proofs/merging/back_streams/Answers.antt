@@ -42,10 +42,26 @@ loop-gated-preserved g c =
     }
 
 pub returns-in-Err-clause-in_part : goal.returns-in-Err-clause-in_part
-returns-in-Err-clause-in_part g c = back_up_to _ _ _ _ _ _ _ c.loop-gated.invariant.back c.in-Err.ensures.nothing
+returns-in-Err-clause-in_part g c =
+    let e = g.E.Edges in
+    let s = g.E.Source.ByteSource in
+    let k = g.E.Sink.ByteSink in
+    let seen = edges_seen e.told e.named e.asked e.faults e.sources_back e.sinks_back (source_seen s) (sink_seen k.told k.held k.faults) in
+    let feed = g.S.Supply.feeds c.args.supply.now c.args.spec.now in
+    let gated = source_seen (ghosts g.row.S-Source g.S.Source.ByteSource g.S.Source.ByteSource-dict) in
+    let all = map gated c.args.sources.items in
+    let left = map gated (reverse c.loop-gated.rest.items) in
+    back_up_to (merged_names feed) all c.loop-gated.place left (seen c.args.edges.now) (seen c.loop-gated.edges) (seen c.take_back.new.edges) c.loop-gated.invariant.back c.in-Err.ensures.nothing
 
 pub returns-clause-back : goal.returns-clause-back
 returns-clause-back g c =
+    let e = g.E.Edges in
+    let s = g.E.Source.ByteSource in
+    let k = g.E.Sink.ByteSink in
+    let seen = edges_seen e.told e.named e.asked e.faults e.sources_back e.sinks_back (source_seen s) (sink_seen k.told k.held k.faults) in
+    let feed = g.S.Supply.feeds c.args.supply.now c.args.spec.now in
     let gated = source_seen (ghosts g.row.S-Source g.S.Source.ByteSource g.S.Source.ByteSource-dict) in
+    let all = map gated c.args.sources.items in
+    let left = map gated (reverse c.loop-gated.rest.items) in
     let none : c.loop-gated.rest.items ≡ [] = search rules in
-    back_all _ _ _ _ _ _ c.loop-gated.invariant.back (ap (λ items. map gated (reverse items)) none)
+    back_all (merged_names feed) all c.loop-gated.place left (seen c.args.edges.now) (seen c.loop-gated.edges) c.loop-gated.invariant.back (ap (λ items. map gated (reverse items)) none)

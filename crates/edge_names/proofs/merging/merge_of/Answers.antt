@@ -14,7 +14,14 @@ returns-in-Ok-clause-merge g c =
 
 pub returns-in-Err-clause-returned : goal.returns-in-Err-clause-returned
 returns-in-Err-clause-returned g c =
+    let e = g.E.Edges in
+    let s = g.E.Source.ByteSource in
+    let k = g.E.Sink.ByteSink in
+    let seen = edges_seen e.told e.named e.asked e.faults e.sources_back e.sinks_back (source_seen s) (sink_seen k.told k.held k.faults) in
     let gated = source_seen (ghosts g.row.S-Source g.S.Source.ByteSource g.S.Source.ByteSource-dict) in
     let names = merged_names (g.S.Supply.feeds c.args.supply.now c.args.spec.now) in
     let same = c.into_vec.ensures ∙ c.in-Err.ensures.err ∙ c.from_vec.ensures in
-    subst (λ items. IsBackUpTo (under_names names (map gated items)) _ _) same (up_to_either c.back_streams.result _ _ _ c.back_streams.ensures.back c.back_streams.ensures.in_part)
+    let old = seen c.args.edges.now in
+    let new = seen c.back_streams.new.edges in
+    subst (λ items. IsBackUpTo (under_names names (map gated items)) old new) same
+    (up_to_either c.back_streams.result (under_names names (map gated c.into_vec.result.items)) old new c.back_streams.ensures.back c.back_streams.ensures.in_part)
