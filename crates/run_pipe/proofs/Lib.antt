@@ -9,5 +9,6 @@ mod Homing
 mod Going
 mod Starts
 mod Outcomes
+mod Serving
 pub use Rattle.stage_holds.proofs.Kept
 pub use Rattle.stage_holds.proofs.Obeying
