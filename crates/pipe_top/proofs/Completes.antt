@@ -1,8 +1,8 @@
 -- Where nothing failed, the run came to its end.
-use Rattle.std.proofs.Common.{◌≡◌, ◌≢◌, ◌<◌, ◌^◌, ℕ, zero, suc, List, [], ◌∷◌, ◌++◌, length, take, drop, Bool, true, false, refl, ap, sym, ◌∙◌, subst, inl, inr, Option, Some, None, arith}
-use Rattle.std.specs.Prelude.{◌⊎◌, ◌&&◌, ◌||◌, All, IsTrue, IsSome, IfSome, IsSomeAnd, is_some, is_none, option_map, slice_get, find, nat_le, if◌then◌else◌}
+use Rattle.std.proofs.Common.{◌≡◌, ◌≢◌, ◌<◌, ◌^◌, ℕ, suc, List, [], ◌∷◌, ◌++◌, length, Bool, true, false, refl, ap, ◌∙◌, subst, inl, inr, Option, Some, None, arith}
+use Rattle.std.specs.Prelude.{◌⊎◌, ◌&&◌, ◌||◌, All, IsTrue, is_some, find, nat_le, if◌then◌else◌}
 use Rattle.std.specs.List.{list_any}
-use Rattle.std.proofs.lemmas.List.{append_assoc, take_all}
+use Rattle.std.proofs.lemmas.List.{take_all}
 use Rattle.std.proofs.lemmas.List.Elements.{All-nil, All-cons, All-head, All-tail}
 use Rattle.pipe_types.specs.Counts.{Rose}
 use Rattle.pipe_types.specs.Lines.{lines}
@@ -23,12 +23,9 @@ use Rattle.pipe_edges.specs.Paces.{Pace}
 use Rattle.pipe_edges.specs.declared.edges.EdgeKind.{EdgeKind}
 use Rattle.pipe_edges.specs.declared.edges.EdgeKind.TheVariants.{Source}
 use Rattle.journal_texts.specs.Report.{places, is_fault, is_lost, is_failed, is_source_fault}
-use Rattle.source_lines.specs.Cut.{HasShortLines, AreLinesBeforeLong}
-use Rattle.config_rule.specs.SourceText.{parts}
-use Rattle.line_merge.specs.Items.{lines_from}
+use Rattle.source_lines.specs.Cut.{HasShortLines}
 use Rattle.pipe_laws.specs.Read.{HasNoControl}
-use Rattle.stage_bodies.specs.Seen.{SourceSeen, SourcesSeen, OneSource, ManySources, sources_out, LineSeen, BodySeen}
-use Rattle.stage_bodies.specs.Jobs.{Both}
+use Rattle.stage_bodies.specs.Seen.{SourceSeen, LineSeen, BodySeen}
 use Rattle.stage_bodies.specs.Posts.{place_at}
 use Rattle.stage_laws.proofs.Groups.{fields_of}
 use Rattle.body_laws.specs.Ready.{There}
@@ -37,15 +34,14 @@ use Rattle.pipe_laws.proofs.Tests.{and_left, and_right, clash, same_stage-true}
 use Rattle.edge_names.specs.Seen.{EdgesSeen}
 use Rattle.edge_names.specs.Opened.{supplied_in}
 use Rattle.edge_names.specs.Gates.{AreInner, IsInner, pace_of_stage}
-use Rattle.edge_names.specs.Named.{GivesSource}
-use Rattle.edge_names.specs.Supplies.{Feeds, Opened, Merged, Supplied, Fed, at_paces, by_name, fed as supplied_feed, feed_by, feed_of_names, names_of, supplied, supplied_by, under_names}
+use Rattle.edge_names.specs.Supplies.{Feeds, Opened, Fed, fed as supplied_feed, feed_by, supplied, supplied_by}
 use Rattle.edge_names.specs.Controls.{named_control, first_sources}
-use Rattle.edge_names.specs.Returned.{fed_back, feed_in, named_source, sources_of}
-use Rattle.pipe_run.specs.Outside.{HasControl, HasItsBytes, IsFedRead, IsOutside, ReadsMerge, ReadsSource}
+use Rattle.edge_names.specs.Returned.{fed_back, named_source, source_in, sources_of}
+use Rattle.pipe_run.specs.Outside.{HasControl, IsFedRead, IsOutside, ReadsSource}
 use Rattle.pipe_run.specs.Whole.{HasCome}
 use Rattle.run_verdicts.specs.Verdicts.{status_in}
 use Rattle.pipe_top.specs.Runs.{OutsideSeen, IsRun, IsEnded, HasUsed, IsOutsideOf, IsFaultless, AreFaultless, IsReadWhole, IsComplete, IsCompleteIn, is_limit_drain, is_control_drain, is_idle_drain}
-use Rattle.pipe_top.specs.Cases.{Feeding, Named, AsItStands, MadeFrom, feeds_of, Case, NoCommand, NoTopology as BadTopology, TooFew, Checks, Upgrades, Audits, Rejects, Runs}
+use Rattle.pipe_top.specs.Cases.{Feeding, Named, MadeFrom, feeds_of, Case, NoCommand, NoTopology as BadTopology, TooFew, Checks, Upgrades, Audits, Rejects, Runs}
 use Rattle.pipe_top.specs.Flows.{IsFew, Outcome}
 use Rattle.run_verdicts.specs.declared.verdict.Refusal.TheVariants.{Memory}
 use Rattle.run_verdicts.specs.declared.verdict.Texts.{Texts}
@@ -60,32 +56,11 @@ use Rattle.pipe_top.proofs.Statuses.{gravest_small, clean_status}
 
 -- ---- the sources of a whole run
 
--- the source of the producer, or those of its merge, did not end with a fault or with a line that is too long
+-- the source of the producer is faultless, and was read as the journal says
 pub record IsWellRead (before : History) (p : StageNo) : Type 0 where
-  pub no_fault : source_end before p ≡ Some how.Fault → ⊥
-  pub none_long : source_end before p ≡ Some how.TooLong → ⊥
-
--- it is faultless, and was read as the journal says
-one_well : (before : History) (p : StageNo) (source : SourceSeen) → ReadsSource before p source → IsFaultless source → IsWellRead before p
-one_well before p source reads fine = record {
-  no_fault = λ is. fine.no_fault (reads.fault is);
-  none_long = λ is. not_long (source.taken ++ source.left) (fed before p) (reads.too_long fine.tells is) fine.short;
-}
-
--- each of them is
-risen_of : (o : Option SourceSeen) → IsSomeAnd o (λ s. Rose 0 s.faults) → IfSome o IsFaultless → ⊥
-risen_of (Some source) rose fine = fine.no_fault rose
-risen_of None rose fine = rose
-
-long_of : (records : List (List ℕ)) (o : Option SourceSeen) → IsSomeAnd o (λ s. IsTrue s.told → AreLinesBeforeLong (s.taken ++ s.left) records) → IfSome o IsFaultless → ⊥
-long_of records (Some source) long fine = not_long (source.taken ++ source.left) records (long fine.tells) fine.short
-long_of records None long fine = long
-
-many_well : (before : History) (p : StageNo) (sources : List SourceSeen) → ReadsMerge before p sources → ((k : ℕ) → IfSome (slice_get sources k) IsFaultless) → IsWellRead before p
-many_well before p sources reads fine = record {
-  no_fault = λ is. let at = reads.fault is in risen_of (slice_get sources at.0) at.1 (fine at.0);
-  none_long = λ is. let at = reads.too_long is in long_of (lines_from at.0 reads.order) (slice_get sources at.0) at.1 (fine at.0);
-}
+  pub source : SourceSeen
+  pub reads : ReadsSource before p source
+  pub fine : IsFaultless source
 
 abbrev pub AreWellRead : Topology → History → Type 0
 AreWellRead topology before = (p : StageNo) → has_role topology p is_producer_role ≡ true → IsWellRead before p
@@ -122,47 +97,18 @@ has_edge topology p spec sound found producer =
     let fields : is_producer_in topology.stages spec ≡ true = fields_of topology p spec Producer sound found producer in
     and_right (is_size spec.size) _ (and_right (by_demand spec spec.dispatch || (by_partition (length (processors topology.stages)) spec spec.dispatch && nat_le spec.field 255)) _ (and_left ((by_demand spec spec.dispatch || (by_partition (length (processors topology.stages)) spec spec.dispatch && nat_le spec.field 255)) && (is_size spec.size && is_some spec.edge)) _ fields))
 
-abbrev IsFine : List ℕ × SourceSeen → Type 0
-IsFine given = IsFaultless given.1
-
--- what holds of sources under their names holds of each that has a name
-fine_at : (names : List (List ℕ)) (sources : List SourceSeen) (k : ℕ) → All IsFine (under_names names sources) → IsSome (slice_get names k) → IfSome (slice_get sources k) IsFaultless
-fine_at names [] k each some = tt
-fine_at [] (source ∷ sources) k each some = let x : false ≡ true = some in cc
-fine_at (name ∷ names) (source ∷ sources) zero each some = All-head IsFine (name, source) (under_names names sources) each
-fine_at (name ∷ names) (source ∷ sources) (suc k) each some = fine_at names sources k (All-tail IsFine (name, source) (under_names names sources) each) some
-
--- each source of a merge has one
-fine_of : (edges : EdgesSeen) (names : List (List ℕ)) (opened sources : List SourceSeen) (k : ℕ) → Both (GivesSource edges) (slice_get names k) (slice_get opened k) → Both HasItsBytes (slice_get opened k) (slice_get sources k)
-    → All IsFine (under_names names sources) → IfSome (slice_get sources k) IsFaultless
-fine_of edges names opened sources k given same each = by (slice_get names k) refl
+source_well_read : (topology : Topology) (before : History) (old new : EdgesSeen) (p : StageNo) (spec : StageSpec) (pace : Option Pace) (name : List ℕ) (o : Option SourceSeen) → (outside : IsOutside (feeds_of Named topology) true topology before old new)
+    → source_in (outside.bodies (place_at (post p 0))) ≡ o → supplied (feeds_of Named topology) spec ≡ Some (Fed pace (Opened name)) → There o (IsFedRead true old before p pace (Opened name))
+    → All (λ (given : List ℕ × SourceSeen). IsFaultless given.1) (named_source (supplied (feeds_of Named topology) spec) (outside.bodies (place_at (post p 0)))) → IsWellRead before p
+source_well_read topology before old new p spec pace name None outside is call there each = absurd there
+source_well_read topology before old new p spec pace name (Some source) outside is call there each = record {
+  source = source;
+  reads = there.read.reads;
+  fine = All-head (λ (given : List ℕ × SourceSeen). IsFaultless given.1) (name, source) [] (subst (All (λ (given : List ℕ × SourceSeen). IsFaultless given.1)) given each);
+}
   where
-    none : (o s : Option SourceSeen) → Both (GivesSource edges) None o → Both HasItsBytes o s → IfSome s IsFaultless
-    none None None g h = tt
-    none None (Some s) g h = absurd h
-    none (Some o) s g h = absurd g
-
-    by : (n : Option (List ℕ)) → slice_get names k ≡ n → IfSome (slice_get sources k) IsFaultless
-    by (Some name) is = fine_at names sources k each (subst (λ o. IsSome o) (sym is) refl)
-    by None is = none (slice_get opened k) (slice_get sources k) (subst (λ n. Both (GivesSource edges) n (slice_get opened k)) is given) same
-
-single_well_read : (before : History) (edges : EdgesSeen) (p : StageNo) (pace : Option Pace) (name : List ℕ) (what : Option Supplied) (body : Option BodySeen) (o : Option SourcesSeen) → option_map sources_out (feed_in body) ≡ o
-    → what ≡ Some (Fed pace (Opened name)) → There o (IsFedRead true edges before p pace (Opened name)) → All IsFine (named_source what body) → IsWellRead before p
-single_well_read before edges p pace name what body None is call there each = absurd there
-single_well_read before edges p pace name what body (Some (ManySources sources)) is call there each = absurd there.read
-single_well_read before edges p pace name what body (Some (OneSource source)) is call there each =
-    let given : named_source what body ≡ (name, source) ∷ [] = ap (λ w. named_source w body) call ∙ ap (fed_back (Some (Fed pace (Opened name)))) is in
-    one_well before p source there.read.reads (All-head IsFine (name, source) [] (subst (All IsFine) given each))
-
-merged_well_read : (before : History) (edges : EdgesSeen) (p : StageNo) (pace : Option Pace) (names : List (List ℕ)) (what : Option Supplied) (body : Option BodySeen) (o : Option SourcesSeen) → option_map sources_out (feed_in body) ≡ o
-    → what ≡ Some (Fed pace (Merged names)) → There o (IsFedRead true edges before p pace (Merged names)) → All IsFine (named_source what body) → IsWellRead before p
-merged_well_read before edges p pace names what body None is call there each = absurd there
-merged_well_read before edges p pace names what body (Some (OneSource source)) is call there each = absurd there.read
-merged_well_read before edges p pace names what body (Some (ManySources sources)) is call there each =
-    let given : named_source what body ≡ under_names names sources = ap (λ w. named_source w body) call ∙ ap (fed_back (Some (Fed pace (Merged names)))) is in
-    let all = subst (All IsFine) given each in
-    let read = there.read in
-    many_well before p sources read.reads (λ k. fine_of edges names read.opened sources k (read.given k) (read.same k) all)
+    given : named_source (supplied (feeds_of Named topology) spec) (outside.bodies (place_at (post p 0))) ≡ (name, source) ∷ []
+    given = ap (λ c. named_source c (outside.bodies (place_at (post p 0)))) call ∙ ap (fed_back (Some (Fed pace (Opened name)))) is
 
 -- a source in its gate is faultless where it is without it
 fine_gated : (gated inner : SourceSeen) → IsInner gated inner → IsFaultless inner → IsFaultless gated
@@ -174,41 +120,38 @@ fine_gated gated inner is fine =
       short = subst HasShortLines (is.same_bytes tells) fine.short;
     }
 
-fine_all : (gated inner : List (List ℕ × SourceSeen)) → AreInner gated inner → All IsFine inner → All IsFine gated
+fine_all : (gated inner : List (List ℕ × SourceSeen)) → AreInner gated inner → All (λ (given : List ℕ × SourceSeen). IsFaultless given.1) inner → All (λ (given : List ℕ × SourceSeen). IsFaultless given.1) gated
 fine_all [] [] are each = each
 fine_all (g ∷ gated) (i ∷ inner) are each =
-    All-cons IsFine g gated
-    (fine_gated g.1 i.1 are.1 (All-head IsFine i inner each))
-    (fine_all gated inner are.2 (All-tail IsFine i inner each))
+    All-cons (λ (given : List ℕ × SourceSeen). IsFaultless given.1) g gated
+    (fine_gated g.1 i.1 are.1 (All-head (λ (given : List ℕ × SourceSeen). IsFaultless given.1) i inner each))
+    (fine_all gated inner are.2 (All-tail (λ (given : List ℕ × SourceSeen). IsFaultless given.1) i inner each))
 fine_all [] (i ∷ inner) are each = absurd are
 fine_all (g ∷ gated) [] are each = absurd are
 
 -- all that a whole run gave back, the control source first, is faultless as it stood in its gate
 given_back : (feeds : Feeds) (topology : Topology) (before : History) (old new : EdgesSeen) → (outside : IsOutside feeds true topology before old new) → AreFaultless old new
-    → All IsFine (named_control topology.control outside.control ++ sources_of feeds topology.stages outside.bodies)
+    → All (λ (given : List ℕ × SourceSeen). IsFaultless given.1) (named_control topology.control outside.control ++ sources_of feeds topology.stages outside.bodies)
 given_back feeds topology before old new outside faultless =
-    let count = length topology.stages in
-    let named = named_control topology.control outside.control in
-    let own = sources_of feeds (take count topology.stages) outside.bodies in
-    let more = take outside.more (sources_of feeds (take 1 (drop count topology.stages)) outside.bodies) in
-    let gated = fine_all (first_sources feeds outside.parts outside.more topology outside.control outside.bodies) outside.inner outside.ungated (faultless outside.inner outside.sources) in
-    let first : All IsFine (named ++ (own ++ more)) = subst (λ n. All IsFine (first_sources feeds n outside.more topology outside.control outside.bodies)) (outside.all refl) gated in
-    let parts : All IsFine (named ++ own) = All-front IsFine (named ++ own) more (subst (All IsFine) (sym (append_assoc named own more)) first) in
-    subst (λ (stages : List StageSpec). All IsFine (named ++ sources_of feeds stages outside.bodies)) (take_all count topology.stages (omega arith)) parts
+    let gated = fine_all (first_sources feeds outside.parts topology outside.control outside.bodies) outside.inner outside.ungated (faultless outside.inner outside.sources) in
+    let first : All (λ (given : List ℕ × SourceSeen). IsFaultless given.1) (first_sources feeds (suc (length topology.stages)) topology outside.control outside.bodies) =
+    subst (λ n. All (λ (given : List ℕ × SourceSeen). IsFaultless given.1) (first_sources feeds n topology outside.control outside.bodies)) (outside.all refl) gated
+    in
+    subst (λ stages. All (λ (given : List ℕ × SourceSeen). IsFaultless given.1) (named_control topology.control outside.control ++ sources_of feeds stages outside.bodies)) (take_all (length topology.stages) topology.stages (omega arith)) first
 
 -- the control source did not end with a fault or with a line that is too long
 abbrev IsControlFine : History → Type 0
 IsControlFine before = (end : SourceHow) → source_end before (stage 0) ≡ Some end → is_fault end ≡ false
 
 control_well_read : (topology : Topology) (before : History) (edges : EdgesSeen) (name : Option (List ℕ)) (control : Option LineSeen) → (name ≡ None → HasNoControl before)
-    → HasControl topology edges before name control → All IsFine (named_control name control) → IsControlFine before
+    → HasControl topology edges before name control → All (λ (given : List ℕ × SourceSeen). IsFaultless given.1) (named_control name control) → IsControlFine before
 control_well_read topology before edges (Some name) (Some now) none used each how.End is = refl
 control_well_read topology before edges (Some name) (Some now) none used each how.Limit is = refl
 control_well_read topology before edges (Some name) (Some now) none used each how.Fault is =
-    let fine : IsFaultless now.source = All-head IsFine (name, now.source) [] each in
+    let fine : IsFaultless now.source = All-head (λ (given : List ℕ × SourceSeen). IsFaultless given.1) (name, now.source) [] each in
     absurd (fine.no_fault (used.reads.fault is))
 control_well_read topology before edges (Some name) (Some now) none used each how.TooLong is =
-    let fine : IsFaultless now.source = All-head IsFine (name, now.source) [] each in
+    let fine : IsFaultless now.source = All-head (λ (given : List ℕ × SourceSeen). IsFaultless given.1) (name, now.source) [] each in
     absurd (not_long (now.source.taken ++ now.source.left) (lines (now.source.taken ++ now.source.left)) (used.reads.too_long fine.tells is).0 fine.short)
 control_well_read topology before edges None None none used each end is = let no_end = (none refl).no_end in cc
 control_well_read topology before edges (Some name) None none used each end is = absurd used
@@ -217,43 +160,29 @@ control_well_read topology before edges None (Some now) none used each end is = 
 pub control_fine : (feeds : Feeds) (topology : Topology) (before : History) (old new : EdgesSeen) → (topology.control ≡ None → HasNoControl before) → IsOutside feeds true topology before old new → AreFaultless old new → IsControlFine before
 control_fine feeds topology before old new none outside faultless =
     control_well_read topology before old topology.control outside.control none outside.obeyed
-    (All-front IsFine (named_control topology.control outside.control) (sources_of feeds topology.stages outside.bodies)
+    (All-front (λ (given : List ℕ × SourceSeen). IsFaultless given.1) (named_control topology.control outside.control) (sources_of feeds topology.stages outside.bodies)
     (given_back feeds topology before old new outside faultless))
 
--- each producer opens what it names
-named_well_read : (splits : Bool) (topology : Topology) (before : History) (old new : EdgesSeen) → IsSound topology → IsOutside (at_paces topology (by_name splits)) true topology before old new → AreFaultless old new → AreWellRead topology before
-named_well_read splits topology before old new sound outside faultless p role =
+named_well_read : (topology : Topology) (before : History) (old new : EdgesSeen) → IsSound topology → IsOutside (feeds_of Named topology) true topology before old new → AreFaultless old new → AreWellRead topology before
+named_well_read topology before old new sound outside faultless p role =
     let found = some_role topology p is_producer_role role in
     by_edge found.0 found.1 (producer_is found.0.role found.2) found.0.edge refl
   where
-    feeds : Feeds
-    feeds = at_paces topology (by_name splits)
-
-    back : All IsFine (sources_of feeds topology.stages outside.bodies)
-    back = All-back IsFine (named_control topology.control outside.control) (sources_of feeds topology.stages outside.bodies) (given_back feeds topology before old new outside faultless)
-
-    of_text : (spec : StageSpec) (text : List ℕ) → spec_of topology p ≡ Some spec → spec.role ≡ Producer → spec.edge ≡ Some text → (names : Option (List ℕ)) → names_of splits text ≡ names → IsWellRead before p
-    of_text spec text found producer is names split =
-        let pace = pace_of_stage topology spec in
-        let body = outside.bodies (place_at (post p 0)) in
-        let call : supplied feeds spec ≡ Some (Fed pace (feed_of_names names text)) =
-        ap (λ r. supplied_by r pace (feed_by splits spec.edge) spec.edge) producer ∙ ap (λ o. supplied_feed pace (feed_by splits o)) is ∙ ap (λ n. Some (Fed pace (feed_of_names n text))) split
-        in
-        let there = outside.used.sources p pace (feed_of_names names text) (ap (supplied_in feeds) found ∙ call) in
-        let each = given_of feeds IsFine outside.bodies p spec topology.stages found back in
-        by names call there each
-      where
-        by : (n : Option (List ℕ)) → supplied feeds spec ≡ Some (Fed (pace_of_stage topology spec) (feed_of_names n text))
-            → There (option_map sources_out (feed_in (outside.bodies (place_at (post p 0))))) (IsFedRead true old before p (pace_of_stage topology spec) (feed_of_names n text))
-            → All IsFine (named_source (supplied feeds spec) (outside.bodies (place_at (post p 0)))) → IsWellRead before p
-        by (Some list) call there each = merged_well_read before old p (pace_of_stage topology spec) (parts list) (supplied feeds spec) (outside.bodies (place_at (post p 0))) _ refl call there each
-        by None call there each = single_well_read before old p (pace_of_stage topology spec) text (supplied feeds spec) (outside.bodies (place_at (post p 0))) _ refl call there each
+    back : All (λ (given : List ℕ × SourceSeen). IsFaultless given.1) (sources_of (feeds_of Named topology) topology.stages outside.bodies)
+    back =
+        All-back (λ (given : List ℕ × SourceSeen). IsFaultless given.1) (named_control topology.control outside.control) (sources_of (feeds_of Named topology) topology.stages outside.bodies)
+        (given_back (feeds_of Named topology) topology before old new outside faultless)
 
     by_edge : (spec : StageSpec) → spec_of topology p ≡ Some spec → spec.role ≡ Producer → (o : Option (List ℕ)) → spec.edge ≡ o → IsWellRead before p
     by_edge spec found producer None is =
         let some : is_some spec.edge ≡ true = has_edge topology p spec sound found producer in
         clash (is_some spec.edge) some (ap is_some is)
-    by_edge spec found producer (Some text) is = of_text spec text found producer is (names_of splits text) refl
+    by_edge spec found producer (Some name) is =
+        let pace = pace_of_stage topology spec in
+        let call : supplied (feeds_of Named topology) spec ≡ Some (Fed pace (Opened name)) = ap (λ r. supplied_by r pace (feed_by spec.edge) spec.edge) producer ∙ ap (λ o. supplied_feed pace (feed_by o)) is in
+        source_well_read topology before old new p spec pace name (source_in (outside.bodies (place_at (post p 0)))) outside refl call
+        (outside.used.sources p pace (Opened name) (ap (supplied_in (feeds_of Named topology)) found ∙ call))
+        (given_of (feeds_of Named topology) (λ given. IsFaultless given.1) outside.bodies p spec topology.stages found back)
 
 not_risen : (now : ℕ) → now ≡ 0 → Rose 0 now → ⊥
 not_risen now none (inl low) = omega (arith, none, low)
@@ -264,16 +193,19 @@ made_well_read : (seed count : ℕ) (topology : Topology) (before : History) (ol
     → AreWellRead topology before
 made_well_read seed count topology before old new sound few outside p role =
     let share = share_read seed count topology before old new true sound few outside p role in
-    one_well before p share.source share.made.reads (record {
-      no_fault = not_risen share.source.faults (share.made.calm refl).0;
-      tells = share.made.tells;
-      short = share.short;
-    })
+    record {
+      source = share.source;
+      reads = share.made.reads;
+      fine = record {
+        no_fault = not_risen share.source.faults (share.made.calm refl).0;
+        tells = share.made.tells;
+        short = share.short;
+      };
+    }
 
 pub well_read : (feeding : Feeding) (topology : Topology) (before : History) (old new : EdgesSeen) → IsSound topology → IsFew feeding → IsOutside (feeds_of feeding topology) true topology before old new → AreFaultless old new
     → AreWellRead topology before
-well_read Named topology before old new sound few outside faultless = named_well_read (is_none topology.rate) topology before old new sound outside faultless
-well_read AsItStands topology before old new sound few outside faultless = named_well_read false topology before old new sound outside faultless
+well_read Named topology before old new sound few outside faultless = named_well_read topology before old new sound outside faultless
 well_read (MadeFrom seed count) topology before old new sound few outside faultless = made_well_read seed count topology before old new sound few outside
 
 -- ---- how it ended
@@ -282,8 +214,8 @@ well_read (MadeFrom seed count) topology before old new sound few outside faultl
 fine_end : (before : History) (p : StageNo) (end : SourceHow) → source_end before p ≡ Some end → IsWellRead before p → is_fault end ≡ false
 fine_end before p how.End is w = refl
 fine_end before p how.Limit is w = refl
-fine_end before p how.Fault is w = absurd (w.no_fault is)
-fine_end before p how.TooLong is w = absurd (w.none_long is)
+fine_end before p how.Fault is w = absurd (w.fine.no_fault (w.reads.fault is))
+fine_end before p how.TooLong is w = absurd (not_long (w.source.taken ++ w.source.left) (fed before p) (w.reads.too_long w.fine.tells is) w.fine.short)
 
 -- an end that is neither bad nor at a limit is the end of the source
 end_is : (before : History) (p : StageNo) (end : Option SourceHow) → source_end before p ≡ end → is_some end ≡ true → ends_limited end ≡ false → IsWellRead before p → source_end before p ≡ Some how.End

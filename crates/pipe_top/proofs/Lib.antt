@@ -10,7 +10,6 @@ pub mod Promises
 pub mod Reading
 pub mod Runnables
 pub mod Shares
-pub mod Unmerged
 pub mod Statuses
 pub mod Unused
 pub mod Audits

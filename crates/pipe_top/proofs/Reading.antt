@@ -17,7 +17,7 @@ use Rattle.run_verdicts.specs.declared.audits.AuditFault.{AuditFault}
 use Rattle.program_words.specs.Words.{Command, Flow, Check, Run, Gen, Upgrade, Audit as AuditOf}
 use Rattle.edge_names.specs.Seen.{EdgesSeen}
 use Rattle.topology_needs.specs.declared.stock.Boxes.{Boxes}
-use Rattle.pipe_top.specs.Cases.{Feeding, Named, AsItStands, MadeFrom, Case, Checks, Upgrades, audit_case, case_of, run_case, for_topology, report_alone, opening_calls, calls_of, file_name, IsNamedFile}
+use Rattle.pipe_top.specs.Cases.{Feeding, Named, MadeFrom, Case, Checks, Upgrades, audit_case, case_of, run_case, for_topology, report_alone, opening_calls, calls_of, file_name, IsNamedFile}
 use Rattle.pipe_top.specs.Runs.{OutsideSeen, IsUntouched, Asks, FailsAt}
 use Rattle.pipe_top.specs.Flows.{IsCheckedOrNot, IsUpgraded, ComesBy, Came, ComesAudited, ReadsFile, ReadsTopology, ReadsUpgrade, UpgradesTo, IsTextOf, topology_beside, AskedFile}
 use Rattle.pipe_top.specs.declared.file.Upgraded.{Upgraded}
@@ -138,7 +138,7 @@ checked_only old new wanted topology before verdict (inr r) same asked telling =
 -- `flow` reads no file
 pub came_by_flow : (old new : OutsideSeen) (boxes : Boxes) (source prefix : List ℕ) (wanted : Topology) (topology : Option Topology) (before : History) (verdict : Verdict)
     → wanted ≡ flow_topology_of source prefix
-    → ComesBy old new (run_case boxes report_alone AsItStands wanted) (opening_calls (run_case boxes report_alone AsItStands wanted)) topology before verdict
+    → ComesBy old new (run_case boxes report_alone Named wanted) (opening_calls (run_case boxes report_alone Named wanted)) topology before verdict
     → Came old new (Some (Flow source prefix)) boxes topology before verdict
 came_by_flow old new boxes source prefix wanted topology before verdict is x = record {
   file = [];

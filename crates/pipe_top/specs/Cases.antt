@@ -1,5 +1,5 @@
 -- What the words, the topology file and the stock of callbacks come to.
-use Rattle.std.specs.Prelude.{◌≡◌, ℕ, Bool, false, List, [], ◌∷◌, ◌++◌, length, take, IsTrue, Option, Some, None, is_none, Result, Ok, Err}
+use Rattle.std.specs.Prelude.{◌≡◌, ℕ, Bool, false, List, [], ◌∷◌, ◌++◌, length, take, IsTrue, Option, Some, None, Result, Ok, Err}
 use Rattle.pipe_types.specs.Sound.{producers}
 use Rattle.pipe_types.specs.declared.topology.StageSpec.{StageSpec}
 use Rattle.pipe_types.specs.declared.topology.Topology.{Topology}
@@ -19,17 +19,14 @@ use Rattle.topology_needs.specs.Needs.{shortage_of}
 use Rattle.run_verdicts.specs.declared.audits.AuditFault.{AuditFault}
 use Rattle.run_verdicts.specs.declared.verdict.Shows.{Shows}
 
--- how the producers of a run come to their sources: each opens the source that it names, or those that a merge names, where the
--- topology has no rate; each opens the source whose name its text is, as it stands; or each reads its share of so many records that
--- a seed gives
+-- how the producers of a run come to their sources: each opens the source that it names, or reads its share of so many records
+-- that a seed gives
 pub data Feeding : Type 0 where
   Named : Feeding
-  AsItStands : Feeding
   MadeFrom : (seed count : ℕ) → Feeding
 
 abbrev pub origin_of : Feeding → Topology → (StageSpec → Option Feed)
-origin_of Named topology = by_name (is_none topology.rate)
-origin_of AsItStands topology = by_name false
+origin_of Named topology = by_name
 origin_of (MadeFrom seed count) topology = made_feeds seed count (length (producers topology.stages))
 
 -- the same, each in its gate where the topology has a rate
@@ -71,11 +68,11 @@ audit_case name (Err fault) topology = Rejects name fault topology
 abbrev pub report_alone : Shows
 report_alone = record { steps = false; acks = false }
 
--- `flow` has a topology of its own, whose source is one name; `check`, `upgrade`, `run`, `gen` and `audit` have that of the file; the text is that of an
+-- `flow` has a topology of its own; `check`, `upgrade`, `run`, `gen` and `audit` have that of the file; the text is that of an
 -- upgrade, and what is found is found by an audit
 abbrev pub case_of : Option Command → (file text : List ℕ) → (found : Result Summary AuditFault) → Boxes → Case
 case_of None file text found boxes = NoCommand
-case_of (Some (Flow source prefix)) file text found boxes = run_case boxes report_alone AsItStands (flow_topology_of source prefix)
+case_of (Some (Flow source prefix)) file text found boxes = run_case boxes report_alone Named (flow_topology_of source prefix)
 case_of (Some (Check path)) file text found boxes = for_topology (topology_of_file file) Checks
 case_of (Some (Upgrade path)) file text found boxes = for_topology (topology_of_file file) (Upgrades file text)
 case_of (Some (Audit journal path)) file text found boxes = for_topology (topology_of_file file) (audit_case journal found)

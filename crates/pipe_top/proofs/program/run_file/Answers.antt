@@ -2,11 +2,10 @@ use Rattle.std.proofs.Common.{refl}
 use Rattle.box_stock.proofs.Filled.{names_feed}
 use Rattle.pipe_top.specs.Cases.{Named}
 use Rattle.pipe_top.proofs.Reading.{run_came, run_unread}
-use Rattle.pipe_top.proofs.Unmerged.{file_unmerged}
 use Rattle.pipe_top.proofs.program.run_file.Goals as goal
 
 pub run_or_refuse-requires-clause-fed : goal.run_or_refuse-requires-clause-fed
-run_or_refuse-requires-clause-fed g c κs lives = names_feed _ c.in-Ok.topology c.in-Ok.ensures.reads.1
+run_or_refuse-requires-clause-fed g c κs lives = names_feed c.in-Ok.topology c.in-Ok.ensures.reads.1
 
 pub returns-in-Ok : goal.returns-in-Ok
 returns-in-Ok g c =
@@ -14,7 +13,7 @@ returns-in-Ok g c =
     let w = c.args.words in
     record {
       came = run_came _ _ _ _ w.topology.now w.workers w.acks w.steps c.in-Ok.topology r.result.topology r.result.journal.steps r.result.verdict c.in-Ok.ensures
-          (r.ensures.comes Named (record { is = rw c.of_file-supply.ensures refl; few = tt }));
+          (r.ensures.comes Named (record { is = refl; few = tt }));
     }
 
 pub returns-in-Err : goal.returns-in-Err
@@ -25,6 +24,3 @@ returns-in-Err g c =
       came = run_unread _ _ _ w.topology.now w.workers w.acks w.steps c.in-Err.refusal r.result.topology r.result.journal.steps r.result.verdict c.in-Err.ensures r.ensures.verdict r.ensures.no_run
           (rw r.ensures.same_clock refl) (rw r.ensures.same_boxes refl);
     }
-
-pub run_or_refuse-requires-clause-unmerged : goal.run_or_refuse-requires-clause-unmerged
-run_or_refuse-requires-clause-unmerged g c κs lives = rw c.of_file-supply.ensures (file_unmerged c.in-Ok.topology)

@@ -24,6 +24,3 @@ returns-in-Err g c =
       came = gen_unread _ _ _ w.seed w.count w.topology.now c.in-Err.refusal r.result.topology r.result.journal.steps r.result.verdict c.in-Err.ensures r.ensures.verdict r.ensures.no_run
           (rw r.ensures.same_clock refl) (rw r.ensures.same_boxes refl);
     }
-
-pub run_or_refuse-requires-clause-unmerged : goal.run_or_refuse-requires-clause-unmerged
-run_or_refuse-requires-clause-unmerged g c κs lives some spec = refl
