@@ -21,11 +21,11 @@ use Rattle.pipe_run.specs.Whole.{HasFailed, HasWanted}
 
 -- ---- the call of the control source
 
-call_name : List (EdgeKind × List ℕ) → List ℕ
+abbrev call_name : List (EdgeKind × List ℕ) → List ℕ
 call_name [] = []
 call_name (call ∷ calls) = call.1
 
-later_calls : List (EdgeKind × List ℕ) → List (EdgeKind × List ℕ)
+abbrev later_calls : List (EdgeKind × List ℕ) → List (EdgeKind × List ℕ)
 later_calls [] = []
 later_calls (call ∷ calls) = calls
 

@@ -44,11 +44,11 @@ record IsCutAt (records lost : List (List ℕ)) (given : List (ℕ × List ℕ))
   pub recorded : map (λ d. d.1) order ≡ records
   pub others : map (λ d. d.1) more ≡ lost
 
-tail_of : List (List ℕ) → List (List ℕ)
+abbrev tail_of : List (List ℕ) → List (List ℕ)
 tail_of [] = []
 tail_of (r ∷ rs) = rs
 
-head_of : List (List ℕ) → List ℕ
+abbrev head_of : List (List ℕ) → List ℕ
 head_of [] = []
 head_of (r ∷ rs) = r
 
@@ -62,7 +62,7 @@ cut_at (r ∷ records) lost (d ∷ given) e =
       order = d ∷ c.order;
       more = c.more;
       parts = ap (λ ds. d ∷ ds) c.parts;
-      recorded = ap (λ x. x ∷ map (λ y. y.1) c.order) first ∙ ap (λ rs. r ∷ rs) c.recorded;
+      recorded = ap (λ x. x ∷ map (λ (y : ℕ × List ℕ). y.1) c.order) first ∙ ap (λ rs. r ∷ rs) c.recorded;
       others = c.others;
     }
 
@@ -72,11 +72,11 @@ none_more (d ∷ more) e = cc
 
 -- ---- lists of sources
 
-same_length : {A B : Type 0} (R : A → B → Type 0) (xs : List A) (ys : List B) → ((k : ℕ) → Both R (slice_get xs k) (slice_get ys k)) → length xs ≡ length ys
+same_length : {A B : Type 0} (R : ℕ → A → B → Type 0) (xs : List A) (ys : List B) → ((k : ℕ) → Both (R k) (slice_get xs k) (slice_get ys k)) → length xs ≡ length ys
 same_length R [] [] each = refl
 same_length R [] (y ∷ ys) each = absurd (each 0)
 same_length R (x ∷ xs) [] each = absurd (each 0)
-same_length R (x ∷ xs) (y ∷ ys) each = ap suc (same_length R xs ys (λ k. each (suc k)))
+same_length R (x ∷ xs) (y ∷ ys) each = ap suc (same_length (λ k. R (suc k)) xs ys (λ k. each (suc k)))
 
 length_seen : (streams : List LineSeen) → length (map (λ (lines : LineSeen). lines.source) streams) ≡ length streams
 length_seen [] = refl
@@ -97,9 +97,9 @@ no_waits : (edges : EdgesSeen) (names : List (List ℕ)) (sources : List SourceS
 no_waits edges names [] each = refl
 no_waits edges [] (s ∷ sources) each = absurd (each 0)
 no_waits edges (name ∷ names) (s ∷ sources) each =
-    sum_by-cons (λ (s : SourceSeen). s.waits) s sources
-    ∙ ap (λ n. n + sum_by (λ (s : SourceSeen). s.waits) sources) (each 0).no_wait
-    ∙ no_waits edges names sources (λ k. each (suc k))
+    let first = (each 0).no_wait in
+    let rest = no_waits edges names sources (λ k. each (suc k)) in
+    omega (arith, sum_by-cons (λ (x : SourceSeen). x.waits) s sources, first, rest)
 
 -- ---- one source of a merge
 
@@ -181,12 +181,12 @@ reads_merge topology before s lost edges names opened now legal role own in_fetc
     let read : AreMergedFrom sources now (c.order ++ c.more) = subst (AreMergedFrom sources now) c.parts k.read in
     let at_end = λ (h : SourceHow) (ended : source_end before s ≡ Some h).
     subst (AreMergedFrom sources now) (ap (λ more. c.order ++ more) (none_more c.more (c.others ∙ none_lost topology before s lost h legal role own in_fetch ended)) ∙ append-nil c.order) read in
-    let length_is : length sources ≡ length (sources_in (Merged now)) = same_length _ sources now.streams read.each ∙ sym (length_seen now.streams) in
+    let length_is : length sources ≡ length (sources_in (Merged now)) = same_length (λ n o lines. AreReadFrom o lines (lines_from n (c.order ++ c.more))) sources now.streams read.each ∙ sym (length_seen now.streams) in
     let quiet_from : waits_together opened ≡ 0 = waits_seen opened.streams ∙ no_waits edges names sources gives.given in
     record {
       order = c.order;
       records = c.recorded;
-      placed = subst (λ n. All (λ d. d.0 < n) c.order) length_is (front_all (λ d. d.0 < length sources) c.order c.more read.placed);
+      placed = subst (λ n. All (λ (d : ℕ × List ℕ). d.0 < n) c.order) length_is (front_all (λ (d : ℕ × List ℕ). d.0 < length sources) c.order c.more read.placed);
       in_order = λ n. rw (seen n) (first_at edges n c.order c.more (slice_get names n) (slice_get sources n) (slice_get now.streams n) (gives.given n) (read.each n));
       whole = λ e n.
           let all = at_end how.End e in

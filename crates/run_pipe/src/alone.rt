@@ -5,7 +5,6 @@ ghost use Rattle.run_pipe.specs.{Runs.{RanToEnd, IsIdleWithin}, Seen.{PipeState,
 
 use crate::pipe::Pipe;
 use pipe_edges::{ByteSource, Clock};
-use pipe_journal::Watch;
 use stage_bodies::Works;
 use stage_workers::Round;
 use std::alloc::Global;
@@ -13,7 +12,7 @@ use std::sync::Wait;
 
 /// Has one worker hold the pipe and do its jobs until the pipe has ended. Where the topology has no idle limit, it may wait for its
 /// sources for ever.
-pub fn run_here<R: Wait, B: Works, S: ByteSource, C: Clock, W: Watch>(
+pub fn run_here<R: Wait, B: Works, S: ByteSource, C: Clock, W>(
     rt: &R,
     alloc: Global,
     pipe: &mut Pipe<B, S, C, W>,
@@ -32,10 +31,7 @@ pub fn run_here<R: Wait, B: Works, S: ByteSource, C: Clock, W: Watch>(
 }
 
 /// A run that returns: the topology has an idle limit, and each hold leaves fewer.
-pub fn run_to_end<B: Works, S: ByteSource, C: Clock, W: Watch>(
-    alloc: Global,
-    pipe: &mut Pipe<B, S, C, W>,
-)
+pub fn run_to_end<B: Works, S: ByteSource, C: Clock, W>(alloc: Global, pipe: &mut Pipe<B, S, C, W>)
     requires limit { 1 ≤ pipe.old.topology.idle_limit }
     requires stems { (opened : PipeState) × Stems opened (state_of pipe.old) }
     requires none_away { away_of (state_of pipe.old) ≡ [] }
@@ -54,7 +50,7 @@ pub fn run_to_end<B: Works, S: ByteSource, C: Clock, W: Watch>(
 }
 
 /// A run that may wait for its sources for ever.
-fn run_on<R: Wait, B: Works, S: ByteSource, C: Clock, W: Watch>(
+fn run_on<R: Wait, B: Works, S: ByteSource, C: Clock, W>(
     rt: &R,
     alloc: Global,
     pipe: &mut Pipe<B, S, C, W>,

@@ -10,7 +10,7 @@ ghost use Rattle.run_pipe.specs.{Parts.{state_by}, Runs.{RanToEnd}, Seen.{PipeSe
 use crate::ends::RunEnd;
 use core_state::Core;
 use pipe_edges::{ByteSource, Clock, LineSource};
-use pipe_journal::{Journal, Watch};
+use pipe_journal::Journal;
 use pipe_types::numbers::Post;
 use pipeline_turn::Held;
 use stage_bodies::Works;
@@ -18,7 +18,7 @@ use std::alloc::AllocError;
 use std::marker::Model;
 
 /// A pipeline with the bodies that are at home, its control source, its clock and what is shown its journal.
-pub struct Pipe<B: Works, S: ByteSource, C: Clock, W: Watch> {
+pub struct Pipe<B: Works, S: ByteSource, C: Clock, W> {
     pub(crate) core: Core,
     /// By place.
     pub(crate) bodies: Vec<Option<B>>,
@@ -29,7 +29,7 @@ pub struct Pipe<B: Works, S: ByteSource, C: Clock, W: Watch> {
     pub(crate) end: Option<Result<RunEnd, AllocError>>,
 }
 
-impl<B: Works, S: ByteSource, C: Clock, W: Watch> Model for Pipe<B, S, C, W> {
+impl<B: Works, S: ByteSource, C: Clock, W> Model for Pipe<B, S, C, W> {
     ghost Value = { PipeSeen };
 
     ghost view = { λ p. record { topology = p.core.topology; steps = p.core.journal.steps; bodies = map (option_map B.look) p.bodies.items; control = option_map (line_seen S.ByteSource) p.control; clock = clock_seen C.latest C.readings C.pauses p.clock; end = p.end } };
@@ -37,7 +37,7 @@ impl<B: Works, S: ByteSource, C: Clock, W: Watch> Model for Pipe<B, S, C, W> {
     ghost invariant = { λ p. IsPipe p.core (state_by B.look (line_seen S.ByteSource) (clock_seen C.latest C.readings C.pauses) p.core p.bodies.items p.control p.clock p.end) };
 }
 
-impl<B: Works, S: ByteSource, C: Clock, W: Watch> Held for Pipe<B, S, C, W> {
+impl<B: Works, S: ByteSource, C: Clock, W> Held for Pipe<B, S, C, W> {
     type Start = Pipe<B, S, C, W>;
 
     ghost start = { λ p. p };
@@ -69,7 +69,7 @@ pub struct PipeParts<B, S, C, W> {
     pub end: Option<Result<RunEnd, AllocError>>,
 }
 
-impl<B: Works, S: ByteSource, C: Clock, W: Watch> Pipe<B, S, C, W> {
+impl<B: Works, S: ByteSource, C: Clock, W> Pipe<B, S, C, W> {
     /// A pipe before its first step: the body of each post is at home, and nothing was read of the control source.
     pub fn new(
         core: Core,
