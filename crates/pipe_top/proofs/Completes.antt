@@ -36,9 +36,8 @@ use Rattle.pipe_laws.proofs.Tests.{and_left, and_right, clash, same_stage-true}
 use Rattle.edge_names.specs.Seen.{EdgesSeen}
 use Rattle.edge_names.specs.Opened.{supplied_in}
 use Rattle.edge_names.specs.Gates.{AreInner, IsInner, pace_of_stage}
-use Rattle.edge_names.specs.Supplies.{Feeds, Feed, Opened, Merged, Made, Fed, at_paces, by_name, fed as supplied_feed, feed_by, feed_of_text, given_back, split_feed, supplied, supplied_by, under_names}
+use Rattle.edge_names.specs.Supplies.{Feeds, Feed, Opened, Merged, Made, Fed, at_paces, by_name, fed as supplied_feed, feed_by, feed_of_names, feed_of_text, given_back, names_of, supplied, supplied_by, under_names}
 use Rattle.edge_names.specs.Named.{GivesSource}
-use Rattle.config_rule.specs.SourceText.{merged_in, parts, are_names}
 use Rattle.edge_names.specs.Controls.{named_control, first_sources}
 use Rattle.edge_names.specs.Returned.{feed_in, named_source, sources_of}
 use Rattle.pipe_run.specs.Outside.{HasControl, HasItsBytes, IsFedRead, IsOutside, ReadsMerge, ReadsSource}
@@ -107,18 +106,13 @@ is_made (Made bytes) = true
 is_made (Opened name) = false
 is_made (Merged names) = false
 
-made_by : (is : Bool) (names : List (List ℕ)) (text : List ℕ) → is_made (if is then Merged names else Opened text) ≡ false
-made_by true names text = refl
-made_by false names text = refl
-
-split_made : (names : Option (List ℕ)) (text : List ℕ) → is_made (split_feed names text) ≡ false
-split_made (Some names) text = made_by (are_names (parts names)) (parts names) text
-split_made None text = refl
+names_made : (names : Option (List ℕ)) (text : List ℕ) → is_made (feed_of_names names text) ≡ false
+names_made (Some names) text = refl
+names_made None text = refl
 
 -- what a text names is not made
 text_made : (splits : Bool) (text : List ℕ) → is_made (feed_of_text splits text) ≡ false
-text_made true text = split_made (merged_in text) text
-text_made false text = refl
+text_made splits text = names_made (names_of splits text) text
 
 -- a source that was given back is faultless
 abbrev IsFine : List ℕ × SourceSeen → Type 0

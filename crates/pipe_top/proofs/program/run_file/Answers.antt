@@ -1,4 +1,4 @@
-use Rattle.std.proofs.Common.{ap}
+use Rattle.std.proofs.Common.{ap, refl}
 use Rattle.box_stock.proofs.Filled.{names_feed}
 use Rattle.edge_names.specs.Supplies.{by_name}
 use Rattle.pipe_top.specs.Cases.{Filed}
