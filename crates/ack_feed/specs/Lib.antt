@@ -1,0 +1,4 @@
+pub mod Fed
+pub mod Lines
+pub mod Entries
+pub mod Feeds
