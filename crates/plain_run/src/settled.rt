@@ -222,7 +222,11 @@ fn row_at(core: &Core, no: u32) -> Option<(MsgNo, StageNo, &Outcome)>
     ensures { option_map row_seen result ≡ row_of core.now.topology core.now.journal.steps (Some no) }
 {
     let at = no as usize - 1;
-    outcome_of(no, producer_at(&core.producers, at), place_at(&core.places, at))
+    outcome_of(
+        no,
+        producer_at(&core.producers, at),
+        place_at(&core.places, at),
+    )
 }
 
 /// The place of the message that was accepted after so many others.
