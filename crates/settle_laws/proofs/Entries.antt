@@ -1,6 +1,6 @@
 -- The entries of a step, from the messages that it acknowledges; which these are, from the step that settled each.
-use Rattle.std.proofs.Common.{◌≡◌, ℕ, suc, ◌<◌, ◌≤◌, List, [], ◌∷◌, length, Bool, true, false, refl, ap, sym, ◌∙◌, Some, None, Option, cond, arith}
-use Rattle.std.specs.Prelude.{if◌then◌else◌, not, ◌==◌, ◌&&◌, is_some, filter, IsTrue}
+use Rattle.std.proofs.Common.{◌≡◌, ℕ, suc, ◌<◌, List, [], ◌∷◌, length, Bool, true, false, refl, ap, sym, ◌∙◌, Some, None, Option, cond, arith}
+use Rattle.std.specs.Prelude.{if◌then◌else◌, not, ◌==◌, ◌&&◌, filter, IsTrue}
 use Rattle.std.proofs.lemmas.Bool.{eq-eqb, ne_eqb}
 use Rattle.pipe_types.specs.declared.numbers.StageNo.{StageNo}
 use Rattle.pipe_types.specs.declared.topology.Topology.{Topology}

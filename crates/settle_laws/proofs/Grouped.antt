@@ -1,7 +1,7 @@
 -- What is made of the verdicts on what the last step acknowledged are the entries of the step.
 use Rattle.std.proofs.Common.{◌≡◌, ℕ, zero, suc, ◌+◌, ◌<◌, ◌≤◌, List, [], ◌∷◌, ◌++◌, length, map, get_or, Bool, true, false, refl, ap, sym, ◌∙◌, subst, Some, None, Option, arith}
-use Rattle.std.specs.Prelude.{◌==◌, ◌||◌, cond, filter, Contains, option_map, is_some}
-use Rattle.std.specs.List.{flat_map, filter_map, cons_option}
+use Rattle.std.specs.Prelude.{◌==◌, ◌||◌, cond, Contains, option_map, is_some}
+use Rattle.std.specs.List.{flat_map, cons_option}
 use Rattle.std.specs.List.Sorted.{IsNonDecreasing}
 use Rattle.std.proofs.lemmas.Bool.{eqb-true}
 use Rattle.pipe_types.specs.declared.numbers.StageNo.{StageNo}
@@ -10,24 +10,23 @@ use Rattle.pipe_types.specs.declared.topology.StageSpec.{StageSpec}
 use Rattle.pipe_types.specs.declared.message.Place.{Place}
 use Rattle.pipe_types.specs.declared.message.Place.TheVariants.{Waiting, Inbox, Running, Gathered, InBatch, Acked, Lost}
 use Rattle.pipe_types.specs.declared.step.Step.{Step}
-use Rattle.pipe_types.specs.Numbers.{same_stage}
 use Rattle.pipe_types.specs.Sound.{IsSound}
 use Rattle.pipe_types.specs.Stages.{spec_in, spec_of}
 use Rattle.pipe_model.specs.History.{History, accepted}
 use Rattle.pipe_model.specs.Content.{producer_of}
 use Rattle.pipe_model.specs.Flow.{place, among}
 use Rattle.pipe_model.specs.Legal.{is_legal}
-use Rattle.pipe_model.specs.Acknowledgements.{Acknowledgement, acknowledged_by, settled_by, entry, numbers_upto, is_acked_successful, is_acked_failed, is_producer}
+use Rattle.pipe_model.specs.Acknowledgements.{Acknowledgement, acknowledged_by, settled_by, entry, numbers_upto, is_acked_successful, is_acked_failed}
 use Rattle.message_ack.specs.declared.verdicts.Verdict.{Verdict}
 use Rattle.message_ack.specs.Groups.{AreAcknowledgements, successful_of, failed_of}
 use Rattle.pipe_laws.proofs.Accepted.{placed_accepted}
 use Rattle.pipe_laws.proofs.Acknowledged.{produced}
 use Rattle.pipe_laws.proofs.Numbers.{AscendFrom}
 use Rattle.pipe_laws.proofs.Sounds.{sound_ascends}
-use Rattle.settle_laws.specs.Settled.{is_newly, settled_last, of_producer, outcome_row, verdict_in, verdict_of, verdicts_of}
+use Rattle.settle_laws.specs.Settled.{is_newly, settled_last, of_producer, outcome_row, verdict_in, verdicts_of}
 use Rattle.settle_laws.proofs.Climbs.{Climbs, lower, climbs_filter, upto_climbs, among_contains, contains_among}
 use Rattle.settle_laws.proofs.Entries.{entry_numbers, successful_side, failed_side}
-use Rattle.settle_laws.proofs.Listed.{entries, are_entries}
+use Rattle.settle_laws.proofs.Listed.{are_entries}
 use Rattle.settle_laws.proofs.Verdicts.{successful_numbers, failed_numbers}
 
 -- Numbers that climb do not fall

@@ -1,8 +1,8 @@
 -- A step acknowledges no message but those that it may.
-use Rattle.std.proofs.Common.{◌≡◌, ℕ, List, [], ◌∷◌, ◌++◌, ◌+◌, map, length, Bool, true, false, refl, ap, sym, ◌∙◌, Some, None, Option, subst, inl, inr}
-use Rattle.std.specs.Prelude.{◌⊎◌, if◌then◌else◌, not, ◌==◌, ◌&&◌, ◌||◌, filter, option_map, option_to_list, is_some, unwrap_or, position}
+use Rattle.std.proofs.Common.{◌≡◌, ℕ, List, [], ◌∷◌, ◌++◌, ◌+◌, length, Bool, true, false, refl, ap, ◌∙◌, Some, None, Option, subst, inl, inr}
+use Rattle.std.specs.Prelude.{◌⊎◌, if◌then◌else◌, not, ◌==◌, ◌&&◌, ◌||◌, option_map, option_to_list, is_some, unwrap_or, position}
 use Rattle.std.specs.List.{flat_map}
-use Rattle.std.proofs.lemmas.Bool.{eqb-true, eq-eqb, false_from_ne_true}
+use Rattle.std.proofs.lemmas.Bool.{eqb-true, eq-eqb}
 use Rattle.pipe_types.specs.declared.numbers.StageNo.{StageNo}
 use Rattle.pipe_types.specs.declared.numbers.SubNo.{SubNo}
 use Rattle.pipe_types.specs.declared.numbers.BatchNo.{BatchNo}
@@ -12,7 +12,6 @@ use Rattle.pipe_types.specs.declared.message.Place.TheVariants.{Waiting, Inbox, 
 use Rattle.pipe_types.specs.declared.message.Outcome.{Outcome}
 use Rattle.pipe_types.specs.declared.message.BatchEnd.TheVariants.{Outcomes, Crashed as CrashedEnd}
 use Rattle.pipe_types.specs.declared.message.Reply.{Reply}
-use Rattle.pipe_types.specs.declared.message.Reply.TheVariants.{Pass, Failed as FailedReply, Raised, Crashed}
 use Rattle.pipe_types.specs.declared.message.Why.{Why}
 use Rattle.pipe_types.specs.declared.room.Sent.{Sent as SentUnit}
 use Rattle.pipe_types.specs.declared.step.Step.{Step}
@@ -25,12 +24,12 @@ use Rattle.pipe_model.specs.Posts.{in_slot, crashes}
 use Rattle.pipe_model.specs.Lives.{KillSet, kill_set, reason_in, death}
 use Rattle.pipe_model.specs.Content.{has_crash, is_among_next}
 use Rattle.pipe_model.specs.Batches.{Batch, BatchPlace, AtBatcher, Sent, Dropped, Leg, LegPlace, InInbox, AtWork, Answered, LegLost, is_settled, lost_leg, failed_leg, settled_as, place_by_batch, on_legs, leg_lost, batch_killed, dropped_in}
-use Rattle.pipe_model.specs.Flow.{place, batch, view_of, among, chunk_by, numbers_in, alone, deliveries, lost_over, dispatched, waiting_after, subs_of, done, answered, reply_to, has_batchers_in, child_ended, child_place, child_started, is_number, runs_again, by_batch, place_in_batch, change_place, killed, lost_with, taken, gathered, put_in_batch, accepted_to, late_place, next_units, closing}
+use Rattle.pipe_model.specs.Flow.{place, batch, view_of, among, chunk_by, numbers_in, alone, deliveries, lost_over, dispatched, waiting_after, subs_of, done, answered, reply_to, has_batchers_in, child_ended, child_place, is_number, runs_again, by_batch, place_in_batch, change_place, killed, lost_with, taken, gathered, put_in_batch, accepted_to, late_place, next_units, closing}
 use Rattle.pipe_model.specs.Work.{taken_units}
 use Rattle.pipe_model.specs.Legal.{is_legal}
 use Rattle.pipe_model.specs.Standing.{in_progress, going}
 use Rattle.pipe_model.specs.Acknowledgements.{is_acked}
-use Rattle.pipe_laws.proofs.Tests.{and_left, and_right, clash}
+use Rattle.pipe_laws.proofs.Tests.{and_right, clash}
 use Rattle.pipe_laws.proofs.Progress.{in_batch_going}
 use Rattle.queue_laws.proofs.Batched.{going_in}
 use Rattle.queue_laws.proofs.Writes.{wrote_others}

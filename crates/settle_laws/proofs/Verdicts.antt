@@ -1,16 +1,12 @@
 -- The acknowledgements of the last step, from the verdicts on what it settled.
-use Rattle.std.proofs.Common.{◌≡◌, ℕ, zero, suc, ◌+◌, ◌<◌, ◌≤◌, List, [], ◌∷◌, ◌++◌, length, map, get_or, Bool, true, false, refl, ap, sym, ◌∙◌, subst, Some, None, Option, cond, arith}
-use Rattle.std.specs.Prelude.{◌&&◌, not, filter, Contains, option_map, is_some, if◌then◌else◌}
-use Rattle.std.specs.List.{flat_map, filter_map, cons_option}
-use Rattle.std.specs.List.Sorted.{IsNonDecreasing}
+use Rattle.std.proofs.Common.{◌≡◌, ℕ, List, [], ◌∷◌, map, Bool, true, false, refl, ap, sym, ◌∙◌, Some, None, Option, cond}
+use Rattle.std.specs.Prelude.{◌&&◌, not, filter, option_map}
+use Rattle.std.specs.List.{cons_option}
 use Rattle.pipe_types.specs.declared.numbers.StageNo.{StageNo}
 use Rattle.pipe_types.specs.declared.topology.Topology.{Topology}
-use Rattle.pipe_types.specs.declared.topology.StageSpec.{StageSpec}
-use Rattle.pipe_types.specs.declared.message.Outcome.{Outcome}
 use Rattle.pipe_types.specs.declared.message.Outcome.TheVariants.{Successful, Failed}
 use Rattle.pipe_types.specs.declared.message.Place.{Place}
 use Rattle.pipe_types.specs.declared.message.Place.TheVariants.{Waiting, Inbox, Running, Gathered, InBatch, Acked, Lost}
-use Rattle.pipe_types.specs.declared.step.Step.{Step}
 use Rattle.pipe_types.specs.Numbers.{same_stage}
 use Rattle.pipe_types.specs.Handlers.{is_successful}
 use Rattle.pipe_model.specs.History.{History}
@@ -19,7 +15,7 @@ use Rattle.pipe_model.specs.Flow.{place}
 use Rattle.pipe_model.specs.Acknowledgements.{is_acked_successful, is_acked_failed, is_producer}
 use Rattle.message_ack.specs.declared.verdicts.Verdict.{Verdict}
 use Rattle.message_ack.specs.Groups.{successful_of, failed_of}
-use Rattle.settle_laws.specs.Settled.{of_producer, outcome_row, verdict_in, verdict_of, verdicts_of}
+use Rattle.settle_laws.specs.Settled.{of_producer, outcome_row, verdict_in, verdicts_of}
 
 and_false : (b : Bool) → (b && false) ≡ false
 and_false true = refl

@@ -1,6 +1,5 @@
 use Rattle.pipe_model.specs.Acknowledgements.{is_acked_successful, is_acked_failed}
-use Rattle.settle_laws.proofs.Climbs.{passing_same}
-use Rattle.settle_laws.proofs.Entries.{entry_numbers, successful_side, failed_side, newly_is}
+use Rattle.settle_laws.proofs.Entries.{entry_numbers, successful_side, failed_side}
 use Rattle.settle_laws.proofs.entries_are_of_the_last_step.Goals as goal
 
 pub returns-clause-successful : goal.returns-clause-successful
