@@ -1,1 +1,4 @@
-pub mod Feeding
+mod Feeding
+mod Places
+mod Verdicts
+mod Moving

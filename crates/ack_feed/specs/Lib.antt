@@ -2,3 +2,4 @@ pub mod Fed
 pub mod Lines
 pub mod Entries
 pub mod Feeds
+pub mod Moves
