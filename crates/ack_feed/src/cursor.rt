@@ -1,14 +1,11 @@
 //! What each step of a journal acknowledges.
 
 ghost use Rattle.std.specs.Prelude.{◌≡◌, ◌∷◌, ◌<◌, ◌≤◌, [], true, length, drop, IfOk, IfErr, OnOk, OnErr};
-ghost use Rattle.pipe_types.specs.Sound.{IsSound};
-ghost use Rattle.pipe_model.specs.Acknowledgements.{acknowledged_by};
-ghost use Rattle.pipe_model.specs.Legal.{allows};
-ghost use Rattle.pipe_types.specs.declared.step.Step.{Step as StepSeen};
-ghost use Rattle.pipe_model.specs.History.{History};
+ghost use Rattle.pipe_types.specs.{Sound.{IsSound}, declared.step.Step.{Step as StepSeen}};
+ghost use Rattle.pipe_model.specs.{Acknowledgements.{acknowledged_by}, History.{History}, Legal.{allows}};
 ghost use Rattle.settle_laws.specs.Settled.{settled_last, verdicts_of as verdicts_of_numbers};
 
-use journal_reading::copy_topology;
+use journal_reading::begin;
 use message_ack::{AckList, Verdict, group};
 use pipe_types::step::Step;
 use pipe_types::topology::Topology;
@@ -108,16 +105,13 @@ fn without_last(alloc: Global, run: &PlainRun, last: u64) -> Result<PlainRun, Al
     ensures topology { IfOk result (λ back. back.topology ≡ run.now.topology) }
     ensures steps { IfOk result (λ back. back.steps ≡ drop last run.now.steps) }
 {
-    let topology = copy_topology(alloc, run.topology())?;
-    let mut back = match PlainRun::new(alloc, topology) {
-        Ok(back) => back,
-        Err((_, failed)) => return Err(failed),
-    };
     let journal = run.journal();
+    let mut back = begin(alloc, run.topology())?;
     for at in 0..journal.len() - last {
-        if let Some(step) = journal.get(at)? {
-            back.step(&step)?;
-        }
+        let Some(step) = journal.get(at)? else {
+            unreachable!();
+        };
+        back.step(&step)?;
     }
     Ok(back)
 }
@@ -126,8 +120,10 @@ fn without_last(alloc: Global, run: &PlainRun, last: u64) -> Result<PlainRun, Al
 fn entries_of(alloc: Global, run: &PlainRun) -> Result<AckList, AllocError>
     ensures { IfOk result (λ acks. (before : History) (step : StepSeen) → run.now.steps ≡ step ∷ before → acks ≡ acknowledged_by run.now.topology before step) }
 {
+    let _journal = run.journal();
     let verdicts = verdicts_of(alloc, run)?;
-    group(alloc, &verdicts)
+    let acks = group(alloc, &verdicts)?;
+    Ok(acks)
 }
 
 /// The verdicts on what the last step of the run acknowledged, by their numbers.

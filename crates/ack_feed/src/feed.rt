@@ -1,8 +1,12 @@
 //! The acknowledgements of a journal, sent to a sink while the journal grows.
 
-ghost use Rattle.std.specs.Prelude.{◌≡◌, ◌≤◌, ◌<◌, ◌++◌, ℕ, List, [], false, map, length, reverse, drop, IfOk, IfErr, OnErr, IsTrue};
-ghost use Rattle.message_ack.specs.Groups.{acknowledgements_in};
+ghost use Rattle.std.specs.Prelude.{◌≡◌, ◌≤◌, ◌<◌, ◌++◌, ℕ, List, [], true, false, map, length, reverse, Ok, IfOk, IfErr, OnOk, IsTrue};
+ghost use Rattle.pipe_types.specs.Stages.{spec_of};
+ghost use Rattle.pipe_model.specs.{Begins.{BeginsWith}, Legal.{is_legal}};
+ghost use Rattle.journal_texts.specs.Acks.{name_in};
+ghost use Rattle.message_ack.specs.Groups.{acknowledgement, acknowledgements_in};
 ghost use Rattle.ack_feed.specs.Fed.{IsFed, Failing, is_failed, sent_after};
+ghost use Rattle.ack_feed.specs.{Feeds.{line_of}, Moves.{watch_end}};
 
 use crate::cursor::AckCursor;
 use crate::lines::{FeedEnd, LineFeed};
@@ -11,6 +15,7 @@ use message_ack::Ack;
 use pipe_edges::ByteSink;
 use pipe_journal::{Journal, Watch, WatchEnd};
 use pipe_types::bytes::Bytes;
+use pipe_types::numbers::StageNo;
 use pipe_types::topology::Topology;
 use std::alloc::{AllocError, Global};
 
@@ -25,8 +30,10 @@ pub struct AckFeed<K> {
 }
 
 impl<K: ByteSink> AckFeed<K> {
-    ghost use Rattle.ack_feed.specs.Feeds.{cursor_of, feed_of, to_come, line_of};
+    ghost use Rattle.ack_feed.specs.Feeds.{cursor_of, feed_of, to_come, unsent_text, begun_by, held_by, Stands};
     ghost use Rattle.ack_feed.specs.Lines.{sink_of, pending, has_failed};
+    ghost use Rattle.ack_feed.specs.Moves.{Flows, ended_failed};
+    ghost use Rattle.ack_feed.specs.declared.lines.FeedEnd.TheVariants.{Done};
 
     /// A feed of the lines of this cursor, to this sink. It takes the memory for `room` lines here. Where memory is wanting both are
     /// given back.
@@ -42,6 +49,8 @@ impl<K: ByteSink> AckFeed<K> {
         ensures sink { IfOk result (λ f. sink_of (feed_of f) ≡ sink) }
         ensures empty { IfOk result (λ f. to_come f ≡ []) }
         ensures whole { IfOk result (λ f. has_failed (feed_of f) ≡ false) }
+        ensures stands { cursor.steps ≡ [] → IfOk result (λ f. Stands K.told K.held f []) }
+        ensures begun { cursor.steps ≡ [] → IfOk result (λ f. begun_by K.told K.held f ≡ held_by K.told K.held sink) }
         ensures returned { IfErr result (λ e. (e.0 ≡ cursor) × (e.1 ≡ sink)) }
     {
         match LineFeed::new(alloc, sink, room) {
@@ -68,7 +77,10 @@ impl<K: ByteSink> AckFeed<K> {
         ensures fed { (begun : List ℕ) (sent : List (List ℕ)) → IsTrue (K.told (sink_of (feed_of self.old)))
             → IsFed begun sent (K.held (sink_of (feed_of self.old))) (pending (feed_of self.old))
             → IsFed begun (sent_after result sent line) (K.held (sink_of (feed_of self.new))) (pending (feed_of self.new)) }
+        ensures same_telling { K.told (sink_of (feed_of self.new)) ≡ K.told (sink_of (feed_of self.old)) }
         ensures failed { has_failed (feed_of self.new) ≡ is_failed result }
+        ensures over { has_failed (feed_of self.old) ≡ true → self.new ≡ self.old }
+        ensures faults_stay { K.faults (sink_of (feed_of self.old)) ≤ K.faults (sink_of (feed_of self.new)) }
         ensures cause { Failing (has_failed (feed_of self.old)) (K.faults (sink_of (feed_of self.old))) (K.faults (sink_of (feed_of self.new))) result }
     {
         self.feed.send(line)
@@ -80,7 +92,10 @@ impl<K: ByteSink> AckFeed<K> {
             → IsFed begun sent (K.held (sink_of (feed_of self.old))) (pending (feed_of self.old))
             → IsFed begun sent (K.held (sink_of (feed_of self.new))) (pending (feed_of self.new)) }
         ensures all { has_failed (feed_of self.new) ≡ false → pending (feed_of self.new) ≡ [] }
+        ensures same_telling { K.told (sink_of (feed_of self.new)) ≡ K.told (sink_of (feed_of self.old)) }
         ensures failed { has_failed (feed_of self.new) ≡ is_failed result }
+        ensures over { has_failed (feed_of self.old) ≡ true → self.new ≡ self.old }
+        ensures faults_stay { K.faults (sink_of (feed_of self.old)) ≤ K.faults (sink_of (feed_of self.new)) }
         ensures cause { Failing (has_failed (feed_of self.old)) (K.faults (sink_of (feed_of self.old))) (K.faults (sink_of (feed_of self.new))) result }
     {
         self.feed.flush()
@@ -89,12 +104,13 @@ impl<K: ByteSink> AckFeed<K> {
     // Sends these lines, the last first, as many as go before a write fails, and keeps the others.
     fn send_all(&mut self, lines: Vec<Bytes>) -> FeedEnd
         requires whole { has_failed (feed_of self.old) ≡ false }
-        requires sent { to_come self.old ≡ pending (feed_of self.old) }
+        requires none { unsent_text self.old ≡ [] }
         ensures cursor { cursor_of self.new ≡ cursor_of self.old }
         ensures fed { (begun : List ℕ) (sent : List (List ℕ)) → IsTrue (K.told (sink_of (feed_of self.old)))
             → IsFed begun sent (K.held (sink_of (feed_of self.old))) (pending (feed_of self.old))
             → IsFed begun (sent ++ reverse lines.items) (K.held (sink_of (feed_of self.new))) (to_come self.new) }
         ensures failed { has_failed (feed_of self.new) ≡ is_failed result }
+        ensures none { has_failed (feed_of self.new) ≡ false → unsent_text self.new ≡ [] }
         ensures same_telling { K.told (sink_of (feed_of self.new)) ≡ K.told (sink_of (feed_of self.old)) }
         ensures faults_stay { K.faults (sink_of (feed_of self.old)) ≤ K.faults (sink_of (feed_of self.new)) }
         ensures cause { Failing false (K.faults (sink_of (feed_of self.old))) (K.faults (sink_of (feed_of self.new))) result }
@@ -114,7 +130,22 @@ impl<K: ByteSink> AckFeed<K> {
 
     // Goes on by the step of the journal at the cursor's place, and sends the lines of what it acknowledges. Where memory is wanting
     // the cursor stays where it was.
-    fn go_on(&mut self, journal: &Journal) -> Result<FeedEnd, AllocError> {
+    fn go_on(&mut self, journal: &Journal) -> Result<FeedEnd, AllocError>
+        requires legal { is_legal (cursor_of self.old).topology journal.now.steps ≡ true }
+        requires begins { BeginsWith journal.now.steps (cursor_of self.old).steps }
+        requires more { length (cursor_of self.old).steps < length journal.now.steps }
+        requires whole { has_failed (feed_of self.old) ≡ false }
+        requires none { unsent_text self.old ≡ [] }
+        ensures fed { (begun : List ℕ) → Flows K.told K.held begun self.old → Flows K.told K.held begun self.new }
+        ensures topology { (cursor_of self.new).topology ≡ (cursor_of self.old).topology }
+        ensures begins { BeginsWith journal.now.steps (cursor_of self.new).steps }
+        ensures further { OnOk result (length (cursor_of self.old).steps < length (cursor_of self.new).steps) }
+        ensures failed { has_failed (feed_of self.new) ≡ ended_failed result }
+        ensures none { has_failed (feed_of self.new) ≡ false → unsent_text self.new ≡ [] }
+        ensures same_telling { K.told (sink_of (feed_of self.new)) ≡ K.told (sink_of (feed_of self.old)) }
+        ensures faults_stay { K.faults (sink_of (feed_of self.old)) ≤ K.faults (sink_of (feed_of self.new)) }
+        ensures cause { IfOk result (Failing false (K.faults (sink_of (feed_of self.old))) (K.faults (sink_of (feed_of self.new)))) }
+    {
         let Some(step) = journal.get(self.cursor.len())? else {
             unreachable!();
         };
@@ -126,6 +157,31 @@ impl<K: ByteSink> AckFeed<K> {
                 Err(failed)
             }
         }
+    }
+
+    // Goes on by all the new steps of the journal, and stops where a write fails or memory is wanting.
+    fn catch_up(&mut self, journal: &Journal) -> Result<FeedEnd, AllocError>
+        requires legal { is_legal (cursor_of self.old).topology journal.now.steps ≡ true }
+        requires begins { BeginsWith journal.now.steps (cursor_of self.old).steps }
+        requires whole { has_failed (feed_of self.old) ≡ false }
+        requires none { unsent_text self.old ≡ [] }
+        ensures fed { (begun : List ℕ) → Flows K.told K.held begun self.old → Flows K.told K.held begun self.new }
+        ensures topology { (cursor_of self.new).topology ≡ (cursor_of self.old).topology }
+        ensures begins { BeginsWith journal.now.steps (cursor_of self.new).steps }
+        ensures all { result ≡ Ok Done → (cursor_of self.new).steps ≡ journal.now.steps }
+        ensures failed { has_failed (feed_of self.new) ≡ ended_failed result }
+        ensures none { has_failed (feed_of self.new) ≡ false → unsent_text self.new ≡ [] }
+        ensures same_telling { K.told (sink_of (feed_of self.new)) ≡ K.told (sink_of (feed_of self.old)) }
+        ensures faults_stay { K.faults (sink_of (feed_of self.old)) ≤ K.faults (sink_of (feed_of self.new)) }
+        ensures cause { IfOk result (Failing false (K.faults (sink_of (feed_of self.old))) (K.faults (sink_of (feed_of self.new)))) }
+    {
+        'steps: while self.cursor.len() < journal.len() {
+            let end = self.go_on(journal)?;
+            if end == FeedEnd::Failed {
+                return Ok(FeedEnd::Failed);
+            }
+        }
+        Ok(FeedEnd::Done)
     }
 }
 
@@ -145,19 +201,21 @@ impl<K: ByteSink + Send> Watch for AckFeed<K> {
 
     /// Goes on over the new steps, sends the line of each acknowledgement, and writes all that is held; also where memory is wanting.
     fn seen(&mut self, journal: &Journal) -> WatchEnd {
-        let mut memory = true;
-        'steps: while memory && self.cursor.len() < journal.len() {
-            match self.go_on(journal) {
-                Ok(FeedEnd::Done) => {}
-                Ok(FeedEnd::Failed) => return WatchEnd::Failed,
-                Err(_) => memory = false,
-            }
+        match self.catch_up(journal) {
+            Ok(FeedEnd::Failed) => WatchEnd::Failed,
+            Ok(FeedEnd::Done) => end_of(self.feed.flush(), WatchEnd::Done),
+            Err(_) => end_of(self.feed.flush(), WatchEnd::OutOfMemory),
         }
-        match self.feed.flush() {
-            FeedEnd::Failed => WatchEnd::Failed,
-            FeedEnd::Done if memory => WatchEnd::Done,
-            FeedEnd::Done => WatchEnd::OutOfMemory,
-        }
+    }
+}
+
+/// How a watch ends after a flush that was to end so.
+fn end_of(end: FeedEnd, done: WatchEnd) -> WatchEnd
+    ensures { result ≡ watch_end end done }
+{
+    match end {
+        FeedEnd::Done => done,
+        FeedEnd::Failed => WatchEnd::Failed,
     }
 }
 
@@ -180,18 +238,18 @@ fn line_of_ack(alloc: Global, topology: &Topology, ack: &Ack) -> Result<Bytes, A
     let mut text = Vec::new(alloc);
     put_line(
         &mut text,
-        name_of(topology, ack),
+        name_of(topology, ack.producer),
         ack.successful.as_slice(),
         ack.failed.as_slice(),
     )?;
     Ok(Bytes::from_vec(text))
 }
 
-/// The name of the producer that is acknowledged to.
-fn name_of<'a>(topology: &'a Topology, ack: &Ack) -> &'a [u8]
-    ensures { result.now ≡ name_in (spec_of topology.now ack.now.producer) }
+/// The name of the producer.
+fn name_of(topology: &Topology, producer: StageNo) -> &[u8]
+    ensures { result.now ≡ name_in (spec_of topology.now producer) }
 {
-    match topology.stages.find(ack.producer) {
+    match topology.stages.find(producer) {
         Some(spec) => spec.name.as_str().as_bytes(),
         None => &[],
     }
