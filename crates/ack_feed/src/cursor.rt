@@ -65,7 +65,7 @@ impl AckCursor {
             self.run = without_last(self.alloc, &self.run, self.ahead)?;
             self.ahead = 0;
         }
-        self.run.step(step)?;
+        go_on(&mut self.run, step)?;
         match entries_of(self.alloc, &self.run) {
             Ok(acks) => Ok(acks),
             Err(failed) => {
@@ -99,6 +99,18 @@ impl AckCursor {
     }
 }
 
+/// Appends a legal step.
+fn go_on(run: &mut PlainRun, step: &Step) -> Result<(), AllocError>
+    requires legal { allows run.old.topology run.old.steps step.now ≡ true }
+    ensures stepped { OnOk result (run.new.steps ≡ step.now ∷ run.old.steps) }
+    ensures topology { run.new.topology ≡ run.old.topology }
+    ensures unchanged { OnErr result (run.new.steps ≡ run.old.steps) }
+{
+    let legal = run.step(step)?;
+    prove!(legal);
+    Ok(())
+}
+
 /// The run as it was before so many of its last steps.
 fn without_last(alloc: Global, run: &PlainRun, last: u64) -> Result<PlainRun, AllocError>
     requires { last ≤ length run.now.steps }
@@ -108,10 +120,8 @@ fn without_last(alloc: Global, run: &PlainRun, last: u64) -> Result<PlainRun, Al
     let journal = run.journal();
     let mut back = begin(alloc, run.topology())?;
     for at in 0..journal.len() - last {
-        let Some(step) = journal.get(at)? else {
-            unreachable!();
-        };
-        back.step(&step)?;
+        let step = journal.view(at).to_step(alloc)?;
+        go_on(&mut back, &step)?;
     }
     Ok(back)
 }

@@ -146,9 +146,7 @@ impl<K: ByteSink> AckFeed<K> {
         ensures faults_stay { K.faults (sink_of (feed_of self.old)) ≤ K.faults (sink_of (feed_of self.new)) }
         ensures cause { IfOk result (Failing false (K.faults (sink_of (feed_of self.old))) (K.faults (sink_of (feed_of self.new)))) }
     {
-        let Some(step) = journal.get(self.cursor.len())? else {
-            unreachable!();
-        };
+        let step = journal.view(self.cursor.len()).to_step(self.alloc)?;
         let acks = self.cursor.step(&step)?;
         match lines_of(self.alloc, self.cursor.topology(), acks.as_slice()) {
             Ok(lines) => Ok(self.send_all(lines)),
