@@ -1,9 +1,11 @@
 -- What lines that are written and held make of what the sink got.
 use Rattle.std.proofs.Common.{◌≡◌, ℕ, zero, ◌+◌, ◌<◌, ◌≤◌, List, [], ◌∷◌, ◌++◌, length, take, drop, Bool, true, false, refl, ap, sym, ◌∙◌, subst, Some, None, Option, arith}
-use Rattle.std.specs.Prelude.{slice_get, is_some, unwrap_or}
+use Rattle.std.specs.Prelude.{if◌then◌else◌, nat_lt, slice_get, is_some, unwrap_or}
+use Rattle.std.proofs.lemmas.Bool.{false_from_ne_true, lt-ltb, ltb-true}
 use Rattle.std.proofs.lemmas.List.{append_assoc, append-nil, take-append-drop, take_all, drop-append-le}
 use Rattle.std.proofs.lemmas.List.Concat.{flat_map-append}
 use Rattle.ack_feed.specs.Fed.{text_of, IsFed}
+use Rattle.ack_feed.specs.Lines.{room_made}
 
 abbrev Text : Type 0
 Text = List ℕ
@@ -57,3 +59,14 @@ push_fed begun sent lines held line fed = (
 pub all_pending : (fault : Option ℕ) (text : Text) → is_some fault ≡ false → drop (unwrap_or fault 0) text ≡ text
 all_pending None text e = refl
 all_pending (Some w) text e = cc
+
+-- Room for one more
+
+pub room_left : (room : ℕ) (lines : List Text) → length lines < room → lines ≡ room_made room lines
+room_left room lines low = ap (λ b. if b then lines else drop 1 lines) (sym (lt-ltb (length lines) room low))
+
+pub room_gone : (room : ℕ) (lines : List Text) → room ≤ length lines → drop 1 lines ≡ room_made room lines
+room_gone room lines high = ap (λ b. if b then lines else drop 1 lines) (sym full)
+  where
+    full : nat_lt (length lines) room ≡ false
+    full = false_from_ne_true (nat_lt (length lines) room) (λ h. let low : length lines < room = ltb-true (length lines) room h in omega (arith, low, high))

@@ -1,5 +1,5 @@
 -- What a feed of lines shows.
-use Rattle.std.specs.Prelude.{ℕ, Bool, List, drop, is_some, unwrap_or}
+use Rattle.std.specs.Prelude.{ℕ, Bool, if◌then◌else◌, List, length, drop, nat_lt, is_some, unwrap_or}
 use Rattle.ack_feed.specs.Fed.{text_of}
 use Rattle.ack_feed.specs.declared.lines.LineFeed.{LineFeed}
 
@@ -18,6 +18,10 @@ pending feed = drop (unwrap_or feed.fault 0) (text_of feed.lines.items)
 -- for how many lines there is room
 abbrev pub room_of : {K : Type 0} → LineFeed K → ℕ
 room_of feed = feed.lines.capacity
+
+-- the lines that are held once there is room for one more: where there was none, the first of them has gone
+abbrev pub room_made : (room : ℕ) → List (List ℕ) → List (List ℕ)
+room_made room lines = if nat_lt (length lines) room then lines else drop 1 lines
 
 -- a write failed
 abbrev pub has_failed : {K : Type 0} → LineFeed K → Bool

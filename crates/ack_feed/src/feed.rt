@@ -1,6 +1,6 @@
 //! The acknowledgements of a journal, sent to a sink while the journal grows.
 
-ghost use Rattle.std.specs.Prelude.{◌≡◌, ◌≤◌, ◌<◌, ◌++◌, ℕ, List, [], true, false, map, length, reverse, Ok, IfOk, IfErr, OnOk, IsTrue};
+ghost use Rattle.std.specs.Prelude.{◌≡◌, ◌≤◌, ◌<◌, ◌++◌, ◌∷◌, ℕ, List, [], true, false, map, length, reverse, Ok, IfOk, IfErr, OnOk, IsTrue};
 ghost use Rattle.pipe_types.specs.Stages.{spec_of};
 ghost use Rattle.pipe_model.specs.{Begins.{BeginsWith}, Legal.{is_legal}};
 ghost use Rattle.journal_texts.specs.Acks.{name_in};
@@ -31,7 +31,7 @@ pub struct AckFeed<K> {
 
 impl<K: ByteSink> AckFeed<K> {
     ghost use Rattle.ack_feed.specs.Feeds.{cursor_of, feed_of, to_come, unsent_text, begun_by, held_by, Stands};
-    ghost use Rattle.ack_feed.specs.Lines.{sink_of, pending, has_failed};
+    ghost use Rattle.ack_feed.specs.Lines.{sink_of, held_lines, pending, room_of, room_made, has_failed};
     ghost use Rattle.ack_feed.specs.Moves.{Flows, ended_failed};
     ghost use Rattle.ack_feed.specs.declared.lines.FeedEnd.TheVariants.{Done};
 
@@ -47,7 +47,8 @@ impl<K: ByteSink> AckFeed<K> {
         requires most { room ≤ 64 }
         ensures cursor { IfOk result (λ f. cursor_of f ≡ cursor) }
         ensures sink { IfOk result (λ f. sink_of (feed_of f) ≡ sink) }
-        ensures empty { IfOk result (λ f. to_come f ≡ []) }
+        ensures empty { IfOk result (λ f. held_lines (feed_of f) ≡ []) }
+        ensures room { IfOk result (λ f. room_of (feed_of f) ≡ room) }
         ensures whole { IfOk result (λ f. has_failed (feed_of f) ≡ false) }
         ensures stands { cursor.steps ≡ [] → IfOk result (λ f. Stands K.told K.held f []) }
         ensures begun { cursor.steps ≡ [] → IfOk result (λ f. begun_by K.told K.held f ≡ held_by K.told K.held sink) }
@@ -77,6 +78,8 @@ impl<K: ByteSink> AckFeed<K> {
         ensures fed { (begun : List ℕ) (sent : List (List ℕ)) → IsTrue (K.told (sink_of (feed_of self.old)))
             → IsFed begun sent (K.held (sink_of (feed_of self.old))) (pending (feed_of self.old))
             → IsFed begun (sent_after result sent line) (K.held (sink_of (feed_of self.new))) (pending (feed_of self.new)) }
+        ensures held { result ≡ FeedEnd.Done → held_lines (feed_of self.new) ≡ room_made (room_of (feed_of self.old)) (held_lines (feed_of self.old)) ++ line ∷ [] }
+        ensures waits { length (held_lines (feed_of self.old)) < room_of (feed_of self.old) → sink_of (feed_of self.new) ≡ sink_of (feed_of self.old) }
         ensures same_telling { K.told (sink_of (feed_of self.new)) ≡ K.told (sink_of (feed_of self.old)) }
         ensures failed { has_failed (feed_of self.new) ≡ is_failed result }
         ensures over { has_failed (feed_of self.old) ≡ true → self.new ≡ self.old }
@@ -91,6 +94,7 @@ impl<K: ByteSink> AckFeed<K> {
         ensures fed { (begun : List ℕ) (sent : List (List ℕ)) → IsTrue (K.told (sink_of (feed_of self.old)))
             → IsFed begun sent (K.held (sink_of (feed_of self.old))) (pending (feed_of self.old))
             → IsFed begun sent (K.held (sink_of (feed_of self.new))) (pending (feed_of self.new)) }
+        ensures empty { has_failed (feed_of self.new) ≡ false → held_lines (feed_of self.new) ≡ [] }
         ensures all { has_failed (feed_of self.new) ≡ false → pending (feed_of self.new) ≡ [] }
         ensures same_telling { K.told (sink_of (feed_of self.new)) ≡ K.told (sink_of (feed_of self.old)) }
         ensures failed { has_failed (feed_of self.new) ≡ is_failed result }

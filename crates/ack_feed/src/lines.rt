@@ -1,6 +1,6 @@
 //! Lines that go to a sink.
 
-ghost use Rattle.std.specs.Prelude.{◌≡◌, ◌≤◌, ◌<◌, ◌++◌, ◌∷◌, ℕ, List, [], true, false, length, IfOk, IfErr, IsTrue};
+ghost use Rattle.std.specs.Prelude.{◌≡◌, ◌≤◌, ◌<◌, ◌++◌, ◌∷◌, ℕ, List, [], true, false, length, drop, IfOk, IfErr, IsTrue};
 ghost use Rattle.ack_feed.specs.Fed.{IsFed, Failing, is_failed, sent_after};
 
 use circular_buffer::HeapCircularBuffer;
@@ -26,7 +26,7 @@ pub struct LineFeed<K> {
 }
 
 impl<K: ByteSink> LineFeed<K> {
-    ghost use Rattle.ack_feed.specs.Lines.{sink_of, held_lines, pending, room_of, has_failed};
+    ghost use Rattle.ack_feed.specs.Lines.{sink_of, held_lines, pending, room_of, room_made, has_failed};
 
     /// A feed that holds no line, to this sink. It takes the memory for `room` lines here. Where memory is wanting the sink is given
     /// back.
@@ -65,6 +65,8 @@ impl<K: ByteSink> LineFeed<K> {
         ensures fed { (begun : List ℕ) (sent : List (List ℕ)) → IsTrue (K.told (sink_of self.old))
             → IsFed begun sent (K.held (sink_of self.old)) (pending self.old)
             → IsFed begun (sent_after result sent line) (K.held (sink_of self.new)) (pending self.new) }
+        ensures held { result ≡ FeedEnd.Done → held_lines self.new ≡ room_made (room_of self.old) (held_lines self.old) ++ line ∷ [] }
+        ensures waits { length (held_lines self.old) < room_of self.old → sink_of self.new ≡ sink_of self.old }
         ensures same_telling { K.told (sink_of self.new) ≡ K.told (sink_of self.old) }
         ensures room { room_of self.new ≡ room_of self.old }
         ensures failed { has_failed self.new ≡ is_failed result }
@@ -80,11 +82,14 @@ impl<K: ByteSink> LineFeed<K> {
     }
 
     // Where as many lines are held as there is room for, writes the first of them.
+    #[tactic(auto, using(crate::proofs::Feeding::room_left, crate::proofs::Feeding::room_gone))]
     pub(crate) fn make_room(&mut self) -> FeedEnd
         ensures fed { (begun : List ℕ) (sent : List (List ℕ)) → IsTrue (K.told (sink_of self.old))
             → IsFed begun sent (K.held (sink_of self.old)) (pending self.old)
             → IsFed begun sent (K.held (sink_of self.new)) (pending self.new) }
         ensures some_room { has_failed self.new ≡ false → length (held_lines self.new) < room_of self.new }
+        ensures held { has_failed self.new ≡ false → held_lines self.new ≡ room_made (room_of self.old) (held_lines self.old) }
+        ensures waits { length (held_lines self.old) < room_of self.old → self.new ≡ self.old }
         ensures same_telling { K.told (sink_of self.new) ≡ K.told (sink_of self.old) }
         ensures room { room_of self.new ≡ room_of self.old }
         ensures failed { has_failed self.new ≡ is_failed result }
@@ -107,6 +112,7 @@ impl<K: ByteSink> LineFeed<K> {
         requires whole { has_failed self.old ≡ false }
         ensures fed { (begun : List ℕ) (sent : List (List ℕ)) → IsFed begun sent (K.held (sink_of self.old)) (pending self.old)
             → IsFed begun (sent ++ line ∷ []) (K.held (sink_of self.new)) (pending self.new) }
+        ensures held { held_lines self.new ≡ held_lines self.old ++ line ∷ [] }
         ensures sink { sink_of self.new ≡ sink_of self.old }
         ensures room { room_of self.new ≡ room_of self.old }
         ensures whole { has_failed self.new ≡ false }
@@ -121,6 +127,7 @@ impl<K: ByteSink> LineFeed<K> {
         ensures fed { (begun : List ℕ) (sent : List (List ℕ)) → IsTrue (K.told (sink_of self.old))
             → IsFed begun sent (K.held (sink_of self.old)) (pending self.old)
             → IsFed begun sent (K.held (sink_of self.new)) (pending self.new) }
+        ensures empty { has_failed self.new ≡ false → held_lines self.new ≡ [] }
         ensures all { has_failed self.new ≡ false → pending self.new ≡ [] }
         ensures same_telling { K.told (sink_of self.new) ≡ K.told (sink_of self.old) }
         ensures room { room_of self.new ≡ room_of self.old }
@@ -147,6 +154,7 @@ impl<K: ByteSink> LineFeed<K> {
         ensures fed { (begun : List ℕ) (sent : List (List ℕ)) → IsTrue (K.told (sink_of self.old))
             → IsFed begun sent (K.held (sink_of self.old)) (pending self.old)
             → IsFed begun sent (K.held (sink_of self.new)) (pending self.new) }
+        ensures rest { has_failed self.new ≡ false → held_lines self.new ≡ drop 1 (held_lines self.old) }
         ensures lines { has_failed self.new ≡ false → length (held_lines self.new) < length (held_lines self.old) }
         ensures same_telling { K.told (sink_of self.new) ≡ K.told (sink_of self.old) }
         ensures room { room_of self.new ≡ room_of self.old }
