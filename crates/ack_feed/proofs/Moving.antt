@@ -95,3 +95,42 @@ begun_is begun sent text held rest is fed =
     (let all : length text ≡ length fed.0 + length rest = ap length (sym is ∙ sym fed.2) ∙ length-append fed.0 rest in
     let both : length (begun ++ fed.0) ≡ length begun + length fed.0 = length-append begun fed.0 in
     omega (arith, all, both))
+
+-- A step of the feed
+
+-- with the lines of a step sent, what it got is of the journal with the step
+pub goes_on : (topology topology' : Topology) (before after : History) (step : Step) (lines : List Text) (begun held held' rest behind rest' : Text) → topology' ≡ topology → after ≡ step ∷ before
+    → lines ≡ map (line_of topology) (acknowledged_by topology before step) → behind ≡ []
+    → ((begun : Text) (sent : List Text) → IsFed begun sent held rest → IsFed begun (sent ++ lines) held' rest')
+    → IsFed begun (ack_lines topology before) held (rest ++ behind) → IsFed begun (ack_lines topology' after) held' rest'
+goes_on topology topology' before after step lines begun held held' rest behind rest' same on are none sends fed =
+    subst (λ (h : History). IsFed begun (ack_lines topology' h) held' rest') (sym on)
+    (subst (λ (t : Topology). IsFed begun (ack_lines t (step ∷ before)) held' rest') (sym same)
+    (subst (λ (ls : List Text). IsFed begun ls held' rest') (lines_next topology before step lines are)
+    (sends begun (ack_lines topology before) (same_rest begun (ack_lines topology before) held (rest ++ behind) rest (ap (λ (t : Text). rest ++ t) none ∙ append-nil rest) fed))))
+
+-- the same journal
+pub stays : (topology topology' : Topology) (before after : History) (begun held rest : Text) → topology' ≡ topology → after ≡ before
+    → IsFed begun (ack_lines topology before) held rest → IsFed begun (ack_lines topology' after) held rest
+stays topology topology' before after begun held rest same is fed =
+    subst (λ (h : History). IsFed begun (ack_lines topology' h) held rest) (sym is) (subst (λ (t : Topology). IsFed begun (ack_lines t before) held rest) (sym same) fed)
+
+-- What a feed stands for
+
+-- what the sink began with, where it tells, is the same where it is the same then
+pub begun_kept : (told told' : Bool) (begun begun' : Text) → told' ≡ told → (told ≡ true → begun' ≡ begun) → (if told' then Some begun' else None) ≡ (if told then Some begun else None)
+begun_kept told told' begun begun' same is = ap (λ b. if b then Some begun' else None) same ∙ by told is
+  where
+    by : (b : Bool) → (b ≡ true → begun' ≡ begun) → (if b then Some begun' else None) ≡ (if b then Some begun else None)
+    by true e = ap (λ (t : Text). Some t) (e refl)
+    by false e = refl
+
+-- what is fed by lines is fed by their text
+pub as_text : (topology : Topology) (before steps : History) (begun begun' held rest : Text) → before ≡ steps → begun' ≡ begun → IsFed begun (ack_lines topology before) held rest
+    → (got : Text) × (held ≡ begun' ++ got) × (got ++ rest ≡ ack_text topology steps)
+as_text topology before steps begun begun' held rest same is fed =
+    (fed.0, fed.1 ∙ ap (λ (t : Text). t ++ fed.0) (sym is), fed.2 ∙ (lines_text topology before ∙ ap (ack_text topology) same))
+
+pub as_lines : (topology : Topology) (before steps : History) (begun held rest : Text) → before ≡ steps → (got : Text) × (held ≡ begun ++ got) × (got ++ rest ≡ ack_text topology steps)
+    → IsFed begun (ack_lines topology before) held rest
+as_lines topology before steps begun held rest same fed = (fed.0, fed.1, fed.2 ∙ (ap (ack_text topology) (sym same) ∙ sym (lines_text topology before)))
