@@ -10,6 +10,7 @@ use Rattle.pipe_model.specs.History.{History}
 use Rattle.pipe_model.specs.Legal.{is_legal, allows}
 use Rattle.pipe_journal.specs.Readers.{step_at}
 use Rattle.pipe_laws.proofs.Allowed.{legal_before, legal_step}
+use Rattle.plain_run.specs.Seen.{RunSeen}
 use Rattle.core_laws.proofs.Contents.{step_before, step_last}
 
 same_step : (a b : Step) → Some a ≡ Some b → a ≡ b
@@ -77,3 +78,8 @@ pub allowed_there : (topology : Topology) (whole : History) (at : ℕ) (step : S
 allowed_there topology whole at step legal within there =
     legal_next topology whole (drop (length whole - at) whole) step
     (subst (BeginsWith whole) (step_there whole at step within there) (drop_begins (length whole - (at + 1)) whole)) legal
+
+-- What a cursor shows
+
+pub same_seen : (a b : RunSeen) → a.topology ≡ b.topology → a.steps ≡ b.steps → a ≡ b
+same_seen a b same steps = λ i. record { topology = same i; steps = steps i }

@@ -54,6 +54,7 @@ impl AckCursor {
 
     /// Goes on by the step, and answers what it acknowledges: one entry for each producer of which it settles a message so, producers
     /// ascending. Where memory is wanting nothing changes.
+    #[tactic(auto, using(crate::proofs::Places::same_seen))]
     pub fn step(&mut self, step: &Step) -> Result<AckList, AllocError>
         requires legal { allows self.old.topology self.old.steps step.now ≡ true }
         ensures entries { IfOk result (λ acks. acks ≡ acknowledged_by self.old.topology self.old.steps step.now) }
@@ -61,10 +62,8 @@ impl AckCursor {
         ensures topology { self.new.topology ≡ self.old.topology }
         ensures unchanged { OnErr result (self.new ≡ self.old) }
     {
-        if self.ahead > 0 {
-            self.run = without_last(self.alloc, &self.run, self.ahead)?;
-            self.ahead = 0;
-        }
+        come_back(self.alloc, &mut self.run, self.ahead)?;
+        self.ahead = 0;
         go_on(&mut self.run, step)?;
         match entries_of(self.alloc, &self.run) {
             Ok(acks) => Ok(acks),
@@ -108,6 +107,19 @@ fn go_on(run: &mut PlainRun, step: &Step) -> Result<(), AllocError>
 {
     let legal = run.step(step)?;
     prove!(legal);
+    Ok(())
+}
+
+/// Takes so many of the last steps back.
+fn come_back(alloc: Global, run: &mut PlainRun, last: u64) -> Result<(), AllocError>
+    requires within { last ≤ length run.old.steps }
+    ensures steps { OnOk result (run.new.steps ≡ drop last run.old.steps) }
+    ensures topology { run.new.topology ≡ run.old.topology }
+    ensures unchanged { OnErr result (run.new.steps ≡ run.old.steps) }
+{
+    if last > 0 {
+        *run = without_last(alloc, run, last)?;
+    }
     Ok(())
 }
 
