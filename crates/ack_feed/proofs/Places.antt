@@ -1,5 +1,5 @@
 -- A journal up to a place, and the step there.
-use Rattle.std.proofs.Common.{◌≡◌, ℕ, suc, ◌+◌, ◌-◌, ◌<◌, ◌≤◌, [], ◌∷◌, ◌++◌, length, take, drop, true, refl, ap, sym, ◌∙◌, subst, Some, inl, inr, arith}
+use Rattle.std.proofs.Common.{◌≡◌, ℕ, zero, suc, ◌+◌, ◌-◌, ◌<◌, ◌≤◌, [], ◌∷◌, ◌++◌, length, take, drop, true, refl, ap, sym, ◌∙◌, subst, Some, inl, inr, arith}
 use Rattle.std.specs.Prelude.{◌⊎◌}
 use Rattle.std.proofs.lemmas.Bool.{cases_lt}
 use Rattle.std.proofs.lemmas.List.{drop_at, length-append, take-append-drop, nil_from_length}
@@ -83,3 +83,13 @@ allowed_there topology whole at step legal within there =
 
 pub same_seen : (a b : RunSeen) → a.topology ≡ b.topology → a.steps ≡ b.steps → a ≡ b
 same_seen a b same steps = λ i. record { topology = same i; steps = steps i }
+
+pub drop_again : (k : ℕ) (whole : History) → drop (k + 1) whole ≡ drop 1 (drop k whole)
+drop_again zero whole = refl
+drop_again (suc k) [] = refl
+drop_again (suc k) (step ∷ before) = drop_again k before
+
+pub some_left : (k : ℕ) (whole : History) → 0 < length (drop k whole) → k < length whole
+some_left zero whole some = some
+some_left (suc k) [] some = absurd (omega (arith, some))
+some_left (suc k) (step ∷ before) some = let rest : k < length before = some_left k before some in omega (arith, rest)

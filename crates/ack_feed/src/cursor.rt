@@ -89,12 +89,15 @@ impl AckCursor {
     }
 
     /// Takes the last step back. It takes no memory now: the next step does.
+    #[tactic(auto, using(crate::proofs::Places::drop_again, crate::proofs::Places::some_left))]
     pub(crate) fn step_back(&mut self)
         requires some { 0 < length self.old.steps }
         ensures steps { self.new.steps ≡ drop 1 self.old.steps }
         ensures topology { self.new.topology ≡ self.old.topology }
     {
-        self.ahead += 1;
+        if self.ahead < self.run.journal().len() {
+            self.ahead += 1;
+        }
     }
 }
 
