@@ -86,8 +86,8 @@ same_seen a b same steps = λ i. record { topology = same i; steps = steps i }
 
 pub drop_again : (k : ℕ) (whole : History) → drop (k + 1) whole ≡ drop 1 (drop k whole)
 drop_again zero whole = refl
-drop_again (suc k) [] = refl
-drop_again (suc k) (step ∷ before) = drop_again k before
+drop_again (suc k) [] = let next : suc k + 1 ≡ suc (k + 1) = omega arith in ap (λ n. drop {A = Step} n []) next
+drop_again (suc k) (step ∷ before) = let next : suc k + 1 ≡ suc (k + 1) = omega arith in ap (λ n. drop n (step ∷ before)) next ∙ drop_again k before
 
 pub some_left : (k : ℕ) (whole : History) → 0 < length (drop k whole) → k < length whole
 some_left zero whole some = some

@@ -22,9 +22,13 @@ pub verdicts_more : (topology : Topology) (before : History) (numbers : List ℕ
     → verdicts_of topology before (take (at + 1) numbers) ≡ verdicts_of topology before (take at numbers) ++ verdict ∷ []
 verdicts_more topology before [] at n verdict there is = cc
 verdicts_more topology before (m ∷ numbers) zero n verdict there is =
-    ap (λ o. cons_option o (verdicts_of topology before [])) (ap (verdict_of topology before) (some_same m n there) ∙ is)
+    let one : 0 + 1 ≡ 1 = omega arith in
+    ap (λ k. verdicts_of topology before (take k (m ∷ numbers))) one
+    ∙ ap (λ (o : Option Verdict). cons_option o (verdicts_of topology before [])) (ap (verdict_of topology before) (some_same m n there) ∙ is)
 verdicts_more topology before (m ∷ numbers) (suc at) n verdict there is =
-    each (verdict_of topology before m) (verdicts_more topology before numbers at n verdict there is)
+    let next : suc at + 1 ≡ suc (at + 1) = omega arith in
+    ap (λ k. verdicts_of topology before (take k (m ∷ numbers))) next
+    ∙ each (verdict_of topology before m) (verdicts_more topology before numbers at n verdict there is)
   where
     each : (o : Option Verdict) → verdicts_of topology before (take (at + 1) numbers) ≡ verdicts_of topology before (take at numbers) ++ verdict ∷ []
         → cons_option o (verdicts_of topology before (take (at + 1) numbers)) ≡ cons_option o (verdicts_of topology before (take at numbers)) ++ verdict ∷ []
