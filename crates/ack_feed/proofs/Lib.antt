@@ -2,3 +2,4 @@ mod Feeding
 mod Places
 mod Verdicts
 mod Moving
+pub mod Fronts
