@@ -2,7 +2,7 @@
 use Rattle.std.proofs.Common.{◌≡◌, ℕ, zero, suc, ◌+◌, ◌-◌, ◌<◌, ◌≤◌, [], ◌∷◌, ◌++◌, length, take, drop, true, refl, ap, sym, ◌∙◌, subst, Some, inl, inr, arith}
 use Rattle.std.specs.Prelude.{◌⊎◌}
 use Rattle.std.proofs.lemmas.Bool.{cases_lt}
-use Rattle.std.proofs.lemmas.List.{drop_at, length-append, take-append-drop, nil_from_length}
+use Rattle.std.proofs.lemmas.List.{drop_all, drop_at, length-append, take-append-drop, nil_from_length}
 use Rattle.pipe_types.specs.declared.topology.Topology.{Topology}
 use Rattle.pipe_types.specs.declared.step.Step.{Step}
 use Rattle.pipe_model.specs.Begins.{BeginsWith}
@@ -93,3 +93,7 @@ pub some_left : (k : ℕ) (whole : History) → 0 < length (drop k whole) → k 
 some_left zero whole some = some
 some_left (suc k) [] some = absurd (omega (arith, some))
 some_left (suc k) (step ∷ before) some = let rest : k < length before = some_left k before some in omega (arith, rest)
+
+-- up to the first place there is nothing
+pub none_yet : (whole : History) → [] ≡ drop (length whole - 0) whole
+none_yet whole = sym (drop_all (length whole - 0) whole (omega arith))

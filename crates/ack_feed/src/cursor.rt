@@ -120,9 +120,10 @@ fn come_back(alloc: Global, run: &mut PlainRun, last: u64) -> Result<(), AllocEr
     ensures topology { run.new.topology ≡ run.old.topology }
     ensures unchanged { OnErr result (run.new.steps ≡ run.old.steps) }
 {
-    if last > 0 {
-        *run = without_last(alloc, run, last)?;
+    if last == 0 {
+        return Ok(());
     }
+    *run = without_last(alloc, run, last)?;
     Ok(())
 }
 
