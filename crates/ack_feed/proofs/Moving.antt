@@ -84,19 +84,19 @@ same_rest begun sent held rest rest' e fed = (fed.0, fed.1, ap (λ (t : Text). f
 -- Lines that are sent one by one, of a list whose last is the first to go
 
 -- room is made, the next line is popped and held
-pub sends_next : (begun : Text) (sent rest left : List Text) (line held made pushed now then later : Text) → rest ≡ left ++ line ∷ [] → Keeps held made now then
-    → ((begun : Text) (sent : List Text) → IsFed begun sent made then → IsFed begun (sent ++ line ∷ []) pushed later)
-    → IsFed begun sent held (now ++ text_of (reverse rest)) → IsFed begun sent pushed (later ++ text_of (reverse left))
-sends_next begun sent rest left line held made pushed now then later is makes pushes fed =
-    carry_line begun sent made pushed then later line (text_of (reverse left)) pushes
-    (same_rest begun sent made (then ++ text_of (reverse rest)) (then ++ (line ++ text_of (reverse left))) (ap (λ (t : Text). then ++ t) (ap (λ (ls : List Text). text_of (reverse ls)) is ∙ turned left line))
-    (carry begun sent held made now then (text_of (reverse rest)) makes fed))
+pub sends_next : (begun : Text) (sent rest left : List Text) (line held made pushed old mid new : Text) → rest ≡ left ++ line ∷ [] → Keeps held made old mid
+    → ((begun : Text) (sent : List Text) → IsFed begun sent made mid → IsFed begun (sent ++ line ∷ []) pushed new)
+    → IsFed begun sent held (old ++ text_of (reverse rest)) → IsFed begun sent pushed (new ++ text_of (reverse left))
+sends_next begun sent rest left line held made pushed old mid new is makes pushes fed =
+    carry_line begun sent made pushed mid new line (text_of (reverse left)) pushes
+    (same_rest begun sent made (mid ++ text_of (reverse rest)) (mid ++ (line ++ text_of (reverse left))) (ap (λ (t : Text). mid ++ t) (ap (λ (ls : List Text). text_of (reverse ls)) is ∙ turned left line))
+    (carry begun sent held made old mid (text_of (reverse rest)) makes fed))
 
 -- when none is left
-pub all_sent : (begun : Text) (sent rest : List Text) (held now unsent : Text) → length rest ≡ 0 → unsent ≡ [] → IsFed begun sent held (now ++ text_of (reverse rest)) → IsFed begun sent held (now ++ unsent)
-all_sent begun sent rest held now unsent none also fed =
-    same_rest begun sent held (now ++ text_of (reverse rest)) (now ++ unsent)
-    (ap (λ (t : Text). now ++ t) (ap (λ (ls : List Text). text_of (reverse ls)) (nil_from_length rest none) ∙ sym also)) fed
+pub all_sent : (begun : Text) (sent rest : List Text) (held old unsent : Text) → length rest ≡ 0 → unsent ≡ [] → IsFed begun sent held (old ++ text_of (reverse rest)) → IsFed begun sent held (old ++ unsent)
+all_sent begun sent rest held old unsent none also fed =
+    same_rest begun sent held (old ++ text_of (reverse rest)) (old ++ unsent)
+    (ap (λ (t : Text). old ++ t) (ap (λ (ls : List Text). text_of (reverse ls)) (nil_from_length rest none) ∙ sym also)) fed
 
 -- What it began with
 
