@@ -78,6 +78,7 @@ impl<K: ByteSink> AckFeed<K> {
         ensures fed { (begun : List ℕ) (sent : List (List ℕ)) → IsTrue (K.told (sink_of (feed_of self.old)))
             → IsFed begun sent (K.held (sink_of (feed_of self.old))) (pending (feed_of self.old))
             → IsFed begun (sent_after result sent line) (K.held (sink_of (feed_of self.new))) (pending (feed_of self.new)) }
+        ensures cursor { cursor_of self.new ≡ cursor_of self.old }
         ensures held { result ≡ FeedEnd.Done → held_lines (feed_of self.new) ≡ room_made (room_of (feed_of self.old)) (held_lines (feed_of self.old)) ++ line ∷ [] }
         ensures waits { length (held_lines (feed_of self.old)) < room_of (feed_of self.old) → sink_of (feed_of self.new) ≡ sink_of (feed_of self.old) }
         ensures same_telling { K.told (sink_of (feed_of self.new)) ≡ K.told (sink_of (feed_of self.old)) }
@@ -94,6 +95,7 @@ impl<K: ByteSink> AckFeed<K> {
         ensures fed { (begun : List ℕ) (sent : List (List ℕ)) → IsTrue (K.told (sink_of (feed_of self.old)))
             → IsFed begun sent (K.held (sink_of (feed_of self.old))) (pending (feed_of self.old))
             → IsFed begun sent (K.held (sink_of (feed_of self.new))) (pending (feed_of self.new)) }
+        ensures cursor { cursor_of self.new ≡ cursor_of self.old }
         ensures empty { has_failed (feed_of self.new) ≡ false → held_lines (feed_of self.new) ≡ [] }
         ensures all { has_failed (feed_of self.new) ≡ false → pending (feed_of self.new) ≡ [] }
         ensures same_telling { K.told (sink_of (feed_of self.new)) ≡ K.told (sink_of (feed_of self.old)) }
