@@ -1,4 +1,5 @@
 mod Views
+mod Watching
 mod Measures
 mod Gone
 mod InHands
@@ -9,5 +10,6 @@ mod Homing
 mod Going
 mod Starts
 mod Outcomes
+mod Shown
 pub use Rattle.stage_holds.proofs.Kept
 pub use Rattle.stage_holds.proofs.Obeying

@@ -20,7 +20,7 @@ pub fn run_workers<
     B: Works + Send,
     S: ByteSource + Send,
     C: Clock + Send,
-    W: Watch + Send,
+    W: Watch,
     R: Threads + Wait + Sync,
 >(rt: &R, alloc: Global, workers: u16, pipe: Pipe<B, S, C, W>) -> Pipe<B, S, C, W>
     requires some { 1 ≤ workers }
