@@ -10,16 +10,15 @@ ghost use Rattle.stage_workers.specs.Rounds.{IfJob, job_post, brought_post};
 
 use crate::ends::RunEnd;
 use crate::pipe::Pipe;
-use crate::showing::show;
+use crate::shown::{Shown, show};
 use pipe_edges::{ByteSource, Clock};
-use pipe_journal::Watch;
 use pipe_types::numbers::Post;
 use stage_bodies::Works;
 use stage_holds::{Home, Load, Next, come_home, hold};
 use stage_workers::{Round, Shift};
 use std::alloc::{AllocError, Global};
 
-impl<B: Works, S: ByteSource, C: Clock, W: Watch> Shift for Pipe<B, S, C, W> {
+impl<B: Works, S: ByteSource, C: Clock, W: Shown> Shift for Pipe<B, S, C, W> {
     type Load = Load<B>;
 
     type Home = Home<B>;
@@ -62,7 +61,7 @@ impl<B: Works, S: ByteSource, C: Clock, W: Watch> Shift for Pipe<B, S, C, W> {
     }
 }
 
-impl<B: Works, S: ByteSource, C: Clock, W: Watch> Pipe<B, S, C, W> {
+impl<B: Works, S: ByteSource, C: Clock, W: Shown> Pipe<B, S, C, W> {
     /// All that a worker does while it has the pipe: what it brings comes home; the pipeline advances, unless it has ended; then the
     /// next job begins, or time passes, or it is told why neither is so; and the watch is shown the journal. Where memory is wanting for
     /// that, the run ends; a job that was begun is done all the same, and comes home to a pipe that has ended.
