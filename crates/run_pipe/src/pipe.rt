@@ -68,6 +68,8 @@ pub struct PipeParts<B, S, C, W> {
     pub control: Option<LineSource<S>>,
     pub clock: C,
     pub watch: W,
+    /// Whether the watch has failed.
+    pub has_failed: bool,
     /// How the run ended, once it has. The error is want of memory.
     pub end: Option<Result<RunEnd, AllocError>>,
 }
@@ -109,6 +111,7 @@ impl<B: Works, S: ByteSource, C: Clock, W: Shown> Pipe<B, S, C, W> {
         ensures stands { Stands result.core }
         ensures whole { IsWhole (state_of self) }
         ensures parts { state_of self ≡ state_by B.look (line_seen S.ByteSource) (clock_seen C.latest C.readings C.pauses) W.sight result.core result.bodies.items result.control result.clock result.watch result.end }
+        ensures known { result.has_failed ≡ (W.sight result.watch).failed }
         ensures watched { HasSeen (W.suits result.watch) (W.knows result.watch) (W.sight result.watch).failed (HasMemory result.end) result.core.topology result.core.journal.steps }
     {
         let Pipe {
@@ -117,7 +120,7 @@ impl<B: Works, S: ByteSource, C: Clock, W: Shown> Pipe<B, S, C, W> {
             control,
             clock,
             watch,
-            has_failed: _,
+            has_failed,
             end,
         } = self;
         PipeParts {
@@ -126,6 +129,7 @@ impl<B: Works, S: ByteSource, C: Clock, W: Shown> Pipe<B, S, C, W> {
             control,
             clock,
             watch,
+            has_failed,
             end,
         }
     }
