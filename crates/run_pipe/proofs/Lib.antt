@@ -10,6 +10,6 @@ mod Homing
 mod Going
 mod Starts
 mod Outcomes
-mod Shown
+mod CutShort
 pub use Rattle.stage_holds.proofs.Kept
 pub use Rattle.stage_holds.proofs.Obeying

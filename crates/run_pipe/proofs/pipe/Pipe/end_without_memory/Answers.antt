@@ -5,7 +5,7 @@ use Rattle.stage_holds.specs.Clocks.{clock_seen}
 use Rattle.run_pipe.specs.Seen.{PipeState, state_of, away_of}
 use Rattle.run_pipe.proofs.Outcomes.{short_of, short_whole, short_ran, ran_at}
 use Rattle.run_pipe.proofs.Views.{fields_of, seen_of, state_is}
-use Rattle.run_pipe.proofs.Shown.{seen_where}
+use Rattle.run_pipe.proofs.CutShort.{seen_where}
 use Rattle.run_pipe.specs.Ends.{HasMemory}
 use Rattle.run_pipe.proofs.pipe.Pipe.end_without_memory.Goals as goal
 

@@ -6,7 +6,7 @@ use Rattle.run_pipe.specs.Seen.{PipeState, state_of}
 use Rattle.run_pipe.proofs.Views.{fields_of, state_is}
 use Rattle.run_pipe.proofs.Homing.{home_first, brings_at, rounded_at, going_by}
 use Rattle.run_pipe.proofs.Going.{held_by, holds_round, holds_whole}
-use Rattle.run_pipe.proofs.Shown.{shown_round, shown_whole, seen_by, part_of}
+use Rattle.run_pipe.proofs.CutShort.{shown_round, shown_whole, seen_by, part_of}
 use Rattle.run_pipe.specs.Rounds.{round_of, end_of}
 use Rattle.pipe_types.specs.declared.topology.Topology.{Topology}
 use Rattle.run_pipe.specs.Ends.{HasMemory}

@@ -11,7 +11,7 @@ use Rattle.run_pipe.specs.Whole.{IsWhole}
 use Rattle.stage_workers.specs.declared.shift.Round.TheVariants.{Ended}
 use Rattle.run_pipe.proofs.Views.{fields_of, seen_of, state_is}
 use Rattle.run_pipe.proofs.Homing.{home_first, with_home, one_home, nothing_home, home_whole, no_memory, brings_at, rounded_at}
-use Rattle.run_pipe.proofs.Shown.{seen_where, part_of}
+use Rattle.run_pipe.proofs.CutShort.{seen_where, part_of}
 use Rattle.run_pipe.specs.Ends.{HasMemory}
 use Rattle.run_pipe.proofs.pipe.Pipe.take_home.Goals as goal
 
