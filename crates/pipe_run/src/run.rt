@@ -6,7 +6,7 @@ ghost use Rattle.core_state.specs.Stands.{Stands};
 ghost use Rattle.stage_bodies.specs.{Seen.{body_at, line_seen}, Jobs.{Both}};
 ghost use Rattle.body_laws.specs.Ready.{IsFilled};
 ghost use Rattle.run_pipe.specs.{Keeping.{IsFresh}, Clocks.{clock_seen}, Ends.{HasEnded}, Watches.{HasSeen, KeepsWatch, watch_seen}};
-ghost use Rattle.edge_names.specs.{Supplies.{FeedsProducers, at_paces}, Returned.{KeepsCallbacks}};
+ghost use Rattle.edge_names.specs.{Supplies.{FeedsProducers, IsUnmerged, at_paces}, Returned.{KeepsCallbacks}};
 ghost use Rattle.rate_laws.specs.Rates.{KeepsRate};
 ghost use Rattle.box_stock.specs.{Homes.{Suffices}, Lends.{AreHandedOut, AreStillThere, IsSameBox, box_at, kinds_of}};
 ghost use Rattle.pipe_run.specs.{Boxes.{AreBoxesLeft, AreSameBoxes, LeavesCallbacks}, Steps.{WentOn}, Whole.{IsRunOf, HasFailed, HasWanted, HasCome, IfUnopened, IfWanting}};
@@ -87,6 +87,7 @@ pub fn run_topology<
 ) -> Ended<C, K>
     requires sound { IsSound topology }
     requires fed { FeedsProducers (Q.feeds supply.now) topology }
+    requires unmerged { IsUnmerged topology (Q.feeds supply.now) }
     requires suffices { Suffices topology (kinds_of C.seen stock.items) }
     ensures topology { IfOk result.run (λ run. run.core.topology ≡ topology) }
     ensures stands { IfOk result.run (λ run. Stands run.core) }
@@ -136,6 +137,7 @@ fn run_bodies<
 ) -> Left<B, K>
     requires sound { IsSound topology }
     requires fed { FeedsProducers (Q.feeds supply.now) topology }
+    requires unmerged { IsUnmerged topology (Q.feeds supply.now) }
     requires handed { AreHandedOut topology (body_at B.look bodies.items) }
     ensures topology { IfOk result.run (λ run. run.core.topology ≡ topology) }
     ensures stands { IfOk result.run (λ run. Stands run.core) }

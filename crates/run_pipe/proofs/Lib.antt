@@ -11,5 +11,6 @@ mod Going
 mod Starts
 mod Outcomes
 mod CutShort
+mod Serving
 pub use Rattle.stage_holds.proofs.Kept
 pub use Rattle.stage_holds.proofs.Obeying
