@@ -13,7 +13,7 @@ pub fn usage_line(alloc: Global) -> Result<Bytes, AllocError>
 {
     line_of(
         alloc,
-        "usage: flow SOURCE PREFIX; check TOPOLOGY; run TOPOLOGY [--workers N] [--acks] [--steps]; gen SEED COUNT TOPOLOGY; upgrade TOPOLOGY; audit JOURNAL TOPOLOGY\n",
+        "usage: flow SOURCE PREFIX; check TOPOLOGY; run TOPOLOGY [--workers N] [--acks] [--steps] [--live SINK]; gen SEED COUNT TOPOLOGY; upgrade TOPOLOGY; audit JOURNAL TOPOLOGY\n",
     )
 }
 
